@@ -7,11 +7,18 @@ mod fault;
 mod fmri;
 mod items;
 mod number;
+mod pattern;
+mod reader;
 mod text;
 
 pub use bytes::Bytes;
-pub use fault::FmriFault;
-pub use fmri::{Fmri, reading_is_spelling, strip};
+pub use fault::{FmriFault, PickFault};
+pub use fmri::Fmri;
 pub use items::Items;
 pub use number::Number;
+pub use pattern::{Pattern, pick};
+pub use reader::strip;
 pub use text::Text;
+
+#[cfg(test)]
+mod tests;

@@ -1,0 +1,5 @@
+use Rattle.smf_fmri.proofs.Matching.{matches_decides}
+use Rattle.smf_fmri.proofs.pattern.Pattern.matches.Goals as goal
+
+pub returns-clause-means : goal.returns-clause-means
+returns-clause-means c = rw c.is_match.ensures (matches_decides c.args.self.now c.args.name.now)
