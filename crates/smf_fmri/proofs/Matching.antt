@@ -10,7 +10,7 @@ use Rattle.smf_fmri.specs.Name.{short, strip}
 use Rattle.smf_fmri.specs.Matching.{EndsService, ends_service, is_instance, IsOf, is_of, Abbreviates, abbreviates, Matches, matches, matches_body, parts_of, parts_of_name}
 
 -- equality of texts as a test
-same_text : (a b : List ℕ) → Decides (pointwise nat_eq a b) (a ≡ b)
+pub same_text : (a b : List ℕ) → Decides (pointwise nat_eq a b) (a ≡ b)
 same_text a b = slice_eq-Decides Decides-eqb a b _ refl
 
 behind_slash : (suffix service : List ℕ) → Decides (ends_with nat_eq service (47 ∷ suffix)) ((front : List ℕ) × (service ≡ front ++ 47 ∷ suffix))

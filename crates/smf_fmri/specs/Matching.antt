@@ -1,10 +1,11 @@
 -- The parts of a name, and which names a pattern matches.
-use Rattle.std.specs.Prelude.{◌≡◌, ℕ, List, [], ◌∷◌, ◌++◌, length, drop, nat_eq, nat_lt, ◌==◌, ◌||◌, ◌&&◌, ◌⊎◌, Bool, true, false, if◌then◌else◌, Option, Some, None, Result, Ok, Err, position, count_by, MatchOption}
+use Rattle.std.specs.Prelude.{◌≡◌, ℕ, List, [], ◌∷◌, ◌++◌, length, drop, nat_eq, nat_lt, ◌==◌, ◌||◌, ◌&&◌, ◌⊎◌, Bool, true, false, if◌then◌else◌, Option, Some, None, Result, Ok, Err, position, count_by, MatchOption, is_some}
 use Rattle.std.specs.Cmp.Lexicographic.{pointwise}
 use Rattle.std.specs.List.{position_or_len, before_first, after_first, ends_with}
+use Rattle.smf_fmri.specs.declared.fault.FmriFault.{FmriFault}
 use Rattle.smf_fmri.specs.declared.fault.PickFault.{PickFault}
 use Rattle.smf_fmri.specs.declared.fault.PickFault.TheVariants.{NoMatch, Several}
-use Rattle.smf_fmri.specs.Name.{short, strip}
+use Rattle.smf_fmri.specs.Name.{short, strip, read}
 
 -- 58 is ':'
 abbrev pub is_colon : ℕ → Bool
@@ -26,6 +27,22 @@ service_of name = (parts_of_name name).0
 
 abbrev pub instance_of : List ℕ → Option (List ℕ)
 instance_of name = (parts_of_name name).1
+
+-- a name that names an instance
+pub record IsInstanceName (name : List ℕ) : Type 0 where
+  pub reads : read name ≡ Ok name
+  pub names : is_some (instance_of name) ≡ true
+
+abbrev pub named_instance : List ℕ → Option (List ℕ)
+named_instance name = if is_some (instance_of name) then Some name else None
+
+-- the instance that a text names in the short form
+abbrev pub short_instance : List ℕ → Result (List ℕ) FmriFault → Option (List ℕ)
+short_instance text (Ok name) = if pointwise nat_eq name text then named_instance name else None
+short_instance text (Err e) = None
+
+unfoldable pub read_short : List ℕ → Option (List ℕ)
+read_short text = short_instance text (read text)
 
 -- a service ends with a suffix that begins at a component: 47 is '/'
 abbrev pub EndsService : List ℕ → List ℕ → Type 0

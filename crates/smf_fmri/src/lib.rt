@@ -1,10 +1,13 @@
 //! Names of services and instances, and the small types that every crate shares.
-//! Rooms: `fmri` (names), `pattern` (abbreviations), `items`, `text`, `bytes` and `number`, `fault`.
+//! Rooms: `fmri` and `instance` (names), `pattern` (abbreviations), `count` (numbers as texts), `reader`,
+//! `items`, `text`, `bytes`, `number`, `fault`.
 #![tactic(auto)]
 
 mod bytes;
+mod count;
 mod fault;
 mod fmri;
+mod instance;
 mod items;
 mod number;
 mod pattern;
@@ -12,8 +15,10 @@ mod reader;
 mod text;
 
 pub use bytes::Bytes;
+pub use count::{is_decimal, read_count};
 pub use fault::{FmriFault, PickFault};
 pub use fmri::Fmri;
+pub use instance::InstanceFmri;
 pub use items::Items;
 pub use number::Number;
 pub use pattern::{Pattern, pick};

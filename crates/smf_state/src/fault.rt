@@ -1,0 +1,61 @@
+ghost use Rattle.std.specs.Prelude.{◌≡◌};
+ghost use Rattle.smf_state.specs.declared.fault.FieldFault.TheVariants as field_faults;
+ghost use Rattle.smf_state.specs.declared.fault.RowFault.TheVariants as row_faults;
+ghost use Rattle.smf_state.specs.declared.fault.StepTextFault.TheVariants as step_faults;
+
+use std::alloc::{AllocError, AllocFailed};
+use thiserror::Error;
+
+/// Why a step is not granted.
+#[derive(Clone, Copy, Debug, PartialEq, Eq, Error)]
+pub enum StepFault {
+    /// A run or a row number past the last.
+    #[error("exhausted")]
+    Exhausted,
+    /// A run is live where none may be.
+    #[error("live")]
+    StillLive,
+    /// Nothing is under way that could end.
+    #[error("not live")]
+    NotLive,
+    #[error("no edge")]
+    NoEdge,
+}
+
+/// Why a field of a line is not read.
+#[derive(Clone, Copy, Debug, PartialEq, Eq, Error)]
+pub enum FieldFault {
+    #[error("no memory")]
+    Memory,
+    /// So many bytes stand from where the wrong field begins to the end of the line.
+    #[error("wrong field {0} before the end")]
+    Left(usize),
+}
+
+impl From<AllocError> for FieldFault {
+    ghost from_gives = { λ _ e. e ≡ field_faults.Memory };
+
+    fn from(_e: AllocError) -> FieldFault {
+        FieldFault::Memory
+    }
+}
+
+/// Why a text is no row.
+#[derive(Clone, Copy, Debug, PartialEq, Eq, Error)]
+pub enum RowFault {
+    #[error("no memory")]
+    Memory,
+    /// Where the first wrong field begins, or the text's length where one is missing.
+    #[error("bad row at {0}")]
+    BadRow(usize),
+}
+
+/// Why a text is no step.
+#[derive(Clone, Copy, Debug, PartialEq, Eq, Error)]
+pub enum StepTextFault {
+    #[error("no memory")]
+    Memory,
+    /// Where the first wrong field begins, or the text's length where one is missing.
+    #[error("bad step at {0}")]
+    BadStep(usize),
+}
