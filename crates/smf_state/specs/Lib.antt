@@ -1,2 +1,4 @@
 pub mod States
 pub mod Rows
+pub mod Fields
+pub mod Texts

@@ -29,6 +29,19 @@ impl Asks {
 
     /// What a note may add.
     pub const NOTES: Asks = Asks(12);
+
+    /// The asks of a number, in which each is one bit.
+    pub fn from_number(number: u8) -> Asks
+        ensures { result.0 ≡ number }
+    {
+        Asks(number)
+    }
+
+    pub fn number(self) -> u8
+        ensures { result ≡ self.0 }
+    {
+        self.0
+    }
 }
 
 impl Flags for Asks {
@@ -110,6 +123,14 @@ impl Ignore {
         ensures { result ≡ 0 }
     {
         Ignore { bits: 0 }
+    }
+
+    /// The set of these bits.
+    pub fn new(bits: u8) -> Ignore
+        requires { bits ≤ 3 }
+        ensures { result ≡ bits }
+    {
+        Ignore { bits }
     }
 
     /// The set of these bits, or none where one of them names no kind.

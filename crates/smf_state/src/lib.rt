@@ -3,15 +3,22 @@
 #![tactic(auto)]
 
 mod fault;
+mod fields;
 mod flags;
 mod row;
 mod state;
 mod step;
+mod text;
 mod view;
 
 pub use fault::{FieldFault, RowFault, StepFault, StepTextFault};
+pub use fields::{
+    asks_at, cause_at, duration_at, field_at, flag_at, ignore_at, left_of, name_at, number_at,
+    optional_cause_at, optional_number_at, optional_state_at, state_at,
+};
 pub use flags::{Asks, Failures, Ignore};
 pub use row::{MAX_NUMBER, MAX_RUN, Row, steps_go_along_the_diagram};
 pub use state::{Cause, Duration, State, edge};
-pub use step::{Proposal, Step};
+pub use step::{Proposal, Step, Verb};
+pub use text::{row_at, step_at};
 pub use view::ViewItem;

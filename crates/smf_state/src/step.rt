@@ -37,6 +37,17 @@ pub enum Step {
     Note { bits: Asks, keep: bool },
 }
 
+/// The word that a step begins with in a text.
+#[derive(Clone, Copy, Debug, PartialEq, Eq)]
+pub enum Verb {
+    Move,
+    Start,
+    Stop,
+    Refresh,
+    End,
+    Note,
+}
+
 /// A step that a restarter proposes, with what the answer is matched by.
 #[derive(Debug, Drop)]
 pub struct Proposal {
