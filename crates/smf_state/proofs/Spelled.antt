@@ -1,5 +1,5 @@
 -- Rows and steps: what is written is read, and what is read was written so.
-use Rattle.std.proofs.Common.{◌≡◌, ℕ, ◌-◌, List, [], ◌∷◌, ◌++◌, length, Option, Some, None, IfSome, Result, Ok, Err, refl, sym, ◌∙◌, ap, subst}
+use Rattle.std.proofs.Common.{◌≡◌, ℕ, ◌-◌, List, [], ◌∷◌, ◌++◌, length, Option, Some, None, IfSome, Result, Ok, Err, refl, sym, ◌∙◌, ap, subst, append_assoc, append-nil, OnOk}
 use Rattle.std.specs.Fmt.{decimal}
 use Rattle.smf_fmri.specs.Counts.{read_count}
 use Rattle.smf_fmri.specs.Matching.{read_short}
@@ -256,3 +256,25 @@ step_whole size s (Err left) h = cc
 pub read_is_step : (text : List ℕ) (s : Step) → read_step text ≡ Ok s → text ≡ step_text s
 unfolding read_step
 read_is_step text s h = some_is _ _ (step_found (Some text) s None (step_whole _ s (step_at (Some text)) h))
+
+-- ---- printed in parts
+
+first_tail : (r : Row) (tail : List ℕ) → first_part r [] ++ tail ≡ first_part r tail
+first_tail r tail = simp (append_assoc, append-nil)
+
+second_tail : (r : Row) (tail : List ℕ) → second_part r [] ++ tail ≡ second_part r tail
+second_tail r tail = simp (append_assoc, append-nil)
+
+regrouped : (out f s t : List ℕ) → ((((out ++ f) ++ 32 ∷ []) ++ s) ++ 32 ∷ []) ++ t ≡ out ++ (f ++ 32 ∷ (s ++ 32 ∷ t))
+regrouped out f s t = simp append_assoc
+
+pub parts_printed : (r : Row) (out a b c d e : List ℕ) → a ≡ out ++ first_part r [] → b ≡ a ++ 32 ∷ [] → c ≡ b ++ second_part r [] → d ≡ c ++ 32 ∷ [] → e ≡ d ++ third_part r [] → e ≡ out ++ row_onto r []
+unfolding row_onto
+parts_printed r out a b c d e p q s t u =
+    let third : e ≡ ((((out ++ first_part r []) ++ 32 ∷ []) ++ second_part r []) ++ 32 ∷ []) ++ third_part r [] =
+        u ∙ ap (λ x. x ++ third_part r []) (t ∙ ap (λ x. x ++ 32 ∷ []) (s ∙ ap (λ x. x ++ second_part r []) (q ∙ ap (λ x. x ++ 32 ∷ []) p))) in
+    third ∙ regrouped out (first_part r []) (second_part r []) (third_part r []) ∙ ap (λ l. out ++ (first_part r [] ++ 32 ∷ l)) (second_tail r (32 ∷ third_part r [])) ∙ ap (λ l. out ++ l) (first_tail r (32 ∷ second_part r (32 ∷ third_part r [])))
+
+pub on_ok : {X E : Type 0} {A B : Type 0} (r : Result X E) → (A → B) → OnOk r A → OnOk r B
+on_ok (Ok x) f h = f h
+on_ok (Err e) f h = tt

@@ -5,6 +5,7 @@ use Rattle.std.specs.Borrow.{Bor}
 use Rattle.smf_fmri.specs.Counts.{read_count}
 use Rattle.smf_state.specs.declared.fault.FieldFault.{FieldFault}
 use Rattle.smf_state.specs.declared.fault.FieldFault.TheVariants.{Memory, Left}
+use Rattle.smf_state.specs.declared.fault.WrongField.{WrongField}
 use Rattle.smf_state.specs.declared.flags.Asks.{Asks}
 
 -- what stands before the first space, and what stands behind it, where there is one: 32 is ' '
@@ -74,6 +75,11 @@ abbrev pub GivesAt : {X : Type 0} → Result (X × Option (Bor (List ℕ))) Fiel
 GivesAt (Ok x) given = given ≡ Ok (x.0, seen x.1)
 GivesAt (Err Memory) given = Unit {0}
 GivesAt (Err (Left n)) given = given ≡ Err n
+
+-- what a reader returned that takes no memory is what the definition gives
+abbrev pub IsRead : {X : Type 0} → Result (X × Option (Bor (List ℕ))) WrongField → Result (X × Option (List ℕ)) ℕ → Type 0
+IsRead (Ok x) given = given ≡ Ok (x.0, seen x.1)
+IsRead (Err wrong) given = given ≡ Err wrong.left
 
 -- one reader behind another
 infixl 10 ◌>>=◌

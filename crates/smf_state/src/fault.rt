@@ -1,9 +1,7 @@
 ghost use Rattle.std.specs.Prelude.{◌≡◌};
-ghost use Rattle.smf_state.specs.declared.fault.FieldFault.TheVariants as field_faults;
-ghost use Rattle.smf_state.specs.declared.fault.RowFault.TheVariants as row_faults;
-ghost use Rattle.smf_state.specs.declared.fault.StepTextFault.TheVariants as step_faults;
+ghost use Rattle.smf_state.specs.declared.fault.FieldFault.TheVariants.{Memory, Left};
 
-use std::alloc::{AllocError, AllocFailed};
+use std::alloc::AllocError;
 use thiserror::Error;
 
 /// Why a step is not granted.
@@ -22,21 +20,36 @@ pub enum StepFault {
     NoEdge,
 }
 
-/// Why a field of a line is not read.
+/// A field of a line that is wrong or missing: so many bytes stand from where it begins to the end.
+#[derive(Clone, Copy, Debug, PartialEq, Eq, Error)]
+#[error("wrong field {left} bytes before the end")]
+pub struct WrongField {
+    pub left: usize,
+}
+
+/// Why a field of a line is not read, where reading takes memory.
 #[derive(Clone, Copy, Debug, PartialEq, Eq, Error)]
 pub enum FieldFault {
     #[error("no memory")]
     Memory,
     /// So many bytes stand from where the wrong field begins to the end of the line.
-    #[error("wrong field {0} before the end")]
+    #[error("wrong field {0} bytes before the end")]
     Left(usize),
 }
 
 impl From<AllocError> for FieldFault {
-    ghost from_gives = { λ _ e. e ≡ field_faults.Memory };
+    ghost from_gives = { λ _ e. e ≡ Memory };
 
     fn from(_e: AllocError) -> FieldFault {
         FieldFault::Memory
+    }
+}
+
+impl From<WrongField> for FieldFault {
+    ghost from_gives = { λ wrong e. e ≡ Left wrong.left };
+
+    fn from(wrong: WrongField) -> FieldFault {
+        FieldFault::Left(wrong.left)
     }
 }
 
@@ -53,8 +66,6 @@ pub enum RowFault {
 /// Why a text is no step.
 #[derive(Clone, Copy, Debug, PartialEq, Eq, Error)]
 pub enum StepTextFault {
-    #[error("no memory")]
-    Memory,
     /// Where the first wrong field begins, or the text's length where one is missing.
     #[error("bad step at {0}")]
     BadStep(usize),

@@ -2,9 +2,9 @@ ghost use Rattle.std.specs.Prelude.{◌≡◌, ◌≤◌, option_map, Ok, Err, I
 ghost use Rattle.smf_fmri.specs.Counts.{read_count};
 ghost use Rattle.smf_fmri.specs.Matching.{read_short};
 ghost use Rattle.smf_state.specs.States.{read_state, read_cause, read_duration};
-ghost use Rattle.smf_state.specs.Fields.{first_field, split_field, left_of, taken, read_optional, read_asks, read_ignore, read_flag, seen, GivesAt};
+ghost use Rattle.smf_state.specs.Fields.{first_field, split_field, left_of, taken, read_optional, read_asks, read_ignore, read_flag, seen, GivesAt, IsRead};
 
-use crate::fault::FieldFault;
+use crate::fault::{FieldFault, WrongField};
 use crate::flags::Asks;
 use crate::state::{Cause, Duration, State};
 use bitflags::Flags;
@@ -41,6 +41,14 @@ pub fn left_of(rest: Option<&str>) -> usize
     }
 }
 
+fn wrong(rest: Option<&str>) -> WrongField
+    ensures { result.left ≡ left_of (seen rest.entry) }
+{
+    WrongField {
+        left: left_of(rest),
+    }
+}
+
 /// The name of an instance in the short form.
 #[tactic(auto, unfolding(crate::specs::Fields::taken))]
 pub fn name_at(
@@ -60,147 +68,147 @@ pub fn name_at(
 
 /// A number up to 2^64 - 1, in decimal without leading zeros.
 #[tactic(auto, unfolding(crate::specs::Fields::taken))]
-pub fn number_at(rest: Option<&str>) -> Result<(u64, Option<&str>), FieldFault>
-    ensures { GivesAt result (taken read_count (seen rest.entry)) }
+pub fn number_at(rest: Option<&str>) -> Result<(u64, Option<&str>), WrongField>
+    ensures { IsRead result (taken read_count (seen rest.entry)) }
 {
     let Some((field, after)) = field_at(rest) else {
-        return Err(FieldFault::Left(left_of(rest)));
+        return Err(wrong(rest));
     };
     match read_count(field) {
         Some(number) => Ok((number, after)),
-        None => Err(FieldFault::Left(left_of(rest))),
+        None => Err(wrong(rest)),
     }
 }
 
 #[tactic(auto, unfolding(crate::specs::Fields::taken))]
-pub fn optional_number_at(rest: Option<&str>) -> Result<(Option<u64>, Option<&str>), FieldFault>
-    ensures { GivesAt result (taken (read_optional read_count) (seen rest.entry)) }
+pub fn optional_number_at(rest: Option<&str>) -> Result<(Option<u64>, Option<&str>), WrongField>
+    ensures { IsRead result (taken (read_optional read_count) (seen rest.entry)) }
 {
     let Some((field, after)) = field_at(rest) else {
-        return Err(FieldFault::Left(left_of(rest)));
+        return Err(wrong(rest));
     };
     if field == "-" {
         return Ok((None, after));
     }
     match read_count(field) {
         Some(number) => Ok((Some(number), after)),
-        None => Err(FieldFault::Left(left_of(rest))),
+        None => Err(wrong(rest)),
     }
 }
 
 #[tactic(auto, unfolding(crate::specs::Fields::taken))]
-pub fn state_at(rest: Option<&str>) -> Result<(State, Option<&str>), FieldFault>
-    ensures { GivesAt result (taken read_state (seen rest.entry)) }
+pub fn state_at(rest: Option<&str>) -> Result<(State, Option<&str>), WrongField>
+    ensures { IsRead result (taken read_state (seen rest.entry)) }
 {
     let Some((field, after)) = field_at(rest) else {
-        return Err(FieldFault::Left(left_of(rest)));
+        return Err(wrong(rest));
     };
     match State::read(field) {
         Some(state) => Ok((state, after)),
-        None => Err(FieldFault::Left(left_of(rest))),
+        None => Err(wrong(rest)),
     }
 }
 
 #[tactic(auto, unfolding(crate::specs::Fields::taken))]
-pub fn optional_state_at(rest: Option<&str>) -> Result<(Option<State>, Option<&str>), FieldFault>
-    ensures { GivesAt result (taken (read_optional read_state) (seen rest.entry)) }
+pub fn optional_state_at(rest: Option<&str>) -> Result<(Option<State>, Option<&str>), WrongField>
+    ensures { IsRead result (taken (read_optional read_state) (seen rest.entry)) }
 {
     let Some((field, after)) = field_at(rest) else {
-        return Err(FieldFault::Left(left_of(rest)));
+        return Err(wrong(rest));
     };
     if field == "-" {
         return Ok((None, after));
     }
     match State::read(field) {
         Some(state) => Ok((Some(state), after)),
-        None => Err(FieldFault::Left(left_of(rest))),
+        None => Err(wrong(rest)),
     }
 }
 
 #[tactic(auto, unfolding(crate::specs::Fields::taken))]
-pub fn cause_at(rest: Option<&str>) -> Result<(Cause, Option<&str>), FieldFault>
-    ensures { GivesAt result (taken read_cause (seen rest.entry)) }
+pub fn cause_at(rest: Option<&str>) -> Result<(Cause, Option<&str>), WrongField>
+    ensures { IsRead result (taken read_cause (seen rest.entry)) }
 {
     let Some((field, after)) = field_at(rest) else {
-        return Err(FieldFault::Left(left_of(rest)));
+        return Err(wrong(rest));
     };
     match Cause::read(field) {
         Some(cause) => Ok((cause, after)),
-        None => Err(FieldFault::Left(left_of(rest))),
+        None => Err(wrong(rest)),
     }
 }
 
 #[tactic(auto, unfolding(crate::specs::Fields::taken))]
-pub fn optional_cause_at(rest: Option<&str>) -> Result<(Option<Cause>, Option<&str>), FieldFault>
-    ensures { GivesAt result (taken (read_optional read_cause) (seen rest.entry)) }
+pub fn optional_cause_at(rest: Option<&str>) -> Result<(Option<Cause>, Option<&str>), WrongField>
+    ensures { IsRead result (taken (read_optional read_cause) (seen rest.entry)) }
 {
     let Some((field, after)) = field_at(rest) else {
-        return Err(FieldFault::Left(left_of(rest)));
+        return Err(wrong(rest));
     };
     if field == "-" {
         return Ok((None, after));
     }
     match Cause::read(field) {
         Some(cause) => Ok((Some(cause), after)),
-        None => Err(FieldFault::Left(left_of(rest))),
+        None => Err(wrong(rest)),
     }
 }
 
 #[tactic(auto, unfolding(crate::specs::Fields::taken))]
-pub fn duration_at(rest: Option<&str>) -> Result<(Duration, Option<&str>), FieldFault>
-    ensures { GivesAt result (taken read_duration (seen rest.entry)) }
+pub fn duration_at(rest: Option<&str>) -> Result<(Duration, Option<&str>), WrongField>
+    ensures { IsRead result (taken read_duration (seen rest.entry)) }
 {
     let Some((field, after)) = field_at(rest) else {
-        return Err(FieldFault::Left(left_of(rest)));
+        return Err(wrong(rest));
     };
     match Duration::read(field) {
         Some(duration) => Ok((duration, after)),
-        None => Err(FieldFault::Left(left_of(rest))),
+        None => Err(wrong(rest)),
     }
 }
 
 /// Asks as a number up to 255.
 #[tactic(auto, unfolding(crate::specs::Fields::taken))]
-pub fn asks_at(rest: Option<&str>) -> Result<(Asks, Option<&str>), FieldFault>
-    ensures { GivesAt result (taken read_asks (seen rest.entry)) }
+pub fn asks_at(rest: Option<&str>) -> Result<(Asks, Option<&str>), WrongField>
+    ensures { IsRead result (taken read_asks (seen rest.entry)) }
 {
     let Some((field, after)) = field_at(rest) else {
-        return Err(FieldFault::Left(left_of(rest)));
+        return Err(wrong(rest));
     };
     match read_count(field) {
         Some(bits) if bits < 256 => Ok((Asks::from_number(bits as u8), after)),
-        _ => Err(FieldFault::Left(left_of(rest))),
+        _ => Err(wrong(rest)),
     }
 }
 
 /// The bits of failures left out, as a number up to 3.
 #[tactic(auto, unfolding(crate::specs::Fields::taken))]
-pub fn ignore_at(rest: Option<&str>) -> Result<(u8, Option<&str>), FieldFault>
-    ensures read { GivesAt result (taken read_ignore (seen rest.entry)) }
+pub fn ignore_at(rest: Option<&str>) -> Result<(u8, Option<&str>), WrongField>
+    ensures read { IsRead result (taken read_ignore (seen rest.entry)) }
     ensures small { IfOk result (λ x. x.0 ≤ 3) }
 {
     let Some((field, after)) = field_at(rest) else {
-        return Err(FieldFault::Left(left_of(rest)));
+        return Err(wrong(rest));
     };
     match read_count(field) {
         Some(bits) if bits <= 3 => Ok((bits as u8, after)),
-        _ => Err(FieldFault::Left(left_of(rest))),
+        _ => Err(wrong(rest)),
     }
 }
 
 /// A flag as 0 or 1.
 #[tactic(auto, unfolding(crate::specs::Fields::taken))]
-pub fn flag_at(rest: Option<&str>) -> Result<(bool, Option<&str>), FieldFault>
-    ensures { GivesAt result (taken read_flag (seen rest.entry)) }
+pub fn flag_at(rest: Option<&str>) -> Result<(bool, Option<&str>), WrongField>
+    ensures { IsRead result (taken read_flag (seen rest.entry)) }
 {
     let Some((field, after)) = field_at(rest) else {
-        return Err(FieldFault::Left(left_of(rest)));
+        return Err(wrong(rest));
     };
     if field == "0" {
         Ok((false, after))
     } else if field == "1" {
         Ok((true, after))
     } else {
-        Err(FieldFault::Left(left_of(rest)))
+        Err(wrong(rest))
     }
 }

@@ -11,7 +11,7 @@ mod step;
 mod text;
 mod view;
 
-pub use fault::{FieldFault, RowFault, StepFault, StepTextFault};
+pub use fault::{FieldFault, RowFault, StepFault, StepTextFault, WrongField};
 pub use fields::{
     asks_at, cause_at, duration_at, field_at, flag_at, ignore_at, left_of, name_at, number_at,
     optional_cause_at, optional_number_at, optional_state_at, state_at,
