@@ -1,14 +1,13 @@
 -- Numbers as texts: what is read is printed so, and what is printed is read.
-use Rattle.std.proofs.Common.{◌≡◌, ℕ, zero, suc, ◌+◌, ◌<◌, ◌≤◌, ◌^◌, List, [], ◌∷◌, length, get_or, Bool, true, false, not, ◌&&◌, ◌==◌, cond, nat_lt, Option, Some, None, Result, Ok, Err, refl, sym, ◌∙◌, ap, arith, rules, ltb-true, lt-ltb, eqb-true, eq-eqb, ne_eqb}
+use Rattle.std.proofs.Common.{◌≡◌, ℕ, zero, suc, ◌<◌, ◌≤◌, ◌^◌, List, [], ◌∷◌, length, get_or, Bool, true, false, not, ◌&&◌, ◌==◌, cond, nat_lt, Some, None, Err, refl, sym, ap, arith, rules, ltb-true, lt-ltb, eqb-true, eq-eqb, ne_eqb}
 use Rattle.std.specs.Char.{is_ascii_digit}
 use Rattle.std.specs.Fmt.{decimal}
 use Rattle.std.specs.List.{list_all}
 use Rattle.std.specs.Str.Parse.{digits_value, ParsesUnsigned}
-use Rattle.std.specs.Result.{OkIff}
 use Rattle.std.proofs.lemmas.Str.Parse.{IsNumeralModel, numerals_by_value, parse_digits}
 use Rattle.std.proofs.lemmas.Fmt.{digits_decimal, digits_value-decimal, decimal-digits_value, decimal_digit, decimal_nonempty, first_decimal}
-use Rattle.std.proofs.lemmas.Bool.{and_parts, and_from}
-use Rattle.smf_fmri.specs.Counts.{is_decimal, read_count}
+use Rattle.std.proofs.lemmas.Bool.{and_parts}
+use Rattle.smf_fmri.specs.Counts.{is_decimal, read_count, no_space}
 
 abbrev AllDigit : List ℕ → Type 0
 AllDigit ds = list_all is_ascii_digit ds ≡ true
@@ -87,3 +86,18 @@ parse_refused text e h refused =
     let none = parse_digits own 64 text (Err e) refused count.digits in
     let large : nat_lt (digits_value 10 text) (2 ^ 64) ≡ false = too_large _ (digits_value 10 text) refl (λ small. none (count.filled, small)) in
     rw (h, large) refl
+
+digit_no_space : (v : Bool) (b : ℕ) → (b == 32) ≡ v → is_ascii_digit b ≡ true → not v ≡ true
+digit_no_space true b e h = let is : b ≡ 32 = eqb-true b 32 e in let digit : is_ascii_digit 32 ≡ true = rw is at h in cc
+digit_no_space false b e h = refl
+
+digits_spaceless : (ds : List ℕ) → AllDigit ds → no_space ds ≡ true
+digits_spaceless [] h = refl
+digits_spaceless (d ∷ ds) h =
+    let parts = and_parts (is_ascii_digit d) _ h in
+    let here : not (d == 32) ≡ true = digit_no_space _ d refl parts.0 in
+    rw (here, digits_spaceless ds parts.1) refl
+
+-- no space stands in a number
+pub decimal_spaceless : (n : ℕ) → n < 2 ^ 64 → no_space (decimal n) ≡ true
+decimal_spaceless n small = digits_spaceless (decimal n) (digits_decimal own n small)

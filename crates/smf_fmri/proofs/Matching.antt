@@ -1,5 +1,5 @@
 -- The tests of a match say what the relation says.
-use Rattle.std.proofs.Common.{◌≡◌, ℕ, List, [], ◌∷◌, ◌++◌, length, drop, take, ◌-◌, Bool, true, false, ◌&&◌, ◌||◌, Option, Some, None, refl, sym, inl, inr, ◌⊎◌, ◌==◌, eqb-true, arith}
+use Rattle.std.proofs.Common.{◌≡◌, ℕ, List, [], ◌∷◌, ◌++◌, length, take, ◌-◌, Option, Some, None, refl, ◌==◌, eqb-true, arith}
 use Rattle.std.specs.Cmp.Lexicographic.{pointwise}
 use Rattle.std.specs.Bool.{Decides}
 use Rattle.std.specs.List.{ends_with}

@@ -1,15 +1,14 @@
 -- Names in the short form: how they are read again, and that no space stands in them.
-use Rattle.std.proofs.Common.{◌≡◌, ℕ, ◌+◌, List, [], ◌∷◌, ◌++◌, Bool, true, false, not, ◌&&◌, ◌==◌, cond, Option, Some, None, Result, Ok, Err, refl, sym, ◌∙◌, ap, eqb-true, is_some}
+use Rattle.std.proofs.Common.{◌≡◌, ℕ, ◌+◌, List, [], ◌∷◌, Bool, true, false, not, ◌==◌, cond, Option, Some, None, Result, Ok, Err, refl, sym, ◌∙◌, ap, eqb-true, is_some}
 use Rattle.std.specs.Cmp.Lexicographic.{pointwise}
-use Rattle.std.specs.List.{list_all}
 use Rattle.std.specs.Option.{option_map_or}
 use Rattle.std.specs.Prelude.{nat_eq}
 use Rattle.smf_fmri.specs.declared.fault.FmriFault.{FmriFault}
 use Rattle.smf_fmri.specs.declared.reader.Place.{Place}
 use Rattle.smf_fmri.specs.declared.reader.Place.TheVariants.{Start, Begin, Service, BeginInstance, Instance}
 use Rattle.smf_fmri.specs.Counts.{no_space}
-use Rattle.smf_fmri.specs.Name.{next, wrong_at, short, read}
-use Rattle.smf_fmri.specs.Matching.{IsInstanceName, instance_of, named_instance, short_instance, read_short}
+use Rattle.smf_fmri.specs.Name.{next, wrong_at, read}
+use Rattle.smf_fmri.specs.Matching.{IsInstanceName, instance_of, short_instance, read_short}
 use Rattle.smf_fmri.proofs.Matching.{same_text}
 use Rattle.smf_fmri.proofs.Whole.{name_is_short}
 

@@ -2,7 +2,7 @@ ghost use Rattle.std.specs.Cmp;
 ghost use Rattle.std.specs.Cmp.Lexicographic.{pointwise, slice_cmp, nat_list_eq_equiv, nat_list_cmp_total, texts_ties, texts_po};
 ghost use Rattle.std.specs.Ordering.{nat_cmp};
 ghost use Rattle.std.specs.Prelude.{◌≡◌, refl, Some, IfOk, nat_eq};
-ghost use Rattle.smf_fmri.specs.Matching.{named_instance, read_short};
+ghost use Rattle.smf_fmri.specs.Matching.{IsInstanceName, named_instance, read_short};
 
 use crate::fault::FmriFault;
 use crate::fmri::Fmri;
@@ -72,7 +72,9 @@ impl InstanceFmri {
 
     /// The short text, which begins with `svc:/`.
     pub fn print(&self) -> &str
-        ensures { result.now ≡ self.now }
+        ensures text { result.now ≡ self.now }
+        // What is printed is the name of an instance again.
+        ensures named { IsInstanceName self.now }
     {
         self.name.print()
     }

@@ -1,4 +1,7 @@
-use crate::{Bytes, Fmri, FmriFault, Items, Number, Pattern, PickFault, Text, pick};
+use crate::{
+    Bytes, Fmri, FmriFault, InstanceFmri, Items, Number, Pattern, PickFault, Text, is_decimal,
+    pick, read_count, strip,
+};
 use std::alloc::Global;
 use std::cmp::Ordering;
 use std::test::Fail;
@@ -138,5 +141,48 @@ fn small_types(rt: HostRuntime) -> Result<(), Fail> {
     assert_eq!(rt; Number::zero().next().map(|n| n.get()), Some(1));
     assert_eq!(rt; Number::new(Number::MAX).map(|n| n.next()), Some(None));
     assert_eq!(rt; Number::new(Number::MAX + 1), None);
+    Ok(())
+}
+
+#[test]
+fn instances(rt: HostRuntime) -> Result<(), Fail> {
+    let alloc = rt.alloc();
+    for (text, is_short) in [
+        ("svc:/a/b:c", true),
+        ("svc:/a/b", false),
+        ("svc://localhost/a/b:c", false),
+        ("a", false),
+    ] {
+        let found = InstanceFmri::read_short(alloc, text)?;
+        assert_eq!(rt; found.is_some(), is_short, "at {text:?}");
+    }
+    assert!(rt; InstanceFmri::of(Fmri::parse(alloc, "svc:/a")?).is_none());
+    let name = InstanceFmri::of(Fmri::parse(alloc, "svc://localhost/a:b")?).ok_or("a service")?;
+    assert_eq!(rt; name.print(), "svc:/a:b");
+    assert!(rt; name.clone()? == name);
+    assert_eq!(rt; name.cmp(&name), Ordering::Equal);
+    assert_eq!(rt; name.as_fmri().instance(), Some("b"));
+    assert_eq!(rt; format!(in alloc; "{name}")?.as_str(), "svc:/a:b");
+    assert_eq!(rt; name.into_fmri().service(), "a");
+    Ok(())
+}
+
+#[test]
+fn counts(rt: HostRuntime) -> Result<(), Fail> {
+    for (text, number) in [
+        ("0", Some(0)),
+        ("10", Some(10)),
+        ("18446744073709551615", Some(18446744073709551615)),
+        ("18446744073709551616", None),
+        ("01", None),
+        ("+1", None),
+        ("-1", None),
+        ("", None),
+        (" 1", None),
+    ] {
+        assert_eq!(rt; read_count(text), number, "at {text:?}");
+    }
+    assert!(rt; is_decimal(b"18446744073709551616"));
+    assert_eq!(rt; strip("svc:/", "svc:/a"), Some("a"));
     Ok(())
 }

@@ -1,5 +1,5 @@
 -- Fields of a line: what is written is read, and what is read was written so.
-use Rattle.std.proofs.Common.{◌≡◌, ◌≢◌, ℕ, suc, ◌+◌, ◌<◌, List, [], ◌∷◌, ◌++◌, length, get_or, Bool, true, false, not, ◌&&◌, ◌==◌, cond, Option, Some, None, MatchOption, IfSome, option_map, Result, Ok, Err, refl, sym, ◌∙◌, ap, subst, arith, lit<, ne_eqb, eqb-true, codes}
+use Rattle.std.proofs.Common.{◌≡◌, ◌≢◌, ℕ, suc, ◌<◌, List, [], ◌∷◌, ◌++◌, length, get_or, Bool, true, false, not, ◌==◌, cond, Option, Some, None, MatchOption, IfSome, option_map, Result, Ok, Err, refl, ◌∙◌, ap, subst, arith, lit<, ne_eqb, eqb-true, codes}
 use Rattle.std.specs.Borrow.{Bor}
 use Rattle.std.specs.Cmp.Lexicographic.{pointwise}
 use Rattle.std.specs.Prelude.{nat_eq}

@@ -1,16 +1,13 @@
 -- Rows and steps: what is written is read, and what is read was written so.
-use Rattle.std.proofs.Common.{◌≡◌, ℕ, ◌-◌, List, [], ◌∷◌, ◌++◌, length, Option, Some, None, IfSome, Result, Ok, Err, refl, sym, ◌∙◌, ap, subst, append_assoc, append-nil, OnOk}
-use Rattle.std.specs.Fmt.{decimal}
+use Rattle.std.proofs.Common.{◌≡◌, ℕ, List, [], ◌∷◌, ◌++◌, Option, Some, None, Result, Ok, Err, refl, sym, ◌∙◌, ap, subst, append_assoc, append-nil, OnOk}
 use Rattle.smf_fmri.specs.Counts.{read_count}
 use Rattle.smf_fmri.specs.Matching.{read_short}
-use Rattle.smf_state.specs.declared.fault.RowFault.{RowFault}
-use Rattle.smf_state.specs.declared.fault.StepTextFault.{StepTextFault}
 use Rattle.smf_state.specs.declared.row.Row.{Row}
 use Rattle.smf_state.specs.declared.step.Step.{Step}
 use Rattle.smf_state.specs.declared.step.Step.TheVariants.{Move, Start, Stop, Refresh, End, Note}
 use Rattle.smf_state.specs.declared.step.Verb.{Verb}
 use Rattle.smf_state.specs.declared.step.Verb.TheVariants as verbs
-use Rattle.smf_state.specs.Fields.{taken, read_asks, read_ignore, read_flag, read_optional, optional_text, ◌>>=◌}
+use Rattle.smf_state.specs.Fields.{taken, read_asks, read_ignore, read_flag, read_optional}
 use Rattle.smf_state.specs.States.{read_state, read_cause, read_duration}
 use Rattle.smf_state.specs.Rows.{fresh}
 use Rattle.smf_state.specs.Texts.{first_part, second_part, third_part, row_onto, row_text, first_at, second_at, third_at, row_at, whole_row, read_row, IsFirst, IsSecond, IsThird, IsRow, verb_of, verb_text, read_verb, fields_onto, step_onto, step_text, fields_at, step_at, whole_step, read_step, IsStep}
@@ -272,7 +269,7 @@ pub parts_printed : (r : Row) (out a b c d e : List ℕ) → a ≡ out ++ first_
 unfolding row_onto
 parts_printed r out a b c d e p q s t u =
     let third : e ≡ ((((out ++ first_part r []) ++ 32 ∷ []) ++ second_part r []) ++ 32 ∷ []) ++ third_part r [] =
-        u ∙ ap (λ x. x ++ third_part r []) (t ∙ ap (λ x. x ++ 32 ∷ []) (s ∙ ap (λ x. x ++ second_part r []) (q ∙ ap (λ x. x ++ 32 ∷ []) p))) in
+    u ∙ ap (λ x. x ++ third_part r []) (t ∙ ap (λ x. x ++ 32 ∷ []) (s ∙ ap (λ x. x ++ second_part r []) (q ∙ ap (λ x. x ++ 32 ∷ []) p))) in
     third ∙ regrouped out (first_part r []) (second_part r []) (third_part r []) ∙ ap (λ l. out ++ (first_part r [] ++ 32 ∷ l)) (second_tail r (32 ∷ third_part r [])) ∙ ap (λ l. out ++ l) (first_tail r (32 ∷ second_part r (32 ∷ third_part r [])))
 
 pub on_ok : {X E : Type 0} {A B : Type 0} (r : Result X E) → (A → B) → OnOk r A → OnOk r B

@@ -1,5 +1,5 @@
 -- An accepted step goes on.
-use Rattle.std.proofs.Common.{◌≡◌, ◌⊎◌, ℕ, ◌+◌, ◌≤◌, ◌==◌, ◌||◌, ◌&&◌, not, Bool, true, false, cond, Option, Some, None, Result, Ok, Err, is_none, refl, inl, inr, arith, eqb-true}
+use Rattle.std.proofs.Common.{◌≡◌, ◌⊎◌, ℕ, ◌+◌, ◌≤◌, ◌&&◌, not, Bool, true, false, cond, Option, Some, None, Ok, is_none, refl, inl, inr, arith, eqb-true}
 use Rattle.std.proofs.lemmas.Bool.{and_parts}
 use Rattle.smf_state.specs.declared.row.Row.{Row}
 use Rattle.smf_state.specs.declared.fault.StepFault.{StepFault}
@@ -9,8 +9,8 @@ use Rattle.smf_state.specs.declared.step.Step.{Step}
 use Rattle.smf_state.specs.declared.step.Step.TheVariants.{Move, Start, Stop, Refresh, End, Note}
 use Rattle.smf_state.specs.declared.state.State.{State}
 use Rattle.smf_state.specs.declared.state.State.TheVariants.{Uninitialized, Disabled, Offline, Online, Degraded, Maintenance}
-use Rattle.smf_state.specs.States.{edge, runs}
-use Rattle.smf_state.specs.Rows.{GoesOn, same_state, is_stopped, is_steady, is_next_run, last_with, may_move, may_end, may_count, allowed, refusal, exhausted, still_live, not_live, applied, applied_unless, stepped, numbered}
+use Rattle.smf_state.specs.States.{edge}
+use Rattle.smf_state.specs.Rows.{GoesOn, same_state, is_stopped, is_steady, is_next_run, last_with, may_move, may_end, allowed, refusal, applied, applied_unless, stepped, numbered}
 
 accepted : (o : Option StepFault) (r after : Row) → applied_unless o r ≡ Ok after → (o ≡ None) × (r ≡ after)
 accepted None r after h = (refl, cc)

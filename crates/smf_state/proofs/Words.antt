@@ -1,5 +1,5 @@
 -- Each kind of field: its reader and its text say the same.
-use Rattle.std.proofs.Common.{◌≡◌, ℕ, ◌<◌, ◌≤◌, ◌^◌, List, Bool, true, false, cond, Option, Some, None, refl, sym, ◌∙◌, ap, arith, codes, nat_lt, nat_le, ltb-true, lt-ltb}
+use Rattle.std.proofs.Common.{◌≡◌, ℕ, ◌<◌, ◌≤◌, List, Bool, true, false, cond, Option, Some, None, refl, ◌∙◌, ap, arith, codes, nat_lt, nat_le, ltb-true, lt-ltb}
 use Rattle.std.specs.Cmp.Lexicographic.{pointwise}
 use Rattle.std.specs.Fmt.{decimal}
 use Rattle.std.specs.Prelude.{nat_eq}

@@ -22,3 +22,6 @@ pub use state::{Cause, Duration, State, edge};
 pub use step::{Proposal, Step, Verb};
 pub use text::{row_at, step_at};
 pub use view::ViewItem;
+
+#[cfg(test)]
+mod tests;

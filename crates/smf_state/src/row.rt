@@ -197,7 +197,10 @@ impl Row {
             }
             Step::Refresh { run } => self.is_steady() && self.is_next_run(*run),
             Step::End {
-                to, keep, failed, ..
+                to,
+                keep,
+                failed,
+                ..
             } => {
                 may_end(self.state, self.next, *to, *keep)
                     && (*to == State::Offline || *failed == 0)

@@ -41,7 +41,10 @@ pub fn edge(from: State, to: State) -> bool
         State::Uninitialized => {
             matches!(to, State::Disabled | State::Offline | State::Maintenance)
         }
-        State::Disabled => matches!(to, State::Offline | State::Maintenance | State::Uninitialized),
+        State::Disabled => matches!(
+            to,
+            State::Offline | State::Maintenance | State::Uninitialized
+        ),
         State::Offline => matches!(to, State::Online | State::Disabled | State::Maintenance),
         State::Online => matches!(
             to,

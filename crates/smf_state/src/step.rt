@@ -25,7 +25,9 @@ pub enum Step {
         run: Option<u64>,
     },
     /// A refresh begins, as a run where it has a method.
-    Refresh { run: Option<u64> },
+    Refresh {
+        run: Option<u64>,
+    },
     /// What was under way ends. The live run is kept or freed.
     End {
         to: State,
@@ -34,7 +36,10 @@ pub enum Step {
         cause: Cause,
     },
     /// A service failed or exited. The live run is kept or freed.
-    Note { bits: Asks, keep: bool },
+    Note {
+        bits: Asks,
+        keep: bool,
+    },
 }
 
 /// The word that a step begins with in a text.
