@@ -1,0 +1,5 @@
+pub mod After
+pub mod Ended
+pub mod Numbered
+pub mod Ordered
+pub mod Parts

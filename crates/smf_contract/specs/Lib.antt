@@ -1,0 +1,5 @@
+pub mod Calls
+pub mod Entries
+pub mod Kinds
+pub mod Laws
+pub mod Cookies

@@ -1,0 +1,42 @@
+use crate::event::Event;
+use crate::terms::Terms;
+use smf_fmri::{Items, Number};
+
+/// Who holds a contract.
+#[derive(Clone, Copy, Debug, PartialEq, Eq)]
+pub enum Holder {
+    /// This actor.
+    Held(u64),
+    /// Nobody, until somebody adopts it.
+    Inherited,
+    /// Nobody, for good.
+    Abandoned,
+}
+
+/// What the table keeps of a contract, its members and events aside.
+#[derive(Clone, Copy, Debug, PartialEq, Eq)]
+pub struct Contract {
+    /// From 1, and never used again.
+    pub id: Number,
+    /// What its maker wrote there, as `Cookie::pack` gives it.
+    pub cookie: u64,
+    pub holder: Holder,
+    pub terms: Terms,
+    /// The number of the last event that was acknowledged; 0 where none was.
+    pub acknowledged: Number,
+}
+
+/// A process, and the contract that it is in.
+#[derive(Clone, Copy, Debug, PartialEq, Eq)]
+pub struct Member {
+    pub process: Number,
+    pub contract: Number,
+}
+
+/// A contract with its members, by their numbers, and all its events, the newest last.
+#[derive(Debug, Drop)]
+pub struct Status {
+    pub contract: Contract,
+    pub members: Items<Number>,
+    pub events: Items<Event>,
+}

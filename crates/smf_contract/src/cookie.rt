@@ -1,0 +1,71 @@
+ghost use Rattle.std.specs.Prelude.{◌≡◌, IfOk, IfSome, Some, None, Ok};
+ghost use Rattle.smf_contract.specs.Cookies.{packed, unpacked};
+
+use thiserror::Error;
+
+/// The greatest number of an instance that a cookie holds, 2^24 - 1.
+const MAX_INSTANCE: u32 = 16_777_215;
+
+/// The greatest run that a cookie holds, 2^38 - 1.
+const MAX_RUN: u64 = 274_877_906_943;
+
+/// What a start, stop or refresh method is.
+#[derive(Clone, Copy, Debug, PartialEq, Eq)]
+pub enum Method {
+    Start,
+    Stop,
+    Refresh,
+}
+
+/// What a restarter writes into the cookie of a contract, so as to know it again:
+/// which run of which instance it is, and of which method.
+#[derive(Clone, Copy, Debug, PartialEq, Eq)]
+pub struct Cookie {
+    pub instance: u32,
+    pub run: u64,
+    pub method: Method,
+}
+
+/// Why a cookie has no form in 64 bits.
+#[derive(Clone, Copy, Debug, PartialEq, Eq, Error)]
+pub enum CookieFault {
+    /// The instance is past 16777215, or the run past 274877906943.
+    #[error("out of range")]
+    Range,
+}
+
+impl Cookie {
+    /// The cookie's 64 bits: the instance in bits 63 to 40, the run in 39 to 2, the method in 1 and 0.
+    pub fn pack(self) -> Result<u64, CookieFault>
+        ensures exact { result ≡ packed self }
+        ensures back { IfOk result (λ bits. unpacked bits ≡ Some self) }
+    {
+        if self.instance > MAX_INSTANCE || self.run > MAX_RUN {
+            return Err(CookieFault::Range);
+        }
+        let method = match self.method {
+            Method::Start => 0,
+            Method::Stop => 1,
+            Method::Refresh => 2,
+        };
+        Ok((u64::from(self.instance) << 40) + (self.run << 2) + method)
+    }
+
+    /// What stands in a cookie's 64 bits, if their last two name a method.
+    pub fn unpack(bits: u64) -> Option<Cookie>
+        ensures exact { result ≡ unpacked bits }
+        ensures back { IfSome result (λ cookie. packed cookie ≡ Ok bits) }
+    {
+        let method = match bits % 4 {
+            0 => Method::Start,
+            1 => Method::Stop,
+            2 => Method::Refresh,
+            _ => return None,
+        };
+        Some(Cookie {
+            instance: (bits >> 40) as u32,
+            run: bits % (1 << 40) / 4,
+            method,
+        })
+    }
+}

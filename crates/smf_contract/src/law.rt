@@ -1,0 +1,20 @@
+ghost use Rattle.std.specs.Prelude.{◌≡◌, ℕ, ◌+◌, List, IfOk};
+ghost use Rattle.smf_contract.specs.Calls.{spawned, forked};
+ghost use Rattle.smf_contract.specs.declared.terms.Terms.{Terms};
+ghost use Rattle.smf_contract.specs.Entries.{Contracts};
+ghost use Rattle.smf_contract.specs.Laws.{Call, done, after, IsOrdered, NeverFalls, StaysEmpty};
+
+/// A law of the definitions: no call gives a member to a contract that has none.
+pub fn an_empty_contract_stays_empty()
+    ensures { (t : Contracts) (call : Call) → StaysEmpty t (done t call) }
+{}
+
+/// A law of the definitions: ids and process numbers stand in order and none is above the last ones.
+/// What is made gets the next ones, and the last ones never fall, so none is used again.
+pub fn numbers_stay_in_order()
+    ensures every { (calls : List Call) → IsOrdered (after calls) }
+    ensures next { (t : Contracts) (call : Call) → IsOrdered t → IsOrdered (done t call) }
+    ensures spawned { (t : Contracts) (actor cookie : ℕ) (terms : Terms) → IfOk (spawned t actor cookie terms) (λ r. (r.1.contract ≡ t.last_contract + 1) × (r.1.process ≡ t.last_process + 1)) }
+    ensures forked { (t : Contracts) (process : ℕ) → IfOk (forked t process) (λ r. r.1 ≡ t.last_process + 1) }
+    ensures last { (t : Contracts) (call : Call) → NeverFalls t (done t call) }
+{}
