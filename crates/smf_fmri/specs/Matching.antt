@@ -36,6 +36,14 @@ pub record IsInstanceName (name : List ℕ) : Type 0 where
 abbrev pub named_instance : List ℕ → Option (List ℕ)
 named_instance name = if is_some (instance_of name) then Some name else None
 
+-- a name that names a service
+pub record IsServiceName (name : List ℕ) : Type 0 where
+  pub reads : read name ≡ Ok name
+  pub names : is_some (instance_of name) ≡ false
+
+abbrev pub named_service : List ℕ → Option (List ℕ)
+named_service name = if is_some (instance_of name) then None else Some name
+
 -- the instance that a text names in the short form
 abbrev pub short_instance : List ℕ → Result (List ℕ) FmriFault → Option (List ℕ)
 short_instance text (Ok name) = if pointwise nat_eq name text then named_instance name else None

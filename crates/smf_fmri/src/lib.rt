@@ -1,5 +1,5 @@
 //! Names of services and instances, and the small types that every crate shares.
-//! Rooms: `fmri` and `instance` (names), `pattern` (abbreviations), `count` (numbers as texts), `reader`,
+//! Rooms: `fmri`, `instance` and `service` (names), `pattern` (abbreviations), `count` (numbers as texts), `reader`,
 //! `items`, `text`, `bytes`, `number`, `fault`.
 #![tactic(auto)]
 
@@ -12,6 +12,7 @@ mod items;
 mod number;
 mod pattern;
 mod reader;
+mod service;
 mod text;
 
 pub use bytes::Bytes;
@@ -23,6 +24,7 @@ pub use items::Items;
 pub use number::Number;
 pub use pattern::{Pattern, pick};
 pub use reader::strip;
+pub use service::ServiceFmri;
 pub use text::Text;
 
 #[cfg(test)]

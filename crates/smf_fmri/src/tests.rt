@@ -1,6 +1,6 @@
 use crate::{
-    Bytes, Fmri, FmriFault, InstanceFmri, Items, Number, Pattern, PickFault, Text, is_decimal,
-    pick, read_count, strip,
+    Bytes, Fmri, FmriFault, InstanceFmri, Items, Number, Pattern, PickFault, ServiceFmri, Text,
+    is_decimal, pick, read_count, strip,
 };
 use std::alloc::Global;
 use std::cmp::Ordering;
@@ -164,6 +164,13 @@ fn instances(rt: HostRuntime) -> Result<(), Fail> {
     assert_eq!(rt; name.as_fmri().instance(), Some("b"));
     assert_eq!(rt; format!(in alloc; "{name}")?.as_str(), "svc:/a:b");
     assert_eq!(rt; name.into_fmri().service(), "a");
+    assert!(rt; ServiceFmri::of(Fmri::parse(alloc, "svc:/a:b")?).is_none());
+    let service = ServiceFmri::of(Fmri::parse(alloc, "svc:/a/b")?).ok_or("an instance")?;
+    assert!(rt; service.clone()? == service);
+    assert_eq!(rt; service.cmp(&service), Ordering::Equal);
+    assert_eq!(rt; service.as_fmri().service(), "a/b");
+    assert_eq!(rt; format!(in alloc; "{service}")?.as_str(), service.print());
+    assert_eq!(rt; service.into_fmri().instance(), None);
     Ok(())
 }
 
