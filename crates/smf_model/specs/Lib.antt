@@ -1,0 +1,4 @@
+pub mod Holdings
+pub mod Look
+pub mod Setting
+pub mod Next

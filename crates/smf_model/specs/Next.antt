@@ -1,0 +1,449 @@
+-- What each command asks to change, its reply, and what the repository is after it.
+use Rattle.std.specs.Prelude.{◌≡◌, ℕ, ◌+◌, ◌==◌, ◌&&◌, ◌||◌, not, nat_lt, nat_le, nat_eq, List, [], ◌∷◌, ◌++◌, length, map, filter, find, count_by, Bool, true, false, if◌then◌else◌, codes, Option, Some, None, is_some, is_none, option_map, unwrap_or, Result, Ok, Err}
+use Rattle.std.specs.Cmp.Lexicographic.{pointwise}
+use Rattle.std.specs.Int.RustNames.{bit_or}
+use Rattle.std.specs.List.{list_any}
+use Rattle.smf_fmri.specs.Matching.{read_short}
+use Rattle.smf_state.specs.declared.row.Row.{Row}
+use Rattle.smf_state.specs.declared.fault.StepFault.{StepFault}
+use Rattle.smf_state.specs.declared.state.State.{State}
+use Rattle.smf_state.specs.declared.state.State.TheVariants.{Uninitialized, Disabled, Offline, Online, Degraded, Maintenance}
+use Rattle.smf_state.specs.declared.step.Proposal.{Proposal}
+use Rattle.smf_state.specs.declared.step.Step.{Step}
+use Rattle.smf_state.specs.declared.step.Step.TheVariants.{Start}
+use Rattle.smf_state.specs.Rows.{applied, fresh, same_state, greatest_number}
+use Rattle.smf_state.specs.States.{runs}
+use Rattle.smf_value.specs.declared.fault.GroupFault.{GroupFault}
+use Rattle.smf_value.specs.declared.value.Value.TheVariants.{Boolean}
+use Rattle.smf_value.specs.declared.kind.Kind.TheVariants as kinds
+use Rattle.smf_value.specs.Groups.{PropertyRecord, GroupRecord}
+use Rattle.smf_value.specs.Edits as edits
+use Rattle.smf_snap.specs.declared.name.SnapshotName.{SnapshotName}
+use Rattle.smf_snap.specs.declared.name.SnapshotName.TheVariants as snapshots
+use Rattle.smf_snap.specs.Taking.{taken, restored, put_all}
+use Rattle.smf_model.specs.declared.change.Change.{Change}
+use Rattle.smf_model.specs.declared.change.Change.TheVariants.{AddService, DropService, AddInstance, PutInstance, DropInstance, PutGroup, DropGroup, DropGroups, AddSnapshot, DropSnapshots, PutLaunch, NextInstance, NextSnapshot, SetRevision}
+use Rattle.smf_model.specs.declared.command.Command.{Command}
+use Rattle.smf_model.specs.declared.command.Command.TheVariants as commands
+use Rattle.smf_model.specs.declared.command.Edit.{Edit}
+use Rattle.smf_model.specs.declared.command.Edit.TheVariants as asked_for
+use Rattle.smf_model.specs.declared.command.Mark.{Mark}
+use Rattle.smf_model.specs.declared.command.Mark.TheVariants as marks
+use Rattle.smf_model.specs.declared.command.PropertyChange.{PropertyChange}
+use Rattle.smf_model.specs.declared.command.PropertyChange.TheVariants as properties
+use Rattle.smf_model.specs.declared.command.Reply.{Reply}
+use Rattle.smf_model.specs.declared.command.Reply.TheVariants.{Made, Granted, Done, NoSuch, InUse, NotInState, Exists, Denied, Limit, Stale}
+use Rattle.smf_model.specs.declared.command.Why.{Why}
+use Rattle.smf_model.specs.declared.command.Why.TheVariants as whys
+use Rattle.smf_model.specs.declared.held.Held.{Held}
+use Rattle.smf_model.specs.declared.held.Instance.{Instance}
+use Rattle.smf_model.specs.declared.held.Launch.{Launch}
+use Rattle.smf_model.specs.declared.held.Owner.{Owner}
+use Rattle.smf_model.specs.declared.held.Owner.TheVariants as owners
+use Rattle.smf_model.specs.declared.held.Snapshot.{Snapshot}
+use Rattle.smf_model.specs.declared.setting.Setting.{Setting}
+use Rattle.smf_model.specs.declared.setting.Setting.TheVariants.{Unset, Restarter, Unreadable}
+use Rattle.smf_model.specs.Holdings.{Holdings}
+use Rattle.smf_model.specs.Look.{has_number, has_name, is_owned_by, is_snapshot, service, instance, named, group, snapshot, launch_of, installed}
+use Rattle.smf_model.specs.Setting.{general, general_ovr, enabled_name, restarter_name, framework, startd, service_fmri, current, setting, owner_by}
+
+-- what a command makes: the changes, and the reply
+abbrev pub Asked : Type 0
+Asked = List Change × Reply
+
+-- ---- limits
+
+-- of revisions, launches and row numbers
+abbrev pub greatest : ℕ
+greatest = 0x7fff_ffff_ffff_ffff
+
+abbrev pub greatest_instance : ℕ
+greatest_instance = 0xff_ffff
+
+abbrev pub greatest_snapshot : ℕ
+greatest_snapshot = 0x7fff_ffff_ffff_fffe
+
+abbrev pub most_groups : ℕ
+most_groups = 1000
+
+-- ---- a refusal, and an accepted command
+
+abbrev pub refused : Reply → Asked
+refused reply = ([], reply)
+
+-- an accepted command makes one revision, where one is left
+abbrev pub accepted : Holdings → List Change → Reply → Asked
+accepted h changes reply = if nat_lt h.revision greatest then (changes ++ SetRevision (h.revision + 1) ∷ [], reply) else refused Limit
+
+-- the instance of a number, as it is read
+abbrev pub found : Holdings → ℕ → Option Instance
+found h n = option_map (current h.groups) (instance h n)
+
+-- ---- services and instances
+
+abbrev pub asked_add_service : Holdings → List ℕ → Option (List ℕ) → Asked
+asked_add_service h name (Some s) = refused Exists
+asked_add_service h name None = accepted h (AddService name ∷ []) Done
+
+abbrev pub new_instance : Holdings → List ℕ → Instance
+new_instance h name = record { number = h.next_instance; name = name; row = fresh startd; start = None; previous = None }
+
+abbrev pub added_at : Holdings → List ℕ → Option Instance → Asked
+added_at h name (Some i) = refused Exists
+added_at h name None =
+    if nat_le h.next_instance greatest_instance
+    then accepted h (AddInstance (new_instance h name) ∷ NextInstance (h.next_instance + 1) ∷ []) (Made h.next_instance)
+    else refused Limit
+
+-- a name of more than 512 bytes is past a limit
+abbrev pub added_named : Holdings → Option (List ℕ) → Asked
+added_named h None = refused Limit
+added_named h (Some name) = added_at h name (named h name)
+
+abbrev pub asked_add_instance : Holdings → List ℕ → Option (List ℕ) → Asked
+asked_add_instance h name None = refused NoSuch
+asked_add_instance h name (Some s) = added_named h (read_short (s ++ 58 ∷ name))
+
+abbrev pub is_instance_of : List ℕ → Instance → Bool
+is_instance_of s i = pointwise nat_eq (service_fmri i.name) s
+
+abbrev pub asked_delete_service : Holdings → Option (List ℕ) → Asked
+asked_delete_service h None = refused NoSuch
+asked_delete_service h (Some s) =
+    if list_any (is_instance_of s) h.instances then refused InUse
+    else accepted h (DropGroups (owners.Service s) ∷ DropService s ∷ []) Done
+
+-- an instance that runs, or whose transition is under way, or that has a run
+abbrev pub is_in_use : Row → Bool
+is_in_use r = runs r.state || is_some r.next || is_some r.live || is_some r.side
+
+abbrev pub asked_delete_instance : Holdings → Option Instance → Asked
+asked_delete_instance h None = refused NoSuch
+asked_delete_instance h (Some i) =
+    if is_in_use i.row then refused InUse
+    else accepted h (DropGroups (owners.Instance i.number) ∷ DropSnapshots i.number ∷ DropInstance i.number ∷ []) Done
+
+-- ---- groups
+
+abbrev pub is_there : Holdings → Owner → Bool
+is_there h (owners.Service name) = is_some (service h name)
+is_there h (owners.Instance n) = is_some (instance h n)
+
+-- the group `restarter` of an instance is made from its row
+abbrev pub is_made : Owner → List ℕ → Bool
+is_made (owners.Service s) name = false
+is_made (owners.Instance n) name = pointwise nat_eq name restarter_name
+
+-- how many groups an owner has besides those of two names
+abbrev pub is_other_group : Owner → List ℕ → List ℕ → Held → Bool
+is_other_group owner first second g = is_owned_by owner g && not (pointwise nat_eq g.group.name first) && not (pointwise nat_eq g.group.name second)
+
+abbrev pub has_room : Holdings → Owner → List ℕ → List ℕ → Bool
+has_room h owner first second = nat_lt (count_by (is_other_group owner first second) h.groups) most_groups
+
+-- the owner is there and the group is not a made one
+abbrev pub guarded : Holdings → Owner → List ℕ → Asked → Asked
+guarded h owner name asked = if not (is_there h owner) then refused NoSuch else if is_made owner name then refused InUse else asked
+
+abbrev pub new_group : List ℕ → List ℕ → Bool → GroupRecord
+new_group name group_type non_persistent = record { name = name; group_type = group_type; non_persistent = non_persistent; properties = [] }
+
+abbrev pub added_group : Holdings → Owner → GroupRecord → Option GroupRecord → Asked
+added_group h owner g (Some there) = refused Exists
+added_group h owner g None =
+    if has_room h owner g.name g.name then accepted h (PutGroup (record { owner = owner; group = g }) ∷ []) Done else refused Limit
+
+abbrev pub deleted_group : Holdings → Owner → List ℕ → Option GroupRecord → Asked
+deleted_group h owner name None = refused NoSuch
+deleted_group h owner name (Some g) = accepted h (DropGroup owner name ∷ []) Done
+
+abbrev pub property_changed : PropertyChange → GroupRecord → Result GroupRecord GroupFault
+property_changed (properties.Set name kind values) g = edits.set name kind values g
+property_changed (properties.AddValue name kind value) g = edits.add_value name kind value g
+property_changed (properties.DeleteValue name value) g = edits.del_value name value g
+property_changed (properties.Delete name) g = edits.del name g
+
+abbrev pub put_or_denied : Holdings → Owner → Result GroupRecord GroupFault → Asked
+put_or_denied h owner (Err fault) = refused (Denied fault)
+put_or_denied h owner (Ok g) = accepted h (PutGroup (record { owner = owner; group = g }) ∷ []) Done
+
+abbrev pub changed_group : Holdings → Owner → PropertyChange → Option GroupRecord → Asked
+changed_group h owner change None = refused NoSuch
+changed_group h owner change (Some g) = put_or_denied h owner (property_changed change g)
+
+-- ---- enable and disable
+
+abbrev pub enabled_property : Bool → PropertyRecord
+enabled_property b = record { name = enabled_name; kind = kinds.Boolean; values = Boolean b ∷ [] }
+
+-- the property `enabled` put into the group `general`, and `general_ovr` gone; or into `general_ovr`
+abbrev pub enabled_for_good : Holdings → ℕ → Result GroupRecord GroupFault → Asked
+enabled_for_good h n (Err fault) = refused (Denied fault)
+enabled_for_good h n (Ok g) =
+    if has_room h (owners.Instance n) general general_ovr
+    then accepted h (DropGroup (owners.Instance n) general_ovr ∷ PutGroup (record { owner = owners.Instance n; group = g }) ∷ []) Done
+    else refused Limit
+
+abbrev pub enabled_for_now : Holdings → ℕ → Result GroupRecord GroupFault → Asked
+enabled_for_now h n (Err fault) = refused (Denied fault)
+enabled_for_now h n (Ok g) =
+    if has_room h (owners.Instance n) general_ovr general_ovr
+    then accepted h (PutGroup (record { owner = owners.Instance n; group = g }) ∷ []) Done
+    else refused Limit
+
+abbrev pub asked_enable : Holdings → ℕ → Bool → Bool → Option Instance → Asked
+asked_enable h n b temporary None = refused NoSuch
+asked_enable h n b false (Some i) = enabled_for_good h n (edits.put (enabled_property b) (unwrap_or (group h (owners.Instance n) general) (new_group general framework false)))
+asked_enable h n b true (Some i) = enabled_for_now h n (edits.put (enabled_property b) (unwrap_or (group h (owners.Instance n) general_ovr) (new_group general_ovr framework true)))
+
+-- ---- what is asked of an instance
+
+abbrev pub asking : Instance → ℕ → Instance
+asking i bit = record i { row = record i.row { asks = record { 0 = bit_or i.row.asks.0 bit } } }
+
+-- a command without effect is accepted too
+abbrev pub asked_if : Holdings → Bool → Instance → ℕ → Asked
+asked_if h true i bit = accepted h (PutInstance (asking i bit) ∷ []) Done
+asked_if h false i bit = accepted h [] Done
+
+abbrev pub asked_where : Holdings → Bool → Instance → ℕ → Asked
+asked_where h true i bit = accepted h (PutInstance (asking i bit) ∷ []) Done
+asked_where h false i bit = refused NotInState
+
+abbrev pub asked_restart : Holdings → Option Instance → Asked
+asked_restart h None = refused NoSuch
+asked_restart h (Some i) = asked_if h (runs i.row.state) i 16
+
+abbrev pub asked_clear : Holdings → Option Instance → Asked
+asked_clear h None = refused NoSuch
+asked_clear h (Some i) = asked_where h (same_state i.row.state Maintenance || same_state i.row.state Degraded) i 32
+
+abbrev pub marked : Holdings → Mark → Instance → Asked
+marked h marks.Degraded i = asked_where h (same_state i.row.state Online) i 64
+marked h marks.Maintenance i = asked_if h (not (same_state i.row.state Maintenance)) i 2
+marked h marks.MaintenanceNow i = asked_if h (not (same_state i.row.state Maintenance)) i 1
+
+abbrev pub asked_mark : Holdings → Mark → Option Instance → Asked
+asked_mark h mark None = refused NoSuch
+asked_mark h mark (Some i) = marked h mark i
+
+-- ---- snapshots
+
+abbrev pub owned_groups : List Held → Owner → List GroupRecord
+owned_groups gs owner = map (λ g. g.group) (filter (is_owned_by owner) gs)
+
+-- an owner's groups, in the order of their names
+unfoldable pub groups_of : Holdings → Owner → List GroupRecord
+groups_of h owner = put_all (owned_groups h.groups owner) []
+
+abbrev pub service_owner : Instance → Owner
+service_owner i = owners.Service (service_fmri i.name)
+
+abbrev pub snapshot_of : Holdings → Instance → Snapshot
+snapshot_of h i =
+    record {
+      number = h.next_snapshot;
+      instance = i.number;
+      service_groups = taken (groups_of h (service_owner i));
+      instance_groups = taken (groups_of h (owners.Instance i.number));
+    }
+
+-- a snapshot is taken, where a number is left for it
+abbrev pub with_snapshot : Holdings → Instance → List Change → Reply → Asked
+with_snapshot h i changes reply =
+    if nat_le h.next_snapshot greatest_snapshot
+    then accepted h (AddSnapshot (snapshot_of h i) ∷ NextSnapshot (h.next_snapshot + 1) ∷ changes) reply
+    else refused Limit
+
+-- ---- refresh, and the move to another restarter
+
+-- the restarter that an instance moves to, if it is another one
+abbrev pub target_by : Setting → List ℕ → Option (List ℕ)
+target_by Unreadable owner = None
+target_by s owner = if pointwise nat_eq (owner_by s) owner then None else Some (owner_by s)
+
+abbrev pub may_be_moved : Row → Bool
+may_be_moved r = (same_state r.state Uninitialized || same_state r.state Disabled) && is_none r.next && is_none r.live && is_none r.side
+
+abbrev pub refreshed_row : Row → ℕ → ℕ → Bool → Row
+refreshed_row r running revision true = record r { running = Some running; asks = record { 0 = bit_or r.asks.0 128 }; refresh = revision }
+refreshed_row r running revision false = record r { running = Some running }
+
+abbrev pub moved_row : Row → ℕ → List ℕ → Row
+moved_row r running owner =
+    record r { running = Some running; owner = owner; number = r.number + 1; state = Uninitialized; asks = record { 0 = 0 }; failed = 0; cause = None; launch = 0; serial = 0 }
+
+abbrev pub moved : Holdings → Instance → List ℕ → Asked
+moved h i owner =
+    if not (may_be_moved i.row) then refused InUse
+    else if not (nat_lt i.row.number greatest_number) then refused Limit
+    else with_snapshot h i (PutInstance (record i { row = moved_row i.row h.next_snapshot owner }) ∷ []) Done
+
+abbrev pub refreshed : Holdings → Instance → Option (List ℕ) → Asked
+refreshed h i None = with_snapshot h i (PutInstance (record i { row = refreshed_row i.row h.next_snapshot (h.revision + 1) (runs i.row.state) }) ∷ []) Done
+refreshed h i (Some owner) = moved h i owner
+
+abbrev pub asked_refresh : Holdings → Option Instance → Asked
+asked_refresh h None = refused NoSuch
+asked_refresh h (Some i) = refreshed h i (target_by (setting h.groups i) i.row.owner)
+
+-- ---- revert
+
+abbrev pub number_of : Instance → SnapshotName → Option ℕ
+number_of i snapshots.Previous = i.previous
+number_of i snapshots.Running = i.row.running
+number_of i snapshots.Start = i.start
+
+abbrev pub named_snapshot : Holdings → Option ℕ → Option Snapshot
+named_snapshot h None = None
+named_snapshot h (Some n) = snapshot h n
+
+-- these groups in place of all of an owner's
+abbrev pub regrouped : Owner → List GroupRecord → List Change
+regrouped owner gs = DropGroups owner ∷ map (λ g. PutGroup (record { owner = owner; group = g })) gs
+
+abbrev pub reverted_to : Holdings → Instance → List GroupRecord → List GroupRecord → Asked
+reverted_to h i service_groups instance_groups =
+    if nat_lt most_groups (length service_groups) || nat_lt most_groups (length instance_groups) then refused Limit
+    else with_snapshot h i (PutInstance (record i { previous = Some h.next_snapshot }) ∷ (regrouped (service_owner i) service_groups ++ regrouped (owners.Instance i.number) instance_groups)) Done
+
+abbrev pub reverted : Holdings → Instance → Option Snapshot → Asked
+reverted h i None = refused NoSuch
+reverted h i (Some s) = reverted_to h i (restored (groups_of h (service_owner i)) s.service_groups) (restored (groups_of h (owners.Instance i.number)) s.instance_groups)
+
+abbrev pub asked_revert : Holdings → SnapshotName → Option Instance → Asked
+asked_revert h name None = refused NoSuch
+asked_revert h name (Some i) = reverted h i (named_snapshot h (number_of i name))
+
+-- ---- what a client may give
+
+unfoldable pub asked_edit : Holdings → Edit → Asked
+asked_edit h (asked_for.AddService name) = asked_add_service h name (service h name)
+asked_edit h (asked_for.AddInstance s name) = asked_add_instance h name (service h s)
+asked_edit h (asked_for.DeleteService name) = asked_delete_service h (service h name)
+asked_edit h (asked_for.DeleteInstance n) = asked_delete_instance h (found h n)
+asked_edit h (asked_for.AddGroup owner name group_type p) = guarded h owner name (added_group h owner (new_group name group_type p) (group h owner name))
+asked_edit h (asked_for.DeleteGroup owner name) = guarded h owner name (deleted_group h owner name (group h owner name))
+asked_edit h (asked_for.Property owner name change) = guarded h owner name (changed_group h owner change (group h owner name))
+asked_edit h (asked_for.Enable n b temporary) = asked_enable h n b temporary (found h n)
+asked_edit h (asked_for.Restart n) = asked_restart h (found h n)
+asked_edit h (asked_for.Refresh n) = asked_refresh h (found h n)
+asked_edit h (asked_for.Clear n) = asked_clear h (found h n)
+asked_edit h (asked_for.Mark n mark) = asked_mark h mark (found h n)
+asked_edit h (asked_for.Revert n name) = asked_revert h name (found h n)
+
+-- ---- the answer to a proposal
+
+-- the proposal that was granted last
+abbrev pub is_again : Row → Proposal → Bool
+is_again r p = pointwise nat_eq r.owner p.proposer && (r.launch == p.launch) && (r.serial == p.serial)
+
+abbrev pub is_running : Option ℕ → ℕ → Bool
+is_running None snapshot = false
+is_running (Some running) snapshot = running == snapshot
+
+abbrev pub is_other_snapshot : Row → Step → Bool
+is_other_snapshot r (Start run snapshot duration ignore base) = not (is_running r.running snapshot)
+is_other_snapshot r _ = false
+
+-- why a proposal is refused before its step is looked at, the first reason
+abbrev pub stale : Holdings → Row → Proposal → Option Why
+stale h r p =
+    if not (p.launch == launch_of h p.proposer) then Some whys.Launch
+    else if not (pointwise nat_eq r.owner p.proposer) then Some whys.Owner
+    else if not (p.number == r.number + 1) then Some whys.Number
+    else if is_other_snapshot r p.step then Some whys.Snapshot
+    else None
+
+-- a start that succeeded was by the snapshot with which it began
+abbrev pub started_by : Row → Row → Option ℕ → Option ℕ
+started_by before after start = if same_state before.state Offline && same_state after.state Online then after.begun else start
+
+abbrev pub with_row : Instance → Row → Instance
+with_row i row = record i { row = row; start = started_by i.row row i.start }
+
+-- the move that leaves uninitialized takes `running` where there is none
+abbrev pub takes_running : Row → Row → Bool
+takes_running before after = same_state before.state Uninitialized && not (same_state after.state Uninitialized) && is_none before.running
+
+abbrev pub granted : Holdings → Instance → Row → Bool → Asked
+granted h i row true = with_snapshot h i (PutInstance (with_row i (record row { running = Some h.next_snapshot })) ∷ []) (Granted (record row { running = Some h.next_snapshot }))
+granted h i row false = accepted h (PutInstance (with_row i row) ∷ []) (Granted row)
+
+abbrev pub step_answer : Holdings → Instance → Result Row StepFault → Asked
+step_answer h i (Err fault) = refused (Stale (whys.Step fault) (Some i.row))
+step_answer h i (Ok row) = granted h i row (takes_running i.row row)
+
+abbrev pub fresh_answer : Holdings → Instance → Proposal → Option Why → Asked
+fresh_answer h i p (Some why) = refused (Stale why (Some i.row))
+fresh_answer h i p None = step_answer h i (applied i.row p (h.revision + 1))
+
+abbrev pub answer_at : Holdings → Proposal → Option Instance → Asked
+answer_at h p None = refused (Stale whys.NoSuch None)
+answer_at h p (Some i) = if is_again i.row p then refused (Granted i.row) else fresh_answer h i p (stale h i.row p)
+
+unfoldable pub answer : Holdings → Proposal → Asked
+answer h p = answer_at h p (found h p.instance)
+
+-- ---- launches and boots
+
+unfoldable pub asked_launch : Holdings → List ℕ → Asked
+asked_launch h name =
+    if nat_lt (launch_of h name) greatest
+    then accepted h (PutLaunch (record { restarter = name; count = launch_of h name + 1 }) ∷ []) (Made (launch_of h name + 1))
+    else refused Limit
+
+abbrev pub relaunched : Launch → Change
+relaunched l = PutLaunch (record { restarter = l.restarter; count = l.count + 1 })
+
+abbrev pub is_persistent : Held → Bool
+is_persistent g = not g.group.non_persistent
+
+abbrev pub persistent : List Held → List Held
+persistent gs = filter is_persistent gs
+
+abbrev pub dropped : Held → Change
+dropped g = DropGroup g.owner g.group.name
+
+-- a row at a boot: what was under way is gone, and the owner is read again
+abbrev pub booted_row : Row → List ℕ → Row
+booted_row r owner =
+    record r {
+      owner = owner;
+      number = r.number + 1;
+      state = Uninitialized;
+      next = None;
+      live = None;
+      side = None;
+      failed = 0;
+      asks = record { 0 = 0 };
+      launch = 0;
+      serial = 0;
+    }
+
+abbrev pub booted : List Held → Instance → Instance
+booted gs i = record i { row = booted_row i.row (owner_by (setting gs i)) }
+
+abbrev pub is_last_launch : Launch → Bool
+is_last_launch l = not (nat_lt l.count greatest)
+
+abbrev pub is_last_number : Instance → Bool
+is_last_number i = not (nat_lt i.row.number greatest_number)
+
+unfoldable pub asked_boot : Holdings → Asked
+asked_boot h =
+    if list_any is_last_launch h.launches || list_any is_last_number h.instances then refused Limit
+    else accepted h ((map relaunched h.launches ++ map dropped (filter (λ g. g.group.non_persistent) h.groups)) ++ map (λ i. PutInstance (booted (persistent h.groups) i)) h.instances) Done
+
+-- ---- the whole
+
+-- what a command asks to change, and its reply
+unfoldable pub asked : Holdings → Command → Asked
+asked h (commands.Edit edit) = asked_edit h edit
+asked h (commands.Propose p) = answer h p
+asked h (commands.Launch name) = asked_launch h name
+asked h commands.Boot = asked_boot h
+
+-- what a command makes of what is held, and its reply
+unfoldable pub next : Holdings → Command → Holdings × Reply
+next h c = (installed h (asked h c).0, (asked h c).1)

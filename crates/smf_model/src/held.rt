@@ -1,0 +1,51 @@
+ghost use Rattle.std.specs.Prelude.{◌≡◌, IfOk};
+
+use smf_fmri::{InstanceFmri, Items, ServiceFmri};
+use smf_state::Row;
+use smf_value::Group;
+use std::alloc::AllocError;
+
+/// What groups belong to.
+#[derive(Debug, Drop)]
+pub enum Owner {
+    Service(ServiceFmri),
+    /// An instance, by its number.
+    Instance(u64),
+}
+
+/// A group with its owner.
+#[derive(Debug, Drop)]
+pub struct Held {
+    pub owner: Owner,
+    pub group: Group,
+}
+
+/// An instance, its groups aside. The snapshot `running` stands in its row.
+#[derive(Debug, Drop)]
+pub struct Instance {
+    /// From 1 to 2^24 - 1, never given again.
+    pub number: u64,
+    pub name: InstanceFmri,
+    pub row: Row,
+    /// The snapshot by which it last came online.
+    pub start: Option<u64>,
+    /// The snapshot that the last revert took.
+    pub previous: Option<u64>,
+}
+
+/// What an instance's configuration was: the groups of its service and its own.
+#[derive(Debug, Drop)]
+pub struct Snapshot {
+    /// From 1, never given again.
+    pub number: u64,
+    pub instance: u64,
+    pub service_groups: Items<Group>,
+    pub instance_groups: Items<Group>,
+}
+
+/// How often a restarter was launched.
+#[derive(Debug, Drop)]
+pub struct Launch {
+    pub restarter: InstanceFmri,
+    pub count: u64,
+}

@@ -1,0 +1,28 @@
+-- A snapshot's bytes: the service's body, and then the instance's.
+use Rattle.std.specs.Prelude.{ℕ, ◌+◌, ◌-◌, List, ◌++◌, length, Result, Ok, Err}
+use Rattle.smf_value.specs.declared.fault.BodyFault.{BodyFault}
+use Rattle.smf_value.specs.declared.fault.BodyFault.TheVariants.{Memory, BadBody}
+use Rattle.smf_value.specs.Groups.{GroupRecord}
+use Rattle.smf_value.specs.Body.{AreGroups, spelled}
+use Rattle.smf_value.specs.Reading.{decoded, decoded_first}
+use Rattle.smf_snap.specs.declared.body.Snapshot.{Snapshot}
+
+abbrev pub spelled_snapshot : Snapshot → List ℕ
+spelled_snapshot s = spelled s.service ++ spelled s.instance
+
+pub record IsSnapshot (s : Snapshot) : Type 0 where
+  pub service : AreGroups s.service
+  pub instance : AreGroups s.instance
+
+-- a fault in the second body, by its place from the start of the first
+abbrev pub with_instance : ℕ → List GroupRecord → Result (List GroupRecord) BodyFault → Result Snapshot BodyFault
+with_instance at service (Ok gs) = Ok (record { service = service; instance = gs })
+with_instance at service (Err Memory) = Err Memory
+with_instance at service (Err (BadBody place)) = Err (BadBody (at + place))
+
+abbrev pub both : ℕ → Result (List GroupRecord × List ℕ) BodyFault → Result Snapshot BodyFault
+both len (Err e) = Err e
+both len (Ok found) = with_instance (len - length found.1) found.0 (decoded found.1)
+
+unfoldable pub decoded_snapshot : List ℕ → Result Snapshot BodyFault
+decoded_snapshot bytes = both (length bytes) (decoded_first bytes)

@@ -1,0 +1,4 @@
+pub mod Composed
+pub mod Taking
+pub mod Names
+pub mod Body

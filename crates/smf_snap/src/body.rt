@@ -1,0 +1,56 @@
+ghost use Rattle.smf_snap.specs.Body.{IsSnapshot, decoded_snapshot, spelled_snapshot};
+ghost use Rattle.smf_snap.specs.declared.body.Snapshot.{Snapshot as AnySnapshot};
+ghost use Rattle.smf_value.specs.Body.{names_of};
+ghost use Rattle.smf_value.specs.Groups.{Rises};
+ghost use Rattle.smf_value.specs.Reading.{Gives};
+ghost use Rattle.std.specs.Prelude.{◌≡◌, IfOk, Ok};
+
+use smf_fmri::{Bytes, Items};
+use smf_value::{BodyFault, Group, decode, decode_first, encode};
+use std::alloc::{AllocError, Global};
+
+/// The groups that a snapshot holds of an instance and of its service.
+#[derive(Debug, Drop)]
+pub struct Snapshot {
+    pub service: Items<Group>,
+    pub instance: Items<Group>,
+}
+
+/// The bytes of a snapshot: the service's body, and then the instance's.
+pub fn encode_snapshot(alloc: Global, snapshot: &Snapshot) -> Result<Bytes, AllocError>
+    requires service { Rises (names_of snapshot.now.service) }
+    requires instance { Rises (names_of snapshot.now.instance) }
+    ensures spelled { IfOk result (λ b. b ≡ spelled_snapshot snapshot.now) }
+    ensures formed { IfOk result (λ _. IsSnapshot snapshot.now) }
+{
+    let mut bytes = encode(alloc, snapshot.service.as_slice())?.into_vec();
+    let instance = encode(alloc, snapshot.instance.as_slice())?;
+    bytes.extend_from_slice(instance.as_slice())?;
+    Ok(Bytes::from_vec(bytes))
+}
+
+/// The snapshot of such bytes. A place is counted from the start of the first body.
+pub fn decode_snapshot(alloc: Global, bytes: &[u8]) -> Result<Snapshot, BodyFault>
+    ensures found { IfOk result (λ s. IsSnapshot s × (bytes.now ≡ spelled_snapshot s)) }
+    ensures only { (s : AnySnapshot) → IsSnapshot s → bytes.now ≡ spelled_snapshot s → Gives (λ x. x) result (Ok s) }
+    ensures exact { Gives (λ x. x) result (decoded_snapshot bytes.now) }
+{
+    whole(alloc, bytes)
+}
+
+#[tactic(auto, unfolding(crate::specs::Body::decoded_snapshot))]
+fn whole(alloc: Global, bytes: &[u8]) -> Result<Snapshot, BodyFault>
+    ensures { Gives (λ x. x) result (decoded_snapshot bytes.now) }
+{
+    let (service, rest) = match decode_first(alloc, bytes) {
+        Ok(found) => found,
+        Err(fault) => return Err(fault),
+    };
+    match decode(alloc, rest) {
+        Ok(instance) => Ok(Snapshot { service, instance }),
+        Err(BodyFault::Memory) => Err(BodyFault::Memory),
+        Err(BodyFault::BadBody(place)) => {
+            Err(BodyFault::BadBody(bytes.len() - rest.len() + place))
+        }
+    }
+}

@@ -1,0 +1,14 @@
+pub mod Copies
+pub mod Names
+pub mod Texts
+pub mod Numbers
+pub mod Order
+pub mod Changes
+pub mod Digits
+pub mod Loops
+pub mod Fields
+pub mod OneValue
+pub mod Wholes
+pub mod Decimals
+pub mod ValueReads
+pub mod EditLoops

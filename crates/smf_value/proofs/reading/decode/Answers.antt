@@ -1,0 +1,18 @@
+use Rattle.std.proofs.Common.{◌≡◌, List, ℕ, Result, Ok, Err, IfOk, ap, subst, ◌∙◌, arith}
+use Rattle.smf_value.specs.declared.fault.BodyFault.{BodyFault}
+use Rattle.smf_value.specs.Groups.{GroupRecord}
+use Rattle.smf_value.specs.Body.{AreGroups, spelled}
+use Rattle.smf_value.specs.Reading.{Gives, decoded}
+use Rattle.smf_value.proofs.Fields.{IsBytes}
+use Rattle.smf_value.proofs.Wholes.{all_takes, whole_again}
+use Rattle.smf_value.proofs.reading.decode.Goals as goal
+
+found : (bytes : List ℕ) (r : Result (List GroupRecord) BodyFault) → IsBytes bytes → Gives {X = List GroupRecord} (λ x. x) r (decoded bytes) → IfOk r (λ gs. AreGroups gs × (bytes ≡ spelled gs))
+found bytes (Ok gs) fits given = all_takes bytes gs fits given
+found bytes (Err e) fits given = tt
+
+pub returns-clause-found : goal.returns-clause-found
+returns-clause-found c = found c.args.bytes.now c.all.result (λ i. omega (arith, c.type_inv.bytes i)) c.all.ensures.exact
+
+pub returns-clause-only : goal.returns-clause-only
+returns-clause-only c = λ gs is e. let P : Result (List GroupRecord) BodyFault → Type 0 = λ f. Gives {X = List GroupRecord} (λ x. x) c.all.result f in subst P (ap decoded e ∙ whole_again gs is) c.all.ensures.exact

@@ -1,0 +1,127 @@
+-- How groups are changed.
+use Rattle.std.specs.Prelude.{◌≡◌, ℕ, List, [], ◌∷◌, ◌++◌, length, not, nat_lt, if◌then◌else◌, filter, find, Option, Some, None, Result, Ok, Err}
+use Rattle.smf_value.specs.declared.fault.GroupFault.{GroupFault}
+use Rattle.smf_value.specs.declared.fault.GroupFault.TheVariants.{Memory, NoSuch, NeedsKind, KindDiffers, TooLong, NotA, Range, Full}
+use Rattle.smf_value.specs.declared.fault.ValueFault.{ValueFault}
+use Rattle.smf_value.specs.declared.fault.ValueFault.TheVariants as values
+use Rattle.smf_value.specs.declared.kind.Kind.{Kind}
+use Rattle.smf_value.specs.declared.value.Value.{Value}
+use Rattle.smf_value.specs.Kinds.{is_kind}
+use Rattle.smf_value.specs.Values.{is_value}
+use Rattle.smf_value.specs.Spellings.{read_value}
+use Rattle.smf_value.specs.Groups.{PropertyRecord, GroupRecord, property_of, put_in, is_named, without}
+
+abbrev pub Fails : {Y : Type 0} → GroupFault → Result Y GroupFault → Type 0
+Fails Memory given = Unit {0}
+Fails e given = given ≡ Err e
+
+-- what a call that changes something leaves: what the definition gives, or the fault and all as it was
+abbrev pub Leaves : {A : Type 0} → Result (Unit {0}) GroupFault → Result A GroupFault → A → A → Type 0
+Leaves (Ok _) given old new = given ≡ Ok new
+Leaves (Err e) given old new = Fails e given × (new ≡ old)
+
+-- what a call returned, seen by view, is what the definition gives, unless memory ran out
+abbrev pub Answers : {X Y : Type 0} → (X → Y) → Result X GroupFault → Result Y GroupFault → Type 0
+Answers view (Ok x) given = given ≡ Ok (view x)
+Answers view (Err e) given = Fails e given
+
+infixl 10 ◌>>=◌
+abbrev pub ◌>>=◌ : {A B : Type 0} → Result A GroupFault → (A → Result B GroupFault) → Result B GroupFault
+(Ok x) >>= f = f x
+(Err e) >>= f = Err e
+
+-- a value's fault, named here
+abbrev pub given_by : ValueFault → GroupFault
+given_by values.Memory = Memory
+given_by values.TooLong = TooLong
+given_by (values.NotA kind) = NotA kind
+given_by values.Range = Range
+
+abbrev pub lifted : {X : Type 0} → Result X ValueFault → Result X GroupFault
+lifted (Ok x) = Ok x
+lifted (Err e) = Err (given_by e)
+
+-- the values of texts, or the first bad one's fault
+abbrev pub read_values : Kind → List (List ℕ) → Result (List Value) GroupFault
+read_values kind [] = Ok []
+read_values kind (text ∷ texts) = do
+  value ← lifted (read_value kind text)
+  others ← read_values kind texts
+  Ok (value ∷ others)
+
+-- the kind that a property comes to have: a new one needs one, and a present one keeps its own
+abbrev pub agreed : Option Kind → Option PropertyRecord → Result Kind GroupFault
+agreed None None = Err NeedsKind
+agreed (Some kind) None = Ok kind
+agreed None (Some p) = Ok p.kind
+agreed (Some kind) (Some p) = if is_kind kind p.kind then Ok kind else Err KindDiffers
+
+abbrev pub values_of : Option PropertyRecord → List Value
+values_of None = []
+values_of (Some p) = p.values
+
+-- a property put among others, at most 1,000 in all
+unfoldable pub put_among : PropertyRecord → List PropertyRecord → Result (List PropertyRecord) GroupFault
+put_among p ps = if nat_lt 1000 (length (put_in p ps)) then Err Full else Ok (put_in p ps)
+
+abbrev pub taken_by : Option PropertyRecord → List PropertyRecord → Result (List PropertyRecord) GroupFault
+taken_by None ps = Err NoSuch
+taken_by (Some p) ps = Ok ps
+
+-- the properties but for that of a name, which is there
+unfoldable pub taken_from : List ℕ → List PropertyRecord → Result (List PropertyRecord) GroupFault
+taken_from name ps = taken_by (find (is_named name) ps) (without name ps)
+
+abbrev pub with_properties : GroupRecord → Result (List PropertyRecord) GroupFault → Result GroupRecord GroupFault
+with_properties g (Ok ps) = Ok (record g { properties = ps })
+with_properties g (Err e) = Err e
+
+-- a property put in its place, over the one that has its name
+unfoldable pub put : PropertyRecord → GroupRecord → Result GroupRecord GroupFault
+put p g = with_properties g (put_among p g.properties)
+
+-- at most 1,000 values in a property
+abbrev pub bounded : PropertyRecord → Result PropertyRecord GroupFault
+bounded p = if nat_lt 1000 (length p.values) then Err Full else Ok p
+
+-- a property of these values, and no others
+unfoldable pub property_set : List ℕ → Option Kind → List (List ℕ) → Option PropertyRecord → Result PropertyRecord GroupFault
+property_set name kind texts found = do
+  k ← agreed kind found
+  vs ← read_values k texts
+  bounded (record { name = name; kind = k; values = vs })
+
+unfoldable pub set : List ℕ → Option Kind → List (List ℕ) → GroupRecord → Result GroupRecord GroupFault
+set name kind texts g = do
+  p ← property_set name kind texts (property_of name g)
+  put p g
+
+-- a value behind the others, also one that is there
+unfoldable pub property_added : List ℕ → Option Kind → List ℕ → Option PropertyRecord → Result PropertyRecord GroupFault
+property_added name kind text found = do
+  k ← agreed kind found
+  v ← lifted (read_value k text)
+  bounded (record { name = name; kind = k; values = values_of found ++ v ∷ [] })
+
+unfoldable pub add_value : List ℕ → Option Kind → List ℕ → GroupRecord → Result GroupRecord GroupFault
+add_value name kind text g = do
+  p ← property_added name kind text (property_of name g)
+  put p g
+
+-- all values that equal it go; a property without values stays
+unfoldable pub property_less : List ℕ → PropertyRecord → Result PropertyRecord GroupFault
+property_less text p = do
+  v ← lifted (read_value p.kind text)
+  Ok (record p { values = filter (λ w. not (is_value w v)) p.values })
+
+abbrev pub present_less : List ℕ → Option PropertyRecord → Result PropertyRecord GroupFault
+present_less text None = Err NoSuch
+present_less text (Some p) = property_less text p
+
+unfoldable pub del_value : List ℕ → List ℕ → GroupRecord → Result GroupRecord GroupFault
+del_value name text g = do
+  p ← present_less text (property_of name g)
+  put p g
+
+unfoldable pub del : List ℕ → GroupRecord → Result GroupRecord GroupFault
+del name g = with_properties g (taken_from name g.properties)

@@ -1,0 +1,10 @@
+pub mod Names
+pub mod Kinds
+pub mod Moments
+pub mod Texts
+pub mod Values
+pub mod Spellings
+pub mod Groups
+pub mod Edits
+pub mod Body
+pub mod Reading

@@ -1,0 +1,35 @@
+//! What services are described by: values of seven kinds, properties, groups, and the bytes that groups are kept in.
+//! Rooms: `name`, `kind`, `time`, `astring`, `ustring`, `value`, `flags`, `property`, their `spelling`,
+//! `group` and its `edits`, `body` and its `reading`, `fault`.
+#![tactic(auto)]
+
+mod astring;
+mod body;
+mod edits;
+mod fault;
+mod flags;
+mod group;
+mod kind;
+mod name;
+mod property;
+mod reading;
+mod spelling;
+mod time;
+mod ustring;
+mod value;
+
+pub use astring::Astring;
+pub use body::encode;
+pub use fault::{BodyFault, GroupFault, NameFault, ValueFault};
+pub use flags::GroupFlags;
+pub use group::Group;
+pub use kind::Kind;
+pub use name::Name;
+pub use property::Property;
+pub use reading::{decode, decode_first};
+pub use time::Time;
+pub use ustring::Ustring;
+pub use value::Value;
+
+#[cfg(test)]
+mod tests;
