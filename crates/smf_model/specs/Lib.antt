@@ -2,3 +2,4 @@ pub mod Holdings
 pub mod Look
 pub mod Setting
 pub mod Next
+pub mod Tables

@@ -6,8 +6,10 @@ mod change;
 mod command;
 mod held;
 mod setting;
+mod tables;
 
 pub use change::Change;
 pub use command::{Command, Edit, Mark, PropertyChange, Reply, Why};
 pub use held::{Held, Instance, Launch, Owner, Snapshot};
 pub use setting::Setting;
+pub use tables::{Tables, install, no_tables, reserve};

@@ -1,0 +1,11 @@
+use Rattle.std.proofs.Common.{◌≡◌, length}
+use Rattle.std.specs.Vec.Iter.{into_iter_items}
+use Rattle.smf_model.specs.Look.{installed}
+use Rattle.smf_model.specs.Tables.{HasRoom, held_in}
+use Rattle.smf_model.proofs.tables.install.Given as goal
+
+abbrev pub invariant-loop-change : goal.invariant-loop-change
+invariant-loop-change l = record {
+  same : installed (held_in l.tables) (into_iter_items l.change-iterator) ≡ installed (held_in l.fn.tables) l.fn.changes.items;
+  room : HasRoom l.tables (length (into_iter_items l.change-iterator));
+}
