@@ -1,6 +1,6 @@
 -- Lists changed at the first place that passes a test.
 use Rattle.std.proofs.Common.{◌≡◌, ℕ, suc, ◌+◌, ◌<◌, ◌≤◌, List, [], ◌∷◌, ◌++◌, length, Bool, true, false, not, cond, nat_lt, Option, Some, None, position, slice_set, refl, sym, ◌∙◌, ap, arith, ltb-true, ltb-false}
-use Rattle.std.specs.List.{position_or_len}
+use Rattle.std.specs.List.{position_or_len, AllZip, each_same}
 use Rattle.smf_model.specs.Look.{placed, replaced}
 
 replaced_by : {X : Type 0} (v : Bool) (test : X → Bool) (x y : X) (ys : List X) → test y ≡ v → (position_or_len test ys < length ys → replaced test x ys ≡ slice_set ys (position_or_len test ys) x)
@@ -59,3 +59,7 @@ placed_at test x xs k h = let at = found_at _ (position_or_len test xs) (length 
 
 pub placed_none : {X : Type 0} (test : X → Bool) (x : X) (xs : List X) → position test xs ≡ None → placed test x xs ≡ xs ++ x ∷ []
 placed_none test x xs h = placed_past test x xs (found_nowhere _ (position_or_len test xs) (length xs) refl h)
+
+-- where a clone equals its source, the clones of a list are the list
+pub same_items : {X : Type 0} (xs ys : List X) → AllZip (λ x y. y ≡ x) xs ys → ys ≡ xs
+same_items xs ys h = each_same xs ys h

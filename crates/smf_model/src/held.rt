@@ -49,3 +49,74 @@ pub struct Launch {
     pub restarter: InstanceFmri,
     pub count: u64,
 }
+
+impl Clone for Owner {
+    ghost is_clone = { λ s copy. copy ≡ s };
+
+    fn clone(&self) -> Result<Owner, AllocError> {
+        match self {
+            Owner::Service(name) => Ok(Owner::Service(name.clone()?)),
+            Owner::Instance(number) => Ok(Owner::Instance(*number)),
+        }
+    }
+}
+
+impl Clone for Held {
+    ghost is_clone = { λ s copy. copy ≡ s };
+
+    fn clone(&self) -> Result<Held, AllocError> {
+        let owner = self.owner.clone()?;
+        let group = self.group.clone()?;
+        Ok(Held { owner, group })
+    }
+}
+
+impl Clone for Instance {
+    ghost is_clone = { λ s copy. copy ≡ s };
+
+    fn clone(&self) -> Result<Instance, AllocError> {
+        let name = self.name.clone()?;
+        let row = self.row.clone()?;
+        Ok(Instance {
+            number: self.number,
+            name,
+            row,
+            start: self.start,
+            previous: self.previous,
+        })
+    }
+}
+
+impl Clone for Launch {
+    ghost is_clone = { λ s copy. copy ≡ s };
+
+    fn clone(&self) -> Result<Launch, AllocError> {
+        let restarter = self.restarter.clone()?;
+        Ok(Launch {
+            restarter,
+            count: self.count,
+        })
+    }
+}
+
+impl Clone for Snapshot {
+    ghost is_clone = { λ s copy. copy ≡ s };
+
+    fn clone(&self) -> Result<Snapshot, AllocError> {
+        let service_groups = copy_of(&self.service_groups)?;
+        let instance_groups = copy_of(&self.instance_groups)?;
+        Ok(Snapshot {
+            number: self.number,
+            instance: self.instance,
+            service_groups,
+            instance_groups,
+        })
+    }
+}
+
+#[tactic(auto, using(crate::proofs::Lists::same_items))]
+fn copy_of(groups: &Items<Group>) -> Result<Items<Group>, AllocError>
+    ensures { IfOk result (λ copy. copy ≡ groups.now) }
+{
+    groups.clone()
+}

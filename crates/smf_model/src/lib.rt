@@ -5,6 +5,7 @@
 mod change;
 mod command;
 mod held;
+mod look;
 mod setting;
 mod tables;
 
