@@ -199,6 +199,9 @@ fn services_of_names(rt: HostRuntime) -> Result<(), Fail> {
     let alloc = rt.alloc();
     let name = Fmri::parse(alloc, "svc://localhost/a/b:c")?;
     assert_eq!(rt; name.service_fmri(alloc)?.print(), "svc:/a/b");
-    assert_eq!(rt; Fmri::parse(alloc, "svc:/a")?.service_fmri(alloc)?.print(), "svc:/a");
+    assert_eq!(rt;
+        Fmri::parse(alloc, "svc:/a")?.service_fmri(alloc)?.print(),
+        "svc:/a"
+    );
     Ok(())
 }

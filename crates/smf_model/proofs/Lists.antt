@@ -1,5 +1,5 @@
 -- Lists changed at the first place that passes a test.
-use Rattle.std.proofs.Common.{◌≡◌, ℕ, suc, ◌+◌, ◌<◌, ◌≤◌, List, [], ◌∷◌, ◌++◌, length, Bool, true, false, not, cond, nat_lt, Option, Some, None, position, slice_set, refl, sym, ◌∙◌, ap, arith, ltb-true, ltb-false}
+use Rattle.std.proofs.Common.{◌≡◌, ℕ, suc, ◌+◌, ◌<◌, ◌≤◌, List, [], ◌∷◌, ◌++◌, length, Bool, true, false, cond, nat_lt, Some, None, position, slice_set, refl, ◌∙◌, ap, arith, ltb-true, ltb-false}
 use Rattle.std.specs.List.{position_or_len, AllZip, each_same}
 use Rattle.smf_model.specs.Look.{placed, replaced}
 

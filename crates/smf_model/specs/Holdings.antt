@@ -1,6 +1,5 @@
 -- What a repository holds.
-use Rattle.std.specs.Prelude.{ℕ, List, Option}
-use Rattle.smf_value.specs.Groups.{GroupRecord}
+use Rattle.std.specs.Prelude.{ℕ, List}
 use Rattle.smf_model.specs.declared.held.Instance.{Instance}
 use Rattle.smf_model.specs.declared.held.Launch.{Launch}
 use Rattle.smf_model.specs.declared.held.Held.{Held}

@@ -3,3 +3,4 @@ pub mod Look
 pub mod Setting
 pub mod Next
 pub mod Tables
+pub mod Laws

@@ -1,5 +1,5 @@
 -- How what is held is looked up, and how it is changed.
-use Rattle.std.specs.Prelude.{◌≡◌, ℕ, ◌+◌, List, [], ◌∷◌, ◌++◌, length, nat_eq, ◌==◌, ◌&&◌, not, Bool, true, false, if◌then◌else◌, Option, Some, None, option_map, position, slice_get, slice_set, filter, find}
+use Rattle.std.specs.Prelude.{ℕ, List, [], ◌∷◌, ◌++◌, nat_eq, ◌==◌, ◌&&◌, not, Bool, false, if◌then◌else◌, Option, option_map, filter, find}
 use Rattle.std.specs.Cmp.Lexicographic.{pointwise}
 use Rattle.std.specs.Option.{option_map_or}
 use Rattle.smf_value.specs.Groups.{GroupRecord}

@@ -1,12 +1,11 @@
 -- What each command asks to change, its reply, and what the repository is after it.
-use Rattle.std.specs.Prelude.{◌≡◌, ℕ, ◌+◌, ◌==◌, ◌&&◌, ◌||◌, not, nat_lt, nat_le, nat_eq, List, [], ◌∷◌, ◌++◌, length, map, filter, find, count_by, Bool, true, false, if◌then◌else◌, codes, Option, Some, None, is_some, is_none, option_map, unwrap_or, Result, Ok, Err}
+use Rattle.std.specs.Prelude.{ℕ, ◌+◌, ◌==◌, ◌&&◌, ◌||◌, not, nat_lt, nat_le, nat_eq, List, [], ◌∷◌, ◌++◌, length, map, filter, count_by, Bool, true, false, if◌then◌else◌, Option, Some, None, is_some, is_none, option_map, unwrap_or, Result, Ok, Err}
 use Rattle.std.specs.Cmp.Lexicographic.{pointwise}
 use Rattle.std.specs.Int.RustNames.{bit_or}
 use Rattle.std.specs.List.{list_any}
 use Rattle.smf_fmri.specs.Matching.{read_short}
 use Rattle.smf_state.specs.declared.row.Row.{Row}
 use Rattle.smf_state.specs.declared.fault.StepFault.{StepFault}
-use Rattle.smf_state.specs.declared.state.State.{State}
 use Rattle.smf_state.specs.declared.state.State.TheVariants.{Uninitialized, Disabled, Offline, Online, Degraded, Maintenance}
 use Rattle.smf_state.specs.declared.step.Proposal.{Proposal}
 use Rattle.smf_state.specs.declared.step.Step.{Step}
@@ -42,9 +41,9 @@ use Rattle.smf_model.specs.declared.held.Owner.{Owner}
 use Rattle.smf_model.specs.declared.held.Owner.TheVariants as owners
 use Rattle.smf_model.specs.declared.held.Snapshot.{Snapshot}
 use Rattle.smf_model.specs.declared.setting.Setting.{Setting}
-use Rattle.smf_model.specs.declared.setting.Setting.TheVariants.{Unset, Restarter, Unreadable}
+use Rattle.smf_model.specs.declared.setting.Setting.TheVariants.{Unreadable}
 use Rattle.smf_model.specs.Holdings.{Holdings}
-use Rattle.smf_model.specs.Look.{has_number, has_name, is_owned_by, is_snapshot, service, instance, named, group, snapshot, launch_of, installed}
+use Rattle.smf_model.specs.Look.{is_owned_by, service, instance, named, group, snapshot, launch_of, installed}
 use Rattle.smf_model.specs.Setting.{general, general_ovr, enabled_name, restarter_name, framework, startd, service_fmri, current, setting, owner_by}
 
 -- what a command makes: the changes, and the reply

@@ -1,6 +1,5 @@
 -- What the group `general` says of an instance: whether it is enabled, and by which restarter it is run.
-use Rattle.std.specs.Prelude.{◌≡◌, ℕ, ◌==◌, List, [], ◌∷◌, ◌++◌, length, Bool, true, false, if◌then◌else◌, codes, Option, Some, None, is_some, option_map, filter, find, not, Result, Ok, Err}
-use Rattle.std.specs.Option.{option_and_then}
+use Rattle.std.specs.Prelude.{ℕ, ◌==◌, List, [], ◌∷◌, ◌++◌, length, Bool, true, false, if◌then◌else◌, codes, Option, Some, None, is_some, option_map, find, Result, Ok, Err}
 use Rattle.smf_fmri.specs.declared.fault.FmriFault.{FmriFault}
 use Rattle.smf_fmri.specs.Name.{short, read}
 use Rattle.smf_fmri.specs.Matching.{service_of, instance_of}

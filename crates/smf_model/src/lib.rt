@@ -1,16 +1,28 @@
 //! The repository as a plain value: what it holds, what each command makes of it, and the body that keeps it in lists.
-//! Rooms: `held` (what is held), `command` (commands and replies), `change` (record changes), `setting` (restarters).
+//! Rooms: `held` (what is held), `command` (commands and replies), `change` (record changes), `setting` (restarters),
+//! `tables` (the lists and their changes), `look` (look-ups), `asking` (notes of asks and errors), `grouping` (edits of
+//! groups), `snapping` (refresh), `reverting` (revert), `answering` (proposals), `law` (what no list of commands breaks).
 #![tactic(auto)]
 
+mod answering;
+mod asking;
 mod change;
 mod command;
+mod grouping;
 mod held;
+mod law;
 mod look;
+mod reverting;
 mod setting;
+mod snapping;
 mod tables;
 
 pub use change::Change;
 pub use command::{Command, Edit, Mark, PropertyChange, Reply, Why};
 pub use held::{Held, Instance, Launch, Owner, Snapshot};
+pub use law::{
+    accepted_makes_one_revision, changes_follow_the_diagram, numbers_are_given_once,
+    refusals_change_nothing, rows_never_fall_back, snapshots_stay,
+};
 pub use setting::Setting;
 pub use tables::{Tables, install, no_tables, reserve};

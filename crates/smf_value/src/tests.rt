@@ -19,6 +19,39 @@ fn texts(alloc: Global, all: &[&str]) -> Result<Items<Text>, Fail> {
     Ok(items)
 }
 
+/// The refusal of a call, if it is one; that memory ran out is an error of the test.
+fn value_refused(read: Result<Value, ValueFault>) -> Result<Option<ValueFault>, ValueFault> {
+    match read {
+        Ok(_) => Ok(None),
+        Err(ValueFault::Memory) => Err(ValueFault::Memory),
+        Err(fault) => Ok(Some(fault)),
+    }
+}
+
+fn name_refused(read: Result<Name, NameFault>) -> Result<Option<NameFault>, NameFault> {
+    match read {
+        Ok(_) => Ok(None),
+        Err(NameFault::Memory) => Err(NameFault::Memory),
+        Err(fault) => Ok(Some(fault)),
+    }
+}
+
+fn body_refused(read: Result<Items<Group>, BodyFault>) -> Result<Option<BodyFault>, BodyFault> {
+    match read {
+        Ok(_) => Ok(None),
+        Err(BodyFault::Memory) => Err(BodyFault::Memory),
+        Err(fault) => Ok(Some(fault)),
+    }
+}
+
+fn refused(change: Result<(), GroupFault>) -> Result<Option<GroupFault>, GroupFault> {
+    match change {
+        Ok(()) => Ok(None),
+        Err(GroupFault::Memory) => Err(GroupFault::Memory),
+        Err(fault) => Ok(Some(fault)),
+    }
+}
+
 #[test]
 fn a_body(rt: HostRuntime) -> Result<(), Fail> {
     let alloc = rt.alloc();
@@ -69,10 +102,7 @@ fn a_body_cut(rt: HostRuntime) -> Result<(), Fail> {
         (28, 27),
     ] {
         assert!(rt; len <= BODY.len());
-        let fault = match decode(alloc, &BODY[..len]) {
-            Ok(_) => None,
-            Err(fault) => Some(fault),
-        };
+        let fault = body_refused(decode(alloc, &BODY[..len]))?;
         assert_eq!(rt; fault, Some(BodyFault::BadBody(place)), "{len}");
     }
     let groups = decode(alloc, &BODY[..27])?;
@@ -150,10 +180,7 @@ fn values_refused(rt: HostRuntime) -> Result<(), Fail> {
         (Kind::Ustring, "\u{7f}", ValueFault::NotA(Kind::Ustring)),
         (Kind::Fmri, "lrc:/a", ValueFault::NotA(Kind::Fmri)),
     ] {
-        let fault = match Value::read(alloc, kind, text) {
-            Ok(_) => None,
-            Err(fault) => Some(fault),
-        };
+        let fault = value_refused(Value::read(alloc, kind, text))?;
         assert_eq!(rt; fault, Some(want), "{text}");
     }
     Ok(())
@@ -177,21 +204,15 @@ fn limits_of_texts(rt: HostRuntime) -> Result<(), Fail> {
         (Kind::Fmri, "svc:/", 507),
     ] {
         let text = letters(alloc, head, fits)?;
-        assert!(rt; Value::read(alloc, kind, text.as_str()).is_ok(), "{kind}");
+        Value::read(alloc, kind, text.as_str())?;
         let text = letters(alloc, head, fits + 1)?;
-        let fault = match Value::read(alloc, kind, text.as_str()) {
-            Ok(_) => None,
-            Err(fault) => Some(fault),
-        };
+        let fault = value_refused(Value::read(alloc, kind, text.as_str()))?;
         assert_eq!(rt; fault, Some(ValueFault::TooLong), "{kind}");
     }
     let longest = letters(alloc, "", 255)?;
-    assert!(rt; Name::parse(alloc, longest.as_str()).is_ok());
+    Name::parse(alloc, longest.as_str())?;
     let longer = letters(alloc, "", 256)?;
-    let fault = match Name::parse(alloc, longer.as_str()) {
-        Ok(_) => None,
-        Err(fault) => Some(fault),
-    };
+    let fault = name_refused(Name::parse(alloc, longer.as_str()))?;
     assert_eq!(rt; fault, Some(NameFault::Component(255)));
     Ok(())
 }
@@ -238,40 +259,19 @@ fn a_group_changed(rt: HostRuntime) -> Result<(), Fail> {
     group.del_value(alloc, &n, "7")?;
     group.set(alloc, &a, None, texts(alloc, &[])?.as_slice())?;
     assert_eq!(rt; printed(alloc, &group)?.as_str(), "a time;n count 1 1;");
-    let faults = [
-        group.set(
-            alloc,
-            &name(alloc, "z")?,
-            None,
-            texts(alloc, &["x"])?.as_slice(),
-        ),
-        group.set(
-            alloc,
-            &n,
-            Some(Kind::Time),
-            texts(alloc, &["x"])?.as_slice(),
-        ),
-        group.set(
-            alloc,
-            &n,
-            None,
-            texts(alloc, &["x", "18446744073709551616"])?.as_slice(),
-        ),
-        group.add_value(alloc, &n, None, "18446744073709551616"),
-        group.del_value(alloc, &name(alloc, "z")?, "x"),
-        group.del(&name(alloc, "z")?),
-    ];
-    assert_eq!(rt;
-        faults,
-        [
-            Err(GroupFault::NeedsKind),
-            Err(GroupFault::KindDiffers),
-            Err(GroupFault::NotA(Kind::Count)),
-            Err(GroupFault::Range),
-            Err(GroupFault::NoSuch),
-            Err(GroupFault::NoSuch),
-        ]
-    );
+    let z = name(alloc, "z")?;
+    let bad = texts(alloc, &["x", "18446744073709551616"])?;
+    let fault = refused(group.set(alloc, &z, None, bad.as_slice()))?;
+    assert_eq!(rt; fault, Some(GroupFault::NeedsKind));
+    let fault = refused(group.set(alloc, &n, Some(Kind::Time), bad.as_slice()))?;
+    assert_eq!(rt; fault, Some(GroupFault::KindDiffers));
+    let fault = refused(group.set(alloc, &n, None, bad.as_slice()))?;
+    assert_eq!(rt; fault, Some(GroupFault::NotA(Kind::Count)));
+    let fault = refused(group.add_value(alloc, &n, None, "18446744073709551616"))?;
+    assert_eq!(rt; fault, Some(GroupFault::Range));
+    let fault = refused(group.del_value(alloc, &z, "x"))?;
+    assert_eq!(rt; fault, Some(GroupFault::NoSuch));
+    assert_eq!(rt; refused(group.del(&z))?, Some(GroupFault::NoSuch));
     group.del(&a)?;
     assert_eq!(rt; printed(alloc, &group)?.as_str(), "n count 1 1;");
     Ok(())

@@ -1,0 +1,72 @@
+-- What holds of every repository and every command.
+use Rattle.std.specs.Prelude.{◌≡◌, ◌⊎◌, ℕ, ◌+◌, ◌≤◌, List, [], ◌∷◌, Bool, true, false, Option, Some, None, find}
+use Rattle.smf_state.specs.declared.row.Row.{Row}
+use Rattle.smf_state.specs.declared.state.State.TheVariants.{Uninitialized, Disabled}
+use Rattle.smf_state.specs.declared.step.Proposal.{Proposal}
+use Rattle.smf_state.specs.Rows.{GoesOn, fresh}
+use Rattle.smf_model.specs.declared.command.Command.{Command}
+use Rattle.smf_model.specs.declared.command.Command.TheVariants as commands
+use Rattle.smf_model.specs.declared.command.Edit.TheVariants as asked_for
+use Rattle.smf_model.specs.declared.command.Reply.{Reply}
+use Rattle.smf_model.specs.declared.command.Reply.TheVariants.{Made, Granted, Done}
+use Rattle.smf_model.specs.declared.held.Instance.{Instance}
+use Rattle.smf_model.specs.Holdings.{Holdings}
+use Rattle.smf_model.specs.Look.{has_number, instance, snapshot}
+use Rattle.smf_model.specs.Setting.{startd}
+
+-- ---- replies
+
+abbrev pub is_refusal : Reply → Bool
+is_refusal (Made n) = false
+is_refusal (Granted row) = false
+is_refusal Done = false
+is_refusal _ = true
+
+-- the answer to an accepted command that is no proposal
+abbrev pub is_accepted : Reply → Bool
+is_accepted (Made n) = true
+is_accepted Done = true
+is_accepted _ = false
+
+-- ---- numbers
+
+-- no number is found a second time
+abbrev pub AreApart : List Instance → Type 0
+AreApart [] = Unit {0}
+AreApart (i ∷ is) = (find (has_number i.number) is ≡ None) × AreApart is
+
+-- nothing has the number that comes next, or a greater one, and no two instances have one number
+pub record IsNumbered (h : Holdings) : Type 0 where
+  pub instances : (n : ℕ) → h.next_instance ≤ n → instance h n ≡ None
+  pub snapshots : (n : ℕ) → h.next_snapshot ≤ n → snapshot h n ≡ None
+  pub apart : AreApart h.instances
+
+-- ---- rows
+
+-- a row stays but for what is asked, the snapshot `running` and the last refresh; its owner stays where its number isn't 0
+pub record Stays (before after : Row) : Type 0 where
+  pub same : after ≡ record before { owner = after.owner; asks = after.asks; running = after.running; refresh = after.refresh }
+  pub owner : (before.number ≡ 0) ⊎ (after.owner ≡ before.owner)
+
+-- uninitialized under the next number, with nothing under way, no live run and no granted proposal; the greatest run stays
+pub record BeginsAnew (before after : Row) : Type 0 where
+  pub number : after.number ≡ before.number + 1
+  pub state : after.state ≡ Uninitialized
+  pub next : after.next ≡ None
+  pub live : after.live ≡ None
+  pub side : after.side ≡ None
+  pub last : after.last ≡ before.last
+  pub launch : after.launch ≡ 0
+  pub serial : after.serial ≡ 0
+
+-- how the row of the instance n goes on under a command
+pub data RowFollows (c : Command) (n : ℕ) (before after : Row) : Type 0 where
+  stays : Stays before after → RowFollows c n before after
+  steps : (p : Proposal) → c ≡ commands.Propose p → p.instance ≡ n → GoesOn before after → RowFollows c n before after
+  boots : c ≡ commands.Boot → BeginsAnew before after → RowFollows c n before after
+  moves : c ≡ commands.Edit (asked_for.Refresh n) → (before.state ≡ Uninitialized) ⊎ (before.state ≡ Disabled) → BeginsAnew before after → RowFollows c n before after
+
+-- the instance n after a command, by what it was before: an instance that was not there has a fresh row
+abbrev pub Follows : Command → ℕ → Option Instance → Instance → Type 0
+Follows c n None after = after.row ≡ fresh startd
+Follows c n (Some before) after = RowFollows c n before.row after.row

@@ -1,0 +1,220 @@
+ghost use Rattle.std.specs.Option.{option_copied};
+ghost use Rattle.std.specs.Prelude.{◌≡◌, ◌==◌, ◌||◌, ◌<◌, ◌++◌, ◌∷◌, [], IfOk, Some, None, OnOk, filter, map};
+ghost use Rattle.smf_model.specs.Look.{is_owned_by};
+ghost use Rattle.smf_model.specs.Next.{accepted, asked_refresh, found, groups_of, is_in_use, may_be_moved, moved, moved_row, owned_groups, refreshed, refreshed_row, service_owner, snapshot_of, target_by, with_snapshot};
+ghost use Rattle.smf_model.specs.Setting.{owner_by, service_fmri, setting};
+ghost use Rattle.smf_model.specs.Tables.{held_in};
+ghost use Rattle.smf_state.specs.Rows.{same_state};
+ghost use Rattle.smf_snap.specs.Taking.{put_all, put_group, taken};
+
+use crate::asking::{Asked, MAX_COUNT, accepted, found, refused};
+use crate::change::Change;
+use crate::command::Reply;
+use crate::held::{Held, Instance, Owner, Snapshot};
+use crate::setting::{Setting, owner_by, service_owner, setting_for};
+use crate::tables::{Tables, same_owner};
+use bitflags::Flags;
+use smf_fmri::{InstanceFmri, Items};
+use smf_snap::{put, take};
+use smf_state::{Asks, Row, State};
+use smf_value::Group;
+use std::alloc::{AllocError, Global};
+
+/// The greatest number of a snapshot, 2^63 - 2.
+pub const MAX_SNAPSHOT: u64 = 0x7fff_ffff_ffff_fffe;
+
+/// An owner's groups, in the order of their names.
+#[tactic(auto, unfolding(crate::specs::Next::groups_of))]
+pub(crate) fn groups_of(
+    alloc: Global,
+    tables: &Tables,
+    owner: &Owner,
+) -> Result<Items<Group>, AllocError>
+    ensures { IfOk result (λ gs. gs ≡ groups_of (held_in tables.now) owner.now) }
+{
+    let groups = in_order(alloc, &tables.groups, owner)?;
+    Ok(Items::from_vec(groups))
+}
+
+fn in_order(alloc: Global, groups: &[Held], owner: &Owner) -> Result<Vec<Group>, AllocError>
+    ensures { IfOk result (λ gs. gs.items ≡ put_all (owned_groups groups.now owner.now) []) }
+{
+    let mut ordered = Vec::new(alloc);
+    for held in groups {
+        if same_owner(&held.owner, owner) {
+            put(&mut ordered, held.group.clone()?)?;
+        }
+    }
+    Ok(ordered)
+}
+
+/// What a snapshot of an instance holds now.
+fn snapshot_of(alloc: Global, tables: &Tables, instance: &Instance) -> Result<Snapshot, AllocError>
+    ensures { IfOk result (λ s. s ≡ snapshot_of (held_in tables.now) instance.now) }
+{
+    let service = service_owner(alloc, &instance.name)?;
+    let own = Owner::Instance(instance.number);
+    let service_groups = groups_of(alloc, tables, &service)?;
+    let instance_groups = groups_of(alloc, tables, &own)?;
+    Ok(Snapshot {
+        number: tables.next_snapshot,
+        instance: instance.number,
+        service_groups: take(alloc, service_groups.as_slice())?,
+        instance_groups: take(alloc, instance_groups.as_slice())?,
+    })
+}
+
+/// A snapshot of an instance is taken, where a number is left for it.
+pub(crate) fn with_snapshot(
+    alloc: Global,
+    tables: &Tables,
+    instance: &Instance,
+    changes: Vec<Change>,
+    reply: Reply,
+) -> Asked
+    ensures { IfOk result (λ r. (r.0.items, r.1) ≡ with_snapshot (held_in tables.now) instance.now changes.items reply) }
+{
+    let number = tables.next_snapshot;
+    if number > MAX_SNAPSHOT {
+        return refused(alloc, Reply::Limit);
+    }
+    let changes = behind_snapshot(alloc, tables, instance, changes, number + 1)?;
+    accepted(alloc, tables, changes, reply)
+}
+
+/// The changes behind those that take a snapshot.
+fn behind_snapshot(
+    alloc: Global,
+    tables: &Tables,
+    instance: &Instance,
+    changes: Vec<Change>,
+    next: u64,
+) -> Result<Vec<Change>, AllocError>
+    ensures { IfOk result (λ all. all.items ≡ Change.AddSnapshot (snapshot_of (held_in tables.now) instance.now) ∷ Change.NextSnapshot next ∷ changes.items) }
+{
+    let mut all = Vec::new(alloc);
+    all.push(Change::AddSnapshot(snapshot_of(alloc, tables, instance)?))?;
+    all.push(Change::NextSnapshot(next))?;
+    for change in changes {
+        all.push(change)?;
+    }
+    Ok(all)
+}
+
+fn is_one_of(state: State, first: State, second: State) -> bool
+    ensures { result ≡ (same_state state first || same_state state second) }
+{
+    state == first || state == second
+}
+
+fn may_be_moved(row: &Row) -> bool
+    ensures { result ≡ may_be_moved row.now }
+{
+    is_one_of(row.state, State::Uninitialized, State::Disabled)
+        && row.next.is_none()
+        && row.live.is_none()
+        && row.side.is_none()
+}
+
+/// The restarter that an instance moves to, if it is another one.
+fn target_by(
+    alloc: Global,
+    setting: Setting,
+    owner: &InstanceFmri,
+) -> Result<Option<InstanceFmri>, AllocError>
+    ensures { IfOk result (λ t. t ≡ target_by setting owner.now) }
+{
+    let named = match setting {
+        Setting::Unreadable => return Ok(None),
+        Setting::Unset => owner_by(alloc, Setting::Unset)?,
+        Setting::Restarter(name) => name,
+    };
+    if named == *owner {
+        Ok(None)
+    } else {
+        Ok(Some(named))
+    }
+}
+
+fn refreshed_row(mut row: Row, running: u64, revision: u64, runs: bool) -> Row
+    ensures { result ≡ refreshed_row row running revision runs }
+{
+    row.running = Some(running);
+    if runs {
+        row.asks.insert(Asks::REFRESH);
+        row.refresh = revision;
+    }
+    row
+}
+
+fn moved_row(mut row: Row, running: u64, owner: InstanceFmri) -> Row
+    requires { row.number < 0x7fff_ffff_ffff_ffff }
+    ensures { result ≡ moved_row row running owner }
+{
+    row.running = Some(running);
+    row.owner = owner;
+    row.number += 1;
+    row.state = State::Uninitialized;
+    row.asks = Asks::NONE;
+    row.failed = 0;
+    row.cause = None;
+    row.launch = 0;
+    row.serial = 0;
+    row
+}
+
+/// Puts a new row of an instance behind a snapshot of it.
+fn with_row_and_snapshot(alloc: Global, tables: &Tables, mut instance: Instance, row: Row) -> Asked
+    ensures { IfOk result (λ r. (r.0.items, r.1) ≡ with_snapshot (held_in tables.now) instance (Change.PutInstance (record instance { row = row }) ∷ []) Reply.Done) }
+{
+    let old = instance.clone()?;
+    instance.row = row;
+    let mut changes = Vec::new(alloc);
+    changes.push(Change::PutInstance(instance))?;
+    with_snapshot(alloc, tables, &old, changes, Reply::Done)
+}
+
+fn moved(alloc: Global, tables: &Tables, instance: Instance, owner: InstanceFmri) -> Asked
+    ensures { IfOk result (λ r. (r.0.items, r.1) ≡ moved (held_in tables.now) instance owner) }
+{
+    if !may_be_moved(&instance.row) {
+        return refused(alloc, Reply::InUse);
+    }
+    let number = instance.row.number;
+    if number >= MAX_COUNT {
+        return refused(alloc, Reply::Limit);
+    }
+    let row = moved_row(instance.row.clone()?, tables.next_snapshot, owner);
+    with_row_and_snapshot(alloc, tables, instance, row)
+}
+
+fn refreshed(
+    alloc: Global,
+    tables: &Tables,
+    instance: Instance,
+    target: Option<InstanceFmri>,
+) -> Asked
+    ensures { IfOk result (λ r. (r.0.items, r.1) ≡ refreshed (held_in tables.now) instance target) }
+{
+    match target {
+        Some(owner) => moved(alloc, tables, instance, owner),
+        None => {
+            let runs = instance.row.state.runs();
+            let revision = tables.revision.get() + 1;
+            let row = refreshed_row(instance.row.clone()?, tables.next_snapshot, revision, runs);
+            with_row_and_snapshot(alloc, tables, instance, row)
+        }
+    }
+}
+
+/// Takes the snapshot `running`, and moves the instance where its restarter is another now.
+pub(crate) fn refresh(alloc: Global, tables: &Tables, number: u64) -> Asked
+    ensures { IfOk result (λ r. (r.0.items, r.1) ≡ asked_refresh (held_in tables.now) (found (held_in tables.now) number)) }
+{
+    let Some(instance) = found(alloc, tables, number)? else {
+        return refused(alloc, Reply::NoSuch);
+    };
+    let setting = setting_for(alloc, &tables.groups, &instance)?;
+    let target = target_by(alloc, setting, &instance.row.owner)?;
+    refreshed(alloc, tables, instance, target)
+}
