@@ -1,5 +1,5 @@
 -- Changes made one after the other.
-use Rattle.std.proofs.Common.{◌≡◌, ℕ, ◌+◌, List, [], ◌∷◌, length, ap, ◌∙◌, subst, arith}
+use Rattle.std.proofs.Common.{◌≡◌, ℕ, ◌+◌, List, [], ◌∷◌, ◌++◌, length, refl, ap, ◌∙◌, subst, arith}
 use Rattle.smf_model.specs.declared.change.Change.{Change}
 use Rattle.smf_model.specs.declared.tables.Tables.{Tables}
 use Rattle.smf_model.specs.Holdings.{Holdings}
@@ -21,3 +21,11 @@ room_for t c xs ys e h =
 
 pub room_for_one : (t : Tables) (n : ℕ) → HasRoom t (n + 1) → HasRoom t 1
 room_for_one t n h = record { services = omega (arith, h.services); instances = omega (arith, h.instances); groups = omega (arith, h.groups); snapshots = omega (arith, h.snapshots); launches = omega (arith, h.launches) }
+
+installed_more : (h : Holdings) (xs ys : List Change) → installed h (xs ++ ys) ≡ installed (installed h xs) ys
+unfolding installed
+installed_more h [] ys = refl
+installed_more h (x ∷ xs) ys = installed_more (changed h x) xs ys
+
+pub written : (empty h : Holdings) (old new cs : List Change) → installed empty old ≡ h → new ≡ old ++ cs → installed empty new ≡ installed h cs
+written empty h old new cs s p = ap (installed empty) p ∙ installed_more empty old cs ∙ ap (λ k. installed k cs) s

@@ -1,17 +1,23 @@
 //! The repository as a plain value: what it holds, what each command makes of it, and the body that keeps it in lists.
 //! Rooms: `held` (what is held), `command` (commands and replies), `change` (record changes), `setting` (restarters),
 //! `tables` (the lists and their changes), `look` (look-ups), `asking` (notes of asks and errors), `grouping` (edits of
-//! groups), `snapping` (refresh), `reverting` (revert), `answering` (proposals), `law` (what no list of commands breaks).
+//! groups), `snapping` (refresh), `reverting` (revert), `answering` (proposals), `booting` (boot), `dispatch` (which
+//! command it is), `journal` (what is told of changes), `plain` (the repository over a journal), `law` (what no list of
+//! commands breaks).
 #![tactic(auto)]
 
 mod answering;
 mod asking;
+mod booting;
 mod change;
 mod command;
+mod dispatch;
 mod grouping;
 mod held;
+mod journal;
 mod law;
 mod look;
+mod plain;
 mod reverting;
 mod setting;
 mod snapping;
@@ -20,9 +26,11 @@ mod tables;
 pub use change::Change;
 pub use command::{Command, Edit, Mark, PropertyChange, Reply, Why};
 pub use held::{Held, Instance, Launch, Owner, Snapshot};
+pub use journal::{Journal, NoJournal, Record, RepoFault};
 pub use law::{
     accepted_makes_one_revision, changes_follow_the_diagram, numbers_are_given_once,
     refusals_change_nothing, rows_never_fall_back, snapshots_stay,
 };
+pub use plain::Plain;
 pub use setting::Setting;
 pub use tables::{Tables, install, no_tables, reserve};

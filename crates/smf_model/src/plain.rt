@@ -1,0 +1,107 @@
+ghost use Rattle.std.specs.Prelude.{◌≡◌, IfOk, OnOk, OnErr};
+ghost use Rattle.smf_model.specs.Holdings.{Holdings};
+ghost use Rattle.smf_model.specs.Look.{empty, installed};
+ghost use Rattle.smf_model.specs.Next.{next};
+ghost use Rattle.smf_model.specs.Tables.{held_in};
+
+use crate::change::Change;
+use crate::command::{Command, Reply};
+use crate::dispatch::asked;
+use crate::journal::{Journal, RepoFault};
+use crate::tables::{Tables, install, no_tables, reserve};
+use smf_fmri::Number;
+use std::alloc::Global;
+use std::marker::Model;
+
+/// The repository in lists, over a journal in which what is held stands.
+#[derive(Drop)]
+pub struct Plain<J: Journal> {
+    alloc: Global,
+    tables: Tables,
+    journal: J,
+}
+
+impl<J: Journal> Model for Plain<J> {
+    ghost use Rattle.smf_model.specs.Holdings.{Holdings};
+    ghost use Rattle.smf_model.specs.Tables.{held_in};
+
+    ghost Value = { Holdings };
+
+    ghost view = { λ r. held_in r.tables };
+
+    ghost invariant = { λ r. J.stands r.journal (held_in r.tables) };
+}
+
+impl<J: Journal> Plain<J> {
+    /// Nothing held, over a journal in which nothing stands.
+    pub fn new(alloc: Global, journal: J) -> Plain<J>
+        requires { J.stands journal empty }
+        ensures { result ≡ empty }
+    {
+        Plain {
+            alloc,
+            tables: no_tables(alloc),
+            journal,
+        }
+    }
+
+    /// The journal, in which what was held stands.
+    pub fn into_journal(self) -> J
+        ensures { J.stands result self }
+    {
+        self.journal
+    }
+
+    /// Carries out a command: the journal is written first, and an error leaves what is held.
+    #[tactic(auto, unfolding(crate::specs::Next::next))]
+    pub fn apply(&mut self, command: &Command) -> Result<Reply, RepoFault>
+        ensures exact { IfOk result (λ reply. next self.old command.now ≡ (self.new, reply)) }
+        ensures err { OnErr result (self.new ≡ self.old) }
+    {
+        let (changes, reply) = asked(self.alloc, &self.tables, command)?;
+        commit(&mut self.journal, &mut self.tables, changes)?;
+        Ok(reply)
+    }
+
+    /// How many commands were accepted.
+    pub fn revision(&self) -> Number
+        ensures { result ≡ self.now.revision }
+    {
+        self.tables.revision
+    }
+}
+
+/// Writes the changes to the journal, and then makes them. Where that fails what is held has not changed.
+#[tactic(auto, unfolding(crate::specs::Look::installed))]
+fn commit<J: Journal>(
+    journal: &mut J,
+    tables: &mut Tables,
+    changes: Vec<Change>,
+) -> Result<(), RepoFault>
+    ensures ok { OnOk result (held_in tables.new ≡ installed (held_in tables.old) changes.items) }
+    ensures told { OnOk result ((h : Holdings) → J.stands journal.old h → J.stands journal.new (installed h changes.items)) }
+    ensures untold { OnErr result ((h : Holdings) → J.stands journal.old h → J.stands journal.new h) }
+    ensures err { OnErr result (held_in tables.new ≡ held_in tables.old) }
+{
+    if changes.is_empty() {
+        return Ok(());
+    }
+    reserve(tables, changes.len())?;
+    journal.write(&changes)?;
+    install(tables, changes);
+    Ok(())
+}
+
+impl<J: Journal + Drop> Plain<J> {
+    /// What stands in a journal.
+    pub fn open(alloc: Global, journal: J) -> Result<Plain<J>, RepoFault>
+        ensures { IfOk result (λ p. (h : Holdings) → J.stands journal h → p ≡ h) }
+    {
+        let tables = journal.load(alloc)?;
+        Ok(Plain {
+            alloc,
+            tables,
+            journal,
+        })
+    }
+}
