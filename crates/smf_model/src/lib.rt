@@ -34,3 +34,6 @@ pub use law::{
 pub use plain::Plain;
 pub use setting::Setting;
 pub use tables::{Tables, install, no_tables, reserve};
+
+#[cfg(test)]
+mod tests;

@@ -1,16 +1,24 @@
 ghost use Rattle.std.specs.Prelude.{◌≡◌, IfOk, OnOk, OnErr};
 ghost use Rattle.smf_model.specs.Holdings.{Holdings};
-ghost use Rattle.smf_model.specs.Look.{empty, installed};
-ghost use Rattle.smf_model.specs.Next.{next};
+ghost use Rattle.smf_model.specs.Look.{empty, installed, snapshot};
+ghost use Rattle.smf_model.specs.Next.{found, groups_of, next};
+ghost use Rattle.smf_model.specs.Setting.{enabled};
 ghost use Rattle.smf_model.specs.Tables.{held_in};
+ghost use Rattle.std.specs.Option.{option_copied};
 
+use crate::asking::found;
 use crate::change::Change;
 use crate::command::{Command, Reply};
 use crate::dispatch::asked;
+use crate::held::{Instance, Owner, Snapshot};
 use crate::journal::{Journal, RepoFault};
+use crate::look::snapshot_of;
+use crate::setting::enabled;
+use crate::snapping::groups_of;
 use crate::tables::{Tables, install, no_tables, reserve};
-use smf_fmri::Number;
-use std::alloc::Global;
+use smf_fmri::{Items, Number};
+use smf_value::Group;
+use std::alloc::{AllocError, Global};
 use std::marker::Model;
 
 /// The repository in lists, over a journal in which what is held stands.
@@ -61,6 +69,33 @@ impl<J: Journal> Plain<J> {
         let (changes, reply) = asked(self.alloc, &self.tables, command)?;
         commit(&mut self.journal, &mut self.tables, changes)?;
         Ok(reply)
+    }
+
+    /// The instance of a number, its owner as it is read now.
+    pub fn instance(&self, number: u64) -> Result<Option<Instance>, AllocError>
+        ensures { IfOk result (λ i. i ≡ found self.now number) }
+    {
+        found(self.alloc, &self.tables, number)
+    }
+
+    /// The groups that are kept of an owner, in the order of their names.
+    pub fn groups(&self, owner: &Owner) -> Result<Items<Group>, AllocError>
+        ensures { IfOk result (λ gs. gs ≡ groups_of self.now owner.now) }
+    {
+        groups_of(self.alloc, &self.tables, owner)
+    }
+
+    pub fn snapshot(&self, number: u64) -> Option<&Snapshot>
+        ensures { option_copied result ≡ snapshot self.now number }
+    {
+        snapshot_of(&self.tables.snapshots, number)
+    }
+
+    /// Whether an instance that is there is enabled.
+    pub fn is_enabled(&self, instance: &Instance) -> Result<bool, AllocError>
+        ensures { IfOk result (λ b. b ≡ enabled self.now.groups instance.now) }
+    {
+        enabled(self.alloc, &self.tables.groups, instance)
     }
 
     /// How many commands were accepted.
