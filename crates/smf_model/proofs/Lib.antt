@@ -5,3 +5,5 @@ pub mod LawOutcomes
 pub mod LawRows
 pub mod Lists
 pub mod Startd
+pub mod States
+pub mod Made

@@ -4,3 +4,4 @@ pub mod Setting
 pub mod Next
 pub mod Tables
 pub mod Laws
+pub mod Shown

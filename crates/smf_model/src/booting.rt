@@ -154,7 +154,7 @@ pub(crate) fn boot(alloc: Global, tables: &Tables) -> Asked
     accepted(alloc, tables, changes, Reply::Done)
 }
 
-fn is_instance_of(
+pub(crate) fn is_instance_of(
     alloc: Global,
     service: &ServiceFmri,
     instance: &Instance,

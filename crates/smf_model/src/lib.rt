@@ -2,7 +2,7 @@
 //! Rooms: `held` (what is held), `command` (commands and replies), `change` (record changes), `setting` (restarters),
 //! `tables` (the lists and their changes), `look` (look-ups), `asking` (notes of asks and errors), `grouping` (edits of
 //! groups), `snapping` (refresh), `reverting` (revert), `answering` (proposals), `booting` (boot), `dispatch` (which
-//! command it is), `journal` (what is told of changes), `plain` (the repository over a journal), `law` (what no list of
+//! command it is), `journal` (what is told of changes), `plain` (the repository over a journal), `showing` (reads), `law` (what no list of
 //! commands breaks).
 #![tactic(auto)]
 
@@ -20,6 +20,7 @@ mod look;
 mod plain;
 mod reverting;
 mod setting;
+mod showing;
 mod snapping;
 mod tables;
 

@@ -1,8 +1,9 @@
 ghost use Rattle.std.specs.Prelude.{◌≡◌, IfOk, OnOk, OnErr};
 ghost use Rattle.smf_model.specs.Holdings.{Holdings};
 ghost use Rattle.smf_model.specs.Look.{empty, installed, snapshot};
-ghost use Rattle.smf_model.specs.Next.{found, groups_of, next};
+ghost use Rattle.smf_model.specs.Next.{found, next};
 ghost use Rattle.smf_model.specs.Setting.{enabled};
+ghost use Rattle.smf_model.specs.Shown.{children, rows_of, shown_groups};
 ghost use Rattle.smf_model.specs.Tables.{held_in};
 ghost use Rattle.std.specs.Option.{option_copied};
 
@@ -14,9 +15,9 @@ use crate::held::{Instance, Owner, Snapshot};
 use crate::journal::{Journal, RepoFault};
 use crate::look::snapshot_of;
 use crate::setting::enabled;
-use crate::snapping::groups_of;
+use crate::showing::{children, rows_of, shown_groups};
 use crate::tables::{Tables, install, no_tables, reserve};
-use smf_fmri::{Items, Number};
+use smf_fmri::{InstanceFmri, Items, Number, ServiceFmri};
 use smf_value::Group;
 use std::alloc::{AllocError, Global};
 use std::marker::Model;
@@ -78,11 +79,25 @@ impl<J: Journal> Plain<J> {
         found(self.alloc, &self.tables, number)
     }
 
-    /// The groups that are kept of an owner, in the order of their names.
-    pub fn groups(&self, owner: &Owner) -> Result<Items<Group>, AllocError>
-        ensures { IfOk result (λ gs. gs ≡ groups_of self.now owner.now) }
+    /// The instances that a restarter runs, in number order.
+    pub fn rows_of(&self, restarter: &InstanceFmri) -> Result<Items<Instance>, AllocError>
+        ensures { IfOk result (λ all. all ≡ rows_of self.now restarter.now) }
     {
-        groups_of(self.alloc, &self.tables, owner)
+        rows_of(self.alloc, &self.tables, restarter)
+    }
+
+    /// The instances of a service, in number order.
+    pub fn children(&self, service: &ServiceFmri) -> Result<Items<Instance>, AllocError>
+        ensures { IfOk result (λ all. all ≡ children self.now service.now) }
+    {
+        children(self.alloc, &self.tables, service)
+    }
+
+    /// The groups of an owner in the order of their names; an instance's `restarter` is made from its row.
+    pub fn groups(&self, owner: &Owner) -> Result<Items<Group>, AllocError>
+        ensures { IfOk result (λ gs. gs ≡ shown_groups self.now owner.now) }
+    {
+        shown_groups(self.alloc, &self.tables, owner)
     }
 
     pub fn snapshot(&self, number: u64) -> Option<&Snapshot>
@@ -96,6 +111,22 @@ impl<J: Journal> Plain<J> {
         ensures { IfOk result (λ b. b ≡ enabled self.now.groups instance.now) }
     {
         enabled(self.alloc, &self.tables.groups, instance)
+    }
+
+    /// All that is held.
+    pub fn copy(&self) -> Result<Tables, AllocError>
+        ensures { IfOk result (λ t. held_in t ≡ self.now) }
+    {
+        Ok(Tables {
+            services: self.tables.services.clone()?,
+            instances: self.tables.instances.clone()?,
+            groups: self.tables.groups.clone()?,
+            snapshots: self.tables.snapshots.clone()?,
+            launches: self.tables.launches.clone()?,
+            next_instance: self.tables.next_instance,
+            next_snapshot: self.tables.next_snapshot,
+            revision: self.revision(),
+        })
     }
 
     /// How many commands were accepted.

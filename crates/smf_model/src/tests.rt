@@ -203,7 +203,10 @@ fn methods_and_snapshots(rt: HostRuntime) -> Result<(), Fail> {
     };
     assert_eq!(rt; edit(p, revert)?, "done");
     let groups = p.groups(&Owner::Instance(1))?;
-    assert_eq!(rt; shown(alloc, groups.as_slice())?.as_str(), "start=/bin/v2 ");
+    assert_eq!(rt;
+        shown(alloc, groups.as_slice())?.as_str(),
+        "restarter=none=online start=/bin/v2 "
+    );
     let previous = match p.instance(1)? {
         Some(instance) => instance.previous,
         None => None,
@@ -231,6 +234,9 @@ fn moves(rt: HostRuntime) -> Result<(), Fail> {
     assert_eq!(rt; disable(alloc, p)?, "granted");
     assert_eq!(rt; edit(p, Edit::Refresh(1))?, "done");
     assert_eq!(rt; row(p)?, (6, State::Uninitialized));
+    assert_eq!(rt; p.rows_of(&restarter(alloc, STARTD)?)?.len(), 0);
+    assert_eq!(rt; p.rows_of(&restarter(alloc, "svc:/x:y")?)?.len(), 1);
+    assert_eq!(rt; p.children(&service(alloc)?)?.len(), 1);
     assert_eq!(rt; step(alloc, p, 7, Step::Move(State::Disabled))?, "stale");
     Ok(())
 }
@@ -248,7 +254,7 @@ fn count_limit(rt: HostRuntime) -> Result<(), Fail> {
     let groups = p.groups(&Owner::Instance(1))?;
     assert_eq!(rt;
         shown(alloc, groups.as_slice())?.as_str(),
-        "a=18446744073709551615 "
+        "a=18446744073709551615 restarter=none=online "
     );
     Ok(())
 }
@@ -274,12 +280,15 @@ fn asks_and_boots(rt: HostRuntime) -> Result<(), Fail> {
     let groups = p.groups(&Owner::Instance(1))?;
     assert_eq!(rt;
         shown(alloc, groups.as_slice())?.as_str(),
-        "general_ovr=true "
+        "general_ovr=true restarter=none=online "
     );
     assert_eq!(rt; told(&p.apply(&Command::Boot)?), "done");
     assert_eq!(rt; row(p)?, (4, State::Uninitialized));
     let groups = p.groups(&Owner::Instance(1))?;
-    assert_eq!(rt; groups.len(), 0);
+    assert_eq!(rt;
+        shown(alloc, groups.as_slice())?.as_str(),
+        "restarter=none=uninitialized "
+    );
     assert_eq!(rt; made(p, Command::Launch(restarter(alloc, STARTD)?))?, 3);
     Ok(())
 }

@@ -1,0 +1,54 @@
+-- What the reads of a repository show.
+use Rattle.std.specs.Prelude.{ℕ, nat_eq, List, [], ◌∷◌, map, filter, Bool, true, codes, Option, Some, None}
+use Rattle.std.specs.Cmp.Lexicographic.{pointwise}
+use Rattle.smf_state.specs.declared.row.Row.{Row}
+use Rattle.smf_state.specs.declared.state.State.{State}
+use Rattle.smf_state.specs.States.{state_text}
+use Rattle.smf_value.specs.declared.kind.Kind.TheVariants as kinds
+use Rattle.smf_value.specs.declared.value.Value.TheVariants.{Astring}
+use Rattle.smf_value.specs.Groups.{PropertyRecord, GroupRecord}
+use Rattle.smf_snap.specs.Taking.{put_group}
+use Rattle.smf_model.specs.declared.held.Instance.{Instance}
+use Rattle.smf_model.specs.declared.held.Owner.{Owner}
+use Rattle.smf_model.specs.declared.held.Owner.TheVariants as owners
+use Rattle.smf_model.specs.Holdings.{Holdings}
+use Rattle.smf_model.specs.Look.{instance}
+use Rattle.smf_model.specs.Next.{groups_of, is_instance_of}
+use Rattle.smf_model.specs.Setting.{current, framework, restarter_name}
+
+abbrev pub is_run_by : List ℕ → Instance → Bool
+is_run_by restarter i = pointwise nat_eq i.row.owner restarter
+
+-- the instances that a restarter runs, in number order
+unfoldable pub rows_of : Holdings → List ℕ → List Instance
+rows_of h restarter = filter (is_run_by restarter) (map (current h.groups) h.instances)
+
+-- the instances of a service, in number order
+unfoldable pub children : Holdings → List ℕ → List Instance
+children h service = filter (is_instance_of service) (map (current h.groups) h.instances)
+
+abbrev pub text_property : List ℕ → List ℕ → PropertyRecord
+text_property name text = record { name = name; kind = kinds.Astring; values = Astring text ∷ [] }
+
+abbrev pub next_text : Option State → List ℕ
+next_text None = codes "none"
+next_text (Some s) = state_text s
+
+-- the group `restarter` of an instance, made from its row
+abbrev pub made_group : Row → GroupRecord
+made_group r =
+    record {
+      name = restarter_name;
+      group_type = framework;
+      non_persistent = true;
+      properties = text_property (codes "next_state") (next_text r.next) ∷ text_property (codes "state") (state_text r.state) ∷ [];
+    }
+
+abbrev pub shown_with : Option Instance → List GroupRecord → List GroupRecord
+shown_with None gs = gs
+shown_with (Some i) gs = put_group (made_group i.row) gs
+
+-- the groups of an owner in the order of their names, an instance's made one among them
+unfoldable pub shown_groups : Holdings → Owner → List GroupRecord
+shown_groups h (owners.Service name) = groups_of h (owners.Service name)
+shown_groups h (owners.Instance n) = shown_with (instance h n) (groups_of h (owners.Instance n))

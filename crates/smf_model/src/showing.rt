@@ -1,0 +1,165 @@
+ghost use Rattle.std.specs.Prelude.{◌≡◌, true, codes, map, filter, IfOk};
+ghost use Rattle.smf_model.specs.Shown.{children, is_run_by, made_group, next_text, rows_of, shown_groups, text_property};
+ghost use Rattle.smf_model.specs.Next.{is_instance_of, new_group};
+ghost use Rattle.smf_model.specs.Setting.{current, framework, restarter_name};
+ghost use Rattle.smf_model.specs.Tables.{held_in};
+ghost use Rattle.smf_state.specs.States.{state_text};
+ghost use Rattle.smf_value.specs.Texts.{is_astring};
+
+use crate::booting::is_instance_of;
+use crate::grouping::new_group;
+use crate::held::{Instance, Owner};
+use crate::look::instance_of;
+use crate::setting::current;
+use crate::snapping::groups_of;
+use crate::tables::Tables;
+use smf_fmri::{InstanceFmri, Items, ServiceFmri};
+use smf_snap::put;
+use smf_state::{Row, State};
+use smf_value::{Astring, Group, Name, Property, Value};
+use std::alloc::{AllocError, Global};
+
+/// All instances as they are read.
+fn all_read(alloc: Global, tables: &Tables) -> Result<Vec<Instance>, AllocError>
+    ensures { IfOk result (λ all. all.items ≡ map (current (held_in tables.now).groups) (held_in tables.now).instances) }
+{
+    let mut all = Vec::new(alloc);
+    for instance in &tables.instances {
+        all.push(current(alloc, &tables.groups, instance.clone()?)?)?;
+    }
+    Ok(all)
+}
+
+/// Those that a restarter runs.
+fn run_by(
+    alloc: Global,
+    instances: Vec<Instance>,
+    restarter: &InstanceFmri,
+) -> Result<Vec<Instance>, AllocError>
+    ensures { IfOk result (λ all. all.items ≡ filter (is_run_by restarter.now) instances.items) }
+{
+    let mut rows = Vec::new(alloc);
+    for instance in instances {
+        if instance.row.owner == *restarter {
+            rows.push(instance)?;
+        }
+    }
+    Ok(rows)
+}
+
+/// The instances that a restarter runs.
+#[tactic(auto, unfolding(crate::specs::Shown::rows_of))]
+pub(crate) fn rows_of(
+    alloc: Global,
+    tables: &Tables,
+    restarter: &InstanceFmri,
+) -> Result<Items<Instance>, AllocError>
+    ensures { IfOk result (λ all. all ≡ rows_of (held_in tables.now) restarter.now) }
+{
+    let rows = run_by(alloc, all_read(alloc, tables)?, restarter)?;
+    Ok(Items::from_vec(rows))
+}
+
+/// Those of a service.
+fn of_service(
+    alloc: Global,
+    instances: Vec<Instance>,
+    service: &ServiceFmri,
+) -> Result<Vec<Instance>, AllocError>
+    ensures { IfOk result (λ all. all.items ≡ filter (is_instance_of service.now) instances.items) }
+{
+    let mut rows = Vec::new(alloc);
+    for instance in instances {
+        if is_instance_of(alloc, service, &instance)? {
+            rows.push(instance)?;
+        }
+    }
+    Ok(rows)
+}
+
+/// The instances of a service.
+#[tactic(auto, unfolding(crate::specs::Shown::children))]
+pub(crate) fn children(
+    alloc: Global,
+    tables: &Tables,
+    service: &ServiceFmri,
+) -> Result<Items<Instance>, AllocError>
+    ensures { IfOk result (λ all. all ≡ children (held_in tables.now) service.now) }
+{
+    let rows = of_service(alloc, all_read(alloc, tables)?, service)?;
+    Ok(Items::from_vec(rows))
+}
+
+fn text_property(alloc: Global, name: Name, text: &str) -> Result<Property, AllocError>
+    requires { is_astring text.now ≡ true }
+    ensures { IfOk result (λ p. p ≡ text_property name text.now) }
+{
+    Property::single(alloc, name, Value::Astring(Astring::new(alloc, text)?))
+}
+
+#[tactic(auto, using(crate::proofs::States::state_is_text))]
+fn state_property(alloc: Global, state: State) -> Result<Property, AllocError>
+    ensures { IfOk result (λ p. p ≡ text_property (codes "state") (state_text state)) }
+{
+    text_property(alloc, Name::new(alloc, "state")?, state.text())
+}
+
+#[tactic(auto, using(crate::proofs::States::state_is_text))]
+fn next_property(alloc: Global, next: Option<State>) -> Result<Property, AllocError>
+    ensures { IfOk result (λ p. p ≡ text_property (codes "next_state") (next_text next)) }
+{
+    let name = Name::new(alloc, "next_state")?;
+    match next {
+        None => text_property(alloc, name, "none"),
+        Some(state) => text_property(alloc, name, state.text()),
+    }
+}
+
+/// The group `restarter`, before its properties are put.
+fn no_properties(alloc: Global) -> Result<Group, AllocError>
+    ensures { IfOk result (λ g. g ≡ new_group restarter_name framework true) }
+{
+    let name = Name::new(alloc, "restarter")?;
+    let group_type = Name::new(alloc, "framework")?;
+    Ok(new_group(alloc, name, group_type, true))
+}
+
+/// The group `restarter` of an instance, made from its row.
+fn made_group(alloc: Global, row: &Row) -> Result<Group, AllocError>
+    ensures { IfOk result (λ g. g ≡ made_group row.now) }
+{
+    let next = next_property(alloc, row.next)?;
+    let state = state_property(alloc, row.state)?;
+    let mut group = no_properties(alloc)?;
+    match group.put(next) {
+        Ok(()) => {}
+        Err(_) => return Err(AllocError),
+    }
+    match group.put(state) {
+        Ok(()) => Ok(group),
+        Err(_) => Err(AllocError),
+    }
+}
+
+/// The groups of an owner, an instance's made one among them.
+#[tactic(auto, unfolding(crate::specs::Shown::shown_groups))]
+pub(crate) fn shown_groups(
+    alloc: Global,
+    tables: &Tables,
+    owner: &Owner,
+) -> Result<Items<Group>, AllocError>
+    ensures { IfOk result (λ gs. gs ≡ shown_groups (held_in tables.now) owner.now) }
+{
+    let groups = groups_of(alloc, tables, owner)?;
+    let Owner::Instance(number) = owner else {
+        return Ok(groups);
+    };
+    match instance_of(&tables.instances, *number) {
+        None => Ok(groups),
+        Some(instance) => {
+            let mut all = groups.into_vec();
+            put(&mut all, made_group(alloc, &instance.row)?)?;
+            Ok(Items::from_vec(all))
+        }
+    }
+}
