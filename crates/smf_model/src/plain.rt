@@ -1,6 +1,6 @@
-ghost use Rattle.std.specs.Prelude.{◌≡◌, IfOk, OnOk, OnErr};
+ghost use Rattle.std.specs.Prelude.{◌≡◌, IfOk, OnOk, OnErr, is_some, option_map};
 ghost use Rattle.smf_model.specs.Holdings.{Holdings};
-ghost use Rattle.smf_model.specs.Look.{empty, installed, snapshot};
+ghost use Rattle.smf_model.specs.Look.{empty, installed, named, service, snapshot};
 ghost use Rattle.smf_model.specs.Next.{found, next};
 ghost use Rattle.smf_model.specs.Setting.{enabled};
 ghost use Rattle.smf_model.specs.Shown.{children, rows_of, shown_groups};
@@ -13,7 +13,7 @@ use crate::command::{Command, Reply};
 use crate::dispatch::asked;
 use crate::held::{Instance, Owner, Snapshot};
 use crate::journal::{Journal, RepoFault};
-use crate::look::snapshot_of;
+use crate::look::{instance_named, service_named, snapshot_of};
 use crate::setting::enabled;
 use crate::showing::{children, rows_of, shown_groups};
 use crate::tables::{Tables, install, no_tables, reserve};
@@ -98,6 +98,22 @@ impl<J: Journal> Plain<J> {
         ensures { IfOk result (λ gs. gs ≡ shown_groups self.now owner.now) }
     {
         shown_groups(self.alloc, &self.tables, owner)
+    }
+
+    pub fn has_service(&self, name: &ServiceFmri) -> bool
+        ensures { result ≡ is_some (service self.now name.now) }
+    {
+        service_named(&self.tables.services, name).is_some()
+    }
+
+    /// The number of the instance of a name.
+    pub fn number_of(&self, name: &InstanceFmri) -> Option<u64>
+        ensures { result ≡ option_map (λ i. i.number) (named self.now name.now) }
+    {
+        match instance_named(&self.tables.instances, name) {
+            None => None,
+            Some(instance) => Some(instance.number),
+        }
     }
 
     pub fn snapshot(&self, number: u64) -> Option<&Snapshot>
