@@ -1,4 +1,5 @@
 pub mod Installs
+pub mod LawHistory
 pub mod LawLists
 pub mod LawNumbers
 pub mod LawOutcomes
@@ -7,3 +8,4 @@ pub mod Lists
 pub mod Startd
 pub mod States
 pub mod Made
+pub mod Ordered

@@ -5,3 +5,4 @@ pub mod Next
 pub mod Tables
 pub mod Laws
 pub mod Shown
+pub mod History

@@ -1,20 +1,27 @@
 -- What the reads of a repository show.
-use Rattle.std.specs.Prelude.{ℕ, nat_eq, List, [], ◌∷◌, map, filter, Bool, true, codes, Option, Some, None}
+use Rattle.std.specs.Prelude.{ℕ, nat_eq, List, [], ◌∷◌, map, filter, Bool, true, codes, Option, Some, None, option_map}
 use Rattle.std.specs.Cmp.Lexicographic.{pointwise}
 use Rattle.smf_state.specs.declared.row.Row.{Row}
 use Rattle.smf_state.specs.declared.state.State.{State}
+use Rattle.smf_state.specs.declared.view.ViewItem.{ViewItem}
 use Rattle.smf_state.specs.States.{state_text}
 use Rattle.smf_value.specs.declared.kind.Kind.TheVariants as kinds
 use Rattle.smf_value.specs.declared.value.Value.TheVariants.{Astring}
 use Rattle.smf_value.specs.Groups.{PropertyRecord, GroupRecord}
+use Rattle.smf_snap.specs.declared.name.SnapshotName.{SnapshotName}
+use Rattle.smf_snap.specs.declared.name.SnapshotName.TheVariants as snapshots
+use Rattle.smf_snap.specs.Body.{spelled_both}
+use Rattle.smf_snap.specs.Names.{names}
 use Rattle.smf_snap.specs.Taking.{put_group}
 use Rattle.smf_model.specs.declared.held.Instance.{Instance}
 use Rattle.smf_model.specs.declared.held.Owner.{Owner}
 use Rattle.smf_model.specs.declared.held.Owner.TheVariants as owners
+use Rattle.smf_model.specs.declared.held.Snapshot.{Snapshot}
+use Rattle.smf_model.specs.declared.held.View.{View}
 use Rattle.smf_model.specs.Holdings.{Holdings}
 use Rattle.smf_model.specs.Look.{instance}
-use Rattle.smf_model.specs.Next.{groups_of, is_instance_of}
-use Rattle.smf_model.specs.Setting.{current, framework, restarter_name}
+use Rattle.smf_model.specs.Next.{groups_of, is_instance_of, named_snapshot, number_of}
+use Rattle.smf_model.specs.Setting.{current, enabled, framework, is_readable, restarter_name, setting}
 
 abbrev pub is_run_by : List ℕ → Instance → Bool
 is_run_by restarter i = pointwise nat_eq i.row.owner restarter
@@ -52,3 +59,42 @@ shown_with (Some i) gs = put_group (made_group i.row) gs
 unfoldable pub shown_groups : Holdings → Owner → List GroupRecord
 shown_groups h (owners.Service name) = groups_of h (owners.Service name)
 shown_groups h (owners.Instance n) = shown_with (instance h n) (groups_of h (owners.Instance n))
+
+-- ---- snapshots by name
+
+-- the names of the snapshots that an instance has, in byte order
+abbrev pub snapshot_names : Instance → List SnapshotName
+snapshot_names i = names (number_of i snapshots.Previous) (number_of i snapshots.Running) (number_of i snapshots.Start)
+
+unfoldable pub snapshots_of : Holdings → ℕ → Option (List SnapshotName)
+snapshots_of h n = option_map snapshot_names (instance h n)
+
+abbrev pub number_in : Option Instance → SnapshotName → Option ℕ
+number_in None name = None
+number_in (Some i) name = number_of i name
+
+-- which snapshot a name means
+unfoldable pub snapshot_number : Holdings → ℕ → SnapshotName → Option ℕ
+snapshot_number h n name = number_in (instance h n) name
+
+-- ---- what svc.startd's graph sees
+
+-- the bytes of a snapshot
+abbrev pub body_of : Snapshot → List ℕ
+body_of s = spelled_both s.service_groups s.instance_groups
+
+-- an instance as it is read, with the bytes of its snapshot `running`
+abbrev pub view_item : Holdings → Instance → ViewItem
+view_item h i =
+    record {
+      instance = i.number;
+      name = i.name;
+      enabled = enabled h.groups i;
+      readable = is_readable (setting h.groups i);
+      row = (current h.groups i).row;
+      body = option_map body_of (named_snapshot h i.row.running);
+    }
+
+-- the revision, and an item for each instance in number order
+unfoldable pub view : Holdings → View
+view h = record { revision = h.revision; items = map (view_item h) h.instances }

@@ -1,9 +1,12 @@
+ghost use Rattle.smf_value.specs.Body.{names_of};
+ghost use Rattle.smf_value.specs.Groups.{Rises};
 ghost use Rattle.std.specs.Prelude.{◌≡◌, IfOk};
 
-use smf_fmri::{InstanceFmri, Items, ServiceFmri};
-use smf_state::Row;
+use smf_fmri::{InstanceFmri, Items, Number, ServiceFmri};
+use smf_state::{Row, ViewItem};
 use smf_value::Group;
 use std::alloc::AllocError;
+use std::marker::Model;
 
 /// What groups belong to.
 #[derive(Debug, Drop)]
@@ -39,8 +42,42 @@ pub struct Snapshot {
     /// From 1, never given again.
     pub number: u64,
     pub instance: u64,
-    pub service_groups: Items<Group>,
-    pub instance_groups: Items<Group>,
+    pub service_groups: Groups,
+    pub instance_groups: Groups,
+}
+
+/// Groups in the order of their names, each name once.
+#[derive(Debug, Drop)]
+pub struct Groups {
+    groups: Items<Group>,
+}
+
+impl Model for Groups {
+    ghost use Rattle.smf_value.specs.Body.{names_of};
+    ghost use Rattle.smf_value.specs.Groups.{GroupRecord, Rises};
+    ghost use Rattle.std.specs.Prelude.{List};
+
+    ghost Value = { List GroupRecord };
+
+    ghost view = { λ g. g.groups };
+
+    ghost invariant = { λ g. Rises (names_of g.groups) };
+}
+
+impl Groups {
+    pub fn in_order(groups: Items<Group>) -> Groups
+        requires { Rises (names_of groups) }
+        ensures { result ≡ groups }
+    {
+        Groups { groups }
+    }
+
+    pub fn as_slice(&self) -> &[Group]
+        ensures value { result.now ≡ self.now }
+        ensures rises { Rises (names_of self.now) }
+    {
+        self.groups.as_slice()
+    }
 }
 
 /// How often a restarter was launched.
@@ -103,8 +140,8 @@ impl Clone for Snapshot {
     ghost is_clone = { λ s copy. copy ≡ s };
 
     fn clone(&self) -> Result<Snapshot, AllocError> {
-        let service_groups = copy_of(&self.service_groups)?;
-        let instance_groups = copy_of(&self.instance_groups)?;
+        let service_groups = self.service_groups.clone()?;
+        let instance_groups = self.instance_groups.clone()?;
         Ok(Snapshot {
             number: self.number,
             instance: self.instance,
@@ -114,9 +151,26 @@ impl Clone for Snapshot {
     }
 }
 
+impl Clone for Groups {
+    ghost is_clone = { λ s copy. copy ≡ s };
+
+    fn clone(&self) -> Result<Groups, AllocError> {
+        let groups = copy_of(&self.groups)?;
+        Ok(Groups { groups })
+    }
+}
+
 #[tactic(auto, using(crate::proofs::Lists::same_items))]
 fn copy_of(groups: &Items<Group>) -> Result<Items<Group>, AllocError>
     ensures { IfOk result (λ copy. copy ≡ groups.now) }
 {
     groups.clone()
+}
+
+/// What svc.startd's graph sees of the repository.
+#[derive(Debug, Drop)]
+pub struct View {
+    pub revision: Number,
+    /// One for each instance, in number order.
+    pub items: Items<ViewItem>,
 }

@@ -1,4 +1,5 @@
-ghost use Rattle.std.specs.Prelude.{◌≡◌, IfOk, OnOk, OnErr, false, ◌++◌};
+ghost use Rattle.std.specs.Prelude.{◌≡◌, IfOk, IfErr, OnOk, OnErr, false, ◌++◌};
+ghost use Rattle.smf_model.specs.declared.journal.RepoFault.{RepoFault as AnyFault};
 ghost use Rattle.smf_model.specs.declared.journal.RepoFault.TheVariants.{Memory};
 ghost use Rattle.smf_model.specs.Holdings.{Holdings};
 ghost use Rattle.smf_model.specs.Look.{empty, installed};
@@ -29,10 +30,14 @@ pub trait Journal {
     /// Whether a value stands in the journal.
     ghost stands: { Self → Holdings → Type 0 };
 
+    /// With which faults a write may end.
+    ghost write_fails: { AnyFault → Type 0 };
+
     /// Writes all the changes or none.
     fn write(&mut self, changes: &[Change]) -> Result<(), RepoFault>
         ensures ok { OnOk result ((h : Holdings) → stands self.old h → stands self.new (installed h changes.now)) }
-        ensures err { OnErr result ((h : Holdings) → stands self.old h → stands self.new h) };
+        ensures err { OnErr result ((h : Holdings) → stands self.old h → stands self.new h) }
+        ensures fault { IfErr result (λ fault. write_fails fault) };
 
     /// The one value that stands.
     fn load(&self, alloc: Global) -> Result<Tables, RepoFault>
@@ -46,6 +51,8 @@ pub struct NoJournal {}
 
 impl Journal for NoJournal {
     ghost stands = { λ _ _. Unit {0} };
+
+    ghost write_fails = { λ _. ⊥ };
 
     fn write(&mut self, _changes: &[Change]) -> Result<(), RepoFault> {
         Ok(())
@@ -81,6 +88,8 @@ impl Record {
 
 impl Journal for Record {
     ghost stands = { λ r h. r.broken ≡ false → installed empty r.changes.items ≡ h };
+
+    ghost write_fails = { λ _. Unit {0} };
 
     fn write(&mut self, changes: &[Change]) -> Result<(), RepoFault> {
         if self.broken || self.left == 0 {

@@ -1,10 +1,11 @@
-ghost use Rattle.std.specs.Prelude.{◌≡◌, ◌⊎◌, ◌+◌, ◌≤◌, ◌<◌, ℕ, List, true, Some, None};
+ghost use Rattle.std.specs.Prelude.{◌≡◌, ◌⊎◌, ◌+◌, ◌≤◌, ◌<◌, ℕ, List, true, Some, None, IsSome};
 ghost use Rattle.smf_model.specs.declared.command.Command.{Command as AnyCommand};
 ghost use Rattle.smf_model.specs.declared.command.Command.TheVariants as commands;
 ghost use Rattle.smf_model.specs.declared.command.Reply.TheVariants as replies;
 ghost use Rattle.smf_model.specs.declared.command.Edit.TheVariants as asked_for;
 ghost use Rattle.smf_model.specs.declared.held.Instance.{Instance as AnyInstance};
 ghost use Rattle.smf_model.specs.declared.held.Snapshot.{Snapshot as AnySnapshot};
+ghost use Rattle.smf_model.specs.History.{AreInTurn, entries, history, made, now, value_at};
 ghost use Rattle.smf_model.specs.Holdings.{Holdings};
 ghost use Rattle.smf_model.specs.Laws.{is_refusal, is_accepted, IsNumbered, Follows};
 ghost use Rattle.smf_model.specs.Look.{empty, instance, snapshot};
@@ -47,4 +48,13 @@ pub fn snapshots_stay()
 /// A row goes on by a granted step along the diagram, by a boot or by a move to another restarter.
 pub fn changes_follow_the_diagram()
     ensures { (h : Holdings) (c : AnyCommand) (n : ℕ) (j : AnyInstance) → IsNumbered h → instance (next h c).0 n ≡ Some j → Follows c n (instance h n) j }
+{}
+
+/// The newest value of a history is what its commands make one after another; each value is what its command makes
+/// of the one before, under the next revision; and each revision from the first has its value.
+pub fn histories_are_made_in_turn()
+    ensures now { (h : Holdings) (cs : List AnyCommand) → now (history h cs) ≡ made h cs }
+    ensures first { (h : Holdings) (cs : List AnyCommand) → (history h cs).first ≡ h }
+    ensures turn { (h : Holdings) (cs : List AnyCommand) → AreInTurn h (entries (history h cs)) }
+    ensures found { (h : Holdings) (cs : List AnyCommand) (n : ℕ) → h.revision ≤ n → n ≤ (made h cs).revision → IsSome (value_at (history h cs) n) }
 {}

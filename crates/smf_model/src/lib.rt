@@ -2,8 +2,8 @@
 //! Rooms: `held` (what is held), `command` (commands and replies), `change` (record changes), `setting` (restarters),
 //! `tables` (the lists and their changes), `look` (look-ups), `asking` (notes of asks and errors), `grouping` (edits of
 //! groups), `snapping` (refresh), `reverting` (revert), `answering` (proposals), `booting` (boot), `dispatch` (which
-//! command it is), `journal` (what is told of changes), `plain` (the repository over a journal), `showing` (reads), `law` (what no list of
-//! commands breaks).
+//! command it is), `journal` (what is told of changes), `plain` (the repository over a journal), `showing` (reads), `viewing` (what the graph
+//! sees, and snapshots by name), `law` (what no list of commands breaks).
 #![tactic(auto)]
 
 mod answering;
@@ -23,14 +23,15 @@ mod setting;
 mod showing;
 mod snapping;
 mod tables;
+mod viewing;
 
 pub use change::Change;
 pub use command::{Command, Edit, Mark, PropertyChange, Reply, Why};
-pub use held::{Held, Instance, Launch, Owner, Snapshot};
+pub use held::{Groups, Held, Instance, Launch, Owner, Snapshot, View};
 pub use journal::{Journal, NoJournal, Record, RepoFault};
 pub use law::{
-    accepted_makes_one_revision, changes_follow_the_diagram, numbers_are_given_once,
-    refusals_change_nothing, rows_never_fall_back, snapshots_stay,
+    accepted_makes_one_revision, changes_follow_the_diagram, histories_are_made_in_turn,
+    numbers_are_given_once, refusals_change_nothing, rows_never_fall_back, snapshots_stay,
 };
 pub use plain::Plain;
 pub use setting::Setting;

@@ -1,9 +1,9 @@
-ghost use Rattle.std.specs.Prelude.{◌≡◌, IfOk, OnOk, OnErr, is_some, option_map};
+ghost use Rattle.std.specs.Prelude.{◌≡◌, ◌⊎◌, IfOk, IfErr, OnOk, OnErr, is_some, option_map};
 ghost use Rattle.smf_model.specs.Holdings.{Holdings};
 ghost use Rattle.smf_model.specs.Look.{empty, installed, named, service, snapshot};
 ghost use Rattle.smf_model.specs.Next.{found, next};
 ghost use Rattle.smf_model.specs.Setting.{enabled};
-ghost use Rattle.smf_model.specs.Shown.{children, rows_of, shown_groups};
+ghost use Rattle.smf_model.specs.Shown.{children, rows_of, shown_groups, snapshot_number, snapshots_of, view};
 ghost use Rattle.smf_model.specs.Tables.{held_in};
 ghost use Rattle.std.specs.Option.{option_copied};
 
@@ -11,13 +11,15 @@ use crate::asking::found;
 use crate::change::Change;
 use crate::command::{Command, Reply};
 use crate::dispatch::asked;
-use crate::held::{Instance, Owner, Snapshot};
+use crate::held::{Instance, Owner, Snapshot, View};
 use crate::journal::{Journal, RepoFault};
 use crate::look::{instance_named, service_named, snapshot_of};
 use crate::setting::enabled;
 use crate::showing::{children, rows_of, shown_groups};
 use crate::tables::{Tables, install, no_tables, reserve};
+use crate::viewing::{snapshot_number, snapshots_of, view};
 use smf_fmri::{InstanceFmri, Items, Number, ServiceFmri};
+use smf_snap::SnapshotName;
 use smf_value::Group;
 use std::alloc::{AllocError, Global};
 use std::marker::Model;
@@ -66,6 +68,7 @@ impl<J: Journal> Plain<J> {
     pub fn apply(&mut self, command: &Command) -> Result<Reply, RepoFault>
         ensures exact { IfOk result (λ reply. next self.old command.now ≡ (self.new, reply)) }
         ensures err { OnErr result (self.new ≡ self.old) }
+        ensures fault { IfErr result (λ fault. (fault ≡ RepoFault.Memory) ⊎ J.write_fails fault) }
     {
         let (changes, reply) = asked(self.alloc, &self.tables, command)?;
         commit(&mut self.journal, &mut self.tables, changes)?;
@@ -122,6 +125,27 @@ impl<J: Journal> Plain<J> {
         snapshot_of(&self.tables.snapshots, number)
     }
 
+    /// The names of the snapshots that an instance has, in byte order; none where there is no such instance.
+    pub fn snapshots(&self, instance: u64) -> Result<Option<Items<SnapshotName>>, AllocError>
+        ensures { IfOk result (λ all. all ≡ snapshots_of self.now instance) }
+    {
+        snapshots_of(self.alloc, &self.tables, instance)
+    }
+
+    /// Which snapshot a name means of an instance.
+    pub fn snapshot_number(&self, instance: u64, name: SnapshotName) -> Option<u64>
+        ensures { result ≡ snapshot_number self.now instance name }
+    {
+        snapshot_number(&self.tables, instance, name)
+    }
+
+    /// What svc.startd's graph sees.
+    pub fn view(&self) -> Result<View, AllocError>
+        ensures { IfOk result (λ v. v ≡ view self.now) }
+    {
+        view(self.alloc, &self.tables)
+    }
+
     /// Whether an instance that is there is enabled.
     pub fn is_enabled(&self, instance: &Instance) -> Result<bool, AllocError>
         ensures { IfOk result (λ b. b ≡ enabled self.now.groups instance.now) }
@@ -164,6 +188,7 @@ fn commit<J: Journal>(
     ensures told { OnOk result ((h : Holdings) → J.stands journal.old h → J.stands journal.new (installed h changes.items)) }
     ensures untold { OnErr result ((h : Holdings) → J.stands journal.old h → J.stands journal.new h) }
     ensures err { OnErr result (held_in tables.new ≡ held_in tables.old) }
+    ensures fault { IfErr result (λ fault. (fault ≡ RepoFault.Memory) ⊎ J.write_fails fault) }
 {
     if changes.is_empty() {
         return Ok(());

@@ -21,7 +21,8 @@ use std::alloc::{AllocError, Global};
 /// The most groups of an owner.
 const MAX_GROUPS: usize = 1000;
 
-fn number_of(instance: &Instance, name: SnapshotName) -> Option<u64>
+/// Which snapshot a name means.
+pub(crate) fn number_of(instance: &Instance, name: SnapshotName) -> Option<u64>
     ensures { result ≡ number_of instance.now name }
 {
     match name {
@@ -31,7 +32,7 @@ fn number_of(instance: &Instance, name: SnapshotName) -> Option<u64>
     }
 }
 
-fn named_snapshot(tables: &Tables, number: Option<u64>) -> Option<&Snapshot>
+pub(crate) fn named_snapshot(tables: &Tables, number: Option<u64>) -> Option<&Snapshot>
     ensures { option_copied result ≡ named_snapshot (held_in tables.now) number }
 {
     match number {

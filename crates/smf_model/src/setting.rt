@@ -176,6 +176,12 @@ fn set_by(alloc: Global, property: Option<&Property>) -> Result<Setting, AllocEr
     }
 }
 
+pub(crate) fn is_readable(setting: &Setting) -> bool
+    ensures { result ≡ is_readable setting.now }
+{
+    !matches!(setting, Setting::Unreadable)
+}
+
 /// The restarter that a setting names: svc.startd's own where it names none.
 pub(crate) fn owner_by(alloc: Global, setting: Setting) -> Result<InstanceFmri, AllocError>
     ensures { IfOk result (λ name. name ≡ owner_by setting) }

@@ -10,7 +10,7 @@ ghost use Rattle.smf_snap.specs.Taking.{put_all, put_group, taken};
 use crate::asking::{Asked, MAX_COUNT, accepted, found, refused};
 use crate::change::Change;
 use crate::command::Reply;
-use crate::held::{Held, Instance, Owner, Snapshot};
+use crate::held::{Groups, Held, Instance, Owner, Snapshot};
 use crate::setting::{Setting, owner_by, service_owner, setting_for};
 use crate::tables::{Tables, same_owner};
 use bitflags::Flags;
@@ -48,19 +48,26 @@ fn in_order(alloc: Global, groups: &[Held], owner: &Owner) -> Result<Vec<Group>,
     Ok(ordered)
 }
 
+/// What a snapshot keeps of an owner's groups now.
+fn taken(alloc: Global, tables: &Tables, owner: &Owner) -> Result<Groups, AllocError>
+    ensures { IfOk result (λ gs. gs ≡ taken (groups_of (held_in tables.now) owner.now)) }
+{
+    let groups = groups_of(alloc, tables, owner)?;
+    let taken = take(alloc, groups.as_slice())?;
+    Ok(Groups::in_order(taken))
+}
+
 /// What a snapshot of an instance holds now.
 fn snapshot_of(alloc: Global, tables: &Tables, instance: &Instance) -> Result<Snapshot, AllocError>
     ensures { IfOk result (λ s. s ≡ snapshot_of (held_in tables.now) instance.now) }
 {
     let service = service_owner(alloc, &instance.name)?;
     let own = Owner::Instance(instance.number);
-    let service_groups = groups_of(alloc, tables, &service)?;
-    let instance_groups = groups_of(alloc, tables, &own)?;
     Ok(Snapshot {
         number: tables.next_snapshot,
         instance: instance.number,
-        service_groups: take(alloc, service_groups.as_slice())?,
-        instance_groups: take(alloc, instance_groups.as_slice())?,
+        service_groups: taken(alloc, tables, &service)?,
+        instance_groups: taken(alloc, tables, &own)?,
     })
 }
 

@@ -1,7 +1,7 @@
 use super::*;
 use smf_fmri::{Fmri, InstanceFmri, Items, ServiceFmri, Text};
 use smf_snap::SnapshotName;
-use smf_state::{Cause, Duration, Ignore, Proposal, State, Step};
+use smf_state::{Cause, Duration, Ignore, Proposal, State, Step, ViewItem};
 use smf_value::{Group, Kind, Name};
 use std::alloc::Global;
 use std::process::Abort;
@@ -306,5 +306,97 @@ fn a_journal_that_fails(rt: HostRuntime) -> Result<(), Fail> {
     let again = Plain::open(alloc, repository.into_journal())?;
     assert_eq!(rt; again.revision().get(), 2);
     assert_eq!(rt; again.instance(1)?.is_some(), true);
+    Ok(())
+}
+
+/// The names of the snapshots of instance 1.
+fn names(alloc: Global, p: &Plain<NoJournal>) -> Result<String, Fail> {
+    let mut text = String::new(alloc);
+    if let Some(all) = p.snapshots(1)? {
+        for name in all.as_slice() {
+            text.push_str(name.as_str())?;
+            text.push(' ')?;
+        }
+    }
+    Ok(text)
+}
+
+#[test]
+fn snapshots_by_name(rt: HostRuntime) -> Result<(), Fail> {
+    let alloc = rt.alloc();
+    let mut repository = online(&rt, alloc)?;
+    let p = &mut repository;
+    assert_eq!(rt; p.snapshots(2)?.is_none(), true);
+    assert_eq!(rt; names(alloc, p)?.as_str(), "running start ");
+    assert_eq!(rt; p.snapshot_number(1, SnapshotName::Previous), None);
+    assert_eq!(rt; edit(p, Edit::Refresh(1))?, "done");
+    let revert = Edit::Revert {
+        instance: 1,
+        snapshot: SnapshotName::Start,
+    };
+    assert_eq!(rt; edit(p, revert)?, "done");
+    assert_eq!(rt; names(alloc, p)?.as_str(), "previous running start ");
+    assert_eq!(rt; p.snapshot_number(1, SnapshotName::Start), Some(1));
+    assert_eq!(rt; p.snapshot_number(1, SnapshotName::Running), Some(2));
+    assert_eq!(rt; p.snapshot_number(1, SnapshotName::Previous), Some(3));
+    assert_eq!(rt; p.snapshot_number(2, SnapshotName::Running), None);
+    Ok(())
+}
+
+/// What the graph sees of instance 1: enabled, readable, the row's number, and the bytes.
+fn seen(item: &ViewItem) -> (bool, bool, u64, &[u8]) {
+    let body = match &item.body {
+        Some(bytes) => bytes.as_slice(),
+        None => b"none".as_slice(),
+    };
+    (item.enabled, item.readable, item.row.number, body)
+}
+
+/// The service's body without groups, and the instance's with group `a` of type `b` and its property `c`, count 1.
+const BODY: [u8; 31] = [
+    0, 0, 0, 0, 0, 0, 0, 1, 0, 1, 0x61, 0, 1, 0x62, 0, 0, 1, 0, 1, 0x63, 1, 0, 1, 0, 0, 0, 0, 0, 0,
+    0, 1,
+];
+
+#[test]
+fn a_view(rt: HostRuntime) -> Result<(), Fail> {
+    let alloc = rt.alloc();
+    let mut repository = online(&rt, alloc)?;
+    let p = &mut repository;
+    let group = Edit::AddGroup {
+        owner: Owner::Instance(1),
+        name: Name::parse(alloc, "a")?,
+        group_type: Name::parse(alloc, "b")?,
+        non_persistent: false,
+    };
+    assert_eq!(rt; edit(p, group)?, "done");
+    assert_eq!(rt; edit(p, set(alloc, "a", "c", Kind::Count, "1")?)?, "done");
+    let view = p.view()?;
+    assert_eq!(rt; view.revision.get(), 8);
+    assert_eq!(rt; view.items.len(), 1);
+    for item in view.items.as_slice() {
+        assert_eq!(rt; item.instance, 1);
+        assert_eq!(rt; item.name.print(), "svc:/site/hello:default");
+        assert_eq!(rt;
+            seen(item),
+            (false, true, 3, [0, 0, 0, 0, 0, 0, 0, 0].as_slice())
+        );
+    }
+    let enable = Edit::Enable {
+        instance: 1,
+        enabled: true,
+        temporary: false,
+    };
+    assert_eq!(rt; edit(p, enable)?, "done");
+    assert_eq!(rt; edit(p, Edit::Refresh(1))?, "done");
+    assert_eq!(rt;
+        edit(p, set(alloc, "general", "restarter", Kind::Astring, "x")?)?,
+        "done"
+    );
+    let view = p.view()?;
+    assert_eq!(rt; view.revision.get(), 11);
+    for item in view.items.as_slice() {
+        assert_eq!(rt; seen(item), (true, false, 3, BODY.as_slice()));
+    }
     Ok(())
 }

@@ -7,8 +7,11 @@ use Rattle.smf_value.specs.Body.{AreGroups, spelled}
 use Rattle.smf_value.specs.Reading.{decoded, decoded_first}
 use Rattle.smf_snap.specs.declared.body.Snapshot.{Snapshot}
 
+abbrev pub spelled_both : List GroupRecord → List GroupRecord → List ℕ
+spelled_both service instance = spelled service ++ spelled instance
+
 abbrev pub spelled_snapshot : Snapshot → List ℕ
-spelled_snapshot s = spelled s.service ++ spelled s.instance
+spelled_snapshot s = spelled_both s.service s.instance
 
 pub record IsSnapshot (s : Snapshot) : Type 0 where
   pub service : AreGroups s.service

@@ -1,6 +1,6 @@
-ghost use Rattle.smf_snap.specs.Body.{IsSnapshot, decoded_snapshot, spelled_snapshot};
+ghost use Rattle.smf_snap.specs.Body.{IsSnapshot, decoded_snapshot, spelled_both, spelled_snapshot};
 ghost use Rattle.smf_snap.specs.declared.body.Snapshot.{Snapshot as AnySnapshot};
-ghost use Rattle.smf_value.specs.Body.{names_of};
+ghost use Rattle.smf_value.specs.Body.{AreGroups, names_of};
 ghost use Rattle.smf_value.specs.Groups.{Rises};
 ghost use Rattle.smf_value.specs.Reading.{Gives};
 ghost use Rattle.std.specs.Prelude.{◌≡◌, IfOk, Ok};
@@ -23,8 +23,26 @@ pub fn encode_snapshot(alloc: Global, snapshot: &Snapshot) -> Result<Bytes, Allo
     ensures spelled { IfOk result (λ b. b ≡ spelled_snapshot snapshot.now) }
     ensures formed { IfOk result (λ _. IsSnapshot snapshot.now) }
 {
-    let mut bytes = encode(alloc, snapshot.service.as_slice())?.into_vec();
-    let instance = encode(alloc, snapshot.instance.as_slice())?;
+    encode_both(
+        alloc,
+        snapshot.service.as_slice(),
+        snapshot.instance.as_slice(),
+    )
+}
+
+/// The bytes of the snapshot that holds these groups of a service and of its instance.
+pub fn encode_both(
+    alloc: Global,
+    service: &[Group],
+    instance: &[Group],
+) -> Result<Bytes, AllocError>
+    requires service { Rises (names_of service.now) }
+    requires instance { Rises (names_of instance.now) }
+    ensures spelled { IfOk result (λ b. b ≡ spelled_both service.now instance.now) }
+    ensures formed { IfOk result (λ _. AreGroups service.now × AreGroups instance.now) }
+{
+    let mut bytes = encode(alloc, service)?.into_vec();
+    let instance = encode(alloc, instance)?;
     bytes.extend_from_slice(instance.as_slice())?;
     Ok(Bytes::from_vec(bytes))
 }

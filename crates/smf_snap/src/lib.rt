@@ -7,7 +7,7 @@ mod composing;
 mod name;
 mod taking;
 
-pub use body::{Snapshot, decode_snapshot, encode_snapshot};
+pub use body::{Snapshot, decode_snapshot, encode_both, encode_snapshot};
 pub use composing::{composed, find};
 pub use name::{SnapshotName, names};
 pub use taking::{is_snapped, put, restore, take};

@@ -1,7 +1,7 @@
 ghost use Rattle.smf_snap.specs.Names.{name_from, name_text, names};
 ghost use Rattle.std.specs.Prelude.{◌≡◌, IfOk};
 
-use smf_fmri::{Items, Number};
+use smf_fmri::Items;
 use std::alloc::{AllocError, Global};
 use std::fmt;
 
@@ -57,9 +57,9 @@ impl fmt::Display for SnapshotName {
 /// The names of the snapshots that an instance has, by their numbers, in the order of the names' bytes.
 pub fn names(
     alloc: Global,
-    previous: Option<Number>,
-    running: Option<Number>,
-    start: Option<Number>,
+    previous: Option<u64>,
+    running: Option<u64>,
+    start: Option<u64>,
 ) -> Result<Items<SnapshotName>, AllocError>
     ensures { IfOk result (λ all. all ≡ names previous running start) }
 {

@@ -1,5 +1,5 @@
 use super::*;
-use smf_fmri::{Items, Number};
+use smf_fmri::Items;
 use smf_value::{BodyFault, Group, GroupFlags, Kind, Name};
 use std::alloc::Global;
 use std::test::Fail;
@@ -118,7 +118,7 @@ fn a_snapshot_as_bytes(rt: HostRuntime) -> Result<(), Fail> {
 #[test]
 fn names_of_snapshots(rt: HostRuntime) -> Result<(), Fail> {
     let alloc = rt.alloc();
-    let all = names(alloc, Number::new(3), Number::new(2), None)?;
+    let all = names(alloc, Some(3), Some(2), None)?;
     let mut text = String::new(alloc);
     for name in all.as_slice() {
         text.push_str(name.as_str())?;

@@ -1,0 +1,108 @@
+ghost use Rattle.std.specs.Prelude.{◌≡◌, map, option_map, IfOk};
+ghost use Rattle.smf_model.specs.Next.{named_snapshot};
+ghost use Rattle.smf_model.specs.Shown.{body_of, snapshot_names, snapshot_number, snapshots_of, view, view_item};
+ghost use Rattle.smf_model.specs.Tables.{held_in};
+
+use crate::held::{Instance, View};
+use crate::look::instance_of;
+use crate::reverting::{named_snapshot, number_of};
+use crate::setting::{current, enabled, is_readable, setting_for};
+use crate::tables::Tables;
+use smf_fmri::{Bytes, Items};
+use smf_snap::{SnapshotName, encode_both, names};
+use smf_state::ViewItem;
+use std::alloc::{AllocError, Global};
+
+fn snapshot_names(alloc: Global, instance: &Instance) -> Result<Items<SnapshotName>, AllocError>
+    ensures { IfOk result (λ all. all ≡ snapshot_names instance.now) }
+{
+    let previous = number_of(instance, SnapshotName::Previous);
+    let running = number_of(instance, SnapshotName::Running);
+    let start = number_of(instance, SnapshotName::Start);
+    names(alloc, previous, running, start)
+}
+
+/// The names of the snapshots that an instance has.
+#[tactic(auto, unfolding(crate::specs::Shown::snapshots_of))]
+pub(crate) fn snapshots_of(
+    alloc: Global,
+    tables: &Tables,
+    number: u64,
+) -> Result<Option<Items<SnapshotName>>, AllocError>
+    ensures { IfOk result (λ all. all ≡ snapshots_of (held_in tables.now) number) }
+{
+    match instance_of(&tables.instances, number) {
+        None => Ok(None),
+        Some(instance) => {
+            let all = snapshot_names(alloc, instance)?;
+            Ok(Some(all))
+        }
+    }
+}
+
+/// Which snapshot a name means.
+#[tactic(auto, unfolding(crate::specs::Shown::snapshot_number))]
+pub(crate) fn snapshot_number(tables: &Tables, number: u64, name: SnapshotName) -> Option<u64>
+    ensures { result ≡ snapshot_number (held_in tables.now) number name }
+{
+    match instance_of(&tables.instances, number) {
+        None => None,
+        Some(instance) => number_of(instance, name),
+    }
+}
+
+/// The bytes of a snapshot, where there is one.
+fn body_at(alloc: Global, tables: &Tables, number: Option<u64>) -> Result<Option<Bytes>, AllocError>
+    ensures { IfOk result (λ body. body ≡ option_map body_of (named_snapshot (held_in tables.now) number)) }
+{
+    match named_snapshot(tables, number) {
+        None => Ok(None),
+        Some(snapshot) => {
+            let service = snapshot.service_groups.as_slice();
+            let instance = snapshot.instance_groups.as_slice();
+            let body = encode_both(alloc, service, instance)?;
+            Ok(Some(body))
+        }
+    }
+}
+
+fn view_item(alloc: Global, tables: &Tables, instance: &Instance) -> Result<ViewItem, AllocError>
+    ensures { IfOk result (λ item. item ≡ view_item (held_in tables.now) instance.now) }
+{
+    let is_enabled = enabled(alloc, &tables.groups, instance)?;
+    let setting = setting_for(alloc, &tables.groups, instance)?;
+    let can_be_read = is_readable(&setting);
+    let body = body_at(alloc, tables, instance.row.running)?;
+    let name = instance.name.clone()?;
+    let shown = current(alloc, &tables.groups, instance.clone()?)?;
+    Ok(ViewItem {
+        instance: instance.number,
+        name,
+        enabled: is_enabled,
+        readable: can_be_read,
+        row: shown.row,
+        body,
+    })
+}
+
+fn view_items(alloc: Global, tables: &Tables) -> Result<Vec<ViewItem>, AllocError>
+    ensures { IfOk result (λ all. all.items ≡ map (view_item (held_in tables.now)) (held_in tables.now).instances) }
+{
+    let mut all = Vec::new(alloc);
+    for instance in &tables.instances {
+        all.push(view_item(alloc, tables, instance)?)?;
+    }
+    Ok(all)
+}
+
+/// What svc.startd's graph sees.
+#[tactic(auto, unfolding(crate::specs::Shown::view))]
+pub(crate) fn view(alloc: Global, tables: &Tables) -> Result<View, AllocError>
+    ensures { IfOk result (λ v. v ≡ view (held_in tables.now)) }
+{
+    let items = view_items(alloc, tables)?;
+    Ok(View {
+        revision: tables.revision,
+        items: Items::from_vec(items),
+    })
+}
