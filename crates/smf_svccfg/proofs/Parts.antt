@@ -53,7 +53,7 @@ again_behind word (w ∷ ws) h k =
     ∙ kept word (slice_split is_blank (spaced_behind w ws)) h.some
     ∙ ap (λ (l : List (List ℕ)). word ∷ l) (again_behind w ws k.0 k.1)
 
-words_again : (ws : List (List ℕ)) → AreWords ws → words (spaced ws) ≡ ws
+pub words_again : (ws : List (List ℕ)) → AreWords ws → words (spaced ws) ≡ ws
 unfolding words
 words_again [] h = refl
 words_again (w ∷ ws) h = again_behind w ws h.0 h.1

@@ -1,10 +1,11 @@
 -- What a line is judged to be, where something is selected in a repository.
-use Rattle.std.specs.Prelude.{◌≡◌, ℕ, List, [], ◌∷◌, ◌++◌, nat_eq, codes, false, if◌then◌else◌, Option, Some, None, is_some, option_map, Result, Ok, Err}
+use Rattle.std.specs.Prelude.{◌≡◌, ℕ, List, [], ◌∷◌, ◌++◌, nat_eq, codes, false, true, if◌then◌else◌, Option, Some, None, is_some, option_map, Result, Ok, Err}
 use Rattle.std.specs.Cmp.Lexicographic.{pointwise}
 use Rattle.smf_fmri.specs.declared.fault.FmriFault.{FmriFault}
 use Rattle.smf_fmri.specs.Name.{short, read}
 use Rattle.smf_fmri.specs.Matching.{named_service, named_instance, read_short}
 use Rattle.smf_value.specs.declared.kind.Kind.{Kind}
+use Rattle.smf_model.specs.declared.command.Edit.{Edit}
 use Rattle.smf_model.specs.declared.command.Edit.TheVariants as edits
 use Rattle.smf_model.specs.declared.command.PropertyChange.TheVariants as properties
 use Rattle.smf_model.specs.declared.held.Owner.{Owner}
@@ -123,6 +124,28 @@ judged_by h s (Err e) = Err (given_by e)
 -- what a line is judged to be; the repository may still refuse the edit
 unfoldable pub judged : Holdings → Selection → List ℕ → Result Judged CfgFault
 judged h s line = judged_by h s (line_of line)
+
+-- ---- what a line may come to
+
+-- a service or an instance that the repository has
+abbrev pub IsPresent : Holdings → Selection → Type 0
+IsPresent h selected.Nothing = ⊥
+IsPresent h (selected.Service s) = is_some (service h s) ≡ true
+IsPresent h (selected.Instance n) = (name : List ℕ) × (option_map (λ i. i.number) (named h name) ≡ Some n)
+
+-- an edit of what is selected
+abbrev pub Concerns : Edit → Selection → Type 0
+Concerns (edits.AddService name) selected.Nothing = Unit {0}
+Concerns (edits.AddInstance service name) (selected.Service s) = s ≡ service
+Concerns (edits.AddGroup owner name group_type non_persistent) s = owner_of s ≡ Some owner
+Concerns (edits.Property owner group change) s = owner_of s ≡ Some owner
+Concerns _ s = ⊥
+
+-- what is selected anew is present, and an edit is of what is selected
+abbrev pub Fits : Holdings → Selection → Judged → Type 0
+Fits h s judgements.Nothing = Unit {0}
+Fits h s (judgements.Select found) = IsPresent h found
+Fits h s (judgements.Edit edit) = Concerns edit s
 
 -- ---- texts
 

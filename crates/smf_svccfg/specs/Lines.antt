@@ -1,11 +1,12 @@
 -- What a line asks for.
-use Rattle.std.specs.Prelude.{◌≡◌, ℕ, ◌==◌, ◌||◌, List, [], ◌∷◌, length, nat_eq, nat_lt, Bool, false, codes, if◌then◌else◌, Option, Some, None, Result, Ok, Err}
+use Rattle.std.specs.Prelude.{◌≡◌, ◌++◌, ℕ, ◌==◌, ◌||◌, List, [], ◌∷◌, length, nat_eq, nat_lt, Bool, false, codes, if◌then◌else◌, Option, Some, None, Result, Ok, Err}
 use Rattle.std.specs.Cmp.Lexicographic.{pointwise}
 use Rattle.std.specs.List.{list_any, position_or_len, before_first, after_first}
 use Rattle.smf_value.specs.declared.fault.NameFault.{NameFault}
 use Rattle.smf_value.specs.declared.kind.Kind.{Kind}
 use Rattle.smf_value.specs.declared.kind.Kind.TheVariants as kinds
-use Rattle.smf_value.specs.Names.{read_name}
+use Rattle.smf_value.specs.Kinds.{kind_text}
+use Rattle.smf_value.specs.Names.{IsNameText, read_name}
 use Rattle.smf_svccfg.specs.declared.command.CfgCommand.{CfgCommand}
 use Rattle.smf_svccfg.specs.declared.command.CfgCommand.TheVariants as commands
 use Rattle.smf_svccfg.specs.declared.fault.LineFault.{LineFault}
@@ -13,7 +14,7 @@ use Rattle.smf_svccfg.specs.declared.fault.LineFault.TheVariants.{Memory, Unknow
 use Rattle.smf_svccfg.specs.declared.line.Line.{Line}
 use Rattle.smf_svccfg.specs.declared.line.Line.TheVariants as lines
 use Rattle.smf_svccfg.specs.declared.line.Target.{Target}
-use Rattle.smf_svccfg.specs.Words.{words}
+use Rattle.smf_svccfg.specs.Words.{IsWord, spaced, words}
 
 -- what a call returned is what the definition gives, unless memory ran out
 abbrev pub Fails : {X : Type 0} → LineFault → Result X LineFault → Type 0
@@ -147,3 +148,28 @@ line_of text =
     if is_comment text then Ok lines.Nothing
     else if list_any is_quoting text then Err Unknown
     else line_by (words text)
+
+-- ---- how a line is written
+
+-- a text that can stand as a word
+pub record IsBare (text : List ℕ) : Type 0 where
+  pub one : IsWord text
+  pub plain : list_any is_quoting text ≡ false
+
+abbrev pub IsWritable : Line → Type 0
+IsWritable lines.Nothing = Unit {0}
+IsWritable (lines.Select word) = IsBare word
+IsWritable (lines.Add word) = IsBare word
+IsWritable (lines.AddGroup name group_type) = IsNameText name × IsNameText group_type
+IsWritable (lines.Set group property kind value) = IsNameText group × IsNameText property × IsBare value
+
+abbrev pub words_for : Line → List (List ℕ)
+words_for lines.Nothing = []
+words_for (lines.Select word) = codes "select" ∷ word ∷ []
+words_for (lines.Add word) = codes "add" ∷ word ∷ []
+words_for (lines.AddGroup name group_type) = codes "addpg" ∷ name ∷ group_type ∷ []
+words_for (lines.Set group property kind value) = codes "setprop" ∷ (group ++ 47 ∷ property) ∷ codes "=" ∷ (kind_text kind ++ 58 ∷ []) ∷ value ∷ []
+
+-- a line as it is written, with one space between two words
+abbrev pub written : Line → List ℕ
+written l = spaced (words_for l)

@@ -1,6 +1,6 @@
 ghost use Rattle.std.specs.Prelude.{◌≡◌, [], ◌++◌, ◌∷◌, IfOk};
 ghost use Rattle.smf_fmri.specs.Name.{short};
-ghost use Rattle.smf_svccfg.specs.Judged.{Gives, child, entity, judged, judged_add, judged_add_group, judged_by_name, judged_select, judged_set, owner_of, present_instance, present_service, read_service};
+ghost use Rattle.smf_svccfg.specs.Judged.{Fits, Gives, child, entity, judged, judged_add, judged_add_group, judged_by_name, judged_select, judged_set, owner_of, present_instance, present_service, read_service};
 
 use crate::command::CfgCommand;
 use crate::fault::CfgFault;
@@ -199,8 +199,21 @@ fn set(
 }
 
 /// Judges a line, which stands without its end. The repository may still refuse the edit.
-#[tactic(auto, unfolding(crate::specs::Judged::judged))]
 pub fn judge<J: Journal>(
+    alloc: Global,
+    repository: &Plain<J>,
+    selection: &Selection,
+    line: &str,
+) -> Result<Judged, CfgFault>
+    // What is selected anew is present, and an edit is of what is selected.
+    ensures fits { IfOk result (λ j. Fits repository.now selection.now j) }
+    ensures exact { Gives result (judged repository.now selection.now line.now) }
+{
+    come(alloc, repository, selection, line)
+}
+
+#[tactic(auto, unfolding(crate::specs::Judged::judged))]
+fn come<J: Journal>(
     alloc: Global,
     repository: &Plain<J>,
     selection: &Selection,

@@ -1,6 +1,7 @@
 ghost use Rattle.std.specs.List.{list_any};
-ghost use Rattle.std.specs.Prelude.{◌≡◌, IfOk, option_map};
-ghost use Rattle.smf_svccfg.specs.Lines.{Gives, add_group_line, add_line, command_from, command_line, is_comment, is_equals, is_quoting, kind_in, line_by, line_of, name_in, new_group_line, new_value_line, parts_at_slash, select_line, set_line, target_in};
+ghost use Rattle.std.specs.Prelude.{◌≡◌, IfOk, Ok, option_map};
+ghost use Rattle.smf_svccfg.specs.declared.line.Line.{Line as AnyLine};
+ghost use Rattle.smf_svccfg.specs.Lines.{Gives, IsWritable, add_group_line, add_line, command_from, command_line, is_comment, is_equals, is_quoting, kind_in, line_by, line_of, name_in, new_group_line, new_value_line, parts_at_slash, select_line, set_line, target_in, written};
 
 use crate::command::CfgCommand;
 use crate::fault::LineFault;
@@ -198,8 +199,16 @@ fn line_by(alloc: Global, words: &[Text]) -> Result<Line, LineFault>
 }
 
 /// Reads a line, which stands without its end.
-#[tactic(auto, unfolding(crate::specs::Lines::line_of))]
 pub fn parse_line(alloc: Global, line: &str) -> Result<Line, LineFault>
+    // A line that is written is read again.
+    ensures again { (l : AnyLine) → IsWritable l → line.now ≡ written l → Gives result (Ok l) }
+    ensures exact { Gives result (line_of line.now) }
+{
+    read_line(alloc, line)
+}
+
+#[tactic(auto, unfolding(crate::specs::Lines::line_of))]
+fn read_line(alloc: Global, line: &str) -> Result<Line, LineFault>
     ensures { Gives result (line_of line.now) }
 {
     if is_comment(line.as_bytes()) {
