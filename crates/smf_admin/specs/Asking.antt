@@ -1,12 +1,12 @@
 -- What the words of svcadm ask for.
-use Rattle.std.specs.Prelude.{ℕ, ◌==◌, ◌&&◌, ◌++◌, not, nat_eq, List, [], ◌∷◌, map, Bool, true, false, codes, Option, Some, None, slice_get, Result, Ok, Err}
+use Rattle.std.specs.Prelude.{◌≡◌, ◌≤◌, length, filter, ℕ, ◌==◌, ◌&&◌, ◌++◌, not, nat_eq, List, [], ◌∷◌, map, Bool, true, false, codes, Option, Some, None, slice_get, Result, Ok, Err}
 use Rattle.std.specs.Cmp.Lexicographic.{pointwise}
 use Rattle.std.specs.Fmt.{decimal}
 use Rattle.std.specs.List.{list_any}
 use Rattle.smf_fmri.specs.declared.fault.FmriFault.{FmriFault}
 use Rattle.smf_fmri.specs.declared.fault.PickFault.{PickFault}
 use Rattle.smf_fmri.specs.declared.fault.PickFault.TheVariants as picks
-use Rattle.smf_fmri.specs.Matching.{picked}
+use Rattle.smf_fmri.specs.Matching.{matches, picked}
 use Rattle.smf_fmri.specs.Name.{read_pattern}
 use Rattle.smf_state.specs.declared.view.ViewItem.{ViewItem}
 use Rattle.smf_model.specs.declared.command.Edit.TheVariants as edits
@@ -36,6 +36,22 @@ asked_with word view (Err fault) = answers.NoMatch word
 -- what is asked by a word that stands for an instance
 unfoldable pub asked_of : List ViewItem → List ℕ → Asked
 asked_of view word = asked_with word view (read_pattern word)
+
+-- ---- what is asked is of what matches
+
+-- the instances whose names a pattern matches
+abbrev pub matching : List ℕ → List ViewItem → List ViewItem
+matching pattern view = filter (λ i. matches pattern i.name) view
+
+-- the only instance that matches is enabled; else none matches, or so many do
+abbrev pub IsAnswer : List ℕ → List ℕ → List ViewItem → Asked → Type 0
+IsAnswer pattern word view (answers.Edit edit) = (i : ViewItem) × (matching pattern view ≡ i ∷ []) × (edit ≡ edits.Enable i.instance true false)
+IsAnswer pattern word view (answers.NoMatch w) = (w ≡ word) × (matching pattern view ≡ [])
+IsAnswer pattern word view (answers.Several w count) = (w ≡ word) × (length (matching pattern view) ≡ count) × (2 ≤ count)
+
+abbrev pub Answers : Result (List ℕ) FmriFault → List ℕ → List ViewItem → Asked → Type 0
+Answers (Ok pattern) word view one = IsAnswer pattern word view one
+Answers (Err fault) word view one = one ≡ answers.NoMatch word
 
 -- ---- all words
 

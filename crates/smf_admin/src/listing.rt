@@ -1,6 +1,6 @@
-ghost use Rattle.std.specs.Prelude.{◌≡◌, ◌++◌, codes, filter, map, replicate, IfOk, OnOk, string_bytes};
+ghost use Rattle.std.specs.Prelude.{◌≡◌, ◌++◌, replicate, IfOk, OnOk, string_bytes};
 ghost use Rattle.std.specs.List.{flat_map};
-ghost use Rattle.smf_admin.specs.Listing.{entries, entry_of, entry_text, header_of, header_text, is_listed, place_of, put_all, put_in_order, state_words, svcs_text};
+ghost use Rattle.smf_admin.specs.Listing.{entries, entry_of, entry_text, header_of, is_listed, place_of, put_in_order, svcs_text};
 
 use smf_fmri::{InstanceFmri, Text};
 use smf_state::{State, ViewItem};
@@ -9,7 +9,7 @@ use std::cmp::Ordering;
 
 /// What svcs prints of an instance.
 #[derive(Debug, Drop)]
-pub struct Entry {
+struct Entry {
     name: InstanceFmri,
     state: State,
     in_transition: bool,

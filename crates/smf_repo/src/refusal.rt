@@ -1,4 +1,4 @@
-ghost use Rattle.std.specs.Prelude.{◌≡◌, ◌++◌, codes, IfOk, Some};
+ghost use Rattle.std.specs.Prelude.{◌≡◌, ◌++◌, codes, IfOk};
 ghost use Rattle.smf_repo.specs.Refusals.{denial, refusal};
 ghost use Rattle.smf_value.specs.Kinds.{kind_text};
 

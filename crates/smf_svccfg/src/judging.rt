@@ -1,6 +1,6 @@
 ghost use Rattle.std.specs.Prelude.{◌≡◌, [], ◌++◌, ◌∷◌, IfOk};
 ghost use Rattle.smf_fmri.specs.Name.{short};
-ghost use Rattle.smf_svccfg.specs.Judged.{Fits, Gives, child, entity, judged, judged_add, judged_add_group, judged_by_name, judged_select, judged_set, owner_of, present_instance, present_service, read_service};
+ghost use Rattle.smf_svccfg.specs.Judged.{Fits, Gives, child, entity, judged, judged_add, judged_add_group, judged_select, judged_set, owner_of, present_instance, present_service, read_service};
 
 use crate::command::CfgCommand;
 use crate::fault::CfgFault;

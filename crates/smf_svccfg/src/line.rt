@@ -1,7 +1,7 @@
 ghost use Rattle.std.specs.List.{list_any};
 ghost use Rattle.std.specs.Prelude.{◌≡◌, IfOk, Ok, option_map};
 ghost use Rattle.smf_svccfg.specs.declared.line.Line.{Line as AnyLine};
-ghost use Rattle.smf_svccfg.specs.Lines.{Gives, IsWritable, add_group_line, add_line, command_from, command_line, is_comment, is_equals, is_quoting, kind_in, line_by, line_of, name_in, new_group_line, new_value_line, parts_at_slash, select_line, set_line, target_in, written};
+ghost use Rattle.smf_svccfg.specs.Lines.{Gives, IsWritable, add_group_line, add_line, is_comment, is_quoting, kind_in, line_by, line_of, name_in, new_group_line, new_value_line, parts_at_slash, select_line, set_line, target_in, written};
 
 use crate::command::CfgCommand;
 use crate::fault::LineFault;
@@ -31,7 +31,7 @@ pub enum Line {
 
 /// The group and the property that a word names.
 #[derive(Debug, Drop)]
-pub struct Target {
+struct Target {
     group: Name,
     property: Name,
 }
