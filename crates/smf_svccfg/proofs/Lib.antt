@@ -1,0 +1,4 @@
+pub mod Blanks
+pub mod Parts
+pub mod Written
+pub mod Coming
