@@ -5,7 +5,7 @@ pub mod LawNumbers
 pub mod LawOutcomes
 pub mod LawRows
 pub mod Lists
-pub mod Startd
+pub mod OwnName
 pub mod States
 pub mod Made
 pub mod Ordered

@@ -174,3 +174,22 @@ pub struct View {
     /// One for each instance, in number order.
     pub items: Items<ViewItem>,
 }
+
+impl Clone for View {
+    ghost is_clone = { λ s copy. copy ≡ s };
+
+    fn clone(&self) -> Result<View, AllocError> {
+        let items = copy_of_items(&self.items)?;
+        Ok(View {
+            revision: self.revision,
+            items,
+        })
+    }
+}
+
+#[tactic(auto, using(crate::proofs::Lists::same_items))]
+fn copy_of_items(items: &Items<ViewItem>) -> Result<Items<ViewItem>, AllocError>
+    ensures { IfOk result (λ copy. copy ≡ items.now) }
+{
+    items.clone()
+}

@@ -34,7 +34,7 @@ pub use law::{
     numbers_are_given_once, refusals_change_nothing, rows_never_fall_back, snapshots_stay,
 };
 pub use plain::Plain;
-pub use setting::Setting;
+pub use setting::{Setting, startd};
 pub use tables::{Tables, install, no_tables, reserve};
 
 #[cfg(test)]

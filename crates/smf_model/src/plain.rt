@@ -1,6 +1,6 @@
 ghost use Rattle.std.specs.Prelude.{◌≡◌, ◌⊎◌, IfOk, IfErr, OnOk, OnErr, is_some, option_map};
 ghost use Rattle.smf_model.specs.Holdings.{Holdings};
-ghost use Rattle.smf_model.specs.Look.{empty, installed, named, service, snapshot};
+ghost use Rattle.smf_model.specs.Look.{empty, installed, instance, launch_of, named, service, snapshot};
 ghost use Rattle.smf_model.specs.Next.{found, next};
 ghost use Rattle.smf_model.specs.Setting.{enabled};
 ghost use Rattle.smf_model.specs.Shown.{children, rows_of, shown_groups, snapshot_number, snapshots_of, view};
@@ -13,7 +13,7 @@ use crate::command::{Command, Reply};
 use crate::dispatch::asked;
 use crate::held::{Instance, Owner, Snapshot, View};
 use crate::journal::{Journal, RepoFault};
-use crate::look::{instance_named, service_named, snapshot_of};
+use crate::look::{instance_named, instance_of, launch_of, service_named, snapshot_of};
 use crate::setting::enabled;
 use crate::showing::{children, rows_of, shown_groups};
 use crate::tables::{Tables, install, no_tables, reserve};
@@ -107,6 +107,23 @@ impl<J: Journal> Plain<J> {
         ensures { result ≡ is_some (service self.now name.now) }
     {
         service_named(&self.tables.services, name).is_some()
+    }
+
+    /// The row number of an instance, where it is there.
+    pub fn row_number(&self, number: u64) -> Option<u64>
+        ensures { result ≡ option_map (λ i. i.row.number) (instance self.now number) }
+    {
+        match instance_of(&self.tables.instances, number) {
+            None => None,
+            Some(instance) => Some(instance.row.number),
+        }
+    }
+
+    /// How often a restarter was launched.
+    pub fn launch_of(&self, restarter: &InstanceFmri) -> u64
+        ensures { result ≡ launch_of self.now restarter.now }
+    {
+        launch_of(&self.tables, restarter)
     }
 
     /// The number of the instance of a name.

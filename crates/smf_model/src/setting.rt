@@ -23,7 +23,7 @@ pub enum Setting {
 /// The name of svc.startd's own restarter, which needs no instance.
 const STARTD: &str = "svc:/system/svc/restarter:default";
 
-pub(crate) fn startd(alloc: Global) -> Result<InstanceFmri, AllocError>
+pub fn startd(alloc: Global) -> Result<InstanceFmri, AllocError>
     ensures { IfOk result (λ name. name ≡ startd) }
 {
     let found = InstanceFmri::read_short(alloc, STARTD)?;

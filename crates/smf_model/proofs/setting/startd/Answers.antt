@@ -1,5 +1,5 @@
 use Rattle.std.proofs.Common.{◌∙◌, sym}
-use Rattle.smf_model.proofs.Startd.{startd_is_read, not_none, some_is}
+use Rattle.smf_model.proofs.OwnName.{startd_is_read, not_none, some_is}
 use Rattle.smf_model.proofs.setting.startd.Goals as goal
 
 pub unreachable-requires : goal.unreachable-requires

@@ -1,0 +1,9 @@
+//! Messages between the repository, svc.startd's graph and the restarters.
+//! Rooms: `order` (what the graph orders), `message`.
+#![tactic(auto)]
+
+mod message;
+mod order;
+
+pub use message::{Known, Message};
+pub use order::{MethodCall, Order, What};

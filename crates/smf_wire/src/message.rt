@@ -1,0 +1,135 @@
+ghost use Rattle.std.specs.Prelude.{◌≡◌, IfOk};
+
+use crate::order::Order;
+use smf_fmri::{InstanceFmri, Items};
+use smf_model::{View, Why};
+use smf_state::{Proposal, Row};
+use std::alloc::AllocError;
+
+/// An instance as a restarter knows it.
+#[derive(Debug, Drop)]
+pub struct Known {
+    pub instance: u64,
+    pub name: InstanceFmri,
+    pub row: Row,
+}
+
+/// What the actors send to one another. Launches and serials are those of the restarter that is named.
+#[derive(Debug, Drop)]
+pub enum Message {
+    /// A restarter asks for the rows that it owns.
+    Join {
+        name: InstanceFmri,
+        launch: u64,
+    },
+    /// The rows of a restarter, in number order.
+    Rows {
+        name: InstanceFmri,
+        launch: u64,
+        rows: Items<Known>,
+    },
+    /// A restarter proposes a step.
+    Propose(Proposal),
+    /// A proposal was granted: the row that it led to.
+    Ack {
+        name: InstanceFmri,
+        launch: u64,
+        serial: u64,
+        instance: u64,
+        row: Row,
+    },
+    /// A proposal was refused: why, and the row as it is, where the instance is there.
+    Nack {
+        name: InstanceFmri,
+        launch: u64,
+        serial: u64,
+        instance: u64,
+        why: Why,
+        row: Option<Row>,
+    },
+    /// The graph asks what the repository holds.
+    AskView,
+    /// What the repository holds.
+    View(View),
+    Order(Order),
+}
+
+impl Clone for Known {
+    ghost is_clone = { λ s copy. copy ≡ s };
+
+    fn clone(&self) -> Result<Known, AllocError> {
+        let name = self.name.clone()?;
+        let row = self.row.clone()?;
+        Ok(Known {
+            instance: self.instance,
+            name,
+            row,
+        })
+    }
+}
+
+#[tactic(auto, using(crate::proofs::Lists::same_items))]
+fn copy_of_rows(rows: &Items<Known>) -> Result<Items<Known>, AllocError>
+    ensures { IfOk result (λ copy. copy ≡ rows.now) }
+{
+    rows.clone()
+}
+
+fn copy_of_row(row: &Option<Row>) -> Result<Option<Row>, AllocError>
+    ensures { IfOk result (λ copy. copy ≡ row.now) }
+{
+    match row {
+        None => Ok(None),
+        Some(row) => Ok(Some(row.clone()?)),
+    }
+}
+
+impl Clone for Message {
+    ghost is_clone = { λ s copy. copy ≡ s };
+
+    fn clone(&self) -> Result<Message, AllocError> {
+        match self {
+            Message::Join { name, launch } => Ok(Message::Join {
+                name: name.clone()?,
+                launch: *launch,
+            }),
+            Message::Rows { name, launch, rows } => Ok(Message::Rows {
+                name: name.clone()?,
+                launch: *launch,
+                rows: copy_of_rows(rows)?,
+            }),
+            Message::Propose(proposal) => Ok(Message::Propose(proposal.clone()?)),
+            Message::Ack {
+                name,
+                launch,
+                serial,
+                instance,
+                row,
+            } => Ok(Message::Ack {
+                name: name.clone()?,
+                launch: *launch,
+                serial: *serial,
+                instance: *instance,
+                row: row.clone()?,
+            }),
+            Message::Nack {
+                name,
+                launch,
+                serial,
+                instance,
+                why,
+                row,
+            } => Ok(Message::Nack {
+                name: name.clone()?,
+                launch: *launch,
+                serial: *serial,
+                instance: *instance,
+                why: *why,
+                row: copy_of_row(row)?,
+            }),
+            Message::AskView => Ok(Message::AskView),
+            Message::View(view) => Ok(Message::View(view.clone()?)),
+            Message::Order(order) => Ok(Message::Order(order.clone()?)),
+        }
+    }
+}

@@ -1,0 +1,4 @@
+pub mod World
+pub mod Happens
+pub mod Safe
+pub mod Schedule

@@ -1,0 +1,36 @@
+use smf_fmri::{InstanceFmri, Text};
+use smf_restarter::Method;
+use smf_state::State;
+
+/// What the trail shows, in the order in which it happened.
+#[derive(Debug, Drop)]
+pub enum Item {
+    /// A row that the repository committed: an instance was added, a proposal granted, or a boot or a move reset it.
+    Committed {
+        instance: u64,
+        number: u64,
+        state: State,
+        next: Option<State>,
+    },
+    /// A row that a restarter took.
+    Held {
+        name: InstanceFmri,
+        launch: u64,
+        instance: u64,
+        number: u64,
+        state: State,
+    },
+    /// A method was begun. The contract is 0 for a built-in, which makes none.
+    Spawned {
+        contract: u64,
+        instance: u64,
+        run: u64,
+        method: Method,
+        /// The revision that its order was decided on.
+        revision: u64,
+        command: Text,
+    },
+    /// A contract was first found empty.
+    Emptied(u64),
+    Boot,
+}

@@ -1,0 +1,12 @@
+//! The written machine: the world, what each event makes of it, the schedule, and why the trail is safe.
+//! Rooms: `item` (the trail), `event`, `schedule`, `law` (what no list of events breaks). Nothing here runs but the
+//! types of items and events.
+#![tactic(auto)]
+
+mod event;
+mod item;
+mod schedule;
+
+pub use event::{Event, ProcessEvent, SpawnAnswer};
+pub use item::Item;
+pub use schedule::Settled;
