@@ -1,4 +1,4 @@
-ghost use Rattle.std.specs.Prelude.{◌≡◌, IfOk, IfErr, OnOk, OnErr, false, ◌++◌};
+ghost use Rattle.std.specs.Prelude.{◌≡◌, ◌⊎◌, IfOk, IfErr, OnOk, OnErr, false, true, ◌++◌};
 ghost use Rattle.smf_model.specs.declared.journal.RepoFault.{RepoFault as AnyFault};
 ghost use Rattle.smf_model.specs.declared.journal.RepoFault.TheVariants.{Memory};
 ghost use Rattle.smf_model.specs.Holdings.{Holdings};
@@ -33,6 +33,9 @@ pub trait Journal {
     /// With which faults a write may end.
     ghost write_fails: { AnyFault → Type 0 };
 
+    /// With which faults a load may end.
+    ghost load_fails: { Self → AnyFault → Type 0 };
+
     /// Writes all the changes or none.
     fn write(&mut self, changes: &[Change]) -> Result<(), RepoFault>
         ensures ok { OnOk result ((h : Holdings) → stands self.old h → stands self.new (installed h changes.now)) }
@@ -42,7 +45,8 @@ pub trait Journal {
     /// The one value that stands.
     fn load(&self, alloc: Global) -> Result<Tables, RepoFault>
         ensures stands { IfOk result (λ t. stands self.now (held_in t)) }
-        ensures only { IfOk result (λ t. (h : Holdings) → stands self.now h → held_in t ≡ h) };
+        ensures only { IfOk result (λ t. (h : Holdings) → stands self.now h → held_in t ≡ h) }
+        ensures fault { IfErr result (λ fault. load_fails self.now fault) };
 }
 
 /// Keeps nothing, so nothing is read back.
@@ -53,6 +57,8 @@ impl Journal for NoJournal {
     ghost stands = { λ _ _. Unit {0} };
 
     ghost write_fails = { λ _. ⊥ };
+
+    ghost load_fails = { λ _ _. Unit {0} };
 
     fn write(&mut self, _changes: &[Change]) -> Result<(), RepoFault> {
         Ok(())
@@ -90,6 +96,8 @@ impl Journal for Record {
     ghost stands = { λ r h. r.broken ≡ false → installed empty r.changes.items ≡ h };
 
     ghost write_fails = { λ _. Unit {0} };
+
+    ghost load_fails = { λ r fault. (fault ≡ Memory) ⊎ (r.broken ≡ true) };
 
     fn write(&mut self, changes: &[Change]) -> Result<(), RepoFault> {
         if self.broken || self.left == 0 {

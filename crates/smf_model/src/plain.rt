@@ -219,7 +219,8 @@ fn commit<J: Journal>(
 impl<J: Journal + Drop> Plain<J> {
     /// What stands in a journal.
     pub fn open(alloc: Global, journal: J) -> Result<Plain<J>, RepoFault>
-        ensures { IfOk result (λ p. (h : Holdings) → J.stands journal h → p ≡ h) }
+        ensures value { IfOk result (λ p. (h : Holdings) → J.stands journal h → p ≡ h) }
+        ensures fault { IfErr result (λ fault. J.load_fails journal fault) }
     {
         let tables = journal.load(alloc)?;
         Ok(Plain {
