@@ -8,3 +8,6 @@ mod ordering;
 
 pub use engine::Engine;
 pub use ordering::{order, orders};
+
+#[cfg(test)]
+mod tests;

@@ -60,6 +60,12 @@ impl Restarter {
         self.launch
     }
 
+    pub fn stage(&self) -> Stage
+        ensures { result ≡ self.now.stage }
+    {
+        self.stage
+    }
+
     /// The instances that it knows, in number order.
     pub fn instances(&self) -> &[KnownInstance]
         ensures { result.now ≡ self.now.instances }

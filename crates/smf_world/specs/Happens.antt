@@ -19,6 +19,8 @@ use Rattle.smf_engine.specs.Orders.{newer, orders_seen}
 use Rattle.smf_wire.specs.declared.message.Known.{Known}
 use Rattle.smf_wire.specs.declared.message.Message.{Message}
 use Rattle.smf_wire.specs.declared.message.Message.TheVariants as messages
+use Rattle.smf_restarter.specs.declared.known.Stage.{Stage}
+use Rattle.smf_restarter.specs.declared.known.Stage.TheVariants.{Listing}
 use Rattle.smf_restarter.specs.declared.reply.Action.{Action}
 use Rattle.smf_restarter.specs.declared.reply.Action.TheVariants as actions
 use Rattle.smf_restarter.specs.declared.reply.Reply.{Reply}
@@ -168,17 +170,17 @@ delivered_if w (Some m) = delivered w m
 
 -- ---- ticks
 
--- a restarter that asks for the list of contracts is told at once that there are none
-abbrev pub asks_list : Action → Bool
-asks_list actions.List = true
-asks_list _ = false
+abbrev pub is_listing : Stage → Bool
+is_listing Listing = true
+is_listing _ = false
 
-abbrev pub own_reply : Knowledge → Reply → Reply
-own_reply k r = if asks_list r.action then listed k k.stage else r
+-- a restarter that would ask for the list of contracts is told at once that there are none
+abbrev pub own_reply : Knowledge → Reply
+own_reply k = if is_listing k.stage then listed k k.stage else own_tick k k.stage
 
 -- the tick 0 is the restarter's own
 abbrev pub tick_reply : Knowledge → ℕ → Reply
-tick_reply k n = if n == 0 then own_reply k (own_tick k k.stage) else ticked k n
+tick_reply k n = if n == 0 then own_reply k else ticked k n
 
 abbrev pub ticked_at : ℕ → World → Option Knowledge → World
 ticked_at n w None = w

@@ -10,7 +10,7 @@ use Rattle.smf_model.specs.History.{made}
 use Rattle.smf_model.specs.Holdings.{Holdings}
 use Rattle.smf_model.specs.Look.{instance}
 use Rattle.smf_world.specs.declared.item.Item.{Item}
-use Rattle.smf_world.specs.declared.item.Item.TheVariants.{Boot, Committed}
+use Rattle.smf_world.specs.declared.item.Item.TheVariants.{Boot, Committed, Held}
 use Rattle.smf_world.specs.World.{World}
 
 -- ---- commits follow history
@@ -85,7 +85,24 @@ AlongTheDiagram [] = Unit {0}
 AlongTheDiagram (Committed i n state next ∷ trail) = RowFollows (last_of i trail) n state × AlongTheDiagram trail
 AlongTheDiagram (item ∷ trail) = AlongTheDiagram trail
 
--- the trail shows what the history is, and changes states only along the diagram
+-- ---- held was committed
+
+-- whether a row of an instance was committed with this number in this state
+abbrev pub WasCommitted : ℕ → ℕ → State → List Item → Type 0
+WasCommitted i number state [] = ⊥
+WasCommitted i number state (Committed j n s next ∷ trail) = ((j ≡ i) × (n ≡ number) × (s ≡ state)) ⊎ WasCommitted i number state trail
+WasCommitted i number state (item ∷ trail) = WasCommitted i number state trail
+
+-- each row that a restarter took was committed before
+abbrev pub HeldWereCommitted : List Item → Type 0
+HeldWereCommitted [] = Unit {0}
+HeldWereCommitted (Held name launch i number state ∷ trail) = WasCommitted i number state trail × HeldWereCommitted trail
+HeldWereCommitted (item ∷ trail) = HeldWereCommitted trail
+
+-- ---- the whole
+
+-- the trail shows what the history is, changes states only along the diagram, and shows no row held that was not committed
 pub record IsSafe (w : World) : Type 0 where
   pub history : CommitsFollowHistory w
   pub diagram : AlongTheDiagram w.trail
+  pub held : HeldWereCommitted w.trail

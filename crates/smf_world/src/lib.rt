@@ -5,8 +5,13 @@
 
 mod event;
 mod item;
+mod law;
 mod schedule;
 
 pub use event::{Event, ProcessEvent, SpawnAnswer};
 pub use item::Item;
+pub use law::{
+    commits_follow_history, held_rows_were_committed, states_go_along_the_diagram,
+    whatever_happens_is_safe,
+};
 pub use schedule::Settled;

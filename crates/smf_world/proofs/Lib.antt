@@ -1,0 +1,13 @@
+pub mod CommitLists
+pub mod PlainCommands
+pub mod ItemsMade
+pub mod Noting
+pub mod Lasting
+pub mod Logged
+pub mod Pushed
+pub mod Tracked
+pub mod Told
+pub mod Heard
+pub mod Answered
+pub mod Honest
+pub mod RefusedBoot

@@ -1,0 +1,68 @@
+-- Behind a boot that is refused the trail does not show where rows began.
+use Rattle.std.proofs.Common.{◌≡◌, ◌≤◌, ◌==◌, ℕ, false, List, [], ◌∷◌, Option, None, refl, sym, subst, arith}
+use Rattle.std.proofs.lemmas.Bool.Decides.{nat_tests}
+use Rattle.smf_state.specs.Rows.{applied, fresh}
+use Rattle.smf_state.specs.declared.state.State.TheVariants.{Uninitialized, Disabled}
+use Rattle.smf_model.specs.Holdings.{Holdings}
+use Rattle.smf_model.specs.Laws.{IsNumbered}
+use Rattle.smf_model.specs.Look.{installed}
+use Rattle.smf_model.specs.Setting.{current, enabled, setting, startd}
+use Rattle.smf_model.specs.Shown.{view, rows_of}
+use Rattle.smf_model.specs.Next.{answer, asked, asked_boot, asked_edit, asked_launch, greatest, groups_of, next}
+use Rattle.smf_engine.specs.Orders.{order}
+use Rattle.smf_restarter.specs.Replies.{changed, heard, listed, own_tick, ticked}
+use Rattle.smf_world.specs.declared.event.Event.{Event}
+use Rattle.smf_world.specs.declared.event.Event.TheVariants as events
+use Rattle.smf_world.specs.declared.event.SpawnAnswer.TheVariants as spawns
+use Rattle.smf_world.specs.declared.item.Item.{Item}
+use Rattle.smf_world.specs.declared.item.Item.TheVariants.{Boot, Committed}
+use Rattle.smf_world.specs.Happens.{committed, delivered, happens, replied}
+use Rattle.smf_world.specs.Runs.{run}
+use Rattle.smf_world.specs.Safe.{AlongTheDiagram, Last, RowFollows, commits}
+use Rattle.smf_world.specs.World.{found}
+use Rattle.smf_world.proofs.Pushed.{last_commits}
+
+-- one instance, and a restarter that cannot be launched again
+abbrev pub limited : Holdings
+limited = record {
+  revision = 0;
+  services = [];
+  instances = record { number = 1; name = 97 ∷ []; row = fresh startd; start = None; previous = None } ∷ [];
+  groups = [];
+  snapshots = [];
+  launches = record { restarter = 98 ∷ []; count = greatest } ∷ [];
+  next_instance = 2;
+  next_snapshot = 1;
+}
+
+-- svc.startd's restarter is launched and learns its row, and then an order
+abbrev pub schedule : List Event
+schedule =
+    events.Launch startd ∷ events.Tick startd 0 spawns.Made ∷ events.Deliver 0 ∷ events.Deliver 1 ∷ events.Tick startd 0 spawns.Made
+    ∷ events.Ask ∷ events.Deliver 2 ∷ events.Deliver 3 ∷ events.Orders ∷ events.Deliver 4 ∷ events.Deliver 5 ∷ []
+
+shows : commits (run schedule (happens (found limited) events.Boot)).trail ≡ Committed 1 1 Disabled None ∷ []
+unfolding next asked asked_boot asked_launch asked_edit answer applied installed current enabled setting view rows_of groups_of order changed heard listed own_tick ticked committed delivered happens replied
+shows = refl
+
+one_alone : (n : ℕ) → 2 ≤ n → (1 == n) ≡ false
+one_alone n le = grind (arith, nat_tests)
+
+pub limited_numbered : IsNumbered limited
+limited_numbered = record { instances = λ n le. rw (one_alone n le) refl; snapshots = λ n le. refl; apart = (refl, tt) }
+
+commits_along : (t : List Item) → AlongTheDiagram t → AlongTheDiagram (commits t)
+commits_along [] a = a
+commits_along (Committed j m state next ∷ t) a = (subst (λ (o : Option Last). RowFollows o m state) (sym (last_commits j t)) a.0, commits_along t a.1)
+commits_along (Boot ∷ t) a = commits_along t a
+commits_along (item ∷ t) a = commits_along t a
+
+-- an instance that is first disabled
+first_disabled : AlongTheDiagram (Committed 1 1 Disabled None ∷ []) → ⊥
+first_disabled a = let e : Disabled ≡ Uninitialized = a.0 in cc
+
+not_along : AlongTheDiagram (run schedule (happens (found limited) events.Boot)).trail → ⊥
+not_along a = first_disabled (subst AlongTheDiagram shows (commits_along (run schedule (happens (found limited) events.Boot)).trail a))
+
+pub boot_needed : (h : Holdings) × (es : List Event) × IsNumbered h × (AlongTheDiagram (run es (happens (found h) events.Boot)).trail → ⊥)
+boot_needed = (limited, schedule, limited_numbered, not_along)
