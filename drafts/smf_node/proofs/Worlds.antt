@@ -21,7 +21,7 @@ use Rattle.smf_node.specs.Parts.{world_of, commands_after, trail_after, IsGiven,
 pub world_is : (first : Holdings) (first2 : Holdings) (past past2 : List Command) (now now2 : Holdings) (ks ks2 : List Knowledge) (seen seen2 : Option View) (sent sent2 : List Message) (trail trail2 : List Item)
     → first ≡ first2 → past ≡ past2 → now ≡ now2 → ks ≡ ks2 → seen ≡ seen2 → sent ≡ sent2 → trail ≡ trail2
     → (let w : World = record { history = record { first = first; past = past }; now = now; restarters = ks; seen = seen; sent = sent; trail = trail } in
-       let v : World = record { history = record { first = first2; past = past2 }; now = now2; restarters = ks2; seen = seen2; sent = sent2; trail = trail2 } in w ≡ v)
+    let v : World = record { history = record { first = first2; past = past2 }; now = now2; restarters = ks2; seen = seen2; sent = sent2; trail = trail2 } in w ≡ v)
 world_is first first2 past past2 now now2 ks ks2 seen seen2 sent sent2 trail trail2 a b c d e f g =
     λ j. record { history = record { first = a j; past = b j }; now = c j; restarters = d j; seen = e j; sent = f j; trail = g j }
 

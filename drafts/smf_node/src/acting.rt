@@ -118,12 +118,7 @@ fn prepare(
 }
 
 /// Shows the rows that a restarter takes, and does what it asks for.
-fn finish(
-    messages: &mut Vec<Message>,
-    trail: &mut Vec<Item>,
-    mut items: Vec<Item>,
-    action: Action,
-)
+fn finish(messages: &mut Vec<Message>, trail: &mut Vec<Item>, mut items: Vec<Item>, action: Action)
     requires message_room { vec_len messages.old + 1 ≤ vec_capacity messages.old }
     requires trail_room { vec_len trail.old + (vec_len items + 1) ≤ vec_capacity trail.old }
     ensures messages { messages.new.items ≡ messages.old.items ++ sent_by action }
@@ -134,11 +129,7 @@ fn finish(
 }
 
 /// Makes the change of what the restarter at a place knows.
-fn change_at(
-    restarters: &mut Vec<Restarter>,
-    at: usize,
-    change: Change,
-) -> Result<(), AllocError>
+fn change_at(restarters: &mut Vec<Restarter>, at: usize, change: Change) -> Result<(), AllocError>
     requires { at < length restarters.old.items }
     ensures ok { OnOk result (restarters.new.items ≡ changed_at at change restarters.old.items) }
     ensures err { OnErr result (restarters.new.items ≡ restarters.old.items) }
@@ -179,7 +170,10 @@ impl<J: Journal> Machine<J> {
     pub(crate) fn place_of(&self, name: &InstanceFmri) -> Option<usize>
         ensures { result ≡ position (is_named name.now) self.now.parts.restarters.items }
     {
-        self.parts.restarters.iter().position(|r| *r.name() == *name)
+        self.parts
+            .restarters
+            .iter()
+            .position(|r| *r.name() == *name)
     }
 
     /// A tick of a restarter: its own (0), or one for an instance.
