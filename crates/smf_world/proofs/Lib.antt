@@ -11,3 +11,4 @@ pub mod Heard
 pub mod Answered
 pub mod Honest
 pub mod RefusedBoot
+pub mod Reaching

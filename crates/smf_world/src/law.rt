@@ -7,6 +7,7 @@ ghost use Rattle.smf_model.specs.Next.{next};
 ghost use Rattle.smf_world.specs.declared.event.Event.{Event as AnyEvent};
 ghost use Rattle.smf_world.specs.declared.event.Event.TheVariants as events;
 ghost use Rattle.smf_world.specs.Happens.{happens};
+ghost use Rattle.smf_world.specs.Reached.{IsLater, IsReached};
 ghost use Rattle.smf_world.specs.Runs.{run};
 ghost use Rattle.smf_world.specs.Safe.{AlongTheDiagram, CommitsFollowHistory, HeldWereCommitted, IsSafe};
 ghost use Rattle.smf_world.specs.World.{World, found};
@@ -33,7 +34,9 @@ pub fn held_rows_were_committed()
     ensures { (h : Holdings) (es : List AnyEvent) → IsNumbered h → (next h commands.Boot).1 ≡ answers.Done → HeldWereCommitted (run es (happens (found h) events.Boot)).trail }
 {}
 
-/// The laws of the trail together.
+/// The laws of the trail together, also of each world that is reached.
 pub fn whatever_happens_is_safe()
-    ensures { (h : Holdings) (es : List AnyEvent) → IsNumbered h → (next h commands.Boot).1 ≡ answers.Done → IsSafe (run es (happens (found h) events.Boot)) }
+    ensures always { (h : Holdings) (es : List AnyEvent) → IsNumbered h → (next h commands.Boot).1 ≡ answers.Done → IsSafe (run es (happens (found h) events.Boot)) }
+    ensures reached { (w : World) → IsReached w → IsNumbered w.history.first → IsSafe w }
+    ensures later { (w v : World) → IsReached w → IsLater w v → IsReached v }
 {}

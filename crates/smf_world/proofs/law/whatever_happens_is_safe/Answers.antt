@@ -1,5 +1,12 @@
 use Rattle.smf_world.proofs.Honest.{run_safe}
+use Rattle.smf_world.proofs.Reaching.{reached_later, reached_safe}
 use Rattle.smf_world.proofs.law.whatever_happens_is_safe.Goals as goal
 
-pub returns : goal.returns
-returns c = run_safe
+pub returns-clause-always : goal.returns-clause-always
+returns-clause-always c = run_safe
+
+pub returns-clause-reached : goal.returns-clause-reached
+returns-clause-reached c = reached_safe
+
+pub returns-clause-later : goal.returns-clause-later
+returns-clause-later c = reached_later

@@ -1,0 +1,75 @@
+-- What is reached, and what comes later.
+use Rattle.std.proofs.Common.{◌≡◌, ◌++◌, List, [], ◌∷◌, Bool, true, false, refl, sym, ap, ◌∙◌, subst}
+use Rattle.smf_model.specs.declared.command.Command.{Command}
+use Rattle.smf_model.specs.declared.command.Command.TheVariants as commands
+use Rattle.smf_model.specs.declared.command.Reply.TheVariants as answers
+use Rattle.smf_model.specs.declared.command.Reply.{Reply as Answer}
+use Rattle.smf_model.specs.History.{is_revised}
+use Rattle.smf_model.specs.Holdings.{Holdings}
+use Rattle.smf_model.specs.Laws.{IsNumbered}
+use Rattle.smf_model.specs.Next.{next}
+use Rattle.smf_world.specs.declared.event.Event.{Event}
+use Rattle.smf_world.specs.declared.event.Event.TheVariants as events
+use Rattle.smf_world.specs.Happens.{committed, happens, revised}
+use Rattle.smf_world.specs.Reached.{IsLater, IsReached}
+use Rattle.smf_world.specs.Runs.{run}
+use Rattle.smf_world.specs.Safe.{IsSafe}
+use Rattle.smf_world.specs.World.{World, found}
+use Rattle.smf_world.proofs.Honest.{run_safe}
+use Rattle.smf_world.proofs.Lasting.{Fact, IsKept, of_run}
+
+run_both : (es fs : List Event) (w : World) → run (es ++ fs) w ≡ run fs (run es w)
+run_both [] fs w = refl
+run_both (e ∷ es) fs w = run_both es fs (happens w e)
+
+pub later_self : (w : World) → IsLater w w
+later_self w = ([], refl)
+
+-- nothing has changed
+pub later_same : (w v : World) → v ≡ w → IsLater w v
+later_same w v e = ([], sym e)
+
+-- one event
+pub later_by : (w v : World) (e : Event) → v ≡ happens w e → IsLater w v
+later_by w v e h = (e ∷ [], sym h)
+
+pub later_then : (u v w : World) → IsLater u v → IsLater v w → IsLater u w
+later_then u v w a b = (a.0 ++ b.0, run_both a.0 b.0 u ∙ ap (run b.0) a.1 ∙ b.1)
+
+-- what was found stays known
+abbrev BeganAs : Holdings → Fact
+BeganAs h = λ history now commits. history.first ≡ h
+
+first_by : (h : Holdings) (w : World) (c : Command) (r : (_ : Holdings) × Answer) (b : Bool) → w.history.first ≡ h → (revised w c r b).history.first ≡ h
+first_by h w c r true e = e
+first_by h w c r false e = e
+
+first_kept : (h : Holdings) → IsKept (BeganAs h)
+unfolding committed
+first_kept h w c e = first_by h w c (next w.now c) (is_revised w.now (next w.now c).0) e
+
+pub run_first : (es : List Event) (w : World) → (run es w).history.first ≡ w.history.first
+run_first es w = of_run (BeganAs w.history.first) (first_kept w.history.first) es w refl
+
+pub later_first : (w v : World) → IsLater w v → v.history.first ≡ w.history.first
+later_first w v l = ap (λ x. x.history.first) (sym l.1) ∙ run_first l.0 w
+
+abbrev ReachedFrom : World → Holdings → Type 0
+ReachedFrom w h = ((next h commands.Boot).1 ≡ answers.Done) × IsLater (happens (found h) events.Boot) w
+
+reached_as : (w : World) (h : Holdings) → w.history.first ≡ h → (next h commands.Boot).1 ≡ answers.Done → IsLater (happens (found h) events.Boot) w → IsReached w
+reached_as w h e done l =
+    let r : ReachedFrom w w.history.first = subst (ReachedFrom w) (sym e) (done, l) in
+    record { accepted = r.0; since = r.1 }
+
+pub reached_later : (w v : World) → IsReached w → IsLater w v → IsReached v
+reached_later w v r l = reached_as v w.history.first (later_first w v l) r.accepted (later_then _ w v r.since l)
+
+-- behind an accepted boot
+pub reached_first : (h : Holdings) (w : World) → (next h commands.Boot).1 ≡ answers.Done → w ≡ happens (found h) events.Boot → IsReached w
+reached_first h w done e =
+    let l : IsLater (happens (found h) events.Boot) w = later_same _ w e in
+    reached_as w h (later_first (found h) w (later_by (found h) w events.Boot e)) done l
+
+pub reached_safe : (w : World) → IsReached w → IsNumbered w.history.first → IsSafe w
+reached_safe w r n = subst IsSafe r.since.1 (run_safe w.history.first r.since.0 n r.accepted)

@@ -1,0 +1,19 @@
+-- Worlds that come of other worlds.
+use Rattle.std.specs.Prelude.{◌≡◌, List}
+use Rattle.smf_model.specs.declared.command.Command.TheVariants as commands
+use Rattle.smf_model.specs.declared.command.Reply.TheVariants as answers
+use Rattle.smf_model.specs.Next.{next}
+use Rattle.smf_world.specs.declared.event.Event.{Event}
+use Rattle.smf_world.specs.declared.event.Event.TheVariants as events
+use Rattle.smf_world.specs.Happens.{happens}
+use Rattle.smf_world.specs.Runs.{run}
+use Rattle.smf_world.specs.World.{World, found}
+
+-- a list of events makes the second world of the first
+abbrev pub IsLater : World → World → Type 0
+IsLater w v = (es : List Event) × (run es w ≡ v)
+
+-- a boot of what was found was accepted, and a list of events behind it makes this world
+pub record IsReached (w : World) : Type 0 where
+  pub accepted : (next w.history.first commands.Boot).1 ≡ answers.Done
+  pub since : IsLater (happens (found w.history.first) events.Boot) w
