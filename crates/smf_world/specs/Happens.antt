@@ -1,5 +1,5 @@
 -- What each event makes of the world.
-use Rattle.std.specs.Prelude.{ℕ, ◌+◌, ◌==◌, nat_eq, not, List, [], ◌∷◌, ◌++◌, map, filter, find, reverse, slice_get, Bool, true, false, if◌then◌else◌, Option, Some, None, option_map, option_to_list}
+use Rattle.std.specs.Prelude.{◌≡◌, ℕ, ◌+◌, ◌==◌, nat_eq, not, List, [], ◌∷◌, ◌++◌, map, filter, find, reverse, slice_get, Bool, true, false, if◌then◌else◌, Option, Some, None, option_map, option_to_list}
 use Rattle.std.specs.Cmp.Lexicographic.{pointwise}
 use Rattle.smf_state.specs.declared.state.State.TheVariants.{Uninitialized}
 use Rattle.smf_state.specs.declared.step.Proposal.{Proposal}
@@ -88,6 +88,10 @@ commanded w c r = (revised w c r (is_revised w.now r.0), r.1)
 -- a command is given to the repository; one that is accepted is history
 unfoldable pub committed : World → Command → World × Answer
 committed w c = commanded w c (next w.now c)
+
+-- a command was given to the repository of a world, which left this world and had this reply
+pub record IsCommitted (before : World) (c : Command) (after : World) (reply : Answer) : Type 0 where
+  pub made : committed before c ≡ (after, reply)
 
 -- ---- messages
 

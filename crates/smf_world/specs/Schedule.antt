@@ -1,5 +1,5 @@
 -- The schedule: in which order events happen until nothing is left to do.
-use Rattle.std.specs.Prelude.{ℕ, zero, suc, ◌+◌, ◌-◌, ◌&&◌, List, [], ◌∷◌, length, map, Bool, true, false, if◌then◌else◌, Option, Some, None, is_some}
+use Rattle.std.specs.Prelude.{◌≡◌, ℕ, zero, suc, ◌+◌, ◌-◌, ◌&&◌, List, [], ◌∷◌, length, map, Bool, true, false, if◌then◌else◌, Option, Some, None, is_some}
 use Rattle.std.specs.List.{list_all}
 use Rattle.smf_model.specs.declared.held.View.{View}
 use Rattle.smf_model.specs.Setting.{startd}
@@ -110,3 +110,7 @@ is_quiet w = has_no_orders (view w.now) && list_all at_rest w.restarters
 unfoldable pub settled : ℕ → Progress → Progress × Settled
 settled zero s = (s, Busy)
 settled (suc n) s = if is_quiet (round s).world then (round s, Quiet) else settled n (round s)
+
+-- so many rounds at most were let happen: they left this, and ended so
+pub record IsSettled (rounds : ℕ) (before after : Progress) (how : Settled) : Type 0 where
+  pub made : settled rounds before ≡ (after, how)

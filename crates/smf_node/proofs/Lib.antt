@@ -1,0 +1,5 @@
+pub mod Lists
+pub mod Worlds
+pub mod Replying
+pub mod Begun
+pub mod Turning
