@@ -1,5 +1,5 @@
 -- How many lines a line counts.
-use Rattle.std.proofs.Common.{◌≡◌, ◌≤◌, ◌<◌, ◌*◌, ◌/◌, ◌-◌, ℕ, zero, suc, ◌+◌, List, [], ◌∷◌, ◌++◌, length, take, refl, sym, ap, ◌∙◌, arith, eqb, false, ne_eqb}
+use Rattle.std.proofs.Common.{◌≡◌, ◌≤◌, ◌<◌, ◌*◌, ℕ, zero, suc, ◌+◌, List, [], ◌∷◌, ◌++◌, length, take, arith, eqb, false, ne_eqb}
 use Rattle.smf_script.specs.Reading.{count_if_begun, count_of, count_of_length, counts_of}
 use Rattle.smf_script.proofs.Ended.{first_length}
 

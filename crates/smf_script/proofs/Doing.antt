@@ -1,9 +1,8 @@
 -- How a script goes on, line by line.
-use Rattle.std.proofs.Common.{◌≡◌, ◌≤◌, ◌<◌, ℕ, zero, suc, ◌+◌, ◌&&◌, not, ◌||◌, List, [], ◌∷◌, ◌++◌, length, length-take-le, take, take_all, Bool, true, false, Option, Some, None, IfSome, refl, sym, ap, subst, ◌∙◌, arith, append_assoc, append-nil, nat_lt, lt-ltb, ltb-true, ltb-false}
+use Rattle.std.proofs.Common.{◌≡◌, ◌≤◌, ◌<◌, ℕ, suc, ◌+◌, ◌&&◌, List, [], ◌∷◌, ◌++◌, length, length-take-le, take, take_all, Bool, true, false, Option, Some, None, IfSome, refl, sym, ap, subst, ◌∙◌, arith, append_assoc, append-nil, lt-ltb, ltb-true, ltb-false}
 use Rattle.std.proofs.KnownBytes.{Appends-nil, Appends-trans}
 use Rattle.std.specs.Io.KnownBytes.{Appends}
-use Rattle.std.specs.Str.{is_utf8}
-use Rattle.smf_script.specs.Reading.{IsLine, count_of, counts_of, kept, lines_of}
+use Rattle.smf_script.specs.Reading.{IsLine, counts_of, kept, lines_of}
 use Rattle.smf_script.specs.Request.{is_too_long, request_of}
 use Rattle.smf_script.specs.Script.{Ends, IsCut, IsPast, IsWritten, Leaves, Stops, Wrote, begun, joined, line_on, max_lines, script, script_on, silent, status_of}
 use Rattle.smf_script.specs.Session.{Effect, Session, effect, effect_of}
@@ -11,9 +10,8 @@ use Rattle.smf_script.specs.declared.fault.ScriptFault.{ScriptFault}
 use Rattle.smf_script.specs.declared.fault.ScriptFault.TheVariants.{Node, Input, Output, TooManyLines}
 use Rattle.smf_svccfg.specs.declared.selection.Selection.{Selection}
 use Rattle.smf_svccfg.specs.declared.selection.Selection.TheVariants.{Nothing}
-use Rattle.smf_world.specs.Reached.{IsLater}
 use Rattle.smf_world.specs.Schedule.{Progress}
-use Rattle.smf_world.proofs.Reaching.{later_same, later_self}
+use Rattle.smf_world.proofs.Reaching.{later_same}
 use Rattle.smf_script.proofs.Counting.{counts_both}
 
 -- ---- what is kept of a line asks for what the line asks for

@@ -1,5 +1,5 @@
 -- Blanks in front of a text.
-use Rattle.std.proofs.Common.{◌≡◌, ◌<◌, ◌≤◌, ℕ, List, [], ◌∷◌, length, codes, Bool, true, false, Option, Some, None, option_map, refl, sym, ap, ◌∙◌, arith, nat_eq, eqb, eqb-true, eq-eqb, ne_eqb, cond}
+use Rattle.std.proofs.Common.{◌≡◌, ◌<◌, ℕ, List, [], ◌∷◌, length, Bool, true, false, Option, Some, None, refl, sym, ap, ◌∙◌, arith, nat_eq, eqb, eqb-true, eq-eqb, ne_eqb, cond}
 use Rattle.std.proofs.lemmas.Bool.{eqb-false}
 use Rattle.smf_fmri.specs.Name.{strip}
 use Rattle.smf_svccfg.specs.Words.{is_blank}

@@ -1,5 +1,5 @@
 -- What is asked for is done one by one.
-use Rattle.std.proofs.Common.{◌≡◌, ℕ, List, [], ◌∷◌, ◌++◌, ◌&&◌, Bool, true, false, refl, sym, ap, ◌∙◌, append_assoc, append-nil}
+use Rattle.std.proofs.Common.{◌≡◌, ℕ, List, [], ◌∷◌, ◌++◌, ◌&&◌, Bool, true, refl, sym, ap, ◌∙◌, append_assoc, append-nil}
 use Rattle.smf_admin.specs.declared.asking.Asked.{Asked}
 use Rattle.smf_script.specs.Session.{Deed, IsDeed, asked, asked_all, behind, done}
 use Rattle.smf_world.specs.Schedule.{Progress}

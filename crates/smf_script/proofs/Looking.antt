@@ -1,5 +1,5 @@
 -- What a look at known bytes takes.
-use Rattle.std.proofs.Common.{◌≡◌, ◌≢◌, ◌≤◌, ◌<◌, ℕ, zero, suc, ◌+◌, ◌-◌, ◌&&◌, not, min, List, [], ◌∷◌, ◌++◌, length, length-take-le, take, take_all, get_or, Bool, true, false, Option, Some, None, IfSome, cond, refl, sym, ap, subst, ◌∙◌, arith, eqb, eqb-true, eq-eqb, ne_eqb, nat_le, nat_lt, append-nil}
+use Rattle.std.proofs.Common.{◌≡◌, ◌≢◌, ◌≤◌, ◌<◌, ℕ, zero, suc, ◌+◌, ◌&&◌, min, List, [], ◌∷◌, ◌++◌, length, length-take-le, take, take_all, get_or, Bool, true, false, Option, Some, None, IfSome, refl, sym, ap, subst, ◌∙◌, arith, eqb, eqb-true, nat_le, nat_lt, append-nil}
 use Rattle.std.proofs.lemmas.Bool.{eqb-false}
 use Rattle.std.proofs.lemmas.Bool.Decides.{nat_tests}
 use Rattle.std.proofs.lemmas.List.{take_more}
@@ -9,7 +9,7 @@ use Rattle.std.specs.Io.KnownBytes.{Consumes, IsAtEnd, Keeps}
 use Rattle.std.specs.List.{position_or_len}
 use Rattle.smf_script.specs.Reading.{GoesOn, IsPlain, Took, held_by, is_end, kept, part_at, part_of, taken_by}
 use Rattle.smf_script.specs.declared.reading.Part.{Part}
-use Rattle.smf_script.specs.declared.reading.Part.TheVariants.{Interrupted, End, Line, Bytes}
+use Rattle.smf_script.specs.declared.reading.Part.TheVariants.{End, Line, Bytes}
 
 pub kept_all : (line : List ℕ) → length line ≤ 65537 → line ≡ kept (line ++ [])
 kept_all line short = sym (ap kept (append-nil line) ∙ take_all 65537 line short)

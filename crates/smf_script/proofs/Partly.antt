@@ -1,7 +1,7 @@
 -- A line of which some bytes were read.
-use Rattle.std.proofs.Common.{◌≡◌, ◌≢◌, ◌≤◌, ◌<◌, ℕ, zero, suc, ◌+◌, ◌*◌, List, [], ◌∷◌, ◌++◌, length, length-append, take, Option, Some, None, refl, sym, ap, subst, ◌∙◌, arith, append_assoc, append-nil}
+use Rattle.std.proofs.Common.{◌≡◌, ◌≤◌, ◌<◌, ℕ, ◌+◌, ◌*◌, List, [], ◌∷◌, ◌++◌, length, length-append, take, Option, Some, None, refl, sym, ap, subst, ◌∙◌, arith, append_assoc, append-nil}
 use Rattle.std.specs.Io.KnownBytes.{Consumes, IsAtEnd, Keeps}
-use Rattle.smf_script.specs.Reading.{GoesOn, IsLine, IsPlain, IsTaken, Took, count_of, count_of_length, count_if_begun, counts_of, kept, lines_of}
+use Rattle.smf_script.specs.Reading.{GoesOn, IsLine, IsPlain, IsTaken, count_of, count_of_length, count_if_begun, counts_of, kept, lines_of}
 use Rattle.smf_script.specs.Script.{IsOther, IsPast}
 use Rattle.smf_script.specs.declared.fault.ScriptFault.{ScriptFault}
 use Rattle.smf_script.specs.declared.fault.ScriptFault.TheVariants.{Node, Input, Output, TooManyLines}

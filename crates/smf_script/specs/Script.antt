@@ -1,5 +1,5 @@
 -- What a script of lines gives.
-use Rattle.std.specs.Prelude.{◌≡◌, ◌≤◌, ◌<◌, ℕ, ◌+◌, List, [], ◌∷◌, ◌++◌, ◌&&◌, take, ⊤, Bool, true, false, Option, Some, None}
+use Rattle.std.specs.Prelude.{◌≡◌, ◌<◌, ℕ, ◌+◌, List, [], ◌∷◌, ◌++◌, ◌&&◌, take, Bool, true, false, Option}
 use Rattle.std.specs.Io.KnownBytes.{Appends}
 use Rattle.smf_script.specs.Reading.{counts_of}
 use Rattle.smf_script.specs.Session.{Effect, Session, effect}

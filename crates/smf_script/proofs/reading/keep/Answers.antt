@@ -1,4 +1,4 @@
-use Rattle.std.proofs.Common.{◌≡◌, ◌∙◌, ◌-◌, length, arith}
+use Rattle.std.proofs.Common.{◌∙◌, ◌-◌, length, arith}
 use Rattle.smf_script.proofs.Ended.{kept_front}
 use Rattle.smf_script.proofs.reading.keep.Goals as goal
 
