@@ -1,3 +1,7 @@
+ghost use Rattle.std.specs.Prelude.{◌≡◌, ◌++◌, IfOk, OnOk, string_bytes};
+ghost use Rattle.std.specs.List.{flat_map};
+ghost use Rattle.smf_script.specs.Text.{item_text, method_text, next_text, trail_text};
+
 use smf_fmri::Text;
 use smf_restarter::Method;
 use smf_state::State;
@@ -5,14 +9,18 @@ use smf_world::Item;
 use std::alloc::{AllocError, Global};
 use std::fmt::Write;
 
-fn next_name(next: Option<State>) -> &'static str {
+fn next_text(next: Option<State>) -> &'static str
+    ensures { result.now ≡ next_text next }
+{
     match next {
         None => "none",
         Some(state) => state.text(),
     }
 }
 
-fn method_name(method: Method) -> &'static str {
+fn method_text(method: Method) -> &'static str
+    ensures { result.now ≡ method_text method }
+{
     match method {
         Method::Start => "start",
         Method::Stop => "stop",
@@ -21,7 +29,9 @@ fn method_name(method: Method) -> &'static str {
 }
 
 /// Puts an item of the trail, and the end of its line.
-fn put_item(out: &mut String, item: &Item) -> Result<(), AllocError> {
+fn put_item(out: &mut String, item: &Item) -> Result<(), AllocError>
+    ensures { OnOk result (string_bytes out.new ≡ string_bytes out.old ++ item_text item.now) }
+{
     match item {
         Item::Boot => out.push_str("boot\n"),
         Item::Emptied(contract) => writeln!(out, "emptied {contract}"),
@@ -32,7 +42,7 @@ fn put_item(out: &mut String, item: &Item) -> Result<(), AllocError> {
             next,
         } => {
             let state = state.text();
-            let next = next_name(*next);
+            let next = next_text(*next);
             writeln!(out, "committed {instance} {number} {state} {next}")
         }
         Item::Held {
@@ -55,19 +65,30 @@ fn put_item(out: &mut String, item: &Item) -> Result<(), AllocError> {
             revision,
             command,
         } => {
-            let method = method_name(*method);
+            let method = method_text(*method);
             let command = command.as_str();
             write!(out, "spawned {contract} {instance} {run}")?;
-            writeln!(out, " {method} {revision} {command}")
+            write!(out, " {method} {revision} ")?;
+            writeln!(out, "{command}")
         }
     }
 }
 
-/// The trail, a line for each item.
-pub fn trail_text(alloc: Global, trail: &[Item]) -> Result<Text, AllocError> {
-    let mut out = String::new(alloc);
-    for item in trail {
-        put_item(&mut out, item)?;
+fn put_items(out: &mut String, items: &[Item]) -> Result<(), AllocError>
+    ensures { OnOk result (string_bytes out.new ≡ string_bytes out.old ++ flat_map item_text items.now) }
+{
+    for item in items {
+        put_item(out, item)?;
     }
+    Ok(())
+}
+
+/// The trail, a line for each item.
+#[tactic(auto, unfolding(crate::specs::Text::trail_text))]
+pub fn trail_text(alloc: Global, trail: &[Item]) -> Result<Text, AllocError>
+    ensures { IfOk result (λ text. text ≡ trail_text trail.now) }
+{
+    let mut out = String::new(alloc);
+    put_items(&mut out, trail)?;
     Ok(Text::from_string(out))
 }

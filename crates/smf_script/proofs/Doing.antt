@@ -1,0 +1,180 @@
+-- How a script goes on, line by line.
+use Rattle.std.proofs.Common.{◌≡◌, ◌≤◌, ◌<◌, ℕ, suc, ◌+◌, ◌&&◌, List, [], ◌∷◌, ◌++◌, length, length-take-le, take, take_all, Bool, true, false, Option, Some, None, IfSome, refl, sym, ap, subst, ◌∙◌, arith, append_assoc, append-nil, lt-ltb, ltb-true, ltb-false}
+use Rattle.std.proofs.KnownBytes.{Appends-nil, Appends-trans}
+use Rattle.std.specs.Io.KnownBytes.{Appends}
+use Rattle.smf_script.specs.Reading.{IsLine, counts_of, kept, lines_of}
+use Rattle.smf_script.specs.Request.{is_too_long, request_of}
+use Rattle.smf_script.specs.Script.{Ends, IsCut, IsPast, IsWritten, Leaves, Stops, Wrote, begun, joined, line_on, max_lines, script, script_on, silent, status_of}
+use Rattle.smf_script.specs.Session.{Effect, Session, effect, effect_of}
+use Rattle.smf_script.specs.declared.fault.ScriptFault.{ScriptFault}
+use Rattle.smf_script.specs.declared.fault.ScriptFault.TheVariants.{Node, Input, Output, TooManyLines}
+use Rattle.smf_svccfg.specs.declared.selection.Selection.{Selection}
+use Rattle.smf_svccfg.specs.declared.selection.Selection.TheVariants.{Nothing}
+use Rattle.smf_world.specs.Schedule.{Progress}
+use Rattle.smf_world.proofs.Reaching.{later_same}
+use Rattle.smf_script.proofs.Counting.{counts_both}
+
+-- ---- what is kept of a line asks for what the line asks for
+
+long_take : (n : ℕ) (line : List ℕ) → n < length line → length (take (suc n) line) ≡ suc n
+long_take n line h = length-take-le (suc n) line (omega arith)
+
+request_by : (v : Bool) (line : List ℕ) → is_too_long line ≡ v → request_of (kept line) ≡ request_of line
+unfolding request_of
+request_by true line e =
+    let long : 65536 < length line = ltb-true _ _ e in
+    let size : length (kept line) ≡ 65537 = long_take 65536 line long in
+    let e' : is_too_long (kept line) ≡ true = lt-ltb 65536 (length (kept line)) (omega arith) in
+    rw (e, e') refl
+request_by false line e =
+    let short : length line ≤ 65536 = ltb-false _ _ e in
+    ap request_of (take_all 65537 line (omega arith))
+
+pub effect_kept : (s : Session) (line : List ℕ) → effect s (kept line) ≡ effect s line
+unfolding effect
+effect_kept s line = ap (effect_of s) (request_by (is_too_long line) line refl)
+
+-- ---- one line more
+
+pub script_on_more : (e : Effect) (ls : List (List ℕ)) (l : List ℕ) → script_on e (ls ++ l ∷ []) ≡ line_on (script_on e ls) l
+unfolding script_on
+script_on_more e [] l = refl
+script_on_more e (m ∷ ms) l = script_on_more (line_on e m) ms l
+
+pub script_more : (s : Session) (ls : List (List ℕ)) (l : List ℕ) → script s (ls ++ l ∷ []) ≡ line_on (script s ls) l
+unfolding script
+script_more s ls l = script_on_more (silent s) ls l
+
+-- what holds of known bytes, at those bytes
+pub at_known : (known : Option (List ℕ)) (xs : List ℕ) (P : List ℕ → Type 0) → known ≡ Some xs → IfSome known P → P xs
+at_known None xs P e h = cc
+at_known (Some ys) xs P e h = let same : ys ≡ xs = cc in subst P same h
+
+pub of_known : (known : Option (List ℕ)) (P : List ℕ → Type 0) → ((xs : List ℕ) → known ≡ Some xs → P xs) → IfSome known P
+of_known None P f = tt
+of_known (Some xs) P f = f xs refl
+
+-- so far: some of the lines were done
+pub record Goes (start : Session) (input : List ℕ) (old : Option (List ℕ)) (now : Progress) (selection : Selection) (left new : Option (List ℕ)) (fine : Bool) (turns : ℕ) : Type 0 where
+  pub before : List (List ℕ)
+  pub rest : List ℕ
+  pub whole : lines_of input ≡ before ++ lines_of rest
+  pub is_left : left ≡ Some rest
+  pub session : (script start before).session ≡ record { progress = now; selection = selection }
+  pub text : Appends old new (script start before).text
+  pub flag : fine ≡ (script start before).fine
+  pub counted : max_lines ≡ turns + counts_of before
+
+pub goes_first : (now : Progress) (input : List ℕ) (old left : Option (List ℕ)) (turns : ℕ) → left ≡ Some input → turns ≡ max_lines → Goes (begun now) input old now Nothing left old true turns
+unfolding script script_on
+goes_first now input old left turns e counted =
+    record {
+      before = [];
+      rest = input;
+      whole = refl;
+      is_left = e;
+      session = refl;
+      text = Appends-nil old;
+      flag = refl;
+      counted = omega arith;
+    }
+
+pub goes_on : (start : Session) (input : List ℕ) (old : Option (List ℕ)) (now now' : Progress) (selection selection' : Selection) (left left' new new' : Option (List ℕ)) (fine did : Bool) (turns turns' : ℕ) (line : List ℕ)
+    → (g : Goes start input old now selection left new fine turns) → IsLine (Some line) g.rest left' turns turns'
+    → IsWritten (effect (record { progress = now; selection = selection }) line) now' selection' new new' did
+    → Goes start input old now' selection' left' new' (fine && did) turns'
+goes_on start input old now now' selection selection' left left' new new' fine did turns turns' line g (first, rest, is, keeps, is_left, counted) w =
+    let here : Session = record { progress = now; selection = selection } in
+    let same : effect here line ≡ effect here first = ap (effect here) keeps ∙ effect_kept here first in
+    let more : script start (g.before ++ first ∷ []) ≡ joined (script start g.before) (effect here line) =
+    script_more start g.before first ∙ ap (λ s. joined (script start g.before) (effect s first)) g.session ∙ ap (λ e. joined (script start g.before) e) (sym same) in
+    record {
+      before = g.before ++ first ∷ [];
+      rest = rest;
+      whole = g.whole ∙ ap (λ ls. g.before ++ ls) is ∙ sym (append_assoc g.before (first ∷ []) (lines_of rest));
+      is_left = is_left;
+      session = ap (λ e. e.session) more ∙ rw (w.node, w.chosen) refl;
+      text = rw more (Appends-trans old new new' _ _ g.text w.text);
+      flag = rw (more, g.flag, w.flag) refl;
+      counted = omega (arith, counts_both g.before (first ∷ []), g.counted, counted);
+    }
+
+pub goes_to_end : (start : Session) (input : List ℕ) (old : Option (List ℕ)) (now : Progress) (selection : Selection) (left new : Option (List ℕ)) (fine : Bool) (turns : ℕ) (status : ℕ)
+    → (g : Goes start input old now selection left new fine turns) → g.rest ≡ [] → status ≡ status_of fine
+    → Ends (script start (lines_of input)) now old new status
+unfolding lines_of
+goes_to_end start input old now selection left new fine turns status g none is =
+    let all : lines_of input ≡ g.before = g.whole ∙ ap (λ xs. g.before ++ lines_of xs) none ∙ append-nil g.before in
+    record {
+      node = rw (all, g.session) refl;
+      text = rw all g.text;
+      exit = is ∙ ap status_of (g.flag ∙ ap (λ ls. (script start ls).fine) (sym all));
+    }
+
+pub few_lines : (start : Session) (input : List ℕ) (old : Option (List ℕ)) (now : Progress) (selection : Selection) (left new : Option (List ℕ)) (fine : Bool) (turns : ℕ)
+    → (g : Goes start input old now selection left new fine turns) → g.rest ≡ [] → counts_of (lines_of input) ≤ 1000000
+unfolding lines_of
+few_lines start input old now selection left new fine turns g none =
+    let all : lines_of input ≡ g.before = g.whole ∙ ap (λ xs. g.before ++ lines_of xs) none ∙ append-nil g.before in
+    rw all (omega (arith, g.counted))
+
+-- ---- faults
+
+left_by : (fault : ScriptFault) (e : Effect) (after : Progress) → after ≡ e.session.progress → Leaves fault e after
+left_by (Node f) e after is = later_same _ _ (ap (λ p. p.world) is)
+left_by (Input f) e after is = is
+left_by (Output f) e after is = is
+left_by (TooManyLines n) e after is = is
+
+wrote_by : (fault : ScriptFault) (e : Effect) (old new : Option (List ℕ)) → Appends old new e.text → Wrote fault e old new
+wrote_by (Node f) e old new w = w
+wrote_by (Input f) e old new w = w
+wrote_by (Output f) e old new w = tt
+wrote_by (TooManyLines n) e old new w = w
+
+past_by : (fault : ScriptFault) (most turns before first all : ℕ) → most ≡ turns + before → all ≡ before + first → IsPast fault turns first → IsPast fault most all
+past_by (Node f) most turns before first all e a p = tt
+past_by (Input f) most turns before first all e a p = tt
+past_by (Output f) most turns before first all e a p = tt
+past_by (TooManyLines n) most turns before first all e a p = omega arith
+
+-- no line could be read
+pub stops_reading : (fault : ScriptFault) (start : Session) (input : List ℕ) (old : Option (List ℕ)) (now : Progress) (selection : Selection) (left new : Option (List ℕ)) (fine : Bool) (turns : ℕ)
+    → (g : Goes start input old now selection left new fine turns) → IsPast fault turns (counts_of (take 1 (lines_of g.rest))) → Stops fault start (lines_of input) now old new
+stops_reading fault start input old now selection left new fine turns g past =
+    record {
+      before = g.before;
+      behind = lines_of g.rest;
+      whole = g.whole;
+      node = left_by fault _ now (ap (λ s. s.progress) (sym g.session));
+      text = wrote_by fault _ old new g.text;
+      past = past_by fault max_lines turns (counts_of g.before) (counts_of (take 1 (lines_of g.rest))) (counts_of (g.before ++ take 1 (lines_of g.rest))) g.counted (counts_both g.before (take 1 (lines_of g.rest))) past;
+    }
+
+-- a line could not be done, or not written
+pub stops_doing : (fault : ScriptFault) (start : Session) (input : List ℕ) (old : Option (List ℕ)) (now now' : Progress) (selection : Selection) (left left' new new' : Option (List ℕ)) (fine : Bool) (turns turns' : ℕ) (line : List ℕ)
+    → (g : Goes start input old now selection left new fine turns) → IsLine (Some line) g.rest left' turns turns'
+    → IsCut fault (record { progress = now; selection = selection }) line now' new new'
+    → Stops fault start (lines_of input) now' old new'
+stops_doing (Node f) start input old now now' selection left left' new new' fine turns turns' line g l cut =
+    record {
+      before = g.before;
+      behind = lines_of g.rest;
+      whole = g.whole;
+      node = rw g.session cut.0;
+      text = rw cut.1 g.text;
+      past = tt;
+    }
+stops_doing (Output f) start input old now now' selection left left' new new' fine turns turns' line g (first, rest, is, keeps, is_left, counted) cut =
+    let here : Session = record { progress = now; selection = selection } in
+    let same : effect here line ≡ effect here first = ap (effect here) keeps ∙ effect_kept here first in
+    record {
+      before = g.before ++ first ∷ [];
+      behind = lines_of rest;
+      whole = g.whole ∙ ap (λ ls. g.before ++ ls) is ∙ sym (append_assoc g.before (first ∷ []) (lines_of rest));
+      node = rw (script_more start g.before first, g.session, ← same) cut;
+      text = tt;
+      past = tt;
+    }
+stops_doing (Input f) start input old now now' selection left left' new new' fine turns turns' line g l cut = absurd cut
+stops_doing (TooManyLines n) start input old now now' selection left left' new new' fine turns turns' line g l cut = absurd cut

@@ -1,0 +1,24 @@
+-- What is asked for is done one by one.
+use Rattle.std.proofs.Common.{◌≡◌, ℕ, List, [], ◌∷◌, ◌++◌, ◌&&◌, Bool, true, refl, sym, ap, ◌∙◌, append_assoc, append-nil}
+use Rattle.smf_admin.specs.declared.asking.Asked.{Asked}
+use Rattle.smf_script.specs.Session.{Deed, IsDeed, asked, asked_all, behind, done}
+use Rattle.smf_world.specs.Schedule.{Progress}
+
+asked_more : (d : Deed) (xs : List Asked) (x : Asked) → asked_all d (xs ++ x ∷ []) ≡ behind (asked_all d xs) (asked (asked_all d xs).progress x)
+unfolding asked_all
+asked_more d [] x = refl
+asked_more d (y ∷ ys) x = asked_more (behind d (asked d.progress y)) ys x
+
+pub deed_first : (p : Progress) (old : List ℕ) → IsDeed (asked_all (done p []) []) p old old true
+unfolding asked_all
+deed_first p old = record { node = refl; texts = sym (append-nil old); flag = refl }
+
+pub deed_more : (d : Deed) (xs : List Asked) (x : Asked) (p p' : Progress) (old mid new : List ℕ) (fine did : Bool) → IsDeed (asked_all d xs) p old mid fine → IsDeed (asked p x) p' mid new did
+    → IsDeed (asked_all d (xs ++ x ∷ [])) p' old new (fine && did)
+deed_more d xs x p p' old mid new fine did so_far more =
+    let same : asked_all d (xs ++ x ∷ []) ≡ behind (asked_all d xs) (asked p x) = asked_more d xs x ∙ ap (λ q. behind (asked_all d xs) (asked q x)) (sym so_far.node) in
+    record {
+      node = more.node ∙ sym (ap (λ e. e.progress) same);
+      texts = more.texts ∙ ap (λ l. l ++ (asked p x).text) so_far.texts ∙ append_assoc old (asked_all d xs).text (asked p x).text ∙ sym (ap (λ e. old ++ e.text) same);
+      flag = rw (same, so_far.flag, more.flag) refl;
+    }

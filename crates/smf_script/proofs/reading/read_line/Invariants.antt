@@ -1,0 +1,16 @@
+use Rattle.std.proofs.Common.{◌≡◌, ◌≤◌, ◌+◌, ◌-◌, ◌*◌, length, IfSome}
+use Rattle.smf_script.proofs.Partly.{IsPart}
+use Rattle.smf_script.proofs.reading.read_line.Given as goal
+
+abbrev pub invariant-loop-line : goal.invariant-loop-line
+invariant-loop-line g l =
+    record {
+      room : l.len ≤ 65536 * l.turns.left;
+      short : length l.line.items ≤ 65537;
+      turns : l.turns.left + l.turns.interrupted ≡ l.fn.turns.left + l.fn.turns.interrupted;
+      left : l.turns.left ≤ l.fn.turns.left;
+      known : IfSome (g.R.Read.remaining l.fn.reader) (λ xs. IsPart xs (g.R.Read.remaining l.reader) l.line.items l.len);
+    }
+
+abbrev pub decreases-loop-line : goal.decreases-loop-line
+decreases-loop-line g l = 65536 * l.turns.left - l.len

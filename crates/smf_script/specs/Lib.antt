@@ -1,0 +1,5 @@
+pub mod Request
+pub mod Text
+pub mod Session
+pub mod Reading
+pub mod Script

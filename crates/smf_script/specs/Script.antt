@@ -1,0 +1,105 @@
+-- What a script of lines gives.
+use Rattle.std.specs.Prelude.{◌≡◌, ◌<◌, ℕ, ◌+◌, List, [], ◌∷◌, ◌++◌, ◌&&◌, take, Bool, true, false, Option}
+use Rattle.std.specs.Io.KnownBytes.{Appends}
+use Rattle.smf_script.specs.Reading.{counts_of}
+use Rattle.smf_script.specs.Session.{Effect, Session, effect}
+use Rattle.smf_script.specs.declared.fault.ScriptFault.{ScriptFault}
+use Rattle.smf_script.specs.declared.fault.ScriptFault.TheVariants.{Node, Input, Output, TooManyLines}
+use Rattle.smf_svccfg.specs.declared.selection.Selection.TheVariants.{Nothing}
+use Rattle.smf_svccfg.specs.declared.selection.Selection.{Selection}
+use Rattle.smf_world.specs.Reached.{IsLater}
+use Rattle.smf_world.specs.Schedule.{Progress}
+
+-- where a script begins, nothing is selected
+abbrev pub begun : Progress → Session
+begun p = record { progress = p; selection = Nothing }
+
+-- one effect, and another on what it left
+abbrev pub joined : Effect → Effect → Effect
+joined e f = record { session = f.session; text = e.text ++ f.text; fine = e.fine && f.fine }
+
+-- a session in which nothing was said yet
+abbrev pub silent : Session → Effect
+silent s = record { session = s; text = []; fine = true }
+
+-- what a line does, behind what those before it did
+abbrev pub line_on : Effect → List ℕ → Effect
+line_on e l = joined e (effect e.session l)
+
+-- what comes of more lines behind others, each on what those before it left
+unfoldable pub script_on : Effect → List (List ℕ) → Effect
+script_on e [] = e
+script_on e (l ∷ ls) = script_on (line_on e l) ls
+
+unfoldable pub script : Session → List (List ℕ) → Effect
+script s lines = script_on (silent s) lines
+
+-- the status of a script: 1 where a line failed
+abbrev pub status_of : Bool → ℕ
+status_of true = 0
+status_of false = 1
+
+-- the most lines of a script
+abbrev pub max_lines : ℕ
+max_lines = 1000000
+
+-- a script came to its end: the node and the status are what its lines give, and their text and nothing else was written
+pub record Ends (e : Effect) (after : Progress) (old new : Option (List ℕ)) (status : ℕ) : Type 0 where
+  pub node : after ≡ e.session.progress
+  pub text : Appends old new e.text
+  pub exit : status ≡ status_of e.fine
+
+-- ---- what a fault leaves
+
+-- the line at which the node failed may have been done in part; else the node is as the lines before left it
+abbrev pub Leaves : ScriptFault → Effect → Progress → Type 0
+Leaves (Node fault) e after = IsLater e.session.progress.world after.world
+Leaves (Input fault) e after = after ≡ e.session.progress
+Leaves (Output fault) e after = after ≡ e.session.progress
+Leaves (TooManyLines interrupted) e after = after ≡ e.session.progress
+
+-- nothing is said of what a writer that failed has taken
+abbrev pub Wrote : ScriptFault → Effect → Option (List ℕ) → Option (List ℕ) → Type 0
+Wrote (Node fault) e old new = Appends old new e.text
+Wrote (Input fault) e old new = Appends old new e.text
+Wrote (Output fault) e old new = Unit {0}
+Wrote (TooManyLines interrupted) e old new = Appends old new e.text
+
+-- too many is more than there may be: lines and interrupted reads together
+abbrev pub IsPast : ScriptFault → ℕ → ℕ → Type 0
+IsPast (TooManyLines interrupted) most counted = most < counted + interrupted
+IsPast (Node fault) most counted = Unit {0}
+IsPast (Input fault) most counted = Unit {0}
+IsPast (Output fault) most counted = Unit {0}
+
+-- a fault of another kind
+abbrev pub IsOther : ScriptFault → Type 0
+IsOther (TooManyLines interrupted) = ⊥
+IsOther (Node fault) = Unit {0}
+IsOther (Input fault) = Unit {0}
+IsOther (Output fault) = Unit {0}
+
+-- a script was ended by a fault: some of its lines were done, and their text was written
+pub record Stops (fault : ScriptFault) (start : Session) (lines : List (List ℕ)) (after : Progress) (old new : Option (List ℕ)) : Type 0 where
+  pub before : List (List ℕ)
+  pub behind : List (List ℕ)
+  pub whole : lines ≡ before ++ behind
+  pub node : Leaves fault (script start before) after
+  pub text : Wrote fault (script start before) old new
+  pub past : IsPast fault max_lines (counts_of (before ++ take 1 behind))
+
+-- ---- one line
+
+-- a line was done, and its text was written
+pub record IsWritten (e : Effect) (after : Progress) (selection : Selection) (old new : Option (List ℕ)) (no_fault : Bool) : Type 0 where
+  pub node : after ≡ e.session.progress
+  pub chosen : selection ≡ e.session.selection
+  pub text : Appends old new e.text
+  pub flag : no_fault ≡ e.fine
+
+-- a line was ended by a fault: of the node, where it may have been done in part, or of the writer
+abbrev pub IsCut : ScriptFault → Session → List ℕ → Progress → Option (List ℕ) → Option (List ℕ) → Type 0
+IsCut (Node fault) s line after old new = IsLater s.progress.world after.world × (new ≡ old)
+IsCut (Output fault) s line after old new = after ≡ (effect s line).session.progress
+IsCut (Input fault) s line after old new = ⊥
+IsCut (TooManyLines interrupted) s line after old new = ⊥

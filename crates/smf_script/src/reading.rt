@@ -1,0 +1,159 @@
+ghost use Rattle.std.specs.Prelude.{◌≡◌, ◌≤◌, ◌<◌, ◌+◌, ◌^◌, ◌++◌, length, take, option_map, IfErr, IfOk, IfSome, IsSome, OnOk};
+ghost use Rattle.std.specs.List.{position_or_len};
+ghost use Rattle.smf_script.specs.Reading.{IsLine, IsTaken, counts_of, held_by, is_end, kept, lines_of, part_of, taken_by};
+ghost use Rattle.smf_script.specs.Script.{IsOther, IsPast};
+
+use crate::fault::ScriptFault;
+use crate::request::MAX_LINE;
+use crate::turns::Turns;
+use std::alloc::{AllocError, Global};
+use std::io::{BufRead, ErrorKind};
+
+/// What a look at a reader took.
+#[derive(Clone, Copy, Debug)]
+enum Part {
+    /// Nothing, since the read was interrupted.
+    Interrupted,
+    /// Nothing, since nothing is left.
+    End,
+    /// So many bytes and the end of their line.
+    Line(usize),
+    /// So many bytes of a line that goes on. It is none only where the line has no room for more.
+    Bytes(usize),
+}
+
+fn is_end(b: u8) -> bool
+    ensures { result ≡ is_end b }
+{
+    b == b'\n'
+}
+
+/// The place of the first end of a line, or the length.
+fn end_at(bytes: &[u8]) -> usize
+    ensures { result ≡ position_or_len is_end bytes.now }
+{
+    let mut at = 0;
+    for b in bytes {
+        if is_end(*b) {
+            return at;
+        }
+        at += 1;
+    }
+    at
+}
+
+fn part_of(shown: &[u8], room: usize) -> Part
+    ensures exact { result ≡ part_of room shown.now }
+    ensures small { taken_by result < 2 ^ 64 }
+{
+    let at = end_at(shown);
+    if shown.is_empty() {
+        return Part::End;
+    }
+    if at < shown.len() && at <= room {
+        Part::Line(at)
+    } else {
+        Part::Bytes(at.min(room))
+    }
+}
+
+impl Part {
+    /// How many bytes of its line.
+    fn held(self) -> usize
+        ensures { result ≡ held_by self }
+    {
+        match self {
+            Part::Interrupted | Part::End => 0,
+            Part::Line(n) | Part::Bytes(n) => n,
+        }
+    }
+
+    /// How many bytes, with the end of the line.
+    fn taken(self) -> usize
+        requires { taken_by self < 2 ^ 64 }
+        ensures { result ≡ taken_by self }
+    {
+        match self {
+            Part::Interrupted | Part::End => 0,
+            Part::Line(n) => n + 1,
+            Part::Bytes(n) => n,
+        }
+    }
+}
+
+/// The most bytes that are kept of a line: one that is too long shows itself.
+const KEPT: usize = MAX_LINE + 1;
+
+/// Keeps bytes behind those that were kept of their line before.
+fn keep(line: &mut Vec<u8>, bytes: &[u8]) -> Result<(), AllocError>
+    requires { length line.old.items ≤ 65537 }
+    ensures ok { OnOk result (line.new.items ≡ kept (line.old.items ++ bytes.now)) }
+    ensures short { length line.new.items ≤ 65537 }
+{
+    let len = bytes.len().min(KEPT - line.len());
+    line.extend_from_slice(&bytes[..len])?;
+    Ok(())
+}
+
+/// Takes bytes of a line that has room for so many, and keeps them behind those that were kept of it before.
+fn take_part<R: BufRead>(
+    reader: &mut R,
+    room: usize,
+    line: &mut Vec<u8>,
+) -> Result<Part, ScriptFault>
+    requires { length line.old.items ≤ 65537 }
+    ensures short { length line.new.items ≤ 65537 }
+    ensures within { IfOk result (λ part. held_by part ≤ room) }
+    ensures exact { IfOk result (λ part. IsTaken part room (R.remaining reader.old) (R.remaining reader.new) line.old.items line.new.items) }
+    ensures err { IfErr result (λ e. IsOther e) }
+{
+    let shown = match reader.fill_buf() {
+        Ok(shown) => shown,
+        Err(e) => {
+            return if e.kind() == ErrorKind::Interrupted {
+                Ok(Part::Interrupted)
+            } else {
+                Err(ScriptFault::Input(e))
+            };
+        }
+    };
+    let part = part_of(shown, room);
+    keep(line, &shown[..part.held()])?;
+    reader.consume(part.taken());
+    Ok(part)
+}
+
+/// Reads a line; none is the end. Each 65,536 bytes that it begins, and each interrupted read, take one of the lines that may
+/// still be read.
+pub(crate) fn read_line<R: BufRead>(
+    alloc: Global,
+    reader: &mut R,
+    turns: &mut Turns,
+) -> Result<Option<Vec<u8>>, ScriptFault>
+    ensures fewer { IfOk result (λ line. IsSome line → turns.new.left < turns.old.left) }
+    ensures exact { IfOk result (λ line. IfSome (R.remaining reader.old) (λ left.
+        IsLine (option_map (λ v. v.items) line) left (R.remaining reader.new) (turns.old.left + turns.old.interrupted) (turns.new.left + turns.new.interrupted))) }
+    ensures err { IfErr result (λ e. IfSome (R.remaining reader.old) (λ left.
+        IsPast e (turns.old.left + turns.old.interrupted) (counts_of (take 1 (lines_of left))))) }
+{
+    let mut line = Vec::new(alloc);
+    let mut len = 0;
+    loop {
+        match take_part(reader, turns.room() - len, &mut line)? {
+            Part::Interrupted => turns.interrupt(len)?,
+            Part::End => {
+                if len == 0 {
+                    return Ok(None);
+                }
+                turns.count(len)?;
+                return Ok(Some(line));
+            }
+            Part::Line(n) => {
+                turns.count(len + n)?;
+                return Ok(Some(line));
+            }
+            Part::Bytes(0) => return Err(ScriptFault::TooManyLines(turns.interrupted)),
+            Part::Bytes(n) => len += n,
+        }
+    }
+}

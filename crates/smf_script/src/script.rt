@@ -1,0 +1,71 @@
+ghost use Rattle.std.specs.Prelude.{◌≡◌, ◌≤◌, [], IfErr, IfOk, IfSome};
+ghost use Rattle.smf_script.specs.Reading.{counts_of, lines_of};
+ghost use Rattle.smf_script.specs.Script.{Ends, IsCut, IsWritten, Stops, begun, script, status_of};
+ghost use Rattle.smf_script.specs.Session.{effect};
+ghost use Rattle.smf_world.specs.Reached.{IsLater};
+
+use crate::fault::ScriptFault;
+use crate::reading::read_line;
+use crate::session::run_line;
+use crate::turns::Turns;
+use smf_model::Journal;
+use smf_node::Node;
+use smf_svccfg::Selection;
+use std::alloc::Global;
+use std::io::{BufRead, Write};
+
+/// Does a line, and writes its text.
+fn do_line<W: Write, J: Journal>(
+    alloc: Global,
+    writer: &mut W,
+    node: &mut Node<J>,
+    selection: &mut Selection,
+    line: &[u8],
+) -> Result<bool, ScriptFault>
+    ensures exact { IfOk result (λ fine. IsWritten (effect (record { progress = node.old; selection = selection.old }) line.now) node.new selection.new (W.contents writer.old) (W.contents writer.new) fine) }
+    ensures err { IfErr result (λ e. IsCut e (record { progress = node.old; selection = selection.old }) line.now node.new (W.contents writer.old) (W.contents writer.new)) }
+    ensures later { IsLater node.old.world node.new.world }
+{
+    let mut text = String::new(alloc);
+    let fine = run_line(alloc, node, selection, line, &mut text)?;
+    match writer.write_all(text.as_bytes()) {
+        Ok(()) => Ok(fine),
+        Err(e) => Err(ScriptFault::Output(e)),
+    }
+}
+
+fn status_of(fine: bool) -> u8
+    ensures { result ≡ status_of fine }
+{
+    if fine { 0 } else { 1 }
+}
+
+/// Reads lines to the end, does each, and writes its text when it is done.
+pub fn run_script<R: BufRead, W: Write, J: Journal>(
+    alloc: Global,
+    reader: &mut R,
+    writer: &mut W,
+    node: &mut Node<J>,
+) -> Result<u8, ScriptFault>
+    // Where the bytes are known: what the node is, what is written and the status are those of all lines.
+    ensures ok { IfOk result (λ status. IfSome (R.remaining reader.old) (λ input.
+        Ends (script (begun node.old) (lines_of input)) node.new (W.contents writer.old) (W.contents writer.new) status)) }
+    ensures few { IfOk result (λ status. IfSome (R.remaining reader.old) (λ input. counts_of (lines_of input) ≤ 1000000)) }
+    // Where they are known: some of the lines were done, and their text was written.
+    ensures err { IfErr result (λ fault. IfSome (R.remaining reader.old) (λ input.
+        Stops fault (begun node.old) (lines_of input) node.new (W.contents writer.old) (W.contents writer.new))) }
+    ensures later { IsLater node.old.world node.new.world }
+{
+    let mut fine = true;
+    let mut selection = Selection::Nothing;
+    let mut turns = Turns::new();
+    loop {
+        match read_line(alloc, reader, &mut turns)? {
+            None => return Ok(status_of(fine)),
+            Some(line) => {
+                let did = do_line(alloc, writer, node, &mut selection, &line)?;
+                fine &= did;
+            }
+        }
+    }
+}

@@ -1,0 +1,258 @@
+ghost use Rattle.std.specs.Prelude.{◌≡◌, [], ◌++◌, ◌∷◌, IfOk, OnOk, is_none, reverse, string_bytes};
+ghost use Rattle.smf_admin.specs.Asking.{commands_of};
+ghost use Rattle.smf_admin.specs.Listing.{svcs_text};
+ghost use Rattle.smf_model.specs.Shown.{view};
+ghost use Rattle.smf_repo.specs.Refusals.{refusal};
+ghost use Rattle.smf_script.specs.Session.{IsDeed, IsEffect, asked, asked_all, done, effect, effect_of, given, settle, settled_text, svcadm, svccfg, svcs, told_text};
+ghost use Rattle.smf_script.specs.Text.{trail_text};
+ghost use Rattle.smf_world.specs.Reached.{IsLater};
+
+use crate::request::{Request, request_of};
+use crate::text::trail_text;
+use smf_admin::{
+    Asked, commands_of, header_of, no_match_text, several_text, svcadm_usage, svcs_text, svcs_usage,
+};
+use smf_fmri::{Items, Text};
+use smf_model::{Edit, Journal, Reply};
+use smf_node::{Node, NodeFault};
+use smf_repo::refusal_text;
+use smf_svccfg::{CfgFault, Judged, Selection, fault_text, judge};
+use smf_world::Settled;
+use std::alloc::{AllocError, Global};
+
+/// Puts the name of a program, words, and the end of a line.
+fn put_line(out: &mut String, program: &str, words: &str) -> Result<(), AllocError>
+    ensures { OnOk result (string_bytes out.new ≡ string_bytes out.old ++ (program.now ++ words.now ++ 10 ∷ [])) }
+{
+    out.push_str(program)?;
+    out.push_str(words)?;
+    out.push('\n')
+}
+
+/// Puts why an edit was refused, if it was, and gives back whether it was not.
+fn report(alloc: Global, reply: &Reply, program: &str, out: &mut String) -> Result<bool, AllocError>
+    ensures texts { OnOk result (string_bytes out.new ≡ string_bytes out.old ++ told_text program.now (refusal reply.now)) }
+    ensures flag { IfOk result (λ fine. fine ≡ is_none (refusal reply.now)) }
+{
+    let Some(words) = refusal_text(alloc, reply)? else {
+        return Ok(true);
+    };
+    put_line(out, program, words.as_str())?;
+    Ok(false)
+}
+
+/// Gives an edit, and puts why it was refused, if it was; gives back whether it was not.
+#[tactic(auto, unfolding(crate::specs::Session::given))]
+fn give<J: Journal>(
+    alloc: Global,
+    node: &mut Node<J>,
+    edit: Edit,
+    program: &str,
+    out: &mut String,
+) -> Result<bool, NodeFault>
+    ensures exact { IfOk result (λ fine. IsDeed (given program.now node.old edit) node.new (string_bytes out.old) (string_bytes out.new) fine) }
+    ensures later { IsLater node.old.world node.new.world }
+{
+    let reply = node.apply(edit)?;
+    let fine = report(alloc, &reply, program, out)?;
+    Ok(fine)
+}
+
+#[tactic(auto, unfolding(crate::specs::Session::svccfg))]
+fn svccfg<J: Journal>(
+    alloc: Global,
+    node: &mut Node<J>,
+    selection: &mut Selection,
+    line: &str,
+    out: &mut String,
+) -> Result<bool, NodeFault>
+    ensures exact { IfOk result (λ fine. IsEffect (svccfg (record { progress = node.old; selection = selection.old }) line.now) node.new selection.new (string_bytes out.old) (string_bytes out.new) fine) }
+    ensures later { IsLater node.old.world node.new.world }
+{
+    match judge(alloc, node.repository(), selection, line) {
+        Ok(Judged::Nothing) => Ok(true),
+        Ok(Judged::Select(found)) => {
+            *selection = found;
+            Ok(true)
+        }
+        Ok(Judged::Edit(edit)) => give(alloc, node, edit, "svccfg: ", out),
+        Err(CfgFault::Memory) => Err(NodeFault::Memory),
+        Err(fault) => {
+            let words = fault_text(alloc, fault)?;
+            put_line(out, "svccfg: ", words.as_str())?;
+            Ok(false)
+        }
+    }
+}
+
+#[tactic(auto, unfolding(crate::specs::Session::asked))]
+fn asked<J: Journal>(
+    alloc: Global,
+    node: &mut Node<J>,
+    one: Asked,
+    out: &mut String,
+) -> Result<bool, NodeFault>
+    ensures exact { IfOk result (λ fine. IsDeed (asked node.old one) node.new (string_bytes out.old) (string_bytes out.new) fine) }
+    ensures later { IsLater node.old.world node.new.world }
+{
+    match one {
+        Asked::Edit(edit) => give(alloc, node, edit, "svcadm: ", out),
+        Asked::NoMatch(word) => {
+            out.push_str(no_match_text(alloc, word.as_str())?.as_str())?;
+            Ok(false)
+        }
+        Asked::Several(word, count) => {
+            out.push_str(several_text(alloc, word.as_str(), count)?.as_str())?;
+            Ok(false)
+        }
+    }
+}
+
+/// Does all of them in turn, also where one is refused.
+fn asked_all<J: Journal>(
+    alloc: Global,
+    node: &mut Node<J>,
+    all: Items<Asked>,
+    out: &mut String,
+) -> Result<bool, NodeFault>
+    ensures exact { IfOk result (λ fine. IsDeed (asked_all (done node.old []) all) node.new (string_bytes out.old) (string_bytes out.new) fine) }
+    ensures later { IsLater node.old.world node.new.world }
+{
+    let mut fine = true;
+    for one in all.into_vec() {
+        let did = asked(alloc, node, one, out)?;
+        fine &= did;
+    }
+    Ok(fine)
+}
+
+/// What the words behind svcadm ask for, over what the node holds; none is bad usage.
+fn commands_on<J: Journal>(
+    alloc: Global,
+    node: &Node<J>,
+    words: &[Text],
+) -> Result<Option<Items<Asked>>, AllocError>
+    ensures { IfOk result (λ all. all ≡ commands_of (view node.now.world.now).items words.now) }
+{
+    let view = node.repository().view()?;
+    commands_of(alloc, words, view.items.as_slice())
+}
+
+#[tactic(auto, unfolding(crate::specs::Session::svcadm))]
+fn svcadm<J: Journal>(
+    alloc: Global,
+    node: &mut Node<J>,
+    words: &[Text],
+    out: &mut String,
+) -> Result<bool, NodeFault>
+    ensures exact { IfOk result (λ fine. IsDeed (svcadm node.old words.now) node.new (string_bytes out.old) (string_bytes out.new) fine) }
+    ensures later { IsLater node.old.world node.new.world }
+{
+    match commands_on(alloc, node, words)? {
+        Some(all) => asked_all(alloc, node, all, out),
+        None => {
+            out.push_str(svcadm_usage())?;
+            Ok(false)
+        }
+    }
+}
+
+/// What svcs prints of what the node holds.
+fn listing<J: Journal>(alloc: Global, node: &Node<J>, header: bool) -> Result<Text, AllocError>
+    ensures { IfOk result (λ text. text ≡ svcs_text (view node.now.world.now).items header) }
+{
+    let view = node.repository().view()?;
+    svcs_text(alloc, view.items.as_slice(), header)
+}
+
+#[tactic(auto, unfolding(crate::specs::Session::svcs))]
+fn svcs<J: Journal>(
+    alloc: Global,
+    node: &Node<J>,
+    words: &[Text],
+    out: &mut String,
+) -> Result<bool, AllocError>
+    ensures { IfOk result (λ fine. IsDeed (svcs node.now words.now) node.now (string_bytes out.old) (string_bytes out.new) fine) }
+{
+    let Some(header) = header_of(words) else {
+        out.push_str(svcs_usage())?;
+        return Ok(false);
+    };
+    let text = listing(alloc, node, header)?;
+    out.push_str(text.as_str())?;
+    Ok(true)
+}
+
+fn settled_text(how: Settled) -> &'static str
+    ensures { result.now ≡ settled_text how }
+{
+    match how {
+        Settled::Quiet => "quiet\n",
+        Settled::Busy => "busy\n",
+    }
+}
+
+#[tactic(auto, unfolding(crate::specs::Session::settle))]
+fn settle<J: Journal>(node: &mut Node<J>, rounds: u64, out: &mut String) -> Result<bool, NodeFault>
+    ensures exact { IfOk result (λ fine. IsDeed (settle node.old rounds) node.new (string_bytes out.old) (string_bytes out.new) fine) }
+    ensures later { IsLater node.old.world node.new.world }
+{
+    let how = node.settle(rounds)?;
+    out.push_str(settled_text(how))?;
+    Ok(true)
+}
+
+/// Puts the trail of a node.
+fn put_trail<J: Journal>(alloc: Global, node: &Node<J>, out: &mut String) -> Result<(), AllocError>
+    ensures { OnOk result (string_bytes out.new ≡ string_bytes out.old ++ trail_text (reverse node.now.world.trail)) }
+{
+    let text = trail_text(alloc, node.trail())?;
+    out.push_str(text.as_str())
+}
+
+#[tactic(auto, unfolding(crate::specs::Session::effect_of))]
+fn run_request<J: Journal>(
+    alloc: Global,
+    node: &mut Node<J>,
+    selection: &mut Selection,
+    request: &Request,
+    out: &mut String,
+) -> Result<bool, NodeFault>
+    ensures exact { IfOk result (λ fine. IsEffect (effect_of (record { progress = node.old; selection = selection.old }) request.now) node.new selection.new (string_bytes out.old) (string_bytes out.new) fine) }
+    ensures later { IsLater node.old.world node.new.world }
+{
+    match request {
+        Request::Nothing => Ok(true),
+        Request::Svccfg(line) => svccfg(alloc, node, selection, line.as_str(), out),
+        Request::Svcadm(words) => svcadm(alloc, node, words.as_slice(), out),
+        Request::Svcs(words) => {
+            let fine = svcs(alloc, node, words.as_slice(), out)?;
+            Ok(fine)
+        }
+        Request::Settle(rounds) => settle(node, *rounds, out),
+        Request::Trail => {
+            put_trail(alloc, node, out)?;
+            Ok(true)
+        }
+        Request::Bad => {
+            out.push_str("smf: bad line\n")?;
+            Ok(false)
+        }
+    }
+}
+
+/// Does a line, puts its text, and gives back whether it did not fail.
+#[tactic(auto, unfolding(crate::specs::Session::effect))]
+pub(crate) fn run_line<J: Journal>(
+    alloc: Global,
+    node: &mut Node<J>,
+    selection: &mut Selection,
+    line: &[u8],
+    out: &mut String,
+) -> Result<bool, NodeFault>
+    ensures exact { IfOk result (λ fine. IsEffect (effect (record { progress = node.old; selection = selection.old }) line.now) node.new selection.new (string_bytes out.old) (string_bytes out.new) fine) }
+    ensures later { IsLater node.old.world node.new.world }
+{
+    let request = request_of(alloc, line)?;
+    run_request(alloc, node, selection, &request, out)
+}
