@@ -2,14 +2,14 @@
 use Rattle.std.specs.Prelude.{◌≡◌, ℕ, List, ◌∷◌, [], ◌++◌, codes, Option}
 use Rattle.std.specs.Io.KnownBytes.{Appends}
 use Rattle.smf_model.specs.Look.{empty}
-use Rattle.smf_model.specs.declared.command.Command.TheVariants as commands
 use Rattle.smf_node.specs.declared.fault.NodeFault.{NodeFault}
 use Rattle.smf_node.specs.declared.fault.NodeFault.TheVariants.{Memory, Database, Limit}
 use Rattle.smf_script.specs.Script.{begun, script, status_of}
 use Rattle.smf_script.specs.Session.{Effect}
 use Rattle.smf_script.specs.declared.fault.ScriptFault.{ScriptFault}
 use Rattle.smf_script.specs.declared.fault.ScriptFault.TheVariants.{Node, Input, Output, TooManyLines}
-use Rattle.smf_world.specs.Happens.{booted, committed}
+use Rattle.smf_world.specs.declared.event.Event.TheVariants as events
+use Rattle.smf_world.specs.Happens.{happens}
 use Rattle.smf_world.specs.Schedule.{Progress}
 use Rattle.smf_world.specs.World.{found}
 
@@ -27,7 +27,7 @@ fault_text (TooManyLines interrupted) = codes "smf: too many lines"
 
 -- the node over a repository that holds nothing, behind its boot
 abbrev pub first : Progress
-first = record { world = booted (committed (found empty) commands.Boot); delivered = 0 }
+first = record { world = happens (found empty) events.Boot; delivered = 0 }
 
 -- what lines give, from there
 unfoldable pub served : List (List ℕ) → Effect
