@@ -14,3 +14,6 @@ mod turns;
 pub use fault::ScriptFault;
 pub use script::run_script;
 pub use text::trail_text;
+
+#[cfg(test)]
+mod tests;
