@@ -1,5 +1,5 @@
 -- What a run of the program prints, and how it ends.
-use Rattle.std.specs.Prelude.{◌≡◌, ℕ, List, ◌∷◌, [], ◌++◌, codes, Option}
+use Rattle.std.specs.Prelude.{◌≡◌, ℕ, List, codes, Option}
 use Rattle.std.specs.Io.KnownBytes.{Appends}
 use Rattle.smf_model.specs.Look.{empty}
 use Rattle.smf_node.specs.declared.fault.NodeFault.{NodeFault}
