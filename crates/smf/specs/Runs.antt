@@ -3,7 +3,7 @@ use Rattle.std.specs.Prelude.{◌≡◌, ℕ, List, codes, Option}
 use Rattle.std.specs.Io.KnownBytes.{Appends}
 use Rattle.smf_model.specs.Look.{empty}
 use Rattle.smf_node.specs.declared.fault.NodeFault.{NodeFault}
-use Rattle.smf_node.specs.declared.fault.NodeFault.TheVariants.{Memory, Database, Limit}
+use Rattle.smf_node.specs.declared.fault.NodeFault.TheVariants.{Memory, Database, Limit, NoSuchMessage, NoSuchActor}
 use Rattle.smf_script.specs.Script.{begun, script, status_of}
 use Rattle.smf_script.specs.Session.{Effect}
 use Rattle.smf_script.specs.declared.fault.ScriptFault.{ScriptFault}
@@ -17,6 +17,8 @@ abbrev pub node_text : NodeFault → List ℕ
 node_text Memory = codes "smf: no memory"
 node_text Database = codes "smf: store: database failed"
 node_text Limit = codes "smf: limit"
+node_text NoSuchMessage = codes "smf: no such message"
+node_text NoSuchActor = codes "smf: no such restarter"
 
 -- why a run was ended
 abbrev pub fault_text : ScriptFault → List ℕ

@@ -18,6 +18,8 @@ fn node_text(fault: NodeFault) -> &'static str
         NodeFault::Memory => "smf: no memory",
         NodeFault::Database => "smf: store: database failed",
         NodeFault::Limit => "smf: limit",
+        NodeFault::NoSuchMessage => "smf: no such message",
+        NodeFault::NoSuchActor => "smf: no such restarter",
     }
 }
 

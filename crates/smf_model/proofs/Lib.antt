@@ -9,3 +9,4 @@ pub mod OwnName
 pub mod States
 pub mod Made
 pub mod Ordered
+pub mod Numbered

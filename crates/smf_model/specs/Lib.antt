@@ -6,3 +6,4 @@ pub mod Tables
 pub mod Laws
 pub mod Shown
 pub mod History
+pub mod Numbering

@@ -2,7 +2,8 @@
 //! Rooms: `held` (what is held), `command` (commands and replies), `change` (record changes), `setting` (restarters),
 //! `tables` (the lists and their changes), `look` (look-ups), `asking` (notes of asks and errors), `grouping` (edits of
 //! groups), `snapping` (refresh), `reverting` (revert), `answering` (proposals), `booting` (boot), `dispatch` (which
-//! command it is), `journal` (what is told of changes), `plain` (the repository over a journal), `showing` (reads), `viewing` (what the graph
+//! command it is), `journal` (what is told of changes), `numbering` (whether numbers were
+//! given once), `plain` (the repository over a journal), `showing` (reads), `viewing` (what the graph
 //! sees, and snapshots by name), `law` (what no list of commands breaks).
 #![tactic(auto)]
 
@@ -17,6 +18,7 @@ mod held;
 mod journal;
 mod law;
 mod look;
+mod numbering;
 mod plain;
 mod reverting;
 mod setting;

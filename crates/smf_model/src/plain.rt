@@ -1,7 +1,9 @@
 ghost use Rattle.std.specs.Prelude.{◌≡◌, ◌⊎◌, IfOk, IfErr, OnOk, OnErr, is_some, option_map};
 ghost use Rattle.smf_model.specs.Holdings.{Holdings};
+ghost use Rattle.smf_model.specs.Laws.{IsNumbered};
 ghost use Rattle.smf_model.specs.Look.{empty, installed, instance, launch_of, named, service, snapshot};
 ghost use Rattle.smf_model.specs.Next.{found, next};
+ghost use Rattle.smf_model.specs.Numbering.{IsTwiceNumbered};
 ghost use Rattle.smf_model.specs.Setting.{enabled};
 ghost use Rattle.smf_model.specs.Shown.{children, rows_of, shown_groups, snapshot_number, snapshots_of, view};
 ghost use Rattle.smf_model.specs.Tables.{held_in};
@@ -14,6 +16,7 @@ use crate::dispatch::asked;
 use crate::held::{Instance, Owner, Snapshot, View};
 use crate::journal::{Journal, RepoFault};
 use crate::look::{instance_named, instance_of, launch_of, service_named, snapshot_of};
+use crate::numbering::is_numbered;
 use crate::setting::enabled;
 use crate::showing::{children, rows_of, shown_groups};
 use crate::tables::{Tables, install, no_tables, reserve};
@@ -24,7 +27,7 @@ use smf_value::Group;
 use std::alloc::{AllocError, Global};
 use std::marker::Model;
 
-/// The repository in lists, over a journal in which what is held stands.
+/// The repository in lists, over a journal in which what is held stands. Numbers were given once in what is held.
 #[derive(Drop)]
 pub struct Plain<J: Journal> {
     alloc: Global,
@@ -34,13 +37,14 @@ pub struct Plain<J: Journal> {
 
 impl<J: Journal> Model for Plain<J> {
     ghost use Rattle.smf_model.specs.Holdings.{Holdings};
+    ghost use Rattle.smf_model.specs.Laws.{IsNumbered};
     ghost use Rattle.smf_model.specs.Tables.{held_in};
 
     ghost Value = { Holdings };
 
     ghost view = { λ r. held_in r.tables };
 
-    ghost invariant = { λ r. J.stands r.journal (held_in r.tables) };
+    ghost invariant = { λ r. J.stands r.journal (held_in r.tables) × IsNumbered (held_in r.tables) };
 }
 
 impl<J: Journal> Plain<J> {
@@ -172,7 +176,8 @@ impl<J: Journal> Plain<J> {
 
     /// All that is held.
     pub fn copy(&self) -> Result<Tables, AllocError>
-        ensures { IfOk result (λ t. held_in t ≡ self.now) }
+        ensures exact { IfOk result (λ t. held_in t ≡ self.now) }
+        ensures numbered { IsNumbered self.now }
     {
         Ok(Tables {
             services: self.tables.services.clone()?,
@@ -217,12 +222,15 @@ fn commit<J: Journal>(
 }
 
 impl<J: Journal + Drop> Plain<J> {
-    /// What stands in a journal.
+    /// What stands in a journal. `Database` where it cannot be read, and where a number was given twice in it.
     pub fn open(alloc: Global, journal: J) -> Result<Plain<J>, RepoFault>
         ensures value { IfOk result (λ p. (h : Holdings) → J.stands journal h → p ≡ h) }
-        ensures fault { IfErr result (λ fault. J.load_fails journal fault) }
+        ensures fault { IfErr result (λ fault. (J.load_fails journal fault) ⊎ (IsTwiceNumbered J.stands journal fault)) }
     {
         let tables = journal.load(alloc)?;
+        if !is_numbered(&tables) {
+            return Err(RepoFault::Database);
+        }
         Ok(Plain {
             alloc,
             tables,

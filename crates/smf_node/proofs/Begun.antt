@@ -20,7 +20,7 @@ use Rattle.smf_model.proofs.OwnName.{some_is}
 use Rattle.smf_restarter.specs.Replies.{at_first}
 use Rattle.smf_wire.specs.declared.message.Message.TheVariants as messages
 use Rattle.smf_world.specs.declared.event.Event.TheVariants as events
-use Rattle.smf_world.specs.Happens.{IsCommitted, answer, booted, booted_as, commanded, committed, delivered, happens, launched_as, launched_by, proposed, revised}
+use Rattle.smf_world.specs.Happens.{IsCommitted, answer, booted, booted_as, commanded, committed, delivered, happens, is_named, launched_as, launched_by, proposed, revised}
 use Rattle.smf_world.specs.World.{World}
 use Rattle.smf_node.specs.declared.machine.Parts.{Parts}
 use Rattle.smf_node.specs.Parts.{is_done, launch_in, world_of}
@@ -114,6 +114,24 @@ launch_left w v name r (inr l) e none = refused_by w v (commands.Launch name) r 
 pub launch_refused : (w v : World) (name : List ℕ) (r : Answer) → IsCommitted w (commands.Launch name) v r → launch_in r ≡ None → v ≡ w
 launch_refused w v name r e none = launch_left w v name r (next_launch w.now name) e.made none
 
+limit_by : (w : World) (c : Command) → next w.now c ≡ (w.now, answers.Limit) → (next w.now c).1 ≡ answers.Limit
+limit_by w c l = ap (λ (a : Holdings × Answer). a.1) l
+
+limited : (w v : World) (name : List ℕ) (r : Answer) → NextAccepts IsMade w.now (commands.Launch name) → committed w (commands.Launch name) ≡ (v, r) → launch_in r ≡ None → (next w.now (commands.Launch name)).1 ≡ answers.Limit
+limited w v name r (inl p) e none = absurd (not_made r p.0 (answered w v (commands.Launch name) r e ∙ p.1) none)
+limited w v name r (inr l) e none = limit_by w (commands.Launch name) l
+
+pub launch_limit : (w v : World) (name : List ℕ) (r : Answer) → IsCommitted w (commands.Launch name) v r → launch_in r ≡ None → (next w.now (commands.Launch name)).1 ≡ answers.Limit
+launch_limit w v name r e none = limited w v name r (next_launch w.now name) e.made none
+
+not_limit : (r : Answer) (n : ℕ) → launch_in r ≡ Some n → r ≡ answers.Limit → ⊥
+not_limit r n some limit = let none : launch_in r ≡ None = ap launch_in limit in cc
+
+pub launch_within : (h k : Holdings) (p2 q : Parts) (name named : List ℕ) (r : Answer) (n : ℕ) → IsCommitted (world_of h p2) (commands.Launch named) (world_of k q) r → named ≡ name → launch_in r ≡ Some n → (next h (commands.Launch name)).1 ≡ answers.Limit → ⊥
+unfolding world_of
+launch_within h k p2 q name named r n e same some limit =
+    not_limit r n some (answered (world_of h p2) (world_of k q) (commands.Launch named) r e.made ∙ ap (λ x. (next h (commands.Launch x)).1) same ∙ limit)
+
 launched_at : (name : List ℕ) (v : World) (r : Answer) (n : ℕ) → launch_in r ≡ Some n → launched_as name v r ≡ record v { restarters = v.restarters ++ at_first name n ∷ [] }
 launched_at name v (answers.Made m) n e = ap (λ k. record v { restarters = v.restarters ++ at_first name k ∷ [] }) (some_is m n e)
 launched_at name v _ n e = absurd cc
@@ -140,6 +158,13 @@ boot_left w v r (inr l) e isnt = refused_by w v commands.Boot r e l
 pub boot_refused : (w v : World) (r : Answer) → IsCommitted w commands.Boot v r → is_done r ≡ false → v ≡ w
 boot_refused w v r e isnt = boot_left w v r (next_boot w.now) e.made isnt
 
+boot_limited : (w v : World) (r : Answer) → NextAccepts IsDone w.now commands.Boot → committed w commands.Boot ≡ (v, r) → is_done r ≡ false → (next w.now commands.Boot).1 ≡ answers.Limit
+boot_limited w v r (inl p) e isnt = absurd (not_done r (answered w v commands.Boot r e ∙ p) isnt)
+boot_limited w v r (inr l) e isnt = limit_by w commands.Boot l
+
+pub boot_limit : (w v : World) (r : Answer) → IsCommitted w commands.Boot v r → is_done r ≡ false → (next w.now commands.Boot).1 ≡ answers.Limit
+boot_limit w v r e isnt = boot_limited w v r (next_boot w.now) e.made isnt
+
 booted_at : (v : World) (r : Answer) → is_done r ≡ true → booted_as v r ≡ record v { restarters = []; seen = None }
 booted_at v answers.Done e = refl
 booted_at v _ e = absurd cc
@@ -161,6 +186,14 @@ boot_is h k p q s r e done f cs ms t rs g =
 pub boot_accepted : (h : Holdings) (p : Parts) (v : World) (r : Answer) → IsCommitted (world_of h p) commands.Boot v r → is_done r ≡ true → (next h commands.Boot).1 ≡ answers.Done
 unfolding world_of
 boot_accepted h p v r e done = sym (answered (world_of h p) v commands.Boot r e.made) ∙ done_is r done
+
+-- ---- crashes
+
+pub crash_is : (h : Holdings) (p q : Parts) (name : List ℕ) → held_in q.first ≡ held_in p.first → q.commands.items ≡ p.commands.items → q.engine ≡ p.engine → q.messages.items ≡ p.messages.items → q.trail.items ≡ p.trail.items
+    → q.restarters.items ≡ filter (λ k. not (is_named name k)) p.restarters.items
+    → world_of h q ≡ happens (world_of h p) (events.Crash name)
+unfolding world_of happens
+crash_is h p q name f cs g ms t rs = world_is _ _ _ _ _ _ _ _ _ _ _ _ _ _ f (ap reverse cs) refl rs g (ap reverse ms) (ap reverse t)
 
 -- ---- proposals
 

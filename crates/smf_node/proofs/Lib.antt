@@ -3,3 +3,5 @@ pub mod Worlds
 pub mod Replying
 pub mod Begun
 pub mod Turning
+pub mod Faulting
+pub mod Stepping

@@ -1,5 +1,6 @@
 -- Turns of the schedule, over the parts of a node.
-use Rattle.std.proofs.Common.{◌≡◌, ℕ, suc, ◌+◌, ◌-◌, ◌<◌, ◌≤◌, Result, Ok, Err, OnOk, OnErr, IfOk, List, [], ◌++◌, map, Bool, true, false, cond, Option, Some, None, is_some, length, slice_get, get_or, nat_lt, ltb-false, ltb-true, position, refl, sym, ap, ◌∙◌, subst, arith}
+use Rattle.std.proofs.Common.{◌≡◌, ℕ, suc, ◌+◌, ◌-◌, ◌==◌, ◌<◌, ◌≤◌, Result, Ok, Err, OnOk, OnErr, IfOk, List, [], ◌++◌, map, Bool, true, false, cond, Option, Some, None, is_some, length, slice_get, get_or, nat_lt, ltb-false, ltb-true, position, refl, sym, ap, ◌∙◌, subst, arith}
+use Rattle.std.proofs.lemmas.Bool.Decides.{nat_tests}
 use Rattle.std.proofs.lemmas.List.{reverse-reverse, length-reverse}
 use Rattle.std.proofs.lemmas.Option.{slice_get_past, slice_get_read}
 use Rattle.std.specs.Prelude.{◌&&◌, reverse, find}
@@ -23,6 +24,7 @@ use Rattle.smf_world.specs.Reached.{IsLater}
 use Rattle.smf_world.proofs.Reaching.{later_by, later_same}
 use Rattle.smf_node.specs.declared.machine.Parts.{Parts}
 use Rattle.smf_node.specs.Parts.{world_of}
+use Rattle.smf_node.specs.Steps.{gives_command, is_proposal, is_some_proposal}
 use Rattle.smf_engine.specs.Orders.{orders_seen}
 use Rattle.smf_wire.specs.declared.message.Message.TheVariants as messages
 use Rattle.smf_node.proofs.Replying.{found_first, found_none, restarter_at, restarter_none}
@@ -133,10 +135,24 @@ one_later h k p q n m s e there d = subst (FromTo (world_of k q)) e (later_by (w
 pub later_of : (h : Holdings) (p : Parts) (n : ℕ) (s : Progress) (w : World) → progress (world_of h p) n ≡ s → IsLater (world_of h p) w → IsLater s.world w
 later_of h p n s w e l = subst (FromTo w) e l
 
+-- whether the next message is a proposal
+abbrev IsGiving : Bool → Progress → Type 0
+IsGiving b s = gives_command s.world (events.Deliver s.delivered) ≡ b
+
+pub one_gives : (h : Holdings) (p : Parts) (n : ℕ) (m : Message) (s : Progress) → progress (world_of h p) n ≡ s → slice_get p.messages.items n ≡ Some m → gives_command s.world (events.Deliver s.delivered) ≡ is_proposal m
+one_gives h p n m s is e = subst (IsGiving (is_proposal m)) is (ap is_some_proposal (waiting_at h p n ∙ e))
+
 -- ---- one event
 
 abbrev IsOn : World → ℕ → Event → Progress → Type 0
 IsOn w n e s = progress w n ≡ on s e
+
+pub on_is : (h k : Holdings) (p q : Parts) (n : ℕ) (e : Event) (s : Progress) → progress (world_of h p) n ≡ s → world_of k q ≡ happens (world_of h p) e → progress (world_of k q) n ≡ on s e
+on_is h k p q n e s is made = subst (IsOn (world_of k q) n e) is (ap (λ w. progress w n) made)
+
+-- one event of a progress
+pub later_on : (s t : Progress) (e : Event) → t ≡ on s e → IsLater s.world t.world
+later_on s t e made = later_by s.world t.world e (ap (λ (x : Progress). x.world) made)
 
 pub on_ok : {X E : Type 0} (r : Result X E) (h k : Holdings) (p q : Parts) (n : ℕ) (e : Event) (s : Progress) → progress (world_of h p) n ≡ s → OnOk r (world_of k q ≡ happens (world_of h p) e) → OnOk r (progress (world_of k q) n ≡ on s e)
 on_ok (Ok x) h k p q n e s is made = subst (IsOn (world_of k q) n e) is (ap (λ w. progress w n) made)
@@ -175,6 +191,20 @@ IsLaunched name b s = b ≡ is_some (restarter s.world name)
 
 pub launched_is : (h : Holdings) (p : Parts) (n : ℕ) (s : Progress) (name : List ℕ) (o : Option ℕ) (b : Bool) → progress (world_of h p) n ≡ s → o ≡ position (is_named name) p.restarters.items → b ≡ is_some o → b ≡ is_some (restarter s.world name)
 launched_is h p n s name o b is place e = subst (IsLaunched name b) is (e ∙ is_launched h p name o place)
+
+-- whether a message waits at a place, and is the next
+abbrev IsNext : ℕ → Bool → Progress → Type 0
+IsNext place b s = b ≡ (place == s.delivered && nat_lt place (length s.world.sent))
+
+itself : (m n : ℕ) → m ≡ n → (m == n) ≡ true
+itself m n e = grind (arith, nat_tests)
+
+pub next_is : (h : Holdings) (p : Parts) (n : ℕ) (s : Progress) (place sent : ℕ) → progress (world_of h p) n ≡ s → sent ≡ length p.messages.items → place ≡ n → nat_lt n sent ≡ (place == s.delivered && nat_lt place (length s.world.sent))
+next_is h p n s place sent is e same =
+    subst (IsNext place (nat_lt n sent)) is
+    (ap (λ (k : ℕ). nat_lt n k) (e ∙ sym (all_sent h p))
+    ∙ ap (λ (k : ℕ). nat_lt k (length (world_of h p).sent)) (sym same)
+    ∙ ap (λ (b : Bool). b && nat_lt place (length (world_of h p).sent)) (sym (itself place n same)))
 
 -- ---- what is read of the restarters
 
@@ -237,6 +267,10 @@ found_is h p f cs ks g ms t = world_is _ _ _ _ _ _ _ _ _ _ _ _ _ _ f (ap reverse
 now_of : (h : Holdings) (p : Parts) → (world_of h p).now ≡ h
 unfolding world_of
 now_of h p = refl
+
+-- what the repository holds is what is held in the progress that the parts are
+pub held_now : (h : Holdings) (p : Parts) (n : ℕ) (s : Progress) → progress (world_of h p) n ≡ s → h ≡ s.world.now
+held_now h p n s is = sym (now_of h p) ∙ ap (λ (x : Progress). x.world.now) is
 
 pub same_now : (h k : Holdings) (p q : Parts) → world_of k q ≡ world_of h p → k ≡ h
 same_now h k p q e = sym (now_of k q) ∙ ap (λ (w : World). w.now) e ∙ now_of h p

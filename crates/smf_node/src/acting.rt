@@ -1,4 +1,5 @@
-ghost use Rattle.std.specs.Prelude.{◌≡◌, ◌+◌, ◌++◌, ◌<◌, ◌≤◌, length, map, position, vec_capacity, vec_len, IfOk, OnErr, OnOk};
+ghost use Rattle.std.specs.Prelude.{◌≡◌, ◌+◌, ◌++◌, ◌<◌, ◌≤◌, length, map, position, vec_capacity, vec_len, IfErr, IfOk, OnErr, OnOk};
+ghost use Rattle.smf_node.specs.declared.fault.NodeFault.TheVariants.{Memory};
 ghost use Rattle.smf_node.specs.Parts.{changed_at, held_at, told_by, world_of};
 ghost use Rattle.smf_world.specs.Happens.{begun_by, happens, held_item, is_named, own_reply, sent_by, tick_reply};
 ghost use Rattle.smf_world.specs.declared.event.Event.TheVariants as events;
@@ -168,6 +169,7 @@ impl<J: Journal> Machine<J> {
     pub(crate) fn tick(&mut self, name: &InstanceFmri, instance: u64) -> Result<(), NodeFault>
         ensures ok { OnOk result (world_of self.new.repository self.new.parts ≡ happens (world_of self.old.repository self.old.parts) (events.Tick name.now instance spawns.Made)) }
         ensures err { OnErr result (world_of self.new.repository self.new.parts ≡ world_of self.old.repository self.old.parts) }
+        ensures fault { IfErr result (λ e. e ≡ Memory) }
     {
         let Some(at) = self.place_of(name) else {
             return Ok(());
@@ -188,6 +190,7 @@ impl<J: Journal> Machine<J> {
     pub(crate) fn tell(&mut self, name: &InstanceFmri, message: &Message) -> Result<(), NodeFault>
         ensures ok { OnOk result (world_of self.new.repository self.new.parts ≡ told_by message.now (world_of self.old.repository self.old.parts) name.now) }
         ensures err { OnErr result (world_of self.new.repository self.new.parts ≡ world_of self.old.repository self.old.parts) }
+        ensures fault { IfErr result (λ e. e ≡ Memory) }
     {
         let Some(at) = self.place_of(name) else {
             return Ok(());

@@ -1,12 +1,15 @@
-ghost use Rattle.std.specs.Prelude.{◌≡◌, ◌∷◌, [], ◌+◌, ◌++◌, ◌≤◌, map, vec_capacity, vec_len, IfOk, OnErr, OnOk};
+ghost use Rattle.std.specs.Prelude.{◌≡◌, ◌∷◌, [], ◌+◌, ◌++◌, ◌≤◌, filter, map, not, vec_capacity, vec_len, IfErr, IfOk, OnErr, OnOk};
 ghost use Rattle.smf_model.specs.declared.command.Command.TheVariants as commands;
-ghost use Rattle.smf_model.specs.declared.command.Reply.TheVariants.{Done};
+ghost use Rattle.smf_model.specs.declared.command.Reply.TheVariants.{Done, Limit};
 ghost use Rattle.smf_model.specs.Next.{next};
+ghost use Rattle.smf_node.specs.declared.fault.NodeFault.TheVariants.{Memory};
+ghost use Rattle.smf_node.specs.Faults.{EndsWith, IsUndone};
 ghost use Rattle.smf_node.specs.Parts.{is_done, launch_in, world_of};
+ghost use Rattle.smf_node.specs.Steps.{is_proposal};
 ghost use Rattle.smf_restarter.specs.Replies.{at_first};
 ghost use Rattle.smf_wire.specs.declared.message.Message.TheVariants as messages;
 ghost use Rattle.smf_world.specs.declared.event.Event.TheVariants as events;
-ghost use Rattle.smf_world.specs.Happens.{delivered, happens};
+ghost use Rattle.smf_world.specs.Happens.{delivered, happens, is_named};
 
 use crate::fault::NodeFault;
 use crate::machine::Machine;
@@ -53,11 +56,19 @@ fn begin(alloc: Global, restarters: &mut Vec<Restarter>, name: InstanceFmri, lau
         .unwrap();
 }
 
+/// The restarters of a name are gone.
+fn remove(restarters: &mut Vec<Restarter>, name: &InstanceFmri)
+    ensures { restarters.new.items ≡ filter (λ k. not (is_named name.now k)) restarters.old.items }
+{
+    restarters.retain(|restarter| *restarter.name() != *name);
+}
+
 impl<J: Journal> Machine<J> {
     /// A message is delivered.
     pub(crate) fn deliver(&mut self, message: &Message) -> Result<(), NodeFault>
         ensures ok { OnOk result (world_of self.new.repository self.new.parts ≡ delivered (world_of self.old.repository self.old.parts) message.now) }
         ensures err { OnErr result (world_of self.new.repository self.new.parts ≡ world_of self.old.repository self.old.parts) }
+        ensures fault { IfErr result (λ e. EndsWith (is_proposal message.now) J.write_fails e) }
     {
         match message {
             Message::Join { name, launch } => self.join(name, *launch),
@@ -75,6 +86,7 @@ impl<J: Journal> Machine<J> {
     pub(crate) fn order(&mut self) -> Result<(), NodeFault>
         ensures ok { OnOk result (world_of self.new.repository self.new.parts ≡ happens (world_of self.old.repository self.old.parts) events.Orders) }
         ensures err { OnErr result (world_of self.new.repository self.new.parts ≡ world_of self.old.repository self.old.parts) }
+        ensures fault { IfErr result (λ e. e ≡ Memory) }
     {
         let orders = self.parts.engine.decide_all(self.alloc)?;
         let mut messages = order_messages(self.alloc, orders.into_vec())?;
@@ -86,6 +98,8 @@ impl<J: Journal> Machine<J> {
     pub(crate) fn launch(&mut self, name: &InstanceFmri) -> Result<(), NodeFault>
         ensures ok { OnOk result (world_of self.new.repository self.new.parts ≡ happens (world_of self.old.repository self.old.parts) (events.Launch name.now)) }
         ensures err { OnErr result (world_of self.new.repository self.new.parts ≡ world_of self.old.repository self.old.parts) }
+        ensures within { OnOk result ((next self.old.repository (commands.Launch name.now)).1 ≡ Limit → ⊥) }
+        ensures fault { IfErr result (λ e. IsUndone J.write_fails self.old.repository (commands.Launch name.now) e) }
     {
         self.parts.restarters.reserve(1)?;
         let own = name.clone()?;
@@ -98,11 +112,19 @@ impl<J: Journal> Machine<J> {
         Ok(())
     }
 
+    /// The restarters of a name are gone.
+    pub(crate) fn crash(&mut self, name: &InstanceFmri)
+        ensures { world_of self.new.repository self.new.parts ≡ happens (world_of self.old.repository self.old.parts) (events.Crash name.now) }
+    {
+        remove(&mut self.parts.restarters, name);
+    }
+
     /// What the actors knew is gone, and the repository boots.
     pub(crate) fn boot(&mut self) -> Result<(), NodeFault>
         ensures ok { OnOk result (world_of self.new.repository self.new.parts ≡ happens (world_of self.old.repository self.old.parts) events.Boot) }
         ensures accepted { OnOk result ((next self.old.repository commands.Boot).1 ≡ Done) }
         ensures err { OnErr result (world_of self.new.repository self.new.parts ≡ world_of self.old.repository self.old.parts) }
+        ensures fault { IfErr result (λ e. IsUndone J.write_fails self.old.repository commands.Boot e) }
     {
         let reply = self.commit(Command::Boot)?;
         if !is_done(reply) {

@@ -1,5 +1,6 @@
 ghost use Rattle.std.specs.Prelude.{◌≡◌};
 ghost use Rattle.smf_node.specs.declared.fault.NodeFault.TheVariants.{Memory};
+ghost use Rattle.smf_node.specs.Faults.{told};
 
 use smf_model::RepoFault;
 use std::alloc::{AllocError, AllocFailed};
@@ -12,6 +13,10 @@ pub enum NodeFault {
     Database,
     /// A number that the event needs has no next one.
     Limit,
+    /// Not the oldest message that was not delivered yet.
+    NoSuchMessage,
+    /// To be launched, and launched already; or to act or to crash, and not launched.
+    NoSuchActor,
 }
 
 impl From<AllocError> for NodeFault {
@@ -31,6 +36,8 @@ impl<T: Drop> From<AllocFailed<T>> for NodeFault {
 }
 
 impl From<RepoFault> for NodeFault {
+    ghost from_gives = { λ e f. f ≡ told e };
+
     fn from(e: RepoFault) -> NodeFault {
         match e {
             RepoFault::Memory => NodeFault::Memory,

@@ -1,6 +1,8 @@
 ghost use Rattle.smf_state.specs.declared.state.State.TheVariants.{Uninitialized};
 ghost use Rattle.smf_world.specs.declared.item.Item.TheVariants.{Committed};
-ghost use Rattle.std.specs.Prelude.{◌≡◌, ◌∷◌, [], ◌+◌, ◌++◌, ◌≤◌, map, option_to_list, vec_capacity, vec_len, IfOk, None, OnErr, OnOk};
+ghost use Rattle.std.specs.Prelude.{◌≡◌, ◌∷◌, [], ◌+◌, ◌++◌, ◌≤◌, map, option_to_list, vec_capacity, vec_len, IfErr, IfOk, None, OnErr, OnOk};
+ghost use Rattle.smf_node.specs.declared.fault.NodeFault.TheVariants.{Memory};
+ghost use Rattle.smf_node.specs.Faults.{HasNoReply};
 ghost use Rattle.smf_node.specs.Parts.{IsGiven, IsLeft, world_of};
 ghost use Rattle.smf_world.specs.Happens.{IsCommitted, booted_item, booting, item_of, moved_item, number_moved, said};
 
@@ -210,6 +212,7 @@ fn give<J: Journal>(
     command: Command,
 ) -> Result<Reply, NodeFault>
     ensures exact { IfOk result (λ reply. IsGiven repository.old command reply repository.new commands.old.items commands.new.items trail.old.items trail.new.items) }
+    ensures fault { IfErr result (λ e. HasNoReply J.write_fails e) }
     ensures err { OnErr result (IsLeft repository.old repository.new commands.old.items commands.new.items trail.old.items trail.new.items) }
 {
     let items = prepare(alloc, repository, commands, trail, &command)?;
@@ -230,6 +233,7 @@ impl<J: Journal> Machine<J> {
     pub(crate) fn commit(&mut self, command: Command) -> Result<Reply, NodeFault>
         ensures exact { IfOk result (λ reply. IsCommitted (world_of self.old.repository self.old.parts) command (world_of self.new.repository self.new.parts) reply) }
         ensures err { OnErr result (world_of self.new.repository self.new.parts ≡ world_of self.old.repository self.old.parts) }
+        ensures fault { IfErr result (λ e. HasNoReply J.write_fails e) }
         // What stands beside is not touched, and keeps its room.
         ensures messages { self.new.parts.messages ≡ self.old.parts.messages }
         ensures restarters { self.new.parts.restarters ≡ self.old.parts.restarters }
@@ -247,6 +251,7 @@ impl<J: Journal> Machine<J> {
     #[tactic(auto, using(crate::proofs::Lists::reverse_both), unfolding(crate::specs::Parts::world_of))]
     pub(crate) fn say(&mut self, message: Message) -> Result<(), NodeFault>
         ensures ok { OnOk result (world_of self.new.repository self.new.parts ≡ said (world_of self.old.repository self.old.parts) message) }
+        ensures fault { IfErr result (λ e. e ≡ Memory) }
         ensures repository { self.new.repository ≡ self.old.repository }
         ensures err { OnErr result (world_of self.new.repository self.new.parts ≡ world_of self.old.repository self.old.parts) }
     {

@@ -1,4 +1,6 @@
-ghost use Rattle.std.specs.Prelude.{◌≡◌, ◌+◌, ◌++◌, ◌≤◌, map, option_to_list, vec_capacity, vec_len, IfOk, OnErr, OnOk};
+ghost use Rattle.std.specs.Prelude.{◌≡◌, ◌+◌, ◌++◌, ◌≤◌, map, option_to_list, vec_capacity, vec_len, IfErr, IfOk, OnErr, OnOk};
+ghost use Rattle.smf_node.specs.declared.fault.NodeFault.TheVariants.{Memory};
+ghost use Rattle.smf_node.specs.Faults.{HasNoReply};
 ghost use Rattle.smf_node.specs.Parts.{world_of};
 ghost use Rattle.smf_world.specs.Happens.{answer, delivered, known_of};
 ghost use Rattle.smf_wire.specs.declared.message.Message.TheVariants as messages;
@@ -73,6 +75,7 @@ impl<J: Journal> Machine<J> {
     pub(crate) fn join(&mut self, name: &InstanceFmri, launch: u64) -> Result<(), NodeFault>
         ensures ok { OnOk result (world_of self.new.repository self.new.parts ≡ delivered (world_of self.old.repository self.old.parts) (messages.Join name.now launch)) }
         ensures err { OnErr result (world_of self.new.repository self.new.parts ≡ world_of self.old.repository self.old.parts) }
+        ensures fault { IfErr result (λ e. e ≡ Memory) }
     {
         if launch != self.repository.launch_of(name) {
             return Ok(());
@@ -87,6 +90,7 @@ impl<J: Journal> Machine<J> {
     pub(crate) fn propose(&mut self, proposal: &Proposal) -> Result<(), NodeFault>
         ensures ok { OnOk result (world_of self.new.repository self.new.parts ≡ delivered (world_of self.old.repository self.old.parts) (messages.Propose proposal.now)) }
         ensures err { OnErr result (world_of self.new.repository self.new.parts ≡ world_of self.old.repository self.old.parts) }
+        ensures fault { IfErr result (λ e. HasNoReply J.write_fails e) }
     {
         self.parts.messages.reserve(1)?;
         let name = proposal.proposer.clone()?;
@@ -101,6 +105,7 @@ impl<J: Journal> Machine<J> {
     pub(crate) fn show(&mut self) -> Result<(), NodeFault>
         ensures ok { OnOk result (world_of self.new.repository self.new.parts ≡ delivered (world_of self.old.repository self.old.parts) messages.AskView) }
         ensures err { OnErr result (world_of self.new.repository self.new.parts ≡ world_of self.old.repository self.old.parts) }
+        ensures fault { IfErr result (λ e. e ≡ Memory) }
     {
         let view = self.repository.view()?;
         self.say(Message::View(view))
@@ -111,6 +116,7 @@ impl<J: Journal> Machine<J> {
     pub(crate) fn take_view(&mut self, view: &View) -> Result<(), NodeFault>
         ensures ok { OnOk result (world_of self.new.repository self.new.parts ≡ delivered (world_of self.old.repository self.old.parts) (messages.View view.now)) }
         ensures err { OnErr result (world_of self.new.repository self.new.parts ≡ world_of self.old.repository self.old.parts) }
+        ensures fault { IfErr result (λ e. e ≡ Memory) }
     {
         let view = view.clone()?;
         self.parts.engine.take_view(view);

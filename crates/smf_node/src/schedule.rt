@@ -1,11 +1,17 @@
 ghost use Rattle.std.specs.List.{list_all};
-ghost use Rattle.std.specs.Prelude.{◌≡◌, ◌-◌, length, map, is_some, reverse, IfOk, OnErr, OnOk};
+ghost use Rattle.std.specs.Prelude.{◌≡◌, ◌-◌, ◌==◌, ◌&&◌, nat_lt, length, map, is_some, reverse, true, false, None, IfErr, IfOk, OnErr, OnOk};
 ghost use Rattle.smf_model.specs.declared.command.Command.TheVariants as commands;
+ghost use Rattle.smf_model.specs.declared.command.Reply.TheVariants.{Limit};
+ghost use Rattle.smf_model.specs.Next.{next};
+ghost use Rattle.smf_model.specs.Setting.{startd as the_startd};
 ghost use Rattle.smf_model.specs.Shown.{view};
+ghost use Rattle.smf_node.specs.declared.fault.NodeFault.TheVariants.{Memory, NoSuchActor};
+ghost use Rattle.smf_node.specs.Faults.{EndsWith, HasNoReply, IsUndone};
 ghost use Rattle.smf_node.specs.Parts.{launched_if, world_of};
+ghost use Rattle.smf_node.specs.Steps.{Goes, IsFault, IsStep, Stops, gives_command, refused, stepped};
 ghost use Rattle.smf_restarter.specs.Replies.{at_rest};
 ghost use Rattle.smf_world.specs.declared.event.Event.TheVariants as events;
-ghost use Rattle.smf_world.specs.declared.event.SpawnAnswer.TheVariants as spawns;
+ghost use Rattle.smf_world.specs.declared.event.SpawnAnswer.{SpawnAnswer as AnySpawn};
 ghost use Rattle.smf_world.specs.Happens.{IsCommitted, restarter};
 ghost use Rattle.smf_world.specs.Reached.{IsLater};
 ghost use Rattle.smf_world.specs.Schedule.{IsSettled, deliver, deliver_all, deliver_one, deliver_waiting, graph_turn, has_no_orders, is_quiet, launch_turn, names_of, numbers_known, on, restarter_turn, restarter_turns, round, tick, ticks};
@@ -17,7 +23,7 @@ use smf_fmri::InstanceFmri;
 use smf_model::{Command, Edit, Journal, Plain, Reply, View, startd};
 use smf_restarter::Restarter;
 use smf_wire::Message;
-use smf_world::{Item, Settled};
+use smf_world::{Event, Item, Settled};
 use std::alloc::{AllocError, Global};
 use std::marker::Model;
 
@@ -88,6 +94,7 @@ impl<J: Journal> Schedule<J> {
         ensures delivered { self.new.delivered ≡ self.old.delivered }
         ensures later { IsLater self.old.world self.new.world }
         ensures err { OnErr result (self.new ≡ self.old) }
+        ensures fault { IfErr result (λ e. HasNoReply J.write_fails e) }
     {
         self.machine.commit(Command::Edit(edit))
     }
@@ -111,6 +118,8 @@ impl<J: Journal> Schedule<J> {
     fn deliver_one(&mut self) -> Result<(), NodeFault>
         ensures ok { OnOk result (self.new ≡ deliver_one self.old) }
         ensures later { IsLater self.old.world self.new.world }
+        ensures fault { IfErr result (λ e. EndsWith (gives_command self.old.world (events.Deliver self.old.delivered)) J.write_fails e) }
+        ensures err { OnErr result (self.new ≡ self.old) }
     {
         let Some(message) = self.machine.parts.messages.get(self.delivered) else {
             return Ok(());
@@ -125,6 +134,7 @@ impl<J: Journal> Schedule<J> {
     fn deliver_some(&mut self, count: usize) -> Result<(), NodeFault>
         ensures ok { OnOk result (self.new ≡ deliver count self.old) }
         ensures later { IsLater self.old.world self.new.world }
+        ensures fault { IfErr result (λ e. IsUndone J.write_fails self.new.world.now (commands.Launch the_startd) e) }
     {
         for _ in 0..count {
             self.deliver_one()?;
@@ -143,6 +153,7 @@ impl<J: Journal> Schedule<J> {
     fn deliver_waiting(&mut self) -> Result<(), NodeFault>
         ensures ok { OnOk result (self.new ≡ deliver_waiting self.old) }
         ensures later { IsLater self.old.world self.new.world }
+        ensures fault { IfErr result (λ e. IsUndone J.write_fails self.new.world.now (commands.Launch the_startd) e) }
     {
         let waiting = self.waiting();
         self.deliver_some(waiting)
@@ -153,6 +164,7 @@ impl<J: Journal> Schedule<J> {
     fn deliver_all(&mut self) -> Result<(), NodeFault>
         ensures ok { OnOk result (self.new ≡ deliver_all self.old) }
         ensures later { IsLater self.old.world self.new.world }
+        ensures fault { IfErr result (λ e. IsUndone J.write_fails self.new.world.now (commands.Launch the_startd) e) }
     {
         self.deliver_waiting()?;
         self.deliver_waiting()?;
@@ -169,6 +181,9 @@ impl<J: Journal> Schedule<J> {
     fn launch(&mut self, name: &InstanceFmri) -> Result<(), NodeFault>
         ensures ok { OnOk result (self.new ≡ on self.old (events.Launch name.now)) }
         ensures later { IsLater self.old.world self.new.world }
+        ensures fault { IfErr result (λ e. IsUndone J.write_fails self.old.world.now (commands.Launch name.now) e) }
+        ensures within { OnOk result ((next self.old.world.now (commands.Launch name.now)).1 ≡ Limit → ⊥) }
+        ensures err { OnErr result (self.new ≡ self.old) }
     {
         self.machine.launch(name)
     }
@@ -177,6 +192,7 @@ impl<J: Journal> Schedule<J> {
     fn launch_if(&mut self, name: &InstanceFmri) -> Result<(), NodeFault>
         ensures ok { OnOk result (self.new ≡ launched_if (is_some (restarter self.old.world name.now)) self.old name.now) }
         ensures later { IsLater self.old.world self.new.world }
+        ensures fault { IfErr result (λ e. IsUndone J.write_fails self.new.world.now (commands.Launch name.now) e) }
     {
         if self.is_launched(name) {
             return Ok(());
@@ -188,6 +204,8 @@ impl<J: Journal> Schedule<J> {
     fn ask(&mut self) -> Result<(), NodeFault>
         ensures ok { OnOk result (self.new ≡ on self.old events.Ask) }
         ensures later { IsLater self.old.world self.new.world }
+        ensures fault { IfErr result (λ e. e ≡ Memory) }
+        ensures err { OnErr result (self.new ≡ self.old) }
     {
         self.machine.say(Message::AskView)
     }
@@ -196,14 +214,179 @@ impl<J: Journal> Schedule<J> {
     fn order(&mut self) -> Result<(), NodeFault>
         ensures ok { OnOk result (self.new ≡ on self.old events.Orders) }
         ensures later { IsLater self.old.world self.new.world }
+        ensures fault { IfErr result (λ e. e ≡ Memory) }
+        ensures err { OnErr result (self.new ≡ self.old) }
     {
         self.machine.order()
+    }
+
+    /// Whether a message waits, and the oldest that does stands at this place.
+    fn is_next(&self, place: u64) -> bool
+        ensures { result ≡ (place == self.now.delivered && nat_lt place (length self.now.world.sent)) }
+    {
+        place == self.delivered as u64 && self.delivered < self.machine.parts.messages.len()
+    }
+
+    /// The oldest message that waits is delivered, where it stands at this place.
+    fn deliver_at(&mut self, place: u64) -> Result<(), NodeFault>
+        ensures ok { OnOk result (IsStep self.old (events.Deliver place) self.new None) }
+        ensures later { IsLater self.old.world self.new.world }
+        ensures fault { IfErr result (λ e. IsFault J.write_fails self.old (events.Deliver place) e) }
+        ensures err { OnErr result (self.new ≡ self.old) }
+    {
+        if !self.is_next(place) {
+            return Err(NodeFault::NoSuchMessage);
+        }
+        self.deliver_one()
+    }
+
+    /// A restarter that is not launched cannot act.
+    fn expect_launched(&self, name: &InstanceFmri) -> Result<(), NodeFault>
+        ensures ok { OnOk result (is_some (restarter self.now.world name.now) ≡ true) }
+        ensures absent { OnErr result (is_some (restarter self.now.world name.now) ≡ false) }
+        ensures fault { IfErr result (λ e. e ≡ NoSuchActor) }
+    {
+        if !self.is_launched(name) {
+            return Err(NodeFault::NoSuchActor);
+        }
+        Ok(())
+    }
+
+    /// A launched restarter has its turn.
+    fn tick_launched(&mut self, name: &InstanceFmri, instance: u64) -> Result<(), NodeFault>
+        ensures ok { (spawn : AnySpawn) → OnOk result (IsStep self.old (events.Tick name.now instance spawn) self.new None) }
+        ensures later { IsLater self.old.world self.new.world }
+        ensures fault { (spawn : AnySpawn) → IfErr result (λ e. IsFault J.write_fails self.old (events.Tick name.now instance spawn) e) }
+        ensures err { OnErr result (self.new ≡ self.old) }
+    {
+        self.expect_launched(name)?;
+        self.tick(name, instance)
+    }
+
+    /// A launched restarter is gone.
+    fn crash(&mut self, name: &InstanceFmri) -> Result<(), NodeFault>
+        ensures ok { OnOk result (IsStep self.old (events.Crash name.now) self.new None) }
+        ensures later { IsLater self.old.world self.new.world }
+        ensures fault { IfErr result (λ e. IsFault J.write_fails self.old (events.Crash name.now) e) }
+        ensures err { OnErr result (self.new ≡ self.old) }
+    {
+        self.expect_launched(name)?;
+        self.remove(name);
+        Ok(())
+    }
+
+    fn remove(&mut self, name: &InstanceFmri)
+        ensures { self.new ≡ on self.old (events.Crash name.now) }
+    {
+        self.machine.crash(name);
+    }
+
+    /// A restarter that is not launched begins.
+    fn launch_new(&mut self, name: &InstanceFmri) -> Result<(), NodeFault>
+        ensures ok { OnOk result (IsStep self.old (events.Launch name.now) self.new None) }
+        ensures later { IsLater self.old.world self.new.world }
+        ensures fault { IfErr result (λ e. IsFault J.write_fails self.old (events.Launch name.now) e) }
+        ensures err { OnErr result (self.new ≡ self.old) }
+    {
+        if self.is_launched(name) {
+            return Err(NodeFault::NoSuchActor);
+        }
+        self.launch(name)
+    }
+
+    /// What the actors knew is gone, and the repository boots.
+    fn boot(&mut self) -> Result<(), NodeFault>
+        ensures ok { OnOk result (IsStep self.old events.Boot self.new None) }
+        ensures later { IsLater self.old.world self.new.world }
+        ensures fault { IfErr result (λ e. IsFault J.write_fails self.old events.Boot e) }
+        ensures err { OnErr result (self.new ≡ self.old) }
+    {
+        self.machine.boot()
+    }
+
+    /// An event happens, if it may.
+    pub(crate) fn step(&mut self, event: Event) -> Result<Option<Reply>, NodeFault>
+        ensures exact { IfOk result (λ reply. IsStep self.old event self.new reply) }
+        ensures later { IsLater self.old.world self.new.world }
+        ensures fault { IfErr result (λ e. IsFault J.write_fails self.old event e) }
+        ensures err { OnErr result (self.new ≡ self.old) }
+    {
+        match event {
+            Event::Deliver(place) => {
+                self.deliver_at(place)?;
+                Ok(None)
+            }
+            Event::Client(edit) => {
+                let reply = self.apply(edit)?;
+                Ok(Some(reply))
+            }
+            Event::Ask => {
+                self.ask()?;
+                Ok(None)
+            }
+            Event::Orders => {
+                self.order()?;
+                Ok(None)
+            }
+            Event::Tick {
+                restarter,
+                instance,
+                ..
+            } => {
+                self.tick_launched(&restarter, instance)?;
+                Ok(None)
+            }
+            // No process is followed yet.
+            Event::Process { .. } => Ok(None),
+            Event::Report { .. } => Ok(None),
+            Event::Timeout { restarter, .. } => {
+                self.expect_launched(&restarter)?;
+                Ok(None)
+            }
+            Event::Crash(name) => {
+                self.crash(&name)?;
+                Ok(None)
+            }
+            Event::Launch(name) => {
+                self.launch_new(&name)?;
+                Ok(None)
+            }
+            Event::Boot => {
+                self.boot()?;
+                Ok(None)
+            }
+        }
+    }
+
+    /// An event happens, whose reply nobody asks for.
+    fn happen(&mut self, event: Event) -> Result<(), NodeFault>
+        ensures taken { OnOk result (refused self.old event ≡ None) }
+        ensures made { OnOk result (self.new ≡ stepped self.old event) }
+        ensures later { IsLater self.old.world self.new.world }
+        ensures fault { IfErr result (λ e. IsFault J.write_fails self.old event e) }
+        ensures err { OnErr result (self.new ≡ self.old) }
+    {
+        self.step(event)?;
+        Ok(())
+    }
+
+    /// Events happen in turn, up to the first that cannot.
+    pub(crate) fn run(&mut self, events: Vec<Event>) -> Result<(), NodeFault>
+        ensures ok { OnOk result (Goes self.old events.items self.new) }
+        ensures later { IsLater self.old.world self.new.world }
+        ensures err { IfErr result (λ e. Stops J.write_fails self.old events.items self.new e) }
+    {
+        for event in events {
+            self.happen(event)?;
+        }
+        Ok(())
     }
 
     #[tactic(auto, unfolding(smf_world::specs::Schedule::launch_turn))]
     fn launch_turn(&mut self) -> Result<(), NodeFault>
         ensures ok { OnOk result (self.new ≡ launch_turn self.old) }
         ensures later { IsLater self.old.world self.new.world }
+        ensures fault { IfErr result (λ e. IsUndone J.write_fails self.new.world.now (commands.Launch the_startd) e) }
     {
         let startd = startd(self.alloc)?;
         self.launch_if(&startd)?;
@@ -214,6 +397,7 @@ impl<J: Journal> Schedule<J> {
     fn graph_turn(&mut self) -> Result<(), NodeFault>
         ensures ok { OnOk result (self.new ≡ graph_turn self.old) }
         ensures later { IsLater self.old.world self.new.world }
+        ensures fault { IfErr result (λ e. IsUndone J.write_fails self.new.world.now (commands.Launch the_startd) e) }
     {
         self.ask()?;
         self.deliver_all()?;
@@ -224,6 +408,8 @@ impl<J: Journal> Schedule<J> {
     fn tick(&mut self, name: &InstanceFmri, instance: u64) -> Result<(), NodeFault>
         ensures ok { OnOk result (self.new ≡ tick self.old name.now instance) }
         ensures later { IsLater self.old.world self.new.world }
+        ensures fault { IfErr result (λ e. e ≡ Memory) }
+        ensures err { OnErr result (self.new ≡ self.old) }
     {
         self.machine.tick(name, instance)
     }
@@ -231,6 +417,7 @@ impl<J: Journal> Schedule<J> {
     fn tick_each(&mut self, name: &InstanceFmri, numbers: Vec<u64>) -> Result<(), NodeFault>
         ensures ok { OnOk result (self.new ≡ ticks self.old name.now numbers.items) }
         ensures later { IsLater self.old.world self.new.world }
+        ensures fault { IfErr result (λ e. IsUndone J.write_fails self.new.world.now (commands.Launch the_startd) e) }
     {
         for number in numbers {
             self.tick(name, number)?;
@@ -240,7 +427,8 @@ impl<J: Journal> Schedule<J> {
 
     /// The instances that a restarter knows.
     fn numbers_known(&self, name: &InstanceFmri) -> Result<Vec<u64>, NodeFault>
-        ensures { IfOk result (λ all. all.items ≡ numbers_known (restarter self.now.world name.now)) }
+        ensures exact { IfOk result (λ all. all.items ≡ numbers_known (restarter self.now.world name.now)) }
+        ensures fault { IfErr result (λ e. e ≡ Memory) }
     {
         let Some(at) = self.machine.place_of(name) else {
             return Ok(Vec::new(self.alloc));
@@ -253,6 +441,7 @@ impl<J: Journal> Schedule<J> {
     fn restarter_turn(&mut self, name: &InstanceFmri) -> Result<(), NodeFault>
         ensures ok { OnOk result (self.new ≡ restarter_turn self.old name.now) }
         ensures later { IsLater self.old.world self.new.world }
+        ensures fault { IfErr result (λ e. IsUndone J.write_fails self.new.world.now (commands.Launch the_startd) e) }
     {
         self.tick(name, 0)?;
         self.deliver_all()?;
@@ -264,6 +453,7 @@ impl<J: Journal> Schedule<J> {
     fn restarter_turns(&mut self, names: Vec<InstanceFmri>) -> Result<(), NodeFault>
         ensures ok { OnOk result (self.new ≡ restarter_turns self.old names.items) }
         ensures later { IsLater self.old.world self.new.world }
+        ensures fault { IfErr result (λ e. IsUndone J.write_fails self.new.world.now (commands.Launch the_startd) e) }
     {
         for name in names {
             self.restarter_turn(&name)?;
@@ -273,7 +463,8 @@ impl<J: Journal> Schedule<J> {
 
     /// The launched restarters.
     fn names(&self) -> Result<Vec<InstanceFmri>, NodeFault>
-        ensures { IfOk result (λ names. names.items ≡ names_of self.now) }
+        ensures exact { IfOk result (λ names. names.items ≡ names_of self.now) }
+        ensures fault { IfErr result (λ e. e ≡ Memory) }
     {
         let names = names_of(self.alloc, &self.machine.parts.restarters)?;
         Ok(names)
@@ -283,6 +474,7 @@ impl<J: Journal> Schedule<J> {
     fn round(&mut self) -> Result<(), NodeFault>
         ensures ok { OnOk result (self.new ≡ round self.old) }
         ensures later { IsLater self.old.world self.new.world }
+        ensures fault { IfErr result (λ e. IsUndone J.write_fails self.new.world.now (commands.Launch the_startd) e) }
     {
         self.launch_turn()?;
         self.graph_turn()?;
@@ -291,7 +483,8 @@ impl<J: Journal> Schedule<J> {
     }
 
     fn is_quiet(&self) -> Result<bool, NodeFault>
-        ensures { IfOk result (λ b. b ≡ is_quiet self.now.world) }
+        ensures exact { IfOk result (λ b. b ≡ is_quiet self.now.world) }
+        ensures fault { IfErr result (λ e. e ≡ Memory) }
     {
         let none = nothing_ordered(self.alloc, &self.machine.repository)?;
         let rest = all_rest(&self.machine.parts.restarters);
@@ -302,6 +495,7 @@ impl<J: Journal> Schedule<J> {
     pub(crate) fn settle(&mut self, rounds: u64) -> Result<Settled, NodeFault>
         ensures exact { IfOk result (λ how. IsSettled rounds self.old self.new how) }
         ensures later { IsLater self.old.world self.new.world }
+        ensures fault { IfErr result (λ e. IsUndone J.write_fails self.new.world.now (commands.Launch the_startd) e) }
     {
         for _ in 0..rounds {
             self.round()?;

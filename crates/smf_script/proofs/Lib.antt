@@ -6,3 +6,4 @@ pub mod Partly
 pub mod Giving
 pub mod Looking
 pub mod Doing
+pub mod Why

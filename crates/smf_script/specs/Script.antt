@@ -1,6 +1,11 @@
 -- What a script of lines gives.
 use Rattle.std.specs.Prelude.{◌≡◌, ◌<◌, ℕ, ◌+◌, List, [], ◌∷◌, ◌++◌, ◌&&◌, take, Bool, true, false, Option}
 use Rattle.std.specs.Io.KnownBytes.{Appends}
+use Rattle.smf_model.specs.declared.command.Command.TheVariants as commands
+use Rattle.smf_model.specs.declared.journal.RepoFault.{RepoFault}
+use Rattle.smf_model.specs.Setting.{startd}
+use Rattle.smf_node.specs.declared.fault.NodeFault.TheVariants.{Memory}
+use Rattle.smf_node.specs.Faults.{IsUndone}
 use Rattle.smf_script.specs.Reading.{counts_of}
 use Rattle.smf_script.specs.Session.{Effect, Session, effect}
 use Rattle.smf_script.specs.declared.fault.ScriptFault.{ScriptFault}
@@ -78,6 +83,20 @@ IsOther (TooManyLines interrupted) = ⊥
 IsOther (Node fault) = Unit {0}
 IsOther (Input fault) = Unit {0}
 IsOther (Output fault) = Unit {0}
+
+-- why the node ended a line: memory ran out, its journal could not be written, or svc.startd's restarter has no next launch
+abbrev pub IsWhy : (RepoFault → Type 0) → ScriptFault → Progress → Type 0
+IsWhy fails (Node fault) after = IsUndone fails after.world.now (commands.Launch startd) fault
+IsWhy fails (Input fault) after = Unit {0}
+IsWhy fails (Output fault) after = Unit {0}
+IsWhy fails (TooManyLines interrupted) after = Unit {0}
+
+-- a fault of the node that is want of memory, or one of another kind
+abbrev pub IsMemoryAlone : ScriptFault → Type 0
+IsMemoryAlone (Node fault) = fault ≡ Memory
+IsMemoryAlone (Input fault) = Unit {0}
+IsMemoryAlone (Output fault) = Unit {0}
+IsMemoryAlone (TooManyLines interrupted) = Unit {0}
 
 -- a script was ended by a fault: some of its lines were done, and their text was written
 pub record Stops (fault : ScriptFault) (start : Session) (lines : List (List ℕ)) (after : Progress) (old new : Option (List ℕ)) : Type 0 where

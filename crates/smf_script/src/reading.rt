@@ -1,7 +1,7 @@
 ghost use Rattle.std.specs.Prelude.{◌≡◌, ◌≤◌, ◌<◌, ◌+◌, ◌^◌, ◌++◌, length, take, option_map, IfErr, IfOk, IfSome, IsSome, OnOk};
 ghost use Rattle.std.specs.List.{position_or_len};
 ghost use Rattle.smf_script.specs.Reading.{IsLine, IsTaken, counts_of, held_by, is_end, kept, lines_of, part_of, taken_by};
-ghost use Rattle.smf_script.specs.Script.{IsOther, IsPast};
+ghost use Rattle.smf_script.specs.Script.{IsMemoryAlone, IsOther, IsPast};
 
 use crate::fault::ScriptFault;
 use crate::request::MAX_LINE;
@@ -106,6 +106,7 @@ fn take_part<R: BufRead>(
     ensures within { IfOk result (λ part. held_by part ≤ room) }
     ensures exact { IfOk result (λ part. IsTaken part room (R.remaining reader.old) (R.remaining reader.new) line.old.items line.new.items) }
     ensures err { IfErr result (λ e. IsOther e) }
+    ensures memory { IfErr result (λ e. IsMemoryAlone e) }
 {
     let shown = match reader.fill_buf() {
         Ok(shown) => shown,
@@ -135,6 +136,7 @@ pub(crate) fn read_line<R: BufRead>(
         IsLine (option_map (λ v. v.items) line) left (R.remaining reader.new) (turns.old.left + turns.old.interrupted) (turns.new.left + turns.new.interrupted))) }
     ensures err { IfErr result (λ e. IfSome (R.remaining reader.old) (λ left.
         IsPast e (turns.old.left + turns.old.interrupted) (counts_of (take 1 (lines_of left))))) }
+    ensures memory { IfErr result (λ e. IsMemoryAlone e) }
 {
     let mut line = Vec::new(alloc);
     let mut len = 0;

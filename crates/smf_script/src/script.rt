@@ -1,6 +1,6 @@
-ghost use Rattle.std.specs.Prelude.{◌≡◌, ◌≤◌, [], IfErr, IfOk, IfSome};
+ghost use Rattle.std.specs.Prelude.{◌≡◌, ◌≤◌, IfErr, IfOk, IfSome};
 ghost use Rattle.smf_script.specs.Reading.{counts_of, lines_of};
-ghost use Rattle.smf_script.specs.Script.{Ends, IsCut, IsWritten, Stops, begun, script, status_of};
+ghost use Rattle.smf_script.specs.Script.{Ends, IsCut, IsWhy, IsWritten, Stops, begun, script, status_of};
 ghost use Rattle.smf_script.specs.Session.{effect};
 ghost use Rattle.smf_world.specs.Reached.{IsLater};
 
@@ -25,6 +25,7 @@ fn do_line<W: Write, J: Journal>(
     ensures exact { IfOk result (λ fine. IsWritten (effect (record { progress = node.old; selection = selection.old }) line.now) node.new selection.new (W.contents writer.old) (W.contents writer.new) fine) }
     ensures err { IfErr result (λ e. IsCut e (record { progress = node.old; selection = selection.old }) line.now node.new (W.contents writer.old) (W.contents writer.new)) }
     ensures later { IsLater node.old.world node.new.world }
+    ensures fault { IfErr result (λ e. IsWhy J.write_fails e node.new) }
 {
     let mut text = String::new(alloc);
     let fine = run_line(alloc, node, selection, line, &mut text)?;
@@ -55,6 +56,7 @@ pub fn run_script<R: BufRead, W: Write, J: Journal>(
     ensures err { IfErr result (λ fault. IfSome (R.remaining reader.old) (λ input.
         Stops fault (begun node.old) (lines_of input) node.new (W.contents writer.old) (W.contents writer.new))) }
     ensures later { IsLater node.old.world node.new.world }
+    ensures fault { IfErr result (λ e. IsWhy J.write_fails e node.new) }
 {
     let mut fine = true;
     let mut selection = Selection::Nothing;

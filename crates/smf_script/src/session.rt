@@ -1,7 +1,10 @@
-ghost use Rattle.std.specs.Prelude.{◌≡◌, [], ◌++◌, ◌∷◌, IfOk, OnOk, is_none, reverse, string_bytes};
+ghost use Rattle.std.specs.Prelude.{◌≡◌, [], ◌++◌, ◌∷◌, IfErr, IfOk, OnOk, is_none, reverse, string_bytes};
 ghost use Rattle.smf_admin.specs.Asking.{commands_of};
 ghost use Rattle.smf_admin.specs.Listing.{svcs_text};
+ghost use Rattle.smf_model.specs.declared.command.Command.TheVariants as commands;
+ghost use Rattle.smf_model.specs.Setting.{startd as the_startd};
 ghost use Rattle.smf_model.specs.Shown.{view};
+ghost use Rattle.smf_node.specs.Faults.{IsUndone};
 ghost use Rattle.smf_repo.specs.Refusals.{refusal};
 ghost use Rattle.smf_script.specs.Session.{IsDeed, IsEffect, asked, asked_all, done, effect, effect_of, given, settle, settled_text, svcadm, svccfg, svcs, told_text};
 ghost use Rattle.smf_script.specs.Text.{trail_text};
@@ -52,6 +55,7 @@ fn give<J: Journal>(
 ) -> Result<bool, NodeFault>
     ensures exact { IfOk result (λ fine. IsDeed (given program.now node.old edit) node.new (string_bytes out.old) (string_bytes out.new) fine) }
     ensures later { IsLater node.old.world node.new.world }
+    ensures fault { IfErr result (λ e. IsUndone J.write_fails node.new.world.now (commands.Launch the_startd) e) }
 {
     let reply = node.apply(edit)?;
     let fine = report(alloc, &reply, program, out)?;
@@ -68,6 +72,7 @@ fn svccfg<J: Journal>(
 ) -> Result<bool, NodeFault>
     ensures exact { IfOk result (λ fine. IsEffect (svccfg (record { progress = node.old; selection = selection.old }) line.now) node.new selection.new (string_bytes out.old) (string_bytes out.new) fine) }
     ensures later { IsLater node.old.world node.new.world }
+    ensures fault { IfErr result (λ e. IsUndone J.write_fails node.new.world.now (commands.Launch the_startd) e) }
 {
     match judge(alloc, node.repository(), selection, line) {
         Ok(Judged::Nothing) => Ok(true),
@@ -94,6 +99,7 @@ fn asked<J: Journal>(
 ) -> Result<bool, NodeFault>
     ensures exact { IfOk result (λ fine. IsDeed (asked node.old one) node.new (string_bytes out.old) (string_bytes out.new) fine) }
     ensures later { IsLater node.old.world node.new.world }
+    ensures fault { IfErr result (λ e. IsUndone J.write_fails node.new.world.now (commands.Launch the_startd) e) }
 {
     match one {
         Asked::Edit(edit) => give(alloc, node, edit, "svcadm: ", out),
@@ -117,6 +123,7 @@ fn asked_all<J: Journal>(
 ) -> Result<bool, NodeFault>
     ensures exact { IfOk result (λ fine. IsDeed (asked_all (done node.old []) all) node.new (string_bytes out.old) (string_bytes out.new) fine) }
     ensures later { IsLater node.old.world node.new.world }
+    ensures fault { IfErr result (λ e. IsUndone J.write_fails node.new.world.now (commands.Launch the_startd) e) }
 {
     let mut fine = true;
     for one in all.into_vec() {
@@ -147,6 +154,7 @@ fn svcadm<J: Journal>(
 ) -> Result<bool, NodeFault>
     ensures exact { IfOk result (λ fine. IsDeed (svcadm node.old words.now) node.new (string_bytes out.old) (string_bytes out.new) fine) }
     ensures later { IsLater node.old.world node.new.world }
+    ensures fault { IfErr result (λ e. IsUndone J.write_fails node.new.world.now (commands.Launch the_startd) e) }
 {
     match commands_on(alloc, node, words)? {
         Some(all) => asked_all(alloc, node, all, out),
@@ -196,6 +204,7 @@ fn settled_text(how: Settled) -> &'static str
 fn settle<J: Journal>(node: &mut Node<J>, rounds: u64, out: &mut String) -> Result<bool, NodeFault>
     ensures exact { IfOk result (λ fine. IsDeed (settle node.old rounds) node.new (string_bytes out.old) (string_bytes out.new) fine) }
     ensures later { IsLater node.old.world node.new.world }
+    ensures fault { IfErr result (λ e. IsUndone J.write_fails node.new.world.now (commands.Launch the_startd) e) }
 {
     let how = node.settle(rounds)?;
     out.push_str(settled_text(how))?;
@@ -220,6 +229,7 @@ fn run_request<J: Journal>(
 ) -> Result<bool, NodeFault>
     ensures exact { IfOk result (λ fine. IsEffect (effect_of (record { progress = node.old; selection = selection.old }) request.now) node.new selection.new (string_bytes out.old) (string_bytes out.new) fine) }
     ensures later { IsLater node.old.world node.new.world }
+    ensures fault { IfErr result (λ e. IsUndone J.write_fails node.new.world.now (commands.Launch the_startd) e) }
 {
     match request {
         Request::Nothing => Ok(true),
@@ -252,6 +262,7 @@ pub(crate) fn run_line<J: Journal>(
 ) -> Result<bool, NodeFault>
     ensures exact { IfOk result (λ fine. IsEffect (effect (record { progress = node.old; selection = selection.old }) line.now) node.new selection.new (string_bytes out.old) (string_bytes out.new) fine) }
     ensures later { IsLater node.old.world node.new.world }
+    ensures fault { IfErr result (λ e. IsUndone J.write_fails node.new.world.now (commands.Launch the_startd) e) }
 {
     let request = request_of(alloc, line)?;
     run_request(alloc, node, selection, &request, out)

@@ -38,6 +38,7 @@ use Rattle.smf_world.proofs.Lasting.{of_reply}
 use Rattle.smf_world.proofs.Noting.{made_commit, noted_more}
 use Rattle.smf_world.proofs.Pushed.{last_held, tracked_at}
 use Rattle.smf_world.proofs.Told.{Grows, InstancesTold, MessageTold, MessagesTold, OneTold, OptionTold, RowTold, RowsTold, ViewTold, all_reversed, grows, held_commits, last_was, messages_later, newer_told, orders_told, rows_told, sent_told, tracked_told, view_later, view_told, was_in}
+use Rattle.smf_world.proofs.Once.{once}
 use Rattle.smf_world.proofs.Tracked.{IsTracked, Tracked, tracked_kept, first_boot, accepted_boot, run_along}
 use Rattle.smf_world.proofs.Logged.{run_follows}
 
@@ -236,4 +237,4 @@ pub run_honest : (h : Holdings) (es : List Event) → IsNumbered h → (next h c
 run_honest h es n done = (honest_run es (happens (found h) events.Boot) (first_honest h done n)).held
 
 pub run_safe : (h : Holdings) (es : List Event) → IsNumbered h → (next h commands.Boot).1 ≡ answers.Done → IsSafe (run es (happens (found h) events.Boot))
-run_safe h es n done = record { history = run_follows h (events.Boot ∷ es) n; diagram = run_along h es n done; held = run_honest h es n done }
+run_safe h es n done = record { history = run_follows h (events.Boot ∷ es) n; diagram = run_along h es n done; once = once (run es (happens (found h) events.Boot)).trail (run_along h es n done); held = run_honest h es n done }

@@ -12,3 +12,4 @@ pub mod Answered
 pub mod Honest
 pub mod RefusedBoot
 pub mod Reaching
+pub mod Once

@@ -55,21 +55,21 @@ pub later_first : (w v : World) → IsLater w v → v.history.first ≡ w.histor
 later_first w v l = ap (λ x. x.history.first) (sym l.1) ∙ run_first l.0 w
 
 abbrev ReachedFrom : World → Holdings → Type 0
-ReachedFrom w h = ((next h commands.Boot).1 ≡ answers.Done) × IsLater (happens (found h) events.Boot) w
+ReachedFrom w h = IsNumbered h × ((next h commands.Boot).1 ≡ answers.Done) × IsLater (happens (found h) events.Boot) w
 
-reached_as : (w : World) (h : Holdings) → w.history.first ≡ h → (next h commands.Boot).1 ≡ answers.Done → IsLater (happens (found h) events.Boot) w → IsReached w
-reached_as w h e done l =
-    let r : ReachedFrom w w.history.first = subst (ReachedFrom w) (sym e) (done, l) in
-    record { accepted = r.0; since = r.1 }
+reached_as : (w : World) (h : Holdings) → w.history.first ≡ h → ReachedFrom w h → IsReached w
+reached_as w h e r =
+    let of : ReachedFrom w w.history.first = subst (ReachedFrom w) (sym e) r in
+    record { numbered = of.0; accepted = of.1; since = of.2 }
 
 pub reached_later : (w v : World) → IsReached w → IsLater w v → IsReached v
-reached_later w v r l = reached_as v w.history.first (later_first w v l) r.accepted (later_then _ w v r.since l)
+reached_later w v r l = reached_as v w.history.first (later_first w v l) (r.numbered, r.accepted, later_then _ w v r.since l)
 
 -- behind an accepted boot
-pub reached_first : (h : Holdings) (w : World) → (next h commands.Boot).1 ≡ answers.Done → w ≡ happens (found h) events.Boot → IsReached w
-reached_first h w done e =
+pub reached_first : (h : Holdings) (w : World) → IsNumbered h → (next h commands.Boot).1 ≡ answers.Done → w ≡ happens (found h) events.Boot → IsReached w
+reached_first h w numbered done e =
     let l : IsLater (happens (found h) events.Boot) w = later_same _ w e in
-    reached_as w h (later_first (found h) w (later_by (found h) w events.Boot e)) done l
+    reached_as w h (later_first (found h) w (later_by (found h) w events.Boot e)) (numbered, done, l)
 
-pub reached_safe : (w : World) → IsReached w → IsNumbered w.history.first → IsSafe w
-reached_safe w r n = subst IsSafe r.since.1 (run_safe w.history.first r.since.0 n r.accepted)
+pub reached_safe : (w : World) → IsReached w → IsSafe w
+reached_safe w r = subst IsSafe r.since.1 (run_safe w.history.first r.since.0 r.numbered r.accepted)

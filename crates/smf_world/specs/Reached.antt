@@ -2,6 +2,7 @@
 use Rattle.std.specs.Prelude.{◌≡◌, List}
 use Rattle.smf_model.specs.declared.command.Command.TheVariants as commands
 use Rattle.smf_model.specs.declared.command.Reply.TheVariants as answers
+use Rattle.smf_model.specs.Laws.{IsNumbered}
 use Rattle.smf_model.specs.Next.{next}
 use Rattle.smf_world.specs.declared.event.Event.{Event}
 use Rattle.smf_world.specs.declared.event.Event.TheVariants as events
@@ -13,7 +14,8 @@ use Rattle.smf_world.specs.World.{World, found}
 abbrev pub IsLater : World → World → Type 0
 IsLater w v = (es : List Event) × (run es w ≡ v)
 
--- a boot of what was found was accepted, and a list of events behind it makes this world
+-- numbers were given once in what was found, a boot of it was accepted, and a list of events behind it makes this world
 pub record IsReached (w : World) : Type 0 where
+  pub numbered : IsNumbered w.history.first
   pub accepted : (next w.history.first commands.Boot).1 ≡ answers.Done
   pub since : IsLater (happens (found w.history.first) events.Boot) w

@@ -85,6 +85,20 @@ AlongTheDiagram [] = Unit {0}
 AlongTheDiagram (Committed i n state next ∷ trail) = RowFollows (last_of i trail) n state × AlongTheDiagram trail
 AlongTheDiagram (item ∷ trail) = AlongTheDiagram trail
 
+-- ---- committed once
+
+-- whether a row of an instance was committed with this number
+abbrev pub WasNumbered : ℕ → ℕ → List Item → Type 0
+WasNumbered i number [] = ⊥
+WasNumbered i number (Committed j n s next ∷ trail) = ((j ≡ i) × (n ≡ number)) ⊎ WasNumbered i number trail
+WasNumbered i number (item ∷ trail) = WasNumbered i number trail
+
+-- no two commits of an instance share a number
+abbrev pub CommittedOnce : List Item → Type 0
+CommittedOnce [] = Unit {0}
+CommittedOnce (Committed i n state next ∷ trail) = (WasNumbered i n trail → ⊥) × CommittedOnce trail
+CommittedOnce (item ∷ trail) = CommittedOnce trail
+
 -- ---- held was committed
 
 -- whether a row of an instance was committed with this number in this state
@@ -101,8 +115,10 @@ HeldWereCommitted (item ∷ trail) = HeldWereCommitted trail
 
 -- ---- the whole
 
--- the trail shows what the history is, changes states only along the diagram, and shows no row held that was not committed
+-- the trail shows what the history is, changes states only along the diagram, shows no number of an instance committed
+-- twice, and no row held that was not committed
 pub record IsSafe (w : World) : Type 0 where
   pub history : CommitsFollowHistory w
   pub diagram : AlongTheDiagram w.trail
+  pub once : CommittedOnce w.trail
   pub held : HeldWereCommitted w.trail

@@ -9,7 +9,7 @@ ghost use Rattle.smf_world.specs.declared.event.Event.TheVariants as events;
 ghost use Rattle.smf_world.specs.Happens.{happens};
 ghost use Rattle.smf_world.specs.Reached.{IsLater, IsReached};
 ghost use Rattle.smf_world.specs.Runs.{run};
-ghost use Rattle.smf_world.specs.Safe.{AlongTheDiagram, CommitsFollowHistory, HeldWereCommitted, IsSafe};
+ghost use Rattle.smf_world.specs.Safe.{AlongTheDiagram, CommitsFollowHistory, CommittedOnce, HeldWereCommitted, IsSafe};
 ghost use Rattle.smf_world.specs.World.{World, found};
 
 /// What the trail shows as committed is the history of the repository, whatever happens: the boots, and the rows that
@@ -25,6 +25,7 @@ pub fn commits_follow_history()
 /// trail does not show where they began.
 pub fn states_go_along_the_diagram()
     ensures along { (h : Holdings) (es : List AnyEvent) → IsNumbered h → (next h commands.Boot).1 ≡ answers.Done → AlongTheDiagram (run es (happens (found h) events.Boot)).trail }
+    ensures once { (h : Holdings) (es : List AnyEvent) → IsNumbered h → (next h commands.Boot).1 ≡ answers.Done → CommittedOnce (run es (happens (found h) events.Boot)).trail }
     ensures boot_needed { (h : Holdings) × (es : List AnyEvent) × IsNumbered h × (AlongTheDiagram (run es (happens (found h) events.Boot)).trail → ⊥) }
 {}
 
@@ -37,6 +38,6 @@ pub fn held_rows_were_committed()
 /// The laws of the trail together, also of each world that is reached.
 pub fn whatever_happens_is_safe()
     ensures always { (h : Holdings) (es : List AnyEvent) → IsNumbered h → (next h commands.Boot).1 ≡ answers.Done → IsSafe (run es (happens (found h) events.Boot)) }
-    ensures reached { (w : World) → IsReached w → IsNumbered w.history.first → IsSafe w }
+    ensures reached { (w : World) → IsReached w → IsSafe w }
     ensures later { (w v : World) → IsReached w → IsLater w v → IsReached v }
 {}

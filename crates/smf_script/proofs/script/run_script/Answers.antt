@@ -2,6 +2,7 @@ use Rattle.std.proofs.Common.{◌≡◌, [], arith}
 use Rattle.std.proofs.lemmas.Option.{IfSome_then}
 use Rattle.std.proofs.lemmas.Result.{err_from_is_err_and}
 use Rattle.smf_script.proofs.Doing.{at_known, few_lines, goes_first, goes_on, goes_to_end, of_known, stops_doing, stops_reading}
+use Rattle.smf_script.proofs.Why.{why_memory}
 use Rattle.smf_world.proofs.Reaching.{later_self, later_then}
 use Rattle.smf_script.proofs.script.run_script.Goals as goal
 
@@ -50,3 +51,13 @@ returns-in-None-clause-few g c =
     (λ input so_far.
     let none : so_far.rest ≡ [] = at_known _ _ (λ left. left ≡ []) so_far.is_left (rw c.in-None.is at c.in_ok-read_line.ensures.exact) in
     few_lines _ _ _ _ _ _ _ _ _ so_far none)
+
+pub returns-in_err-read_line-clause-fault : goal.returns-in_err-read_line-clause-fault
+returns-in_err-read_line-clause-fault g c =
+    let p = err_from_is_err_and c.from_residual.result c.from_residual.ensures.1 in
+    rw (p.1, p.2) (why_memory g.J.Journal.write_fails _ _ c.in_err-read_line.ensures.memory)
+
+pub returns-in_err-did-in-Some-clause-fault : goal.returns-in_err-did-in-Some-clause-fault
+returns-in_err-did-in-Some-clause-fault g c =
+    let p = err_from_is_err_and c.from_residual-in_err-did-in-Some.result c.from_residual-in_err-did-in-Some.ensures.1 in
+    rw (p.1, p.2) c.in_err-did-in-Some.ensures.fault
