@@ -13,3 +13,6 @@ mod schedule;
 
 pub use fault::NodeFault;
 pub use node::Node;
+
+#[cfg(test)]
+mod tests;
