@@ -1,32 +1,23 @@
 -- With which faults calls end.
-use Rattle.std.proofs.Common.{◌≡◌, ◌⊎◌, ℕ, List, Bool, true, false, None, Result, Ok, Err, IfErr, OnOk, refl, sym, ap, ◌∙◌, inl, inr, subst}
+use Rattle.std.proofs.Common.{◌≡◌, ℕ, List, Bool, false, None, Result, Ok, Err, IfErr, OnOk, refl, sym, ap, ◌∙◌, inl, inr, subst}
 use Rattle.std.specs.Result.{IsErrAnd}
 use Rattle.smf_model.specs.declared.command.Command.TheVariants as commands
 use Rattle.smf_model.specs.declared.command.Reply.{Reply as Answer}
 use Rattle.smf_model.specs.declared.command.Reply.TheVariants as answers
 use Rattle.smf_model.specs.declared.command.Command.{Command}
 use Rattle.smf_model.specs.declared.journal.RepoFault.{RepoFault}
-use Rattle.smf_model.specs.declared.journal.RepoFault.TheVariants as journals
 use Rattle.smf_model.specs.Holdings.{Holdings}
 use Rattle.smf_model.specs.Next.{next}
-use Rattle.smf_wire.specs.declared.message.Message.{Message}
 use Rattle.smf_world.specs.Happens.{IsCommitted}
 use Rattle.smf_node.specs.declared.fault.NodeFault.{NodeFault}
-use Rattle.smf_node.specs.declared.fault.NodeFault.TheVariants.{Memory, Database, Limit}
+use Rattle.smf_node.specs.declared.fault.NodeFault.TheVariants.{Limit}
 use Rattle.smf_node.specs.declared.machine.Parts.{Parts}
-use Rattle.smf_node.specs.Faults.{EndsWith, HasNoReply, IsUndone, told}
+use Rattle.smf_node.specs.Faults.{EndsWith, HasNoReply, IsUndone}
 use Rattle.smf_node.specs.Parts.{is_done, launch_in, world_of}
-use Rattle.smf_node.specs.Steps.{is_proposal}
 use Rattle.smf_node.proofs.Begun.{boot_limit, launch_limit}
 
 abbrev Fails : Type 1
 Fails = RepoFault → Type 0
-
--- the journal's fault
-pub no_reply : (fails : Fails) (r : RepoFault) (e : NodeFault) → e ≡ told r → (r ≡ journals.Memory) ⊎ fails r → HasNoReply fails e
-no_reply fails journals.Memory e is f = inl is
-no_reply fails journals.Database e is (inl m) = absurd cc
-no_reply fails journals.Database e is (inr w) = inr (is, refl, w)
 
 pub any_reach : (fails : Fails) (b : Bool) (e : NodeFault) → EndsWith b fails e → HasNoReply fails e
 any_reach fails b e (inl m) = inl m
@@ -34,25 +25,6 @@ any_reach fails b e (inr d) = inr (d.0, refl, d.2)
 
 pub reach_as : (fails : Fails) (a b : Bool) (e : NodeFault) → a ≡ b → EndsWith b fails e → EndsWith a fails e
 reach_as fails a b e same f = subst (λ (x : Bool). EndsWith x fails e) (sym same) f
-
--- a message that is a proposal
-pub proposal_ends : {X : Type 0} (fails : Fails) (m n : Message) (r : Result X NodeFault) → m ≡ n → is_proposal n ≡ true → IfErr r (λ e. HasNoReply fails e) → IfErr r (λ e. EndsWith (is_proposal m) fails e)
-proposal_ends fails m n (Ok x) same is f = tt
-proposal_ends fails m n (Err e) same is f = reach_as fails (is_proposal m) true e (ap is_proposal same ∙ is) f
-
-pub memory_ends : {X : Type 0} (fails : Fails) (b : Bool) (r : Result X NodeFault) → IfErr r (λ e. e ≡ Memory) → IfErr r (λ e. EndsWith b fails e)
-memory_ends fails b (Ok x) f = tt
-memory_ends fails b (Err e) f = inl f
-
-pub undone_memory : (fails : Fails) (h : Holdings) (c : Command) (e : NodeFault) → e ≡ Memory → IsUndone fails h c e
-undone_memory fails h c e m = inl (inl m)
-
-pub undone_if : {X : Type 0} (fails : Fails) (h : Holdings) (c : Command) (r : Result X NodeFault) → IfErr r (λ e. e ≡ Memory) → IfErr r (λ e. IsUndone fails h c e)
-undone_if fails h c (Ok x) f = tt
-undone_if fails h c (Err e) f = inl (inl f)
-
-pub undone_reach : (fails : Fails) (h : Holdings) (c : Command) (b : Bool) (e : NodeFault) → EndsWith b fails e → IsUndone fails h c e
-undone_reach fails h c b e f = inl (any_reach fails b e f)
 
 -- a command of a name that is a copy
 pub launch_undone : (fails : Fails) (h k : Holdings) (p q : Parts) (name named : List ℕ) (r : Answer) (e : NodeFault) → IsCommitted (world_of h p) (commands.Launch named) (world_of k q) r → named ≡ name → launch_in r ≡ None → e ≡ Limit → IsUndone fails h (commands.Launch name) e

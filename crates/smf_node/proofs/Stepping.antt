@@ -22,7 +22,7 @@ use Rattle.smf_world.specs.Schedule.{Progress, deliver_at, deliver_one, on}
 use Rattle.smf_world.specs.World.{World}
 use Rattle.smf_node.specs.declared.fault.NodeFault.{NodeFault}
 use Rattle.smf_node.specs.declared.fault.NodeFault.TheVariants.{Memory, Limit, NoSuchActor, NoSuchMessage}
-use Rattle.smf_node.specs.Faults.{EndsWith, HasNoReply, IsUndone}
+use Rattle.smf_node.specs.Faults.{EndsWith, IsUndone}
 use Rattle.smf_node.specs.Steps.{FaultOf, Goes, IsFault, IsPastLimit, IsStep, Stops, gives_command, refused, stepped}
 
 abbrev Fails : Type 1
@@ -94,13 +94,6 @@ there o b e = ap not e
 against : (b : Bool) (t : Bool) → t ≡ b → cond t (Some NoSuchActor) None ≡ cond b (Some NoSuchActor) None
 against b t e = ap (λ (x : Bool). cond x (Some NoSuchActor) None) e
 
--- an event of a restarter that is launched
-abbrev IsOfLaunched : Event → List ℕ → Type 0
-IsOfLaunched (events.Tick name n spawn) who = name ≡ who
-IsOfLaunched (events.Timeout name n) who = name ≡ who
-IsOfLaunched (events.Crash name) who = name ≡ who
-IsOfLaunched event who = ⊥
-
 tick_refused : (p : Progress) (name : List ℕ) (n : ℕ) (spawn : SpawnAnswer) (b : Bool) → is_some (restarter p.world name) ≡ b → refused p (events.Tick name n spawn) ≡ cond (not b) (Some NoSuchActor) None
 tick_refused p name n spawn b e = against (not b) (is_none (restarter p.world name)) (there (restarter p.world name) b e)
 
@@ -126,9 +119,6 @@ tick_ends fails p name n spawn r e f = ends_if fails p (events.Tick name n spawn
 
 pub no_tick : (fails : Fails) (p : Progress) (name : List ℕ) (n : ℕ) (spawn : SpawnAnswer) (e : NodeFault) → is_some (restarter p.world name) ≡ false → e ≡ NoSuchActor → IsFault fails p (events.Tick name n spawn) e
 no_tick fails p name n spawn e none is = cannot fails p (events.Tick name n spawn) e NoSuchActor (tick_refused p name n spawn false none) is
-
-pub no_timeout : (fails : Fails) (p : Progress) (name : List ℕ) (n : ℕ) (event : Event) (e : NodeFault) → event ≡ events.Timeout name n → is_some (restarter p.world name) ≡ false → e ≡ NoSuchActor → IsFault fails p event e
-no_timeout fails p name n event e same none is = subst (λ (x : Event). IsFault fails p x e) (sym same) (cannot fails p (events.Timeout name n) e NoSuchActor (timeout_refused p name n false none) is)
 
 timeout_is : (p : Progress) (name : List ℕ) (n : ℕ) → p ≡ stepped p (events.Timeout name n)
 unfolding happens
@@ -178,21 +168,6 @@ gives p q edit event r is made same =
     subst (λ (x : Event). IsStep p x q (Some r)) (sym is)
     (record { taken = refl; within = λ x. x; made = edit_is p q edit r made.made same; said = ap (λ (x : World × Answer). Some x.1) (sym made.made) })
 
-pub gives_not : (fails : Fails) (p : Progress) (edit : Edit) (event : Event) (e : NodeFault) → event ≡ events.Client edit → HasNoReply fails e → IsFault fails p event e
-gives_not fails p edit event e is f = subst (λ (x : Event). IsFault fails p x e) (sym is) (may_end fails p (events.Client edit) e refl (inl f))
-
-pub asks : (p q : Progress) (event : Event) → event ≡ events.Ask → q ≡ on p events.Ask → IsStep p event q None
-asks p q event is made = subst (λ (x : Event). IsStep p x q None) (sym is) (record { taken = refl; within = λ x. x; made = made; said = refl })
-
-pub asks_not : (fails : Fails) (p : Progress) (event : Event) (e : NodeFault) → event ≡ events.Ask → e ≡ Memory → IsFault fails p event e
-asks_not fails p event e is f = subst (λ (x : Event). IsFault fails p x e) (sym is) (may_end fails p events.Ask e refl (inl (inl f)))
-
-pub orders : (p q : Progress) (event : Event) → event ≡ events.Orders → q ≡ on p events.Orders → IsStep p event q None
-orders p q event is made = subst (λ (x : Event). IsStep p x q None) (sym is) (record { taken = refl; within = λ x. x; made = made; said = refl })
-
-pub orders_not : (fails : Fails) (p : Progress) (event : Event) (e : NodeFault) → event ≡ events.Orders → e ≡ Memory → IsFault fails p event e
-orders_not fails p event e is f = subst (λ (x : Event). IsFault fails p x e) (sym is) (may_end fails p events.Orders e refl (inl (inl f)))
-
 process_is : (p : Progress) (process : ℕ) (what : ProcessEvent) → p ≡ stepped p (events.Process process what)
 unfolding happens
 process_is p process what = refl
@@ -209,9 +184,6 @@ report_happens p contract number event is = subst (λ (x : Event). IsStep p x p 
 
 pub step_as : (p q : Progress) (event other : Event) (r : Option Answer) → event ≡ other → IsStep p other q r → IsStep p event q r
 step_as p q event other r is s = subst (λ (x : Event). IsStep p x q r) (sym is) s
-
-pub fault_as : (fails : Fails) (p : Progress) (event other : Event) (e : NodeFault) → event ≡ other → IsFault fails p other e → IsFault fails p event e
-fault_as fails p event other e is f = subst (λ (x : Event). IsFault fails p x e) (sym is) f
 
 -- ---- lists of events
 

@@ -18,7 +18,7 @@ use Rattle.smf_world.specs.declared.event.Event.{Event}
 use Rattle.smf_world.specs.declared.event.Event.TheVariants as events
 use Rattle.smf_world.specs.declared.schedule.Settled.TheVariants.{Quiet, Busy}
 use Rattle.smf_world.specs.Happens.{IsCommitted, delivered, delivered_if, happens, is_named, restarter, said, sent_at}
-use Rattle.smf_world.specs.Schedule.{IsSettled, Progress, on, deliver, deliver_at, deliver_one, deliver_waiting, has_no_orders, is_quiet, names_of, numbers_known, round, settled}
+use Rattle.smf_world.specs.Schedule.{IsSettled, Progress, on, deliver, deliver_at, deliver_one, has_no_orders, is_quiet, names_of, numbers_known, round, settled}
 use Rattle.smf_world.specs.World.{World, found}
 use Rattle.smf_world.specs.Reached.{IsLater}
 use Rattle.smf_world.proofs.Reaching.{later_by, later_same}
@@ -56,9 +56,6 @@ one_delivered h k p q n m e d =
 all_sent : (h : Holdings) (p : Parts) → length (world_of h p).sent ≡ length p.messages.items
 unfolding world_of
 all_sent h p = length-reverse p.messages.items
-
-pub waiting_is : (h : Holdings) (p : Parts) (n : ℕ) (s : Progress) → s ≡ deliver (length p.messages.items - n) (progress (world_of h p) n) → s ≡ deliver_waiting (progress (world_of h p) n)
-waiting_is h p n s e = e ∙ sym (ap (λ k. deliver (k - n) (progress (world_of h p) n)) (all_sent h p))
 
 pub deliver_more : (count i : ℕ) (s t : Progress) → i < count → t ≡ deliver_one s → deliver (count - (i + 1)) t ≡ deliver (count - i) s
 unfolding deliver
@@ -132,9 +129,6 @@ FromTo w s = IsLater s.world w
 pub one_later : (h k : Holdings) (p q : Parts) (n : ℕ) (m : Message) (s : Progress) → progress (world_of h p) n ≡ s → slice_get p.messages.items n ≡ Some m → world_of k q ≡ delivered (world_of h p) m → IsLater s.world (world_of k q)
 one_later h k p q n m s e there d = subst (FromTo (world_of k q)) e (later_by (world_of h p) (world_of k q) (events.Deliver n) (place_delivered h k p q n m there d))
 
-pub later_of : (h : Holdings) (p : Parts) (n : ℕ) (s : Progress) (w : World) → progress (world_of h p) n ≡ s → IsLater (world_of h p) w → IsLater s.world w
-later_of h p n s w e l = subst (FromTo w) e l
-
 -- whether the next message is a proposal
 abbrev IsGiving : Bool → Progress → Type 0
 IsGiving b s = gives_command s.world (events.Deliver s.delivered) ≡ b
@@ -146,9 +140,6 @@ one_gives h p n m s is e = subst (IsGiving (is_proposal m)) is (ap is_some_propo
 
 abbrev IsOn : World → ℕ → Event → Progress → Type 0
 IsOn w n e s = progress w n ≡ on s e
-
-pub on_is : (h k : Holdings) (p q : Parts) (n : ℕ) (e : Event) (s : Progress) → progress (world_of h p) n ≡ s → world_of k q ≡ happens (world_of h p) e → progress (world_of k q) n ≡ on s e
-on_is h k p q n e s is made = subst (IsOn (world_of k q) n e) is (ap (λ w. progress w n) made)
 
 -- one event of a progress
 pub later_on : (s t : Progress) (e : Event) → t ≡ on s e → IsLater s.world t.world
