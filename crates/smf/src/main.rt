@@ -7,6 +7,7 @@ mod words;
 
 use crate::serving::{serve, tell};
 use crate::words::matches;
+use smf_script::NotedReader;
 use std::io::BufReader;
 use std::process::ExitCode;
 use std::{env, io};
@@ -22,7 +23,7 @@ fn run(rt: &HostRuntime) -> io::Result<u8> {
         let _ = eprint!(rt; "{e}");
         return Ok(BAD_USAGE);
     }
-    let mut reader = BufReader::new(alloc, rt.reader())?;
+    let mut reader = NotedReader::new(BufReader::new(alloc, rt.reader())?);
     Ok(serve(alloc, &mut reader, &mut io::writer(rt), &mut rt.stderr()))
 }
 

@@ -4,9 +4,9 @@ ghost use Rattle.smf.specs.Runs.{Prints, fault_text, node_text, served};
 
 use smf_model::{NoJournal, Plain};
 use smf_node::{Node, NodeFault};
-use smf_script::{ScriptFault, run_script};
+use smf_script::{ScriptFault, ScriptReader, run_script};
 use std::alloc::Global;
-use std::io::{BufRead, Write};
+use std::io::Write;
 
 /// The status of a run that was ended by a fault.
 const FAULT: u8 = 3;
@@ -46,7 +46,7 @@ pub(crate) fn tell<E: Write>(errors: &mut E, text: &str) -> u8
 
 /// Does a script over a repository in memory, and gives the status of the run.
 #[tactic(auto, unfolding(crate::specs::Runs::served))]
-pub(crate) fn serve<R: BufRead, W: Write, E: Write>(
+pub(crate) fn serve<R: ScriptReader, W: Write, E: Write>(
     alloc: Global,
     reader: &mut R,
     writer: &mut W,

@@ -28,7 +28,7 @@ use Rattle.smf_node.proofs.Worlds.{said_behind, world_is}
 
 -- ---- what is refused leaves the world
 
-differ : (n : ℕ) → not (n == n) ≡ true → ⊥
+pub differ : (n : ℕ) → not (n == n) ≡ true → ⊥
 differ n e = grind (arith, nat_tests)
 
 same_by : (b : Bool) (w : World) (c : Command) (r : Answer) → is_revised w.now w.now ≡ b → revised w c (w.now, r) b ≡ w

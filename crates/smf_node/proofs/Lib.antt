@@ -5,3 +5,4 @@ pub mod Begun
 pub mod Turning
 pub mod Faulting
 pub mod Stepping
+pub mod Foreseen

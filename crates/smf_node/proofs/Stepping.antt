@@ -1,5 +1,5 @@
 -- Steps of a node, event by event, and lists of them.
-use Rattle.std.proofs.Common.{◌≡◌, ◌⊎◌, ◌<◌, ◌==◌, ◌+◌, ℕ, Bool, true, false, not, cond, nat_lt, List, [], ◌∷◌, ◌++◌, length, slice_get, get_or, Option, Some, None, is_some, Result, Ok, Err, OnOk, IfErr, refl, sym, ap, ◌∙◌, inl, subst, eqb-true, ltb-true, append_assoc, append-nil, arith}
+use Rattle.std.proofs.Common.{◌≡◌, ◌⊎◌, ◌<◌, ◌==◌, ℕ, Bool, true, false, not, cond, nat_lt, List, [], ◌∷◌, ◌++◌, length, slice_get, get_or, Option, Some, None, is_some, Result, Ok, Err, OnOk, IfErr, refl, sym, ap, ◌∙◌, inl, subst, eqb-true, ltb-true, append_assoc, append-nil, arith}
 use Rattle.std.proofs.lemmas.List.{length-reverse}
 use Rattle.std.proofs.lemmas.Option.{slice_get-get_or}
 use Rattle.std.specs.Prelude.{◌&&◌, is_none, reverse}

@@ -1,20 +1,25 @@
 -- The node's lists, seen as the world.
 use Rattle.std.specs.Option.{option_map_or}
-use Rattle.std.specs.Prelude.{◌≡◌, ℕ, List, [], ◌∷◌, ◌++◌, map, reverse, slice_get, slice_set, Bool, true, false, Option, Some, None}
+use Rattle.std.specs.Prelude.{◌≡◌, ℕ, ◌+◌, ◌-◌, ◌^◌, min, List, [], ◌∷◌, ◌++◌, map, reverse, slice_get, slice_set, Bool, true, false, Option, Some, None}
 use Rattle.smf_model.specs.Holdings.{Holdings}
 use Rattle.smf_model.specs.Tables.{held_in}
 use Rattle.smf_node.specs.declared.machine.Parts.{Parts}
 use Rattle.smf_model.specs.declared.command.Command.{Command}
+use Rattle.smf_model.specs.declared.command.Command.TheVariants as commands
 use Rattle.smf_model.specs.declared.command.Reply.{Reply as Answer}
 use Rattle.smf_model.specs.declared.command.Reply.TheVariants as answers
 use Rattle.smf_model.specs.History.{is_revised}
 use Rattle.smf_model.specs.Next.{next}
+use Rattle.smf_model.specs.Shown.{view}
 use Rattle.smf_restarter.specs.declared.reply.Change.{Change}
+use Rattle.smf_state.specs.declared.state.State.TheVariants.{Uninitialized}
+use Rattle.smf_state.specs.declared.view.ViewItem.{ViewItem}
 use Rattle.smf_restarter.specs.Knowledge.{Knowledge}
 use Rattle.smf_wire.specs.declared.message.Known.{Known}
 use Rattle.smf_wire.specs.declared.message.Message.{Message}
 use Rattle.smf_restarter.specs.Replies.{changed}
 use Rattle.smf_world.specs.declared.item.Item.{Item}
+use Rattle.smf_world.specs.declared.item.Item.TheVariants.{Boot, Committed}
 use Rattle.smf_world.specs.Happens.{held_item, items_of, restarter, told}
 use Rattle.smf_world.specs.declared.event.Event.TheVariants as events
 use Rattle.smf_world.specs.Schedule.{Progress, on}
@@ -48,6 +53,15 @@ commands_after cs c false = cs
 abbrev pub trail_after : List Item → List Item → Bool → List Item
 trail_after trail items true = trail ++ items
 trail_after trail items false = trail
+
+-- a row as a boot leaves it, worked out before the boot: a number that has no next one stays
+abbrev pub foreseen_item : ViewItem → Item
+foreseen_item i = Committed i.instance (min (i.row.number + 1) (2 ^ 64 - 1)) Uninitialized None
+
+-- what is known, before a command, of the items that it adds to the trail
+abbrev pub foreseen : Holdings → Command → List Item
+foreseen h commands.Boot = Boot ∷ map foreseen_item (view h).items
+foreseen h _ = []
 
 -- a command was given to the repository, and noted where it made a revision
 pub record IsGiven (h : Holdings) (c : Command) (r : Answer) (k : Holdings) (cs cs2 : List Command) (trail trail2 : List Item) : Type 0 where

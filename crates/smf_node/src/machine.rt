@@ -3,8 +3,8 @@ ghost use Rattle.smf_world.specs.declared.item.Item.TheVariants.{Committed};
 ghost use Rattle.std.specs.Prelude.{◌≡◌, ◌∷◌, [], ◌+◌, ◌++◌, ◌≤◌, map, option_to_list, vec_capacity, vec_len, IfErr, IfOk, None, OnErr, OnOk};
 ghost use Rattle.smf_node.specs.declared.fault.NodeFault.TheVariants.{Memory};
 ghost use Rattle.smf_node.specs.Faults.{HasNoReply};
-ghost use Rattle.smf_node.specs.Parts.{IsGiven, IsLeft, world_of};
-ghost use Rattle.smf_world.specs.Happens.{IsCommitted, booted_item, booting, item_of, moved_item, number_moved, said};
+ghost use Rattle.smf_node.specs.Parts.{IsGiven, IsLeft, foreseen, foreseen_item, world_of};
+ghost use Rattle.smf_world.specs.Happens.{IsCommitted, item_of, moved_item, number_moved, said};
 
 use crate::fault::NodeFault;
 use smf_engine::Engine;
@@ -48,33 +48,37 @@ fn reset_item(instance: u64, number: u64) -> Item
     }
 }
 
+/// A row as a boot leaves it. A number that has no next one stays, and then the boot is refused.
+fn foreseen_item(item: &ViewItem) -> Item
+    ensures { result ≡ foreseen_item item.now }
+{
+    reset_item(item.instance, item.row.number.saturating_add(1))
+}
+
 /// The rows as a boot leaves them.
-fn booted_rows(alloc: Global, items: &[ViewItem]) -> Result<Vec<Item>, AllocError>
-    ensures { IfOk result (λ all. all.items ≡ map booted_item items.now) }
+fn foreseen_rows(alloc: Global, items: &[ViewItem]) -> Result<Vec<Item>, AllocError>
+    ensures { IfOk result (λ all. all.items ≡ map foreseen_item items.now) }
 {
     let mut all = Vec::new(alloc);
     for item in items {
-        let Some(number) = item.row.number.checked_add(1) else {
-            return Err(AllocError);
-        };
-        all.push(reset_item(item.instance, number))?;
+        all.push(foreseen_item(item))?;
     }
     Ok(all)
 }
 
 /// What is known before of the items that a command adds to the trail: those of a boot.
-fn booting<J: Journal>(
+fn foreseen<J: Journal>(
     alloc: Global,
     repository: &Plain<J>,
     command: &Command,
 ) -> Result<Vec<Item>, AllocError>
-    ensures { IfOk result (λ all. all.items ≡ booting repository.now command.now) }
+    ensures { IfOk result (λ all. all.items ≡ foreseen repository.now command.now) }
 {
     let Command::Boot = command else {
         return Ok(Vec::new(alloc));
     };
     let view = repository.view()?;
-    let mut rows = booted_rows(alloc, view.items.as_slice())?;
+    let mut rows = foreseen_rows(alloc, view.items.as_slice())?;
     let mut all = Vec::new(alloc);
     all.push(Item::Boot)?;
     all.append(&mut rows)?;
@@ -174,12 +178,12 @@ fn prepare<J: Journal>(
 ) -> Result<Vec<Item>, AllocError>
     ensures commands { commands.new.items ≡ commands.old.items }
     ensures trail { trail.new.items ≡ trail.old.items }
-    ensures items { IfOk result (λ items. items.items ≡ booting repository.now command.now) }
+    ensures items { IfOk result (λ items. items.items ≡ foreseen repository.now command.now) }
     ensures command_room { OnOk result (vec_len commands.new + 1 ≤ vec_capacity commands.new) }
     ensures item_room { IfOk result (λ items. vec_len items + 1 ≤ vec_capacity items) }
     ensures trail_room { IfOk result (λ items. vec_len trail.new + (vec_len items + 1) ≤ vec_capacity trail.new) }
 {
-    let mut items = booting(alloc, repository, command)?;
+    let mut items = foreseen(alloc, repository, command)?;
     make_room(commands, trail, &mut items)?;
     Ok(items)
 }

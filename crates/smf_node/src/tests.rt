@@ -1,9 +1,11 @@
 ghost use Rattle.smf_model.specs.Look.{empty};
 
 use super::*;
-use smf_fmri::{Fmri, Items, ServiceFmri, Text};
-use smf_model::{Edit, Journal, NoJournal, Owner, Plain, PropertyChange, Record, Reply, startd};
-use smf_state::State;
+use smf_fmri::{Fmri, InstanceFmri, Items, ServiceFmri, Text};
+use smf_model::{
+    Change, Edit, Instance, Journal, NoJournal, Owner, Plain, PropertyChange, Record, Reply, startd,
+};
+use smf_state::{Row, State};
 use smf_value::{Kind, Name};
 use smf_world::{Event, Item, Settled, SpawnAnswer};
 use std::alloc::Global;
@@ -505,5 +507,43 @@ fn journal_fails_at_a_proposal(rt: HostRuntime) -> Result<(), Fail> {
     assert_eq!(rt; delivered(&rt, n, 6)?, "no such message");
     assert_eq!(rt; delivered(&rt, n, 5)?, "database");
     assert_eq!(rt; row(n, 1)?, (0, State::Uninitialized, None));
+    Ok(())
+}
+
+/// What a boot over one instance ends with, in a word, whose row has this number.
+fn booted_over(alloc: Global, number: u64) -> Result<&'static str, Fail> {
+    let name = InstanceFmri::read_short(alloc, "svc:/application/hello:default")?;
+    let Some(name) = name else {
+        return Ok("no name");
+    };
+    let row = Row {
+        number,
+        ..Row::new(startd(alloc)?)
+    };
+    let instance = Instance {
+        number: 1,
+        name,
+        row,
+        start: None,
+        previous: None,
+    };
+    let mut journal = Record::new(alloc, 2);
+    journal.write(&[Change::AddInstance(instance), Change::NextInstance(2)])?;
+    let repository = Plain::open(alloc, journal)?;
+    match Node::new(alloc, repository) {
+        Ok(_) => Ok("booted"),
+        Err((NodeFault::Limit, _)) => Ok("limit"),
+        Err((fault, _)) => Err(Fail::from(fault)),
+    }
+}
+
+#[test]
+fn boot_over_the_last_number(rt: HostRuntime) -> Result<(), Fail> {
+    let alloc = rt.alloc();
+    let last = i64::MAX as u64;
+    assert_eq!(rt; booted_over(alloc, 0)?, "booted");
+    assert_eq!(rt; booted_over(alloc, last - 1)?, "booted");
+    assert_eq!(rt; booted_over(alloc, last)?, "limit");
+    assert_eq!(rt; booted_over(alloc, u64::MAX)?, "limit");
     Ok(())
 }

@@ -2,9 +2,10 @@
 use Rattle.std.proofs.Common.{◌≡◌, ◌≤◌, ◌<◌, ℕ, suc, ◌+◌, ◌&&◌, List, [], ◌∷◌, ◌++◌, length, length-take-le, take, take_all, Bool, true, false, Option, Some, None, IfSome, refl, sym, ap, subst, ◌∙◌, arith, append_assoc, append-nil, lt-ltb, ltb-true, ltb-false}
 use Rattle.std.proofs.KnownBytes.{Appends-nil, Appends-trans}
 use Rattle.std.specs.Io.KnownBytes.{Appends}
+use Rattle.smf_script.specs.Faults.{IsPast, counted}
 use Rattle.smf_script.specs.Reading.{IsLine, counts_of, kept, lines_of}
 use Rattle.smf_script.specs.Request.{is_too_long, request_of}
-use Rattle.smf_script.specs.Script.{Ends, IsCut, IsPast, IsWritten, Leaves, Stops, Wrote, begun, joined, line_on, max_lines, script, script_on, silent, status_of}
+use Rattle.smf_script.specs.Script.{Ends, IsCut, IsWithin, IsWritten, Leaves, Stops, Wrote, begun, joined, line_on, max_lines, script, script_on, silent, status_of}
 use Rattle.smf_script.specs.Session.{Effect, Session, effect, effect_of}
 use Rattle.smf_script.specs.declared.fault.ScriptFault.{ScriptFault}
 use Rattle.smf_script.specs.declared.fault.ScriptFault.TheVariants.{Node, Input, Output, TooManyLines}
@@ -111,12 +112,12 @@ goes_to_end start input old now selection left new fine turns status g none is =
       exit = is ∙ ap status_of (g.flag ∙ ap (λ ls. (script start ls).fine) (sym all));
     }
 
-pub few_lines : (start : Session) (input : List ℕ) (old : Option (List ℕ)) (now : Progress) (selection : Selection) (left new : Option (List ℕ)) (fine : Bool) (turns : ℕ)
-    → (g : Goes start input old now selection left new fine turns) → g.rest ≡ [] → counts_of (lines_of input) ≤ 1000000
+pub few_lines : (start : Session) (input : List ℕ) (old : Option (List ℕ)) (now : Progress) (selection : Selection) (left new : Option (List ℕ)) (fine : Bool) (turns left_turns interrupted before after : ℕ)
+    → (g : Goes start input old now selection left new fine turns) → g.rest ≡ [] → turns ≡ left_turns + interrupted → after ≡ counted before interrupted → IsWithin (lines_of input) before after
 unfolding lines_of
-few_lines start input old now selection left new fine turns g none =
+few_lines start input old now selection left new fine turns left_turns interrupted before after g none sum heard =
     let all : lines_of input ≡ g.before = g.whole ∙ ap (λ xs. g.before ++ lines_of xs) none ∙ append-nil g.before in
-    rw all (omega (arith, g.counted))
+    record { interrupted = interrupted; heard = heard; within = rw all (omega (arith, g.counted, sum)) }
 
 -- ---- faults
 

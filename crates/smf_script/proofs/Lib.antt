@@ -7,3 +7,4 @@ pub mod Giving
 pub mod Looking
 pub mod Doing
 pub mod Why
+pub mod Heard

@@ -1,13 +1,13 @@
 -- What a look at known bytes takes.
-use Rattle.std.proofs.Common.{◌≡◌, ◌≢◌, ◌≤◌, ◌<◌, ℕ, zero, suc, ◌+◌, ◌&&◌, min, List, [], ◌∷◌, ◌++◌, length, length-take-le, take, take_all, get_or, Bool, true, false, Option, Some, None, IfSome, refl, sym, ap, subst, ◌∙◌, arith, eqb, eqb-true, nat_le, nat_lt, append-nil}
+use Rattle.std.proofs.Common.{◌≡◌, ◌≢◌, ◌≤◌, ◌<◌, ℕ, zero, suc, ◌+◌, ◌&&◌, min, List, [], ◌∷◌, ◌++◌, length, length-take-le, take, take_all, drop, get_or, Bool, true, false, Option, Some, None, IfSome, refl, sym, ap, subst, ◌∙◌, arith, eqb, eqb-true, nat_le, nat_lt, append-nil}
 use Rattle.std.proofs.lemmas.Bool.{eqb-false}
 use Rattle.std.proofs.lemmas.Bool.Decides.{nat_tests}
-use Rattle.std.proofs.lemmas.List.{take_more}
+use Rattle.std.proofs.lemmas.List.{take-append-drop, take_more}
 use Rattle.std.proofs.lemmas.List.Sums.{passes_at_first}
 use Rattle.std.specs.Io.{StartsWith}
 use Rattle.std.specs.Io.KnownBytes.{Consumes, IsAtEnd, Keeps}
 use Rattle.std.specs.List.{position_or_len}
-use Rattle.smf_script.specs.Reading.{GoesOn, IsPlain, Took, held_by, is_end, kept, part_at, part_of, taken_by}
+use Rattle.smf_script.specs.Reading.{GoesOn, IsPlain, IsTaken, Took, held_by, is_end, kept, part_at, part_of, taken_by}
 use Rattle.smf_script.specs.declared.reading.Part.{Part}
 use Rattle.smf_script.specs.declared.reading.Part.TheVariants.{End, Line, Bytes}
 
@@ -118,3 +118,17 @@ takes room shown a c front end = part_by room shown (position_or_len is_end show
 -- a part is of the bytes that are shown
 pub part_fits : (room : ℕ) (shown : List ℕ) → (held_by (part_of room shown) ≤ length shown) × (taken_by (part_of room shown) ≤ length shown) × (held_by (part_of room shown) ≤ room)
 part_fits room shown = let all : HasPart room shown None None (part_of room shown) = takes room shown None None tt tt in (all.0, all.1, all.2)
+
+none_shown : (bs : List ℕ) → length bs ≡ 0 → bs ≡ []
+none_shown [] e = refl
+none_shown (b ∷ bs) e = absurd (omega arith)
+
+-- what a look at bytes in memory takes
+pub takes_front : (room n : ℕ) (shown rest : List ℕ) (line line' : List ℕ) (part : Part) → part ≡ part_of room shown → n ≡ held_by part → rest ≡ drop (taken_by part) shown
+    → line' ≡ kept (line ++ take n shown) → IsTaken part room (Some shown) (Some rest) line line'
+takes_front room n shown rest line line' part same held left keeps =
+    let p = part_of room shown in
+    let consumed : Consumes (Some shown) (Some (drop (taken_by p) shown)) (take (taken_by p) shown) = sym (take-append-drop (taken_by p) shown) in
+    let took : Took p (take (held_by p) shown) room (Some shown) (Some (drop (taken_by p) shown)) = (takes room shown (Some shown) (Some (drop (taken_by p) shown)) (take_all (length shown) shown (omega arith)) (λ none. none_shown shown none)).3 consumed in
+    let took' : Took part (take n shown) room (Some shown) (Some rest) = rw (held, left, same) took in
+    record { bytes = take n shown; took = took'; keeps = keeps }

@@ -2,7 +2,7 @@
 use Rattle.std.proofs.Common.{◌≡◌, ◌≤◌, ◌<◌, ℕ, ◌+◌, ◌*◌, List, [], ◌∷◌, ◌++◌, length, length-append, take, Option, Some, None, refl, sym, ap, subst, ◌∙◌, arith, append_assoc, append-nil}
 use Rattle.std.specs.Io.KnownBytes.{Consumes, IsAtEnd, Keeps}
 use Rattle.smf_script.specs.Reading.{GoesOn, IsLine, IsPlain, IsTaken, count_of, count_of_length, count_if_begun, counts_of, kept, lines_of}
-use Rattle.smf_script.specs.Script.{IsOther, IsPast}
+use Rattle.smf_script.specs.Faults.{IsOther, IsPast}
 use Rattle.smf_script.specs.declared.fault.ScriptFault.{ScriptFault}
 use Rattle.smf_script.specs.declared.fault.ScriptFault.TheVariants.{Node, Input, Output, TooManyLines}
 use Rattle.smf_script.specs.declared.reading.Part.TheVariants.{Interrupted, End, Line, Bytes}
@@ -94,9 +94,9 @@ none_of : (bs : List ℕ) → length bs ≡ 0 → bs ≡ []
 none_of [] e = refl
 none_of (b ∷ bs) e = absurd (omega arith)
 
-pub nothing_left : (xs line line' : List ℕ) (left new : Option (List ℕ)) (room : ℕ) → IsPart xs left line 0 → IsTaken End room left new line line' → xs ≡ []
-nothing_left xs line line' left new room p t =
-    p.split ∙ ap (λ l. l ++ p.rest) (none_of p.bytes p.count) ∙ none_left p.rest left p.is_left t.took.2
+pub nothing_left : (xs line line' : List ℕ) (left new : Option (List ℕ)) (len room : ℕ) → IsPart xs left line len → IsTaken End room left new line line' → len ≡ 0 → xs ≡ []
+nothing_left xs line line' left new len room p t none =
+    p.split ∙ ap (λ l. l ++ p.rest) (none_of p.bytes (p.count ∙ none)) ∙ none_left p.rest left p.is_left t.took.2
 
 -- the last line was read, which has no end
 pub ends_at_last : (xs line line' : List ℕ) (left new : Option (List ℕ)) (len room : ℕ) (before after : ℕ) → IsPart xs left line len → IsTaken End room left new line line' → 0 < len

@@ -95,6 +95,6 @@ pub record IsTaken (part : Part) (room : ℕ) (old new : Option (List ℕ)) (bef
 -- a line was read: the first of those that are left, of which so much is kept. `old` and `new` are the lines that may
 -- still be read and the interrupted reads, together
 abbrev pub IsLine : Option (List ℕ) → List ℕ → Option (List ℕ) → ℕ → ℕ → Type 0
-IsLine None left new_left old new = left ≡ []
+IsLine None left new_left old new = (left ≡ []) × (old ≡ new)
 IsLine (Some line) left new_left old new =
     (first : List ℕ) × (rest : List ℕ) × (lines_of left ≡ first ∷ lines_of rest) × (line ≡ kept first) × (new_left ≡ Some rest) × (old ≡ new + count_of first)

@@ -1,11 +1,7 @@
 -- What a script of lines gives.
-use Rattle.std.specs.Prelude.{◌≡◌, ◌<◌, ℕ, ◌+◌, List, [], ◌∷◌, ◌++◌, ◌&&◌, take, Bool, true, false, Option}
+use Rattle.std.specs.Prelude.{◌≡◌, ◌≤◌, ℕ, ◌+◌, List, [], ◌∷◌, ◌++◌, ◌&&◌, take, Bool, true, false, Option}
 use Rattle.std.specs.Io.KnownBytes.{Appends}
-use Rattle.smf_model.specs.declared.command.Command.TheVariants as commands
-use Rattle.smf_model.specs.declared.journal.RepoFault.{RepoFault}
-use Rattle.smf_model.specs.Setting.{startd}
-use Rattle.smf_node.specs.declared.fault.NodeFault.TheVariants.{Memory}
-use Rattle.smf_node.specs.Faults.{IsUndone}
+use Rattle.smf_script.specs.Faults.{IsPast, counted}
 use Rattle.smf_script.specs.Reading.{counts_of}
 use Rattle.smf_script.specs.Session.{Effect, Session, effect}
 use Rattle.smf_script.specs.declared.fault.ScriptFault.{ScriptFault}
@@ -54,6 +50,12 @@ pub record Ends (e : Effect) (after : Progress) (old new : Option (List ℕ)) (s
   pub text : Appends old new e.text
   pub exit : status ≡ status_of e.fine
 
+-- the lines, and the reads that were interrupted between these counts of them, are no more than there may be
+pub record IsWithin (lines : List (List ℕ)) (before after : ℕ) : Type 0 where
+  pub interrupted : ℕ
+  pub heard : after ≡ counted before interrupted
+  pub within : counts_of lines + interrupted ≤ max_lines
+
 -- ---- what a fault leaves
 
 -- the line at which the node failed may have been done in part; else the node is as the lines before left it
@@ -69,34 +71,6 @@ Wrote (Node fault) e old new = Appends old new e.text
 Wrote (Input fault) e old new = Appends old new e.text
 Wrote (Output fault) e old new = Unit {0}
 Wrote (TooManyLines interrupted) e old new = Appends old new e.text
-
--- too many is more than there may be: lines and interrupted reads together
-abbrev pub IsPast : ScriptFault → ℕ → ℕ → Type 0
-IsPast (TooManyLines interrupted) most counted = most < counted + interrupted
-IsPast (Node fault) most counted = Unit {0}
-IsPast (Input fault) most counted = Unit {0}
-IsPast (Output fault) most counted = Unit {0}
-
--- a fault of another kind
-abbrev pub IsOther : ScriptFault → Type 0
-IsOther (TooManyLines interrupted) = ⊥
-IsOther (Node fault) = Unit {0}
-IsOther (Input fault) = Unit {0}
-IsOther (Output fault) = Unit {0}
-
--- why the node ended a line: memory ran out, its journal could not be written, or svc.startd's restarter has no next launch
-abbrev pub IsWhy : (RepoFault → Type 0) → ScriptFault → Progress → Type 0
-IsWhy fails (Node fault) after = IsUndone fails after.world.now (commands.Launch startd) fault
-IsWhy fails (Input fault) after = Unit {0}
-IsWhy fails (Output fault) after = Unit {0}
-IsWhy fails (TooManyLines interrupted) after = Unit {0}
-
--- a fault of the node that is want of memory, or one of another kind
-abbrev pub IsMemoryAlone : ScriptFault → Type 0
-IsMemoryAlone (Node fault) = fault ≡ Memory
-IsMemoryAlone (Input fault) = Unit {0}
-IsMemoryAlone (Output fault) = Unit {0}
-IsMemoryAlone (TooManyLines interrupted) = Unit {0}
 
 -- a script was ended by a fault: some of its lines were done, and their text was written
 pub record Stops (fault : ScriptFault) (start : Session) (lines : List (List ℕ)) (after : Progress) (old new : Option (List ℕ)) : Type 0 where

@@ -1,17 +1,17 @@
-ghost use Rattle.std.specs.Prelude.{◌≡◌, ◌≤◌, ◌<◌, ◌+◌, ◌^◌, ◌++◌, length, take, option_map, IfErr, IfOk, IfSome, IsSome, OnOk};
+ghost use Rattle.std.specs.Prelude.{◌≡◌, ◌≤◌, ◌<◌, ◌+◌, ◌^◌, ◌++◌, ℕ, length, take, option_map, IfErr, IfOk, IfSome, IsSome, OnOk};
 ghost use Rattle.std.specs.List.{position_or_len};
 ghost use Rattle.smf_script.specs.Reading.{IsLine, IsTaken, counts_of, held_by, is_end, kept, lines_of, part_of, taken_by};
-ghost use Rattle.smf_script.specs.Script.{IsMemoryAlone, IsOther, IsPast};
+ghost use Rattle.smf_script.specs.Faults.{IsPast, IsUnread, Tells, counted, failed_in, interrupted_by};
 
 use crate::fault::ScriptFault;
+use crate::reader::ScriptReader;
 use crate::request::MAX_LINE;
 use crate::turns::Turns;
 use std::alloc::{AllocError, Global};
-use std::io::{BufRead, ErrorKind};
 
 /// What a look at a reader took.
 #[derive(Clone, Copy, Debug)]
-enum Part {
+pub enum Part {
     /// Nothing, since the read was interrupted.
     Interrupted,
     /// Nothing, since nothing is left.
@@ -42,7 +42,7 @@ fn end_at(bytes: &[u8]) -> usize
     at
 }
 
-fn part_of(shown: &[u8], room: usize) -> Part
+pub(crate) fn part_of(shown: &[u8], room: usize) -> Part
     ensures exact { result ≡ part_of room shown.now }
     ensures small { taken_by result < 2 ^ 64 }
 {
@@ -58,8 +58,18 @@ fn part_of(shown: &[u8], room: usize) -> Part
 }
 
 impl Part {
+    /// How many reads were interrupted.
+    pub(crate) fn interrupted(self) -> u64
+        ensures { result ≡ interrupted_by self }
+    {
+        match self {
+            Part::Interrupted => 1,
+            Part::End | Part::Line(_) | Part::Bytes(_) => 0,
+        }
+    }
+
     /// How many bytes of its line.
-    fn held(self) -> usize
+    pub(crate) fn held(self) -> usize
         ensures { result ≡ held_by self }
     {
         match self {
@@ -69,7 +79,7 @@ impl Part {
     }
 
     /// How many bytes, with the end of the line.
-    fn taken(self) -> usize
+    pub(crate) fn taken(self) -> usize
         requires { taken_by self < 2 ^ 64 }
         ensures { result ≡ taken_by self }
     {
@@ -85,7 +95,7 @@ impl Part {
 const KEPT: usize = MAX_LINE + 1;
 
 /// Keeps bytes behind those that were kept of their line before.
-fn keep(line: &mut Vec<u8>, bytes: &[u8]) -> Result<(), AllocError>
+pub(crate) fn keep(line: &mut Vec<u8>, bytes: &[u8]) -> Result<(), AllocError>
     requires { length line.old.items ≤ 65537 }
     ensures ok { OnOk result (line.new.items ≡ kept (line.old.items ++ bytes.now)) }
     ensures short { length line.new.items ≤ 65537 }
@@ -95,38 +105,9 @@ fn keep(line: &mut Vec<u8>, bytes: &[u8]) -> Result<(), AllocError>
     Ok(())
 }
 
-/// Takes bytes of a line that has room for so many, and keeps them behind those that were kept of it before.
-fn take_part<R: BufRead>(
-    reader: &mut R,
-    room: usize,
-    line: &mut Vec<u8>,
-) -> Result<Part, ScriptFault>
-    requires { length line.old.items ≤ 65537 }
-    ensures short { length line.new.items ≤ 65537 }
-    ensures within { IfOk result (λ part. held_by part ≤ room) }
-    ensures exact { IfOk result (λ part. IsTaken part room (R.remaining reader.old) (R.remaining reader.new) line.old.items line.new.items) }
-    ensures err { IfErr result (λ e. IsOther e) }
-    ensures memory { IfErr result (λ e. IsMemoryAlone e) }
-{
-    let shown = match reader.fill_buf() {
-        Ok(shown) => shown,
-        Err(e) => {
-            return if e.kind() == ErrorKind::Interrupted {
-                Ok(Part::Interrupted)
-            } else {
-                Err(ScriptFault::Input(e))
-            };
-        }
-    };
-    let part = part_of(shown, room);
-    keep(line, &shown[..part.held()])?;
-    reader.consume(part.taken());
-    Ok(part)
-}
-
 /// Reads a line; none is the end. Each 65,536 bytes that it begins, and each interrupted read, take one of the lines that may
 /// still be read.
-pub(crate) fn read_line<R: BufRead>(
+pub(crate) fn read_line<R: ScriptReader>(
     alloc: Global,
     reader: &mut R,
     turns: &mut Turns,
@@ -136,12 +117,15 @@ pub(crate) fn read_line<R: BufRead>(
         IsLine (option_map (λ v. v.items) line) left (R.remaining reader.new) (turns.old.left + turns.old.interrupted) (turns.new.left + turns.new.interrupted))) }
     ensures err { IfErr result (λ e. IfSome (R.remaining reader.old) (λ left.
         IsPast e (turns.old.left + turns.old.interrupted) (counts_of (take 1 (lines_of left))))) }
-    ensures memory { IfErr result (λ e. IsMemoryAlone e) }
+    ensures interrupted { IfOk result (λ _. (base : ℕ) → R.interrupted reader.old ≡ counted base turns.old.interrupted → R.interrupted reader.new ≡ counted base turns.new.interrupted) }
+    ensures told { IfErr result (λ e. (base : ℕ) → R.interrupted reader.old ≡ counted base turns.old.interrupted → Tells e base (R.interrupted reader.new)) }
+    ensures failed { R.has_failed reader.new ≡ failed_in result (R.has_failed reader.old) }
+    ensures fault { IfErr result (λ e. IsUnread R.read_fails e) }
 {
     let mut line = Vec::new(alloc);
     let mut len = 0;
     loop {
-        match take_part(reader, turns.room() - len, &mut line)? {
+        match reader.take_part(turns.room() - len, &mut line)? {
             Part::Interrupted => turns.interrupt(len)?,
             Part::End => {
                 if len == 0 {

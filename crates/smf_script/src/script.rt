@@ -1,21 +1,23 @@
-ghost use Rattle.std.specs.Prelude.{◌≡◌, ◌≤◌, IfErr, IfOk, IfSome};
-ghost use Rattle.smf_script.specs.Reading.{counts_of, lines_of};
-ghost use Rattle.smf_script.specs.Script.{Ends, IsCut, IsWhy, IsWritten, Stops, begun, script, status_of};
+ghost use Rattle.std.specs.Prelude.{◌≡◌, IfErr, IfOk, IfSome};
+ghost use Rattle.smf_script.specs.Faults.{IsWhy, Tells, failed_in};
+ghost use Rattle.smf_script.specs.Reading.{lines_of};
+ghost use Rattle.smf_script.specs.Script.{Ends, IsCut, IsWithin, IsWritten, Stops, begun, script, status_of};
 ghost use Rattle.smf_script.specs.Session.{effect};
 ghost use Rattle.smf_world.specs.Reached.{IsLater};
 
 use crate::fault::ScriptFault;
+use crate::reader::ScriptReader;
 use crate::reading::read_line;
 use crate::session::run_line;
 use crate::turns::Turns;
+use crate::writer::ScriptWriter;
 use smf_model::Journal;
 use smf_node::Node;
 use smf_svccfg::Selection;
 use std::alloc::Global;
-use std::io::{BufRead, Write};
 
 /// Does a line, and writes its text.
-fn do_line<W: Write, J: Journal>(
+fn do_line<W: ScriptWriter, J: Journal>(
     alloc: Global,
     writer: &mut W,
     node: &mut Node<J>,
@@ -25,11 +27,11 @@ fn do_line<W: Write, J: Journal>(
     ensures exact { IfOk result (λ fine. IsWritten (effect (record { progress = node.old; selection = selection.old }) line.now) node.new selection.new (W.contents writer.old) (W.contents writer.new) fine) }
     ensures err { IfErr result (λ e. IsCut e (record { progress = node.old; selection = selection.old }) line.now node.new (W.contents writer.old) (W.contents writer.new)) }
     ensures later { IsLater node.old.world node.new.world }
-    ensures fault { IfErr result (λ e. IsWhy J.write_fails e node.new) }
+    ensures fault { IfErr result (λ e. IsWhy J.write_fails (λ _. ⊥) W.write_fails e node.new) }
 {
     let mut text = String::new(alloc);
     let fine = run_line(alloc, node, selection, line, &mut text)?;
-    match writer.write_all(text.as_bytes()) {
+    match writer.write_text(text.as_bytes()) {
         Ok(()) => Ok(fine),
         Err(e) => Err(ScriptFault::Output(e)),
     }
@@ -42,7 +44,7 @@ fn status_of(fine: bool) -> u8
 }
 
 /// Reads lines to the end, does each, and writes its text when it is done.
-pub fn run_script<R: BufRead, W: Write, J: Journal>(
+pub fn run_script<R: ScriptReader, W: ScriptWriter, J: Journal>(
     alloc: Global,
     reader: &mut R,
     writer: &mut W,
@@ -51,12 +53,15 @@ pub fn run_script<R: BufRead, W: Write, J: Journal>(
     // Where the bytes are known: what the node is, what is written and the status are those of all lines.
     ensures ok { IfOk result (λ status. IfSome (R.remaining reader.old) (λ input.
         Ends (script (begun node.old) (lines_of input)) node.new (W.contents writer.old) (W.contents writer.new) status)) }
-    ensures few { IfOk result (λ status. IfSome (R.remaining reader.old) (λ input. counts_of (lines_of input) ≤ 1000000)) }
+    ensures few { IfOk result (λ status. IfSome (R.remaining reader.old) (λ input. IsWithin (lines_of input) (R.interrupted reader.old) (R.interrupted reader.new))) }
     // Where they are known: some of the lines were done, and their text was written.
     ensures err { IfErr result (λ fault. IfSome (R.remaining reader.old) (λ input.
         Stops fault (begun node.old) (lines_of input) node.new (W.contents writer.old) (W.contents writer.new))) }
     ensures later { IsLater node.old.world node.new.world }
-    ensures fault { IfErr result (λ e. IsWhy J.write_fails e node.new) }
+    ensures fault { IfErr result (λ e. IsWhy J.write_fails R.read_fails W.write_fails e node.new) }
+    // A read that failed ends it, and no other read does; an interrupted one counts as a line.
+    ensures failed { R.has_failed reader.new ≡ failed_in result (R.has_failed reader.old) }
+    ensures told { IfErr result (λ e. Tells e (R.interrupted reader.old) (R.interrupted reader.new)) }
 {
     let mut fine = true;
     let mut selection = Selection::Nothing;

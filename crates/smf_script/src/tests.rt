@@ -7,7 +7,7 @@ use std::test::Fail;
 use std::{io, str};
 
 /// Does a script over a repository in memory.
-fn run_in_memory<R: BufRead, W: Write>(
+fn run_in_memory<R: ScriptReader, W: Write>(
     alloc: Global,
     reader: &mut R,
     writer: &mut W,
@@ -124,11 +124,51 @@ fn a_read_that_fails(rt: HostRuntime) -> Result<(), Fail> {
         (4, "STATE          FMRI\nsmf: bad line\n"),
     ] {
         let mut out = Vec::new(alloc);
-        let mut reader = FailingReader { left: BAD, good };
+        let mut reader = NotedReader::new(FailingReader { left: BAD, good });
         let end = run_in_memory(alloc, &mut reader, &mut out);
         assert_eq!(rt; told(&end), "input", "at {good}");
         assert_eq!(rt; str::from_utf8(&out)?, want, "at {good}");
     }
+    Ok(())
+}
+
+/// Is interrupted at each look, for so many looks, and then at its end.
+#[derive(Drop)]
+struct InterruptedReader {
+    looks: u32,
+}
+
+impl Read for InterruptedReader {
+    fn read(&mut self, _buf: &mut [u8]) -> io::Result<usize> {
+        Err(io::Error::from(io::ErrorKind::Unsupported))
+    }
+}
+
+impl BufRead for InterruptedReader {
+    fn fill_buf(&mut self) -> io::Result<&[u8]> {
+        if self.looks == 0 {
+            return Ok(&[]);
+        }
+        self.looks -= 1;
+        Err(io::Error::from(io::ErrorKind::Interrupted))
+    }
+
+    fn consume(&mut self, _amount: usize) {}
+}
+
+#[test]
+fn a_reader_that_is_interrupted(rt: HostRuntime) -> Result<(), Fail> {
+    let alloc = rt.alloc();
+    let mut out = Vec::new(alloc);
+    let mut reader = NotedReader::new(InterruptedReader { looks: 1_000_000 });
+    let status = run_in_memory(alloc, &mut reader, &mut out)?;
+    assert_eq!(rt; status, 0);
+    let mut reader = NotedReader::new(InterruptedReader { looks: u32::MAX });
+    match run_in_memory(alloc, &mut reader, &mut out) {
+        Err(ScriptFault::TooManyLines(interrupted)) => assert_eq!(rt; interrupted, 1_000_001),
+        end => assert_eq!(rt; told(&end), "too many lines"),
+    }
+    assert_eq!(rt; out.len(), 0);
     Ok(())
 }
 

@@ -1,6 +1,7 @@
 ghost use Rattle.std.specs.Prelude.{◌≡◌, ◌+◌, ◌*◌, ◌≤◌, IfErr, OnOk};
+ghost use Rattle.smf_script.specs.declared.fault.ScriptFault.TheVariants.{TooManyLines};
 ghost use Rattle.smf_script.specs.Reading.{count_if_begun, count_of_length};
-ghost use Rattle.smf_script.specs.Script.{IsMemoryAlone, IsPast};
+ghost use Rattle.smf_script.specs.Faults.{IsPast};
 
 use crate::fault::ScriptFault;
 use crate::request::MAX_LINE;
@@ -47,7 +48,7 @@ impl Turns {
         ensures interrupted { OnOk result (self.new.interrupted ≡ self.old.interrupted + 1) }
         ensures room { OnOk result (len ≤ 65536 * self.new.left) }
         ensures err { IfErr result (λ e. IsPast e (self.old.left + self.old.interrupted) (count_if_begun len)) }
-        ensures memory { IfErr result (λ e. IsMemoryAlone e) }
+        ensures told { IfErr result (λ e. e ≡ TooManyLines (self.old.interrupted + 1)) }
     {
         if self.left == 0 {
             return Err(ScriptFault::TooManyLines(self.interrupted + 1));
@@ -65,7 +66,7 @@ impl Turns {
         ensures left { OnOk result (self.new.left + count_of_length len ≡ self.old.left) }
         ensures interrupted { OnOk result (self.new.interrupted ≡ self.old.interrupted) }
         ensures err { IfErr result (λ e. IsPast e (self.old.left + self.old.interrupted) (count_of_length len)) }
-        ensures memory { IfErr result (λ e. IsMemoryAlone e) }
+        ensures told { IfErr result (λ e. e ≡ TooManyLines self.old.interrupted) }
     {
         let count = count_of_length(len);
         if count > self.left as usize {

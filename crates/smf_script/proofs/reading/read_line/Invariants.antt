@@ -1,4 +1,5 @@
-use Rattle.std.proofs.Common.{◌≡◌, ◌≤◌, ◌+◌, ◌-◌, ◌*◌, length, IfSome}
+use Rattle.std.proofs.Common.{◌≡◌, ℕ, ◌≤◌, ◌+◌, ◌-◌, ◌*◌, length, IfSome}
+use Rattle.smf_script.specs.Faults.{counted}
 use Rattle.smf_script.proofs.Partly.{IsPart}
 use Rattle.smf_script.proofs.reading.read_line.Given as goal
 
@@ -9,7 +10,9 @@ invariant-loop-line g l =
       short : length l.line.items ≤ 65537;
       turns : l.turns.left + l.turns.interrupted ≡ l.fn.turns.left + l.fn.turns.interrupted;
       left : l.turns.left ≤ l.fn.turns.left;
-      known : IfSome (g.R.Read.remaining l.fn.reader) (λ xs. IsPart xs (g.R.Read.remaining l.reader) l.line.items l.len);
+      known : IfSome (g.R.ScriptReader.remaining l.fn.reader) (λ xs. IsPart xs (g.R.ScriptReader.remaining l.reader) l.line.items l.len);
+      interrupted : (base : ℕ) → g.R.ScriptReader.interrupted l.fn.reader ≡ counted base l.fn.turns.interrupted → g.R.ScriptReader.interrupted l.reader ≡ counted base l.turns.interrupted;
+      failed : g.R.ScriptReader.has_failed l.reader ≡ g.R.ScriptReader.has_failed l.fn.reader;
     }
 
 abbrev pub decreases-loop-line : goal.decreases-loop-line

@@ -4,7 +4,7 @@ use Rattle.std.specs.Io.KnownBytes.{Consumes}
 use Rattle.std.proofs.BufReadLemmas.{Consumes_shown}
 use Rattle.smf_script.specs.Reading.{Took, held_by, part_of, taken_by}
 use Rattle.smf_script.proofs.Looking.{kept_all, part_fits, takes}
-use Rattle.smf_script.proofs.reading.take_part.Goals as goal
+use Rattle.smf_script.proofs.reader.take_from.Goals as goal
 
 pub returns-then-eq-clause-exact : goal.returns-then-eq-clause-exact
 returns-then-eq-clause-exact g c = record { bytes = []; took = (refl, c.fill_buf.follows.holds-at-none.0); keeps = kept_all _ c.requires }
