@@ -1,9 +1,13 @@
 -- What a run of the program prints, and how it ends.
-use Rattle.std.specs.Prelude.{◌≡◌, ℕ, List, codes, Option}
+use Rattle.std.specs.Prelude.{◌≡◌, ◌⊎◌, ℕ, List, [], ◌∷◌, ◌++◌, codes, Option}
 use Rattle.std.specs.Io.KnownBytes.{Appends}
+use Rattle.std_io.specs.declared.io.error.Error.{Error}
+use Rattle.smf_model.specs.declared.command.Command.TheVariants as commands
 use Rattle.smf_model.specs.Look.{empty}
 use Rattle.smf_node.specs.declared.fault.NodeFault.{NodeFault}
 use Rattle.smf_node.specs.declared.fault.NodeFault.TheVariants.{Memory, Database, Limit, NoSuchMessage, NoSuchActor}
+use Rattle.smf_node.specs.Faults.{IsUndone}
+use Rattle.smf_script.specs.Faults.{IsWhy}
 use Rattle.smf_script.specs.Script.{begun, script, status_of}
 use Rattle.smf_script.specs.Session.{Effect}
 use Rattle.smf_script.specs.declared.fault.ScriptFault.{ScriptFault}
@@ -39,3 +43,22 @@ served lines = script (begun first) lines
 pub record Prints (e : Effect) (old new : Option (List ℕ)) (status : ℕ) : Type 0 where
   pub text : Appends old new e.text
   pub exit : status ≡ status_of e.fine
+
+-- ---- a run that a fault ended
+
+-- with this fault a run may end: its boot was undone, or its script ended so, where nothing can fail to be written in a
+-- journal
+abbrev pub IsEnded : (Error → Type 0) → (Error → Type 0) → ScriptFault → Type 0
+IsEnded reads writes fault =
+    ((e : NodeFault) × (fault ≡ Node e) × IsUndone (λ _. ⊥) empty commands.Boot e)
+    ⊎ ((after : Progress) × IsWhy (λ _. ⊥) reads writes fault after)
+
+-- this line was written, or a write of it failed
+abbrev pub IsTold : (Error → Type 0) → Option (List ℕ) → Option (List ℕ) → List ℕ → Type 0
+IsTold fails old new text = Appends old new (text ++ 10 ∷ []) ⊎ ((e : Error) × fails e)
+
+-- a fault ended the run, and was told
+pub record IsFaulted (reads writes tells : Error → Type 0) (old new : Option (List ℕ)) : Type 0 where
+  pub fault : ScriptFault
+  pub ended : IsEnded reads writes fault
+  pub told : IsTold tells old new (fault_text fault)

@@ -1,12 +1,13 @@
-ghost use Rattle.std.specs.Prelude.{◌≡◌, ◌≢◌, IfSome};
+ghost use Rattle.std.specs.Prelude.{◌≡◌, ◌≢◌, ◌≤◌, ◌++◌, ◌∷◌, [], IfErr, IfOk, IfSome, OnOk};
+ghost use Rattle.std.specs.Io.KnownBytes.{Appends};
 ghost use Rattle.smf_script.specs.Reading.{lines_of};
-ghost use Rattle.smf.specs.Runs.{Prints, fault_text, node_text, served};
+ghost use Rattle.smf.specs.Runs.{IsEnded, IsFaulted, IsTold, Prints, fault_text, node_text, served};
 
 use smf_model::{NoJournal, Plain};
 use smf_node::{Node, NodeFault};
-use smf_script::{ScriptFault, ScriptReader, run_script};
+use smf_script::{ScriptFault, ScriptReader, ScriptWriter, run_script};
 use std::alloc::Global;
-use std::io::Write;
+use std::io;
 
 /// The status of a run that was ended by a fault.
 const FAULT: u8 = 3;
@@ -34,34 +35,59 @@ fn fault_text(fault: &ScriptFault) -> &'static str
     }
 }
 
-/// Says why a run was ended, and gives the status of such a run.
-pub(crate) fn tell<E: Write>(errors: &mut E, text: &str) -> u8
-    ensures { result ≡ 3 }
+/// Writes a line.
+fn say<E: ScriptWriter>(errors: &mut E, text: &str) -> io::Result<()>
+    ensures ok { OnOk result (Appends (E.contents errors.old) (E.contents errors.new) (text.now ++ 10 ∷ [])) }
+    ensures fault { IfErr result (λ e. E.write_fails e) }
 {
-    if errors.write_all(text.as_bytes()).is_ok() {
-        let _ = errors.write_all(b"\n");
+    errors.write_text(text.as_bytes())?;
+    errors.write_text(b"\n")
+}
+
+/// Says why a run was ended, as far as that can be written, and gives the status of such a run.
+pub(crate) fn tell<E: ScriptWriter>(errors: &mut E, text: &str) -> u8
+    ensures status { result ≡ 3 }
+    ensures told { IsTold E.write_fails (E.contents errors.old) (E.contents errors.new) text.now }
+{
+    match say(errors, text) {
+        Ok(()) => FAULT,
+        Err(_) => FAULT,
     }
-    FAULT
+}
+
+/// Does a script over a repository in memory.
+#[tactic(auto, unfolding(crate::specs::Runs::served))]
+fn run_in_memory<R: ScriptReader, W: ScriptWriter>(
+    alloc: Global,
+    reader: &mut R,
+    writer: &mut W,
+) -> Result<u8, ScriptFault>
+    ensures ok { IfOk result (λ status. IfSome (R.remaining reader.old) (λ input.
+        Prints (served (lines_of input)) (W.contents writer.old) (W.contents writer.new) status)) }
+    ensures exit { IfOk result (λ status. status ≤ 1) }
+    ensures fault { IfErr result (λ fault. IsEnded R.read_fails W.write_fails fault) }
+{
+    let repository = Plain::new(alloc, NoJournal {});
+    let mut node = match Node::new(alloc, repository) {
+        Ok(node) => node,
+        Err((fault, _)) => return Err(ScriptFault::Node(fault)),
+    };
+    run_script(alloc, reader, writer, &mut node)
 }
 
 /// Does a script over a repository in memory, and gives the status of the run.
-#[tactic(auto, unfolding(crate::specs::Runs::served))]
-pub(crate) fn serve<R: ScriptReader, W: Write, E: Write>(
+pub(crate) fn serve<R: ScriptReader, W: ScriptWriter, E: ScriptWriter>(
     alloc: Global,
     reader: &mut R,
     writer: &mut W,
     errors: &mut E,
 ) -> u8
     // Where no fault ended it and the bytes are known: what is written and the status are those of all lines.
-    ensures { result ≢ 3 → IfSome (R.remaining reader.old) (λ input.
+    ensures ok { result ≢ 3 → IfSome (R.remaining reader.old) (λ input.
         Prints (served (lines_of input)) (W.contents writer.old) (W.contents writer.new) result) }
+    ensures fault { result ≡ 3 → IsFaulted R.read_fails W.write_fails E.write_fails (E.contents errors.old) (E.contents errors.new) }
 {
-    let repository = Plain::new(alloc, NoJournal {});
-    let mut node = match Node::new(alloc, repository) {
-        Ok(node) => node,
-        Err((fault, _)) => return tell(errors, node_text(fault)),
-    };
-    match run_script(alloc, reader, writer, &mut node) {
+    match run_in_memory(alloc, reader, writer) {
         Ok(status) => status,
         Err(fault) => tell(errors, fault_text(&fault)),
     }

@@ -1,4 +1,4 @@
-ghost use Rattle.std.specs.Prelude.{◌≡◌, IfErr, IfOk, IfSome};
+ghost use Rattle.std.specs.Prelude.{◌≡◌, ◌≤◌, IfErr, IfOk, IfSome};
 ghost use Rattle.smf_script.specs.Faults.{IsWhy, Tells, failed_in};
 ghost use Rattle.smf_script.specs.Reading.{lines_of};
 ghost use Rattle.smf_script.specs.Script.{Ends, IsCut, IsWithin, IsWritten, Stops, begun, script, status_of};
@@ -53,6 +53,7 @@ pub fn run_script<R: ScriptReader, W: ScriptWriter, J: Journal>(
     // Where the bytes are known: what the node is, what is written and the status are those of all lines.
     ensures ok { IfOk result (λ status. IfSome (R.remaining reader.old) (λ input.
         Ends (script (begun node.old) (lines_of input)) node.new (W.contents writer.old) (W.contents writer.new) status)) }
+    ensures exit { IfOk result (λ status. status ≤ 1) }
     ensures few { IfOk result (λ status. IfSome (R.remaining reader.old) (λ input. IsWithin (lines_of input) (R.interrupted reader.old) (R.interrupted reader.new))) }
     // Where they are known: some of the lines were done, and their text was written.
     ensures err { IfErr result (λ fault. IfSome (R.remaining reader.old) (λ input.

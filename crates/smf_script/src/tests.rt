@@ -2,7 +2,7 @@ use super::*;
 use smf_model::{NoJournal, Plain};
 use smf_node::Node;
 use std::alloc::Global;
-use std::io::{BufRead, Read, Write};
+use std::io::{BufRead, BufReader, Read, Write};
 use std::test::Fail;
 use std::{io, str};
 
@@ -166,6 +166,19 @@ fn a_reader_that_is_interrupted(rt: HostRuntime) -> Result<(), Fail> {
     let mut reader = NotedReader::new(InterruptedReader { looks: u32::MAX });
     match run_in_memory(alloc, &mut reader, &mut out) {
         Err(ScriptFault::TooManyLines(interrupted)) => assert_eq!(rt; interrupted, 1_000_001),
+        end => assert_eq!(rt; told(&end), "too many lines"),
+    }
+    assert_eq!(rt; out.len(), 0);
+    Ok(())
+}
+
+#[test]
+fn a_reader_that_never_ends(rt: HostRuntime) -> Result<(), Fail> {
+    let alloc = rt.alloc();
+    let mut out = Vec::new(alloc);
+    let mut reader = NotedReader::new(BufReader::new(alloc, io::repeat(b'\n'))?);
+    match run_in_memory(alloc, &mut reader, &mut out) {
+        Err(ScriptFault::TooManyLines(interrupted)) => assert_eq!(rt; interrupted, 0),
         end => assert_eq!(rt; told(&end), "too many lines"),
     }
     assert_eq!(rt; out.len(), 0);
