@@ -1,5 +1,5 @@
 //! Process contracts: who holds which, what processes are in it, and what happened to them.
-//! Rooms: `terms` (event sets), `event`, `contract` (what the table keeps), `table` (the calls) over `lookup`
+//! Modules: `terms` (event sets), `event`, `contract` (what the table keeps), `table` (the calls) over `lookup`
 //! and `change`, `law`, `cookie`, `fault`.
 #![tactic(auto)]
 
@@ -12,8 +12,6 @@ mod law;
 mod lookup;
 mod table;
 mod terms;
-#[cfg(test)]
-mod tests;
 
 pub use contract::{Contract, Holder, Member, Status};
 pub use cookie::{Cookie, CookieFault, Method};

@@ -1,5 +1,5 @@
 //! svc.startd's graph: the newest view that it was given, and the orders that it makes of it.
-//! Rooms: `method` (the start method of a snapshot), `ordering` (the order for an instance), `engine`.
+//! Modules: `method` (the start method of a snapshot), `ordering` (the order for an instance), `engine`.
 #![tactic(auto)]
 
 mod engine;
@@ -8,6 +8,3 @@ mod ordering;
 
 pub use engine::Engine;
 pub use ordering::{order, orders};
-
-#[cfg(test)]
-mod tests;

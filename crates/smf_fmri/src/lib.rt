@@ -1,5 +1,5 @@
 //! Names of services and instances, and the small types that every crate shares.
-//! Rooms: `fmri`, `instance` and `service` (names), `pattern` (abbreviations), `count` (numbers as texts), `reader`,
+//! Modules: `fmri`, `instance` and `service` (names), `pattern` (abbreviations), `count` (numbers as texts), `reader`,
 //! `items`, `text`, `bytes`, `number`, `fault`.
 #![tactic(auto)]
 
@@ -26,6 +26,3 @@ pub use pattern::{Pattern, pick};
 pub use reader::strip;
 pub use service::ServiceFmri;
 pub use text::Text;
-
-#[cfg(test)]
-mod tests;

@@ -1,5 +1,5 @@
 //! The repository as a plain value: what it holds, what each command makes of it, and the body that keeps it in lists.
-//! Rooms: `held` (what is held), `command` (commands and replies), `change` (record changes), `setting` (restarters),
+//! Modules: `held` (what is held), `command` (commands and replies), `change` (record changes), `setting` (restarters),
 //! `tables` (the lists and their changes), `look` (look-ups), `asking` (notes of asks and errors), `grouping` (edits of
 //! groups), `snapping` (refresh), `reverting` (revert), `answering` (proposals), `booting` (boot), `dispatch` (which
 //! command it is), `journal` (what is told of changes), `numbering` (whether numbers were

@@ -1,5 +1,5 @@
 //! The node: the actors side by side, the messages between them, and the trail of what they did.
-//! Rooms: `fault`, `machine` (the parts, and commands), `repository` (what the repository answers), `acting` (what the
+//! Modules: `fault`, `machine` (the parts, and commands), `repository` (what the repository answers), `acting` (what the
 //! restarters do), `events` (what happens to a machine), `schedule` (in which order), `node`.
 #![tactic(auto)]
 

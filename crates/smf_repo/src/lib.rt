@@ -1,10 +1,7 @@
 //! The repository as its clients see it.
-//! Rooms: `refusal` (the words of refusals).
+//! Modules: `refusal` (the words of refusals).
 #![tactic(auto)]
 
 mod refusal;
 
 pub use refusal::refusal_text;
-
-#[cfg(test)]
-mod tests;

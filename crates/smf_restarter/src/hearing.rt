@@ -1,6 +1,6 @@
 ghost use Rattle.std.specs.Option.{option_copied};
 ghost use Rattle.std.specs.Prelude.{◌≡◌, ◌==◌, ◌∷◌, [], map, nat_lt, IfOk};
-ghost use Rattle.smf_restarter.specs.Replies.{acked, anew, awaited, heard, heard_order, heard_rows, idle, is_answer, nacked, ordered, ordered_idle, ordered_in, phase_after, refused_by, taking, told};
+ghost use Rattle.smf_restarter.specs.Replies.{acked, anew, awaited, heard, heard_order, heard_rows, idle, is_answer, nacked, ordered, ordered_idle, ordered_in, phase_after, refused_by, taken_row, taking, told};
 
 use crate::known::{After, KnownInstance, Phase, Stage};
 use crate::places::{known, with};
@@ -156,6 +156,18 @@ fn phase_after(after: &After) -> Result<Phase, AllocError>
     }
 }
 
+/// An instance with the row that is taken.
+fn taken_rows(alloc: Global, known: &KnownInstance, row: &Row) -> Result<Items<Known>, AllocError>
+    ensures { IfOk result (λ rows. rows ≡ taken_row known.now row.now ∷ []) }
+{
+    let taken = Known {
+        instance: known.instance,
+        name: known.name.clone()?,
+        row: row.clone()?,
+    };
+    one(alloc, taken)
+}
+
 /// The row is taken, and the instance goes on to a phase.
 fn taking(
     alloc: Global,
@@ -165,15 +177,12 @@ fn taking(
 ) -> Result<Reply, AllocError>
     ensures { IfOk result (λ r. r ≡ taking known.now row.now phase) }
 {
-    let taken = Known {
-        instance: known.instance,
-        name: known.name.clone()?,
-        row: row.clone()?,
-    };
+    let taken = taken_rows(alloc, known, row)?;
+    let known = with(known, row, phase)?;
     Ok(Reply {
-        change: Change::Put(with(known, row, phase)?),
+        change: Change::Put(known),
         action: Action::Nothing,
-        taken: one(alloc, taken)?,
+        taken,
     })
 }
 

@@ -1,5 +1,5 @@
 //! A restarter: what it knows of its instances, and what it does on a message or a tick.
-//! Rooms: `known` (what it knows), `places` (the list of instances), `reply` (what a step is, and what it changes), `steps` (proposals), `hearing`
+//! Modules: `known` (what it knows), `places` (the list of instances), `reply` (what a step is, and what it changes), `steps` (proposals), `hearing`
 //! (messages), `ticking` (ticks), `restarter`.
 #![tactic(auto)]
 

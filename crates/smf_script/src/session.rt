@@ -251,9 +251,9 @@ fn run_request<J: Journal>(
     }
 }
 
-/// Does a line, puts its text, and gives back whether it did not fail.
+/// Does a line of a script, which stands without its end, puts its text, and gives back whether it did not fail.
 #[tactic(auto, unfolding(crate::specs::Session::effect))]
-pub(crate) fn run_line<J: Journal>(
+pub fn run_line<J: Journal>(
     alloc: Global,
     node: &mut Node<J>,
     selection: &mut Selection,

@@ -1,5 +1,5 @@
 //! Snapshots: what they keep of groups, what a revert makes of groups, and which group an instance has in the end.
-//! Rooms: `composing`, `taking` (taking and restoring), `name` (the names of snapshots), `body` (a snapshot's bytes).
+//! Modules: `composing`, `taking` (taking and restoring), `name` (the names of snapshots), `body` (a snapshot's bytes).
 #![tactic(auto)]
 
 mod body;
@@ -11,6 +11,3 @@ pub use body::{Snapshot, decode_snapshot, encode_both, encode_snapshot};
 pub use composing::{composed, find};
 pub use name::{SnapshotName, names};
 pub use taking::{is_snapped, put, restore, take};
-
-#[cfg(test)]
-mod tests;

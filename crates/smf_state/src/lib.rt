@@ -1,5 +1,5 @@
 //! States of instances, their rows, the steps that change them, and the texts of both.
-//! Rooms: `state`, `flags` (asks, failures left out), `step`, `row`, `fields` (readers of a line), `text`, `view`, `fault`.
+//! Modules: `state`, `flags` (asks, failures left out), `step`, `row`, `fields` (readers of a line), `text`, `view`, `fault`.
 #![tactic(auto)]
 
 mod fault;
@@ -22,6 +22,3 @@ pub use state::{Cause, Duration, State, edge};
 pub use step::{Proposal, Step, Verb};
 pub use text::{row_at, step_at};
 pub use view::ViewItem;
-
-#[cfg(test)]
-mod tests;

@@ -1,5 +1,5 @@
 //! Lines of svccfg(1M): what they ask for, and what they are judged to be where something is selected.
-//! Rooms: `splitting` (words), `command` (command words), `line` (lines), `selection` (what is selected, and what a
+//! Modules: `splitting` (words), `command` (command words), `line` (lines), `selection` (what is selected, and what a
 //! line comes to), `judging`, `fault`.
 #![tactic(auto)]
 
@@ -16,6 +16,3 @@ pub use judging::judge;
 pub use line::{Line, parse_line};
 pub use selection::{Judged, Selection};
 pub use splitting::words;
-
-#[cfg(test)]
-mod tests;

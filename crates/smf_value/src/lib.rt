@@ -1,5 +1,5 @@
 //! What services are described by: values of seven kinds, properties, groups, and the bytes that groups are kept in.
-//! Rooms: `name`, `kind`, `time`, `astring`, `ustring`, `value`, `flags`, `property`, their `spelling`,
+//! Modules: `name`, `kind`, `time`, `astring`, `ustring`, `value`, `flags`, `property`, their `spelling`,
 //! `group` and its `edits`, `body` and its `reading`, `fault`.
 #![tactic(auto)]
 
@@ -30,6 +30,3 @@ pub use reading::{decode, decode_first};
 pub use time::Time;
 pub use ustring::Ustring;
 pub use value::Value;
-
-#[cfg(test)]
-mod tests;

@@ -1,5 +1,5 @@
 //! Messages between the repository, svc.startd's graph and the restarters.
-//! Rooms: `order` (what the graph orders), `message`.
+//! Modules: `order` (what the graph orders), `message`.
 #![tactic(auto)]
 
 mod message;

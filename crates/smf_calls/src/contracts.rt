@@ -1,0 +1,165 @@
+//! The contract table that lines change.
+
+use crate::events::{put_events, put_terms, terms_of};
+use crate::fault::CallFault;
+use crate::words::{byte_of, copied, count_of, number_of, words_of};
+use smf_contract::{ContractFault, Exit, Holder, Made, Status, Table, Terms};
+use smf_fmri::Number;
+use std::alloc::{AllocError, Global};
+use std::fmt::Write;
+
+/// What a call of the table answers.
+pub(crate) fn answer(alloc: Global, table: &mut Table, line: &str) -> Result<String, CallFault> {
+    let words = words_of(alloc, line)?;
+    match words.as_slice() {
+        ["table"] => {
+            *table = Table::new(alloc);
+            copied(alloc, "done")
+        }
+        ["spawn", actor, cookie, terms @ ..] => spawn(alloc, table, actor, cookie, terms),
+        ["fork", process] => fork(alloc, table, process),
+        ["events"] => all_events(alloc, table),
+        ["events", contract, number] => events(alloc, table, contract, number),
+        ["status", contract] => status(alloc, table, contract),
+        ["list"] => list(alloc, table),
+        words => {
+            change(table, words)?;
+            copied(alloc, "done")
+        }
+    }
+}
+
+/// The calls that give nothing back.
+fn change(table: &mut Table, words: &[&str]) -> Result<(), CallFault> {
+    match words {
+        ["reserve"] => table.reserve()?,
+        ["holder_gone", actor] => table.holder_gone(count_of(actor)?)?,
+        ["adopt", actor, contract] => table.adopt(count_of(actor)?, number_of(contract)?)?,
+        ["abandon", actor, contract] => table.abandon(count_of(actor)?, number_of(contract)?)?,
+        ["kill", actor, contract] => table.kill(count_of(actor)?, number_of(contract)?)?,
+        ["ack", actor, contract, number] => {
+            table.ack(count_of(actor)?, number_of(contract)?, number_of(number)?)?;
+        }
+        words => end_process(table, words)?,
+    }
+    Ok(())
+}
+
+/// What happens to a process.
+fn end_process(table: &mut Table, words: &[&str]) -> Result<(), CallFault> {
+    match words {
+        ["exit", process, "killed"] => table.exit(number_of(process)?, Exit::Killed)?,
+        ["exit", process, code] => {
+            table.exit(number_of(process)?, Exit::Code(byte_of(code)?))?;
+        }
+        ["core", process] => table.core(number_of(process)?)?,
+        ["signal", process] => table.signal(number_of(process)?)?,
+        ["hwerr", process] => table.hwerr(number_of(process)?)?,
+        _ => return Err(CallFault::BadLine),
+    }
+    Ok(())
+}
+
+/// A spawn for which room was made needs no memory.
+fn spawn_with_room(
+    table: &mut Table,
+    actor: u64,
+    cookie: u64,
+    terms: Terms,
+) -> Result<Made, CallFault> {
+    table.reserve()?;
+    match table.spawn(actor, cookie, terms) {
+        Ok(made) => Ok(made),
+        Err(ContractFault::Memory) => unreachable!(),
+        Err(fault) => Err(CallFault::Contract(fault)),
+    }
+}
+
+/// `ACTOR COOKIE INFORMATIVE CRITICAL FATAL`, and then perhaps `inherit`, `noorphan`.
+fn spawn(
+    alloc: Global,
+    table: &mut Table,
+    actor: &str,
+    cookie: &str,
+    terms: &[&str],
+) -> Result<String, CallFault> {
+    let terms = terms_of(terms)?;
+    let made = spawn_with_room(table, count_of(actor)?, count_of(cookie)?, terms)?;
+    let (contract, process) = (made.contract.get(), made.process.get());
+    Ok(format!(in alloc; "contract {contract} process {process}")?)
+}
+
+fn fork(alloc: Global, table: &mut Table, process: &str) -> Result<String, CallFault> {
+    let child = table.fork(number_of(process)?)?.get();
+    Ok(format!(in alloc; "process {child}")?)
+}
+
+fn all_events(alloc: Global, table: &Table) -> Result<String, CallFault> {
+    let mut out = String::new(alloc);
+    put_events(&mut out, table.events())?;
+    Ok(out)
+}
+
+fn events(alloc: Global, table: &Table, contract: &str, number: &str) -> Result<String, CallFault> {
+    let events = table.events_from(number_of(contract)?, number_of(number)?)?;
+    let mut out = String::new(alloc);
+    put_events(&mut out, events.as_slice())?;
+    Ok(out)
+}
+
+fn put_holder(out: &mut String, holder: Holder) -> Result<(), AllocError> {
+    match holder {
+        Holder::Held(actor) => write!(out, "held {actor}"),
+        Holder::Inherited => out.push_str("inherited"),
+        Holder::Abandoned => out.push_str("abandoned"),
+    }
+}
+
+fn put_members(out: &mut String, members: &[Number]) -> Result<(), AllocError> {
+    if members.is_empty() {
+        out.push_str(" -")?;
+    }
+    for member in members {
+        let member = member.get();
+        write!(out, " {member}")?;
+    }
+    Ok(())
+}
+
+fn put_status(out: &mut String, status: &Status) -> Result<(), AllocError> {
+    let contract = &status.contract;
+    let (id, cookie) = (contract.id.get(), contract.cookie);
+    let acknowledged = contract.acknowledged.get();
+    write!(out, "contract {id} cookie {cookie} ")?;
+    put_holder(out, contract.holder)?;
+    out.push_str(" terms ")?;
+    put_terms(out, &contract.terms)?;
+    write!(out, " acknowledged {acknowledged} members")?;
+    put_members(out, status.members.as_slice())?;
+    out.push_str(" events ")?;
+    put_events(out, status.events.as_slice())
+}
+
+fn status(alloc: Global, table: &Table, contract: &str) -> Result<String, CallFault> {
+    let Some(status) = table.status(number_of(contract)?)? else {
+        return copied(alloc, "none");
+    };
+    let mut out = String::new(alloc);
+    put_status(&mut out, &status)?;
+    Ok(out)
+}
+
+/// All contracts with a bar between two; `-` where there is none.
+fn list(alloc: Global, table: &Table) -> Result<String, CallFault> {
+    let mut out = String::new(alloc);
+    for status in table.list()?.as_slice() {
+        if !out.is_empty() {
+            out.push_str(" | ")?;
+        }
+        put_status(&mut out, status)?;
+    }
+    if out.is_empty() {
+        out.push('-')?;
+    }
+    Ok(out)
+}

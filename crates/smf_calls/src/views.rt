@@ -1,0 +1,232 @@
+//! A view that lines make, item by item: what svcs and svcadm say of it, and what svc.startd's graph orders.
+
+use crate::bytes::bytes_of;
+use crate::fault::CallFault;
+use crate::names::instance_of;
+use crate::rows::state_of;
+use crate::words::{copied, count_of, number_of, texts_of, words_of};
+use smf_admin::{
+    Asked, commands_of, header_of, no_match_text, several_text, svcadm_usage, svcs_text, svcs_usage,
+};
+use smf_engine::{Engine, orders};
+use smf_fmri::{Bytes, Items};
+use smf_model::{Edit, View};
+use smf_state::{Row, ViewItem};
+use smf_wire::{Order, What};
+use std::alloc::{AllocError, Global};
+
+/// The restarter in the rows of the view.
+const RESTARTER: &str = "svc:/system/svc/restarter:default";
+
+/// A view, and a graph that views are given to.
+#[derive(Drop)]
+pub(crate) struct Views {
+    items: Vec<ViewItem>,
+    engine: Engine,
+}
+
+impl Views {
+    pub(crate) fn new(alloc: Global) -> Views {
+        Views {
+            items: Vec::new(alloc),
+            engine: Engine::new(),
+        }
+    }
+}
+
+/// What a call of the view answers, or none where the word is no such call.
+pub(crate) fn answer(
+    alloc: Global,
+    views: &mut Views,
+    call: &str,
+    text: &str,
+) -> Result<Option<String>, CallFault> {
+    match call {
+        "view" => views.items = Vec::new(alloc),
+        "view_item" => views.items.push(item_of(alloc, text)?)?,
+        "take_view" => take_view(alloc, views, text)?,
+        _ => return shown(alloc, views, call, text),
+    }
+    Ok(Some(copied(alloc, "done")?))
+}
+
+/// The same of the calls that change nothing.
+fn shown(
+    alloc: Global,
+    views: &Views,
+    call: &str,
+    text: &str,
+) -> Result<Option<String>, CallFault> {
+    Ok(Some(match call {
+        "svcs" => svcs(alloc, &views.items, text)?,
+        "svcadm" => svcadm(alloc, &views.items, text)?,
+        "orders" => all_orders(alloc, &views.items, text)?,
+        "decide" => decided(alloc, &views.engine, text)?,
+        "decide_all" => decided_all(alloc, &views.engine)?,
+        _ => return Ok(None),
+    }))
+}
+
+/// A row in a state; the next state may be `-`.
+fn row_of(alloc: Global, state: &str, next: &str) -> Result<Row, CallFault> {
+    let mut row = Row::new(instance_of(alloc, RESTARTER)?);
+    row.state = state_of(state)?;
+    if next != "-" {
+        row.next = Some(state_of(next)?);
+    }
+    Ok(row)
+}
+
+/// The bytes of the running snapshot; `-` is none.
+fn body_of(alloc: Global, word: &str) -> Result<Option<Bytes>, CallFault> {
+    if word == "-" {
+        return Ok(None);
+    }
+    Ok(Some(Bytes::from_vec(bytes_of(alloc, word)?)))
+}
+
+fn is_enabled(word: &str) -> Result<bool, CallFault> {
+    match word {
+        "enabled" => Ok(true),
+        "disabled" => Ok(false),
+        _ => Err(CallFault::BadLine),
+    }
+}
+
+/// `NUMBER NAME enabled|disabled STATE NEXT BODY`.
+fn item_of(alloc: Global, text: &str) -> Result<ViewItem, CallFault> {
+    match words_of(alloc, text)?.as_slice() {
+        [number, name, enabled, state, next, body] => Ok(ViewItem {
+            instance: count_of(number)?,
+            enabled: is_enabled(enabled)?,
+            readable: true,
+            name: instance_of(alloc, name)?,
+            row: row_of(alloc, state, next)?,
+            body: body_of(alloc, body)?,
+        }),
+        _ => Err(CallFault::BadLine),
+    }
+}
+
+/// The lines of a text, with a bar at the end of each.
+fn put_lines(out: &mut String, text: &str) -> Result<(), AllocError> {
+    for line in text.split('\n') {
+        if !line.is_empty() {
+            out.push_str(line)?;
+            out.push('|')?;
+        }
+    }
+    Ok(())
+}
+
+fn svcs(alloc: Global, items: &[ViewItem], text: &str) -> Result<String, CallFault> {
+    let words = texts_of(alloc, text)?;
+    let mut out = String::new(alloc);
+    match header_of(words.as_slice()) {
+        None => put_lines(&mut out, svcs_usage())?,
+        Some(header) => put_lines(&mut out, svcs_text(alloc, items, header)?.as_str())?,
+    }
+    Ok(out)
+}
+
+/// What a word of svcadm asks for.
+fn asked_text(alloc: Global, asked: &Asked) -> Result<String, AllocError> {
+    match asked {
+        Asked::Edit(
+            Edit::Enable {
+                instance,
+                enabled: true,
+                temporary: false,
+            },
+        ) => format!(in alloc; "enable {instance}\n"),
+        Asked::Edit(_) => String::from_str(alloc, "another edit\n"),
+        Asked::NoMatch(word) => Ok(no_match_text(alloc, word.as_str())?.into_string()),
+        Asked::Several(word, count) => {
+            Ok(several_text(alloc, word.as_str(), *count)?.into_string())
+        }
+    }
+}
+
+fn put_asked(alloc: Global, out: &mut String, all: &[Asked]) -> Result<(), AllocError> {
+    for asked in all {
+        put_lines(out, asked_text(alloc, asked)?.as_str())?;
+    }
+    Ok(())
+}
+
+fn svcadm(alloc: Global, items: &[ViewItem], text: &str) -> Result<String, CallFault> {
+    let words = texts_of(alloc, text)?;
+    let mut out = String::new(alloc);
+    match commands_of(alloc, words.as_slice(), items)? {
+        None => put_lines(&mut out, svcadm_usage())?,
+        Some(all) => put_asked(alloc, &mut out, all.as_slice())?,
+    }
+    Ok(out)
+}
+
+fn what_text(alloc: Global, what: &What) -> Result<String, AllocError> {
+    match what {
+        What::To(state) => String::from_str(alloc, state.text()),
+        What::Start {
+            method,
+            duration,
+            ..
+        } => {
+            let command = &method.command;
+            format!(in alloc; "start {command} {duration}")
+        }
+        What::Stop { to, .. } => format!(in alloc; "stop {to}"),
+        What::Refresh { .. } => String::from_str(alloc, "refresh"),
+    }
+}
+
+/// The instance of an order, the revision that it was decided on, and what it says.
+fn order_text(alloc: Global, order: &Order) -> Result<String, AllocError> {
+    let what = what_text(alloc, &order.what)?;
+    let (instance, revision) = (order.instance, order.revision);
+    format!(in alloc; "{instance} at {revision}: {what}")
+}
+
+fn orders_text(alloc: Global, orders: &[Order]) -> Result<String, AllocError> {
+    let mut out = String::new(alloc);
+    for order in orders {
+        if !out.is_empty() {
+            out.push_str(", ")?;
+        }
+        out.push_str(order_text(alloc, order)?.as_str())?;
+    }
+    if out.is_empty() {
+        out.push_str("nothing")?;
+    }
+    Ok(out)
+}
+
+/// `REVISION`: the orders for the instances of the view.
+fn all_orders(alloc: Global, items: &[ViewItem], text: &str) -> Result<String, CallFault> {
+    let orders = orders(alloc, count_of(text)?, items)?;
+    Ok(orders_text(alloc, orders.as_slice())?)
+}
+
+/// `REVISION`: gives a copy of the view to the graph, as that of this revision.
+fn take_view(alloc: Global, views: &mut Views, text: &str) -> Result<(), CallFault> {
+    let revision = number_of(text)?;
+    let mut items = Items::new(alloc);
+    for item in &views.items {
+        items.push(item.clone()?)?;
+    }
+    views.engine.take_view(View { revision, items });
+    Ok(())
+}
+
+/// `NUMBER`: the order for one instance, by the view that the graph holds.
+fn decided(alloc: Global, engine: &Engine, text: &str) -> Result<String, CallFault> {
+    match engine.decide(alloc, count_of(text)?)? {
+        None => copied(alloc, "nothing"),
+        Some(order) => Ok(order_text(alloc, &order)?),
+    }
+}
+
+fn decided_all(alloc: Global, engine: &Engine) -> Result<String, CallFault> {
+    let orders = engine.decide_all(alloc)?;
+    Ok(orders_text(alloc, orders.as_slice())?)
+}

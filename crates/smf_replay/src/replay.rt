@@ -1,0 +1,132 @@
+use crate::event::event_of;
+use crate::fault::fault_text;
+use smf_fmri::Text;
+use smf_model::{NoJournal, Plain};
+use smf_node::{Node, NodeFault};
+use smf_script::run_line;
+use smf_svccfg::{Selection, words};
+use smf_world::Event;
+use std::alloc::{AllocError, Global};
+use std::fmt::Write;
+use std::str;
+
+/// What is printed for a line that is none of a replay.
+const BAD_LINE: &str = "smf: bad line\n";
+
+/// A node over a repository in memory, and what svccfg has selected.
+#[derive(Drop)]
+pub(crate) struct Replay {
+    node: Node<NoJournal>,
+    selection: Selection,
+}
+
+/// Whether a line is one of a script too, which shows or changes what the node holds.
+fn is_of_a_script(first: &str) -> bool {
+    first == "svccfg" || first == "svcadm" || first == "svcs" || first == "trail"
+}
+
+/// A line without the end that it was read with.
+fn without_end(line: &[u8]) -> &[u8] {
+    match line {
+        [front @ .., b'\n'] => front,
+        _ => line,
+    }
+}
+
+fn is_comment(line: &[u8]) -> bool {
+    match line {
+        [first, ..] => *first == b'#',
+        [] => false,
+    }
+}
+
+impl Replay {
+    /// Begins behind the boot of a repository that holds nothing.
+    pub(crate) fn new(alloc: Global) -> Result<Replay, NodeFault> {
+        let selection = Selection::Nothing;
+        match Node::new(alloc, Plain::new(alloc, NoJournal {})) {
+            Ok(node) => Ok(Replay { node, selection }),
+            Err((fault, _)) => Err(fault),
+        }
+    }
+
+    /// The rows that are held: the number of the instance and the text of its row.
+    fn put_rows(&self, out: &mut String) -> Result<(), AllocError> {
+        let view = self.node.repository().view()?;
+        for item in view.items.as_slice() {
+            let number = item.instance;
+            write!(out, "{number} ")?;
+            item.row.print_onto(out)?;
+            out.push_str("\n")?;
+        }
+        Ok(())
+    }
+
+    /// An event happens, or is refused.
+    fn put_step(&mut self, event: Event, out: &mut String) -> Result<(), NodeFault> {
+        match self.node.step(event) {
+            Ok(_) => Ok(()),
+            Err(NodeFault::Memory) => Err(NodeFault::Memory),
+            Err(fault) => {
+                out.push_str(fault_text(fault))?;
+                out.push_str("\n")?;
+                Ok(())
+            }
+        }
+    }
+
+    fn put_event(
+        &mut self,
+        alloc: Global,
+        words: &[Text],
+        out: &mut String,
+    ) -> Result<(), NodeFault> {
+        match event_of(alloc, words)? {
+            Some(event) => self.put_step(event, out),
+            None => {
+                out.push_str(BAD_LINE)?;
+                Ok(())
+            }
+        }
+    }
+
+    fn put_words(
+        &mut self,
+        alloc: Global,
+        text: &str,
+        words: &[Text],
+        out: &mut String,
+    ) -> Result<(), NodeFault> {
+        match words {
+            [] => Ok(()),
+            [first, ..] if is_of_a_script(first.as_str()) => {
+                let line = text.as_bytes();
+                run_line(alloc, &mut self.node, &mut self.selection, line, out)?;
+                Ok(())
+            }
+            [first] if first.as_str() == "rows" => {
+                self.put_rows(out)?;
+                Ok(())
+            }
+            _ => self.put_event(alloc, words, out),
+        }
+    }
+
+    fn put_text(&mut self, alloc: Global, text: &str, out: &mut String) -> Result<(), NodeFault> {
+        if is_comment(text.as_bytes()) {
+            return Ok(());
+        }
+        let words = words(alloc, text)?;
+        self.put_words(alloc, text, words.as_slice(), out)
+    }
+
+    /// Does a line, and gives what it prints. Only want of memory ends a replay.
+    pub(crate) fn text_of(&mut self, alloc: Global, line: &[u8]) -> Result<String, NodeFault> {
+        let mut out = String::new(alloc);
+        match str::from_utf8(without_end(line)) {
+            Ok(text) => self.put_text(alloc, text, &mut out)?,
+            Err(_) => out.push_str(BAD_LINE)?,
+        }
+        Ok(out)
+    }
+}
