@@ -1,12 +1,13 @@
 -- What a binary search says, and what follows of the place that it names.
-use Rattle.std.proofs.Common.{◌≡◌, ℕ, zero, suc, ◌≤◌, ◌<◌, List, [], ◌∷◌, length, get_or, set, false, Some, None, Result, Ok, Err, refl, sym, ap, ◌∙◌, arith, add-one}
+use Rattle.std.proofs.Common.{cond, not, Bool, true, ◌+◌, ◌≡◌, ℕ, zero, suc, ◌≤◌, ◌<◌, List, [], ◌∷◌, length, get_or, set, false, Some, None, Result, Ok, Err, refl, sym, ap, ◌∙◌, arith, add-one}
+use Rattle.std.specs.declared.cmp.Ordering.{Ordering}
 use Rattle.std.specs.Prelude.{insert, remove}
 use Rattle.std.specs.List.{AllWithin, HoldsAt}
 use Rattle.std.specs.List.Sorted.{IsSearchInRange, IsBinarySearchResult, IsNonDecreasingBy}
-use Rattle.std.specs.Ordering.{is_lt, ordering_index}
+use Rattle.std.specs.Ordering.{is_eq, is_lt, ordering_index}
 use Rattle.std.specs.declared.cmp.Ordering.TheVariants.{Less, Equal, Greater}
 use Rattle.std.proofs.lemmas.List.Sorted.{searchable_from_sorted}
-use Rattle.smf_fmri.specs.ByKey.{By, BelongsAt, IsBelowFirst, IsPlaced, Rises, StandsAt, amend, lookup, put, without}
+use Rattle.smf_fmri.specs.ByKey.{By, BelongsAt, IsBelowFirst, IsPlaced, Rises, StandsAt, amend, has_key, lookup, put, put_by, without}
 use Rattle.smf_fmri.proofs.Lookups.{cmp_reversed}
 use Rattle.smf_fmri.proofs.Rising.{first_below}
 
@@ -146,3 +147,48 @@ amend_before o k f (suc i) [] r s = absurd s
 amend_before o k f zero (y ∷ ys) r s = amend_above o k f (y ∷ ys) (cmp_reversed o (o.key y) k Greater s) r
 amend_before {X = X} o k f (suc i) (y ∷ ys) r s =
     rw s.0 (ap (λ (l : List X). y ∷ l) (amend_before o k f i ys r.1 s.1))
+
+-- ---- how long a change leaves the list
+
+length_new_by : {X K : Type 0} (o : By X K) (x y : X) (ys : List X) (r : Ordering)
+    → cond (is_eq r) (Some y) (lookup o ys (o.key x)) ≡ None
+    → (lookup o ys (o.key x) ≡ None → length (put o x ys) ≡ length ys + 1)
+    → length (put_by r x y ys (put o x ys)) ≡ length (y ∷ ys) + 1
+length_new_by o x y ys Less e behind = let k : length (put o x ys) ≡ length ys + 1 = behind e in omega arith
+length_new_by o x y ys Equal e behind = absurd cc
+length_new_by o x y ys Greater e behind = omega arith
+
+-- a new key makes it longer by one
+pub length_put_new : {X K : Type 0} (o : By X K) (x : X) (xs : List X) → lookup o xs (o.key x) ≡ None
+    → length (put o x xs) ≡ length xs + 1
+length_put_new o x [] e = omega arith
+length_put_new o x (y ∷ ys) e = length_new_by o x y ys (o.cmp (o.key y) (o.key x)) e (length_put_new o x ys)
+
+length_over_by : {X K : Type 0} (o : By X K) (x y z : X) (ys : List X) (r : Ordering)
+    → o.cmp (o.key y) (o.key x) ≡ r → Rises o (y ∷ ys)
+    → cond (is_eq r) (Some y) (lookup o ys (o.key x)) ≡ Some z
+    → (lookup o ys (o.key x) ≡ Some z → length (put o x ys) ≡ length ys)
+    → length (put_by r x y ys (put o x ys)) ≡ length (y ∷ ys)
+length_over_by o x y z ys Less h rises e behind =
+    let k : length (put o x ys) ≡ length ys = behind e in omega arith
+length_over_by o x y z ys Equal h rises e behind = omega arith
+length_over_by o x y z ys Greater h rises e behind =
+    let above = first_below o (o.key x) (o.key y) ys (cmp_reversed o (o.key y) (o.key x) Greater h) rises.0 in
+    let none : lookup o ys (o.key x) ≡ None = none_above o (o.key x) ys above rises.1 in absurd cc
+
+-- a key that is there leaves it as long as it was
+pub length_put_over : {X K : Type 0} (o : By X K) (x z : X) (xs : List X) → Rises o xs
+    → lookup o xs (o.key x) ≡ Some z → length (put o x xs) ≡ length xs
+length_put_over o x z [] r e = absurd cc
+length_put_over o x z (y ∷ ys) r e =
+    length_over_by o x y z ys (o.cmp (o.key y) (o.key x)) refl r e (length_put_over o x z ys r.1)
+
+length_filter_by : {X : Type 0} (b : Bool) (x : X) (xs rest : List X) → length rest ≤ length xs
+    → length (cond b (x ∷ rest) rest) ≤ length (x ∷ xs)
+length_filter_by true x xs rest h = omega arith
+length_filter_by false x xs rest h = omega arith
+
+pub length_without : {X K : Type 0} (o : By X K) (k : K) (xs : List X) → length (without o k xs) ≤ length xs
+length_without o k [] = omega arith
+length_without o k (x ∷ xs) =
+    length_filter_by (not (has_key o k x)) x xs (without o k xs) (length_without o k xs)

@@ -1,5 +1,5 @@
-ghost use Rattle.std.specs.Prelude.{◌≡◌};
-ghost use Rattle.smf_fmri.specs.ByKey.{By};
+ghost use Rattle.std.specs.Prelude.{◌≡◌, List, ℕ};
+ghost use Rattle.smf_fmri.specs.ByKey.{By, Rises, by_text};
 
 /// What has a key, by which it is found and put in order: `by` says it in contracts, and compares as the key's type.
 pub trait Keyed {
@@ -11,6 +11,16 @@ pub trait Keyed {
         ensures { result.now ≡ by.key self.now };
 
     ghost same: { by.cmp ≡ Self.Key.cmp };
+}
+
+/// What has a text as its key, so that it is found by one that is borrowed.
+pub trait TextKeyed: Keyed {
+    ghost text: { Self → List ℕ };
+
+    fn key_text(&self) -> &str
+        ensures { result.now ≡ text self.now };
+
+    ghost same_order: { (xs : List Self) → Rises Self.by xs → Rises (by_text text) xs };
 }
 
 /// What has a part that can be given to it, and keeps its key.

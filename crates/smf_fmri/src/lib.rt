@@ -26,7 +26,7 @@ pub use fault::{FmriFault, PickFault};
 pub use fmri::Fmri;
 pub use instance::InstanceFmri;
 pub use items::Items;
-pub use keyed::{ExactClone, HasPart, Keyed};
+pub use keyed::{ExactClone, HasPart, Keyed, TextKeyed};
 pub use number::Number;
 pub use ordered::Ordered;
 pub use pattern::{Pattern, pick};

@@ -2,10 +2,10 @@ ghost use Rattle.std.specs.Fn.{CalledAt};
 ghost use Rattle.std.specs.List.Retain.{IsFiltered};
 ghost use Rattle.std.specs.Option.{option_copied};
 ghost use Rattle.std.specs.Prelude.{◌≡◌, ◌↔◌, [], length, IsTrue, IfOk, OnOk, OnErr};
-ghost use Rattle.smf_fmri.specs.ByKey.{Rises, amend, lookup, put, without};
+ghost use Rattle.smf_fmri.specs.ByKey.{Rises, amend, by_text, lookup, put, without};
 
-use crate::keyed::{ExactClone, HasPart, Keyed};
-use crate::sorted::{amend_in, find_in, put_in, take_from};
+use crate::keyed::{ExactClone, HasPart, Keyed, TextKeyed};
+use crate::sorted::{amend_in, find_in, find_text_in, put_in, take_from};
 use std::alloc::{AllocError, Global};
 use std::marker::Model;
 
@@ -77,6 +77,15 @@ impl<T: Keyed> Ordered<T> {
         ensures { option_copied result ≡ lookup T.by self.now key.now }
     {
         find_in(&self.items, key)
+    }
+
+    /// The item that has the text as its key.
+    pub fn get_text(&self, text: &str) -> Option<&T>
+    where
+        T: TextKeyed,
+        ensures { option_copied result ≡ lookup (by_text T.text) self.now text.now }
+    {
+        find_text_in(&self.items, text)
     }
 
     /// Puts an item in its place, over the one that has its key. Where memory runs out the list is as it was.

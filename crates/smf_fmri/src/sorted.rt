@@ -1,10 +1,12 @@
 //! Vectors in the order of a key.
 
+ghost use Rattle.std.specs.Cmp.Lexicographic.{slice_cmp};
 ghost use Rattle.std.specs.Option.{option_copied};
+ghost use Rattle.std.specs.Ordering.{nat_cmp};
 ghost use Rattle.std.specs.Prelude.{◌≡◌, ◌+◌, ◌<◌, ◌≤◌, length, vec_len, vec_capacity};
-ghost use Rattle.smf_fmri.specs.ByKey.{IsPlaced, Rises, amend, lookup, put, without};
+ghost use Rattle.smf_fmri.specs.ByKey.{IsPlaced, Rises, amend, by_text, lookup, put, without};
 
-use crate::keyed::{HasPart, Keyed};
+use crate::keyed::{HasPart, Keyed, TextKeyed};
 use std::cmp::Ordering;
 
 fn compare<T: Keyed>(item: &T, key: &T::Key) -> Ordering
@@ -26,6 +28,30 @@ pub(crate) fn find_in<'a, T: Keyed>(items: &'a [T], key: &T::Key) -> Option<&'a 
     ensures { option_copied result ≡ lookup T.by items.now key.now }
 {
     match place_in(items, key) {
+        Ok(at) => Some(&items[at]),
+        Err(_) => None,
+    }
+}
+
+fn compare_text<T: TextKeyed>(item: &T, text: &str) -> Ordering
+    ensures { result ≡ slice_cmp nat_cmp (T.text item.now) text.now }
+{
+    item.key_text().cmp(text)
+}
+
+/// Where what has the text as its key stands, or else where it belongs.
+fn place_of_text<T: TextKeyed>(items: &[T], text: &str) -> Result<usize, usize>
+    requires { Rises (by_text T.text) items.now }
+    ensures { IsPlaced (by_text T.text) text.now items.now result }
+{
+    items.binary_search_by(|item| compare_text(item, text))
+}
+
+pub(crate) fn find_text_in<'a, T: TextKeyed>(items: &'a [T], text: &str) -> Option<&'a T>
+    requires { Rises (by_text T.text) items.now }
+    ensures { option_copied result ≡ lookup (by_text T.text) items.now text.now }
+{
+    match place_of_text(items, text) {
         Ok(at) => Some(&items[at]),
         Err(_) => None,
     }

@@ -2,10 +2,10 @@ ghost use Rattle.std.specs.Fn.{CalledAt};
 ghost use Rattle.std.specs.List.Retain.{IsFiltered};
 ghost use Rattle.std.specs.Option.{option_copied};
 ghost use Rattle.std.specs.Prelude.{◌≡◌, ◌↔◌, ◌+◌, ◌++◌, ◌<◌, ◌≤◌, ◌∷◌, [], length, IsTrue, OnOk};
-ghost use Rattle.smf_fmri.specs.ByKey.{IsAbove, Rises, amend, lookup, put, without};
+ghost use Rattle.smf_fmri.specs.ByKey.{IsAbove, Rises, amend, by_text, lookup, put, without};
 
-use crate::keyed::{HasPart, Keyed};
-use crate::sorted::{amend_in, find_in, put_in, take_from};
+use crate::keyed::{HasPart, Keyed, TextKeyed};
+use crate::sorted::{amend_in, find_in, find_text_in, put_in, take_from};
 use std::alloc::{AllocError, Global};
 use std::marker::Model;
 
@@ -62,6 +62,15 @@ impl<T: Keyed> Table<T> {
         ensures { option_copied result ≡ lookup T.by self.now.items key.now }
     {
         find_in(&self.items, key)
+    }
+
+    /// The item that has the text as its key.
+    pub fn get_text(&self, text: &str) -> Option<&T>
+    where
+        T: TextKeyed,
+        ensures { option_copied result ≡ lookup (by_text T.text) self.now.items text.now }
+    {
+        find_text_in(&self.items, text)
     }
 
     /// Makes room for so many more. Where memory runs out the list is as it was.
