@@ -141,7 +141,7 @@ impl<T: Keyed + ExactClone> Clone for Ordered<T> {
 }
 
 #[tactic(auto, using(crate::proofs::Copies::same_items))]
-fn copied<T: ExactClone>(items: &Vec<T>) -> Result<Vec<T>, AllocError>
+pub(crate) fn copied<T: ExactClone>(items: &Vec<T>) -> Result<Vec<T>, AllocError>
     ensures { IfOk result (λ copy. copy.items ≡ items.now.items) }
 {
     items.clone()

@@ -4,7 +4,8 @@ ghost use Rattle.std.specs.Option.{option_copied};
 ghost use Rattle.std.specs.Prelude.{◌≡◌, ◌↔◌, ◌+◌, ◌++◌, ◌<◌, ◌≤◌, ◌∷◌, [], length, IsTrue, OnOk};
 ghost use Rattle.smf_fmri.specs.ByKey.{IsAbove, Rises, amend, by_text, lookup, put, without};
 
-use crate::keyed::{HasPart, Keyed, TextKeyed};
+use crate::keyed::{ExactClone, HasPart, Keyed, TextKeyed};
+use crate::ordered::copied;
 use crate::sorted::{amend_in, find_in, find_text_in, put_in, take_from};
 use std::alloc::{AllocError, Global};
 use std::marker::Model;
@@ -137,5 +138,14 @@ impl<T: Keyed> Table<T> {
         ensures room { self.old.room ≤ self.new.room }
     {
         amend_in(&mut self.items, key, part);
+    }
+}
+
+impl<T: Keyed + ExactClone> Clone for Table<T> {
+    ghost is_clone = { λ s copy. copy.items ≡ s.items };
+
+    fn clone(&self) -> Result<Table<T>, AllocError> {
+        let items = copied(&self.items)?;
+        Ok(Table { items })
     }
 }

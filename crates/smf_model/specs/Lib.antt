@@ -8,3 +8,4 @@ pub mod Laws
 pub mod Shown
 pub mod History
 pub mod Whole
+pub mod Journals

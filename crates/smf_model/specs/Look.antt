@@ -2,7 +2,7 @@
 use Rattle.std.specs.Prelude.{ℕ, List, [], ◌∷◌, ◌==◌, not, Bool, Option, Some, None, option_map, unwrap_or, filter, map}
 use Rattle.std.specs.Option.{option_map_or}
 use Rattle.smf_fmri.specs.ByKey.{By, amend, by_number, by_text, has_key, lookup, put, without}
-use Rattle.smf_value.specs.Groups.{GroupRecord}
+use Rattle.smf_value.specs.Groups.{GroupRecord, by_group}
 use Rattle.smf_model.specs.declared.held.Instance.{Instance}
 use Rattle.smf_model.specs.declared.held.InstanceEntry.{InstanceEntry}
 use Rattle.smf_model.specs.declared.held.InstanceName.{InstanceName}
@@ -29,9 +29,6 @@ empty =
     }
 
 -- ---- keys
-
-abbrev pub by_group : By GroupRecord (List ℕ)
-by_group = by_text (λ g. g.name)
 
 abbrev pub by_service : By Service (List ℕ)
 by_service = by_text (λ s. s.name)

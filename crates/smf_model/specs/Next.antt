@@ -16,7 +16,7 @@ use Rattle.smf_state.specs.States.{runs}
 use Rattle.smf_value.specs.declared.fault.GroupFault.{GroupFault}
 use Rattle.smf_value.specs.declared.value.Value.TheVariants.{Boolean}
 use Rattle.smf_value.specs.declared.kind.Kind.TheVariants as kinds
-use Rattle.smf_value.specs.Groups.{PropertyRecord, GroupRecord}
+use Rattle.smf_value.specs.Groups.{PropertyRecord, GroupRecord, by_group}
 use Rattle.smf_value.specs.Edits as edits
 use Rattle.smf_snap.specs.declared.name.SnapshotName.{SnapshotName}
 use Rattle.smf_snap.specs.declared.name.SnapshotName.TheVariants as snapshots
@@ -47,7 +47,7 @@ use Rattle.smf_model.specs.declared.held.Snapshot.{Snapshot}
 use Rattle.smf_model.specs.declared.setting.Setting.{Setting}
 use Rattle.smf_model.specs.declared.setting.Setting.TheVariants.{Unreadable}
 use Rattle.smf_model.specs.Holdings.{Holdings}
-use Rattle.smf_model.specs.Look.{by_group, service, instance, instances, named, groups_of, group, snapshot, launch_of, installed}
+use Rattle.smf_model.specs.Look.{service, instance, instances, named, groups_of, group, snapshot, launch_of, installed}
 use Rattle.smf_model.specs.Setting.{Groups, general, general_ovr, enabled_name, restarter_name, framework, startd, service_fmri, service_owner, current, setting, owner_by}
 
 -- what a command makes: the changes, and the reply
@@ -201,14 +201,14 @@ abbrev pub enabled_property : Bool → PropertyRecord
 enabled_property b = record { name = enabled_name; kind = kinds.Boolean; values = Boolean b ∷ [] }
 
 -- a group that holds the property `enabled` put in its place, and `general_ovr` gone
-abbrev pub enabling : Holdings → ℕ → GroupRecord → Change
-enabling h n g = PutGroups (owners.Instance n) (put by_group g (without by_group general_ovr (groups_of h (owners.Instance n))))
+abbrev pub enabling_of : Holdings → Owner → GroupRecord → Change
+enabling_of h owner g = PutGroups owner (put by_group g (without by_group general_ovr (groups_of h owner)))
 
 -- the property `enabled` put into the group `general`, and `general_ovr` gone; or into `general_ovr`
 abbrev pub enabled_for_good : Holdings → ℕ → Result GroupRecord GroupFault → Asked
 enabled_for_good h n (Err fault) = refused (Denied fault)
 enabled_for_good h n (Ok g) =
-    if has_room h (owners.Instance n) general general_ovr then accepted h (enabling h n g ∷ []) Done else refused Limit
+    if has_room h (owners.Instance n) general general_ovr then accepted h (enabling_of h (owners.Instance n) g ∷ []) Done else refused Limit
 
 abbrev pub enabled_for_now : Holdings → ℕ → Result GroupRecord GroupFault → Asked
 enabled_for_now h n (Err fault) = refused (Denied fault)
@@ -223,7 +223,7 @@ group_or_new h n name non_persistent = unwrap_or (group h (owners.Instance n) na
 
 -- it with the property `enabled`
 abbrev pub group_enabled : Bool → GroupRecord → Result GroupRecord GroupFault
-group_enabled b g = edits.put (enabled_property b) g
+group_enabled b g = edits.put_property (enabled_property b) g
 
 abbrev pub asked_enable : Holdings → ℕ → Bool → Bool → Option Instance → Asked
 asked_enable h n b temporary None = refused NoSuch

@@ -54,13 +54,6 @@ property_of_either own services_own name = first_of (property_in own name) (prop
 abbrev pub service_owner : Instance → Owner
 service_owner i = owners.Service (service_fmri i.name)
 
-abbrev pub general_group : Groups → Owner → Option GroupRecord
-general_group gs owner = group_in (gs owner) general
-
--- a property of `general`: the instance's, else the service's
-abbrev pub general_of : Groups → Instance → List ℕ → Option PropertyRecord
-general_of gs i name = property_of_either (general_group gs (owners.Instance i.number)) (general_group gs (service_owner i)) name
-
 -- one boolean says so; anything else is false
 abbrev pub truth_of : List Value → Bool
 truth_of (Boolean b ∷ []) = b
@@ -70,14 +63,15 @@ abbrev pub is_true : Option PropertyRecord → Bool
 is_true None = false
 is_true (Some p) = truth_of p.values
 
--- what `general_ovr` of an instance, its `general` and that of its service say
-abbrev pub enabled_by : Option GroupRecord → Option GroupRecord → Option GroupRecord → Bool
-enabled_by ovr own services_own = is_true (first_of (property_in ovr enabled_name) (property_of_either own services_own enabled_name))
+-- `enabled` of `general_ovr` of an instance, else of its `general`, else of that of its service
+abbrev pub enabled_property : Option GroupRecord → Option GroupRecord → Option GroupRecord → Option PropertyRecord
+enabled_property ovr own services_own = first_of (property_in ovr enabled_name) (property_of_either own services_own enabled_name)
 
 -- `general_ovr/enabled` of the instance if it is there, else `general/enabled`
 unfoldable pub enabled : Groups → Instance → Bool
 enabled gs i =
-    enabled_by (group_in (gs (owners.Instance i.number)) general_ovr) (general_group gs (owners.Instance i.number)) (general_group gs (service_owner i))
+    let own = gs (owners.Instance i.number) in
+    is_true (enabled_property (group_in own general_ovr) (group_in own general) (group_in (gs (service_owner i)) general))
 
 abbrev pub named_restarter : Result (List ℕ) FmriFault → Setting
 named_restarter (Ok name) = if is_some (instance_of name) then Restarter name else Unreadable
@@ -100,7 +94,7 @@ setting_by own services_own = set_by (property_of_either own services_own restar
 
 -- what `general/restarter` says
 unfoldable pub setting : Groups → Instance → Setting
-setting gs i = setting_by (general_group gs (owners.Instance i.number)) (general_group gs (service_owner i))
+setting gs i = setting_by (group_in (gs (owners.Instance i.number)) general) (group_in (gs (service_owner i)) general)
 
 -- the restarter that a setting names: svc.startd's own where it names none
 abbrev pub owner_by : Setting → List ℕ

@@ -7,7 +7,7 @@ use Rattle.smf_state.specs.declared.view.ViewItem.{ViewItem}
 use Rattle.smf_state.specs.States.{state_text}
 use Rattle.smf_value.specs.declared.kind.Kind.TheVariants as kinds
 use Rattle.smf_value.specs.declared.value.Value.TheVariants.{Astring}
-use Rattle.smf_value.specs.Groups.{PropertyRecord, GroupRecord}
+use Rattle.smf_value.specs.Groups.{PropertyRecord, GroupRecord, by_group}
 use Rattle.smf_snap.specs.declared.name.SnapshotName.{SnapshotName}
 use Rattle.smf_snap.specs.declared.name.SnapshotName.TheVariants as snapshots
 use Rattle.smf_snap.specs.Body.{spelled_both}
@@ -19,7 +19,7 @@ use Rattle.smf_model.specs.declared.held.Owner.TheVariants as owners
 use Rattle.smf_model.specs.declared.held.Snapshot.{Snapshot}
 use Rattle.smf_model.specs.declared.held.View.{View}
 use Rattle.smf_model.specs.Holdings.{Holdings}
-use Rattle.smf_model.specs.Look.{by_group, groups_of, instance, instances}
+use Rattle.smf_model.specs.Look.{groups_of, instance, instances}
 use Rattle.smf_model.specs.Next.{is_instance_of, named_snapshot, number_of}
 use Rattle.smf_model.specs.Setting.{current, enabled, framework, is_readable, restarter_name, setting}
 

@@ -1,31 +1,27 @@
-ghost use Rattle.std.specs.Prelude.{◌≡◌, true, codes, map, filter, IfOk};
-ghost use Rattle.smf_model.specs.Shown.{children, is_run_by, made_group, next_text, rows_of, shown_groups, text_property};
+ghost use Rattle.std.specs.Prelude.{◌≡◌, true, codes, filter, IfOk};
+ghost use Rattle.smf_model.specs.Shown.{all_read, children, is_run_by, made_group, next_text, rows_of, shown_groups, text_property};
 ghost use Rattle.smf_model.specs.Next.{is_instance_of, new_group};
-ghost use Rattle.smf_model.specs.Setting.{current, framework, restarter_name};
-ghost use Rattle.smf_model.specs.Tables.{held_in};
+ghost use Rattle.smf_model.specs.Setting.{framework, restarter_name};
 ghost use Rattle.smf_state.specs.States.{state_text};
 ghost use Rattle.smf_value.specs.Texts.{is_astring};
 
 use crate::booting::is_instance_of;
-use crate::grouping::new_group;
+use crate::grouping::{groups_of, new_group};
 use crate::held::{Instance, Owner};
-use crate::look::instance_of;
 use crate::setting::current;
-use crate::snapping::groups_of;
 use crate::tables::Tables;
-use smf_fmri::{InstanceFmri, Items, ServiceFmri};
-use smf_snap::put;
+use smf_fmri::{InstanceFmri, Items, Ordered, ServiceFmri};
 use smf_state::{Row, State};
 use smf_value::{Astring, Group, Name, Property, Value};
 use std::alloc::{AllocError, Global};
 
 /// All instances as they are read.
 fn all_read(alloc: Global, tables: &Tables) -> Result<Vec<Instance>, AllocError>
-    ensures { IfOk result (λ all. all.items ≡ map (current (held_in tables.now).groups) (held_in tables.now).instances) }
+    ensures { IfOk result (λ all. all.items ≡ all_read tables.now) }
 {
     let mut all = Vec::new(alloc);
-    for instance in &tables.instances {
-        all.push(current(alloc, &tables.groups, instance.clone()?)?)?;
+    for entry in tables.entries() {
+        all.push(current(alloc, tables, entry.instance.clone()?)?)?;
     }
     Ok(all)
 }
@@ -54,7 +50,7 @@ pub(crate) fn rows_of(
     tables: &Tables,
     restarter: &InstanceFmri,
 ) -> Result<Items<Instance>, AllocError>
-    ensures { IfOk result (λ all. all ≡ rows_of (held_in tables.now) restarter.now) }
+    ensures { IfOk result (λ all. all ≡ rows_of tables.now restarter.now) }
 {
     let rows = run_by(alloc, all_read(alloc, tables)?, restarter)?;
     Ok(Items::from_vec(rows))
@@ -84,7 +80,7 @@ pub(crate) fn children(
     tables: &Tables,
     service: &ServiceFmri,
 ) -> Result<Items<Instance>, AllocError>
-    ensures { IfOk result (λ all. all ≡ children (held_in tables.now) service.now) }
+    ensures { IfOk result (λ all. all ≡ children tables.now service.now) }
 {
     let rows = of_service(alloc, all_read(alloc, tables)?, service)?;
     Ok(Items::from_vec(rows))
@@ -147,19 +143,18 @@ pub(crate) fn shown_groups(
     alloc: Global,
     tables: &Tables,
     owner: &Owner,
-) -> Result<Items<Group>, AllocError>
-    ensures { IfOk result (λ gs. gs ≡ shown_groups (held_in tables.now) owner.now) }
+) -> Result<Ordered<Group>, AllocError>
+    ensures { IfOk result (λ gs. gs ≡ shown_groups tables.now owner.now) }
 {
-    let groups = groups_of(alloc, tables, owner)?;
+    let mut groups = groups_of(alloc, tables, owner)?;
     let Owner::Instance(number) = owner else {
         return Ok(groups);
     };
-    match instance_of(&tables.instances, *number) {
+    match tables.instance(*number) {
         None => Ok(groups),
         Some(instance) => {
-            let mut all = groups.into_vec();
-            put(&mut all, made_group(alloc, &instance.row)?)?;
-            Ok(Items::from_vec(all))
+            groups.put(made_group(alloc, &instance.row)?)?;
+            Ok(groups)
         }
     }
 }
