@@ -1,11 +1,12 @@
 -- The bytes that groups are kept in.
-use Rattle.std.specs.Prelude.{ℕ, ◌<◌, ◌^◌, List, [], ◌∷◌, ◌++◌, length, map, Bool, if◌then◌else◌}
+use Rattle.std.specs.Prelude.{ℕ, ◌<◌, ◌^◌, List, [], ◌∷◌, ◌++◌, length, Bool, if◌then◌else◌}
 use Rattle.std.specs.Int.{Width, w16, w32, w64, to_be_bytes, cast_unsigned}
 use Rattle.std.specs.List.{flat_map, AllByRecursion}
+use Rattle.smf_fmri.specs.ByKey.{Rises}
 use Rattle.smf_value.specs.Names.{IsName}
 use Rattle.smf_value.specs.Kinds.{kind_code}
 use Rattle.smf_value.specs.Values.{IsValue}
-use Rattle.smf_value.specs.Groups.{PropertyRecord, GroupRecord, IsProperty, IsGroup, Rises}
+use Rattle.smf_value.specs.Groups.{PropertyRecord, GroupRecord, IsProperty, IsGroup, by_group}
 use Rattle.smf_value.specs.declared.value.Value.{Value}
 use Rattle.smf_value.specs.declared.value.Value.TheVariants.{Boolean, Count, Integer, Time, Astring, Ustring, Fmri}
 
@@ -51,11 +52,8 @@ pub record IsWholeGroup (g : GroupRecord) : Type 0 where
   pub formed : IsGroup g
   pub each : AllByRecursion IsWholeProperty g.properties
 
-abbrev pub names_of : List GroupRecord → List (List ℕ)
-names_of gs = map (λ g. g.name) gs
-
 -- groups that a body may hold
 pub record AreGroups (gs : List GroupRecord) : Type 0 where
   pub bounded : length gs < 2 ^ 32
-  pub rises : Rises (names_of gs)
+  pub rises : Rises by_group gs
   pub each : AllByRecursion IsWholeGroup gs

@@ -1,5 +1,5 @@
 use super::*;
-use smf_fmri::{Items, Text};
+use smf_fmri::{Items, Ordered, Text};
 use std::alloc::Global;
 use std::test::Fail;
 
@@ -36,7 +36,7 @@ fn name_refused(read: Result<Name, NameFault>) -> Result<Option<NameFault>, Name
     }
 }
 
-fn body_refused(read: Result<Items<Group>, BodyFault>) -> Result<Option<BodyFault>, BodyFault> {
+fn body_refused(read: Result<Ordered<Group>, BodyFault>) -> Result<Option<BodyFault>, BodyFault> {
     match read {
         Ok(_) => Ok(None),
         Err(BodyFault::Memory) => Err(BodyFault::Memory),
@@ -68,7 +68,9 @@ fn a_body(rt: HostRuntime) -> Result<(), Fail> {
         Some(Kind::Count),
         texts(alloc, &["1"])?.as_slice(),
     )?;
-    let body = encode(alloc, &[group])?;
+    let mut groups = Ordered::new(alloc);
+    groups.put(group)?;
+    let body = encode(alloc, &groups)?;
     assert_eq!(rt; body.as_slice(), &BODY[..27]);
     Ok(())
 }
@@ -324,9 +326,9 @@ fn a_body_of_each_kind(rt: HostRuntime) -> Result<(), Fail> {
     ] {
         group.add_value(alloc, &name(alloc, property)?, Some(kind), text)?;
     }
-    let mut groups = Items::new(alloc);
-    groups.push(group)?;
-    let body = encode(alloc, groups.as_slice())?;
+    let mut groups = Ordered::new(alloc);
+    groups.put(group)?;
+    let body = encode(alloc, &groups)?;
     let again = decode(alloc, body.as_slice())?;
     assert_eq!(rt; again.len(), 1);
     for group in again.as_slice() {

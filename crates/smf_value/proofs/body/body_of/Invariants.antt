@@ -1,7 +1,7 @@
 use Rattle.std.proofs.Common.{◌≡◌, ◌++◌, take, drop}
 use Rattle.std.specs.List.{AllByRecursion, flat_map}
 use Rattle.smf_value.specs.Body.{spelled_group, spelled, IsWholeGroup}
-use Rattle.smf_value.proofs.body.encode.Given as goal
+use Rattle.smf_value.proofs.body.body_of.Given as goal
 
 abbrev pub invariant-loop-group : goal.invariant-loop-group
 invariant-loop-group l = record {
