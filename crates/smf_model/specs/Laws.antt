@@ -13,7 +13,7 @@ use Rattle.smf_fmri.specs.ByKey.{Rises, lookup}
 use Rattle.smf_model.specs.declared.held.Instance.{Instance}
 use Rattle.smf_model.specs.declared.held.InstanceName.{InstanceName}
 use Rattle.smf_model.specs.Holdings.{Holdings}
-use Rattle.smf_model.specs.Look.{by_entry, by_launch, by_name, by_service, by_snapshot, has_number, instance, snapshot}
+use Rattle.smf_model.specs.Look.{bare, by_entry, by_instance, by_launch, by_name, by_service, by_snapshot, has_number, instance, snapshot}
 use Rattle.smf_model.specs.Setting.{startd}
 
 -- ---- replies
@@ -41,11 +41,11 @@ pub record IsOrdered (h : Holdings) : Type 0 where
   pub launches : Rises by_launch h.launches
 
 -- each name that is given is that of the instance with its number, and each instance has been given its name
-pub record IsIndexed (h : Holdings) : Type 0 where
-  pub right : (name : List ℕ) (e : InstanceName) → lookup by_name h.names name ≡ Some e
-      → (i : Instance) × (instance h e.number ≡ Some i) × (i.name ≡ name)
-  pub whole : (n : ℕ) (i : Instance) → instance h n ≡ Some i
-      → lookup by_name h.names i.name ≡ Some (record { name = i.name; number = n })
+pub record IsIndexed (is : List Instance) (names : List InstanceName) : Type 0 where
+  pub right : (name : List ℕ) (e : InstanceName) → lookup by_name names name ≡ Some e
+      → (i : Instance) × (lookup by_instance is e.number ≡ Some i) × (i.name ≡ name)
+  pub whole : (n : ℕ) (i : Instance) → lookup by_instance is n ≡ Some i
+      → lookup by_name names i.name ≡ Some (record { name = i.name; number = n })
 
 -- every list is in order, numbers of instances begin at 1, nothing has the number that comes next, or a greater one,
 -- and instances are found by their names
@@ -55,7 +55,7 @@ pub record IsNumbered (h : Holdings) : Type 0 where
   pub none_at_zero : instance h 0 ≡ None
   pub instances : (n : ℕ) → h.next_instance ≤ n → instance h n ≡ None
   pub snapshots : (n : ℕ) → h.next_snapshot ≤ n → snapshot h n ≡ None
-  pub indexed : IsIndexed h
+  pub indexed : IsIndexed (bare h.instances) h.names
 
 -- no number is found a second time
 abbrev pub AreApart : List Instance → Type 0

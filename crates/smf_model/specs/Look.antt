@@ -1,5 +1,5 @@
 -- How what is held is looked up, and how it is changed.
-use Rattle.std.specs.Prelude.{ℕ, List, [], ◌∷◌, ◌==◌, not, Bool, Option, Some, None, option_map, unwrap_or, filter, map}
+use Rattle.std.specs.Prelude.{ℕ, List, [], ◌∷◌, ◌==◌, not, Bool, Option, Some, None, option_map, unwrap_or, filter, map, if◌then◌else◌}
 use Rattle.std.specs.Option.{option_map_or}
 use Rattle.smf_fmri.specs.ByKey.{By, amend, by_number, by_text, has_key, lookup, put, without}
 use Rattle.smf_value.specs.Groups.{GroupRecord, by_group}
@@ -54,6 +54,10 @@ has_number n i = has_key by_instance n i
 abbrev pub is_snapshot_of : ℕ → Snapshot → Bool
 is_snapshot_of n s = s.instance == n
 
+-- the snapshots of other instances
+abbrev pub others_of : ℕ → List Snapshot → List Snapshot
+others_of n ss = filter (λ s. not (is_snapshot_of n s)) ss
+
 -- ---- look-ups
 
 -- instances without their groups
@@ -101,9 +105,29 @@ launch_of h name = option_map_or (λ l. l.count) (lookup by_launch h.launches na
 
 -- ---- changes
 
--- an instance in place of the one that has its number
+-- what passes a test gives way to this, where it stands
+abbrev pub replaced : {X : Type 0} → (X → Bool) → X → List X → List X
+replaced test x [] = []
+replaced test x (y ∷ ys) = if test y then x ∷ ys else y ∷ replaced test x ys
+
+-- an instance in place of another, whose number it takes
+abbrev pub in_place : Instance → Instance → Instance
+in_place i other = record i { number = other.number }
+
+-- an instance in place of the one that has its number, if there is one
+abbrev pub put_over : Instance → List Instance → List Instance
+put_over i is = amend by_instance i.number (in_place i) is
+
 abbrev pub with_instance : Instance → InstanceEntry → InstanceEntry
-with_instance i e = record e { instance = record i { number = e.instance.number } }
+with_instance i e = record e { instance = in_place i e.instance }
+
+-- in its place, where nothing has its key
+abbrev pub put_by_lookup : {X K : Type 0} → By X K → X → List X → Option X → List X
+put_by_lookup o x xs (Some there) = xs
+put_by_lookup o x xs None = put o x xs
+
+abbrev pub put_new : {X K : Type 0} → By X K → X → List X → List X
+put_new o x xs = put_by_lookup o x xs (lookup o xs (o.key x))
 
 abbrev pub with_groups : Holdings → List GroupRecord → Owner → Holdings
 with_groups h gs (owners.Service name) = record h { services = amend by_service name (λ s. record s { groups = gs }) h.services }
@@ -119,8 +143,8 @@ changed h (DropInstance n) = record h { instances = without by_entry n h.instanc
 changed h (PutName e) = record h { names = put by_name e h.names }
 changed h (DropName name) = record h { names = without by_name name h.names }
 changed h (PutGroups owner gs) = with_groups h gs owner
-changed h (AddSnapshot s) = record h { snapshots = put by_snapshot s h.snapshots }
-changed h (DropSnapshots n) = record h { snapshots = filter (λ s. not (is_snapshot_of n s)) h.snapshots }
+changed h (AddSnapshot s) = record h { snapshots = put_new by_snapshot s h.snapshots }
+changed h (DropSnapshots n) = record h { snapshots = others_of n h.snapshots }
 changed h (PutLaunch l) = record h { launches = put by_launch l h.launches }
 changed h (NextInstance n) = record h { next_instance = n }
 changed h (NextSnapshot n) = record h { next_snapshot = n }

@@ -146,6 +146,7 @@ fn persistent_group<'a>(tables: &'a Tables, owner: &Owner, name: &str) -> Option
 }
 
 /// The group of a name, where it outlasts a boot.
+#[tactic(auto, using(crate::proofs::Kept::kept_none, crate::proofs::Kept::kept_some))]
 fn kept_of_name<'a>(groups: &'a Ordered<Group>, name: &str) -> Option<&'a Group>
     ensures { option_copied result ≡ group_in (kept_groups groups.now) name.now }
 {

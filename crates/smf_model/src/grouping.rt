@@ -252,6 +252,18 @@ fn enable_for_now(alloc: Global, tables: &Tables, number: u64, enabled: bool) ->
 {
     let name = Name::new(alloc, "general_ovr")?;
     let present = group_or_new(alloc, tables, number, name, true)?;
+    write_for_now(alloc, tables, number, present, enabled)
+}
+
+fn write_for_now(
+    alloc: Global,
+    tables: &Tables,
+    number: u64,
+    present: Group,
+    enabled: bool,
+) -> Asked
+    ensures { IfOk result (λ r. r ≡ enabled_for_now tables.now number (group_enabled enabled present)) }
+{
     match with_enabled(alloc, present, enabled) {
         Err(GroupFault::Memory) => Err(AllocError),
         Err(fault) => refused(alloc, Reply::Denied(fault)),

@@ -1,4 +1,4 @@
-ghost use Rattle.std.specs.Prelude.{◌≡◌, ◌⊎◌, ◌<◌, [], IfOk, IfErr, IsTrue, OnOk, OnErr, is_some, length, option_map};
+ghost use Rattle.std.specs.Prelude.{◌≡◌, ◌⊎◌, ◌<◌, [], IfOk, IfErr, OnOk, true, OnErr, is_some, length, option_map};
 ghost use Rattle.std.specs.Option.{option_copied};
 ghost use Rattle.smf_model.specs.Journals.{IsTold, IsUntold, LeavesOldOr, LeavesOldOrTold, LeavesOnly};
 ghost use Rattle.smf_model.specs.Laws.{IsNumbered, is_refusal};
@@ -82,10 +82,12 @@ impl<J: Journal> Plain<J> {
     /// What a command changes, and its reply. It changes nothing itself.
     pub fn asked(&self, command: &Command) -> Result<Outcome, AllocError>
         ensures exact { IfOk result (λ r. r ≡ asked self.now.held command.now) }
-        ensures refused { IfOk result (λ r. IsTrue (is_refusal r.reply) → r.changes ≡ []) }
+        ensures refused { IfOk result (λ r. is_refusal r.reply ≡ true → r.changes ≡ []) }
         ensures numbered { IfOk result (λ r. IsNumbered (installed self.now.held r.changes)) }
+        ensures stands { J.stands self.now.journal self.now.held }
     {
-        asked(self.alloc, &self.tables, command)
+        let outcome = asked(self.alloc, &self.tables, command)?;
+        Ok(outcome)
     }
 
     /// Makes changes: the journal is written first, and an error leaves what is held. Where there are none the journal

@@ -1,13 +1,14 @@
-ghost use Rattle.std.specs.Prelude.{◌≡◌, true, codes, filter, IfOk};
+ghost use Rattle.std.specs.Prelude.{◌≡◌, true, codes, filter, map, IfOk};
+ghost use Rattle.smf_model.specs.Look.{bare, groups_of};
 ghost use Rattle.smf_model.specs.Shown.{all_read, children, is_run_by, made_group, next_text, rows_of, shown_groups, text_property};
 ghost use Rattle.smf_model.specs.Next.{is_instance_of, new_group};
-ghost use Rattle.smf_model.specs.Setting.{framework, restarter_name};
+ghost use Rattle.smf_model.specs.Setting.{current, framework, restarter_name};
 ghost use Rattle.smf_state.specs.States.{state_text};
 ghost use Rattle.smf_value.specs.Texts.{is_astring};
 
 use crate::booting::is_instance_of;
 use crate::grouping::{groups_of, new_group};
-use crate::held::{Instance, Owner};
+use crate::held::{Instance, InstanceEntry, Owner};
 use crate::setting::current;
 use crate::tables::Tables;
 use smf_fmri::{InstanceFmri, Items, Ordered, ServiceFmri};
@@ -16,11 +17,21 @@ use smf_value::{Astring, Group, Name, Property, Value};
 use std::alloc::{AllocError, Global};
 
 /// All instances as they are read.
-fn all_read(alloc: Global, tables: &Tables) -> Result<Vec<Instance>, AllocError>
+pub(crate) fn all_read(alloc: Global, tables: &Tables) -> Result<Vec<Instance>, AllocError>
     ensures { IfOk result (λ all. all.items ≡ all_read tables.now) }
 {
+    read_each(alloc, tables, tables.entries())
+}
+
+fn read_each(
+    alloc: Global,
+    tables: &Tables,
+    entries: &[InstanceEntry],
+) -> Result<Vec<Instance>, AllocError>
+    ensures { IfOk result (λ all. all.items ≡ map (current (groups_of tables.now)) (bare entries.now)) }
+{
     let mut all = Vec::new(alloc);
-    for entry in tables.entries() {
+    for entry in entries {
         all.push(current(alloc, tables, entry.instance.clone()?)?)?;
     }
     Ok(all)

@@ -1,8 +1,7 @@
 ghost use Rattle.std.specs.Option.{option_copied};
-ghost use Rattle.std.specs.Prelude.{◌≡◌, ◌+◌, filter, length, not, ℕ, IfOk, OnOk};
+ghost use Rattle.std.specs.Prelude.{◌≡◌, ◌+◌, ◌<◌, ◌≤◌, length, ℕ, IfOk, OnOk};
 ghost use Rattle.smf_fmri.specs.ByKey.{Rises, lookup};
-ghost use Rattle.smf_value.specs.Groups.{by_group};
-ghost use Rattle.smf_model.specs.Look.{by_entry, by_name, changed, empty, installed, instance, is_snapshot_of, launch_of, named, owned, service, snapshot, with_groups};
+ghost use Rattle.smf_model.specs.Look.{by_entry, by_name, by_snapshot, changed, empty, installed, instance, launch_of, named, others_of, owned, put_new, service, snapshot, with_groups};
 ghost use Rattle.smf_model.specs.Tables.{HasRoom, held_in};
 
 use crate::change::Change;
@@ -174,15 +173,26 @@ impl Tables {
 }
 
 fn drop_snapshots(snapshots: &mut Table<Snapshot>, instance: u64)
-    ensures dropped { snapshots.new.items ≡ filter (λ s. not (is_snapshot_of instance s)) snapshots.old.items }
-    ensures room { (n : ℕ) → n ≤ snapshots.old.room → n ≤ snapshots.new.room }
+    ensures dropped { snapshots.new.items ≡ others_of instance snapshots.old.items }
+    ensures room { snapshots.old.room ≤ snapshots.new.room }
 {
     snapshots.retain(|s| s.instance != instance);
 }
 
+/// Puts a snapshot in its place, where none has its number.
+fn add_snapshot(snapshots: &mut Table<Snapshot>, snapshot: Snapshot)
+    requires { 0 < snapshots.old.room }
+    ensures put { snapshots.new.items ≡ put_new by_snapshot snapshot snapshots.old.items }
+    ensures room { snapshots.old.room ≤ snapshots.new.room + 1 }
+{
+    if snapshots.get(&snapshot.number).is_none() {
+        snapshots.put(snapshot);
+    }
+}
+
 fn put_groups(lists: &mut Lists, owner: Owner, groups: Ordered<Group>)
     ensures made { held_in lists.new ≡ with_groups (held_in lists.old) groups owner }
-    ensures room { (n : ℕ) → HasRoom lists.old n → HasRoom lists.new n }
+    ensures room { (n : ℕ) → HasRoom lists.old (n + 1) → HasRoom lists.new n }
 {
     match owner {
         Owner::Service(name) => lists.services.amend(&name, groups),
@@ -192,7 +202,7 @@ fn put_groups(lists: &mut Lists, owner: Owner, groups: Ordered<Group>)
 
 fn put_instance(lists: &mut Lists, instance: Instance)
     ensures made { held_in lists.new ≡ changed (held_in lists.old) (Change.PutInstance instance) }
-    ensures room { (n : ℕ) → HasRoom lists.old n → HasRoom lists.new n }
+    ensures room { (n : ℕ) → HasRoom lists.old (n + 1) → HasRoom lists.new n }
 {
     let number = instance.number;
     lists.instances.amend(&number, EntryPart::Instance(instance));
@@ -213,7 +223,7 @@ fn install_one(lists: &mut Lists, change: Change)
         Change::PutName(name) => lists.names.put(name),
         Change::DropName(name) => lists.names.remove(&name),
         Change::PutGroups(owner, groups) => put_groups(lists, owner, groups),
-        Change::AddSnapshot(snapshot) => lists.snapshots.put(snapshot),
+        Change::AddSnapshot(snapshot) => add_snapshot(&mut lists.snapshots, snapshot),
         Change::DropSnapshots(instance) => drop_snapshots(&mut lists.snapshots, instance),
         Change::PutLaunch(launch) => lists.launches.put(launch),
         Change::NextInstance(number) => lists.next_instance = number,

@@ -1,9 +1,9 @@
 ghost use Rattle.std.specs.Prelude.{◌≡◌, map, option_map, IfOk};
-ghost use Rattle.smf_model.specs.Look.{instances};
+ghost use Rattle.smf_model.specs.Look.{bare};
 ghost use Rattle.smf_model.specs.Next.{named_snapshot};
 ghost use Rattle.smf_model.specs.Shown.{body_of, snapshot_names, snapshot_number, snapshots_of, view, view_item};
 
-use crate::held::{Instance, View};
+use crate::held::{Instance, InstanceEntry, View};
 use crate::reverting::{named_snapshot, number_of};
 use crate::setting::{current, enabled, is_readable, setting_for};
 use crate::tables::Tables;
@@ -57,9 +57,8 @@ fn body_at(alloc: Global, tables: &Tables, number: Option<u64>) -> Result<Option
     match named_snapshot(tables, number) {
         None => Ok(None),
         Some(snapshot) => {
-            let service = snapshot.service_groups.as_slice();
-            let instance = snapshot.instance_groups.as_slice();
-            let body = encode_both(alloc, service, instance)?;
+            let service = &snapshot.service_groups;
+            let body = encode_both(alloc, service, &snapshot.instance_groups)?;
             Ok(Some(body))
         }
     }
@@ -84,11 +83,15 @@ fn view_item(alloc: Global, tables: &Tables, instance: &Instance) -> Result<View
     })
 }
 
-fn view_items(alloc: Global, tables: &Tables) -> Result<Vec<ViewItem>, AllocError>
-    ensures { IfOk result (λ all. all.items ≡ map (view_item tables.now) (instances tables.now)) }
+fn view_items(
+    alloc: Global,
+    tables: &Tables,
+    entries: &[InstanceEntry],
+) -> Result<Vec<ViewItem>, AllocError>
+    ensures { IfOk result (λ all. all.items ≡ map (view_item tables.now) (bare entries.now)) }
 {
     let mut all = Vec::new(alloc);
-    for entry in tables.entries() {
+    for entry in entries {
         all.push(view_item(alloc, tables, &entry.instance)?)?;
     }
     Ok(all)
@@ -99,7 +102,7 @@ fn view_items(alloc: Global, tables: &Tables) -> Result<Vec<ViewItem>, AllocErro
 pub(crate) fn view(alloc: Global, tables: &Tables) -> Result<View, AllocError>
     ensures { IfOk result (λ v. v ≡ view tables.now) }
 {
-    let items = view_items(alloc, tables)?;
+    let items = view_items(alloc, tables, tables.entries())?;
     Ok(View {
         revision: tables.revision(),
         items: Items::from_vec(items),
