@@ -44,11 +44,11 @@ pub fn decode_snapshot(alloc: Global, bytes: &[u8]) -> Result<Snapshot, BodyFaul
     ensures only { (s : AnySnapshot) → IsSnapshot s → bytes.now ≡ spelled_snapshot s → Gives (λ x. x) result (Ok s) }
     ensures exact { Gives (λ x. x) result (decoded_snapshot bytes.now) }
 {
-    whole(alloc, bytes)
+    decode_snapshot_exact(alloc, bytes)
 }
 
 #[tactic(auto, unfolding(crate::specs::Body::decoded_snapshot))]
-fn whole(alloc: Global, bytes: &[u8]) -> Result<Snapshot, BodyFault>
+fn decode_snapshot_exact(alloc: Global, bytes: &[u8]) -> Result<Snapshot, BodyFault>
     ensures { Gives (λ x. x) result (decoded_snapshot bytes.now) }
 {
     let (service, rest) = match decode_first(alloc, bytes) {
