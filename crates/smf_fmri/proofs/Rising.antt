@@ -5,7 +5,7 @@ use Rattle.std.specs.List.{AllByRecursion as Every, items_where_true}
 use Rattle.std.specs.List.Retain.{IsFiltered}
 use Rattle.std.specs.declared.cmp.Ordering.{Ordering}
 use Rattle.std.specs.declared.cmp.Ordering.TheVariants.{Less, Equal, Greater}
-use Rattle.smf_fmri.specs.ByKey.{By, IsAbove, IsBelowFirst, KeepsKeys, Rises, amend, put_by, put, without, has_key}
+use Rattle.smf_fmri.specs.ByKey.{By, IsAbove, IsBelowFirst, KeepsKeys, Rises, amend, put_by, put, put_all, without, has_key}
 use Rattle.smf_fmri.proofs.Lookups.{cmp_reversed}
 
 pub first_below : {X K : Type 0} (o : By X K) (a b : K) (xs : List X) → o.cmp a b ≡ Less → IsBelowFirst o b xs
@@ -41,6 +41,10 @@ rises_put_by o Greater x y ys e r behind = (cmp_reversed o (o.key y) (o.key x) G
 pub rises_put : {X K : Type 0} (o : By X K) (x : X) (xs : List X) → Rises o xs → Rises o (put o x xs)
 rises_put o x [] r = (tt, tt)
 rises_put o x (y ∷ ys) r = rises_put_by o (o.cmp (o.key y) (o.key x)) x y ys refl r (rises_put o x ys r.1)
+
+pub rises_put_all : {X K : Type 0} (o : By X K) (ys xs : List X) → Rises o xs → Rises o (put_all o ys xs)
+rises_put_all o [] xs r = r
+rises_put_all o (y ∷ ys) xs r = rises_put_all o ys (put o y xs) (rises_put o y xs r)
 
 -- above all others it goes behind them
 pub put_last : {X K : Type 0} (o : By X K) (x : X) (xs : List X) → IsAbove o (o.key x) xs → put o x xs ≡ xs ++ x ∷ []

@@ -58,6 +58,11 @@ abbrev pub put : {X K : Type 0} → By X K → X → List X → List X
 put o x [] = x ∷ []
 put o x (y ∷ ys) = put_by (o.cmp (o.key y) (o.key x)) x y ys (put o x ys)
 
+-- one after another put in its place
+abbrev pub put_all : {X K : Type 0} → By X K → List X → List X → List X
+put_all o [] xs = xs
+put_all o (y ∷ ys) xs = put_all o ys (put o y xs)
+
 abbrev pub IsBelowFirst : {X K : Type 0} → By X K → K → List X → Type 0
 IsBelowFirst o k [] = Unit {0}
 IsBelowFirst o k (y ∷ ys) = o.cmp k (o.key y) ≡ Less

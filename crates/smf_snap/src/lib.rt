@@ -1,5 +1,5 @@
 //! Snapshots: what they keep of groups, what a revert makes of groups, and which group an instance has in the end.
-//! Rooms: `composing`, `taking` (taking and restoring), `name` (the names of snapshots), `body` (a snapshot's bytes).
+//! Modules: `composing`, `taking` (taking and restoring), `name` (the names of snapshots), `body` (a snapshot's bytes).
 #![tactic(auto)]
 
 mod body;
@@ -8,9 +8,9 @@ mod name;
 mod taking;
 
 pub use body::{Snapshot, decode_snapshot, encode_both, encode_snapshot};
-pub use composing::{composed, find};
+pub use composing::composed;
 pub use name::{SnapshotName, names};
-pub use taking::{is_snapped, put, restore, take};
+pub use taking::{is_snapped, restore, take};
 
 #[cfg(test)]
 mod tests;

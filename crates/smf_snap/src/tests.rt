@@ -1,12 +1,12 @@
 use super::*;
-use smf_fmri::Items;
+use smf_fmri::Ordered;
 use smf_value::{BodyFault, Group, GroupFlags, Kind, Name};
 use std::alloc::Global;
 use std::test::Fail;
 
 /// Groups of these names, persistent or not, each with a property that tells where they come from.
-fn groups(alloc: Global, names: &[(&str, bool)], text: &str) -> Result<Items<Group>, Fail> {
-    let mut all = Vec::new(alloc);
+fn groups(alloc: Global, names: &[(&str, bool)], text: &str) -> Result<Ordered<Group>, Fail> {
+    let mut all = Ordered::new(alloc);
     for (name, persistent) in names {
         let flags = if *persistent {
             GroupFlags::NONE
@@ -16,9 +16,9 @@ fn groups(alloc: Global, names: &[(&str, bool)], text: &str) -> Result<Items<Gro
         let group_type = Name::parse(alloc, "application")?;
         let mut group = Group::new(alloc, Name::parse(alloc, name)?, group_type, flags);
         group.add_value(alloc, &Name::parse(alloc, "p")?, Some(Kind::Astring), text)?;
-        put(&mut all, group)?;
+        all.put(group)?;
     }
-    Ok(Items::from_vec(all))
+    Ok(all)
 }
 
 fn told(alloc: Global, groups: &[Group]) -> Result<String, Fail> {
@@ -56,7 +56,7 @@ fn a_revert(rt: HostRuntime) -> Result<(), Fail> {
         ("restarter", true),
         ("general_ovr", true),
     ];
-    let taken = take(alloc, groups(alloc, &old, "old")?.as_slice())?;
+    let taken = take(alloc, &groups(alloc, &old, "old")?)?;
     assert_eq!(rt; told(alloc, taken.as_slice())?.as_str(), "a=old start=old ");
     let new = [
         ("a", false),
@@ -66,7 +66,7 @@ fn a_revert(rt: HostRuntime) -> Result<(), Fail> {
         ("start", true),
     ];
     let current = groups(alloc, &new, "new")?;
-    let reverted = restore(alloc, current.as_slice(), taken.as_slice())?;
+    let reverted = restore(alloc, &current, &taken)?;
     assert_eq!(rt;
         told(alloc, reverted.as_slice())?.as_str(),
         "a=old general=new n=new start=old "
@@ -81,7 +81,7 @@ fn composed_groups(rt: HostRuntime) -> Result<(), Fail> {
     let service = groups(alloc, &[("start", true), ("stop", true)], "service")?;
     for (name, want) in [("start", "instance"), ("stop", "service"), ("refresh", "")] {
         let mut found = String::new(alloc);
-        if let Some(group) = composed(instance.as_slice(), service.as_slice(), name) {
+        if let Some(group) = composed(&instance, &service, name) {
             for property in group.properties() {
                 for value in property.values() {
                     found.push_str(value.print(alloc)?.as_str())?;
@@ -97,8 +97,8 @@ fn composed_groups(rt: HostRuntime) -> Result<(), Fail> {
 fn a_snapshot_as_bytes(rt: HostRuntime) -> Result<(), Fail> {
     let alloc = rt.alloc();
     let snapshot = Snapshot {
-        service: Items::new(alloc),
-        instance: Items::new(alloc),
+        service: Ordered::new(alloc),
+        instance: Ordered::new(alloc),
     };
     let bytes = encode_snapshot(alloc, &snapshot)?;
     assert_eq!(rt; bytes.as_slice(), [0, 0, 0, 0, 0, 0, 0, 0].as_slice());

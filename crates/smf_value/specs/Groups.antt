@@ -20,6 +20,10 @@ pub record GroupRecord : Type 0 where
   pub non_persistent : Bool
   pub properties : List PropertyRecord
 
+abbrev pub group_with : List ℕ → List ℕ → Bool → List PropertyRecord → GroupRecord
+group_with name group_type non_persistent properties =
+    record { name = name; group_type = group_type; non_persistent = non_persistent; properties = properties }
+
 abbrev pub AreOf : Kind → List Value → Type 0
 AreOf kind values = list_all (λ v. is_kind (kind_of v) kind) values ≡ true
 

@@ -1,12 +1,12 @@
 //! Groups as bytes.
 
 ghost use Rattle.smf_fmri.specs.ByKey.{Rises};
-ghost use Rattle.smf_value.specs.Body.{AreGroups, IsWholeGroup, IsWholeProperty, spelled, spelled_bit, spelled_group, spelled_property, spelled_text, spelled_value};
+ghost use Rattle.smf_value.specs.Body.{AreGroups, IsWholeGroup, IsWholeProperty, spelled, spelled_bit, spelled_group, spelled_moment, spelled_property, spelled_text, spelled_value};
 ghost use Rattle.smf_value.specs.Groups.{by_group};
 ghost use Rattle.smf_value.specs.Names.{IsName};
 ghost use Rattle.smf_value.specs.Values.{IsValue};
 ghost use Rattle.smf_value.specs.Moments.{IsMoment};
-ghost use Rattle.std.specs.Int.{to_be_bytes, w16, w32, w64};
+ghost use Rattle.std.specs.Int.{w16, w32};
 ghost use Rattle.std.specs.Prelude.{◌≡◌, ◌++◌, ◌<◌, ◌^◌, IfOk, OnOk, length};
 
 use crate::group::Group;
@@ -45,7 +45,7 @@ fn put_bit(out: &mut Vec<u8>, bit: bool) -> Result<(), AllocError>
 }
 
 fn put_time(out: &mut Vec<u8>, time: Time) -> Result<(), AllocError>
-    ensures put { OnOk result (out.new.items ≡ out.old.items ++ (to_be_bytes w64 time.seconds ++ to_be_bytes w32 time.nanoseconds)) }
+    ensures put { OnOk result (out.new.items ≡ out.old.items ++ spelled_moment time) }
     ensures formed { IsMoment time }
 {
     let seconds = time.seconds();

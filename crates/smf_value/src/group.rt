@@ -1,6 +1,6 @@
 ghost use Rattle.smf_fmri.specs.ByKey.{Rises, by_text, put};
 ghost use Rattle.smf_value.specs.Edits.{Leaves, del, put_property};
-ghost use Rattle.smf_value.specs.Groups.{GroupRecord, IsGroup, by_property, property_of};
+ghost use Rattle.smf_value.specs.Groups.{IsGroup, by_property, group_with, property_of};
 ghost use Rattle.std.specs.Int.RustNames.{bit_and};
 ghost use Rattle.std.specs.Option.{option_copied};
 ghost use Rattle.std.specs.Prelude.{◌≡◌, ◌≤◌, ◌==◌, [], length, nat_lt, refl};
@@ -24,13 +24,13 @@ pub struct Group {
 }
 
 impl Model for Group {
-    ghost use Rattle.smf_value.specs.Groups.{GroupRecord};
+    ghost use Rattle.smf_value.specs.Groups.{GroupRecord, group_with};
     ghost use Rattle.std.specs.Int.RustNames.{bit_and};
     ghost use Rattle.std.specs.Prelude.{◌==◌, ◌≤◌, length};
 
     ghost Value = { GroupRecord };
 
-    ghost view = { λ g. record { name = g.name; group_type = g.group_type; non_persistent = bit_and g.flags.0 1 == 1; properties = g.properties } };
+    ghost view = { λ g. group_with g.name g.group_type (bit_and g.flags.0 1 == 1) g.properties };
 
     ghost invariant = { λ g. length g.properties ≤ 1000 };
 }
@@ -41,7 +41,7 @@ impl Group {
 
     /// A group without properties.
     pub fn new(alloc: Global, name: Name, group_type: Name, flags: GroupFlags) -> Group
-        ensures { result ≡ record { name = name; group_type = group_type; non_persistent = bit_and flags.0 1 == 1; properties = [] } }
+        ensures { result ≡ group_with name group_type (bit_and flags.0 1 == 1) [] }
     {
         Group {
             name,
@@ -60,7 +60,7 @@ impl Group {
     ) -> Group
         requires rises { Rises by_property properties }
         requires bounded { length properties ≤ 1000 }
-        ensures { result ≡ record { name = name; group_type = group_type; non_persistent = non_persistent; properties = properties } }
+        ensures { result ≡ group_with name group_type non_persistent properties }
     {
         Group {
             name,

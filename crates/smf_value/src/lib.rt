@@ -1,5 +1,5 @@
 //! What services are described by: values of seven kinds, properties, groups, and the bytes that groups are kept in.
-//! Rooms: `name`, `kind`, `time`, `astring`, `ustring`, `value`, `flags`, `property`, their `spelling`,
+//! Modules: `name`, `kind`, `time`, `astring`, `ustring`, `value`, `flags`, `property`, their `spelling`,
 //! `group` and its `edits`, `body` and its `reading`, `fault`.
 #![tactic(auto)]
 

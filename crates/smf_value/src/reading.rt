@@ -13,7 +13,6 @@ ghost use Rattle.std.specs.Prelude.{◌≡◌, ◌++◌, IfErr, IfOk, IsOkUnless
 
 use crate::astring::Astring;
 use crate::fault::BodyFault;
-use crate::flags::GroupFlags;
 use crate::group::Group;
 use crate::kind::Kind;
 use crate::name::{Name, name_wrong};
@@ -446,11 +445,11 @@ pub fn decode(alloc: Global, bytes: &[u8]) -> Result<Ordered<Group>, BodyFault>
     ensures exact { Gives (λ x. x) result (decoded bytes.now) }
     ensures place { IfErr result (IsWithin (length bytes.now)) }
 {
-    all(alloc, bytes)
+    decode_exact(alloc, bytes)
 }
 
 #[tactic(auto, unfolding(crate::specs::Reading::decoded))]
-fn all(alloc: Global, bytes: &[u8]) -> Result<Ordered<Group>, BodyFault>
+fn decode_exact(alloc: Global, bytes: &[u8]) -> Result<Ordered<Group>, BodyFault>
     ensures exact { Gives (λ x. x) result (decoded bytes.now) }
     ensures place { IfErr result (IsWithin (length bytes.now)) }
 {
@@ -467,11 +466,11 @@ pub fn decode_first(alloc: Global, bytes: &[u8]) -> Result<(Ordered<Group>, &[u8
         → Gives {Y = List GroupRecord × List ℕ} (λ x. (x.0, x.1.now)) result (Ok (gs, rest)) }
     ensures exact { Gives (λ x. (x.0, x.1.now)) result (decoded_first bytes.now) }
 {
-    first(alloc, bytes)
+    decode_first_exact(alloc, bytes)
 }
 
 #[tactic(auto, unfolding(crate::specs::Reading::decoded_first))]
-fn first(alloc: Global, bytes: &[u8]) -> Result<(Ordered<Group>, &[u8]), BodyFault>
+fn decode_first_exact(alloc: Global, bytes: &[u8]) -> Result<(Ordered<Group>, &[u8]), BodyFault>
     ensures { Gives (λ x. (x.0, x.1.now)) result (decoded_first bytes.now) }
 {
     match body_at(alloc, bytes) {
