@@ -12,6 +12,3 @@ pub use asking::{Asked, commands_of};
 pub use law::{answers_are_of_what_matches, listings_are_in_order};
 pub use listing::{header_of, svcs_text};
 pub use telling::{no_match_text, several_text, svcadm_usage, svcs_usage};
-
-#[cfg(test)]
-mod tests;

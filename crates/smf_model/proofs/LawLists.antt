@@ -1,5 +1,5 @@
 -- What is found in a list after a change of it.
-use Rattle.std.proofs.Common.{◌≡◌, ℕ, ◌<◌, Bool, true, false, cond, not, List, [], ◌∷◌, Option, Some, None, if◌then◌else◌, option_map, refl, sym, ap, ◌∙◌, subst, arith}
+use Rattle.std.proofs.Common.{◌≡◌, ◌⊎◌, inl, inr, ℕ, ◌<◌, Bool, true, false, cond, not, List, [], ◌∷◌, Option, Some, None, if◌then◌else◌, option_map, refl, sym, ap, ◌∙◌, subst, arith}
 use Rattle.std.specs.Prelude.{find, filter}
 use Rattle.std.specs.Ordering.{is_eq, nat_cmp}
 use Rattle.smf_fmri.specs.ByKey.{By, Rises, has_key, lookup, put, with_answer, without}
@@ -31,10 +31,10 @@ some_same x y e = cc
 -- ---- any key
 
 pub differs : {X K : Type 0} (o : By X K) (a b : K) → (a ≡ b → ⊥) → is_eq (o.cmp a b) ≡ false
-differs o a b no = elim (key_cases o a b (is_eq (o.cmp a b)) refl) [ inl e ↦ absurd (no e) | inr e ↦ e ]
+differs o a b apart = elim (key_cases o a b (is_eq (o.cmp a b)) refl) [ inl e ↦ absurd (apart e) | inr e ↦ e ]
 
 pub none_put : {X K : Type 0} (o : By X K) (x : X) (xs : List X) (k : K) → (o.key x ≡ k → ⊥) → lookup o xs k ≡ None → lookup o (put o x xs) k ≡ None
-none_put o x xs k no e = lookup_put o x xs k ∙ with_answer_other o (lookup o xs) (o.key x) (Some x) k (differs o (o.key x) k no) ∙ e
+none_put o x xs k apart e = lookup_put o x xs k ∙ with_answer_other o (lookup o xs) (o.key x) (Some x) k (differs o (o.key x) k apart) ∙ e
 
 none_either : {X : Type 0} (b : Bool) (o : Option X) → o ≡ None → (if b then None else o) ≡ None
 none_either true o e = refl
@@ -58,9 +58,9 @@ some_put_new o x xs k y e = elim (put_new_by o x xs k (lookup o xs (o.key x)) re
 ]
 
 pub none_put_new : {X K : Type 0} (o : By X K) (x : X) (xs : List X) (k : K) → (o.key x ≡ k → ⊥) → lookup o xs k ≡ None → lookup o (put_new o x xs) k ≡ None
-none_put_new o x xs k no e = elim (put_new_by o x xs k (lookup o xs (o.key x)) refl) [
+none_put_new o x xs k apart e = elim (put_new_by o x xs k (lookup o xs (o.key x)) refl) [
   | inl same ↦ same ∙ e
-  | inr new ↦ new.1 ∙ with_answer_other o (lookup o xs) (o.key x) (Some x) k (differs o (o.key x) k no) ∙ e
+  | inr new ↦ new.1 ∙ with_answer_other o (lookup o xs) (o.key x) (Some x) k (differs o (o.key x) k apart) ∙ e
 ]
 
 -- ---- a part of the list, by another test

@@ -155,13 +155,13 @@ stays_numbered h c b =
     let first : 1 ≤ h.next_instance = b.first in
     numbered_by h c (next h c).0 (next h c).1 (outcome h c) b (ordered_next h c b.ordered) (instances_rise h c) (instance_gone h c 0 (omega arith) b.none_at_zero)
 
+next_is : (h : Holdings) (c : Command) → (next h c).0 ≡ installed h (asked h c).changes
+unfolding next
+next_is h c = refl
+
 -- the same of the changes that are asked for
 pub asked_numbered : (h : Holdings) (c : Command) → IsNumbered h → IsNumbered (installed h (asked h c).changes)
 asked_numbered h c b = subst IsNumbered (next_is h c) (stays_numbered h c b)
-  where
-    next_is : (h : Holdings) (c : Command) → (next h c).0 ≡ installed h (asked h c).changes
-    unfolding next
-    next_is h c = refl
 
 -- ---- the number that is given
 

@@ -168,13 +168,13 @@ edits h c cs r e out =
     accepts h c cs r e (alike m.instances m.next_instance) (λ b. index_of (instances h) h.names (installed h cs) m.instances m.names b.indexed) (kept m.snapshots m.next_snapshot)
 
 -- an instance put in its place
-record Put (h : Holdings) (c : Command) (x : Instance) : Type 0 where
-  number : ℕ
-  before : Instance
-  is_there : instance h number ≡ Some before
-  is_number : x.number ≡ number
-  name : x.name ≡ before.name
-  follows : RowFollows c number before.row x.row
+pub record Put (h : Holdings) (c : Command) (x : Instance) : Type 0 where
+  pub number : ℕ
+  pub before : Instance
+  pub is_there : instance h number ≡ Some before
+  pub is_number : x.number ≡ number
+  pub name : x.name ≡ before.name
+  pub follows : RowFollows c number before.row x.row
 
 -- the names stay
 pub index_over : (h : Holdings) (c : Command) (x : Instance) → Put h c x → IsNumbered h → IsIndexed (put_over x (instances h)) h.names
@@ -195,15 +195,12 @@ snaps : (h : Holdings) (c : Command) (i x : Instance) (rest : List Change) (r : 
 unfolding installed
 snaps h c i x rest r e p out = by (nat_le h.next_snapshot greatest_snapshot)
   where
-    taking : List Change
-    taking = AddSnapshot (snapshot_of h i) ∷ NextSnapshot (h.next_snapshot + 1) ∷ PutInstance x ∷ rest
-
     by : (b : Bool) → OutcomeOf h c (if b then accepted h (AddSnapshot (snapshot_of h i) ∷ NextSnapshot (h.next_snapshot + 1) ∷ PutInstance x ∷ rest) r else refused Limit)
     by true =
         let over : bare (put_first h x).instances ≡ put_over x (instances h) = bare_instance x h.instances in
         let m = elsewhere (changed (changed (changed h (AddSnapshot (snapshot_of h i))) (NextSnapshot (h.next_snapshot + 1))) (PutInstance x)) rest out in
         accepts h c (AddSnapshot (snapshot_of h i) ∷ NextSnapshot (h.next_snapshot + 1) ∷ PutInstance x ∷ rest) r e (put p.number p.before x p.is_there p.is_number p.follows (m.instances ∙ over) m.next_instance)
-        (λ b. index_of (put_over x (instances h)) h.names _ (m.instances ∙ over) m.names (index_over h c x p b)) (taken (snapshot_of h i) refl m.snapshots m.next_snapshot)
+        (λ b. index_of (put_over x (instances h)) h.names (installed h (AddSnapshot (snapshot_of h i) ∷ NextSnapshot (h.next_snapshot + 1) ∷ PutInstance x ∷ rest)) (m.instances ∙ over) m.names (index_over h c x p b)) (taken (snapshot_of h i) refl m.snapshots m.next_snapshot)
     by false = refuses h c Limit refl
 
 -- an instance as it is found, against the one that is held
@@ -481,11 +478,11 @@ launches : (h : Holdings) (c : Command) (name : List ℕ) → OutcomeOf h c (ask
 unfolding asked_launch
 launches h c name = either h c (nat_lt (launch_of h name) greatest) _ _ (edits h c (PutLaunch (next_launch h name) ∷ []) (Made (launch_of h name + 1)) refl tt) (refuses h c Limit refl)
 
-relaunches : (ls : List Launch) (cs : List Change) → Elsewhere cs → Elsewhere (map relaunched ls ++ cs)
+pub relaunches : (ls : List Launch) (cs : List Change) → Elsewhere cs → Elsewhere (map relaunched ls ++ cs)
 relaunches [] cs e = e
 relaunches (l ∷ ls) cs e = relaunches ls cs e
 
-services_keep : (ss : List Service) (cs : List Change) → Elsewhere cs → Elsewhere (kept_of_services ss ++ cs)
+pub services_keep : (ss : List Service) (cs : List Change) → Elsewhere cs → Elsewhere (kept_of_services ss ++ cs)
 services_keep [] cs e = e
 services_keep (s ∷ ss) cs e = by (has_dropped s.groups) (services_keep ss cs e)
   where
@@ -493,7 +490,7 @@ services_keep (s ∷ ss) cs e = by (has_dropped s.groups) (services_keep ss cs e
     by true ih = ih
     by false ih = ih
 
-instances_keep : (es : List InstanceEntry) → Elsewhere (kept_of_instances es)
+pub instances_keep : (es : List InstanceEntry) → Elsewhere (kept_of_instances es)
 instances_keep [] = tt
 instances_keep (e ∷ es) = by (has_dropped e.groups) (instances_keep es)
   where
@@ -573,7 +570,7 @@ boots_all h =
     let m = each_behind (booted gs) h front (instances h) out in
     either h commands.Boot (may_not_boot h) _ _ (refuses h commands.Boot Limit refl)
     (accepts h commands.Boot (booting h) Done refl (each refl gs m.instances m.next_instance)
-    (λ b. index_of (put_each (booted gs) (instances h) (instances h)) h.names _ m.instances m.names (index_booted h gs b)) (kept m.snapshots m.next_snapshot))
+    (λ b. index_of (put_each (booted gs) (instances h) (instances h)) h.names (installed h (booting h)) m.instances m.names (index_booted h gs b)) (kept m.snapshots m.next_snapshot))
 
 -- ---- the whole
 

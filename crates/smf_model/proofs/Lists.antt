@@ -3,7 +3,27 @@ use Rattle.std.proofs.Common.{◌≡◌, ℕ, suc, ◌+◌, ◌<◌, ◌≤◌, 
 use Rattle.std.specs.List.{position_or_len, AllZip, each_same}
 use Rattle.smf_model.specs.Look.{replaced}
 
-refound_at : (v : Bool) (p n k : ℕ) → nat_lt p n ≡ v → cond v (Some p) None ≡ Some k → (p < n) × (p ≡ k)
+replaced_by : {X : Type 0} (v : Bool) (test : X → Bool) (x y : X) (ys : List X) → test y ≡ v → (position_or_len test ys < length ys → replaced test x ys ≡ slice_set ys (position_or_len test ys) x)
+    → position_or_len test (y ∷ ys) < length (y ∷ ys) → cond v (x ∷ ys) (y ∷ replaced test x ys) ≡ slice_set (y ∷ ys) (position_or_len test (y ∷ ys)) x
+replaced_by true test x y ys e h low = rw e refl
+replaced_by false test x y ys e h low =
+    let next : 1 + position_or_len test ys ≡ suc (position_or_len test ys) = omega arith in
+    let less : 1 + position_or_len test ys < length (y ∷ ys) = rw e at low in
+    rw (e, next) (ap (λ l. y ∷ l) (h (omega arith)))
+
+replaced_here : {X : Type 0} (test : X → Bool) (x : X) (xs : List X) → position_or_len test xs < length xs → replaced test x xs ≡ slice_set xs (position_or_len test xs) x
+replaced_here test x [] low = absurd (omega arith)
+replaced_here test x (y ∷ ys) low = replaced_by (test y) test x y ys refl (replaced_here test x ys) low
+
+past_by : {X : Type 0} (v : Bool) (test : X → Bool) (y : X) (ys : List X) → test y ≡ v → length (y ∷ ys) ≤ position_or_len test (y ∷ ys) → (v ≡ false) × (length ys ≤ position_or_len test ys)
+past_by true test y ys e high = let no : length (y ∷ ys) ≤ 0 = rw e at high in absurd (omega arith)
+past_by false test y ys e high = let more : length (y ∷ ys) ≤ 1 + position_or_len test ys = rw e at high in (refl, omega arith)
+
+replaced_past : {X : Type 0} (test : X → Bool) (x : X) (xs : List X) → length xs ≤ position_or_len test xs → replaced test x xs ≡ xs
+replaced_past test x [] high = refl
+replaced_past test x (y ∷ ys) high = let past = past_by (test y) test y ys refl high in rw past.0 (ap (λ l. y ∷ l) (replaced_past test x ys past.1))
+
+found_at : (v : Bool) (p n k : ℕ) → nat_lt p n ≡ v → cond v (Some p) None ≡ Some k → (p < n) × (p ≡ k)
 found_at true p n k e h = (ltb-true p n e, cc)
 found_at false p n k e h = cc
 

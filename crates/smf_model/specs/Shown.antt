@@ -12,7 +12,7 @@ use Rattle.smf_snap.specs.declared.name.SnapshotName.{SnapshotName}
 use Rattle.smf_snap.specs.declared.name.SnapshotName.TheVariants as snapshots
 use Rattle.smf_snap.specs.Body.{spelled_both}
 use Rattle.smf_snap.specs.Names.{names}
-use Rattle.smf_fmri.specs.ByKey.{put}
+use Rattle.smf_fmri.specs.ByKey.{put, put_all}
 use Rattle.smf_model.specs.declared.held.Instance.{Instance}
 use Rattle.smf_model.specs.declared.held.Owner.{Owner}
 use Rattle.smf_model.specs.declared.held.Owner.TheVariants as owners
@@ -21,7 +21,7 @@ use Rattle.smf_model.specs.declared.held.View.{View}
 use Rattle.smf_model.specs.Holdings.{Holdings}
 use Rattle.smf_model.specs.Look.{groups_of, instance, instances}
 use Rattle.smf_model.specs.Next.{is_instance_of, named_snapshot, number_of}
-use Rattle.smf_model.specs.Setting.{current, enabled, framework, is_readable, restarter_name, setting}
+use Rattle.smf_model.specs.Setting.{current, enabled, framework, is_readable, restarter_name, service_owner, setting}
 
 abbrev pub is_run_by : List ℕ → Instance → Bool
 is_run_by restarter i = pointwise nat_eq i.row.owner restarter
@@ -64,6 +64,13 @@ unfoldable pub shown_groups : Holdings → Owner → List GroupRecord
 shown_groups h (owners.Service name) = groups_of h (owners.Service name)
 shown_groups h (owners.Instance n) = shown_with (instance h n) (groups_of h (owners.Instance n))
 
+-- the groups that an instance has, by name: its own, else those of its service, each as a whole
+abbrev pub composed_of : Holdings → Instance → List GroupRecord
+composed_of h i = put_all by_group (groups_of h (owners.Instance i.number)) (groups_of h (service_owner i))
+
+unfoldable pub composed_groups : Holdings → ℕ → Option (List GroupRecord)
+composed_groups h n = option_map (composed_of h) (instance h n)
+
 -- ---- snapshots by name
 
 -- the names of the snapshots that an instance has, in byte order
@@ -98,6 +105,14 @@ view_item h i =
       row = (current (groups_of h) i).row;
       body = option_map body_of (named_snapshot h i.row.running);
     }
+
+-- it without the bytes of a snapshot
+abbrev pub row_item : Holdings → Instance → ViewItem
+row_item h i = record (view_item h i) { body = None }
+
+-- such an item for each instance, in number order
+unfoldable pub rows : Holdings → List ViewItem
+rows h = map (row_item h) (instances h)
 
 -- the revision, and an item for each instance in number order
 unfoldable pub view : Holdings → View

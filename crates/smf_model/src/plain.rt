@@ -5,7 +5,7 @@ ghost use Rattle.smf_model.specs.Laws.{IsNumbered, is_refusal};
 ghost use Rattle.smf_model.specs.Look.{empty, groups_of, installed, instance, launch_of, named, service, snapshot};
 ghost use Rattle.smf_model.specs.Next.{asked, found, next};
 ghost use Rattle.smf_model.specs.Setting.{enabled};
-ghost use Rattle.smf_model.specs.Shown.{all_read, children, rows_of, shown_groups, snapshot_number, snapshots_of, view};
+ghost use Rattle.smf_model.specs.Shown.{all_read, children, composed_groups, rows, rows_of, shown_groups, snapshot_number, snapshots_of, view};
 ghost use Rattle.smf_model.specs.Tables.{held_in};
 
 use crate::asking::found;
@@ -15,11 +15,12 @@ use crate::dispatch::asked;
 use crate::held::{Instance, InstanceName, Owner, Service, Snapshot, View};
 use crate::journal::{Journal, RepoFault};
 use crate::setting::enabled;
-use crate::showing::{all_read, children, rows_of, shown_groups};
+use crate::showing::{all_read, children, composed_groups, rows_of, shown_groups};
 use crate::tables::{Lists, Tables, install, reserve};
-use crate::viewing::{snapshot_number, snapshots_of, view};
+use crate::viewing::{rows, snapshot_number, snapshots_of, view};
 use smf_fmri::{InstanceFmri, Items, Number, Ordered, ServiceFmri};
 use smf_snap::SnapshotName;
+use smf_state::ViewItem;
 use smf_value::Group;
 use std::alloc::{AllocError, Global};
 use std::marker::Model;
@@ -171,6 +172,20 @@ impl<J: Journal> Plain<J> {
         ensures { IfOk result (λ gs. gs ≡ shown_groups self.now.held owner.now) }
     {
         shown_groups(self.alloc, &self.tables, owner)
+    }
+
+    /// The groups that the instance of a number has, by name: its own, else those of its service, each as a whole.
+    pub fn composed_groups(&self, number: u64) -> Result<Option<Ordered<Group>>, AllocError>
+        ensures { IfOk result (λ gs. gs ≡ composed_groups self.now.held number) }
+    {
+        composed_groups(self.alloc, &self.tables, number)
+    }
+
+    /// What svc.startd's graph sees of the instances, but for the bytes of snapshots.
+    pub fn rows(&self) -> Result<Items<ViewItem>, AllocError>
+        ensures { IfOk result (λ all. all ≡ rows self.now.held) }
+    {
+        rows(self.alloc, &self.tables)
     }
 
     pub fn has_service(&self, name: &ServiceFmri) -> bool

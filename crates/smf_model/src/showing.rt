@@ -1,6 +1,8 @@
 ghost use Rattle.std.specs.Prelude.{◌≡◌, true, codes, filter, map, IfOk};
+ghost use Rattle.smf_fmri.specs.ByKey.{put_all};
+ghost use Rattle.smf_value.specs.Groups.{by_group};
 ghost use Rattle.smf_model.specs.Look.{bare, groups_of};
-ghost use Rattle.smf_model.specs.Shown.{all_read, children, is_run_by, made_group, next_text, rows_of, shown_groups, text_property};
+ghost use Rattle.smf_model.specs.Shown.{all_read, children, composed_groups, composed_of, is_run_by, made_group, next_text, rows_of, shown_groups, text_property};
 ghost use Rattle.smf_model.specs.Next.{is_instance_of, new_group};
 ghost use Rattle.smf_model.specs.Setting.{current, framework, restarter_name};
 ghost use Rattle.smf_state.specs.States.{state_text};
@@ -9,7 +11,7 @@ ghost use Rattle.smf_value.specs.Texts.{is_astring};
 use crate::booting::is_instance_of;
 use crate::grouping::{groups_of, new_group};
 use crate::held::{Instance, InstanceEntry, Owner};
-use crate::setting::current;
+use crate::setting::{current, service_owner};
 use crate::tables::Tables;
 use smf_fmri::{InstanceFmri, Items, Ordered, ServiceFmri};
 use smf_state::{Row, State};
@@ -166,6 +168,49 @@ pub(crate) fn shown_groups(
         Some(instance) => {
             groups.put(made_group(alloc, &instance.row)?)?;
             Ok(groups)
+        }
+    }
+}
+
+/// Puts copies of groups among others, each over the one that has its name.
+fn put_copies(into: Ordered<Group>, groups: &[Group]) -> Result<Ordered<Group>, AllocError>
+    ensures { IfOk result (λ gs. gs ≡ put_all by_group groups.now into) }
+{
+    let mut all = into;
+    for group in groups {
+        all.put(group.clone()?)?;
+    }
+    Ok(all)
+}
+
+/// The groups that an instance has: its own, else those of its service.
+fn composed_of(
+    alloc: Global,
+    tables: &Tables,
+    instance: &Instance,
+) -> Result<Ordered<Group>, AllocError>
+    ensures { IfOk result (λ gs. gs ≡ composed_of tables.now instance.now) }
+{
+    let service = service_owner(alloc, &instance.name)?;
+    let own = groups_of(alloc, tables, &Owner::Instance(instance.number))?;
+    let services_own = groups_of(alloc, tables, &service)?;
+    put_copies(services_own, own.as_slice())
+}
+
+/// The groups that the instance of a number has, or none where there is no such instance.
+#[tactic(auto, unfolding(crate::specs::Shown::composed_groups))]
+pub(crate) fn composed_groups(
+    alloc: Global,
+    tables: &Tables,
+    number: u64,
+) -> Result<Option<Ordered<Group>>, AllocError>
+    ensures { IfOk result (λ gs. gs ≡ composed_groups tables.now number) }
+{
+    match tables.instance(number) {
+        None => Ok(None),
+        Some(instance) => {
+            let all = composed_of(alloc, tables, instance)?;
+            Ok(Some(all))
         }
     }
 }

@@ -1,7 +1,7 @@
 ghost use Rattle.std.specs.Prelude.{◌≡◌, map, option_map, IfOk};
 ghost use Rattle.smf_model.specs.Look.{bare};
 ghost use Rattle.smf_model.specs.Next.{named_snapshot};
-ghost use Rattle.smf_model.specs.Shown.{body_of, snapshot_names, snapshot_number, snapshots_of, view, view_item};
+ghost use Rattle.smf_model.specs.Shown.{body_of, row_item, rows, snapshot_names, snapshot_number, snapshots_of, view, view_item};
 
 use crate::held::{Instance, InstanceEntry, View};
 use crate::reverting::{named_snapshot, number_of};
@@ -64,13 +64,13 @@ fn body_at(alloc: Global, tables: &Tables, number: Option<u64>) -> Result<Option
     }
 }
 
-fn view_item(alloc: Global, tables: &Tables, instance: &Instance) -> Result<ViewItem, AllocError>
-    ensures { IfOk result (λ item. item ≡ view_item tables.now instance.now) }
+/// An instance as it is read, without the bytes of a snapshot.
+fn row_item(alloc: Global, tables: &Tables, instance: &Instance) -> Result<ViewItem, AllocError>
+    ensures { IfOk result (λ item. item ≡ row_item tables.now instance.now) }
 {
     let is_enabled = enabled(alloc, tables, instance)?;
     let setting = setting_for(alloc, tables, instance)?;
     let can_be_read = is_readable(&setting);
-    let body = body_at(alloc, tables, instance.row.running)?;
     let name = instance.name.clone()?;
     let shown = current(alloc, tables, instance.clone()?)?;
     Ok(ViewItem {
@@ -79,8 +79,39 @@ fn view_item(alloc: Global, tables: &Tables, instance: &Instance) -> Result<View
         enabled: is_enabled,
         readable: can_be_read,
         row: shown.row,
-        body,
+        body: None,
     })
+}
+
+fn row_items(
+    alloc: Global,
+    tables: &Tables,
+    entries: &[InstanceEntry],
+) -> Result<Vec<ViewItem>, AllocError>
+    ensures { IfOk result (λ all. all.items ≡ map (row_item tables.now) (bare entries.now)) }
+{
+    let mut all = Vec::new(alloc);
+    for entry in entries {
+        all.push(row_item(alloc, tables, &entry.instance)?)?;
+    }
+    Ok(all)
+}
+
+/// What the graph sees but for the bytes of snapshots.
+#[tactic(auto, unfolding(crate::specs::Shown::rows))]
+pub(crate) fn rows(alloc: Global, tables: &Tables) -> Result<Items<ViewItem>, AllocError>
+    ensures { IfOk result (λ all. all ≡ rows tables.now) }
+{
+    let items = row_items(alloc, tables, tables.entries())?;
+    Ok(Items::from_vec(items))
+}
+
+fn view_item(alloc: Global, tables: &Tables, instance: &Instance) -> Result<ViewItem, AllocError>
+    ensures { IfOk result (λ item. item ≡ view_item tables.now instance.now) }
+{
+    let mut item = row_item(alloc, tables, instance)?;
+    item.body = body_at(alloc, tables, instance.row.running)?;
+    Ok(item)
 }
 
 fn view_items(
