@@ -82,7 +82,11 @@ fn has_flag(words: &[Text]) -> bool
     words.iter().any(|word| is_flag(word))
 }
 
-fn asked_all(alloc: Global, words: &[Text], view: &[InstanceName]) -> Result<Items<Asked>, AllocError>
+fn asked_all(
+    alloc: Global,
+    words: &[Text],
+    view: &[InstanceName],
+) -> Result<Items<Asked>, AllocError>
     ensures { IfOk result (λ all. all ≡ map (asked_of view.now) words.now) }
 {
     let names = names_of(alloc, view)?;

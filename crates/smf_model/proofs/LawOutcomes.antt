@@ -108,9 +108,10 @@ accepts : (h : Holdings) (c : Command) (cs : List Change) (r : Reply) → is_ref
 accepts h c cs r e is index ss = by (nat_lt h.revision greatest)
   where
     by : (b : Bool) → OutcomeOf h c (if b then (record { changes = cs ++ SetRevision (h.revision + 1) ∷ []; reply = r }) else refused Limit)
-    by true =
-        (goes (subst (λ (k : Holdings). Goes h c k r) (sym (installed_closed h cs (h.revision + 1))) (record { reply = e; revision = refl; instances = is; indexed = index; snapshots = ss })),
-        λ f. absurd (no_both (is_refusal r) f e))
+    by true = (
+      goes (subst (λ (k : Holdings). Goes h c k r) (sym (installed_closed h cs (h.revision + 1))) (record { reply = e; revision = refl; instances = is; indexed = index; snapshots = ss })),
+      λ f. absurd (no_both (is_refusal r) f e),
+    )
     by false = refuses h c Limit refl
 
 -- changes of services, groups and launches

@@ -60,9 +60,10 @@ below y ys k none = by (nat_lt y.number k) refl
 
 all_above : (k : ℕ) (xs : List Instance) → ((n : ℕ) → k ≤ n → lookup by_instance xs n ≡ None) → IsAbove by_instance k xs
 all_above k [] none = tt
-all_above k (y ∷ ys) none =
-    (sym (nat_cmp_is y.number k Less (below y ys k none)),
-    all_above k ys (λ n h. (none_first (has_key by_instance n y) y (lookup by_instance ys n) (none n h)).1))
+all_above k (y ∷ ys) none = (
+  sym (nat_cmp_is y.number k Less (below y ys k none)),
+  all_above k ys (λ n h. (none_first (has_key by_instance n y) y (lookup by_instance ys n) (none n h)).1),
+)
 
 pub new_behind : (h : Holdings) (name : List ℕ) → IsNumbered h → put by_instance (new_instance h name) (instances h) ≡ instances h ++ new_instance h name ∷ []
 new_behind h name b = put_last by_instance (new_instance h name) (instances h) (all_above h.next_instance (instances h) b.instances)

@@ -141,11 +141,7 @@ fn add_at(alloc: Global, tables: &Tables, name: InstanceFmri) -> Asked
 }
 
 /// The changes that add an instance of the number that comes next.
-fn joining(
-    alloc: Global,
-    tables: &Tables,
-    name: InstanceFmri,
-) -> Result<Items<Change>, AllocError>
+fn joining(alloc: Global, tables: &Tables, name: InstanceFmri) -> Result<Items<Change>, AllocError>
     requires { tables.now.next_instance ≤ greatest_instance }
     ensures { IfOk result (λ all. all ≡ joining tables.now name) }
 {

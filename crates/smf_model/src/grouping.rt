@@ -53,7 +53,11 @@ fn other_count(groups: &[Group], first: &str, second: &str) -> usize
 
 /// A copy of the groups of an owner.
 #[tactic(auto, unfolding(crate::specs::Look::groups_of))]
-pub(crate) fn groups_of(alloc: Global, tables: &Tables, owner: &Owner) -> Result<Ordered<Group>, AllocError>
+pub(crate) fn groups_of(
+    alloc: Global,
+    tables: &Tables,
+    owner: &Owner,
+) -> Result<Ordered<Group>, AllocError>
     ensures { IfOk result (λ gs. gs ≡ groups_of tables.now owner.now) }
 {
     match tables.owned(owner) {
@@ -236,7 +240,12 @@ fn put_for_good(alloc: Global, tables: &Tables, number: u64, general: Group) -> 
 }
 
 /// A group put in its place, and `general_ovr` gone.
-fn enabling(alloc: Global, tables: &Tables, owner: Owner, group: Group) -> Result<Change, AllocError>
+fn enabling(
+    alloc: Global,
+    tables: &Tables,
+    owner: Owner,
+    group: Group,
+) -> Result<Change, AllocError>
     ensures { IfOk result (λ c. c ≡ enabling_of tables.now owner group) }
 {
     let mut groups = groups_of(alloc, tables, &owner)?;

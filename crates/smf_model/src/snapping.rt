@@ -182,7 +182,12 @@ fn refreshed(
         None => {
             let runs = instance.row.state.runs();
             let revision = tables.revision().get() + 1;
-            let row = refreshed_row(instance.row.clone()?, tables.next_snapshot(), revision, runs);
+            let row = refreshed_row(
+                instance.row.clone()?,
+                tables.next_snapshot(),
+                revision,
+                runs,
+            );
             with_row_and_snapshot(alloc, tables, instance, row)
         }
     }

@@ -205,7 +205,9 @@ fn put_instance(lists: &mut Lists, instance: Instance)
     ensures room { (n : ℕ) → HasRoom lists.old (n + 1) → HasRoom lists.new n }
 {
     let number = instance.number;
-    lists.instances.amend(&number, EntryPart::Instance(instance));
+    lists
+        .instances
+        .amend(&number, EntryPart::Instance(instance));
 }
 
 /// Makes one change, for which there is room.
