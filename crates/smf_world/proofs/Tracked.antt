@@ -136,7 +136,7 @@ boot_tracked h t numbered e before fresh along =
     let ready : AreReady (is_committed h) (items.Boot ∷ t) (instances k) =
     subst (AreReady (is_committed h) (items.Boot ∷ t)) (sym (boot_leaves h numbered e)) (boots_ready h (persistent (groups_of h)) t (instances h) (found_all (instances h) (apart h numbered)) before) in
     subst (IsTracked k) (sym (noted_more items.Boot xs t))
-    (tracks h k (items.Boot ∷ t) (noted xs (items.Boot ∷ t)) is_k (instances_rise h commands.Boot) (λ n le. ap (λ (o : Option Last). option_map behind_boot o) (fresh n le)) (pushed (is_committed h) (instances k) (items.Boot ∷ t) is_k.apart ready along))
+    (tracks h k (items.Boot ∷ t) (noted xs (items.Boot ∷ t)) is_k (instances_rise h commands.Boot) (λ n le. ap (λ (o : Option Last). option_map behind_boot o) (fresh n le)) (pushed (is_committed h) (instances k) (items.Boot ∷ t) (apart k is_k) ready along))
 
 are_before : (t : List Item) (is : List Instance) → AreTracked t is → AreBefore t is
 are_before t [] a = tt
