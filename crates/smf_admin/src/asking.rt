@@ -3,8 +3,7 @@ ghost use Rattle.std.specs.Prelude.{◌≡◌, IfOk, map};
 ghost use Rattle.smf_admin.specs.Asking.{asked_by, asked_of, commands_of, is_flag, names_of};
 
 use smf_fmri::{Fmri, FmriFault, Items, Pattern, PickFault, Text, pick};
-use smf_model::Edit;
-use smf_state::ViewItem;
+use smf_model::{Edit, InstanceName};
 use std::alloc::{AllocError, Global};
 
 /// What one word that stands for an instance asks for.
@@ -17,7 +16,7 @@ pub enum Asked {
     Several(Text, usize),
 }
 
-fn names_of(alloc: Global, view: &[ViewItem]) -> Result<Vec<Fmri>, AllocError>
+fn names_of(alloc: Global, view: &[InstanceName]) -> Result<Vec<Fmri>, AllocError>
     ensures { IfOk result (λ names. names.items ≡ names_of view.now) }
 {
     let mut names = Vec::new(alloc);
@@ -29,7 +28,7 @@ fn names_of(alloc: Global, view: &[ViewItem]) -> Result<Vec<Fmri>, AllocError>
 
 fn asked_by(
     word: &Text,
-    view: &[ViewItem],
+    view: &[InstanceName],
     picked: Result<usize, PickFault>,
 ) -> Result<Asked, AllocError>
     ensures { IfOk result (λ one. one ≡ asked_by word.now view.now picked) }
@@ -37,7 +36,7 @@ fn asked_by(
     match picked {
         Ok(place) => match view.get(place) {
             Some(item) => Ok(Asked::Edit(Edit::Enable {
-                instance: item.instance,
+                instance: item.number,
                 enabled: true,
                 temporary: false,
             })),
@@ -48,12 +47,12 @@ fn asked_by(
     }
 }
 
-/// What is asked by a word that stands for an instance, over the names of a view.
+/// What is asked by a word that stands for an instance, over the names of instances.
 #[tactic(auto, unfolding(crate::specs::Asking::asked_of))]
 fn asked_of(
     alloc: Global,
     names: &[Fmri],
-    view: &[ViewItem],
+    view: &[InstanceName],
     word: &Text,
 ) -> Result<Asked, AllocError>
     requires { names.now ≡ names_of view.now }
@@ -83,7 +82,11 @@ fn has_flag(words: &[Text]) -> bool
     words.iter().any(|word| is_flag(word))
 }
 
-fn asked_all(alloc: Global, words: &[Text], view: &[ViewItem]) -> Result<Items<Asked>, AllocError>
+fn asked_all(
+    alloc: Global,
+    words: &[Text],
+    view: &[InstanceName],
+) -> Result<Items<Asked>, AllocError>
     ensures { IfOk result (λ all. all ≡ map (asked_of view.now) words.now) }
 {
     let names = names_of(alloc, view)?;
@@ -99,7 +102,7 @@ fn asked_all(alloc: Global, words: &[Text], view: &[ViewItem]) -> Result<Items<A
 pub fn commands_of(
     alloc: Global,
     words: &[Text],
-    view: &[ViewItem],
+    view: &[InstanceName],
 ) -> Result<Option<Items<Asked>>, AllocError>
     ensures { IfOk result (λ all. all ≡ commands_of view.now words.now) }
 {

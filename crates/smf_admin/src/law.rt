@@ -4,6 +4,7 @@ ghost use Rattle.smf_admin.specs.Asking.{Answers, asked_of};
 ghost use Rattle.smf_fmri.specs.Name.{read_pattern};
 ghost use Rattle.std.specs.Prelude.{List, ℕ};
 ghost use Rattle.smf_admin.specs.Listing.{IsListing, entries};
+ghost use Rattle.smf_model.specs.declared.held.InstanceName.{InstanceName as AnyName};
 ghost use Rattle.smf_state.specs.declared.view.ViewItem.{ViewItem as AnyItem};
 
 /// What svcs prints of a view are the instances that are enabled or run and no others, each once, in the byte order of
@@ -15,5 +16,5 @@ pub fn listings_are_in_order()
 /// A word that is a pattern enables the only instance whose name it matches; where none or several match, it says so. A
 /// word that is none matches nothing.
 pub fn answers_are_of_what_matches()
-    ensures { (view : List AnyItem) (word : List ℕ) → Answers (read_pattern word) word view (asked_of view word) }
+    ensures { (view : List AnyName) (word : List ℕ) → Answers (read_pattern word) word view (asked_of view word) }
 {}

@@ -2,10 +2,11 @@ use crate::fault::CallFault;
 use crate::views::Views;
 use crate::words::split_word;
 use crate::{
-    config, contracts, cookies, fields, groups, names, refusals, rows, snapshots, steps, values,
-    views,
+    config, contracts, cookies, fields, groups, names, refusals, repository, rows, snapshots,
+    steps, values, views,
 };
 use smf_contract::Table;
+use smf_model::{NoJournal, Plain};
 use smf_value::Group;
 use std::alloc::{AllocError, Global};
 
@@ -16,6 +17,7 @@ pub(crate) struct Session {
     /// None before the first line `group`.
     group: Option<Group>,
     views: Views,
+    repository: Plain<NoJournal>,
 }
 
 impl Session {
@@ -24,6 +26,7 @@ impl Session {
             table: Table::new(alloc),
             group: None,
             views: Views::new(alloc),
+            repository: Plain::new(alloc, NoJournal {}),
         }
     }
 }
@@ -66,6 +69,9 @@ fn session_answer(alloc: Global, session: &mut Session, line: &str) -> Result<St
         return Ok(answer);
     }
     if let Some(answer) = views::answer(alloc, &mut session.views, call, text)? {
+        return Ok(answer);
+    }
+    if let Some(answer) = repository::answer(alloc, &mut session.repository, call, text)? {
         return Ok(answer);
     }
     contracts::answer(alloc, &mut session.table, line)

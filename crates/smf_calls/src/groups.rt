@@ -4,6 +4,7 @@ use crate::bytes::digits_of;
 use crate::fault::CallFault;
 use crate::values::kind_of;
 use crate::words::{copied, split_word, texts_of};
+use smf_fmri::Ordered;
 use smf_value::{Group, GroupFlags, Kind, Name, Property, encode};
 use std::alloc::{AllocError, Global};
 
@@ -94,7 +95,9 @@ fn del_value(alloc: Global, group: &mut Group, text: &str) -> Result<(), CallFau
 
 /// The bytes of this group alone.
 fn encoded(alloc: Global, group: &Group) -> Result<String, AllocError> {
-    let bytes = encode(alloc, &[group.clone()?])?;
+    let mut groups = Ordered::new(alloc);
+    groups.put(group.clone()?)?;
+    let bytes = encode(alloc, &groups)?;
     digits_of(alloc, bytes.as_slice())
 }
 

@@ -1,6 +1,6 @@
 //! `smf_calls`: reads lines that each name a call of the pure crates with its arguments, and prints what it answers.
-//! Modules: `answering` (which family a line is of); the families `names`, `rows`, `steps`, `fields`, `values`,
-//! `groups`, `snapshots`, `contracts`, `cookies`, `config`, `views`, `refusals`; `events`, `bytes`, `words`, `fault`.
+//! Modules: `answering` (which family a line is of); the families `names`, `rows`, `steps`, `fields`, `values`, `groups`,
+//! `snapshots`, `contracts`, `cookies`, `config`, `views`, `refusals`, `repository`; `events`, `bytes`, `words`, `fault`.
 #![tactic(auto)]
 
 mod answering;
@@ -14,6 +14,7 @@ mod fields;
 mod groups;
 mod names;
 mod refusals;
+mod repository;
 mod rows;
 mod snapshots;
 mod steps;

@@ -4,9 +4,9 @@
 use crate::bytes::{bytes_of, digits_of};
 use crate::fault::CallFault;
 use crate::words::{copied, optional_of, split_halves, split_word, truth, words_of};
-use smf_fmri::Items;
+use smf_fmri::Ordered;
 use smf_snap::{
-    SnapshotName, composed, decode_snapshot, encode_snapshot, is_snapped, names, put, restore, take,
+    SnapshotName, composed, decode_snapshot, encode_snapshot, is_snapped, names, restore, take,
 };
 use smf_value::{Group, GroupFlags, Kind, Name, Property};
 use std::alloc::{AllocError, Global};
@@ -42,12 +42,12 @@ fn group_of(alloc: Global, word: &str) -> Result<Group, CallFault> {
 }
 
 /// The groups of words, in the order of their names.
-fn groups_of(alloc: Global, text: &str) -> Result<Items<Group>, CallFault> {
-    let mut groups = Vec::new(alloc);
+fn groups_of(alloc: Global, text: &str) -> Result<Ordered<Group>, CallFault> {
+    let mut groups = Ordered::new(alloc);
     for word in words_of(alloc, text)? {
-        put(&mut groups, group_of(alloc, word)?)?;
+        groups.put(group_of(alloc, word)?)?;
     }
-    Ok(Items::from_vec(groups))
+    Ok(groups)
 }
 
 fn put_values(alloc: Global, out: &mut String, property: &Property) -> Result<(), AllocError> {
@@ -83,7 +83,7 @@ fn groups_text(alloc: Global, groups: &[Group]) -> Result<String, AllocError> {
 
 fn taken(alloc: Global, text: &str) -> Result<String, CallFault> {
     let groups = groups_of(alloc, text)?;
-    let taken = take(alloc, groups.as_slice())?;
+    let taken = take(alloc, &groups)?;
     Ok(groups_text(alloc, taken.as_slice())?)
 }
 
@@ -92,7 +92,7 @@ fn restored(alloc: Global, text: &str) -> Result<String, CallFault> {
     let (current, snapshot) = split_halves(text);
     let current = groups_of(alloc, current)?;
     let snapshot = groups_of(alloc, snapshot)?;
-    let restored = restore(alloc, current.as_slice(), snapshot.as_slice())?;
+    let restored = restore(alloc, &current, &snapshot)?;
     Ok(groups_text(alloc, restored.as_slice())?)
 }
 
@@ -103,7 +103,7 @@ fn found(alloc: Global, text: &str) -> Result<String, CallFault> {
     let instance = groups_of(alloc, instance)?;
     let service = groups_of(alloc, service)?;
     let mut out = String::new(alloc);
-    match composed(instance.as_slice(), service.as_slice(), name) {
+    match composed(&instance, &service, name) {
         None => out.push_str("none")?,
         Some(group) => put_group(alloc, &mut out, group)?,
     }

@@ -41,7 +41,7 @@ fn printed(alloc: Global, text: &str) -> Result<String, CallFault> {
 fn body_again(alloc: Global, text: &str) -> Result<String, CallFault> {
     let bytes = bytes_of(alloc, text)?;
     let groups = decode(alloc, &bytes)?;
-    let again = encode(alloc, groups.as_slice())?;
+    let again = encode(alloc, &groups)?;
     Ok(digits_of(alloc, again.as_slice())?)
 }
 

@@ -10,7 +10,7 @@ use smf_admin::{
 };
 use smf_engine::{Engine, orders};
 use smf_fmri::{Bytes, Items};
-use smf_model::{Edit, View};
+use smf_model::{Edit, InstanceName, View};
 use smf_state::{Row, ViewItem};
 use smf_wire::{Order, What};
 use std::alloc::{AllocError, Global};
@@ -154,10 +154,23 @@ fn put_asked(alloc: Global, out: &mut String, all: &[Asked]) -> Result<(), Alloc
     Ok(())
 }
 
+/// The names of a view, with their numbers.
+fn names_of(alloc: Global, items: &[ViewItem]) -> Result<Vec<InstanceName>, AllocError> {
+    let mut names = Vec::new(alloc);
+    for item in items {
+        names.push(InstanceName {
+            name: item.name.clone()?,
+            number: item.instance,
+        })?;
+    }
+    Ok(names)
+}
+
 fn svcadm(alloc: Global, items: &[ViewItem], text: &str) -> Result<String, CallFault> {
     let words = texts_of(alloc, text)?;
+    let names = names_of(alloc, items)?;
     let mut out = String::new(alloc);
-    match commands_of(alloc, words.as_slice(), items)? {
+    match commands_of(alloc, words.as_slice(), &names)? {
         None => put_lines(&mut out, svcadm_usage())?,
         Some(all) => put_asked(alloc, &mut out, all.as_slice())?,
     }

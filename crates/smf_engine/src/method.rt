@@ -122,8 +122,8 @@ pub(crate) fn start_of(alloc: Global, body: &Option<Bytes>) -> Result<Option<Wha
         Err(BodyFault::Memory) => return Err(AllocError),
         Err(BodyFault::BadBody(_)) => return Ok(None),
     };
-    let instance = snapshot.instance.as_slice();
-    let service = snapshot.service.as_slice();
+    let instance = &snapshot.instance;
+    let service = &snapshot.service;
     let built_in = starts_built_in(composed(instance, service, "start"));
     let duration = duration_of(composed(instance, service, "startd"));
     start_with(alloc, built_in, duration)

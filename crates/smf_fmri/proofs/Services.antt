@@ -1,12 +1,11 @@
 -- The name of an instance's service is a name.
-use Rattle.std.proofs.Common.{◌≡◌, ℕ, zero, suc, ◌+◌, ◌<◌, ◌≤◌, List, [], ◌∷◌, ◌++◌, length, drop, take, Bool, true, false, not, ◌==◌, cond, nat_lt, Option, Some, None, is_some, Ok, refl, sym, ◌∙◌, ap, subst, arith, eqb-true, le-ltb, ltb-false, Result}
+use Rattle.std.proofs.Common.{◌≡◌, ℕ, zero, suc, ◌+◌, ◌≤◌, List, [], ◌∷◌, ◌++◌, length, drop, take, Bool, true, false, cond, nat_lt, Option, Some, None, is_some, Ok, refl, sym, ap, subst, arith, eqb-true, le-ltb, ltb-false}
 use Rattle.std.specs.List.{position_or_len, before_first, after_first}
 use Rattle.std.specs.Option.{option_map_or}
 use Rattle.smf_fmri.specs.declared.reader.Place.{Place}
 use Rattle.smf_fmri.specs.declared.reader.Place.TheVariants.{Start, Begin, Service, BeginInstance, Instance}
-use Rattle.smf_fmri.specs.Name.{next, wrong_at, end_wrong_at, short, read, is_word_byte}
-use Rattle.std.specs.Char.{is_ascii_alphanumeric}
-use Rattle.smf_fmri.specs.Matching.{is_colon, parts_of, parts_of_name, service_of, instance_of, named_service, IsServiceName}
+use Rattle.smf_fmri.specs.Name.{next, wrong_at, end_wrong_at, short, read}
+use Rattle.smf_fmri.specs.Matching.{is_colon, parts_of, service_of, named_service, IsServiceName}
 use Rattle.smf_fmri.proofs.Whole.{name_is_short, read_is_spelled, short_again}
 
 -- a reader that has begun

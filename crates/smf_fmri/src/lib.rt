@@ -1,6 +1,7 @@
 //! Names of services and instances, and the small types that every crate shares.
 //! Modules: `fmri`, `instance` and `service` (names), `pattern` (abbreviations), `count` (numbers as texts), `reader`,
-//! `items`, `text`, `bytes`, `number`, `fault`.
+//! `items`, `text`, `bytes`, `number`, `fault`. Lists in the order of a key: `keyed` (what has a key), `sorted` (what
+//! is done to a vector in that order), `ordered` (such a list), `table` (the same, with room that is made beforehand).
 #![tactic(auto)]
 
 mod bytes;
@@ -9,10 +10,14 @@ mod fault;
 mod fmri;
 mod instance;
 mod items;
+mod keyed;
 mod number;
+mod ordered;
 mod pattern;
 mod reader;
 mod service;
+mod sorted;
+mod table;
 mod text;
 
 pub use bytes::Bytes;
@@ -21,8 +26,11 @@ pub use fault::{FmriFault, PickFault};
 pub use fmri::Fmri;
 pub use instance::InstanceFmri;
 pub use items::Items;
+pub use keyed::{ExactClone, HasPart, Keyed, TextKeyed};
 pub use number::Number;
+pub use ordered::Ordered;
 pub use pattern::{Pattern, pick};
 pub use reader::strip;
 pub use service::ServiceFmri;
+pub use table::Table;
 pub use text::Text;

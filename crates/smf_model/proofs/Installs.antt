@@ -1,7 +1,7 @@
 -- Changes made one after the other.
 use Rattle.std.proofs.Common.{◌≡◌, ℕ, ◌+◌, List, [], ◌∷◌, ◌++◌, length, refl, ap, ◌∙◌, subst, arith}
 use Rattle.smf_model.specs.declared.change.Change.{Change}
-use Rattle.smf_model.specs.declared.tables.Tables.{Tables}
+use Rattle.smf_model.specs.declared.tables.Lists.{Lists}
 use Rattle.smf_model.specs.Holdings.{Holdings}
 use Rattle.smf_model.specs.Look.{installed, changed}
 use Rattle.smf_model.specs.Tables.{HasRoom}
@@ -14,18 +14,17 @@ pub installed_end : (h e : Holdings) (xs : List Change) → installed h xs ≡ e
 unfolding installed
 installed_end h e xs s p = let t : installed h xs ≡ h = ap (installed h) p in cc
 
-pub room_for : (t : Tables) (c : Change) (xs ys : List Change) → xs ≡ c ∷ ys → HasRoom t (length xs) → HasRoom t (length ys + 1)
+pub room_for : (t : Lists) (c : Change) (xs ys : List Change) → xs ≡ c ∷ ys → HasRoom t (length xs) → HasRoom t (length ys + 1)
 room_for t c xs ys e h =
     let longer : length xs ≡ length ys + 1 = ap length e ∙ (let n : length (c ∷ ys) ≡ length ys + 1 = omega arith in n) in
     subst (λ (n : ℕ). HasRoom t n) longer h
 
-pub room_for_one : (t : Tables) (n : ℕ) → HasRoom t (n + 1) → HasRoom t 1
-room_for_one t n h = record { services = omega (arith, h.services); instances = omega (arith, h.instances); groups = omega (arith, h.groups); snapshots = omega (arith, h.snapshots); launches = omega (arith, h.launches) }
-
-installed_more : (h : Holdings) (xs ys : List Change) → installed h (xs ++ ys) ≡ installed (installed h xs) ys
-unfolding installed
-installed_more h [] ys = refl
-installed_more h (x ∷ xs) ys = installed_more (changed h x) xs ys
-
-pub written : (empty h : Holdings) (old new cs : List Change) → installed empty old ≡ h → new ≡ old ++ cs → installed empty new ≡ installed h cs
-written empty h old new cs s p = ap (installed empty) p ∙ installed_more empty old cs ∙ ap (λ k. installed k cs) s
+pub room_for_one : (t : Lists) (n : ℕ) → HasRoom t (n + 1) → HasRoom t 1
+room_for_one t n h =
+    record {
+      services = omega (arith, h.services);
+      instances = omega (arith, h.instances);
+      names = omega (arith, h.names);
+      snapshots = omega (arith, h.snapshots);
+      launches = omega (arith, h.launches);
+    }

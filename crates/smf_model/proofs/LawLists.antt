@@ -1,9 +1,13 @@
 -- What is found in a list after a change of it.
-use Rattle.std.proofs.Common.{◌≡◌, ℕ, ◌==◌, Bool, true, false, cond, not, List, [], ◌∷◌, ◌++◌, Option, Some, None, option_map, refl, ◌∙◌, subst, arith, eqb-true}
-use Rattle.std.specs.Prelude.{find}
-use Rattle.std.proofs.lemmas.Bool.Decides.{nat_tests}
+use Rattle.std.proofs.Common.{◌≡◌, ◌⊎◌, inl, inr, ℕ, ◌<◌, Bool, true, false, cond, not, List, [], ◌∷◌, Option, Some, None, if◌then◌else◌, option_map, refl, sym, ap, ◌∙◌, subst, arith}
+use Rattle.std.specs.Prelude.{find, filter}
+use Rattle.std.specs.Ordering.{is_eq, nat_cmp}
+use Rattle.smf_fmri.specs.ByKey.{By, Rises, has_key, lookup, put, with_answer, without}
+use Rattle.smf_fmri.proofs.Lookups.{key_cases, lookup_amend, lookup_put, lookup_without, same_key, with_answer_cases, with_answer_here, with_answer_other}
+use Rattle.smf_fmri.proofs.Places.{none_above}
+use Rattle.smf_fmri.proofs.SameLists.{found_key}
 use Rattle.smf_model.specs.declared.held.Instance.{Instance}
-use Rattle.smf_model.specs.Look.{has_number, replaced, without}
+use Rattle.smf_model.specs.Look.{by_instance, has_number, in_place, put_by_lookup, put_new, put_over}
 use Rattle.smf_model.specs.Laws.{AreApart}
 
 pub found_passes : {X : Type 0} (test : X → Bool) (xs : List X) (x : X) → find test xs ≡ Some x → test x ≡ true
@@ -15,117 +19,85 @@ found_passes test (y ∷ ys) x e = by (test y) refl e (found_passes test ys x)
     by false h e ih = ih e
 
 -- what a number finds has that number
-pub is_number : (n : ℕ) (xs : List Instance) (i : Instance) → find (has_number n) xs ≡ Some i → i.number ≡ n
-is_number n xs i e = eqb-true i.number n (found_passes (has_number n) xs i e)
+pub is_number : (n : ℕ) (xs : List Instance) (i : Instance) → lookup by_instance xs n ≡ Some i → i.number ≡ n
+is_number n xs i e = found_key by_instance n xs i e
 
--- ---- what finds nothing
+pub no_such : {X : Type 0} (o : Option X) (x : X) → o ≡ None → o ≡ Some x → ⊥
+no_such o x e f = cc
 
--- one more behind the others
-pub none_behind : {X : Type 0} (test : X → Bool) (xs : List X) (x : X) → find test xs ≡ None → test x ≡ false → find test (xs ++ x ∷ []) ≡ None
-none_behind test [] x e f = rw f refl
-none_behind test (y ∷ ys) x e f = by (test y) e (none_behind test ys x)
+pub some_same : {X : Type 0} (x y : X) → Some x ≡ Some y → x ≡ y
+some_same x y e = cc
+
+-- ---- any key
+
+pub differs : {X K : Type 0} (o : By X K) (a b : K) → (a ≡ b → ⊥) → is_eq (o.cmp a b) ≡ false
+differs o a b apart = elim (key_cases o a b (is_eq (o.cmp a b)) refl) [ inl e ↦ absurd (apart e) | inr e ↦ e ]
+
+pub none_put : {X K : Type 0} (o : By X K) (x : X) (xs : List X) (k : K) → (o.key x ≡ k → ⊥) → lookup o xs k ≡ None → lookup o (put o x xs) k ≡ None
+none_put o x xs k apart e = lookup_put o x xs k ∙ with_answer_other o (lookup o xs) (o.key x) (Some x) k (differs o (o.key x) k apart) ∙ e
+
+none_either : {X : Type 0} (b : Bool) (o : Option X) → o ≡ None → (if b then None else o) ≡ None
+none_either true o e = refl
+none_either false o e = e
+
+pub none_without : {X K : Type 0} (o : By X K) (j : K) (xs : List X) (k : K) → lookup o xs k ≡ None → lookup o (without o j xs) k ≡ None
+none_without o j xs k e = lookup_without o j xs k ∙ none_either (is_eq (o.cmp j k)) (lookup o xs k) e
+
+-- ---- a new one
+
+put_new_by : {X K : Type 0} (o : By X K) (x : X) (xs : List X) (k : K) (q : Option X) → lookup o xs (o.key x) ≡ q
+    → (lookup o (put_by_lookup o x xs q) k ≡ lookup o xs k) ⊎ ((lookup o xs (o.key x) ≡ None) × (lookup o (put_by_lookup o x xs q) k ≡ with_answer o (lookup o xs) (o.key x) (Some x) k))
+put_new_by o x xs k (Some y) e = inl refl
+put_new_by o x xs k None e = inr (e, lookup_put o x xs k)
+
+-- what was found stays
+pub some_put_new : {X K : Type 0} (o : By X K) (x : X) (xs : List X) (k : K) (y : X) → lookup o xs k ≡ Some y → lookup o (put_new o x xs) k ≡ Some y
+some_put_new o x xs k y e = elim (put_new_by o x xs k (lookup o xs (o.key x)) refl) [
+  | inl same ↦ same ∙ e
+  | inr new ↦ new.1 ∙ with_answer_other o (lookup o xs) (o.key x) (Some x) k (differs o (o.key x) k (λ same. no_such (lookup o xs (o.key x)) y new.0 (ap (lookup o xs) same ∙ e))) ∙ e
+]
+
+pub none_put_new : {X K : Type 0} (o : By X K) (x : X) (xs : List X) (k : K) → (o.key x ≡ k → ⊥) → lookup o xs k ≡ None → lookup o (put_new o x xs) k ≡ None
+none_put_new o x xs k apart e = elim (put_new_by o x xs k (lookup o xs (o.key x)) refl) [
+  | inl same ↦ same ∙ e
+  | inr new ↦ new.1 ∙ with_answer_other o (lookup o xs) (o.key x) (Some x) k (differs o (o.key x) k apart) ∙ e
+]
+
+-- ---- a part of the list, by another test
+
+pub none_filter : {X : Type 0} (test keep : X → Bool) (xs : List X) → find test xs ≡ None → find test (filter keep xs) ≡ None
+none_filter test keep [] e = refl
+none_filter test keep (y ∷ ys) e = by (test y) (keep y) refl e (none_filter test keep ys)
   where
-    by : (b : Bool) → cond b (Some y) (find test ys) ≡ None → (find test ys ≡ None → test x ≡ false → find test (ys ++ x ∷ []) ≡ None) → cond b (Some y) (find test (ys ++ x ∷ [])) ≡ None
-    by true e ih = cc
-    by false e ih = ih e f
-
--- the first that is found stays
-pub some_behind : {X : Type 0} (test : X → Bool) (xs ys : List X) (x : X) → find test xs ≡ Some x → find test (xs ++ ys) ≡ Some x
-some_behind test [] ys x e = absurd cc
-some_behind test (z ∷ zs) ys x e = by (test z) e (some_behind test zs ys x)
-  where
-    by : (b : Bool) → cond b (Some z) (find test zs) ≡ Some x → (find test zs ≡ Some x → find test (zs ++ ys) ≡ Some x) → cond b (Some z) (find test (zs ++ ys)) ≡ Some x
-    by true e ih = e
-    by false e ih = ih e
-
-pub none_without : {X : Type 0} (test drop : X → Bool) (xs : List X) → find test xs ≡ None → find test (without drop xs) ≡ None
-none_without test drop [] e = refl
-none_without test drop (y ∷ ys) e = by (test y) (drop y) refl e (none_without test drop ys)
-  where
-    by : (b d : Bool) → test y ≡ b → cond b (Some y) (find test ys) ≡ None → (find test ys ≡ None → find test (without drop ys) ≡ None) → find test (cond (not d) (y ∷ without drop ys) (without drop ys)) ≡ None
+    by : (b d : Bool) → test y ≡ b → cond b (Some y) (find test ys) ≡ None → (find test ys ≡ None → find test (filter keep ys) ≡ None) → find test (cond d (y ∷ filter keep ys) (filter keep ys)) ≡ None
     by true d h e ih = absurd cc
-    by false true h e ih = ih e
-    by false false h e ih = rw h (ih e)
+    by false false h e ih = ih e
+    by false true h e ih = rw h (ih e)
 
--- what is not dropped, and found first, is found first
-pub some_without : {X : Type 0} (test drop : X → Bool) (xs : List X) (x : X) → find test xs ≡ Some x → drop x ≡ false → find test (without drop xs) ≡ Some x
-some_without test drop [] x e f = absurd cc
-some_without test drop (y ∷ ys) x e f = by (test y) (drop y) refl refl e (some_without test drop ys x)
+pub some_filter : {X : Type 0} (test keep : X → Bool) (xs : List X) (x : X) → find test xs ≡ Some x → keep x ≡ true → find test (filter keep xs) ≡ Some x
+some_filter test keep [] x e f = absurd cc
+some_filter test keep (y ∷ ys) x e f = by (test y) (keep y) refl refl e (some_filter test keep ys x)
   where
-    by : (b d : Bool) → test y ≡ b → drop y ≡ d → cond b (Some y) (find test ys) ≡ Some x → (find test ys ≡ Some x → drop x ≡ false → find test (without drop ys) ≡ Some x) → find test (cond (not d) (y ∷ without drop ys) (without drop ys)) ≡ Some x
-    by true true h k e ih = cc
-    by true false h k e ih = rw h e
-    by false true h k e ih = ih e f
-    by false false h k e ih = rw h (ih e f)
+    by : (b d : Bool) → test y ≡ b → keep y ≡ d → cond b (Some y) (find test ys) ≡ Some x → (find test ys ≡ Some x → keep x ≡ true → find test (filter keep ys) ≡ Some x) → find test (cond d (y ∷ filter keep ys) (filter keep ys)) ≡ Some x
+    by true false h k e ih = absurd cc
+    by true true h k e ih = rw h e
+    by false false h k e ih = ih e f
+    by false true h k e ih = rw h (ih e f)
 
 -- ---- an instance in its place
 
-pub at_replaced : (n : ℕ) (x : Instance) (xs : List Instance) → find (has_number n) (replaced (has_number x.number) x xs) ≡ cond (x.number == n) (option_map (λ (i : Instance). x) (find (has_number n) xs)) (find (has_number n) xs)
-at_replaced n x [] = by (x.number == n)
-  where
-    by : (b : Bool) → find (has_number n) [] ≡ cond b (option_map (λ (i : Instance). x) (find (has_number n) [])) (find (has_number n) [])
-    by true = refl
-    by false = refl
-at_replaced n x (y ∷ ys) = one n x y ys (at_replaced n x ys)
-  where
-    one : (n : ℕ) (x y : Instance) (ys : List Instance) → find (has_number n) (replaced (has_number x.number) x ys) ≡ cond (x.number == n) (option_map (λ (i : Instance). x) (find (has_number n) ys)) (find (has_number n) ys)
-        → find (has_number n) (replaced (has_number x.number) x (y ∷ ys)) ≡ cond (x.number == n) (option_map (λ (i : Instance). x) (find (has_number n) (y ∷ ys))) (find (has_number n) (y ∷ ys))
-    one n x y ys ih = grind (arith, nat_tests)
+pub at_put : (n : ℕ) (x : Instance) (xs : List Instance) → lookup by_instance (put_over x xs) n ≡ cond (is_eq (nat_cmp x.number n)) (option_map (in_place x) (lookup by_instance xs n)) (lookup by_instance xs n)
+at_put n x xs = lookup_amend by_instance x.number (in_place x) xs n (λ z. refl)
 
-pub none_replaced : (n : ℕ) (x : Instance) (xs : List Instance) → find (has_number n) xs ≡ None → find (has_number n) (replaced (has_number x.number) x xs) ≡ None
-none_replaced n x xs e = at_replaced n x xs ∙ by (x.number == n) (find (has_number n) xs) e
+pub none_put_over : (n : ℕ) (x : Instance) (xs : List Instance) → lookup by_instance xs n ≡ None → lookup by_instance (put_over x xs) n ≡ None
+none_put_over n x xs e = at_put n x xs ∙ by (is_eq (nat_cmp x.number n)) (lookup by_instance xs n) e
   where
-    by : (b : Bool) (o : Option Instance) → o ≡ None → cond b (option_map (λ (i : Instance). x) o) o ≡ None
+    by : (b : Bool) (o : Option Instance) → o ≡ None → cond b (option_map (in_place x) o) o ≡ None
     by true o e = rw e refl
     by false o e = e
 
--- ---- instances that stay apart
+-- ---- instances that are apart
 
-none_first : {X : Type 0} (b : Bool) (x : X) (o : Option X) → cond b (Some x) o ≡ None → (b ≡ false) × (o ≡ None)
-none_first true x o e = absurd cc
-none_first false x o e = (refl, e)
-
-turned : (m n : ℕ) → (m == n) ≡ false → (n == m) ≡ false
-turned m n e = grind (arith, nat_tests)
-
-pub apart_behind : (xs : List Instance) (x : Instance) → AreApart xs → find (has_number x.number) xs ≡ None → AreApart (xs ++ x ∷ [])
-apart_behind [] x a e = (refl, tt)
-apart_behind (y ∷ ys) x a e =
-    let first = none_first (y.number == x.number) y (find (has_number x.number) ys) e in
-    (none_behind (has_number y.number) ys x a.0 (turned y.number x.number first.0), apart_behind ys x a.1 first.1)
-
-pub apart_replaced : (x : Instance) (xs : List Instance) → AreApart xs → AreApart (replaced (has_number x.number) x xs)
-apart_replaced x [] a = tt
-apart_replaced x (y ∷ ys) a = by (y.number == x.number) refl (apart_replaced x ys a.1)
-  where
-    by : (b : Bool) → (y.number == x.number) ≡ b → AreApart (replaced (has_number x.number) x ys) → AreApart (cond b (x ∷ ys) (y ∷ replaced (has_number x.number) x ys))
-    by true e ih = (subst (λ (n : ℕ). find (has_number n) ys ≡ None) (eqb-true y.number x.number e) a.0, a.1)
-    by false e ih = (none_replaced y.number x ys a.0, ih)
-
-pub apart_without : (drop : Instance → Bool) (xs : List Instance) → AreApart xs → AreApart (without drop xs)
-apart_without drop [] a = tt
-apart_without drop (y ∷ ys) a = by (drop y) (apart_without drop ys a.1)
-  where
-    by : (b : Bool) → AreApart (without drop ys) → AreApart (cond (not b) (y ∷ without drop ys) (without drop ys))
-    by true ih = ih
-    by false ih = (none_without (has_number y.number) drop ys a.0, ih)
-
-pub none_left : {X : Type 0} (test : X → Bool) (xs : List X) → find test (without test xs) ≡ None
-none_left test [] = refl
-none_left test (y ∷ ys) = by (test y) refl (none_left test ys)
-  where
-    by : (b : Bool) → test y ≡ b → find test (without test ys) ≡ None → find test (cond (not b) (y ∷ without test ys) (without test ys)) ≡ None
-    by true e ih = ih
-    by false e ih = rw e ih
-
-pub new_behind : {X : Type 0} (test : X → Bool) (xs : List X) (x y : X) → find test xs ≡ None → find test (xs ++ x ∷ []) ≡ Some y → x ≡ y
-new_behind test [] x y e f = by (test x) f
-  where
-    by : (b : Bool) → cond b (Some x) None ≡ Some y → x ≡ y
-    by true f = cc
-    by false f = absurd cc
-new_behind test (z ∷ zs) x y e f = by (test z) e f (new_behind test zs x y)
-  where
-    by : (b : Bool) → cond b (Some z) (find test zs) ≡ None → cond b (Some z) (find test (zs ++ x ∷ [])) ≡ Some y → (find test zs ≡ None → find test (zs ++ x ∷ []) ≡ Some y → x ≡ y) → x ≡ y
-    by true e f ih = absurd cc
-    by false e f ih = ih e f
+pub apart_from_rises : (xs : List Instance) → Rises by_instance xs → AreApart xs
+apart_from_rises [] r = tt
+apart_from_rises (x ∷ xs) r = (none_above by_instance x.number xs r.0 r.1, apart_from_rises xs r.1)

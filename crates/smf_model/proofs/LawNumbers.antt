@@ -1,88 +1,81 @@
 -- Numbers are given once.
-use Rattle.std.proofs.Common.{◌<◌, ◌≡◌, ℕ, ◌+◌, ◌≤◌, ◌==◌, nat_lt, nat_le, Bool, true, false, if◌then◌else◌, List, [], ◌∷◌, ◌++◌, Option, Some, None, refl, sym, ap, subst, arith}
-use Rattle.std.specs.Prelude.{find}
-use Rattle.std.proofs.lemmas.Bool.Decides.{nat_tests}
+use Rattle.std.proofs.Common.{◌<◌, ◌≡◌, ℕ, ◌+◌, ◌≤◌, nat_lt, nat_le, Bool, true, false, if◌then◌else◌, List, [], ◌∷◌, ◌++◌, Option, Some, None, refl, sym, ap, ◌∙◌, subst, arith}
+use Rattle.smf_fmri.specs.ByKey.{lookup, put as put_in, without}
 use Rattle.smf_fmri.specs.Matching.{read_short}
 use Rattle.smf_model.specs.declared.change.Change.{Change}
-use Rattle.smf_model.specs.declared.change.Change.TheVariants.{AddInstance, NextInstance, SetRevision}
+use Rattle.smf_model.specs.declared.change.Change.TheVariants.{SetRevision}
+use Rattle.smf_model.specs.declared.change.Outcome.{Outcome as Asked}
 use Rattle.smf_model.specs.declared.command.Command.{Command}
 use Rattle.smf_model.specs.declared.command.Command.TheVariants as commands
 use Rattle.smf_model.specs.declared.command.Edit.TheVariants as asked_for
 use Rattle.smf_model.specs.declared.command.Reply.{Reply}
 use Rattle.smf_model.specs.declared.command.Reply.TheVariants.{Made, Limit}
 use Rattle.smf_model.specs.declared.held.Instance.{Instance}
+use Rattle.smf_model.specs.declared.held.InstanceName.{InstanceName}
+use Rattle.smf_model.specs.declared.held.Service.{Service}
 use Rattle.smf_model.specs.declared.held.Snapshot.{Snapshot}
 use Rattle.smf_model.specs.Holdings.{Holdings}
-use Rattle.smf_model.specs.Look.{instance, snapshot, has_number, is_snapshot, is_snapshot_of, service, named, replaced, without, installed, empty}
-use Rattle.smf_model.specs.Laws.{AreApart, IsNumbered}
-use Rattle.smf_model.specs.Next.{Asked, greatest, greatest_instance, refused, accepted, new_instance, added_at, added_named, asked_add_instance, asked_edit, booted, asked, next}
-use Rattle.smf_model.proofs.LawLists.{none_behind, none_replaced, none_without, apart_behind, apart_replaced, apart_without}
-use Rattle.smf_model.proofs.LawOutcomes.{Outcome, nothing, goes, OfInstances, alike, joined, left, put, each, OfSnapshots, kept, taken, gone, put_each, outcome}
+use Rattle.smf_model.specs.Look.{by_instance, by_snapshot, empty, installed, instance, instances, is_snapshot_of, named, others_of, put_new, put_over, service, snapshot}
+use Rattle.smf_model.specs.Laws.{IsNumbered, IsOrdered, is_refusal}
+use Rattle.smf_model.specs.Setting.{Groups}
+use Rattle.smf_model.specs.Next.{greatest, greatest_instance, refused, accepted, joining, new_instance, added_at, added_named, asked_add_instance, asked_edit, booted, asked, next}
+use Rattle.smf_model.proofs.LawLists.{none_filter, none_put, none_put_new, none_put_over, none_without}
+use Rattle.smf_model.proofs.LawOutcomes.{Outcome, nothing, goes, OfInstances, alike, joined, left, put, each, OfSnapshots, kept, taken, gone, put_each, no_changes, outcome}
+use Rattle.smf_model.proofs.Order.{ordered_after}
+
+no_instance : (i : Instance) → None ≡ Some i → ⊥
+no_instance i p = cc
+
+nothing_named : (e : InstanceName) → None ≡ Some e → ⊥
+nothing_named e p = cc
 
 pub first_numbers : IsNumbered empty
-first_numbers = record { instances = λ n h. refl; snapshots = λ n h. refl; apart = tt }
+first_numbers = record {
+  ordered = record { services = tt; instances = tt; names = tt; snapshots = tt; launches = tt };
+  first = omega arith;
+  none_at_zero = refl;
+  instances = λ n h. refl;
+  snapshots = λ n h. refl;
+  indexed = record { right = λ name e p. absurd (nothing_named e p); whole = λ n i p. absurd (no_instance i p) };
+}
 
-none_each : (n : ℕ) (f : Instance → Instance) (is xs : List Instance) → find (has_number n) xs ≡ None → find (has_number n) (put_each f is xs) ≡ None
+none_each : (n : ℕ) (f : Instance → Instance) (is xs : List Instance) → lookup by_instance xs n ≡ None → lookup by_instance (put_each f is xs) n ≡ None
 none_each n f [] xs e = e
-none_each n f (i ∷ is) xs e = none_each n f is (replaced (has_number (f i).number) (f i) xs) (none_replaced n (f i) xs e)
+none_each n f (i ∷ is) xs e = none_each n f is (put_over (f i) xs) (none_put_over n (f i) xs e)
 
-apart_each : (f : Instance → Instance) (is xs : List Instance) → AreApart xs → AreApart (put_each f is xs)
-apart_each f [] xs a = a
-apart_each f (i ∷ is) xs a = apart_each f is (replaced (has_number (f i).number) (f i) xs) (apart_replaced (f i) xs a)
+-- ---- nothing from the numbers that come next on
 
--- instances that are apart, and none from this number on
-record AreBelow (next_one : ℕ) (xs : List Instance) : Type 0 where
-  none : (n : ℕ) → next_one ≤ n → find (has_number n) xs ≡ None
-  apart : AreApart xs
+abbrev NoneFrom : ℕ → List Instance → Type 0
+NoneFrom next_one xs = (n : ℕ) → next_one ≤ n → lookup by_instance xs n ≡ None
 
-above : (m n : ℕ) → m + 1 ≤ n → (m == n) ≡ false
-above m n h = grind (arith, nat_tests)
+abbrev NoSnapshotFrom : ℕ → List Snapshot → Type 0
+NoSnapshotFrom next_one xs = (n : ℕ) → next_one ≤ n → lookup by_snapshot xs n ≡ None
 
-below_as : (m n : ℕ) (xs ys : List Instance) → xs ≡ ys → m ≡ n → AreBelow n ys → AreBelow m xs
-below_as m n xs ys e f b = record { none = λ l k. rw e (b.none l (subst (λ (d : ℕ). d ≤ l) f k)); apart = subst AreApart (sym e) b.apart }
+below_as : (m k : ℕ) (xs ys : List Instance) → xs ≡ ys → m ≡ k → NoneFrom k ys → NoneFrom m xs
+below_as m k xs ys e f none n h = ap (λ (zs : List Instance). lookup by_instance zs n) e ∙ none n (subst (λ (d : ℕ). d ≤ n) f h)
 
-instances_below : (h : Holdings) (c : Command) (xs : List Instance) (m : ℕ) → OfInstances h c xs m → AreBelow h.next_instance h.instances → AreBelow m xs
-instances_below h c xs m (alike e f) b = below_as m h.next_instance xs h.instances e f b
+instances_below : (h : Holdings) (c : Command) (xs : List Instance) (m : ℕ) → OfInstances h c xs m → NoneFrom h.next_instance (instances h) → NoneFrom m xs
+instances_below h c xs m (alike e f) b = below_as m h.next_instance xs (instances h) e f b
 instances_below h c xs m (joined name e f) b =
-    let x : Instance = new_instance h name in
-    below_as m (h.next_instance + 1) xs (h.instances ++ x ∷ []) e f (record {
-      none = λ n k. none_behind (has_number n) h.instances x (b.none n (omega arith)) (above h.next_instance n k);
-      apart = apart_behind h.instances x b.apart (b.none h.next_instance (omega arith));
-    })
+    below_as m (h.next_instance + 1) xs (put_in by_instance (new_instance h name) (instances h)) e f
+    (λ n k. none_put by_instance (new_instance h name) (instances h) n (λ same. (let same' : h.next_instance ≡ n = same in omega arith)) (b n (omega arith)))
 instances_below h c xs m (left d e f) b =
-    below_as m h.next_instance xs (without (has_number d) h.instances) e f (record {
-      none = λ n k. none_without (has_number n) (has_number d) h.instances (b.none n k);
-      apart = apart_without (has_number d) h.instances b.apart;
-    })
+    below_as m h.next_instance xs (without by_instance d (instances h)) e f (λ n k. none_without by_instance d (instances h) n (b n k))
 instances_below h c xs m (put d i x there number follows e f) b =
-    below_as m h.next_instance xs (replaced (has_number x.number) x h.instances) e f (record {
-      none = λ n k. none_replaced n x h.instances (b.none n k);
-      apart = apart_replaced x h.instances b.apart;
-    })
+    below_as m h.next_instance xs (put_over x (instances h)) e f (λ n k. none_put_over n x (instances h) (b n k))
 instances_below h c xs m (each boot gs e f) b =
-    below_as m h.next_instance xs (put_each (booted gs) h.instances h.instances) e f (record {
-      none = λ n k. none_each n (booted gs) h.instances h.instances (b.none n k);
-      apart = apart_each (booted gs) h.instances h.instances b.apart;
-    })
+    below_as m h.next_instance xs (put_each (booted gs) (instances h) (instances h)) e f (λ n k. none_each n (booted gs) (instances h) (instances h) (b n k))
 
-abbrev NoneFrom : ℕ → List Snapshot → Type 0
-NoneFrom next_one xs = (n : ℕ) → next_one ≤ n → find (is_snapshot n) xs ≡ None
+snapshots_as : (m k : ℕ) (xs ys : List Snapshot) → xs ≡ ys → m ≡ k → NoSnapshotFrom k ys → NoSnapshotFrom m xs
+snapshots_as m k xs ys e f none n h = ap (λ (zs : List Snapshot). lookup by_snapshot zs n) e ∙ none n (subst (λ (d : ℕ). d ≤ n) f h)
 
-snapshots_below : (h : Holdings) (c : Command) (xs : List Snapshot) (m : ℕ) → OfSnapshots h c xs m → NoneFrom h.next_snapshot h.snapshots → NoneFrom m xs
-snapshots_below h c xs m (kept e f) b n k = rw e (b n (subst (λ (l : ℕ). l ≤ n) f k))
-snapshots_below h c xs m (taken s number e f) b n k =
-    let k' : h.next_snapshot + 1 ≤ n = subst (λ (l : ℕ). l ≤ n) f k in
-    rw e (none_behind (is_snapshot n) h.snapshots s (b n (omega arith)) (subst (λ (l : ℕ). (l == n) ≡ false) (sym number) (above h.next_snapshot n k')))
-snapshots_below h c xs m (gone d is e f) b n k = rw e (none_without (is_snapshot n) (is_snapshot_of d) h.snapshots (b n (subst (λ (l : ℕ). l ≤ n) f k)))
-
-numbered_by : (h : Holdings) (c : Command) (k : Holdings) (r : Reply) → Outcome h c k r → IsNumbered h → IsNumbered k
-numbered_by h c k r (nothing e a) b = subst IsNumbered (sym e) b
-numbered_by h c k r (goes g) b =
-    let below = instances_below h c k.instances k.next_instance g.instances (record { none = b.instances; apart = b.apart }) in
-    record { instances = below.none; snapshots = snapshots_below h c k.snapshots k.next_snapshot g.snapshots b.snapshots; apart = below.apart }
-
-pub stays_numbered : (h : Holdings) (c : Command) → IsNumbered h → IsNumbered (next h c).0
-stays_numbered h c b = numbered_by h c (next h c).0 (next h c).1 (outcome h c) b
+snapshots_below : (h : Holdings) (c : Command) (xs : List Snapshot) (m : ℕ) → OfSnapshots h c xs m → NoSnapshotFrom h.next_snapshot h.snapshots → NoSnapshotFrom m xs
+snapshots_below h c xs m (kept e f) b = snapshots_as m h.next_snapshot xs h.snapshots e f b
+snapshots_below h c xs m (taken s number e f) b =
+    snapshots_as m (h.next_snapshot + 1) xs (put_new by_snapshot s h.snapshots) e f
+    (λ n k. none_put_new by_snapshot s h.snapshots n (λ same. (let same' : h.next_snapshot ≡ n = sym number ∙ same in omega arith)) (b n (omega arith)))
+snapshots_below h c xs m (gone d is e f) b =
+    snapshots_as m h.next_snapshot xs (others_of d h.snapshots) e f (λ n k. none_filter _ _ h.snapshots (b n k))
 
 -- ---- the numbers that come next
 
@@ -100,7 +93,7 @@ snapshots_rise_by h c xs m (gone d is e f) = omega arith
 
 rise_by : (h : Holdings) (c : Command) (k : Holdings) (r : Reply) → Outcome h c k r → (h.next_instance ≤ k.next_instance) × (h.next_snapshot ≤ k.next_snapshot)
 rise_by h c k r (nothing e a) = subst (λ (l : Holdings). (h.next_instance ≤ l.next_instance) × (h.next_snapshot ≤ l.next_snapshot)) (sym e) (omega arith, omega arith)
-rise_by h c k r (goes g) = (instances_rise_by h c k.instances k.next_instance g.instances, snapshots_rise_by h c k.snapshots k.next_snapshot g.snapshots)
+rise_by h c k r (goes g) = (instances_rise_by h c (instances k) k.next_instance g.instances, snapshots_rise_by h c k.snapshots k.next_snapshot g.snapshots)
 
 pub instances_rise : (h : Holdings) (c : Command) → h.next_instance ≤ (next h c).0.next_instance
 instances_rise h c = (rise_by h c (next h c).0 (next h c).1 (outcome h c)).0
@@ -110,24 +103,23 @@ snapshots_rise h c = (rise_by h c (next h c).0 (next h c).1 (outcome h c)).1
 
 -- ---- numbers that were given are not given again
 
-beyond : (m n : ℕ) → n < m → (m == n) ≡ false
-beyond m n h = grind (arith, nat_tests)
-
-instances_gone : (h : Holdings) (c : Command) (n : ℕ) (xs : List Instance) (m : ℕ) → OfInstances h c xs m → n < h.next_instance → find (has_number n) h.instances ≡ None → find (has_number n) xs ≡ None
+instances_gone : (h : Holdings) (c : Command) (n : ℕ) (xs : List Instance) (m : ℕ) → OfInstances h c xs m → n < h.next_instance → instance h n ≡ None → lookup by_instance xs n ≡ None
 instances_gone h c n xs m (alike e f) k is = rw e is
-instances_gone h c n xs m (joined name e f) k is = rw e (none_behind (has_number n) h.instances (new_instance h name) is (beyond h.next_instance n k))
-instances_gone h c n xs m (left d e f) k is = rw e (none_without (has_number n) (has_number d) h.instances is)
-instances_gone h c n xs m (put d i x there number follows e f) k is = rw e (none_replaced n x h.instances is)
-instances_gone h c n xs m (each boot gs e f) k is = rw e (none_each n (booted gs) h.instances h.instances is)
+instances_gone h c n xs m (joined name e f) k is =
+    rw e (none_put by_instance (new_instance h name) (instances h) n (λ same. (let same' : h.next_instance ≡ n = same in omega arith)) is)
+instances_gone h c n xs m (left d e f) k is = rw e (none_without by_instance d (instances h) n is)
+instances_gone h c n xs m (put d i x there number follows e f) k is = rw e (none_put_over n x (instances h) is)
+instances_gone h c n xs m (each boot gs e f) k is = rw e (none_each n (booted gs) (instances h) (instances h) is)
 
-snapshots_gone : (h : Holdings) (c : Command) (n : ℕ) (xs : List Snapshot) (m : ℕ) → OfSnapshots h c xs m → n < h.next_snapshot → find (is_snapshot n) h.snapshots ≡ None → find (is_snapshot n) xs ≡ None
+snapshots_gone : (h : Holdings) (c : Command) (n : ℕ) (xs : List Snapshot) (m : ℕ) → OfSnapshots h c xs m → n < h.next_snapshot → snapshot h n ≡ None → lookup by_snapshot xs n ≡ None
 snapshots_gone h c n xs m (kept e f) k is = rw e is
-snapshots_gone h c n xs m (taken s number e f) k is = rw e (none_behind (is_snapshot n) h.snapshots s is (subst (λ (l : ℕ). (l == n) ≡ false) (sym number) (beyond h.next_snapshot n k)))
-snapshots_gone h c n xs m (gone d deletes e f) k is = rw e (none_without (is_snapshot n) (is_snapshot_of d) h.snapshots is)
+snapshots_gone h c n xs m (taken s number e f) k is =
+    rw e (none_put_new by_snapshot s h.snapshots n (λ same. (let same' : h.next_snapshot ≡ n = sym number ∙ same in omega arith)) is)
+snapshots_gone h c n xs m (gone d deletes e f) k is = rw e (none_filter _ _ h.snapshots is)
 
 instance_gone_by : (h : Holdings) (c : Command) (k : Holdings) (r : Reply) (n : ℕ) → Outcome h c k r → n < h.next_instance → instance h n ≡ None → instance k n ≡ None
 instance_gone_by h c k r n (nothing e a) below is = rw e is
-instance_gone_by h c k r n (goes g) below is = instances_gone h c n k.instances k.next_instance g.instances below is
+instance_gone_by h c k r n (goes g) below is = instances_gone h c n (instances k) k.next_instance g.instances below is
 
 snapshot_gone_by : (h : Holdings) (c : Command) (k : Holdings) (r : Reply) (n : ℕ) → Outcome h c k r → n < h.next_snapshot → snapshot h n ≡ None → snapshot k n ≡ None
 snapshot_gone_by h c k r n (nothing e a) below is = rw e is
@@ -139,10 +131,42 @@ instance_gone h c n below is = instance_gone_by h c (next h c).0 (next h c).1 n 
 pub snapshot_gone : (h : Holdings) (c : Command) (n : ℕ) → n < h.next_snapshot → snapshot h n ≡ None → snapshot (next h c).0 n ≡ None
 snapshot_gone h c n below is = snapshot_gone_by h c (next h c).0 (next h c).1 n (outcome h c) below is
 
+-- ---- all of it
+
+numbered_by : (h : Holdings) (c : Command) (k : Holdings) (r : Reply) → Outcome h c k r → IsNumbered h
+    → IsOrdered k → h.next_instance ≤ k.next_instance → instance k 0 ≡ None → IsNumbered k
+numbered_by h c k r (nothing e a) b o rises zero = subst IsNumbered (sym e) b
+numbered_by h c k r (goes g) b o rises zero =
+    record {
+      ordered = o;
+      first = (let first : 1 ≤ h.next_instance = b.first in omega arith);
+      none_at_zero = zero;
+      instances = instances_below h c (instances k) k.next_instance g.instances b.instances;
+      snapshots = snapshots_below h c k.snapshots k.next_snapshot g.snapshots b.snapshots;
+      indexed = g.indexed b;
+    }
+
+ordered_next : (h : Holdings) (c : Command) → IsOrdered h → IsOrdered (next h c).0
+unfolding next
+ordered_next h c o = ordered_after h (asked h c).changes o
+
+pub stays_numbered : (h : Holdings) (c : Command) → IsNumbered h → IsNumbered (next h c).0
+stays_numbered h c b =
+    let first : 1 ≤ h.next_instance = b.first in
+    numbered_by h c (next h c).0 (next h c).1 (outcome h c) b (ordered_next h c b.ordered) (instances_rise h c) (instance_gone h c 0 (omega arith) b.none_at_zero)
+
+next_is : (h : Holdings) (c : Command) → (next h c).0 ≡ installed h (asked h c).changes
+unfolding next
+next_is h c = refl
+
+-- the same of the changes that are asked for
+pub asked_numbered : (h : Holdings) (c : Command) → IsNumbered h → IsNumbered (installed h (asked h c).changes)
+asked_numbered h c b = subst IsNumbered (next_is h c) (stays_numbered h c b)
+
 -- ---- the number that is given
 
 abbrev GivesNumber : Holdings → ℕ → Asked → Type 0
-GivesNumber h n a = a.1 ≡ Made n → (n ≡ h.next_instance) × ((installed h a.0).next_instance ≡ n + 1)
+GivesNumber h n a = a.reply ≡ Made n → (n ≡ h.next_instance) × ((installed h a.changes).next_instance ≡ n + 1)
 
 made : (m n : ℕ) → Made m ≡ Made n → m ≡ n
 made m n e = cc
@@ -152,14 +176,11 @@ unfolding installed
 add_at h name n (Some i) e = absurd cc
 add_at h name n None e = by (nat_le h.next_instance greatest_instance) e
   where
-    changes : List Change
-    changes = AddInstance (new_instance h name) ∷ NextInstance (h.next_instance + 1) ∷ []
-
-    within : (b : Bool) → GivesNumber h n (if b then (AddInstance (new_instance h name) ∷ NextInstance (h.next_instance + 1) ∷ SetRevision (h.revision + 1) ∷ [], Made h.next_instance) else refused Limit)
+    within : (b : Bool) → GivesNumber h n (if b then (record { changes = joining h name ++ SetRevision (h.revision + 1) ∷ []; reply = Made h.next_instance }) else refused Limit)
     within true e = let same : n ≡ h.next_instance = sym (made h.next_instance n e) in (same, ap (λ (m : ℕ). m + 1) (sym same))
     within false e = absurd cc
 
-    by : (b : Bool) → GivesNumber h n (if b then accepted h (AddInstance (new_instance h name) ∷ NextInstance (h.next_instance + 1) ∷ []) (Made h.next_instance) else refused Limit)
+    by : (b : Bool) → GivesNumber h n (if b then accepted h (joining h name) (Made h.next_instance) else refused Limit)
     by true e = within (nat_lt h.revision greatest) e
     by false e = absurd cc
 
@@ -167,10 +188,16 @@ add_named : (h : Holdings) (n : ℕ) (o : Option (List ℕ)) → GivesNumber h n
 add_named h n None e = absurd cc
 add_named h n (Some name) e = add_at h name n (named h name) e
 
-add_to : (h : Holdings) (name : List ℕ) (n : ℕ) (o : Option (List ℕ)) → GivesNumber h n (asked_add_instance h name o)
+add_to : (h : Holdings) (name : List ℕ) (n : ℕ) (o : Option Service) → GivesNumber h n (asked_add_instance h name o)
 add_to h name n None e = absurd cc
-add_to h name n (Some s) e = add_named h n (read_short (s ++ 58 ∷ name)) e
+add_to h name n (Some s) e = add_named h n (read_short (s.name ++ 58 ∷ name)) e
 
 pub number_made : (h : Holdings) (s name : List ℕ) (n : ℕ) → (next h (commands.Edit (asked_for.AddInstance s name))).1 ≡ Made n → (n ≡ h.next_instance) × ((next h (commands.Edit (asked_for.AddInstance s name))).0.next_instance ≡ n + 1)
 unfolding next asked asked_edit
 number_made h s name n e = add_to h name n (service h s) e
+
+pub asked_refused : (h : Holdings) (c : Command) (r : Asked) → r ≡ asked h c → is_refusal r.reply ≡ true → r.changes ≡ []
+asked_refused h c r e = let P : Asked → Type 0 = λ a. is_refusal a.reply ≡ true → a.changes ≡ [] in subst P (sym e) (no_changes h c)
+
+pub asked_numbers : (h : Holdings) (c : Command) (r : Asked) → r ≡ asked h c → IsNumbered h → IsNumbered (installed h r.changes)
+asked_numbers h c r e b = let P : Asked → Type 0 = λ a. IsNumbered (installed h a.changes) in subst P (sym e) (asked_numbered h c b)

@@ -1,7 +1,9 @@
 -- What a command makes of what is held, by what it changes.
-use Rattle.std.proofs.Common.{eqb-true, is_none, ◌≡◌, ◌⊎◌, ℕ, ◌+◌, ◌≤◌, ◌==◌, ◌&&◌, ◌||◌, not, nat_lt, nat_le, Bool, true, false, if◌then◌else◌, List, [], ◌∷◌, ◌++◌, map, Option, Some, None, option_map, Result, Ok, Err, refl, sym, ap, ◌∙◌, subst, inl, inr}
+use Rattle.std.proofs.Common.{eqb-true, is_none, ◌≡◌, ◌⊎◌, ℕ, ◌+◌, ◌≤◌, ◌==◌, ◌&&◌, ◌||◌, not, nat_lt, nat_le, Bool, true, false, if◌then◌else◌, List, [], ◌∷◌, ◌++◌, map, Option, Some, None, option_map, Result, Ok, Err, refl, sym, ap, ◌∙◌, subst, inl, inr, cond, arith}
 use Rattle.std.specs.Prelude.{filter}
 use Rattle.std.specs.List.{list_any}
+use Rattle.std.specs.Ordering.{is_eq, nat_cmp}
+use Rattle.smf_fmri.proofs.Lookups.{equal_from_test}
 use Rattle.smf_state.proofs.Steps.{accepted_goes_on}
 use Rattle.smf_state.specs.Rows.{GoesOn, applied, same_state, greatest_number}
 use Rattle.smf_state.specs.States.{edge, runs}
@@ -10,11 +12,12 @@ use Rattle.smf_state.specs.declared.row.Row.{Row}
 use Rattle.smf_state.specs.declared.state.State.{State}
 use Rattle.smf_state.specs.declared.state.State.TheVariants.{Uninitialized, Disabled, Offline, Online, Degraded, Maintenance}
 use Rattle.smf_state.specs.declared.step.Proposal.{Proposal}
+use Rattle.smf_fmri.specs.ByKey.{lookup, put as put_in, without}
 use Rattle.smf_value.specs.Groups.{GroupRecord}
 use Rattle.smf_value.specs.declared.fault.GroupFault.{GroupFault}
 use Rattle.smf_snap.specs.Taking.{restored}
 use Rattle.smf_model.specs.declared.change.Change.{Change}
-use Rattle.smf_model.specs.declared.change.Change.TheVariants.{AddService, DropService, AddInstance, PutInstance, DropInstance, PutGroup, DropGroup, DropGroups, AddSnapshot, DropSnapshots, PutLaunch, NextInstance, NextSnapshot, SetRevision}
+use Rattle.smf_model.specs.declared.change.Change.TheVariants.{AddService, DropService, AddInstance, PutInstance, DropInstance, PutName, DropName, PutGroups, AddSnapshot, DropSnapshots, PutLaunch, NextInstance, NextSnapshot, SetRevision}
 use Rattle.smf_model.specs.declared.command.Command.{Command}
 use Rattle.smf_model.specs.declared.command.Command.TheVariants as commands
 use Rattle.smf_model.specs.declared.command.Edit.{Edit}
@@ -26,43 +29,49 @@ use Rattle.smf_model.specs.declared.command.Reply.{Reply}
 use Rattle.smf_model.specs.declared.command.Reply.TheVariants.{Made, Granted, Done, NoSuch, InUse, NotInState, Exists, Denied, Limit, Stale}
 use Rattle.smf_model.specs.declared.command.Why.{Why}
 use Rattle.smf_model.specs.declared.command.Why.TheVariants as whys
-use Rattle.smf_model.specs.declared.held.Held.{Held}
+use Rattle.smf_model.specs.declared.change.Outcome.{Outcome as Asked}
 use Rattle.smf_model.specs.declared.held.Instance.{Instance}
 use Rattle.smf_model.specs.declared.held.Launch.{Launch}
 use Rattle.smf_model.specs.declared.held.Owner.{Owner}
 use Rattle.smf_model.specs.declared.held.Owner.TheVariants as owners
+use Rattle.smf_model.specs.declared.held.InstanceEntry.{InstanceEntry}
+use Rattle.smf_model.specs.declared.held.InstanceName.{InstanceName}
+use Rattle.smf_model.specs.declared.held.Service.{Service}
 use Rattle.smf_model.specs.declared.held.Snapshot.{Snapshot}
 use Rattle.smf_model.specs.Holdings.{Holdings}
-use Rattle.smf_model.specs.Look.{has_number, is_snapshot_of, instance, service, named, group, launch_of, replaced, without, changed, installed}
-use Rattle.smf_model.specs.Setting.{general_ovr, owned_by_setting, current, setting}
-use Rattle.smf_model.specs.Next.{Asked, greatest, greatest_instance, greatest_snapshot, refused, accepted, found, asked_add_service, new_instance, added_at, added_named, asked_add_instance, is_instance_of, asked_delete_service, is_in_use, asked_delete_instance, is_there, is_made, has_room, guarded, added_group, deleted_group, property_changed, put_or_denied, changed_group, enabled_for_good, enabled_for_now, asked_enable, asking, asked_if, asked_where, asked_restart, asked_clear, marked, asked_mark, with_snapshot, snapshot_of, service_owner, target_by, may_be_moved, refreshed_row, moved_row, moved, refreshed, asked_refresh, number_of, named_snapshot, regrouped, groups_of, reverted_to, reverted, asked_revert, asked_edit, is_again, stale, with_row, takes_running, granted, step_answer, fresh_answer, answer_at, answer, asked_launch, relaunched, persistent, dropped, booted, is_last_launch, is_last_number, asked_boot, asked, next}
-use Rattle.smf_model.specs.Laws.{is_refusal, is_accepted, Stays, RowFollows}
+use Rattle.smf_model.specs.Look.{bare, by_instance, by_name, by_snapshot, changed, group, groups_of, in_place, installed, instance, instances, launch_of, named, others_of, put_new, put_over, service}
+use Rattle.smf_model.specs.Setting.{Groups, current, owned_by_setting, service_owner, setting}
+use Rattle.smf_model.specs.Next.{greatest, greatest_instance, greatest_snapshot, refused, accepted, found, asked_add_service, new_entry, new_instance, new_name, joining, added_at, added_named, asked_add_instance, is_instance_of, asked_delete_service, is_in_use, leaving, asked_delete_instance, is_there, is_made, has_room, group_put, group_dropped, guarded, added_group, deleted_group, property_changed, put_or_denied, changed_group, enabling_of, enabled_for_good, enabled_for_now, asked_enable, asking, asked_if, asked_where, asked_restart, asked_clear, marked, asked_mark, with_snapshot, snapshot_of, target_by, may_be_moved, refreshed_row, moved_row, moved_instance, moved, refreshed_instance, refreshed, asked_refresh, number_of, named_snapshot, reverting, reverted_to, reverted, asked_revert, asked_edit, is_again, stale, with_row, with_running, takes_running, granted, step_answer, fresh_answer, answer_at, answer, next_launch, asked_launch, relaunched, persistent, has_dropped, service_kept, instance_kept, kept_of_services, kept_of_instances, booted, all_booted, booting, may_not_boot, asked_boot, asked, next}
+use Rattle.smf_model.specs.Laws.{AreApart, IsIndexed, IsNumbered, is_refusal, is_accepted, Stays, RowFollows}
 use Rattle.smf_model.specs.Laws.RowFollows.{stays, steps, moves}
-use Rattle.smf_model.proofs.LawLists.{is_number}
+use Rattle.smf_model.proofs.Entries.{bare_groups, bare_instance, bare_put, bare_without, rises_bare}
+use Rattle.smf_model.proofs.LawLists.{apart_from_rises, at_put, is_number}
+use Rattle.smf_model.proofs.Names.{index_added, index_left, index_same, names_all, names_over, unnamed}
 
 -- ---- what becomes of the instances, and of the snapshots
 
 -- each of these in its place, in turn
 abbrev pub put_each : (Instance → Instance) → List Instance → List Instance → List Instance
 put_each f [] xs = xs
-put_each f (i ∷ is) xs = put_each f is (replaced (has_number (f i).number) (f i) xs)
+put_each f (i ∷ is) xs = put_each f is (put_over (f i) xs)
 
 pub data OfInstances (h : Holdings) (c : Command) (xs : List Instance) (next_one : ℕ) : Type 0 where
-  alike : xs ≡ h.instances → next_one ≡ h.next_instance → OfInstances h c xs next_one
-  joined : (name : List ℕ) → xs ≡ h.instances ++ new_instance h name ∷ [] → next_one ≡ h.next_instance + 1 → OfInstances h c xs next_one
-  left : (n : ℕ) → xs ≡ without (has_number n) h.instances → next_one ≡ h.next_instance → OfInstances h c xs next_one
-  put : (n : ℕ) (i x : Instance) → instance h n ≡ Some i → x.number ≡ n → RowFollows c n i.row x.row → xs ≡ replaced (has_number x.number) x h.instances → next_one ≡ h.next_instance → OfInstances h c xs next_one
-  each : c ≡ commands.Boot → (gs : List Held) → xs ≡ put_each (booted gs) h.instances h.instances → next_one ≡ h.next_instance → OfInstances h c xs next_one
+  alike : xs ≡ instances h → next_one ≡ h.next_instance → OfInstances h c xs next_one
+  joined : (name : List ℕ) → xs ≡ put_in by_instance (new_instance h name) (instances h) → next_one ≡ h.next_instance + 1 → OfInstances h c xs next_one
+  left : (n : ℕ) → xs ≡ without by_instance n (instances h) → next_one ≡ h.next_instance → OfInstances h c xs next_one
+  put : (n : ℕ) (i x : Instance) → instance h n ≡ Some i → x.number ≡ n → RowFollows c n i.row x.row → xs ≡ put_over x (instances h) → next_one ≡ h.next_instance → OfInstances h c xs next_one
+  each : c ≡ commands.Boot → (gs : Groups) → xs ≡ put_each (booted gs) (instances h) (instances h) → next_one ≡ h.next_instance → OfInstances h c xs next_one
 
 pub data OfSnapshots (h : Holdings) (c : Command) (xs : List Snapshot) (next_one : ℕ) : Type 0 where
   kept : xs ≡ h.snapshots → next_one ≡ h.next_snapshot → OfSnapshots h c xs next_one
-  taken : (s : Snapshot) → s.number ≡ h.next_snapshot → xs ≡ h.snapshots ++ s ∷ [] → next_one ≡ h.next_snapshot + 1 → OfSnapshots h c xs next_one
-  gone : (n : ℕ) → c ≡ commands.Edit (asked_for.DeleteInstance n) → xs ≡ without (is_snapshot_of n) h.snapshots → next_one ≡ h.next_snapshot → OfSnapshots h c xs next_one
+  taken : (s : Snapshot) → s.number ≡ h.next_snapshot → xs ≡ put_new by_snapshot s h.snapshots → next_one ≡ h.next_snapshot + 1 → OfSnapshots h c xs next_one
+  gone : (n : ℕ) → c ≡ commands.Edit (asked_for.DeleteInstance n) → xs ≡ others_of n h.snapshots → next_one ≡ h.next_snapshot → OfSnapshots h c xs next_one
 
 pub record Goes (h : Holdings) (c : Command) (k : Holdings) (r : Reply) : Type 0 where
   pub reply : is_refusal r ≡ false
   pub revision : k.revision ≡ h.revision + 1
-  pub instances : OfInstances h c k.instances k.next_instance
+  pub instances : OfInstances h c (bare k.instances) k.next_instance
+  pub indexed : IsNumbered h → IsIndexed (bare k.instances) k.names
   pub snapshots : OfSnapshots h c k.snapshots k.next_snapshot
 
 pub data Outcome (h : Holdings) (c : Command) (k : Holdings) (r : Reply) : Type 0 where
@@ -70,7 +79,7 @@ pub data Outcome (h : Holdings) (c : Command) (k : Holdings) (r : Reply) : Type 
   goes : Goes h c k r → Outcome h c k r
 
 abbrev pub OutcomeOf : Holdings → Command → Asked → Type 0
-OutcomeOf h c a = Outcome h c (installed h a.0) a.1
+OutcomeOf h c a = Outcome h c (installed h a.changes) a.reply × (is_refusal a.reply ≡ true → a.changes ≡ [])
 
 -- ---- what all commands have in common
 
@@ -85,13 +94,24 @@ installed_closed h cs n = installed_append h cs (SetRevision n ∷ [])
 
 refuses : (h : Holdings) (c : Command) (r : Reply) → is_accepted r ≡ false → OutcomeOf h c (refused r)
 unfolding installed
-refuses h c r e = nothing refl e
+refuses h c r e = (nothing refl e, λ f. refl)
 
-accepts : (h : Holdings) (c : Command) (cs : List Change) (r : Reply) → is_refusal r ≡ false → OfInstances h c (installed h cs).instances (installed h cs).next_instance → OfSnapshots h c (installed h cs).snapshots (installed h cs).next_snapshot → OutcomeOf h c (accepted h cs r)
-accepts h c cs r e is ss = by (nat_lt h.revision greatest)
+no_both : (b : Bool) → b ≡ true → b ≡ false → ⊥
+no_both b e f = cc
+
+abbrev IndexesOf : Holdings → Holdings → Type 0
+IndexesOf h k = IsNumbered h → IsIndexed (bare k.instances) k.names
+
+accepts : (h : Holdings) (c : Command) (cs : List Change) (r : Reply) → is_refusal r ≡ false
+    → OfInstances h c (bare (installed h cs).instances) (installed h cs).next_instance → IndexesOf h (installed h cs)
+    → OfSnapshots h c (installed h cs).snapshots (installed h cs).next_snapshot → OutcomeOf h c (accepted h cs r)
+accepts h c cs r e is index ss = by (nat_lt h.revision greatest)
   where
-    by : (b : Bool) → OutcomeOf h c (if b then (cs ++ SetRevision (h.revision + 1) ∷ [], r) else refused Limit)
-    by true = goes (subst (λ (k : Holdings). Goes h c k r) (sym (installed_closed h cs (h.revision + 1))) (record { reply = e; revision = refl; instances = is; snapshots = ss }))
+    by : (b : Bool) → OutcomeOf h c (if b then (record { changes = cs ++ SetRevision (h.revision + 1) ∷ []; reply = r }) else refused Limit)
+    by true = (
+      goes (subst (λ (k : Holdings). Goes h c k r) (sym (installed_closed h cs (h.revision + 1))) (record { reply = e; revision = refl; instances = is; indexed = index; snapshots = ss })),
+      λ f. absurd (no_both (is_refusal r) f e),
+    )
     by false = refuses h c Limit refl
 
 -- changes of services, groups and launches
@@ -99,53 +119,77 @@ abbrev pub Elsewhere : List Change → Type 0
 Elsewhere [] = Unit {0}
 Elsewhere (AddService s ∷ cs) = Elsewhere cs
 Elsewhere (DropService s ∷ cs) = Elsewhere cs
-Elsewhere (PutGroup g ∷ cs) = Elsewhere cs
-Elsewhere (DropGroup o n ∷ cs) = Elsewhere cs
-Elsewhere (DropGroups o ∷ cs) = Elsewhere cs
+Elsewhere (PutGroups o gs ∷ cs) = Elsewhere cs
 Elsewhere (PutLaunch l ∷ cs) = Elsewhere cs
 Elsewhere (c ∷ cs) = ⊥
 
-pub record Has (is : List Instance) (m : ℕ) (ss : List Snapshot) (n : ℕ) (k : Holdings) : Type 0 where
-  pub instances : k.instances ≡ is
+pub record Has (is : List Instance) (m : ℕ) (ss : List Snapshot) (n : ℕ) (ns : List InstanceName) (k : Holdings) : Type 0 where
+  pub instances : bare k.instances ≡ is
   pub next_instance : k.next_instance ≡ m
   pub snapshots : k.snapshots ≡ ss
   pub next_snapshot : k.next_snapshot ≡ n
+  pub names : k.names ≡ ns
 
 abbrev pub Same : Holdings → Holdings → Type 0
-Same h k = Has h.instances h.next_instance h.snapshots h.next_snapshot k
+Same h k = Has (instances h) h.next_instance h.snapshots h.next_snapshot h.names k
+
+abbrev with_entries : Holdings → List InstanceEntry → Holdings
+with_entries h es = record h { instances = es }
+
+same_bare : (h : Holdings) (es : List InstanceEntry) (k : Holdings) → bare es ≡ instances h → Same (with_entries h es) k → Same h k
+same_bare h es k e m = record { instances = m.instances ∙ e; next_instance = m.next_instance; snapshots = m.snapshots; next_snapshot = m.next_snapshot; names = m.names }
 
 pub elsewhere : (h : Holdings) (cs : List Change) → Elsewhere cs → Same h (installed h cs)
 unfolding installed
-elsewhere h [] e = record { instances = refl; next_instance = refl; snapshots = refl; next_snapshot = refl }
+elsewhere h [] e = record { instances = refl; next_instance = refl; snapshots = refl; next_snapshot = refl; names = refl }
 elsewhere h (AddService s ∷ cs) e = elsewhere (changed h (AddService s)) cs e
 elsewhere h (DropService s ∷ cs) e = elsewhere (changed h (DropService s)) cs e
-elsewhere h (PutGroup g ∷ cs) e = elsewhere (changed h (PutGroup g)) cs e
-elsewhere h (DropGroup o n ∷ cs) e = elsewhere (changed h (DropGroup o n)) cs e
-elsewhere h (DropGroups o ∷ cs) e = elsewhere (changed h (DropGroups o)) cs e
+elsewhere h (PutGroups (owners.Service s) gs ∷ cs) e = elsewhere (changed h (PutGroups (owners.Service s) gs)) cs e
+elsewhere h (PutGroups (owners.Instance n) gs ∷ cs) e =
+    same_bare h (changed h (PutGroups (owners.Instance n) gs)).instances _ (bare_groups n gs h.instances) (elsewhere (changed h (PutGroups (owners.Instance n) gs)) cs e)
 elsewhere h (PutLaunch l ∷ cs) e = elsewhere (changed h (PutLaunch l)) cs e
 elsewhere h (AddInstance i ∷ cs) e = absurd e
 elsewhere h (PutInstance i ∷ cs) e = absurd e
 elsewhere h (DropInstance n ∷ cs) e = absurd e
+elsewhere h (PutName n ∷ cs) e = absurd e
+elsewhere h (DropName n ∷ cs) e = absurd e
 elsewhere h (AddSnapshot s ∷ cs) e = absurd e
 elsewhere h (DropSnapshots n ∷ cs) e = absurd e
 elsewhere h (NextInstance n ∷ cs) e = absurd e
 elsewhere h (NextSnapshot n ∷ cs) e = absurd e
 elsewhere h (SetRevision n ∷ cs) e = absurd e
 
+-- an index of the instances and names that a value has
+index_of : (is : List Instance) (ns : List InstanceName) (k : Holdings) → bare k.instances ≡ is → k.names ≡ ns → IsIndexed is ns → IsIndexed (bare k.instances) k.names
+index_of is ns k e f index = subst (λ (xs : List Instance). IsIndexed xs k.names) (sym e) (subst (λ (ys : List InstanceName). IsIndexed is ys) (sym f) index)
+
 edits : (h : Holdings) (c : Command) (cs : List Change) (r : Reply) → is_refusal r ≡ false → Elsewhere cs → OutcomeOf h c (accepted h cs r)
-edits h c cs r e out = let m = elsewhere h cs out in accepts h c cs r e (alike m.instances m.next_instance) (kept m.snapshots m.next_snapshot)
+edits h c cs r e out =
+    let m = elsewhere h cs out in
+    accepts h c cs r e (alike m.instances m.next_instance) (λ b. index_of (instances h) h.names (installed h cs) m.instances m.names b.indexed) (kept m.snapshots m.next_snapshot)
 
 -- an instance put in its place
-record Put (h : Holdings) (c : Command) (x : Instance) : Type 0 where
-  number : ℕ
-  before : Instance
-  is_there : instance h number ≡ Some before
-  is_number : x.number ≡ number
-  follows : RowFollows c number before.row x.row
+pub record Put (h : Holdings) (c : Command) (x : Instance) : Type 0 where
+  pub number : ℕ
+  pub before : Instance
+  pub is_there : instance h number ≡ Some before
+  pub is_number : x.number ≡ number
+  pub name : x.name ≡ before.name
+  pub follows : RowFollows c number before.row x.row
+
+-- the names stay
+pub index_over : (h : Holdings) (c : Command) (x : Instance) → Put h c x → IsNumbered h → IsIndexed (put_over x (instances h)) h.names
+index_over h c x p b = index_same (instances h) (put_over x (instances h)) h.names (names_over p.number p.before x (instances h) p.is_there p.is_number p.name) b.indexed
+
+-- changes of which the last are elsewhere, behind one that puts an instance
+abbrev put_first : Holdings → Instance → Holdings
+put_first h x = changed h (PutInstance x)
 
 puts : (h : Holdings) (c : Command) (x : Instance) (r : Reply) → is_refusal r ≡ false → Put h c x → OutcomeOf h c (accepted h (PutInstance x ∷ []) r)
 unfolding installed
-puts h c x r e p = accepts h c (PutInstance x ∷ []) r e (put p.number p.before x p.is_there p.is_number p.follows refl refl) (kept refl refl)
+puts h c x r e p =
+    let over : bare (put_first h x).instances ≡ put_over x (instances h) = bare_instance x h.instances in
+    accepts h c (PutInstance x ∷ []) r e (put p.number p.before x p.is_there p.is_number p.follows over refl) (λ b. index_of (put_over x (instances h)) h.names (put_first h x) over refl (index_over h c x p b)) (kept refl refl)
 
 -- a snapshot taken, an instance put in its place, and changes elsewhere
 snaps : (h : Holdings) (c : Command) (i x : Instance) (rest : List Change) (r : Reply) → is_refusal r ≡ false → Put h c x → Elsewhere rest → OutcomeOf h c (with_snapshot h i (PutInstance x ∷ rest) r)
@@ -154,28 +198,36 @@ snaps h c i x rest r e p out = by (nat_le h.next_snapshot greatest_snapshot)
   where
     by : (b : Bool) → OutcomeOf h c (if b then accepted h (AddSnapshot (snapshot_of h i) ∷ NextSnapshot (h.next_snapshot + 1) ∷ PutInstance x ∷ rest) r else refused Limit)
     by true =
+        let over : bare (put_first h x).instances ≡ put_over x (instances h) = bare_instance x h.instances in
         let m = elsewhere (changed (changed (changed h (AddSnapshot (snapshot_of h i))) (NextSnapshot (h.next_snapshot + 1))) (PutInstance x)) rest out in
-        accepts h c (AddSnapshot (snapshot_of h i) ∷ NextSnapshot (h.next_snapshot + 1) ∷ PutInstance x ∷ rest) r e (put p.number p.before x p.is_there p.is_number p.follows m.instances m.next_instance) (taken (snapshot_of h i) refl m.snapshots m.next_snapshot)
+        accepts h c (AddSnapshot (snapshot_of h i) ∷ NextSnapshot (h.next_snapshot + 1) ∷ PutInstance x ∷ rest) r e (put p.number p.before x p.is_there p.is_number p.follows (m.instances ∙ over) m.next_instance)
+        (λ b. index_of (put_over x (instances h)) h.names (installed h (AddSnapshot (snapshot_of h i) ∷ NextSnapshot (h.next_snapshot + 1) ∷ PutInstance x ∷ rest)) (m.instances ∙ over) m.names (index_over h c x p b)) (taken (snapshot_of h i) refl m.snapshots m.next_snapshot)
     by false = refuses h c Limit refl
 
 -- an instance as it is found, against the one that is held
 pub record Found (h : Holdings) (n : ℕ) (before i : Instance) : Type 0 where
   pub is_there : instance h n ≡ Some before
   pub is_number : i.number ≡ n
+  pub name : i.name ≡ before.name
   pub reads : Stays before.row i.row
 
-pub current_row : (gs : List Held) (i : Instance) → ((current gs i).number ≡ i.number) × Stays i.row (current gs i).row
+pub record IsRead (i j : Instance) : Type 0 where
+  pub number : j.number ≡ i.number
+  pub name : j.name ≡ i.name
+  pub row : Stays i.row j.row
+
+pub current_row : (gs : Groups) (i : Instance) → IsRead i (current gs i)
 unfolding current
 current_row gs i = by (i.row.number == 0) refl
   where
-    by : (b : Bool) → (i.row.number == 0) ≡ b → ((owned_by_setting b (setting gs i) i).number ≡ i.number) × Stays i.row (owned_by_setting b (setting gs i) i).row
-    by true e = (refl, record { same = refl; owner = inl (eqb-true i.row.number 0 e) })
-    by false e = (refl, record { same = refl; owner = inr refl })
+    by : (b : Bool) → (i.row.number == 0) ≡ b → IsRead i (owned_by_setting b (setting gs i) i)
+    by true e = record { number = refl; name = refl; row = record { same = refl; owner = inl (eqb-true i.row.number 0 e) } }
+    by false e = record { number = refl; name = refl; row = record { same = refl; owner = inr refl } }
 
-pub is_found : (h : Holdings) (n : ℕ) (i : Instance) → instance h n ≡ Some i → Found h n i (current h.groups i)
+pub is_found : (h : Holdings) (n : ℕ) (i : Instance) → instance h n ≡ Some i → Found h n i (current (groups_of h) i)
 is_found h n i e =
-    let read = current_row h.groups i in
-    record { is_there = e; is_number = read.0 ∙ is_number n h.instances i e; reads = read.1 }
+    let read = current_row (groups_of h) i in
+    record { is_there = e; is_number = read.number ∙ is_number n (instances h) i e; name = read.name; reads = read.row }
 
 pub stays_on : (a b d : Row) → Stays a b → Stays b d → Stays a d
 stays_on a b d s t = record { same = t.same ∙ ap (λ (r : Row). record r { owner = d.owner; asks = d.asks; running = d.running; refresh = d.refresh }) s.same; owner = by s.owner t.owner }
@@ -188,13 +240,13 @@ stays_on a b d s t = record { same = t.same ∙ ap (λ (r : Row). record r { own
 pub by_found : (h : Holdings) (c : Command) (n : ℕ) (ask : Option Instance → Asked) → OutcomeOf h c (ask None) → ((before i : Instance) → Found h n before i → OutcomeOf h c (ask (Some i))) → OutcomeOf h c (ask (found h n))
 by_found h c n ask none some = by (instance h n) refl
   where
-    by : (o : Option Instance) → instance h n ≡ o → OutcomeOf h c (ask (option_map (current h.groups) o))
+    by : (o : Option Instance) → instance h n ≡ o → OutcomeOf h c (ask (option_map (current (groups_of h)) o))
     by None e = none
-    by (Some i) e = some i (current h.groups i) (is_found h n i e)
+    by (Some i) e = some i (current (groups_of h) i) (is_found h n i e)
 
 -- what is put in its place has the same row, but for what may change under one number
-keeps : (h : Holdings) (c : Command) (n : ℕ) (before i x : Instance) → Found h n before i → x.number ≡ i.number → Stays i.row x.row → Put h c x
-keeps h c n before i x f e s = record { number = n; before = before; is_there = f.is_there; is_number = e ∙ f.is_number; follows = stays (stays_on before.row i.row x.row f.reads s) }
+keeps : (h : Holdings) (c : Command) (n : ℕ) (before i x : Instance) → Found h n before i → x.number ≡ i.number → x.name ≡ i.name → Stays i.row x.row → Put h c x
+keeps h c n before i x f e d s = record { number = n; before = before; is_there = f.is_there; is_number = e ∙ f.is_number; name = d ∙ f.name; follows = stays (stays_on before.row i.row x.row f.reads s) }
 
 pub either : (h : Holdings) (c : Command) (b : Bool) (x y : Asked) → OutcomeOf h c x → OutcomeOf h c y → OutcomeOf h c (if b then x else y)
 either h c true x y p q = p
@@ -202,50 +254,61 @@ either h c false x y p q = q
 
 -- ---- services, instances and groups
 
-add_service : (h : Holdings) (c : Command) (name : List ℕ) (o : Option (List ℕ)) → OutcomeOf h c (asked_add_service h name o)
+add_service : (h : Holdings) (c : Command) (name : List ℕ) (o : Option Service) → OutcomeOf h c (asked_add_service h name o)
 add_service h c name (Some s) = refuses h c Exists refl
-add_service h c name None = edits h c (AddService name ∷ []) Done refl tt
+add_service h c name None = edits h c (AddService (record { name = name; groups = [] }) ∷ []) Done refl tt
 
-add_at : (h : Holdings) (c : Command) (name : List ℕ) (o : Option Instance) → OutcomeOf h c (added_at h name o)
+join : (h : Holdings) (c : Command) (name : List ℕ) → named h name ≡ None → OutcomeOf h c (accepted h (joining h name) (Made h.next_instance))
 unfolding installed
-add_at h c name (Some i) = refuses h c Exists refl
-add_at h c name None =
-    either h c (nat_le h.next_instance greatest_instance) _ _ (accepts h c (AddInstance (new_instance h name) ∷ NextInstance (h.next_instance + 1) ∷ []) (Made h.next_instance) refl (joined name refl refl) (kept refl refl)) (refuses h c Limit refl)
+join h c name none =
+    let there : bare (changed h (AddInstance (new_entry h name))).instances ≡ put_in by_instance (new_instance h name) (instances h) = bare_put (new_entry h name) h.instances in
+    accepts h c (joining h name) (Made h.next_instance) refl (joined name there refl)
+    (λ b. index_of _ _ (installed h (joining h name)) there refl (index_added (new_instance h name) (instances h) h.names b.indexed (b.instances h.next_instance (omega arith)) (unnamed h name b.indexed none))) (kept refl refl)
+
+add_at : (h : Holdings) (c : Command) (name : List ℕ) (o : Option Instance) → named h name ≡ o → OutcomeOf h c (added_at h name o)
+add_at h c name (Some i) e = refuses h c Exists refl
+add_at h c name None e = either h c (nat_le h.next_instance greatest_instance) _ _ (join h c name e) (refuses h c Limit refl)
 
 add_named : (h : Holdings) (c : Command) (o : Option (List ℕ)) → OutcomeOf h c (added_named h o)
 add_named h c None = refuses h c Limit refl
-add_named h c (Some name) = add_at h c name (named h name)
+add_named h c (Some name) = add_at h c name (named h name) refl
 
-add_instance : (h : Holdings) (c : Command) (name : List ℕ) (o : Option (List ℕ)) → OutcomeOf h c (asked_add_instance h name o)
+add_instance : (h : Holdings) (c : Command) (name : List ℕ) (o : Option Service) → OutcomeOf h c (asked_add_instance h name o)
 add_instance h c name None = refuses h c NoSuch refl
 add_instance h c name (Some s) = add_named h c _
 
-delete_service : (h : Holdings) (c : Command) (o : Option (List ℕ)) → OutcomeOf h c (asked_delete_service h o)
+delete_service : (h : Holdings) (c : Command) (o : Option Service) → OutcomeOf h c (asked_delete_service h o)
 delete_service h c None = refuses h c NoSuch refl
-delete_service h c (Some s) = either h c (list_any (is_instance_of s) h.instances) _ _ (refuses h c InUse refl) (edits h c (DropGroups (owners.Service s) ∷ DropService s ∷ []) Done refl tt)
+delete_service h c (Some s) = either h c (list_any (is_instance_of s.name) (instances h)) _ _ (refuses h c InUse refl) (edits h c (DropService s.name ∷ []) Done refl tt)
+
+leave : (h : Holdings) (n : ℕ) (before i : Instance) → Found h n before i → OutcomeOf h (commands.Edit (asked_for.DeleteInstance n)) (accepted h (leaving i) Done)
+unfolding installed
+leave h n before i f =
+    let gone_is : bare (changed h (DropInstance i.number)).instances ≡ without by_instance i.number (instances h) = bare_without i.number h.instances in
+    let there : instance h i.number ≡ Some before = ap (instance h) f.is_number ∙ f.is_there in
+    accepts h (commands.Edit (asked_for.DeleteInstance n)) (leaving i) Done refl (left i.number gone_is refl)
+    (λ b. index_of (without by_instance i.number (instances h)) _ (installed h (leaving i)) gone_is (ap (λ (name : List ℕ). without by_name name h.names) f.name) (index_left i.number before (instances h) h.names b.indexed there))
+    (gone i.number (ap (λ (m : ℕ). commands.Edit (asked_for.DeleteInstance m)) (sym f.is_number)) refl refl)
 
 delete_instance : (h : Holdings) (n : ℕ) (before i : Instance) → Found h n before i → OutcomeOf h (commands.Edit (asked_for.DeleteInstance n)) (asked_delete_instance h (Some i))
-unfolding installed
 delete_instance h n before i f =
     let c : Command = commands.Edit (asked_for.DeleteInstance n) in
-    either h c (is_in_use i.row) _ _ (refuses h c InUse refl)
-    (accepts h c (DropGroups (owners.Instance i.number) ∷ DropSnapshots i.number ∷ DropInstance i.number ∷ []) Done refl (left i.number refl refl)
-    (gone i.number (ap (λ (m : ℕ). commands.Edit (asked_for.DeleteInstance m)) (sym f.is_number)) refl refl))
+    either h c (is_in_use i.row) _ _ (refuses h c InUse refl) (leave h n before i f)
 
 guards : (h : Holdings) (c : Command) (owner : Owner) (name : List ℕ) (a : Asked) → OutcomeOf h c a → OutcomeOf h c (guarded h owner name a)
 guards h c owner name a o = either h c (not (is_there h owner)) _ _ (refuses h c NoSuch refl) (either h c (is_made owner name) _ _ (refuses h c InUse refl) o)
 
 add_group : (h : Holdings) (c : Command) (owner : Owner) (g : GroupRecord) (o : Option GroupRecord) → OutcomeOf h c (added_group h owner g o)
 add_group h c owner g (Some there) = refuses h c Exists refl
-add_group h c owner g None = either h c (has_room h owner g.name g.name) _ _ (edits h c (PutGroup (record { owner = owner; group = g }) ∷ []) Done refl tt) (refuses h c Limit refl)
+add_group h c owner g None = either h c (has_room h owner g.name g.name) _ _ (edits h c (group_put h owner g ∷ []) Done refl tt) (refuses h c Limit refl)
 
 delete_group : (h : Holdings) (c : Command) (owner : Owner) (name : List ℕ) (o : Option GroupRecord) → OutcomeOf h c (deleted_group h owner name o)
 delete_group h c owner name None = refuses h c NoSuch refl
-delete_group h c owner name (Some g) = edits h c (DropGroup owner name ∷ []) Done refl tt
+delete_group h c owner name (Some g) = edits h c (group_dropped h owner name ∷ []) Done refl tt
 
 put_denied : (h : Holdings) (c : Command) (owner : Owner) (r : Result GroupRecord GroupFault) → OutcomeOf h c (put_or_denied h owner r)
 put_denied h c owner (Err fault) = refuses h c (Denied fault) refl
-put_denied h c owner (Ok g) = edits h c (PutGroup (record { owner = owner; group = g }) ∷ []) Done refl tt
+put_denied h c owner (Ok g) = edits h c (group_put h owner g ∷ []) Done refl tt
 
 change_group : (h : Holdings) (c : Command) (owner : Owner) (change : PropertyChange) (o : Option GroupRecord) → OutcomeOf h c (changed_group h owner change o)
 change_group h c owner change None = refuses h c NoSuch refl
@@ -253,11 +316,11 @@ change_group h c owner change (Some g) = put_denied h c owner (property_changed 
 
 enable_for_good : (h : Holdings) (c : Command) (n : ℕ) (r : Result GroupRecord GroupFault) → OutcomeOf h c (enabled_for_good h n r)
 enable_for_good h c n (Err fault) = refuses h c (Denied fault) refl
-enable_for_good h c n (Ok g) = either h c _ _ _ (edits h c (DropGroup (owners.Instance n) general_ovr ∷ PutGroup (record { owner = owners.Instance n; group = g }) ∷ []) Done refl tt) (refuses h c Limit refl)
+enable_for_good h c n (Ok g) = either h c _ _ _ (edits h c (enabling_of h (owners.Instance n) g ∷ []) Done refl tt) (refuses h c Limit refl)
 
 enable_for_now : (h : Holdings) (c : Command) (n : ℕ) (r : Result GroupRecord GroupFault) → OutcomeOf h c (enabled_for_now h n r)
 enable_for_now h c n (Err fault) = refuses h c (Denied fault) refl
-enable_for_now h c n (Ok g) = either h c _ _ _ (edits h c (PutGroup (record { owner = owners.Instance n; group = g }) ∷ []) Done refl tt) (refuses h c Limit refl)
+enable_for_now h c n (Ok g) = either h c _ _ _ (edits h c (group_put h (owners.Instance n) g ∷ []) Done refl tt) (refuses h c Limit refl)
 
 enable : (h : Holdings) (c : Command) (n : ℕ) (b temporary : Bool) (o : Option Instance) → OutcomeOf h c (asked_enable h n b temporary o)
 enable h c n b temporary None = refuses h c NoSuch refl
@@ -267,7 +330,7 @@ enable h c n b true (Some i) = enable_for_now h c n _
 -- ---- what is asked of an instance
 
 asks : (h : Holdings) (c : Command) (n : ℕ) (before i : Instance) (bit : ℕ) → Found h n before i → OutcomeOf h c (accepted h (PutInstance (asking i bit) ∷ []) Done)
-asks h c n before i bit f = puts h c (asking i bit) Done refl (keeps h c n before i (asking i bit) f refl (record { same = refl; owner = inr refl }))
+asks h c n before i bit f = puts h c (asking i bit) Done refl (keeps h c n before i (asking i bit) f refl refl (record { same = refl; owner = inr refl }))
 
 asks_if : (h : Holdings) (c : Command) (n : ℕ) (before i : Instance) (b : Bool) (bit : ℕ) → Found h n before i → OutcomeOf h c (asked_if h b i bit)
 asks_if h c n before i true bit f = asks h c n before i bit f
@@ -316,11 +379,11 @@ moving : (h : Holdings) (n : ℕ) (before i : Instance) (owner : List ℕ) → F
 moving h n before i owner f = by (may_be_moved i.row) refl
   where
     by : (b : Bool) → may_be_moved i.row ≡ b
-        → OutcomeOf h (commands.Edit (asked_for.Refresh n)) (if not b then refused InUse else if not (nat_lt i.row.number greatest_number) then refused Limit else with_snapshot h i (PutInstance (record i { row = moved_row i.row h.next_snapshot owner }) ∷ []) Done)
+        → OutcomeOf h (commands.Edit (asked_for.Refresh n)) (if not b then refused InUse else if not (nat_lt i.row.number greatest_number) then refused Limit else with_snapshot h i (PutInstance (moved_instance h i owner) ∷ []) Done)
     by false e = refuses h (commands.Edit (asked_for.Refresh n)) InUse refl
     by true e =
         let c : Command = commands.Edit (asked_for.Refresh n) in
-        let x : Instance = record i { row = moved_row i.row h.next_snapshot owner } in
+        let x : Instance = moved_instance h i owner in
         let idle = idle_by i.row.state i.row.next i.row.live i.row.side e in
         let from : (i.row.state ≡ Uninitialized) ⊎ (i.row.state ≡ Disabled) = may_move_from i.row.state _ _ _ e in
         let held : (before.row.state ≡ Uninitialized) ⊎ (before.row.state ≡ Disabled) = subst (λ (s : State). (s ≡ Uninitialized) ⊎ (s ≡ Disabled)) (ap (λ (r : Row). r.state) f.reads.same) from in
@@ -330,6 +393,7 @@ moving h n before i owner f = by (may_be_moved i.row) refl
           before = before;
           is_there = f.is_there;
           is_number = f.is_number;
+          name = f.name;
           follows = moves refl held (record {
             number = ap (λ (r : Row). r.number + 1) f.reads.same;
             state = refl;
@@ -345,27 +409,18 @@ moving h n before i owner f = by (may_be_moved i.row) refl
 refreshing : (h : Holdings) (n : ℕ) (before i : Instance) (o : Option (List ℕ)) → Found h n before i → OutcomeOf h (commands.Edit (asked_for.Refresh n)) (refreshed h i o)
 refreshing h n before i (Some owner) f = moving h n before i owner f
 refreshing h n before i None f =
-    let x : Instance = record i { row = refreshed_row i.row h.next_snapshot (h.revision + 1) (runs i.row.state) } in
-    snaps h (commands.Edit (asked_for.Refresh n)) i x [] Done refl (keeps h _ n before i x f refl (refreshed_stays i.row h.next_snapshot (h.revision + 1) (runs i.row.state))) tt
+    let x : Instance = refreshed_instance h i in
+    snaps h (commands.Edit (asked_for.Refresh n)) i x [] Done refl (keeps h _ n before i x f refl refl (refreshed_stays i.row h.next_snapshot (h.revision + 1) (runs i.row.state))) tt
 
-regroups : (owner : Owner) (gs : List GroupRecord) (cs : List Change) → Elsewhere cs → Elsewhere (map (λ (g : GroupRecord). PutGroup (record { owner = owner; group = g })) gs ++ cs)
-regroups owner [] cs e = e
-regroups owner (g ∷ gs) cs e = regroups owner gs cs e
-
-regroups_last : (owner : Owner) (gs : List GroupRecord) → Elsewhere (map (λ (g : GroupRecord). PutGroup (record { owner = owner; group = g })) gs)
-regroups_last owner [] = tt
-regroups_last owner (g ∷ gs) = regroups_last owner gs
-
-reverting_to : (h : Holdings) (c : Command) (n : ℕ) (before i : Instance) (ss gs : List GroupRecord) → Found h n before i → OutcomeOf h c (reverted_to h i ss gs)
-reverting_to h c n before i ss gs f =
+reverts_to : (h : Holdings) (c : Command) (n : ℕ) (before i : Instance) (ss gs : List GroupRecord) → Found h n before i → OutcomeOf h c (reverted_to h i ss gs)
+reverts_to h c n before i ss gs f =
     let x : Instance = record i { previous = Some h.next_snapshot } in
     either h c _ _ _ (refuses h c Limit refl)
-    (snaps h c i x (regrouped (service_owner i) ss ++ regrouped (owners.Instance i.number) gs) Done refl (keeps h c n before i x f refl (record { same = refl; owner = inr refl }))
-    (regroups (service_owner i) ss (regrouped (owners.Instance i.number) gs) (regroups_last (owners.Instance i.number) gs)))
+    (snaps h c i x (PutGroups (service_owner i) ss ∷ PutGroups (owners.Instance i.number) gs ∷ []) Done refl (keeps h c n before i x f refl refl (record { same = refl; owner = inr refl })) tt)
 
-reverting : (h : Holdings) (c : Command) (n : ℕ) (before i : Instance) (o : Option Snapshot) → Found h n before i → OutcomeOf h c (reverted h i o)
-reverting h c n before i None f = refuses h c NoSuch refl
-reverting h c n before i (Some s) f = reverting_to h c n before i (restored (groups_of h (service_owner i)) s.service_groups) (restored (groups_of h (owners.Instance i.number)) s.instance_groups) f
+reverts : (h : Holdings) (c : Command) (n : ℕ) (before i : Instance) (o : Option Snapshot) → Found h n before i → OutcomeOf h c (reverted h i o)
+reverts h c n before i None f = refuses h c NoSuch refl
+reverts h c n before i (Some s) f = reverts_to h c n before i (restored (groups_of h (service_owner i)) s.service_groups) (restored (groups_of h (owners.Instance i.number)) s.instance_groups) f
 
 edit : (h : Holdings) (e : Edit) → OutcomeOf h (commands.Edit e) (asked_edit h e)
 unfolding asked_edit
@@ -378,10 +433,10 @@ edit h (asked_for.DeleteGroup owner name) = guards h _ owner name _ (delete_grou
 edit h (asked_for.Property owner name change) = guards h _ owner name _ (change_group h _ owner change (group h owner name))
 edit h (asked_for.Enable n b temporary) = enable h _ n b temporary (found h n)
 edit h (asked_for.Restart n) = by_found h _ n (asked_restart h) (refuses h _ NoSuch refl) (λ (before i : Instance) f. asks_if h _ n before i (runs i.row.state) 16 f)
-edit h (asked_for.Refresh n) = by_found h _ n (asked_refresh h) (refuses h _ NoSuch refl) (λ (before i : Instance) f. refreshing h n before i (target_by (setting h.groups i) i.row.owner) f)
+edit h (asked_for.Refresh n) = by_found h _ n (asked_refresh h) (refuses h _ NoSuch refl) (λ (before i : Instance) f. refreshing h n before i (target_by (setting (groups_of h) i) i.row.owner) f)
 edit h (asked_for.Clear n) = by_found h _ n (asked_clear h) (refuses h _ NoSuch refl) (λ (before i : Instance) f. asks_where h _ n before i (same_state i.row.state Maintenance || same_state i.row.state Degraded) 32 f)
 edit h (asked_for.Mark n mark) = by_found h _ n (asked_mark h mark) (refuses h _ NoSuch refl) (marking h _ n mark)
-edit h (asked_for.Revert n name) = by_found h _ n (asked_revert h name) (refuses h _ NoSuch refl) (λ (before i : Instance) f. reverting h _ n before i (named_snapshot h (number_of i name)) f)
+edit h (asked_for.Revert n name) = by_found h _ n (asked_revert h name) (refuses h _ NoSuch refl) (λ (before i : Instance) f. reverts h _ n before i (named_snapshot h (number_of i name)) f)
 
 -- ---- proposals
 
@@ -393,15 +448,15 @@ goes_from before i after number state last g =
       runs_kept = subst (λ (n : ℕ). n ≤ after.last) last g.runs_kept;
     }
 
-steps_to : (h : Holdings) (p : Proposal) (before i x : Instance) → Found h p.instance before i → x.number ≡ i.number → GoesOn i.row x.row → Put h (commands.Propose p) x
-steps_to h p before i x f e g = record { number = p.instance; before = before; is_there = f.is_there; is_number = e ∙ f.is_number; follows = steps p refl refl (goes_from before.row i.row x.row (ap (λ (r : Row). r.number) f.reads.same) (ap (λ (r : Row). r.state) f.reads.same) (ap (λ (r : Row). r.last) f.reads.same) g) }
+steps_to : (h : Holdings) (p : Proposal) (before i x : Instance) → Found h p.instance before i → x.number ≡ i.number → x.name ≡ i.name → GoesOn i.row x.row → Put h (commands.Propose p) x
+steps_to h p before i x f e d g = record { number = p.instance; before = before; is_there = f.is_there; is_number = e ∙ f.is_number; name = d ∙ f.name; follows = steps p refl refl (goes_from before.row i.row x.row (ap (λ (r : Row). r.number) f.reads.same) (ap (λ (r : Row). r.state) f.reads.same) (ap (λ (r : Row). r.last) f.reads.same) g) }
 
 grants : (h : Holdings) (p : Proposal) (before i : Instance) (row : Row) (b : Bool) → Found h p.instance before i → GoesOn i.row row → OutcomeOf h (commands.Propose p) (granted h i row b)
 grants h p before i row true f g =
     let c : Command = commands.Propose p in
-    let new : Row = record row { running = Some h.next_snapshot } in
-    snaps h c i (with_row i new) [] (Granted new) refl (steps_to h p before i (with_row i new) f refl (record { along = g.along; counted = g.counted; runs_kept = g.runs_kept })) tt
-grants h p before i row false f g = puts h (commands.Propose p) (with_row i row) (Granted row) refl (steps_to h p before i (with_row i row) f refl g)
+    let new : Row = with_running h row in
+    snaps h c i (with_row i new) [] (Granted new) refl (steps_to h p before i (with_row i new) f refl refl (record { along = g.along; counted = g.counted; runs_kept = g.runs_kept })) tt
+grants h p before i row false f g = puts h (commands.Propose p) (with_row i row) (Granted row) refl (steps_to h p before i (with_row i row) f refl refl g)
 
 answers_step : (h : Holdings) (p : Proposal) (before i : Instance) (r : Result Row StepFault) → Found h p.instance before i → applied i.row p (h.revision + 1) ≡ r → OutcomeOf h (commands.Propose p) (step_answer h i r)
 answers_step h p before i (Err fault) f e = refuses h (commands.Propose p) (Stale (whys.Step fault) (Some i.row)) refl
@@ -422,54 +477,121 @@ answers h p = by_found h (commands.Propose p) p.instance (answer_at h p) (refuse
 
 launches : (h : Holdings) (c : Command) (name : List ℕ) → OutcomeOf h c (asked_launch h name)
 unfolding asked_launch
-launches h c name = either h c (nat_lt (launch_of h name) greatest) _ _ (edits h c (PutLaunch (record { restarter = name; count = launch_of h name + 1 }) ∷ []) (Made (launch_of h name + 1)) refl tt) (refuses h c Limit refl)
+launches h c name = either h c (nat_lt (launch_of h name) greatest) _ _ (edits h c (PutLaunch (next_launch h name) ∷ []) (Made (launch_of h name + 1)) refl tt) (refuses h c Limit refl)
 
-relaunches : (ls : List Launch) (cs : List Change) → Elsewhere cs → Elsewhere (map relaunched ls ++ cs)
+pub relaunches : (ls : List Launch) (cs : List Change) → Elsewhere cs → Elsewhere (map relaunched ls ++ cs)
 relaunches [] cs e = e
 relaunches (l ∷ ls) cs e = relaunches ls cs e
 
-drops : (gs : List Held) → Elsewhere (map dropped gs)
-drops [] = tt
-drops (g ∷ gs) = drops gs
+pub services_keep : (ss : List Service) (cs : List Change) → Elsewhere cs → Elsewhere (kept_of_services ss ++ cs)
+services_keep [] cs e = e
+services_keep (s ∷ ss) cs e = by (has_dropped s.groups) (services_keep ss cs e)
+  where
+    by : (b : Bool) → Elsewhere (kept_of_services ss ++ cs) → Elsewhere (map service_kept (if b then s ∷ filter (λ (t : Service). has_dropped t.groups) ss else filter (λ (t : Service). has_dropped t.groups) ss) ++ cs)
+    by true ih = ih
+    by false ih = ih
+
+pub instances_keep : (es : List InstanceEntry) → Elsewhere (kept_of_instances es)
+instances_keep [] = tt
+instances_keep (e ∷ es) = by (has_dropped e.groups) (instances_keep es)
+  where
+    by : (b : Bool) → Elsewhere (kept_of_instances es) → Elsewhere (map instance_kept (if b then e ∷ filter (λ (t : InstanceEntry). has_dropped t.groups) es else filter (λ (t : InstanceEntry). has_dropped t.groups) es))
+    by true ih = ih
+    by false ih = ih
 
 -- each instance is put in its place
-pub each_put : (f : Instance → Instance) (k : Holdings) (is : List Instance) → Has (put_each f is k.instances) k.next_instance k.snapshots k.next_snapshot (installed k (map (λ (i : Instance). PutInstance (f i)) is))
+pub each_put : (f : Instance → Instance) (k : Holdings) (is : List Instance)
+    → Has (put_each f is (instances k)) k.next_instance k.snapshots k.next_snapshot k.names (installed k (map (λ (i : Instance). PutInstance (f i)) is))
 unfolding installed
-each_put f k [] = record { instances = refl; next_instance = refl; snapshots = refl; next_snapshot = refl }
-each_put f k (i ∷ is) = each_put f (changed k (PutInstance (f i))) is
+each_put f k [] = record { instances = refl; next_instance = refl; snapshots = refl; next_snapshot = refl; names = refl }
+each_put f k (i ∷ is) =
+    let m = each_put f (changed k (PutInstance (f i))) is in
+    record {
+      instances = m.instances ∙ ap (put_each f is) (bare_instance (f i) k.instances);
+      next_instance = m.next_instance;
+      snapshots = m.snapshots;
+      next_snapshot = m.next_snapshot;
+      names = m.names;
+    }
 
-each_behind : (f : Instance → Instance) (h : Holdings) (cs : List Change) (is : List Instance) → Elsewhere cs → Has (put_each f is h.instances) h.next_instance h.snapshots h.next_snapshot (installed h (cs ++ map (λ (i : Instance). PutInstance (f i)) is))
+each_behind : (f : Instance → Instance) (h : Holdings) (cs : List Change) (is : List Instance) → Elsewhere cs
+    → Has (put_each f is (instances h)) h.next_instance h.snapshots h.next_snapshot h.names (installed h (cs ++ map (λ (i : Instance). PutInstance (f i)) is))
 each_behind f h cs is out =
     let m = elsewhere h cs out in
     let e = each_put f (installed h cs) is in
-    subst (λ (k : Holdings). Has (put_each f is h.instances) h.next_instance h.snapshots h.next_snapshot k) (sym (installed_append h cs (map (λ (i : Instance). PutInstance (f i)) is)))
+    subst (λ (k : Holdings). Has (put_each f is (instances h)) h.next_instance h.snapshots h.next_snapshot h.names k) (sym (installed_append h cs (map (λ (i : Instance). PutInstance (f i)) is)))
     (record {
       instances = e.instances ∙ ap (put_each f is) m.instances;
       next_instance = e.next_instance ∙ m.next_instance;
       snapshots = e.snapshots ∙ m.snapshots;
       next_snapshot = e.next_snapshot ∙ m.next_snapshot;
+      names = e.names ∙ m.names;
     })
+
+-- what each instance of a list is put over
+abbrev pub each_over : (Instance → Instance) → Option Instance → Option Instance → Option Instance
+each_over f None o = o
+each_over f (Some i) o = option_map (in_place (f i)) o
+
+each_once : (f : Instance → Instance) (b : Bool) (i : Instance) (o p : Option Instance) → (b ≡ true → o ≡ None) → each_over f o (cond b (option_map (in_place (f i)) p) p) ≡ each_over f (cond b (Some i) o) p
+each_once f true i o p none = rw (none refl) refl
+each_once f false i o p none = refl
+
+pub at_each : (gs : Groups) (n : ℕ) (is xs : List Instance) → AreApart is → lookup by_instance (put_each (booted gs) is xs) n ≡ each_over (booted gs) (lookup by_instance is n) (lookup by_instance xs n)
+at_each gs n [] xs a = refl
+at_each gs n (i ∷ is) xs a =
+    let none : is_eq (nat_cmp i.number n) ≡ true → lookup by_instance is n ≡ None = λ e. subst (λ (m : ℕ). lookup by_instance is m ≡ None) (by_instance.exact i.number n (equal_from_test (nat_cmp i.number n) e)) a.0 in
+    at_each gs n is (put_over (booted gs i) xs) a.1
+    ∙ (ap (λ (o : Option Instance). each_over (booted gs) (lookup by_instance is n) o) (at_put n (booted gs i) xs)
+    ∙ each_once (booted gs) (is_eq (nat_cmp i.number n)) i (lookup by_instance is n) (lookup by_instance xs n) none)
+
+-- each over itself
+over_itself : (gs : Groups) (o : Option Instance) → each_over (booted gs) o o ≡ option_map (booted gs) o
+over_itself gs None = refl
+over_itself gs (Some i) = refl
+
+pub apart : (h : Holdings) → IsNumbered h → AreApart (instances h)
+apart h b = apart_from_rises (instances h) (rises_bare h.instances b.ordered.instances)
+
+-- once all have begun anew
+pub booted_at : (h : Holdings) (gs : Groups) (n : ℕ) → IsNumbered h → lookup by_instance (put_each (booted gs) (instances h) (instances h)) n ≡ option_map (booted gs) (instance h n)
+booted_at h gs n b = at_each gs n (instances h) (instances h) (apart h b) ∙ over_itself gs (instance h n)
+
+index_booted : (h : Holdings) (gs : Groups) → IsNumbered h → IsIndexed (put_each (booted gs) (instances h) (instances h)) h.names
+index_booted h gs b =
+    index_same (instances h) (put_each (booted gs) (instances h) (instances h)) h.names
+    (names_all (booted gs) (instances h) (put_each (booted gs) (instances h) (instances h)) (λ i. refl) (λ n. booted_at h gs n b)) b.indexed
 
 boots_all : (h : Holdings) → OutcomeOf h commands.Boot (asked_boot h)
 unfolding asked_boot
 boots_all h =
-    let front : List Change = map relaunched h.launches ++ map dropped (filter (λ (g : Held). g.group.non_persistent) h.groups) in
-    let out : Elsewhere front = relaunches h.launches _ (drops (filter (λ (g : Held). g.group.non_persistent) h.groups)) in
-    let m = each_behind (booted (persistent h.groups)) h front h.instances out in
-    either h commands.Boot (list_any is_last_launch h.launches || list_any is_last_number h.instances) _ _ (refuses h commands.Boot Limit refl)
-    (accepts h commands.Boot (front ++ map (λ (i : Instance). PutInstance (booted (persistent h.groups) i)) h.instances) Done refl (each refl (persistent h.groups) m.instances m.next_instance) (kept m.snapshots m.next_snapshot))
+    let gs : Groups = persistent (groups_of h) in
+    let front : List Change = map relaunched h.launches ++ (kept_of_services h.services ++ kept_of_instances h.instances) in
+    let out : Elsewhere front = relaunches h.launches _ (services_keep h.services _ (instances_keep h.instances)) in
+    let m = each_behind (booted gs) h front (instances h) out in
+    either h commands.Boot (may_not_boot h) _ _ (refuses h commands.Boot Limit refl)
+    (accepts h commands.Boot (booting h) Done refl (each refl gs m.instances m.next_instance)
+    (λ b. index_of (put_each (booted gs) (instances h) (instances h)) h.names (installed h (booting h)) m.instances m.names (index_booted h gs b)) (kept m.snapshots m.next_snapshot))
 
 -- ---- the whole
 
+whole : (h : Holdings) (c : Command) → OutcomeOf h c (asked h c)
+unfolding asked
+whole h (commands.Edit e) = edit h e
+whole h (commands.Propose p) = answers h p
+whole h (commands.Launch name) = launches h (commands.Launch name) name
+whole h commands.Boot = boots_all h
+
 pub outcome : (h : Holdings) (c : Command) → Outcome h c (next h c).0 (next h c).1
-unfolding next asked
-outcome h (commands.Edit e) = edit h e
-outcome h (commands.Propose p) = answers h p
-outcome h (commands.Launch name) = launches h (commands.Launch name) name
-outcome h commands.Boot = boots_all h
+unfolding next
+outcome h c = (whole h c).0
+
+-- a refusal has no changes
+pub no_changes : (h : Holdings) (c : Command) → is_refusal (asked h c).reply ≡ true → (asked h c).changes ≡ []
+no_changes h c e = (whole h c).1 e
 
 abbrev gives : Holdings → Asked → Holdings × Reply
-gives h a = (installed h a.0, a.1)
+gives h a = (installed h a.changes, a.reply)
 
 -- a proposal that was granted last
 again_by : (h : Holdings) (p : Proposal) (i : Instance) (b : Bool) → b ≡ true → gives h (if b then refused (Granted i.row) else fresh_answer h i p (stale h i.row p)) ≡ (h, Granted i.row)
@@ -486,9 +608,6 @@ granted_again h p i e again = ap (λ (o : Option Instance). gives h (answer_at h
 unchanged_by : (h : Holdings) (c : Command) (k : Holdings) (r : Reply) → Outcome h c k r → is_refusal r ≡ true → k ≡ h
 unchanged_by h c k r (nothing e a) refusal = e
 unchanged_by h c k r (goes g) refusal = absurd (no_both (is_refusal r) refusal g.reply)
-  where
-    no_both : (b : Bool) → b ≡ true → b ≡ false → ⊥
-    no_both b e f = cc
 
 pub unchanged : (h : Holdings) (c : Command) → is_refusal (next h c).1 ≡ true → (next h c).0 ≡ h
 unchanged h c refusal = unchanged_by h c (next h c).0 (next h c).1 (outcome h c) refusal
@@ -502,9 +621,6 @@ one_revision h c = one_by h c (next h c).0 (next h c).1 (outcome h c)
 
 next_by : (h : Holdings) (c : Command) (k : Holdings) (r : Reply) → Outcome h c k r → is_accepted r ≡ true → k.revision ≡ h.revision + 1
 next_by h c k r (nothing e a) yes_it_is = absurd (no_both (is_accepted r) yes_it_is a)
-  where
-    no_both : (b : Bool) → b ≡ true → b ≡ false → ⊥
-    no_both b e f = cc
 next_by h c k r (goes g) yes_it_is = g.revision
 
 pub next_revision : (h : Holdings) (c : Command) → is_accepted (next h c).1 ≡ true → (next h c).0.revision ≡ h.revision + 1

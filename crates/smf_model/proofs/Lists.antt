@@ -1,7 +1,7 @@
 -- Lists changed at the first place that passes a test.
 use Rattle.std.proofs.Common.{◌≡◌, ℕ, suc, ◌+◌, ◌<◌, ◌≤◌, List, [], ◌∷◌, ◌++◌, length, Bool, true, false, cond, nat_lt, Some, None, position, slice_set, refl, ◌∙◌, ap, arith, ltb-true, ltb-false}
 use Rattle.std.specs.List.{position_or_len, AllZip, each_same}
-use Rattle.smf_model.specs.Look.{placed, replaced}
+use Rattle.smf_model.specs.Look.{replaced}
 
 replaced_by : {X : Type 0} (v : Bool) (test : X → Bool) (x y : X) (ys : List X) → test y ≡ v → (position_or_len test ys < length ys → replaced test x ys ≡ slice_set ys (position_or_len test ys) x)
     → position_or_len test (y ∷ ys) < length (y ∷ ys) → cond v (x ∷ ys) (y ∷ replaced test x ys) ≡ slice_set (y ∷ ys) (position_or_len test (y ∷ ys)) x
@@ -23,22 +23,6 @@ replaced_past : {X : Type 0} (test : X → Bool) (x : X) (xs : List X) → lengt
 replaced_past test x [] high = refl
 replaced_past test x (y ∷ ys) high = let past = past_by (test y) test y ys refl high in rw past.0 (ap (λ l. y ∷ l) (replaced_past test x ys past.1))
 
-placed_by : {X : Type 0} (v : Bool) (test : X → Bool) (x y : X) (ys : List X) → test y ≡ v → (position_or_len test ys < length ys → placed test x ys ≡ slice_set ys (position_or_len test ys) x)
-    → position_or_len test (y ∷ ys) < length (y ∷ ys) → cond v (x ∷ ys) (y ∷ placed test x ys) ≡ slice_set (y ∷ ys) (position_or_len test (y ∷ ys)) x
-placed_by true test x y ys e h low = rw e refl
-placed_by false test x y ys e h low =
-    let next : 1 + position_or_len test ys ≡ suc (position_or_len test ys) = omega arith in
-    let less : 1 + position_or_len test ys < length (y ∷ ys) = rw e at low in
-    rw (e, next) (ap (λ l. y ∷ l) (h (omega arith)))
-
-placed_here : {X : Type 0} (test : X → Bool) (x : X) (xs : List X) → position_or_len test xs < length xs → placed test x xs ≡ slice_set xs (position_or_len test xs) x
-placed_here test x [] low = absurd (omega arith)
-placed_here test x (y ∷ ys) low = placed_by (test y) test x y ys refl (placed_here test x ys) low
-
-placed_past : {X : Type 0} (test : X → Bool) (x : X) (xs : List X) → length xs ≤ position_or_len test xs → placed test x xs ≡ xs ++ x ∷ []
-placed_past test x [] high = refl
-placed_past test x (y ∷ ys) high = let past = past_by (test y) test y ys refl high in rw past.0 (ap (λ l. y ∷ l) (placed_past test x ys past.1))
-
 found_at : (v : Bool) (p n k : ℕ) → nat_lt p n ≡ v → cond v (Some p) None ≡ Some k → (p < n) × (p ≡ k)
 found_at true p n k e h = (ltb-true p n e, cc)
 found_at false p n k e h = cc
@@ -53,12 +37,6 @@ replaced_at test x xs k h = let at = found_at _ (position_or_len test xs) (lengt
 
 pub replaced_none : {X : Type 0} (test : X → Bool) (x : X) (xs : List X) → position test xs ≡ None → replaced test x xs ≡ xs
 replaced_none test x xs h = replaced_past test x xs (found_nowhere _ (position_or_len test xs) (length xs) refl h)
-
-pub placed_at : {X : Type 0} (test : X → Bool) (x : X) (xs : List X) (k : ℕ) → position test xs ≡ Some k → placed test x xs ≡ slice_set xs k x
-placed_at test x xs k h = let at = found_at _ (position_or_len test xs) (length xs) k refl h in placed_here test x xs at.0 ∙ ap (λ i. slice_set xs i x) at.1
-
-pub placed_none : {X : Type 0} (test : X → Bool) (x : X) (xs : List X) → position test xs ≡ None → placed test x xs ≡ xs ++ x ∷ []
-placed_none test x xs h = placed_past test x xs (found_nowhere _ (position_or_len test xs) (length xs) refl h)
 
 -- where a clone equals its source, the clones of a list are the list
 pub same_items : {X : Type 0} (xs ys : List X) → AllZip (λ x y. y ≡ x) xs ys → ys ≡ xs

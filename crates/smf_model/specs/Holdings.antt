@@ -1,17 +1,18 @@
 -- What a repository holds.
 use Rattle.std.specs.Prelude.{ℕ, List}
-use Rattle.smf_model.specs.declared.held.Instance.{Instance}
+use Rattle.smf_model.specs.declared.held.InstanceEntry.{InstanceEntry}
+use Rattle.smf_model.specs.declared.held.InstanceName.{InstanceName}
 use Rattle.smf_model.specs.declared.held.Launch.{Launch}
-use Rattle.smf_model.specs.declared.held.Held.{Held}
+use Rattle.smf_model.specs.declared.held.Service.{Service}
 use Rattle.smf_model.specs.declared.held.Snapshot.{Snapshot}
 
--- services by name; instances in number order; groups with their owners; snapshots in number order; launches by
--- restarter; and the numbers that come next, none of which was ever given
+-- services by name and instances by number, each with its groups by name; the numbers of instances by their names;
+-- snapshots by number; launches by restarter; and the numbers that come next, none of which was ever given
 pub record Holdings : Type 0 where
   pub revision : ℕ
-  pub services : List (List ℕ)
-  pub instances : List Instance
-  pub groups : List Held
+  pub services : List Service
+  pub instances : List InstanceEntry
+  pub names : List InstanceName
   pub snapshots : List Snapshot
   pub launches : List Launch
   pub next_instance : ℕ

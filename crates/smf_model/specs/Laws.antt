@@ -9,9 +9,11 @@ use Rattle.smf_model.specs.declared.command.Command.TheVariants as commands
 use Rattle.smf_model.specs.declared.command.Edit.TheVariants as asked_for
 use Rattle.smf_model.specs.declared.command.Reply.{Reply}
 use Rattle.smf_model.specs.declared.command.Reply.TheVariants.{Made, Granted, Done}
+use Rattle.smf_fmri.specs.ByKey.{Rises, lookup}
 use Rattle.smf_model.specs.declared.held.Instance.{Instance}
+use Rattle.smf_model.specs.declared.held.InstanceName.{InstanceName}
 use Rattle.smf_model.specs.Holdings.{Holdings}
-use Rattle.smf_model.specs.Look.{has_number, instance, snapshot}
+use Rattle.smf_model.specs.Look.{bare, by_entry, by_instance, by_launch, by_name, by_service, by_snapshot, has_number, instance, snapshot}
 use Rattle.smf_model.specs.Setting.{startd}
 
 -- ---- replies
@@ -30,16 +32,35 @@ is_accepted _ = false
 
 -- ---- numbers
 
+-- every list stands in the order of its keys
+pub record IsOrdered (h : Holdings) : Type 0 where
+  pub services : Rises by_service h.services
+  pub instances : Rises by_entry h.instances
+  pub names : Rises by_name h.names
+  pub snapshots : Rises by_snapshot h.snapshots
+  pub launches : Rises by_launch h.launches
+
+-- each name that is given is that of the instance with its number, and each instance has been given its name
+pub record IsIndexed (is : List Instance) (names : List InstanceName) : Type 0 where
+  pub right : (name : List ℕ) (e : InstanceName) → lookup by_name names name ≡ Some e
+      → (i : Instance) × (lookup by_instance is e.number ≡ Some i) × (i.name ≡ name)
+  pub whole : (n : ℕ) (i : Instance) → lookup by_instance is n ≡ Some i
+      → lookup by_name names i.name ≡ Some (record { name = i.name; number = n })
+
+-- every list is in order, numbers of instances begin at 1, nothing has the number that comes next, or a greater one,
+-- and instances are found by their names
+pub record IsNumbered (h : Holdings) : Type 0 where
+  pub ordered : IsOrdered h
+  pub first : 1 ≤ h.next_instance
+  pub none_at_zero : instance h 0 ≡ None
+  pub instances : (n : ℕ) → h.next_instance ≤ n → instance h n ≡ None
+  pub snapshots : (n : ℕ) → h.next_snapshot ≤ n → snapshot h n ≡ None
+  pub indexed : IsIndexed (bare h.instances) h.names
+
 -- no number is found a second time
 abbrev pub AreApart : List Instance → Type 0
 AreApart [] = Unit {0}
 AreApart (i ∷ is) = (find (has_number i.number) is ≡ None) × AreApart is
-
--- nothing has the number that comes next, or a greater one, and no two instances have one number
-pub record IsNumbered (h : Holdings) : Type 0 where
-  pub instances : (n : ℕ) → h.next_instance ≤ n → instance h n ≡ None
-  pub snapshots : (n : ℕ) → h.next_snapshot ≤ n → snapshot h n ≡ None
-  pub apart : AreApart h.instances
 
 -- ---- rows
 

@@ -1,3 +1,4 @@
+pub mod Entry
 pub mod Holdings
 pub mod Look
 pub mod Setting
@@ -6,4 +7,5 @@ pub mod Tables
 pub mod Laws
 pub mod Shown
 pub mod History
-pub mod Numbering
+pub mod Whole
+pub mod Journals

@@ -1,100 +1,151 @@
 -- How what is held is looked up, and how it is changed.
-use Rattle.std.specs.Prelude.{ℕ, List, [], ◌∷◌, ◌++◌, nat_eq, ◌==◌, ◌&&◌, not, Bool, false, if◌then◌else◌, Option, option_map, filter, find}
-use Rattle.std.specs.Cmp.Lexicographic.{pointwise}
+use Rattle.std.specs.Prelude.{ℕ, List, [], ◌∷◌, ◌==◌, not, Bool, Option, Some, None, option_map, unwrap_or, filter, map, if◌then◌else◌}
 use Rattle.std.specs.Option.{option_map_or}
-use Rattle.smf_value.specs.Groups.{GroupRecord}
+use Rattle.smf_fmri.specs.ByKey.{By, amend, by_number, by_text, has_key, lookup, put, without}
+use Rattle.smf_value.specs.Groups.{GroupRecord, by_group}
 use Rattle.smf_model.specs.declared.held.Instance.{Instance}
+use Rattle.smf_model.specs.declared.held.InstanceEntry.{InstanceEntry}
+use Rattle.smf_model.specs.declared.held.InstanceName.{InstanceName}
 use Rattle.smf_model.specs.declared.held.Launch.{Launch}
-use Rattle.smf_model.specs.declared.held.Held.{Held}
 use Rattle.smf_model.specs.declared.held.Owner.{Owner}
 use Rattle.smf_model.specs.declared.held.Owner.TheVariants as owners
+use Rattle.smf_model.specs.declared.held.Service.{Service}
 use Rattle.smf_model.specs.declared.held.Snapshot.{Snapshot}
 use Rattle.smf_model.specs.declared.change.Change.{Change}
-use Rattle.smf_model.specs.declared.change.Change.TheVariants.{AddService, DropService, AddInstance, PutInstance, DropInstance, PutGroup, DropGroup, DropGroups, AddSnapshot, DropSnapshots, PutLaunch, NextInstance, NextSnapshot, SetRevision}
+use Rattle.smf_model.specs.declared.change.Change.TheVariants.{AddService, DropService, AddInstance, PutInstance, DropInstance, PutName, DropName, PutGroups, AddSnapshot, DropSnapshots, PutLaunch, NextInstance, NextSnapshot, SetRevision}
 use Rattle.smf_model.specs.Holdings.{Holdings}
 
 abbrev pub empty : Holdings
-empty = record { revision = 0; services = []; instances = []; groups = []; snapshots = []; launches = []; next_instance = 1; next_snapshot = 1 }
+empty =
+    record {
+      revision = 0;
+      services = [];
+      instances = [];
+      names = [];
+      snapshots = [];
+      launches = [];
+      next_instance = 1;
+      next_snapshot = 1;
+    }
 
--- ---- tests
+-- ---- keys
+
+abbrev pub by_service : By Service (List ℕ)
+by_service = by_text (λ s. s.name)
+
+abbrev pub by_entry : By InstanceEntry ℕ
+by_entry = by_number (λ e. e.instance.number)
+
+abbrev pub by_instance : By Instance ℕ
+by_instance = by_number (λ i. i.number)
+
+abbrev pub by_name : By InstanceName (List ℕ)
+by_name = by_text (λ n. n.name)
+
+abbrev pub by_snapshot : By Snapshot ℕ
+by_snapshot = by_number (λ s. s.number)
+
+abbrev pub by_launch : By Launch (List ℕ)
+by_launch = by_text (λ l. l.restarter)
 
 abbrev pub has_number : ℕ → Instance → Bool
-has_number n i = i.number == n
-
-abbrev pub has_name : List ℕ → Instance → Bool
-has_name name i = pointwise nat_eq i.name name
-
-abbrev pub is_service : List ℕ → List ℕ → Bool
-is_service name service = pointwise nat_eq service name
-
-abbrev pub same_owner : Owner → Owner → Bool
-same_owner (owners.Service a) (owners.Service b) = pointwise nat_eq a b
-same_owner (owners.Instance m) (owners.Instance n) = m == n
-same_owner _ _ = false
-
-abbrev pub is_owned_by : Owner → Held → Bool
-is_owned_by owner h = same_owner h.owner owner
-
-abbrev pub is_group : Owner → List ℕ → Held → Bool
-is_group owner name h = same_owner h.owner owner && pointwise nat_eq h.group.name name
-
-abbrev pub is_snapshot : ℕ → Snapshot → Bool
-is_snapshot n s = s.number == n
+has_number n i = has_key by_instance n i
 
 abbrev pub is_snapshot_of : ℕ → Snapshot → Bool
 is_snapshot_of n s = s.instance == n
 
-abbrev pub is_launch_of : List ℕ → Launch → Bool
-is_launch_of name l = pointwise nat_eq l.restarter name
+-- the snapshots of other instances
+abbrev pub others_of : ℕ → List Snapshot → List Snapshot
+others_of n ss = filter (λ s. not (is_snapshot_of n s)) ss
 
 -- ---- look-ups
 
+-- instances without their groups
+abbrev pub bare : List InstanceEntry → List Instance
+bare es = map (λ e. e.instance) es
+
+-- the instances in number order
+abbrev pub instances : Holdings → List Instance
+instances h = bare h.instances
+
 abbrev pub instance : Holdings → ℕ → Option Instance
-instance h n = find (has_number n) h.instances
+instance h n = lookup by_instance (instances h) n
 
+abbrev pub instance_at : Holdings → Option InstanceName → Option Instance
+instance_at h None = None
+instance_at h (Some e) = instance h e.number
+
+-- the instance of a name
 abbrev pub named : Holdings → List ℕ → Option Instance
-named h name = find (has_name name) h.instances
+named h name = instance_at h (lookup by_name h.names name)
 
-abbrev pub service : Holdings → List ℕ → Option (List ℕ)
-service h name = find (is_service name) h.services
+abbrev pub service : Holdings → List ℕ → Option Service
+service h name = lookup by_service h.services name
+
+-- an owner's groups by name, where the owner is there
+abbrev pub owned : Holdings → Owner → Option (List GroupRecord)
+owned h (owners.Service name) = option_map (λ s. s.groups) (service h name)
+owned h (owners.Instance n) = option_map (λ e. e.groups) (lookup by_entry h.instances n)
+
+-- an owner's groups by name
+unfoldable pub groups_of : Holdings → Owner → List GroupRecord
+groups_of h owner = unwrap_or (owned h owner) []
+
+abbrev pub group_in : List GroupRecord → List ℕ → Option GroupRecord
+group_in gs name = lookup by_group gs name
 
 abbrev pub group : Holdings → Owner → List ℕ → Option GroupRecord
-group h owner name = option_map (λ g. g.group) (find (is_group owner name) h.groups)
+group h owner name = group_in (groups_of h owner) name
 
 abbrev pub snapshot : Holdings → ℕ → Option Snapshot
-snapshot h n = find (is_snapshot n) h.snapshots
+snapshot h n = lookup by_snapshot h.snapshots n
 
 abbrev pub launch_of : Holdings → List ℕ → ℕ
-launch_of h name = option_map_or (λ l. l.count) (find (is_launch_of name) h.launches) 0
+launch_of h name = option_map_or (λ l. l.count) (lookup by_launch h.launches name) 0
 
 -- ---- changes
-
--- what passes a test gives way to this, where it stands; if nothing does, this stands behind the others
-abbrev pub placed : {X : Type 0} → (X → Bool) → X → List X → List X
-placed test x [] = x ∷ []
-placed test x (y ∷ ys) = if test y then x ∷ ys else y ∷ placed test x ys
 
 -- what passes a test gives way to this, where it stands
 abbrev pub replaced : {X : Type 0} → (X → Bool) → X → List X → List X
 replaced test x [] = []
 replaced test x (y ∷ ys) = if test y then x ∷ ys else y ∷ replaced test x ys
 
-abbrev pub without : {X : Type 0} → (X → Bool) → List X → List X
-without test xs = filter (λ x. not (test x)) xs
+-- an instance in place of another, whose number it takes
+abbrev pub in_place : Instance → Instance → Instance
+in_place i other = record i { number = other.number }
+
+-- an instance in place of the one that has its number, if there is one
+abbrev pub put_over : Instance → List Instance → List Instance
+put_over i is = amend by_instance i.number (in_place i) is
+
+abbrev pub with_instance : Instance → InstanceEntry → InstanceEntry
+with_instance i e = record e { instance = in_place i e.instance }
+
+-- in its place, where nothing has its key
+abbrev pub put_by_lookup : {X K : Type 0} → By X K → X → List X → Option X → List X
+put_by_lookup o x xs (Some there) = xs
+put_by_lookup o x xs None = put o x xs
+
+abbrev pub put_new : {X K : Type 0} → By X K → X → List X → List X
+put_new o x xs = put_by_lookup o x xs (lookup o xs (o.key x))
+
+abbrev pub with_groups : Holdings → List GroupRecord → Owner → Holdings
+with_groups h gs (owners.Service name) = record h { services = amend by_service name (λ s. record s { groups = gs }) h.services }
+with_groups h gs (owners.Instance n) = record h { instances = amend by_entry n (λ e. record e { groups = gs }) h.instances }
 
 -- one change
 abbrev pub changed : Holdings → Change → Holdings
-changed h (AddService name) = record h { services = h.services ++ name ∷ [] }
-changed h (DropService name) = record h { services = without (is_service name) h.services }
-changed h (AddInstance i) = record h { instances = h.instances ++ i ∷ [] }
-changed h (PutInstance i) = record h { instances = replaced (has_number i.number) i h.instances }
-changed h (DropInstance n) = record h { instances = without (has_number n) h.instances }
-changed h (PutGroup g) = record h { groups = placed (is_group g.owner g.group.name) g h.groups }
-changed h (DropGroup owner name) = record h { groups = without (is_group owner name) h.groups }
-changed h (DropGroups owner) = record h { groups = without (is_owned_by owner) h.groups }
-changed h (AddSnapshot s) = record h { snapshots = h.snapshots ++ s ∷ [] }
-changed h (DropSnapshots n) = record h { snapshots = without (is_snapshot_of n) h.snapshots }
-changed h (PutLaunch l) = record h { launches = placed (is_launch_of l.restarter) l h.launches }
+changed h (AddService s) = record h { services = put by_service s h.services }
+changed h (DropService name) = record h { services = without by_service name h.services }
+changed h (AddInstance e) = record h { instances = put by_entry e h.instances }
+changed h (PutInstance i) = record h { instances = amend by_entry i.number (with_instance i) h.instances }
+changed h (DropInstance n) = record h { instances = without by_entry n h.instances }
+changed h (PutName e) = record h { names = put by_name e h.names }
+changed h (DropName name) = record h { names = without by_name name h.names }
+changed h (PutGroups owner gs) = with_groups h gs owner
+changed h (AddSnapshot s) = record h { snapshots = put_new by_snapshot s h.snapshots }
+changed h (DropSnapshots n) = record h { snapshots = others_of n h.snapshots }
+changed h (PutLaunch l) = record h { launches = put by_launch l h.launches }
 changed h (NextInstance n) = record h { next_instance = n }
 changed h (NextSnapshot n) = record h { next_snapshot = n }
 changed h (SetRevision n) = record h { revision = n }

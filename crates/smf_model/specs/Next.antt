@@ -3,6 +3,7 @@ use Rattle.std.specs.Prelude.{ℕ, ◌+◌, ◌==◌, ◌&&◌, ◌||◌, not, n
 use Rattle.std.specs.Cmp.Lexicographic.{pointwise}
 use Rattle.std.specs.Int.RustNames.{bit_or}
 use Rattle.std.specs.List.{list_any}
+use Rattle.smf_fmri.specs.ByKey.{put, without}
 use Rattle.smf_fmri.specs.Matching.{read_short}
 use Rattle.smf_state.specs.declared.row.Row.{Row}
 use Rattle.smf_state.specs.declared.fault.StepFault.{StepFault}
@@ -15,13 +16,13 @@ use Rattle.smf_state.specs.States.{runs}
 use Rattle.smf_value.specs.declared.fault.GroupFault.{GroupFault}
 use Rattle.smf_value.specs.declared.value.Value.TheVariants.{Boolean}
 use Rattle.smf_value.specs.declared.kind.Kind.TheVariants as kinds
-use Rattle.smf_value.specs.Groups.{PropertyRecord, GroupRecord}
+use Rattle.smf_value.specs.Groups.{PropertyRecord, GroupRecord, by_group}
 use Rattle.smf_value.specs.Edits as edits
 use Rattle.smf_snap.specs.declared.name.SnapshotName.{SnapshotName}
 use Rattle.smf_snap.specs.declared.name.SnapshotName.TheVariants as snapshots
-use Rattle.smf_snap.specs.Taking.{taken, restored, put_all}
+use Rattle.smf_snap.specs.Taking.{taken, restored}
 use Rattle.smf_model.specs.declared.change.Change.{Change}
-use Rattle.smf_model.specs.declared.change.Change.TheVariants.{AddService, DropService, AddInstance, PutInstance, DropInstance, PutGroup, DropGroup, DropGroups, AddSnapshot, DropSnapshots, PutLaunch, NextInstance, NextSnapshot, SetRevision}
+use Rattle.smf_model.specs.declared.change.Change.TheVariants.{AddService, DropService, AddInstance, PutInstance, DropInstance, PutName, DropName, PutGroups, AddSnapshot, DropSnapshots, PutLaunch, NextInstance, NextSnapshot, SetRevision}
 use Rattle.smf_model.specs.declared.command.Command.{Command}
 use Rattle.smf_model.specs.declared.command.Command.TheVariants as commands
 use Rattle.smf_model.specs.declared.command.Edit.{Edit}
@@ -34,21 +35,24 @@ use Rattle.smf_model.specs.declared.command.Reply.{Reply}
 use Rattle.smf_model.specs.declared.command.Reply.TheVariants.{Made, Granted, Done, NoSuch, InUse, NotInState, Exists, Denied, Limit, Stale}
 use Rattle.smf_model.specs.declared.command.Why.{Why}
 use Rattle.smf_model.specs.declared.command.Why.TheVariants as whys
-use Rattle.smf_model.specs.declared.held.Held.{Held}
+use Rattle.smf_model.specs.declared.change.Outcome.{Outcome}
 use Rattle.smf_model.specs.declared.held.Instance.{Instance}
+use Rattle.smf_model.specs.declared.held.InstanceEntry.{InstanceEntry}
+use Rattle.smf_model.specs.declared.held.InstanceName.{InstanceName}
 use Rattle.smf_model.specs.declared.held.Launch.{Launch}
 use Rattle.smf_model.specs.declared.held.Owner.{Owner}
 use Rattle.smf_model.specs.declared.held.Owner.TheVariants as owners
+use Rattle.smf_model.specs.declared.held.Service.{Service}
 use Rattle.smf_model.specs.declared.held.Snapshot.{Snapshot}
 use Rattle.smf_model.specs.declared.setting.Setting.{Setting}
 use Rattle.smf_model.specs.declared.setting.Setting.TheVariants.{Unreadable}
 use Rattle.smf_model.specs.Holdings.{Holdings}
-use Rattle.smf_model.specs.Look.{is_owned_by, service, instance, named, group, snapshot, launch_of, installed}
-use Rattle.smf_model.specs.Setting.{general, general_ovr, enabled_name, restarter_name, framework, startd, service_fmri, current, setting, owner_by}
+use Rattle.smf_model.specs.Look.{service, instance, instances, named, groups_of, group, snapshot, launch_of, installed}
+use Rattle.smf_model.specs.Setting.{Groups, general, general_ovr, enabled_name, restarter_name, framework, startd, service_fmri, service_owner, current, setting, owner_by}
 
 -- what a command makes: the changes, and the reply
 abbrev pub Asked : Type 0
-Asked = List Change × Reply
+Asked = Outcome
 
 -- ---- limits
 
@@ -68,59 +72,69 @@ most_groups = 1000
 -- ---- a refusal, and an accepted command
 
 abbrev pub refused : Reply → Asked
-refused reply = ([], reply)
+refused reply = record { changes = []; reply = reply }
 
 -- an accepted command makes one revision, where one is left
 abbrev pub accepted : Holdings → List Change → Reply → Asked
-accepted h changes reply = if nat_lt h.revision greatest then (changes ++ SetRevision (h.revision + 1) ∷ [], reply) else refused Limit
+accepted h changes reply =
+    if nat_lt h.revision greatest then (record { changes = changes ++ SetRevision (h.revision + 1) ∷ []; reply = reply }) else refused Limit
 
 -- the instance of a number, as it is read
 abbrev pub found : Holdings → ℕ → Option Instance
-found h n = option_map (current h.groups) (instance h n)
+found h n = option_map (current (groups_of h)) (instance h n)
 
 -- ---- services and instances
 
-abbrev pub asked_add_service : Holdings → List ℕ → Option (List ℕ) → Asked
+abbrev pub asked_add_service : Holdings → List ℕ → Option Service → Asked
 asked_add_service h name (Some s) = refused Exists
-asked_add_service h name None = accepted h (AddService name ∷ []) Done
+asked_add_service h name None = accepted h (AddService (record { name = name; groups = [] }) ∷ []) Done
 
 abbrev pub new_instance : Holdings → List ℕ → Instance
 new_instance h name = record { number = h.next_instance; name = name; row = fresh startd; start = None; previous = None }
 
+abbrev pub new_entry : Holdings → List ℕ → InstanceEntry
+new_entry h name = record { instance = new_instance h name; groups = [] }
+
+abbrev pub new_name : Holdings → List ℕ → InstanceName
+new_name h name = record { name = name; number = h.next_instance }
+
+-- the changes that add an instance
+abbrev pub joining : Holdings → List ℕ → List Change
+joining h name = AddInstance (new_entry h name) ∷ PutName (new_name h name) ∷ NextInstance (h.next_instance + 1) ∷ []
+
 abbrev pub added_at : Holdings → List ℕ → Option Instance → Asked
 added_at h name (Some i) = refused Exists
 added_at h name None =
-    if nat_le h.next_instance greatest_instance
-    then accepted h (AddInstance (new_instance h name) ∷ NextInstance (h.next_instance + 1) ∷ []) (Made h.next_instance)
-    else refused Limit
+    if nat_le h.next_instance greatest_instance then accepted h (joining h name) (Made h.next_instance) else refused Limit
 
 -- a name of more than 512 bytes is past a limit
 abbrev pub added_named : Holdings → Option (List ℕ) → Asked
 added_named h None = refused Limit
 added_named h (Some name) = added_at h name (named h name)
 
-abbrev pub asked_add_instance : Holdings → List ℕ → Option (List ℕ) → Asked
+abbrev pub asked_add_instance : Holdings → List ℕ → Option Service → Asked
 asked_add_instance h name None = refused NoSuch
-asked_add_instance h name (Some s) = added_named h (read_short (s ++ 58 ∷ name))
+asked_add_instance h name (Some s) = added_named h (read_short (s.name ++ 58 ∷ name))
 
 abbrev pub is_instance_of : List ℕ → Instance → Bool
 is_instance_of s i = pointwise nat_eq (service_fmri i.name) s
 
-abbrev pub asked_delete_service : Holdings → Option (List ℕ) → Asked
+abbrev pub asked_delete_service : Holdings → Option Service → Asked
 asked_delete_service h None = refused NoSuch
 asked_delete_service h (Some s) =
-    if list_any (is_instance_of s) h.instances then refused InUse
-    else accepted h (DropGroups (owners.Service s) ∷ DropService s ∷ []) Done
+    if list_any (is_instance_of s.name) (instances h) then refused InUse else accepted h (DropService s.name ∷ []) Done
 
 -- an instance that runs, or whose transition is under way, or that has a run
 abbrev pub is_in_use : Row → Bool
 is_in_use r = runs r.state || is_some r.next || is_some r.live || is_some r.side
 
+-- the changes that drop an instance
+abbrev pub leaving : Instance → List Change
+leaving i = DropSnapshots i.number ∷ DropName i.name ∷ DropInstance i.number ∷ []
+
 abbrev pub asked_delete_instance : Holdings → Option Instance → Asked
 asked_delete_instance h None = refused NoSuch
-asked_delete_instance h (Some i) =
-    if is_in_use i.row then refused InUse
-    else accepted h (DropGroups (owners.Instance i.number) ∷ DropSnapshots i.number ∷ DropInstance i.number ∷ []) Done
+asked_delete_instance h (Some i) = if is_in_use i.row then refused InUse else accepted h (leaving i) Done
 
 -- ---- groups
 
@@ -134,15 +148,26 @@ is_made (owners.Service s) name = false
 is_made (owners.Instance n) name = pointwise nat_eq name restarter_name
 
 -- how many groups an owner has besides those of two names
-abbrev pub is_other_group : Owner → List ℕ → List ℕ → Held → Bool
-is_other_group owner first second g = is_owned_by owner g && not (pointwise nat_eq g.group.name first) && not (pointwise nat_eq g.group.name second)
+abbrev pub is_other_group : List ℕ → List ℕ → GroupRecord → Bool
+is_other_group first second g = not (pointwise nat_eq g.name first) && not (pointwise nat_eq g.name second)
 
 abbrev pub has_room : Holdings → Owner → List ℕ → List ℕ → Bool
-has_room h owner first second = nat_lt (count_by (is_other_group owner first second) h.groups) most_groups
+has_room h owner first second = nat_lt (count_by (is_other_group first second) (groups_of h owner)) most_groups
+
+-- a group put in its place among its owner's
+abbrev pub group_put : Holdings → Owner → GroupRecord → Change
+group_put h owner g = PutGroups owner (put by_group g (groups_of h owner))
+
+-- a group taken out of its owner's
+abbrev pub group_dropped : Holdings → Owner → List ℕ → Change
+group_dropped h owner name = PutGroups owner (without by_group name (groups_of h owner))
 
 -- the owner is there and the group is not a made one
 abbrev pub guarded : Holdings → Owner → List ℕ → Asked → Asked
-guarded h owner name asked = if not (is_there h owner) then refused NoSuch else if is_made owner name then refused InUse else asked
+guarded h owner name asked =
+    if not (is_there h owner) then refused NoSuch
+    else if is_made owner name then refused InUse
+    else asked
 
 abbrev pub new_group : List ℕ → List ℕ → Bool → GroupRecord
 new_group name group_type non_persistent = record { name = name; group_type = group_type; non_persistent = non_persistent; properties = [] }
@@ -150,11 +175,11 @@ new_group name group_type non_persistent = record { name = name; group_type = gr
 abbrev pub added_group : Holdings → Owner → GroupRecord → Option GroupRecord → Asked
 added_group h owner g (Some there) = refused Exists
 added_group h owner g None =
-    if has_room h owner g.name g.name then accepted h (PutGroup (record { owner = owner; group = g }) ∷ []) Done else refused Limit
+    if has_room h owner g.name g.name then accepted h (group_put h owner g ∷ []) Done else refused Limit
 
 abbrev pub deleted_group : Holdings → Owner → List ℕ → Option GroupRecord → Asked
 deleted_group h owner name None = refused NoSuch
-deleted_group h owner name (Some g) = accepted h (DropGroup owner name ∷ []) Done
+deleted_group h owner name (Some g) = accepted h (group_dropped h owner name ∷ []) Done
 
 abbrev pub property_changed : PropertyChange → GroupRecord → Result GroupRecord GroupFault
 property_changed (properties.Set name kind values) g = edits.set name kind values g
@@ -164,7 +189,7 @@ property_changed (properties.Delete name) g = edits.del name g
 
 abbrev pub put_or_denied : Holdings → Owner → Result GroupRecord GroupFault → Asked
 put_or_denied h owner (Err fault) = refused (Denied fault)
-put_or_denied h owner (Ok g) = accepted h (PutGroup (record { owner = owner; group = g }) ∷ []) Done
+put_or_denied h owner (Ok g) = accepted h (group_put h owner g ∷ []) Done
 
 abbrev pub changed_group : Holdings → Owner → PropertyChange → Option GroupRecord → Asked
 changed_group h owner change None = refused NoSuch
@@ -175,25 +200,35 @@ changed_group h owner change (Some g) = put_or_denied h owner (property_changed 
 abbrev pub enabled_property : Bool → PropertyRecord
 enabled_property b = record { name = enabled_name; kind = kinds.Boolean; values = Boolean b ∷ [] }
 
+-- a group that holds the property `enabled` put in its place, and `general_ovr` gone
+abbrev pub enabling_of : Holdings → Owner → GroupRecord → Change
+enabling_of h owner g = PutGroups owner (put by_group g (without by_group general_ovr (groups_of h owner)))
+
 -- the property `enabled` put into the group `general`, and `general_ovr` gone; or into `general_ovr`
 abbrev pub enabled_for_good : Holdings → ℕ → Result GroupRecord GroupFault → Asked
 enabled_for_good h n (Err fault) = refused (Denied fault)
 enabled_for_good h n (Ok g) =
-    if has_room h (owners.Instance n) general general_ovr
-    then accepted h (DropGroup (owners.Instance n) general_ovr ∷ PutGroup (record { owner = owners.Instance n; group = g }) ∷ []) Done
-    else refused Limit
+    if has_room h (owners.Instance n) general general_ovr then accepted h (enabling_of h (owners.Instance n) g ∷ []) Done else refused Limit
 
 abbrev pub enabled_for_now : Holdings → ℕ → Result GroupRecord GroupFault → Asked
 enabled_for_now h n (Err fault) = refused (Denied fault)
 enabled_for_now h n (Ok g) =
     if has_room h (owners.Instance n) general_ovr general_ovr
-    then accepted h (PutGroup (record { owner = owners.Instance n; group = g }) ∷ []) Done
+    then accepted h (group_put h (owners.Instance n) g ∷ []) Done
     else refused Limit
+
+-- the group of a name of an instance, or a new one
+abbrev pub group_or_new : Holdings → ℕ → List ℕ → Bool → GroupRecord
+group_or_new h n name non_persistent = unwrap_or (group h (owners.Instance n) name) (new_group name framework non_persistent)
+
+-- it with the property `enabled`
+abbrev pub group_enabled : Bool → GroupRecord → Result GroupRecord GroupFault
+group_enabled b g = edits.put_property (enabled_property b) g
 
 abbrev pub asked_enable : Holdings → ℕ → Bool → Bool → Option Instance → Asked
 asked_enable h n b temporary None = refused NoSuch
-asked_enable h n b false (Some i) = enabled_for_good h n (edits.put (enabled_property b) (unwrap_or (group h (owners.Instance n) general) (new_group general framework false)))
-asked_enable h n b true (Some i) = enabled_for_now h n (edits.put (enabled_property b) (unwrap_or (group h (owners.Instance n) general_ovr) (new_group general_ovr framework true)))
+asked_enable h n b false (Some i) = enabled_for_good h n (group_enabled b (group_or_new h n general false))
+asked_enable h n b true (Some i) = enabled_for_now h n (group_enabled b (group_or_new h n general_ovr true))
 
 -- ---- what is asked of an instance
 
@@ -228,16 +263,6 @@ asked_mark h mark (Some i) = marked h mark i
 
 -- ---- snapshots
 
-abbrev pub owned_groups : List Held → Owner → List GroupRecord
-owned_groups gs owner = map (λ g. g.group) (filter (is_owned_by owner) gs)
-
--- an owner's groups, in the order of their names
-unfoldable pub groups_of : Holdings → Owner → List GroupRecord
-groups_of h owner = put_all (owned_groups h.groups owner) []
-
-abbrev pub service_owner : Instance → Owner
-service_owner i = owners.Service (service_fmri i.name)
-
 abbrev pub snapshot_of : Holdings → Instance → Snapshot
 snapshot_of h i =
     record {
@@ -270,21 +295,37 @@ refreshed_row r running revision false = record r { running = Some running }
 
 abbrev pub moved_row : Row → ℕ → List ℕ → Row
 moved_row r running owner =
-    record r { running = Some running; owner = owner; number = r.number + 1; state = Uninitialized; asks = record { 0 = 0 }; failed = 0; cause = None; launch = 0; serial = 0 }
+    record r {
+      running = Some running;
+      owner = owner;
+      number = r.number + 1;
+      state = Uninitialized;
+      asks = record { 0 = 0 };
+      failed = 0;
+      cause = None;
+      launch = 0;
+      serial = 0;
+    }
+
+abbrev pub moved_instance : Holdings → Instance → List ℕ → Instance
+moved_instance h i owner = record i { row = moved_row i.row h.next_snapshot owner }
 
 abbrev pub moved : Holdings → Instance → List ℕ → Asked
 moved h i owner =
     if not (may_be_moved i.row) then refused InUse
     else if not (nat_lt i.row.number greatest_number) then refused Limit
-    else with_snapshot h i (PutInstance (record i { row = moved_row i.row h.next_snapshot owner }) ∷ []) Done
+    else with_snapshot h i (PutInstance (moved_instance h i owner) ∷ []) Done
+
+abbrev pub refreshed_instance : Holdings → Instance → Instance
+refreshed_instance h i = record i { row = refreshed_row i.row h.next_snapshot (h.revision + 1) (runs i.row.state) }
 
 abbrev pub refreshed : Holdings → Instance → Option (List ℕ) → Asked
-refreshed h i None = with_snapshot h i (PutInstance (record i { row = refreshed_row i.row h.next_snapshot (h.revision + 1) (runs i.row.state) }) ∷ []) Done
+refreshed h i None = with_snapshot h i (PutInstance (refreshed_instance h i) ∷ []) Done
 refreshed h i (Some owner) = moved h i owner
 
 abbrev pub asked_refresh : Holdings → Option Instance → Asked
 asked_refresh h None = refused NoSuch
-asked_refresh h (Some i) = refreshed h i (target_by (setting h.groups i) i.row.owner)
+asked_refresh h (Some i) = refreshed h i (target_by (setting (groups_of h) i) i.row.owner)
 
 -- ---- revert
 
@@ -297,18 +338,26 @@ abbrev pub named_snapshot : Holdings → Option ℕ → Option Snapshot
 named_snapshot h None = None
 named_snapshot h (Some n) = snapshot h n
 
--- these groups in place of all of an owner's
-abbrev pub regrouped : Owner → List GroupRecord → List Change
-regrouped owner gs = DropGroups owner ∷ map (λ g. PutGroup (record { owner = owner; group = g })) gs
+abbrev pub is_past_most : List GroupRecord → Bool
+is_past_most gs = nat_lt most_groups (length gs)
+
+-- the changes of a revert: what is noted of the instance, and the groups of both owners
+abbrev pub reverting : Holdings → Instance → List GroupRecord → List GroupRecord → List Change
+reverting h i service_groups instance_groups =
+    PutInstance (record i { previous = Some h.next_snapshot })
+    ∷ PutGroups (service_owner i) service_groups
+    ∷ PutGroups (owners.Instance i.number) instance_groups
+    ∷ []
 
 abbrev pub reverted_to : Holdings → Instance → List GroupRecord → List GroupRecord → Asked
 reverted_to h i service_groups instance_groups =
-    if nat_lt most_groups (length service_groups) || nat_lt most_groups (length instance_groups) then refused Limit
-    else with_snapshot h i (PutInstance (record i { previous = Some h.next_snapshot }) ∷ (regrouped (service_owner i) service_groups ++ regrouped (owners.Instance i.number) instance_groups)) Done
+    if is_past_most service_groups || is_past_most instance_groups then refused Limit
+    else with_snapshot h i (reverting h i service_groups instance_groups) Done
 
 abbrev pub reverted : Holdings → Instance → Option Snapshot → Asked
 reverted h i None = refused NoSuch
-reverted h i (Some s) = reverted_to h i (restored (groups_of h (service_owner i)) s.service_groups) (restored (groups_of h (owners.Instance i.number)) s.instance_groups)
+reverted h i (Some s) =
+    reverted_to h i (restored (groups_of h (service_owner i)) s.service_groups) (restored (groups_of h (owners.Instance i.number)) s.instance_groups)
 
 abbrev pub asked_revert : Holdings → SnapshotName → Option Instance → Asked
 asked_revert h name None = refused NoSuch
@@ -365,8 +414,11 @@ with_row i row = record i { row = row; start = started_by i.row row i.start }
 abbrev pub takes_running : Row → Row → Bool
 takes_running before after = same_state before.state Uninitialized && not (same_state after.state Uninitialized) && is_none before.running
 
+abbrev pub with_running : Holdings → Row → Row
+with_running h row = record row { running = Some h.next_snapshot }
+
 abbrev pub granted : Holdings → Instance → Row → Bool → Asked
-granted h i row true = with_snapshot h i (PutInstance (with_row i (record row { running = Some h.next_snapshot })) ∷ []) (Granted (record row { running = Some h.next_snapshot }))
+granted h i row true = with_snapshot h i (PutInstance (with_row i (with_running h row)) ∷ []) (Granted (with_running h row))
 granted h i row false = accepted h (PutInstance (with_row i row) ∷ []) (Granted row)
 
 abbrev pub step_answer : Holdings → Instance → Result Row StepFault → Asked
@@ -386,23 +438,36 @@ answer h p = answer_at h p (found h p.instance)
 
 -- ---- launches and boots
 
+abbrev pub next_launch : Holdings → List ℕ → Launch
+next_launch h name = record { restarter = name; count = launch_of h name + 1 }
+
 unfoldable pub asked_launch : Holdings → List ℕ → Asked
 asked_launch h name =
     if nat_lt (launch_of h name) greatest
-    then accepted h (PutLaunch (record { restarter = name; count = launch_of h name + 1 }) ∷ []) (Made (launch_of h name + 1))
+    then accepted h (PutLaunch (next_launch h name) ∷ []) (Made (launch_of h name + 1))
     else refused Limit
 
 abbrev pub relaunched : Launch → Change
 relaunched l = PutLaunch (record { restarter = l.restarter; count = l.count + 1 })
 
-abbrev pub is_persistent : Held → Bool
-is_persistent g = not g.group.non_persistent
+abbrev pub is_persistent : GroupRecord → Bool
+is_persistent g = not g.non_persistent
 
-abbrev pub persistent : List Held → List Held
-persistent gs = filter is_persistent gs
+abbrev pub kept_groups : List GroupRecord → List GroupRecord
+kept_groups gs = filter is_persistent gs
 
-abbrev pub dropped : Held → Change
-dropped g = DropGroup g.owner g.group.name
+-- the groups of each owner that outlast a boot
+abbrev pub persistent : Groups → Groups
+persistent gs owner = kept_groups (gs owner)
+
+abbrev pub has_dropped : List GroupRecord → Bool
+has_dropped gs = list_any (λ g. g.non_persistent) gs
+
+abbrev pub service_kept : Service → Change
+service_kept s = PutGroups (owners.Service s.name) (kept_groups s.groups)
+
+abbrev pub instance_kept : InstanceEntry → Change
+instance_kept e = PutGroups (owners.Instance e.instance.number) (kept_groups e.groups)
 
 -- a row at a boot: what was under way is gone, and the owner is read again
 abbrev pub booted_row : Row → List ℕ → Row
@@ -420,7 +485,7 @@ booted_row r owner =
       serial = 0;
     }
 
-abbrev pub booted : List Held → Instance → Instance
+abbrev pub booted : Groups → Instance → Instance
 booted gs i = record i { row = booted_row i.row (owner_by (setting gs i)) }
 
 abbrev pub is_last_launch : Launch → Bool
@@ -429,10 +494,28 @@ is_last_launch l = not (nat_lt l.count greatest)
 abbrev pub is_last_number : Instance → Bool
 is_last_number i = not (nat_lt i.row.number greatest_number)
 
+-- the owners of which a boot drops groups
+abbrev pub kept_of_services : List Service → List Change
+kept_of_services ss = map service_kept (filter (λ s. has_dropped s.groups) ss)
+
+abbrev pub kept_of_instances : List InstanceEntry → List Change
+kept_of_instances es = map instance_kept (filter (λ e. has_dropped e.groups) es)
+
+-- every instance begins anew
+abbrev pub all_booted : Groups → List Instance → List Change
+all_booted gs is = map (λ i. PutInstance (booted gs i)) is
+
+-- the changes of a boot: every restarter is launched again, groups go, every instance begins anew
+abbrev pub booting : Holdings → List Change
+booting h =
+    (map relaunched h.launches ++ (kept_of_services h.services ++ kept_of_instances h.instances))
+    ++ all_booted (persistent (groups_of h)) (instances h)
+
+abbrev pub may_not_boot : Holdings → Bool
+may_not_boot h = list_any is_last_launch h.launches || list_any is_last_number (instances h)
+
 unfoldable pub asked_boot : Holdings → Asked
-asked_boot h =
-    if list_any is_last_launch h.launches || list_any is_last_number h.instances then refused Limit
-    else accepted h ((map relaunched h.launches ++ map dropped (filter (λ g. g.group.non_persistent) h.groups)) ++ map (λ i. PutInstance (booted (persistent h.groups) i)) h.instances) Done
+asked_boot h = if may_not_boot h then refused Limit else accepted h (booting h) Done
 
 -- ---- the whole
 
@@ -445,4 +528,4 @@ asked h commands.Boot = asked_boot h
 
 -- what a command makes of what is held, and its reply
 unfoldable pub next : Holdings → Command → Holdings × Reply
-next h c = (installed h (asked h c).0, (asked h c).1)
+next h c = (installed h (asked h c).changes, (asked h c).reply)

@@ -1,5 +1,5 @@
 -- What the group `general` says of an instance: whether it is enabled, and by which restarter it is run.
-use Rattle.std.specs.Prelude.{ℕ, ◌==◌, List, [], ◌∷◌, ◌++◌, length, Bool, true, false, if◌then◌else◌, codes, Option, Some, None, is_some, option_map, find, Result, Ok, Err}
+use Rattle.std.specs.Prelude.{ℕ, ◌==◌, List, [], ◌∷◌, ◌++◌, length, Bool, true, false, if◌then◌else◌, codes, Option, Some, None, is_some, Result, Ok, Err}
 use Rattle.smf_fmri.specs.declared.fault.FmriFault.{FmriFault}
 use Rattle.smf_fmri.specs.Name.{short, read}
 use Rattle.smf_fmri.specs.Matching.{service_of, instance_of}
@@ -7,12 +7,11 @@ use Rattle.smf_value.specs.declared.value.Value.{Value}
 use Rattle.smf_value.specs.declared.value.Value.TheVariants.{Boolean, Astring, Fmri}
 use Rattle.smf_value.specs.Groups.{PropertyRecord, GroupRecord, property_of}
 use Rattle.smf_model.specs.declared.held.Instance.{Instance}
-use Rattle.smf_model.specs.declared.held.Held.{Held}
 use Rattle.smf_model.specs.declared.held.Owner.{Owner}
 use Rattle.smf_model.specs.declared.held.Owner.TheVariants as owners
 use Rattle.smf_model.specs.declared.setting.Setting.{Setting}
 use Rattle.smf_model.specs.declared.setting.Setting.TheVariants.{Unset, Restarter, Unreadable}
-use Rattle.smf_model.specs.Look.{is_group}
+use Rattle.smf_model.specs.Look.{group_in}
 
 abbrev pub general : List ℕ
 general = codes "general"
@@ -36,23 +35,24 @@ startd = codes "svc:/system/svc/restarter:default"
 abbrev pub service_fmri : List ℕ → List ℕ
 service_fmri name = short ++ service_of name
 
+-- the groups of each owner, as a look-up
+abbrev pub Groups : Type 0
+Groups = Owner → List GroupRecord
+
 abbrev pub property_in : Option GroupRecord → List ℕ → Option PropertyRecord
 property_in None name = None
 property_in (Some g) name = property_of name g
-
-abbrev pub group_in : List Held → Owner → List ℕ → Option GroupRecord
-group_in gs owner name = option_map (λ g. g.group) (find (is_group owner name) gs)
-
-abbrev pub property_at : List Held → Owner → List ℕ → List ℕ → Option PropertyRecord
-property_at gs owner name property = property_in (group_in gs owner name) property
 
 abbrev pub first_of : {X : Type 0} → Option X → Option X → Option X
 first_of (Some x) other = Some x
 first_of None other = other
 
--- a property of `general`: the instance's, else the service's
-abbrev pub general_of : List Held → Instance → List ℕ → Option PropertyRecord
-general_of gs i property = first_of (property_at gs (owners.Instance i.number) general property) (property_at gs (owners.Service (service_fmri i.name)) general property)
+-- a property of the group of an instance, else of that of its service
+abbrev pub property_of_either : Option GroupRecord → Option GroupRecord → List ℕ → Option PropertyRecord
+property_of_either own services_own name = first_of (property_in own name) (property_in services_own name)
+
+abbrev pub service_owner : Instance → Owner
+service_owner i = owners.Service (service_fmri i.name)
 
 -- one boolean says so; anything else is false
 abbrev pub truth_of : List Value → Bool
@@ -63,9 +63,15 @@ abbrev pub is_true : Option PropertyRecord → Bool
 is_true None = false
 is_true (Some p) = truth_of p.values
 
+-- `enabled` of `general_ovr` of an instance, else of its `general`, else of that of its service
+abbrev pub enabled_property : Option GroupRecord → Option GroupRecord → Option GroupRecord → Option PropertyRecord
+enabled_property ovr own services_own = first_of (property_in ovr enabled_name) (property_of_either own services_own enabled_name)
+
 -- `general_ovr/enabled` of the instance if it is there, else `general/enabled`
-unfoldable pub enabled : List Held → Instance → Bool
-enabled gs i = is_true (first_of (property_at gs (owners.Instance i.number) general_ovr enabled_name) (general_of gs i enabled_name))
+unfoldable pub enabled : Groups → Instance → Bool
+enabled gs i =
+    let own = gs (owners.Instance i.number) in
+    is_true (enabled_property (group_in own general_ovr) (group_in own general) (group_in (gs (service_owner i)) general))
 
 abbrev pub named_restarter : Result (List ℕ) FmriFault → Setting
 named_restarter (Ok name) = if is_some (instance_of name) then Restarter name else Unreadable
@@ -82,9 +88,13 @@ abbrev pub set_by : Option PropertyRecord → Setting
 set_by None = Unset
 set_by (Some p) = setting_of p.values
 
+-- what the groups `general` of an instance and of its service say
+abbrev pub setting_by : Option GroupRecord → Option GroupRecord → Setting
+setting_by own services_own = set_by (property_of_either own services_own restarter_name)
+
 -- what `general/restarter` says
-unfoldable pub setting : List Held → Instance → Setting
-setting gs i = set_by (general_of gs i restarter_name)
+unfoldable pub setting : Groups → Instance → Setting
+setting gs i = setting_by (group_in (gs (owners.Instance i.number)) general) (group_in (gs (service_owner i)) general)
 
 -- the restarter that a setting names: svc.startd's own where it names none
 abbrev pub owner_by : Setting → List ℕ
@@ -100,5 +110,5 @@ owned_by_setting true s i = record i { row = record i.row { owner = owner_by s }
 owned_by_setting false s i = i
 
 -- an instance as it is read: while its row number is 0 its owner is what `general/restarter` says
-unfoldable pub current : List Held → Instance → Instance
+unfoldable pub current : Groups → Instance → Instance
 current gs i = owned_by_setting (i.row.number == 0) (setting gs i) i

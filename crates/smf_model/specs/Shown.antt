@@ -7,32 +7,36 @@ use Rattle.smf_state.specs.declared.view.ViewItem.{ViewItem}
 use Rattle.smf_state.specs.States.{state_text}
 use Rattle.smf_value.specs.declared.kind.Kind.TheVariants as kinds
 use Rattle.smf_value.specs.declared.value.Value.TheVariants.{Astring}
-use Rattle.smf_value.specs.Groups.{PropertyRecord, GroupRecord}
+use Rattle.smf_value.specs.Groups.{PropertyRecord, GroupRecord, by_group}
 use Rattle.smf_snap.specs.declared.name.SnapshotName.{SnapshotName}
 use Rattle.smf_snap.specs.declared.name.SnapshotName.TheVariants as snapshots
 use Rattle.smf_snap.specs.Body.{spelled_both}
 use Rattle.smf_snap.specs.Names.{names}
-use Rattle.smf_snap.specs.Taking.{put_group}
+use Rattle.smf_fmri.specs.ByKey.{put, put_all}
 use Rattle.smf_model.specs.declared.held.Instance.{Instance}
 use Rattle.smf_model.specs.declared.held.Owner.{Owner}
 use Rattle.smf_model.specs.declared.held.Owner.TheVariants as owners
 use Rattle.smf_model.specs.declared.held.Snapshot.{Snapshot}
 use Rattle.smf_model.specs.declared.held.View.{View}
 use Rattle.smf_model.specs.Holdings.{Holdings}
-use Rattle.smf_model.specs.Look.{instance}
-use Rattle.smf_model.specs.Next.{groups_of, is_instance_of, named_snapshot, number_of}
-use Rattle.smf_model.specs.Setting.{current, enabled, framework, is_readable, restarter_name, setting}
+use Rattle.smf_model.specs.Look.{groups_of, instance, instances}
+use Rattle.smf_model.specs.Next.{is_instance_of, named_snapshot, number_of}
+use Rattle.smf_model.specs.Setting.{current, enabled, framework, is_readable, restarter_name, service_owner, setting}
 
 abbrev pub is_run_by : List ℕ → Instance → Bool
 is_run_by restarter i = pointwise nat_eq i.row.owner restarter
 
+-- all instances, as they are read
+abbrev pub all_read : Holdings → List Instance
+all_read h = map (current (groups_of h)) (instances h)
+
 -- the instances that a restarter runs, in number order
 unfoldable pub rows_of : Holdings → List ℕ → List Instance
-rows_of h restarter = filter (is_run_by restarter) (map (current h.groups) h.instances)
+rows_of h restarter = filter (is_run_by restarter) (all_read h)
 
 -- the instances of a service, in number order
 unfoldable pub children : Holdings → List ℕ → List Instance
-children h service = filter (is_instance_of service) (map (current h.groups) h.instances)
+children h service = filter (is_instance_of service) (all_read h)
 
 abbrev pub text_property : List ℕ → List ℕ → PropertyRecord
 text_property name text = record { name = name; kind = kinds.Astring; values = Astring text ∷ [] }
@@ -53,12 +57,19 @@ made_group r =
 
 abbrev pub shown_with : Option Instance → List GroupRecord → List GroupRecord
 shown_with None gs = gs
-shown_with (Some i) gs = put_group (made_group i.row) gs
+shown_with (Some i) gs = put by_group (made_group i.row) gs
 
 -- the groups of an owner in the order of their names, an instance's made one among them
 unfoldable pub shown_groups : Holdings → Owner → List GroupRecord
 shown_groups h (owners.Service name) = groups_of h (owners.Service name)
 shown_groups h (owners.Instance n) = shown_with (instance h n) (groups_of h (owners.Instance n))
+
+-- the groups that an instance has, by name: its own, else those of its service, each as a whole
+abbrev pub composed_of : Holdings → Instance → List GroupRecord
+composed_of h i = put_all by_group (groups_of h (owners.Instance i.number)) (groups_of h (service_owner i))
+
+unfoldable pub composed_groups : Holdings → ℕ → Option (List GroupRecord)
+composed_groups h n = option_map (composed_of h) (instance h n)
 
 -- ---- snapshots by name
 
@@ -89,12 +100,20 @@ view_item h i =
     record {
       instance = i.number;
       name = i.name;
-      enabled = enabled h.groups i;
-      readable = is_readable (setting h.groups i);
-      row = (current h.groups i).row;
+      enabled = enabled (groups_of h) i;
+      readable = is_readable (setting (groups_of h) i);
+      row = (current (groups_of h) i).row;
       body = option_map body_of (named_snapshot h i.row.running);
     }
 
+-- it without the bytes of a snapshot
+abbrev pub row_item : Holdings → Instance → ViewItem
+row_item h i = record (view_item h i) { body = None }
+
+-- such an item for each instance, in number order
+unfoldable pub rows : Holdings → List ViewItem
+rows h = map (row_item h) (instances h)
+
 -- the revision, and an item for each instance in number order
 unfoldable pub view : Holdings → View
-view h = record { revision = h.revision; items = map (view_item h) h.instances }
+view h = record { revision = h.revision; items = map (view_item h) (instances h) }

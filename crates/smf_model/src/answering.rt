@@ -1,15 +1,14 @@
 ghost use Rattle.std.specs.Prelude.{◌≡◌, ◌==◌, ◌+◌, ◌∷◌, [], IfOk, Some, None, Ok, Err};
 ghost use Rattle.smf_state.specs.Rows.{applied};
 ghost use Rattle.smf_model.specs.Next.{answer, answer_at, found, fresh_answer, granted, is_again, is_other_snapshot, is_running, refused, stale, started_by, step_answer, takes_running, with_row};
-ghost use Rattle.smf_model.specs.Tables.{held_in};
 
 use crate::asking::{Asked, accepted, found, one, refused};
 use crate::change::Change;
 use crate::command::{Reply, Why};
 use crate::held::Instance;
-use crate::look::launch_of;
 use crate::snapping::with_snapshot;
 use crate::tables::Tables;
+use smf_fmri::Items;
 use smf_state::{Proposal, Row, State, Step, StepFault};
 use std::alloc::Global;
 
@@ -46,9 +45,9 @@ fn is_next_number(before: u64, number: u64) -> bool
 
 /// Why a proposal is refused before its step is looked at, the first reason.
 fn stale(tables: &Tables, row: &Row, proposal: &Proposal) -> Option<Why>
-    ensures { result ≡ stale (held_in tables.now) row.now proposal.now }
+    ensures { result ≡ stale tables.now row.now proposal.now }
 {
-    if proposal.launch != launch_of(tables, &proposal.proposer) {
+    if proposal.launch != tables.launch_of(&proposal.proposer) {
         Some(Why::Launch)
     } else if row.owner != proposal.proposer {
         Some(Why::Owner)
@@ -90,12 +89,12 @@ fn with_row(mut instance: Instance, row: Row) -> Instance
 }
 
 fn granted(alloc: Global, tables: &Tables, instance: &Instance, mut row: Row, takes: bool) -> Asked
-    ensures { IfOk result (λ r. (r.0.items, r.1) ≡ granted (held_in tables.now) instance.now row takes) }
+    ensures { IfOk result (λ r. r ≡ granted tables.now instance.now row takes) }
 {
     if takes {
-        row.running = Some(tables.next_snapshot);
+        row.running = Some(tables.next_snapshot());
         let after = with_row(instance.clone()?, row.clone()?);
-        let mut changes = Vec::new(alloc);
+        let mut changes = Items::new(alloc);
         changes.push(Change::PutInstance(after))?;
         return with_snapshot(alloc, tables, instance, changes, Reply::Granted(row));
     }
@@ -110,10 +109,10 @@ fn granted(alloc: Global, tables: &Tables, instance: &Instance, mut row: Row, ta
 
 /// Takes the step of a proposal, whose reasons to be refused were looked at.
 fn step_answer(alloc: Global, tables: &Tables, instance: &Instance, proposal: &Proposal) -> Asked
-    ensures { IfOk result (λ r. (r.0.items, r.1) ≡ step_answer (held_in tables.now) instance.now (applied instance.now.row proposal.now ((held_in tables.now).revision + 1))) }
+    ensures { IfOk result (λ r. r ≡ step_answer tables.now instance.now (applied instance.now.row proposal.now (tables.now.revision + 1))) }
 {
     let mut row = instance.row.clone()?;
-    let revision = tables.revision.get() + 1;
+    let revision = tables.revision().get() + 1;
     match row.apply(proposal, revision) {
         Err(fault) => refused_step(alloc, instance, fault),
         Ok(()) => {
@@ -124,14 +123,14 @@ fn step_answer(alloc: Global, tables: &Tables, instance: &Instance, proposal: &P
 }
 
 fn refused_step(alloc: Global, instance: &Instance, fault: StepFault) -> Asked
-    ensures { IfOk result (λ r. (r.0.items, r.1) ≡ refused (Reply.Stale (Why.Step fault) (Some instance.now.row))) }
+    ensures { IfOk result (λ r. r ≡ refused (Reply.Stale (Why.Step fault) (Some instance.now.row))) }
 {
     let row = instance.row.clone()?;
     refused(alloc, Reply::Stale(Why::Step(fault), Some(row)))
 }
 
 fn answer_at(alloc: Global, tables: &Tables, instance: &Instance, proposal: &Proposal) -> Asked
-    ensures { IfOk result (λ r. (r.0.items, r.1) ≡ answer_at (held_in tables.now) proposal.now (Some instance.now)) }
+    ensures { IfOk result (λ r. r ≡ answer_at tables.now proposal.now (Some instance.now)) }
 {
     if is_again(&instance.row, proposal) {
         return refused(alloc, Reply::Granted(instance.row.clone()?));
@@ -145,7 +144,7 @@ fn answer_at(alloc: Global, tables: &Tables, instance: &Instance, proposal: &Pro
 /// The answer to a proposal.
 #[tactic(auto, unfolding(crate::specs::Next::answer))]
 pub(crate) fn answer(alloc: Global, tables: &Tables, proposal: &Proposal) -> Asked
-    ensures { IfOk result (λ r. (r.0.items, r.1) ≡ answer (held_in tables.now) proposal.now) }
+    ensures { IfOk result (λ r. r ≡ answer tables.now proposal.now) }
 {
     match found(alloc, tables, proposal.instance)? {
         None => refused(alloc, Reply::Stale(Why::NoSuch, None)),

@@ -1,25 +1,20 @@
-ghost use Rattle.std.specs.Option.{option_copied};
-ghost use Rattle.std.specs.Prelude.{◌≡◌, ◌≤◌, ◌<◌, ◌+◌, ◌++◌, ◌∷◌, [], IfOk, Some, None, map, count_by};
-ghost use Rattle.smf_model.specs.Next.{accepted, added_at, added_group, added_named, asked_add_instance, asked_add_service, asked_clear, asked_delete_instance, asked_delete_service, asked_if, asked_launch, asked_mark, asked_restart, asked_where, asking, changed_group, deleted_group, found, guarded, has_room, is_in_use, is_instance_of, is_made, is_other_group, is_there, marked, new_instance, property_changed, put_or_denied, refused};
-ghost use Rattle.smf_model.specs.Look.{group, instance, launch_of, named, service};
-ghost use Rattle.smf_model.specs.Setting.{service_fmri};
-ghost use Rattle.smf_model.specs.Tables.{held_in};
-ghost use Rattle.std.specs.List.{list_any};
+ghost use Rattle.std.specs.Prelude.{◌≡◌, ◌≤◌, ◌+◌, ◌∷◌, [], IfOk, Some, None};
+ghost use Rattle.smf_model.specs.Next.{accepted, added_at, asked_add_instance, asked_add_service, asked_clear, asked_delete_instance, asked_if, asked_launch, asked_mark, asked_restart, asked_where, asking, found, greatest_instance, is_in_use, is_made, is_there, joining, leaving, marked, refused};
+ghost use Rattle.smf_model.specs.Look.{launch_of, named, service};
 
-use crate::change::Change;
+use crate::change::{Change, Outcome};
 use crate::command::{Mark, Reply};
-use crate::held::{Held, Instance, Launch, Owner};
-use crate::look::{group_named, instance_named, instance_of, launch_of, service_named};
+use crate::held::{Instance, InstanceEntry, InstanceName, Launch, Owner, Service};
 use crate::setting::{current, startd};
-use crate::tables::{Tables, same_owner};
+use crate::tables::Tables;
 use bitflags::Flags;
-use smf_fmri::{InstanceFmri, ServiceFmri};
+use smf_fmri::{InstanceFmri, Items, Ordered, ServiceFmri};
 use smf_state::{Asks, Row, State};
-use smf_value::{Group, GroupFlags, Name};
+use smf_value::Name;
 use std::alloc::{AllocError, Global};
 
-/// What a command makes: the changes, and the reply.
-pub(crate) type Asked = Result<(Vec<Change>, Reply), AllocError>;
+/// What a command makes, unless memory runs out.
+pub(crate) type Asked = Result<Outcome, AllocError>;
 
 /// The most instances, 2^24 - 1.
 pub const MAX_INSTANCE: u64 = 0xff_ffff;
@@ -29,34 +24,37 @@ pub const MAX_COUNT: u64 = 0x7fff_ffff_ffff_ffff;
 
 /// A refusal changes nothing.
 pub(crate) fn refused(alloc: Global, reply: Reply) -> Asked
-    ensures { IfOk result (λ r. (r.0.items, r.1) ≡ refused reply) }
+    ensures { IfOk result (λ r. r ≡ refused reply) }
 {
-    Ok((Vec::new(alloc), reply))
+    Ok(Outcome {
+        changes: Items::new(alloc),
+        reply,
+    })
 }
 
 /// An accepted command makes one revision, where one is left.
 pub(crate) fn accepted(
     alloc: Global,
     tables: &Tables,
-    mut changes: Vec<Change>,
+    mut changes: Items<Change>,
     reply: Reply,
 ) -> Asked
-    ensures { IfOk result (λ r. (r.0.items, r.1) ≡ accepted (held_in tables.now) changes.items reply) }
+    ensures { IfOk result (λ r. r ≡ accepted tables.now changes reply) }
 {
-    match tables.revision.next() {
+    match tables.revision().next() {
         None => refused(alloc, Reply::Limit),
         Some(next) => {
             changes.push(Change::SetRevision(next))?;
-            Ok((changes, reply))
+            Ok(Outcome { changes, reply })
         }
     }
 }
 
 /// A command with one change.
 pub(crate) fn one(alloc: Global, tables: &Tables, change: Change, reply: Reply) -> Asked
-    ensures { IfOk result (λ r. (r.0.items, r.1) ≡ accepted (held_in tables.now) (change ∷ []) reply) }
+    ensures { IfOk result (λ r. r ≡ accepted tables.now (change ∷ []) reply) }
 {
-    let mut changes = Vec::new(alloc);
+    let mut changes = Items::new(alloc);
     changes.push(change)?;
     accepted(alloc, tables, changes, reply)
 }
@@ -68,9 +66,9 @@ pub(crate) fn two(
     second: Change,
     reply: Reply,
 ) -> Asked
-    ensures { IfOk result (λ r. (r.0.items, r.1) ≡ accepted (held_in tables.now) (first ∷ second ∷ []) reply) }
+    ensures { IfOk result (λ r. r ≡ accepted tables.now (first ∷ second ∷ []) reply) }
 {
-    let mut changes = Vec::new(alloc);
+    let mut changes = Items::new(alloc);
     changes.push(first)?;
     changes.push(second)?;
     accepted(alloc, tables, changes, reply)
@@ -82,28 +80,29 @@ pub(crate) fn found(
     tables: &Tables,
     number: u64,
 ) -> Result<Option<Instance>, AllocError>
-    ensures { IfOk result (λ i. i ≡ found (held_in tables.now) number) }
+    ensures { IfOk result (λ i. i ≡ found tables.now number) }
 {
-    match instance_of(&tables.instances, number) {
+    match tables.instance(number) {
         None => Ok(None),
         Some(instance) => {
-            let instance = current(alloc, &tables.groups, instance.clone()?)?;
+            let instance = current(alloc, tables, instance.clone()?)?;
             Ok(Some(instance))
         }
     }
 }
 
 pub(crate) fn add_service(alloc: Global, tables: &Tables, name: &ServiceFmri) -> Asked
-    ensures { IfOk result (λ r. (r.0.items, r.1) ≡ asked_add_service (held_in tables.now) name.now (service (held_in tables.now) name.now)) }
+    ensures { IfOk result (λ r. r ≡ asked_add_service tables.now name.now (service tables.now name.now)) }
 {
-    match service_named(&tables.services, name) {
+    match tables.service(name) {
         Some(_) => refused(alloc, Reply::Exists),
-        None => one(
-            alloc,
-            tables,
-            Change::AddService(name.clone()?),
-            Reply::Done,
-        ),
+        None => {
+            let service = Service {
+                name: name.clone()?,
+                groups: Ordered::new(alloc),
+            };
+            one(alloc, tables, Change::AddService(service), Reply::Done)
+        }
     }
 }
 
@@ -113,12 +112,12 @@ pub(crate) fn add_instance(
     parent: &ServiceFmri,
     name: &Name,
 ) -> Asked
-    ensures { IfOk result (λ r. (r.0.items, r.1) ≡ asked_add_instance (held_in tables.now) name.now (service (held_in tables.now) parent.now)) }
+    ensures { IfOk result (λ r. r ≡ asked_add_instance tables.now name.now (service tables.now parent.now)) }
 {
-    let Some(service) = service_named(&tables.services, parent) else {
+    let Some(service) = tables.service(parent) else {
         return refused(alloc, Reply::NoSuch);
     };
-    let mut text = String::from_str(alloc, service.print())?;
+    let mut text = String::from_str(alloc, service.name.print())?;
     text.push_str(":")?;
     text.push_str(name.as_str())?;
     match InstanceFmri::read_short(alloc, &text)? {
@@ -128,15 +127,29 @@ pub(crate) fn add_instance(
 }
 
 fn add_at(alloc: Global, tables: &Tables, name: InstanceFmri) -> Asked
-    ensures { IfOk result (λ r. (r.0.items, r.1) ≡ added_at (held_in tables.now) name (named (held_in tables.now) name)) }
+    ensures { IfOk result (λ r. r ≡ added_at tables.now name (named tables.now name)) }
 {
-    if instance_named(&tables.instances, &name).is_some() {
+    if tables.named(&name).is_some() {
         return refused(alloc, Reply::Exists);
     }
-    let number = tables.next_instance;
+    let number = tables.next_instance();
     if number > MAX_INSTANCE {
         return refused(alloc, Reply::Limit);
     }
+    let changes = joining(alloc, tables, name)?;
+    accepted(alloc, tables, changes, Reply::Made(number))
+}
+
+/// The changes that add an instance of the number that comes next.
+fn joining(alloc: Global, tables: &Tables, name: InstanceFmri) -> Result<Items<Change>, AllocError>
+    requires { tables.now.next_instance ≤ greatest_instance }
+    ensures { IfOk result (λ all. all ≡ joining tables.now name) }
+{
+    let number = tables.next_instance();
+    let entry = InstanceName {
+        name: name.clone()?,
+        number,
+    };
     let instance = Instance {
         number,
         name,
@@ -144,13 +157,14 @@ fn add_at(alloc: Global, tables: &Tables, name: InstanceFmri) -> Asked
         start: None,
         previous: None,
     };
-    two(
-        alloc,
-        tables,
-        Change::AddInstance(instance),
-        Change::NextInstance(number + 1),
-        Reply::Made(number),
-    )
+    let mut changes = Items::new(alloc);
+    changes.push(Change::AddInstance(InstanceEntry {
+        instance,
+        groups: Ordered::new(alloc),
+    }))?;
+    changes.push(Change::PutName(entry))?;
+    changes.push(Change::NextInstance(number + 1))?;
+    Ok(changes)
 }
 
 /// An instance that runs, or whose transition is under way, or that has a run.
@@ -161,7 +175,7 @@ fn is_in_use(row: &Row) -> bool
 }
 
 pub(crate) fn delete_instance(alloc: Global, tables: &Tables, number: u64) -> Asked
-    ensures { IfOk result (λ r. (r.0.items, r.1) ≡ asked_delete_instance (held_in tables.now) (found (held_in tables.now) number)) }
+    ensures { IfOk result (λ r. r ≡ asked_delete_instance tables.now (found tables.now number)) }
 {
     let Some(instance) = found(alloc, tables, number)? else {
         return refused(alloc, Reply::NoSuch);
@@ -169,19 +183,27 @@ pub(crate) fn delete_instance(alloc: Global, tables: &Tables, number: u64) -> As
     if is_in_use(&instance.row) {
         return refused(alloc, Reply::InUse);
     }
-    let mut changes = Vec::new(alloc);
-    changes.push(Change::DropGroups(Owner::Instance(instance.number)))?;
-    changes.push(Change::DropSnapshots(instance.number))?;
-    changes.push(Change::DropInstance(instance.number))?;
+    let changes = leaving(alloc, instance)?;
     accepted(alloc, tables, changes, Reply::Done)
 }
 
+/// The changes that drop an instance.
+fn leaving(alloc: Global, instance: Instance) -> Result<Items<Change>, AllocError>
+    ensures { IfOk result (λ all. all ≡ leaving instance) }
+{
+    let mut changes = Items::new(alloc);
+    changes.push(Change::DropSnapshots(instance.number))?;
+    changes.push(Change::DropName(instance.name))?;
+    changes.push(Change::DropInstance(instance.number))?;
+    Ok(changes)
+}
+
 pub(crate) fn is_there(tables: &Tables, owner: &Owner) -> bool
-    ensures { result ≡ is_there (held_in tables.now) owner.now }
+    ensures { result ≡ is_there tables.now owner.now }
 {
     match owner {
-        Owner::Service(name) => service_named(&tables.services, name).is_some(),
-        Owner::Instance(number) => instance_of(&tables.instances, *number).is_some(),
+        Owner::Service(name) => tables.service(name).is_some(),
+        Owner::Instance(number) => tables.instance(*number).is_some(),
     }
 }
 
@@ -204,7 +226,7 @@ fn asking(mut instance: Instance, ask: Asks) -> Instance
 }
 
 fn asked_if(alloc: Global, tables: &Tables, applies: bool, instance: Instance, ask: Asks) -> Asked
-    ensures { IfOk result (λ r. (r.0.items, r.1) ≡ asked_if (held_in tables.now) applies instance ask.0) }
+    ensures { IfOk result (λ r. r ≡ asked_if tables.now applies instance ask.0) }
 {
     if applies {
         one(
@@ -214,7 +236,7 @@ fn asked_if(alloc: Global, tables: &Tables, applies: bool, instance: Instance, a
             Reply::Done,
         )
     } else {
-        accepted(alloc, tables, Vec::new(alloc), Reply::Done)
+        accepted(alloc, tables, Items::new(alloc), Reply::Done)
     }
 }
 
@@ -225,7 +247,7 @@ fn asked_where(
     instance: Instance,
     ask: Asks,
 ) -> Asked
-    ensures { IfOk result (λ r. (r.0.items, r.1) ≡ asked_where (held_in tables.now) applies instance ask.0) }
+    ensures { IfOk result (λ r. r ≡ asked_where tables.now applies instance ask.0) }
 {
     if applies {
         one(
@@ -240,7 +262,7 @@ fn asked_where(
 }
 
 pub(crate) fn restart(alloc: Global, tables: &Tables, number: u64) -> Asked
-    ensures { IfOk result (λ r. (r.0.items, r.1) ≡ asked_restart (held_in tables.now) (found (held_in tables.now) number)) }
+    ensures { IfOk result (λ r. r ≡ asked_restart tables.now (found tables.now number)) }
 {
     match found(alloc, tables, number)? {
         None => refused(alloc, Reply::NoSuch),
@@ -252,7 +274,7 @@ pub(crate) fn restart(alloc: Global, tables: &Tables, number: u64) -> Asked
 }
 
 pub(crate) fn clear(alloc: Global, tables: &Tables, number: u64) -> Asked
-    ensures { IfOk result (λ r. (r.0.items, r.1) ≡ asked_clear (held_in tables.now) (found (held_in tables.now) number)) }
+    ensures { IfOk result (λ r. r ≡ asked_clear tables.now (found tables.now number)) }
 {
     match found(alloc, tables, number)? {
         None => refused(alloc, Reply::NoSuch),
@@ -265,7 +287,7 @@ pub(crate) fn clear(alloc: Global, tables: &Tables, number: u64) -> Asked
 }
 
 pub(crate) fn mark(alloc: Global, tables: &Tables, number: u64, mark: Mark) -> Asked
-    ensures { IfOk result (λ r. (r.0.items, r.1) ≡ asked_mark (held_in tables.now) mark (found (held_in tables.now) number)) }
+    ensures { IfOk result (λ r. r ≡ asked_mark tables.now mark (found tables.now number)) }
 {
     match found(alloc, tables, number)? {
         None => refused(alloc, Reply::NoSuch),
@@ -274,7 +296,7 @@ pub(crate) fn mark(alloc: Global, tables: &Tables, number: u64, mark: Mark) -> A
 }
 
 fn marked(alloc: Global, tables: &Tables, mark: Mark, instance: Instance) -> Asked
-    ensures { IfOk result (λ r. (r.0.items, r.1) ≡ marked (held_in tables.now) mark instance) }
+    ensures { IfOk result (λ r. r ≡ marked tables.now mark instance) }
 {
     let state = instance.row.state;
     match mark {
@@ -307,9 +329,9 @@ fn marked(alloc: Global, tables: &Tables, mark: Mark, instance: Instance) -> Ask
 /// A restarter of a name begins.
 #[tactic(auto, unfolding(crate::specs::Next::asked_launch))]
 pub(crate) fn launch(alloc: Global, tables: &Tables, restarter: &InstanceFmri) -> Asked
-    ensures { IfOk result (λ r. (r.0.items, r.1) ≡ asked_launch (held_in tables.now) restarter.now) }
+    ensures { IfOk result (λ r. r ≡ asked_launch tables.now restarter.now) }
 {
-    let count = launch_of(tables, restarter);
+    let count = tables.launch_of(restarter);
     if count >= MAX_COUNT {
         return refused(alloc, Reply::Limit);
     }

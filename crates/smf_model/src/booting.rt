@@ -1,20 +1,21 @@
-ghost use Rattle.std.specs.Prelude.{◌≡◌, ◌<◌, ◌+◌, ◌++◌, ◌||◌, not, nat_lt, false, IfOk, map, filter};
+ghost use Rattle.std.specs.Prelude.{◌≡◌, ◌<◌, ◌++◌, false, IfOk, map};
 ghost use Rattle.std.specs.List.{list_any};
-ghost use Rattle.smf_model.specs.Look.{service};
-ghost use Rattle.smf_model.specs.Next.{asked_boot, asked_delete_service, booted, booted_row, dropped, is_instance_of, is_last_launch, is_last_number, is_persistent, persistent, relaunched};
-ghost use Rattle.smf_model.specs.Tables.{held_in};
+ghost use Rattle.std.specs.Option.{option_copied};
+ghost use Rattle.smf_model.specs.Look.{bare, group_in, groups_of, service};
+ghost use Rattle.smf_model.specs.Next.{all_booted, asked_boot, asked_delete_service, booted, booted_row, booting, has_dropped, is_instance_of, is_last_launch, is_last_number, kept_groups, kept_of_instances, kept_of_services, may_not_boot, persistent, relaunched};
+ghost use Rattle.smf_model.specs.Setting.{setting};
 ghost use Rattle.smf_state.specs.Rows.{greatest_number};
 
-use crate::asking::{Asked, MAX_COUNT, accepted, refused, two};
+use crate::asking::{Asked, MAX_COUNT, accepted, one, refused};
 use crate::change::Change;
 use crate::command::Reply;
-use crate::held::{Held, Instance, Launch, Owner};
-use crate::look::service_named;
-use crate::setting::{owner_by, setting_for};
+use crate::held::{Instance, InstanceEntry, Launch, Owner, Service};
+use crate::setting::{Setting, owner_by, service_owner, setting_by};
 use crate::tables::Tables;
 use bitflags::Flags;
-use smf_fmri::{InstanceFmri, ServiceFmri};
+use smf_fmri::{InstanceFmri, Items, Ordered, ServiceFmri};
 use smf_state::{Asks, Row, State};
+use smf_value::Group;
 use std::alloc::{AllocError, Global};
 
 fn is_last_launch(launch: &Launch) -> bool
@@ -35,16 +36,21 @@ fn any_last_launch(launches: &[Launch]) -> bool
     launches.iter().any(|launch| is_last_launch(launch))
 }
 
-fn any_last_number(instances: &[Instance]) -> bool
-    ensures { result ≡ list_any is_last_number instances.now }
+fn any_last_number(entries: &[InstanceEntry]) -> bool
+    ensures { result ≡ list_any is_last_number (bare entries.now) }
 {
-    instances.iter().any(|instance| is_last_number(instance))
+    for entry in entries {
+        if is_last_number(&entry.instance) {
+            return true;
+        }
+    }
+    false
 }
 
 /// Every restarter's count is one more.
-fn relaunch(mut changes: Vec<Change>, launches: &[Launch]) -> Result<Vec<Change>, AllocError>
+fn relaunch(mut changes: Items<Change>, launches: &[Launch]) -> Result<Items<Change>, AllocError>
     requires { list_any is_last_launch launches.now ≡ false }
-    ensures { IfOk result (λ all. all.items ≡ changes.items ++ map relaunched launches.now) }
+    ensures { IfOk result (λ all. all ≡ changes ++ map relaunched launches.now) }
 {
     for launch in launches {
         let next = Launch {
@@ -56,28 +62,58 @@ fn relaunch(mut changes: Vec<Change>, launches: &[Launch]) -> Result<Vec<Change>
     Ok(changes)
 }
 
-/// The groups that are not persistent go.
-fn drop_groups(mut changes: Vec<Change>, groups: &[Held]) -> Result<Vec<Change>, AllocError>
-    ensures { IfOk result (λ all. all.items ≡ changes.items ++ map dropped (filter (λ g. g.group.non_persistent) groups.now)) }
+/// The groups that outlast a boot.
+fn kept_groups(alloc: Global, groups: &Ordered<Group>) -> Result<Ordered<Group>, AllocError>
+    ensures { IfOk result (λ gs. gs ≡ kept_groups groups.now) }
 {
-    for held in groups {
-        if held.group.is_non_persistent() {
-            changes.push(Change::DropGroup(held.owner.clone()?, held.group.name().clone()?))?;
+    let mut kept = groups.clone()?;
+    kept.retain(|group| !group.is_non_persistent());
+    Ok(kept)
+}
+
+fn has_dropped(groups: &Ordered<Group>) -> bool
+    ensures { result ≡ has_dropped groups.now }
+{
+    groups
+        .as_slice()
+        .iter()
+        .any(|group| group.is_non_persistent())
+}
+
+/// The groups of services that are not persistent go.
+fn keep_of_services(
+    alloc: Global,
+    mut changes: Items<Change>,
+    services: &[Service],
+) -> Result<Items<Change>, AllocError>
+    ensures { IfOk result (λ all. all ≡ changes ++ kept_of_services services.now) }
+{
+    for service in services {
+        if has_dropped(&service.groups) {
+            let owner = Owner::Service(service.name.clone()?);
+            let kept = kept_groups(alloc, &service.groups)?;
+            changes.push(Change::PutGroups(owner, kept))?;
         }
     }
     Ok(changes)
 }
 
-fn persistent(alloc: Global, groups: &[Held]) -> Result<Vec<Held>, AllocError>
-    ensures { IfOk result (λ gs. gs.items ≡ persistent groups.now) }
+/// The groups of instances that are not persistent go.
+fn keep_of_instances(
+    alloc: Global,
+    mut changes: Items<Change>,
+    entries: &[InstanceEntry],
+) -> Result<Items<Change>, AllocError>
+    ensures { IfOk result (λ all. all ≡ changes ++ kept_of_instances entries.now) }
 {
-    let mut kept = Vec::new(alloc);
-    for held in groups {
-        if !held.group.is_non_persistent() {
-            kept.push(held.clone()?)?;
+    for entry in entries {
+        if has_dropped(&entry.groups) {
+            let owner = Owner::Instance(entry.instance.number);
+            let kept = kept_groups(alloc, &entry.groups)?;
+            changes.push(Change::PutGroups(owner, kept))?;
         }
     }
-    Ok(kept)
+    Ok(changes)
 }
 
 /// A row at a boot: what was under way is gone.
@@ -98,11 +134,57 @@ fn booted_row(mut row: Row, owner: InstanceFmri) -> Row
     row
 }
 
-fn booted(alloc: Global, groups: &[Held], mut instance: Instance) -> Result<Instance, AllocError>
-    requires { instance.row.number < greatest_number }
-    ensures { IfOk result (λ i. i ≡ booted groups.now instance) }
+/// The group of a name of an owner, where it outlasts a boot.
+#[tactic(auto, unfolding(crate::specs::Look::groups_of))]
+fn persistent_group<'a>(tables: &'a Tables, owner: &Owner, name: &str) -> Option<&'a Group>
+    ensures { option_copied result ≡ group_in (persistent (groups_of tables.now) owner.now) name.now }
 {
-    let owner = owner_by(alloc, setting_for(alloc, groups, &instance)?)?;
+    match tables.owned(owner) {
+        None => None,
+        Some(groups) => kept_of_name(groups, name),
+    }
+}
+
+/// The group of a name, where it outlasts a boot.
+#[tactic(auto, using(crate::proofs::Kept::kept_none, crate::proofs::Kept::kept_some))]
+fn kept_of_name<'a>(groups: &'a Ordered<Group>, name: &str) -> Option<&'a Group>
+    ensures { option_copied result ≡ group_in (kept_groups groups.now) name.now }
+{
+    let _ordered = groups.as_slice();
+    match groups.get_text(name) {
+        None => None,
+        Some(group) => {
+            if group.is_non_persistent() {
+                None
+            } else {
+                Some(group)
+            }
+        }
+    }
+}
+
+/// What `general/restarter` says of an instance once a boot has dropped groups.
+#[tactic(auto, unfolding(crate::specs::Setting::setting))]
+fn setting_at_boot(
+    alloc: Global,
+    tables: &Tables,
+    instance: &Instance,
+) -> Result<Setting, AllocError>
+    ensures { IfOk result (λ s. s ≡ setting (persistent (groups_of tables.now)) instance.now) }
+{
+    let own = Owner::Instance(instance.number);
+    let service = service_owner(alloc, &instance.name)?;
+    let general = persistent_group(tables, &own, "general");
+    let services_own = persistent_group(tables, &service, "general");
+    setting_by(alloc, general, services_own)
+}
+
+fn booted(alloc: Global, tables: &Tables, instance: &Instance) -> Result<Instance, AllocError>
+    requires { instance.now.row.number < greatest_number }
+    ensures { IfOk result (λ i. i ≡ booted (persistent (groups_of tables.now)) instance.now) }
+{
+    let owner = owner_by(alloc, setting_at_boot(alloc, tables, instance)?)?;
+    let mut instance = instance.clone()?;
     instance.row = booted_row(instance.row, owner);
     Ok(instance)
 }
@@ -110,47 +192,46 @@ fn booted(alloc: Global, groups: &[Held], mut instance: Instance) -> Result<Inst
 /// Every instance begins anew.
 fn boot_all(
     alloc: Global,
-    mut changes: Vec<Change>,
-    groups: &[Held],
-    instances: &[Instance],
-) -> Result<Vec<Change>, AllocError>
-    requires { list_any is_last_number instances.now ≡ false }
-    ensures { IfOk result (λ all. all.items ≡ changes.items ++ map (λ i. Change.PutInstance (booted groups.now i)) instances.now) }
+    mut changes: Items<Change>,
+    tables: &Tables,
+    entries: &[InstanceEntry],
+) -> Result<Items<Change>, AllocError>
+    requires { list_any is_last_number (bare entries.now) ≡ false }
+    ensures { IfOk result (λ all. all ≡ changes ++ all_booted (persistent (groups_of tables.now)) (bare entries.now)) }
 {
-    for instance in instances {
-        let next = booted(alloc, groups, instance.clone()?)?;
+    for entry in entries {
+        let next = booted(alloc, tables, &entry.instance)?;
         changes.push(Change::PutInstance(next))?;
     }
     Ok(changes)
 }
 
 /// The changes of a boot: every restarter is launched again, groups go, every instance begins anew.
-fn boot_changes(alloc: Global, tables: &Tables) -> Result<Vec<Change>, AllocError>
-    requires launches { list_any is_last_launch tables.now.launches.items ≡ false }
-    requires instances { list_any is_last_number tables.now.instances.items ≡ false }
-    ensures { IfOk result (λ all. all.items ≡ (map relaunched tables.now.launches.items ++ map dropped (filter (λ g. g.group.non_persistent) tables.now.groups.items)) ++ map (λ i. Change.PutInstance (booted (persistent tables.now.groups.items) i)) tables.now.instances.items) }
+fn booting(alloc: Global, tables: &Tables) -> Result<Items<Change>, AllocError>
+    requires { may_not_boot tables.now ≡ false }
+    ensures { IfOk result (λ all. all ≡ booting tables.now) }
 {
-    let kept = persistent(alloc, &tables.groups)?;
-    let changes = relaunch(Vec::new(alloc), &tables.launches)?;
-    let changes = drop_groups(changes, &tables.groups)?;
-    boot_all(alloc, changes, &kept, &tables.instances)
+    let changes = relaunch(Items::new(alloc), tables.launches())?;
+    let changes = keep_of_services(alloc, changes, tables.services())?;
+    let changes = keep_of_instances(alloc, changes, tables.entries())?;
+    boot_all(alloc, changes, tables, tables.entries())
 }
 
 fn may_not_boot(tables: &Tables) -> bool
-    ensures { result ≡ (list_any is_last_launch tables.now.launches.items || list_any is_last_number tables.now.instances.items) }
+    ensures { result ≡ may_not_boot tables.now }
 {
-    any_last_launch(&tables.launches) || any_last_number(&tables.instances)
+    any_last_launch(tables.launches()) || any_last_number(tables.entries())
 }
 
 /// What a boot of the machine changes.
 #[tactic(auto, unfolding(crate::specs::Next::asked_boot))]
 pub(crate) fn boot(alloc: Global, tables: &Tables) -> Asked
-    ensures { IfOk result (λ r. (r.0.items, r.1) ≡ asked_boot (held_in tables.now)) }
+    ensures { IfOk result (λ r. r ≡ asked_boot tables.now) }
 {
     if may_not_boot(tables) {
         return refused(alloc, Reply::Limit);
     }
-    let changes = boot_changes(alloc, tables)?;
+    let changes = booting(alloc, tables)?;
     accepted(alloc, tables, changes, Reply::Done)
 }
 
@@ -169,12 +250,12 @@ pub(crate) fn is_instance_of(
 fn has_instance(
     alloc: Global,
     service: &ServiceFmri,
-    instances: &[Instance],
+    entries: &[InstanceEntry],
 ) -> Result<bool, AllocError>
-    ensures { IfOk result (λ b. b ≡ list_any (is_instance_of service.now) instances.now) }
+    ensures { IfOk result (λ b. b ≡ list_any (is_instance_of service.now) (bare entries.now)) }
 {
-    for instance in instances {
-        let is_one = is_instance_of(alloc, service, instance)?;
+    for entry in entries {
+        let is_one = is_instance_of(alloc, service, &entry.instance)?;
         if is_one {
             return Ok(true);
         }
@@ -183,19 +264,14 @@ fn has_instance(
 }
 
 pub(crate) fn delete_service(alloc: Global, tables: &Tables, name: &ServiceFmri) -> Asked
-    ensures { IfOk result (λ r. (r.0.items, r.1) ≡ asked_delete_service (held_in tables.now) (service (held_in tables.now) name.now)) }
+    ensures { IfOk result (λ r. r ≡ asked_delete_service tables.now (service tables.now name.now)) }
 {
-    let Some(service) = service_named(&tables.services, name) else {
+    let Some(service) = tables.service(name) else {
         return refused(alloc, Reply::NoSuch);
     };
-    if has_instance(alloc, service, &tables.instances)? {
+    if has_instance(alloc, &service.name, tables.entries())? {
         return refused(alloc, Reply::InUse);
     }
-    two(
-        alloc,
-        tables,
-        Change::DropGroups(Owner::Service(service.clone()?)),
-        Change::DropService(service.clone()?),
-        Reply::Done,
-    )
+    let change = Change::DropService(service.name.clone()?);
+    one(alloc, tables, change, Reply::Done)
 }

@@ -1,6 +1,5 @@
 ghost use Rattle.std.specs.Prelude.{◌≡◌, IfOk};
 ghost use Rattle.smf_model.specs.Next.{asked, asked_edit};
-ghost use Rattle.smf_model.specs.Tables.{held_in};
 
 use crate::answering::answer;
 use crate::asking::{
@@ -18,7 +17,7 @@ use std::alloc::Global;
 /// What a client's edit changes, and its reply.
 #[tactic(auto, unfolding(crate::specs::Next::asked_edit))]
 fn asked_edit(alloc: Global, tables: &Tables, edit: &Edit) -> Asked
-    ensures { IfOk result (λ r. (r.0.items, r.1) ≡ asked_edit (held_in tables.now) edit.now) }
+    ensures { IfOk result (λ r. r ≡ asked_edit tables.now edit.now) }
 {
     match edit {
         Edit::AddService(name) => add_service(alloc, tables, name),
@@ -59,7 +58,7 @@ fn asked_edit(alloc: Global, tables: &Tables, edit: &Edit) -> Asked
 /// What a command changes, and its reply.
 #[tactic(auto, unfolding(crate::specs::Next::asked))]
 pub(crate) fn asked(alloc: Global, tables: &Tables, command: &Command) -> Asked
-    ensures { IfOk result (λ r. (r.0.items, r.1) ≡ asked (held_in tables.now) command.now) }
+    ensures { IfOk result (λ r. r ≡ asked tables.now command.now) }
 {
     match command {
         Command::Edit(edit) => asked_edit(alloc, tables, edit),

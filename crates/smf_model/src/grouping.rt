@@ -1,58 +1,73 @@
-ghost use Rattle.std.specs.Prelude.{◌≡◌, ◌==◌, false, true, ◌∷◌, [], IfOk, Some, None, count_by, Result, Ok, Err, OnOk, unwrap_or};
-ghost use Rattle.smf_value.specs.Edits.{Answers};
-ghost use Rattle.smf_value.specs.Groups.{GroupRecord};
-ghost use Rattle.smf_model.specs.Look.{group};
-ghost use Rattle.smf_model.specs.Next.{accepted, added_group, asked_enable, found, changed_group, deleted_group, enabled_for_good, enabled_for_now, enabled_property, guarded, has_room, is_other_group, new_group, property_changed, put_or_denied};
-ghost use Rattle.smf_model.specs.Setting.{framework, general, general_ovr};
-ghost use Rattle.smf_model.specs.Tables.{held_in};
-ghost use Rattle.smf_value.specs.Edits as edits;
 ghost use Rattle.std.specs.Int.RustNames.{bit_and};
+ghost use Rattle.std.specs.Prelude.{◌≡◌, ◌==◌, false, true, ◌∷◌, [], IfOk, None, count_by, Ok};
+ghost use Rattle.smf_value.specs.Edits.{Answers};
+ghost use Rattle.smf_model.specs.Look.{group, groups_of};
+ghost use Rattle.smf_model.specs.Next.{accepted, added_group, asked_enable, changed_group, deleted_group, enabled_for_good, enabled_for_now, enabling_of, found, group_dropped, group_enabled, group_or_new, group_put, guarded, has_room, is_other_group, new_group, property_changed};
+ghost use Rattle.smf_model.specs.Setting.{general, general_ovr};
 
-use crate::asking::{Asked, found, is_made, is_there, one, refused, two};
+use crate::asking::{Asked, found, is_made, is_there, one, refused};
 use crate::change::Change;
 use crate::command::{PropertyChange, Reply};
-use crate::held::{Held, Owner};
-use crate::look::group_named;
-use crate::tables::{Tables, same_owner};
+use crate::held::Owner;
+use crate::setting::group_of;
+use crate::tables::Tables;
+use smf_fmri::Ordered;
 use smf_value::{Group, GroupFault, GroupFlags, Name, Property, Value};
 use std::alloc::{AllocError, Global};
 
 /// The most groups of an owner.
-const MAX_GROUPS: usize = 1000;
+pub(crate) const MAX_GROUPS: usize = 1000;
 
-fn is_other_group(owner: &Owner, first: &str, second: &str, held: &Held) -> bool
-    ensures { result ≡ is_other_group owner.now first.now second.now held.now }
+fn is_other_group(first: &str, second: &str, group: &Group) -> bool
+    ensures { result ≡ is_other_group first.now second.now group.now }
 {
-    same_owner(&held.owner, owner)
-        && held.group.name().as_str() != first
-        && held.group.name().as_str() != second
+    group.name().as_str() != first && group.name().as_str() != second
 }
 
 /// Whether an owner has room for a group of one of two names.
-pub(crate) fn has_room(tables: &Tables, owner: &Owner, first: &str, second: &str) -> bool
-    ensures { result ≡ has_room (held_in tables.now) owner.now first.now second.now }
+#[tactic(auto, unfolding(crate::specs::Look::groups_of))]
+fn has_room(tables: &Tables, owner: &Owner, first: &str, second: &str) -> bool
+    ensures { result ≡ has_room tables.now owner.now first.now second.now }
 {
-    other_count(&tables.groups, owner, first, second) < MAX_GROUPS
+    match tables.owned(owner) {
+        None => true,
+        Some(groups) => other_count(groups.as_slice(), first, second) < MAX_GROUPS,
+    }
 }
 
 /// Whether an owner has room for a group of a name.
 fn has_room_for(tables: &Tables, owner: &Owner, name: &str) -> bool
-    ensures { result ≡ has_room (held_in tables.now) owner.now name.now name.now }
+    ensures { result ≡ has_room tables.now owner.now name.now name.now }
 {
     has_room(tables, owner, name, name)
 }
 
-fn other_count(groups: &[Held], owner: &Owner, first: &str, second: &str) -> usize
-    ensures { result ≡ count_by (is_other_group owner.now first.now second.now) groups.now }
+fn other_count(groups: &[Group], first: &str, second: &str) -> usize
+    ensures { result ≡ count_by (is_other_group first.now second.now) groups.now }
 {
     groups
         .iter()
-        .filter(|held| is_other_group(owner, first, second, held))
+        .filter(|group| is_other_group(first, second, group))
         .count()
 }
 
+/// A copy of the groups of an owner.
+#[tactic(auto, unfolding(crate::specs::Look::groups_of))]
+pub(crate) fn groups_of(
+    alloc: Global,
+    tables: &Tables,
+    owner: &Owner,
+) -> Result<Ordered<Group>, AllocError>
+    ensures { IfOk result (λ gs. gs ≡ groups_of tables.now owner.now) }
+{
+    match tables.owned(owner) {
+        None => Ok(Ordered::new(alloc)),
+        Some(groups) => groups.clone(),
+    }
+}
+
 pub(crate) fn add_group(alloc: Global, tables: &Tables, owner: &Owner, new: Group) -> Asked
-    ensures { IfOk result (λ r. (r.0.items, r.1) ≡ guarded (held_in tables.now) owner.now new.name (added_group (held_in tables.now) owner.now new (group (held_in tables.now) owner.now new.name))) }
+    ensures { IfOk result (λ r. r ≡ guarded tables.now owner.now new.name (added_group tables.now owner.now new (group tables.now owner.now new.name))) }
 {
     if !is_there(tables, owner) {
         return refused(alloc, Reply::NoSuch);
@@ -60,14 +75,14 @@ pub(crate) fn add_group(alloc: Global, tables: &Tables, owner: &Owner, new: Grou
     if is_made(owner, new.name()) {
         return refused(alloc, Reply::InUse);
     }
-    match group_named(&tables.groups, owner, new.name()) {
+    match group_of(tables, owner, new.name().as_str()) {
         Some(_) => refused(alloc, Reply::Exists),
         None => put_where_room(alloc, tables, owner, new),
     }
 }
 
 fn put_where_room(alloc: Global, tables: &Tables, owner: &Owner, new: Group) -> Asked
-    ensures { IfOk result (λ r. (r.0.items, r.1) ≡ added_group (held_in tables.now) owner.now new None) }
+    ensures { IfOk result (λ r. r ≡ added_group tables.now owner.now new None) }
 {
     if has_room_for(tables, owner, new.name().as_str()) {
         put(alloc, tables, owner, new)
@@ -78,17 +93,26 @@ fn put_where_room(alloc: Global, tables: &Tables, owner: &Owner, new: Group) -> 
 
 /// Puts a group in its place.
 fn put(alloc: Global, tables: &Tables, owner: &Owner, new: Group) -> Asked
-    ensures { IfOk result (λ r. (r.0.items, r.1) ≡ accepted (held_in tables.now) (Change.PutGroup (record { owner = owner.now; group = new }) ∷ []) Reply.Done) }
+    ensures { IfOk result (λ r. r ≡ accepted tables.now (group_put tables.now owner.now new ∷ []) Reply.Done) }
 {
-    let held = Held {
-        owner: owner.clone()?,
-        group: new,
-    };
-    one(alloc, tables, Change::PutGroup(held), Reply::Done)
+    let mut groups = groups_of(alloc, tables, owner)?;
+    groups.put(new)?;
+    let change = Change::PutGroups(owner.clone()?, groups);
+    one(alloc, tables, change, Reply::Done)
+}
+
+/// Takes a group out.
+fn drop_group(alloc: Global, tables: &Tables, owner: &Owner, name: &Name) -> Asked
+    ensures { IfOk result (λ r. r ≡ accepted tables.now (group_dropped tables.now owner.now name.now ∷ []) Reply.Done) }
+{
+    let mut groups = groups_of(alloc, tables, owner)?;
+    groups.remove(name);
+    let change = Change::PutGroups(owner.clone()?, groups);
+    one(alloc, tables, change, Reply::Done)
 }
 
 pub(crate) fn delete_group(alloc: Global, tables: &Tables, owner: &Owner, name: &Name) -> Asked
-    ensures { IfOk result (λ r. (r.0.items, r.1) ≡ guarded (held_in tables.now) owner.now name.now (deleted_group (held_in tables.now) owner.now name.now (group (held_in tables.now) owner.now name.now))) }
+    ensures { IfOk result (λ r. r ≡ guarded tables.now owner.now name.now (deleted_group tables.now owner.now name.now (group tables.now owner.now name.now))) }
 {
     if !is_there(tables, owner) {
         return refused(alloc, Reply::NoSuch);
@@ -96,11 +120,10 @@ pub(crate) fn delete_group(alloc: Global, tables: &Tables, owner: &Owner, name: 
     if is_made(owner, name) {
         return refused(alloc, Reply::InUse);
     }
-    if group_named(&tables.groups, owner, name).is_none() {
+    if group_of(tables, owner, name.as_str()).is_none() {
         return refused(alloc, Reply::NoSuch);
     }
-    let change = Change::DropGroup(owner.clone()?, name.clone()?);
-    one(alloc, tables, change, Reply::Done)
+    drop_group(alloc, tables, owner, name)
 }
 
 pub(crate) fn change_property(
@@ -110,7 +133,7 @@ pub(crate) fn change_property(
     name: &Name,
     change: &PropertyChange,
 ) -> Asked
-    ensures { IfOk result (λ r. (r.0.items, r.1) ≡ guarded (held_in tables.now) owner.now name.now (changed_group (held_in tables.now) owner.now change.now (group (held_in tables.now) owner.now name.now))) }
+    ensures { IfOk result (λ r. r ≡ guarded tables.now owner.now name.now (changed_group tables.now owner.now change.now (group tables.now owner.now name.now))) }
 {
     if !is_there(tables, owner) {
         return refused(alloc, Reply::NoSuch);
@@ -118,10 +141,10 @@ pub(crate) fn change_property(
     if is_made(owner, name) {
         return refused(alloc, Reply::InUse);
     }
-    let Some(held) = group_named(&tables.groups, owner, name) else {
+    let Some(group) = group_of(tables, owner, name.as_str()) else {
         return refused(alloc, Reply::NoSuch);
     };
-    match property_changed(alloc, held.group.clone()?, change) {
+    match property_changed(alloc, group.clone()?, change) {
         Ok(changed) => put(alloc, tables, owner, changed),
         Err(GroupFault::Memory) => Err(AllocError),
         Err(fault) => refused(alloc, Reply::Denied(fault)),
@@ -153,7 +176,7 @@ fn property_changed(
 
 /// The property `enabled`, put into a group.
 fn with_enabled(alloc: Global, mut into: Group, enabled: bool) -> Result<Group, GroupFault>
-    ensures { Answers (λ g. g) result (edits.put (enabled_property enabled) into) }
+    ensures { Answers (λ g. g) result (group_enabled enabled into) }
 {
     let name = Name::new(alloc, "enabled")?;
     let property = Property::single(alloc, name, Value::Boolean(enabled))?;
@@ -172,18 +195,19 @@ pub(crate) fn new_group(alloc: Global, name: Name, group_type: Name, non_persist
     }
 }
 
-/// An owner's group of a name, or a new one of type framework.
+/// The group of a name of an instance, or a new one of type framework.
 fn group_or_new(
     alloc: Global,
     tables: &Tables,
-    owner: &Owner,
+    number: u64,
     name: Name,
     non_persistent: bool,
 ) -> Result<Group, AllocError>
-    ensures { IfOk result (λ g. g ≡ unwrap_or (group (held_in tables.now) owner.now name) (new_group name framework non_persistent)) }
+    ensures { IfOk result (λ g. g ≡ group_or_new tables.now number name non_persistent) }
 {
-    match group_named(&tables.groups, owner, &name) {
-        Some(held) => held.group.clone(),
+    let owner = Owner::Instance(number);
+    match group_of(tables, &owner, name.as_str()) {
+        Some(group) => group.clone(),
         None => {
             let framework = Name::new(alloc, "framework")?;
             Ok(new_group(alloc, name, framework, non_persistent))
@@ -192,12 +216,11 @@ fn group_or_new(
 }
 
 /// Enables or disables an instance for good: `general/enabled`, and no `general_ovr`.
-pub(crate) fn enable_for_good(alloc: Global, tables: &Tables, number: u64, enabled: bool) -> Asked
-    ensures { IfOk result (λ r. (r.0.items, r.1) ≡ enabled_for_good (held_in tables.now) number (edits.put (enabled_property enabled) (unwrap_or (group (held_in tables.now) (Owner.Instance number) general) (new_group general framework false)))) }
+fn enable_for_good(alloc: Global, tables: &Tables, number: u64, enabled: bool) -> Asked
+    ensures { IfOk result (λ r. r ≡ enabled_for_good tables.now number (group_enabled enabled (group_or_new tables.now number general false))) }
 {
-    let owner = Owner::Instance(number);
     let name = Name::new(alloc, "general")?;
-    let general = group_or_new(alloc, tables, &owner, name, false)?;
+    let general = group_or_new(alloc, tables, number, name, false)?;
     match with_enabled(alloc, general, enabled) {
         Err(GroupFault::Memory) => Err(AllocError),
         Err(fault) => refused(alloc, Reply::Denied(fault)),
@@ -206,27 +229,38 @@ pub(crate) fn enable_for_good(alloc: Global, tables: &Tables, number: u64, enabl
 }
 
 fn put_for_good(alloc: Global, tables: &Tables, number: u64, general: Group) -> Asked
-    ensures { IfOk result (λ r. (r.0.items, r.1) ≡ enabled_for_good (held_in tables.now) number (Ok general)) }
+    ensures { IfOk result (λ r. r ≡ enabled_for_good tables.now number (Ok general)) }
 {
     let owner = Owner::Instance(number);
     if !has_room(tables, &owner, "general", "general_ovr") {
         return refused(alloc, Reply::Limit);
     }
-    let held = Held {
-        owner: Owner::Instance(number),
-        group: general,
-    };
-    let dropped = Change::DropGroup(owner, Name::new(alloc, "general_ovr")?);
-    two(alloc, tables, dropped, Change::PutGroup(held), Reply::Done)
+    let change = enabling(alloc, tables, owner, general)?;
+    one(alloc, tables, change, Reply::Done)
+}
+
+/// A group put in its place, and `general_ovr` gone.
+fn enabling(
+    alloc: Global,
+    tables: &Tables,
+    owner: Owner,
+    group: Group,
+) -> Result<Change, AllocError>
+    ensures { IfOk result (λ c. c ≡ enabling_of tables.now owner group) }
+{
+    let mut groups = groups_of(alloc, tables, &owner)?;
+    let name = Name::new(alloc, "general_ovr")?;
+    groups.remove(&name);
+    groups.put(group)?;
+    Ok(Change::PutGroups(owner, groups))
 }
 
 /// Enables or disables an instance until the next boot: `general_ovr/enabled`.
-pub(crate) fn enable_for_now(alloc: Global, tables: &Tables, number: u64, enabled: bool) -> Asked
-    ensures { IfOk result (λ r. (r.0.items, r.1) ≡ enabled_for_now (held_in tables.now) number (edits.put (enabled_property enabled) (unwrap_or (group (held_in tables.now) (Owner.Instance number) general_ovr) (new_group general_ovr framework true)))) }
+fn enable_for_now(alloc: Global, tables: &Tables, number: u64, enabled: bool) -> Asked
+    ensures { IfOk result (λ r. r ≡ enabled_for_now tables.now number (group_enabled enabled (group_or_new tables.now number general_ovr true))) }
 {
-    let owner = Owner::Instance(number);
     let name = Name::new(alloc, "general_ovr")?;
-    let present = group_or_new(alloc, tables, &owner, name, true)?;
+    let present = group_or_new(alloc, tables, number, name, true)?;
     write_for_now(alloc, tables, number, present, enabled)
 }
 
@@ -237,7 +271,7 @@ fn write_for_now(
     present: Group,
     enabled: bool,
 ) -> Asked
-    ensures { IfOk result (λ r. (r.0.items, r.1) ≡ enabled_for_now (held_in tables.now) number (edits.put (enabled_property enabled) present)) }
+    ensures { IfOk result (λ r. r ≡ enabled_for_now tables.now number (group_enabled enabled present)) }
 {
     match with_enabled(alloc, present, enabled) {
         Err(GroupFault::Memory) => Err(AllocError),
@@ -247,7 +281,7 @@ fn write_for_now(
 }
 
 fn put_for_now(alloc: Global, tables: &Tables, number: u64, ovr: Group) -> Asked
-    ensures { IfOk result (λ r. (r.0.items, r.1) ≡ enabled_for_now (held_in tables.now) number (Ok ovr)) }
+    ensures { IfOk result (λ r. r ≡ enabled_for_now tables.now number (Ok ovr)) }
 {
     let owner = Owner::Instance(number);
     if !has_room(tables, &owner, "general_ovr", "general_ovr") {
@@ -263,7 +297,7 @@ pub(crate) fn enable(
     enabled: bool,
     temporary: bool,
 ) -> Asked
-    ensures { IfOk result (λ r. (r.0.items, r.1) ≡ asked_enable (held_in tables.now) number enabled temporary (found (held_in tables.now) number)) }
+    ensures { IfOk result (λ r. r ≡ asked_enable tables.now number enabled temporary (found tables.now number)) }
 {
     match found(alloc, tables, number)? {
         None => refused(alloc, Reply::NoSuch),

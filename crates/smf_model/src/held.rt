@@ -1,12 +1,10 @@
-ghost use Rattle.smf_value.specs.Body.{names_of};
-ghost use Rattle.smf_value.specs.Groups.{Rises};
-ghost use Rattle.std.specs.Prelude.{◌≡◌, IfOk};
+ghost use Rattle.smf_fmri.specs.ByKey.{by_number, by_text};
+ghost use Rattle.std.specs.Prelude.{◌≡◌, IfOk, refl};
 
-use smf_fmri::{InstanceFmri, Items, Number, ServiceFmri};
+use smf_fmri::{ExactClone, HasPart, InstanceFmri, Items, Keyed, Number, Ordered, ServiceFmri};
 use smf_state::{Row, ViewItem};
 use smf_value::Group;
 use std::alloc::AllocError;
-use std::marker::Model;
 
 /// What groups belong to.
 #[derive(Debug, Drop)]
@@ -16,11 +14,11 @@ pub enum Owner {
     Instance(u64),
 }
 
-/// A group with its owner.
+/// A service, with its groups by name.
 #[derive(Debug, Drop)]
-pub struct Held {
-    pub owner: Owner,
-    pub group: Group,
+pub struct Service {
+    pub name: ServiceFmri,
+    pub groups: Ordered<Group>,
 }
 
 /// An instance, its groups aside. The snapshot `running` stands in its row.
@@ -36,48 +34,28 @@ pub struct Instance {
     pub previous: Option<u64>,
 }
 
+/// An instance, with its groups by name.
+#[derive(Debug, Drop)]
+pub struct InstanceEntry {
+    pub instance: Instance,
+    pub groups: Ordered<Group>,
+}
+
+/// Which instance has a name.
+#[derive(Debug, Drop)]
+pub struct InstanceName {
+    pub name: InstanceFmri,
+    pub number: u64,
+}
+
 /// What an instance's configuration was: the groups of its service and its own.
 #[derive(Debug, Drop)]
 pub struct Snapshot {
     /// From 1, never given again.
     pub number: u64,
     pub instance: u64,
-    pub service_groups: Groups,
-    pub instance_groups: Groups,
-}
-
-/// Groups in the order of their names, each name once.
-#[derive(Debug, Drop)]
-pub struct Groups {
-    groups: Items<Group>,
-}
-
-impl Model for Groups {
-    ghost use Rattle.smf_value.specs.Body.{names_of};
-    ghost use Rattle.smf_value.specs.Groups.{GroupRecord, Rises};
-    ghost use Rattle.std.specs.Prelude.{List};
-
-    ghost Value = { List GroupRecord };
-
-    ghost view = { λ g. g.groups };
-
-    ghost invariant = { λ g. Rises (names_of g.groups) };
-}
-
-impl Groups {
-    pub fn in_order(groups: Items<Group>) -> Groups
-        requires { Rises (names_of groups) }
-        ensures { result ≡ groups }
-    {
-        Groups { groups }
-    }
-
-    pub fn as_slice(&self) -> &[Group]
-        ensures value { result.now ≡ self.now }
-        ensures rises { Rises (names_of self.now) }
-    {
-        self.groups.as_slice()
-    }
+    pub service_groups: Ordered<Group>,
+    pub instance_groups: Ordered<Group>,
 }
 
 /// How often a restarter was launched.
@@ -85,6 +63,151 @@ impl Groups {
 pub struct Launch {
     pub restarter: InstanceFmri,
     pub count: u64,
+}
+
+/// What takes the place of a part of an entry.
+#[derive(Debug, Drop)]
+pub enum EntryPart {
+    /// The instance, which keeps its number.
+    Instance(Instance),
+    Groups(Ordered<Group>),
+}
+
+impl Keyed for Service {
+    type Key = ServiceFmri;
+
+    ghost by = { by_text (λ s. s.name) };
+
+    fn key(&self) -> &ServiceFmri {
+        &self.name
+    }
+
+    ghost same = { refl };
+}
+
+impl HasPart for Service {
+    type Part = Ordered<Group>;
+
+    ghost with_part = { λ s gs. record s { groups = gs } };
+
+    fn set_part(&mut self, part: Ordered<Group>) {
+        self.groups = part;
+    }
+
+    ghost keeps_key = { λ s gs. refl };
+}
+
+impl Keyed for InstanceEntry {
+    type Key = u64;
+
+    ghost by = { by_number (λ e. e.instance.number) };
+
+    fn key(&self) -> &u64 {
+        &self.instance.number
+    }
+
+    ghost same = { refl };
+}
+
+impl HasPart for InstanceEntry {
+    ghost use Rattle.smf_model.specs.Entry.{with_part, with_part_keeps_key};
+
+    type Part = EntryPart;
+
+    ghost with_part = { λ e part. with_part part e };
+
+    fn set_part(&mut self, part: EntryPart) {
+        match part {
+            EntryPart::Instance(instance) => {
+                let number = self.instance.number;
+                self.instance = instance;
+                self.instance.number = number;
+            }
+            EntryPart::Groups(groups) => self.groups = groups,
+        }
+    }
+
+    ghost keeps_key = { λ e part. with_part_keeps_key part e };
+}
+
+impl Keyed for InstanceName {
+    type Key = InstanceFmri;
+
+    ghost by = { by_text (λ n. n.name) };
+
+    fn key(&self) -> &InstanceFmri {
+        &self.name
+    }
+
+    ghost same = { refl };
+}
+
+impl Keyed for Snapshot {
+    type Key = u64;
+
+    ghost by = { by_number (λ s. s.number) };
+
+    fn key(&self) -> &u64 {
+        &self.number
+    }
+
+    ghost same = { refl };
+}
+
+impl Keyed for Launch {
+    type Key = InstanceFmri;
+
+    ghost by = { by_text (λ l. l.restarter) };
+
+    fn key(&self) -> &InstanceFmri {
+        &self.restarter
+    }
+
+    ghost same = { refl };
+}
+
+impl Clone for Service {
+    ghost is_clone = { λ s copy. copy ≡ s };
+
+    fn clone(&self) -> Result<Service, AllocError> {
+        let name = self.name.clone()?;
+        let groups = self.groups.clone()?;
+        Ok(Service { name, groups })
+    }
+}
+
+impl ExactClone for Service {
+    ghost exact = { λ s copy same. same };
+}
+
+impl Clone for InstanceEntry {
+    ghost is_clone = { λ s copy. copy ≡ s };
+
+    fn clone(&self) -> Result<InstanceEntry, AllocError> {
+        let instance = self.instance.clone()?;
+        let groups = self.groups.clone()?;
+        Ok(InstanceEntry { instance, groups })
+    }
+}
+
+impl ExactClone for InstanceEntry {
+    ghost exact = { λ s copy same. same };
+}
+
+impl Clone for InstanceName {
+    ghost is_clone = { λ s copy. copy ≡ s };
+
+    fn clone(&self) -> Result<InstanceName, AllocError> {
+        let name = self.name.clone()?;
+        Ok(InstanceName {
+            name,
+            number: self.number,
+        })
+    }
+}
+
+impl ExactClone for InstanceName {
+    ghost exact = { λ s copy same. same };
 }
 
 impl Clone for Owner {
@@ -95,16 +218,6 @@ impl Clone for Owner {
             Owner::Service(name) => Ok(Owner::Service(name.clone()?)),
             Owner::Instance(number) => Ok(Owner::Instance(*number)),
         }
-    }
-}
-
-impl Clone for Held {
-    ghost is_clone = { λ s copy. copy ≡ s };
-
-    fn clone(&self) -> Result<Held, AllocError> {
-        let owner = self.owner.clone()?;
-        let group = self.group.clone()?;
-        Ok(Held { owner, group })
     }
 }
 
@@ -151,20 +264,12 @@ impl Clone for Snapshot {
     }
 }
 
-impl Clone for Groups {
-    ghost is_clone = { λ s copy. copy ≡ s };
-
-    fn clone(&self) -> Result<Groups, AllocError> {
-        let groups = copy_of(&self.groups)?;
-        Ok(Groups { groups })
-    }
+impl ExactClone for Snapshot {
+    ghost exact = { λ s copy same. same };
 }
 
-#[tactic(auto, using(crate::proofs::Lists::same_items))]
-fn copy_of(groups: &Items<Group>) -> Result<Items<Group>, AllocError>
-    ensures { IfOk result (λ copy. copy ≡ groups.now) }
-{
-    groups.clone()
+impl ExactClone for Launch {
+    ghost exact = { λ s copy same. same };
 }
 
 /// What svc.startd's graph sees of the repository.

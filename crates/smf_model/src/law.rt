@@ -1,4 +1,4 @@
-ghost use Rattle.std.specs.Prelude.{◌≡◌, ◌⊎◌, ◌+◌, ◌≤◌, ◌<◌, ℕ, List, true, Some, None, IsSome};
+ghost use Rattle.std.specs.Prelude.{◌≡◌, ◌⊎◌, ◌+◌, ◌≤◌, ◌<◌, [], ℕ, List, true, Some, None, IsSome};
 ghost use Rattle.smf_model.specs.declared.command.Command.{Command as AnyCommand};
 ghost use Rattle.smf_model.specs.declared.command.Command.TheVariants as commands;
 ghost use Rattle.smf_model.specs.declared.command.Reply.TheVariants as replies;
@@ -8,13 +8,14 @@ ghost use Rattle.smf_model.specs.declared.held.Snapshot.{Snapshot as AnySnapshot
 ghost use Rattle.smf_model.specs.History.{AreInTurn, entries, history, made, now, value_at};
 ghost use Rattle.smf_model.specs.Holdings.{Holdings};
 ghost use Rattle.smf_model.specs.Laws.{is_refusal, is_accepted, IsNumbered, Follows};
-ghost use Rattle.smf_model.specs.Look.{empty, instance, snapshot};
-ghost use Rattle.smf_model.specs.Next.{next, found, is_again};
+ghost use Rattle.smf_model.specs.Look.{empty, instance, named, snapshot};
+ghost use Rattle.smf_model.specs.Next.{asked, next, found, is_again};
 ghost use Rattle.smf_state.specs.declared.step.Proposal.{Proposal as AnyProposal};
 
 /// A refusal leaves what is held, and so does a proposal that is granted again.
 pub fn refusals_change_nothing()
     ensures refused { (h : Holdings) (c : AnyCommand) → is_refusal (next h c).1 ≡ true → (next h c).0 ≡ h }
+    ensures changes { (h : Holdings) (c : AnyCommand) → is_refusal (asked h c).reply ≡ true → (asked h c).changes ≡ [] }
     ensures again { (h : Holdings) (p : AnyProposal) (i : AnyInstance) → found h p.instance ≡ Some i → is_again i.row p ≡ true → next h (commands.Propose p) ≡ (h, replies.Granted i.row) }
 {}
 
@@ -33,6 +34,12 @@ pub fn numbers_are_given_once()
     ensures instance_gone { (h : Holdings) (c : AnyCommand) (n : ℕ) → n < h.next_instance → instance h n ≡ None → instance (next h c).0 n ≡ None }
     ensures snapshot_gone { (h : Holdings) (c : AnyCommand) (n : ℕ) → n < h.next_snapshot → snapshot h n ≡ None → snapshot (next h c).0 n ≡ None }
     ensures made { (h : Holdings) (s name : List ℕ) (n : ℕ) → (next h (commands.Edit (asked_for.AddInstance s name))).1 ≡ replies.Made n → (n ≡ h.next_instance) × ((next h (commands.Edit (asked_for.AddInstance s name))).0.next_instance ≡ n + 1) }
+{}
+
+/// An instance is found by its name, and what a name finds has that name.
+pub fn names_find_instances()
+    ensures found { (h : Holdings) (n : ℕ) (i : AnyInstance) → IsNumbered h → instance h n ≡ Some i → named h i.name ≡ Some i }
+    ensures only { (h : Holdings) (name : List ℕ) (i : AnyInstance) → IsNumbered h → named h name ≡ Some i → i.name ≡ name }
 {}
 
 /// Neither the number of a row nor its greatest run falls.

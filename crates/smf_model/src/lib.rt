@@ -1,10 +1,9 @@
 //! The repository as a plain value: what it holds, what each command makes of it, and the body that keeps it in lists.
-//! Modules: `held` (what is held), `command` (commands and replies), `change` (record changes), `setting` (restarters),
-//! `tables` (the lists and their changes), `look` (look-ups), `asking` (notes of asks and errors), `grouping` (edits of
+//! Modules: `held` (what is held), `command` (commands and replies), `change` (record changes), `tables` (the lists and
+//! their changes), `setting` (restarters), `asking` (services, instances and notes of asks), `grouping` (edits of
 //! groups), `snapping` (refresh), `reverting` (revert), `answering` (proposals), `booting` (boot), `dispatch` (which
-//! command it is), `journal` (what is told of changes), `numbering` (whether numbers were
-//! given once), `plain` (the repository over a journal), `showing` (reads), `viewing` (what the graph
-//! sees, and snapshots by name), `law` (what no list of commands breaks).
+//! command it is), `journal` (what is told of changes), `plain` (the repository over a journal), `showing` (reads),
+//! `viewing` (what the graph sees, and snapshots by name), `law` (what no list of commands breaks).
 #![tactic(auto)]
 
 mod answering;
@@ -17,8 +16,6 @@ mod grouping;
 mod held;
 mod journal;
 mod law;
-mod look;
-mod numbering;
 mod plain;
 mod reverting;
 mod setting;
@@ -27,17 +24,20 @@ mod snapping;
 mod tables;
 mod viewing;
 
-pub use change::Change;
+pub use change::{Change, Outcome};
 pub use command::{Command, Edit, Mark, PropertyChange, Reply, Why};
-pub use held::{Groups, Held, Instance, Launch, Owner, Snapshot, View};
-pub use journal::{Journal, NoJournal, Record, RepoFault};
+pub use held::{
+    EntryPart, Instance, InstanceEntry, InstanceName, Launch, Owner, Service, Snapshot, View,
+};
+pub use journal::{Journal, NoJournal, RepoFault};
 pub use law::{
     accepted_makes_one_revision, changes_follow_the_diagram, histories_are_made_in_turn,
-    numbers_are_given_once, refusals_change_nothing, rows_never_fall_back, snapshots_stay,
+    names_find_instances, numbers_are_given_once, refusals_change_nothing, rows_never_fall_back,
+    snapshots_stay,
 };
 pub use plain::Plain;
 pub use setting::{Setting, startd};
-pub use tables::{Tables, install, no_tables, reserve};
+pub use tables::Tables;
 
 #[cfg(test)]
 mod tests;

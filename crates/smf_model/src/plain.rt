@@ -1,28 +1,26 @@
-ghost use Rattle.std.specs.Prelude.{◌≡◌, ◌⊎◌, IfOk, IfErr, OnOk, OnErr, is_some, option_map};
-ghost use Rattle.smf_model.specs.Holdings.{Holdings};
-ghost use Rattle.smf_model.specs.Laws.{IsNumbered};
-ghost use Rattle.smf_model.specs.Look.{empty, installed, instance, launch_of, named, service, snapshot};
-ghost use Rattle.smf_model.specs.Next.{found, next};
-ghost use Rattle.smf_model.specs.Numbering.{IsTwiceNumbered};
-ghost use Rattle.smf_model.specs.Setting.{enabled};
-ghost use Rattle.smf_model.specs.Shown.{children, rows_of, shown_groups, snapshot_number, snapshots_of, view};
-ghost use Rattle.smf_model.specs.Tables.{held_in};
+ghost use Rattle.std.specs.Prelude.{◌≡◌, ◌⊎◌, ◌<◌, [], IfOk, IfErr, OnOk, true, OnErr, is_some, length, option_map};
 ghost use Rattle.std.specs.Option.{option_copied};
+ghost use Rattle.smf_model.specs.Journals.{IsTold, IsUntold, LeavesOldOr, LeavesOldOrTold, LeavesOnly};
+ghost use Rattle.smf_model.specs.Laws.{IsNumbered, is_refusal};
+ghost use Rattle.smf_model.specs.Look.{empty, groups_of, installed, instance, launch_of, named, service, snapshot};
+ghost use Rattle.smf_model.specs.Next.{asked, found, next};
+ghost use Rattle.smf_model.specs.Setting.{enabled};
+ghost use Rattle.smf_model.specs.Shown.{all_read, children, composed_groups, rows, rows_of, shown_groups, snapshot_number, snapshots_of, view};
+ghost use Rattle.smf_model.specs.Tables.{held_in};
 
 use crate::asking::found;
-use crate::change::Change;
+use crate::change::{Change, Outcome};
 use crate::command::{Command, Reply};
 use crate::dispatch::asked;
-use crate::held::{Instance, Owner, Snapshot, View};
+use crate::held::{Instance, InstanceName, Owner, Service, Snapshot, View};
 use crate::journal::{Journal, RepoFault};
-use crate::look::{instance_named, instance_of, launch_of, service_named, snapshot_of};
-use crate::numbering::is_numbered;
 use crate::setting::enabled;
-use crate::showing::{children, rows_of, shown_groups};
-use crate::tables::{Tables, install, no_tables, reserve};
-use crate::viewing::{snapshot_number, snapshots_of, view};
-use smf_fmri::{InstanceFmri, Items, Number, ServiceFmri};
+use crate::showing::{all_read, children, composed_groups, rows_of, shown_groups};
+use crate::tables::{Lists, Tables, install, reserve};
+use crate::viewing::{rows, snapshot_number, snapshots_of, view};
+use smf_fmri::{InstanceFmri, Items, Number, Ordered, ServiceFmri};
 use smf_snap::SnapshotName;
+use smf_state::ViewItem;
 use smf_value::Group;
 use std::alloc::{AllocError, Global};
 use std::marker::Model;
@@ -36,88 +34,171 @@ pub struct Plain<J: Journal> {
 }
 
 impl<J: Journal> Model for Plain<J> {
-    ghost use Rattle.smf_model.specs.Holdings.{Holdings};
     ghost use Rattle.smf_model.specs.Laws.{IsNumbered};
-    ghost use Rattle.smf_model.specs.Tables.{held_in};
+    ghost use Rattle.smf_model.specs.Whole.{Whole};
 
-    ghost Value = { Holdings };
+    ghost Value = { Whole J };
 
-    ghost view = { λ r. held_in r.tables };
+    ghost view = { λ r. record { held = r.tables; journal = r.journal } };
 
-    ghost invariant = { λ r. J.stands r.journal (held_in r.tables) × IsNumbered (held_in r.tables) };
+    ghost invariant = { λ r. J.stands r.journal r.tables × IsNumbered r.tables };
 }
 
 impl<J: Journal> Plain<J> {
-    /// Nothing held, over a journal in which nothing stands.
-    pub fn new(alloc: Global, journal: J) -> Plain<J>
-        requires { J.stands journal empty }
-        ensures { result ≡ empty }
+    /// What is held, over a journal in which it stands.
+    pub fn over(alloc: Global, tables: Tables, journal: J) -> Plain<J>
+        requires stands { J.stands journal tables }
+        requires numbered { IsNumbered tables }
+        ensures held { result.held ≡ tables }
+        ensures journal { result.journal ≡ journal }
     {
         Plain {
             alloc,
-            tables: no_tables(alloc),
+            tables,
+            journal,
+        }
+    }
+
+    /// Nothing held, over a journal in which nothing stands.
+    pub fn new(alloc: Global, journal: J) -> Plain<J>
+        requires { J.stands journal empty }
+        ensures held { result.held ≡ empty }
+        ensures journal { result.journal ≡ journal }
+    {
+        Plain {
+            alloc,
+            tables: Tables::new(alloc),
             journal,
         }
     }
 
     /// The journal, in which what was held stands.
     pub fn into_journal(self) -> J
-        ensures { J.stands result self }
+        ensures same { result ≡ self.journal }
+        ensures stands { J.stands result self.held }
     {
         self.journal
     }
 
-    /// Carries out a command: the journal is written first, and an error leaves what is held.
+    /// What a command changes, and its reply. It changes nothing itself.
+    pub fn asked(&self, command: &Command) -> Result<Outcome, AllocError>
+        ensures exact { IfOk result (λ r. r ≡ asked self.now.held command.now) }
+        ensures refused { IfOk result (λ r. is_refusal r.reply ≡ true → r.changes ≡ []) }
+        ensures numbered { IfOk result (λ r. IsNumbered (installed self.now.held r.changes)) }
+        ensures stands { J.stands self.now.journal self.now.held }
+    {
+        let outcome = asked(self.alloc, &self.tables, command)?;
+        Ok(outcome)
+    }
+
+    /// Makes changes: the journal is written first, and an error leaves what is held. Where there are none the journal
+    /// is not called.
+    pub fn commit(&mut self, changes: Items<Change>) -> Result<(), RepoFault>
+        requires { IsNumbered (installed self.old.held changes) }
+        ensures ok { OnOk result (self.new.held ≡ installed self.old.held changes) }
+        ensures err { OnErr result (self.new.held ≡ self.old.held) }
+        ensures trusted { J.is_clean self.new.journal → J.is_clean self.old.journal }
+        ensures sound { OnOk result (0 < length changes → J.is_clean self.new.journal → J.is_sound self.new.journal) }
+        ensures stands { J.stands self.new.journal self.new.held }
+        ensures crash { LeavesOldOr J.could self.old.journal self.new.journal (installed self.old.held changes) }
+        ensures settled { J.is_sound self.new.journal → LeavesOnly J.could self.new.journal self.new.held }
+        ensures fault { IfErr result (λ fault. (fault ≡ RepoFault.Memory) ⊎ (J.write_fails fault × (0 < length changes))) }
+    {
+        let tables = &mut self.tables;
+        commit(&mut self.journal, &mut tables.lists, changes.into_vec())
+    }
+
+    /// Carries out a command: what it asks for, and then the changes.
     #[tactic(auto, unfolding(crate::specs::Next::next))]
     pub fn apply(&mut self, command: &Command) -> Result<Reply, RepoFault>
-        ensures exact { IfOk result (λ reply. next self.old command.now ≡ (self.new, reply)) }
-        ensures err { OnErr result (self.new ≡ self.old) }
+        ensures exact { IfOk result (λ reply. next self.old.held command.now ≡ (self.new.held, reply)) }
+        ensures err { OnErr result (self.new.held ≡ self.old.held) }
+        ensures trusted { J.is_clean self.new.journal → J.is_clean self.old.journal }
+        ensures stands { J.stands self.new.journal self.new.held }
+        ensures crash { LeavesOldOr J.could self.old.journal self.new.journal (next self.old.held command.now).0 }
+        ensures settled { J.is_sound self.new.journal → LeavesOnly J.could self.new.journal self.new.held }
         ensures fault { IfErr result (λ fault. (fault ≡ RepoFault.Memory) ⊎ J.write_fails fault) }
     {
-        let (changes, reply) = asked(self.alloc, &self.tables, command)?;
-        commit(&mut self.journal, &mut self.tables, changes)?;
+        let Outcome { changes, reply } = self.asked(command)?;
+        self.commit(changes)?;
         Ok(reply)
     }
 
     /// The instance of a number, its owner as it is read now.
     pub fn instance(&self, number: u64) -> Result<Option<Instance>, AllocError>
-        ensures { IfOk result (λ i. i ≡ found self.now number) }
+        ensures { IfOk result (λ i. i ≡ found self.now.held number) }
     {
         found(self.alloc, &self.tables, number)
     }
 
+    /// All instances in number order, their owners as they are read now.
+    pub fn instances(&self) -> Result<Items<Instance>, AllocError>
+        ensures { IfOk result (λ all. all ≡ all_read self.now.held) }
+    {
+        let all = all_read(self.alloc, &self.tables)?;
+        Ok(Items::from_vec(all))
+    }
+
+    /// The names of instances with their numbers, by name.
+    pub fn names(&self) -> &[InstanceName]
+        ensures { result.now ≡ self.now.held.names }
+    {
+        self.tables.names()
+    }
+
+    /// The services with their groups, by name.
+    pub fn services(&self) -> &[Service]
+        ensures { result.now ≡ self.now.held.services }
+    {
+        self.tables.services()
+    }
+
     /// The instances that a restarter runs, in number order.
     pub fn rows_of(&self, restarter: &InstanceFmri) -> Result<Items<Instance>, AllocError>
-        ensures { IfOk result (λ all. all ≡ rows_of self.now restarter.now) }
+        ensures { IfOk result (λ all. all ≡ rows_of self.now.held restarter.now) }
     {
         rows_of(self.alloc, &self.tables, restarter)
     }
 
     /// The instances of a service, in number order.
     pub fn children(&self, service: &ServiceFmri) -> Result<Items<Instance>, AllocError>
-        ensures { IfOk result (λ all. all ≡ children self.now service.now) }
+        ensures { IfOk result (λ all. all ≡ children self.now.held service.now) }
     {
         children(self.alloc, &self.tables, service)
     }
 
     /// The groups of an owner in the order of their names; an instance's `restarter` is made from its row.
-    pub fn groups(&self, owner: &Owner) -> Result<Items<Group>, AllocError>
-        ensures { IfOk result (λ gs. gs ≡ shown_groups self.now owner.now) }
+    pub fn groups(&self, owner: &Owner) -> Result<Ordered<Group>, AllocError>
+        ensures { IfOk result (λ gs. gs ≡ shown_groups self.now.held owner.now) }
     {
         shown_groups(self.alloc, &self.tables, owner)
     }
 
-    pub fn has_service(&self, name: &ServiceFmri) -> bool
-        ensures { result ≡ is_some (service self.now name.now) }
+    /// The groups that the instance of a number has, by name: its own, else those of its service, each as a whole.
+    pub fn composed_groups(&self, number: u64) -> Result<Option<Ordered<Group>>, AllocError>
+        ensures { IfOk result (λ gs. gs ≡ composed_groups self.now.held number) }
     {
-        service_named(&self.tables.services, name).is_some()
+        composed_groups(self.alloc, &self.tables, number)
+    }
+
+    /// What svc.startd's graph sees of the instances, but for the bytes of snapshots.
+    pub fn rows(&self) -> Result<Items<ViewItem>, AllocError>
+        ensures { IfOk result (λ all. all ≡ rows self.now.held) }
+    {
+        rows(self.alloc, &self.tables)
+    }
+
+    pub fn has_service(&self, name: &ServiceFmri) -> bool
+        ensures { result ≡ is_some (service self.now.held name.now) }
+    {
+        self.tables.service(name).is_some()
     }
 
     /// The row number of an instance, where it is there.
     pub fn row_number(&self, number: u64) -> Option<u64>
-        ensures { result ≡ option_map (λ i. i.row.number) (instance self.now number) }
+        ensures { result ≡ option_map (λ i. i.row.number) (instance self.now.held number) }
     {
-        match instance_of(&self.tables.instances, number) {
+        match self.tables.instance(number) {
             None => None,
             Some(instance) => Some(instance.row.number),
         }
@@ -125,116 +206,92 @@ impl<J: Journal> Plain<J> {
 
     /// How often a restarter was launched.
     pub fn launch_of(&self, restarter: &InstanceFmri) -> u64
-        ensures { result ≡ launch_of self.now restarter.now }
+        ensures { result ≡ launch_of self.now.held restarter.now }
     {
-        launch_of(&self.tables, restarter)
+        self.tables.launch_of(restarter)
     }
 
     /// The number of the instance of a name.
     pub fn number_of(&self, name: &InstanceFmri) -> Option<u64>
-        ensures { result ≡ option_map (λ i. i.number) (named self.now name.now) }
+        ensures { result ≡ option_map (λ i. i.number) (named self.now.held name.now) }
     {
-        match instance_named(&self.tables.instances, name) {
+        match self.tables.named(name) {
             None => None,
             Some(instance) => Some(instance.number),
         }
     }
 
     pub fn snapshot(&self, number: u64) -> Option<&Snapshot>
-        ensures { option_copied result ≡ snapshot self.now number }
+        ensures { option_copied result ≡ snapshot self.now.held number }
     {
-        snapshot_of(&self.tables.snapshots, number)
+        self.tables.snapshot(number)
     }
 
     /// The names of the snapshots that an instance has, in byte order; none where there is no such instance.
     pub fn snapshots(&self, instance: u64) -> Result<Option<Items<SnapshotName>>, AllocError>
-        ensures { IfOk result (λ all. all ≡ snapshots_of self.now instance) }
+        ensures { IfOk result (λ all. all ≡ snapshots_of self.now.held instance) }
     {
         snapshots_of(self.alloc, &self.tables, instance)
     }
 
     /// Which snapshot a name means of an instance.
     pub fn snapshot_number(&self, instance: u64, name: SnapshotName) -> Option<u64>
-        ensures { result ≡ snapshot_number self.now instance name }
+        ensures { result ≡ snapshot_number self.now.held instance name }
     {
         snapshot_number(&self.tables, instance, name)
     }
 
     /// What svc.startd's graph sees.
     pub fn view(&self) -> Result<View, AllocError>
-        ensures { IfOk result (λ v. v ≡ view self.now) }
+        ensures { IfOk result (λ v. v ≡ view self.now.held) }
     {
         view(self.alloc, &self.tables)
     }
 
     /// Whether an instance that is there is enabled.
     pub fn is_enabled(&self, instance: &Instance) -> Result<bool, AllocError>
-        ensures { IfOk result (λ b. b ≡ enabled self.now.groups instance.now) }
+        ensures { IfOk result (λ b. b ≡ enabled (groups_of self.now.held) instance.now) }
     {
-        enabled(self.alloc, &self.tables.groups, instance)
+        enabled(self.alloc, &self.tables, instance)
     }
 
     /// All that is held.
     pub fn copy(&self) -> Result<Tables, AllocError>
-        ensures exact { IfOk result (λ t. held_in t ≡ self.now) }
-        ensures numbered { IsNumbered self.now }
+        ensures exact { IfOk result (λ t. t ≡ self.now.held) }
+        ensures numbered { IsNumbered self.now.held }
     {
-        Ok(Tables {
-            services: self.tables.services.clone()?,
-            instances: self.tables.instances.clone()?,
-            groups: self.tables.groups.clone()?,
-            snapshots: self.tables.snapshots.clone()?,
-            launches: self.tables.launches.clone()?,
-            next_instance: self.tables.next_instance,
-            next_snapshot: self.tables.next_snapshot,
-            revision: self.revision(),
-        })
+        self.tables.clone()
     }
 
     /// How many commands were accepted.
     pub fn revision(&self) -> Number
-        ensures { result ≡ self.now.revision }
+        ensures { result ≡ self.now.held.revision }
     {
-        self.tables.revision
+        self.tables.revision()
     }
 }
 
-/// Writes the changes to the journal, and then makes them. Where that fails what is held has not changed.
+/// Writes the changes to the journal, and then makes them.
 #[tactic(auto, unfolding(crate::specs::Look::installed))]
 fn commit<J: Journal>(
     journal: &mut J,
-    tables: &mut Tables,
+    lists: &mut Lists,
     changes: Vec<Change>,
 ) -> Result<(), RepoFault>
-    ensures ok { OnOk result (held_in tables.new ≡ installed (held_in tables.old) changes.items) }
-    ensures told { OnOk result ((h : Holdings) → J.stands journal.old h → J.stands journal.new (installed h changes.items)) }
-    ensures untold { OnErr result ((h : Holdings) → J.stands journal.old h → J.stands journal.new h) }
-    ensures err { OnErr result (held_in tables.new ≡ held_in tables.old) }
-    ensures fault { IfErr result (λ fault. (fault ≡ RepoFault.Memory) ⊎ J.write_fails fault) }
+    ensures ok { OnOk result (held_in lists.new ≡ installed (held_in lists.old) changes.items) }
+    ensures err { OnErr result (held_in lists.new ≡ held_in lists.old) }
+    ensures trusted { J.is_clean journal.new → J.is_clean journal.old }
+    ensures sound { OnOk result (0 < length changes.items → J.is_clean journal.new → J.is_sound journal.new) }
+    ensures told { OnOk result (IsTold J.stands journal.old journal.new changes.items) }
+    ensures untold { OnErr result (IsUntold J.stands journal.old journal.new) }
+    ensures crash { LeavesOldOrTold J.stands J.could journal.old journal.new changes.items }
+    ensures fault { IfErr result (λ fault. (fault ≡ RepoFault.Memory) ⊎ (J.write_fails fault × (0 < length changes.items))) }
 {
     if changes.is_empty() {
         return Ok(());
     }
-    reserve(tables, changes.len())?;
+    reserve(lists, changes.len())?;
     journal.write(&changes)?;
-    install(tables, changes);
+    install(lists, changes);
     Ok(())
-}
-
-impl<J: Journal + Drop> Plain<J> {
-    /// What stands in a journal. `Database` where it cannot be read, and where a number was given twice in it.
-    pub fn open(alloc: Global, journal: J) -> Result<Plain<J>, RepoFault>
-        ensures value { IfOk result (λ p. (h : Holdings) → J.stands journal h → p ≡ h) }
-        ensures fault { IfErr result (λ fault. (J.load_fails journal fault) ⊎ (IsTwiceNumbered J.stands journal fault)) }
-    {
-        let tables = journal.load(alloc)?;
-        if !is_numbered(&tables) {
-            return Err(RepoFault::Database);
-        }
-        Ok(Plain {
-            alloc,
-            tables,
-            journal,
-        })
-    }
 }

@@ -2,12 +2,13 @@ ghost use Rattle.std.specs.Option.{option_copied};
 ghost use Rattle.std.specs.Prelude.{◌≡◌, ◌==◌, if◌then◌else◌, length, IfOk, option_map, Some, Ok};
 ghost use Rattle.smf_fmri.specs.Name.{read};
 ghost use Rattle.smf_fmri.specs.Matching.{service_of};
-ghost use Rattle.smf_model.specs.Setting.{current, enabled, enabled_name, first_of, general, general_of, general_ovr, is_readable, is_true, named_restarter, owner_by, property_at, service_fmri, set_by, setting, setting_of, startd, truth_of};
+ghost use Rattle.smf_model.specs.Look.{group, groups_of};
+ghost use Rattle.smf_model.specs.Setting.{current, enabled, enabled_property, is_readable, is_true, named_restarter, owner_by, property_in, property_of_either, service_fmri, set_by, setting, setting_by, setting_of, startd, truth_of};
 
-use crate::held::{Held, Instance, Owner};
-use crate::tables::same_owner;
+use crate::held::{Instance, Owner};
+use crate::tables::Tables;
 use smf_fmri::{Fmri, FmriFault, InstanceFmri};
-use smf_value::{Property, Value};
+use smf_value::{Group, Property, Value};
 use std::alloc::{AllocError, Global};
 
 /// What `general/restarter` says.
@@ -33,35 +34,27 @@ pub fn startd(alloc: Global) -> Result<InstanceFmri, AllocError>
     }
 }
 
-/// A property of a group of an owner.
-pub(crate) fn property_at<'a>(
-    groups: &'a [Held],
-    owner: &Owner,
-    name: &str,
-    property: &str,
-) -> Option<&'a Property>
-    ensures { option_copied result ≡ property_at groups.now owner.now name.now property.now }
+/// A property of a group, where it is there.
+fn property_in<'a>(group: Option<&'a Group>, name: &str) -> Option<&'a Property>
+    ensures { option_copied result ≡ property_in (option_copied group.entry) name.now }
 {
-    for held in groups {
-        if same_owner(&held.owner, owner) && held.group.name().as_str() == name {
-            return held.group.find(property);
-        }
+    match group {
+        None => None,
+        Some(group) => group.find(name),
     }
-    None
 }
 
-/// A property of `general`: the instance's, else its service's.
-fn general_of<'a>(
-    groups: &'a [Held],
-    instance: &Owner,
-    service: &Owner,
-    property: &str,
+/// A property of the group of an instance, else of that of its service.
+fn property_of_either<'a>(
+    own: Option<&'a Group>,
+    services_own: Option<&'a Group>,
+    name: &str,
 ) -> Option<&'a Property>
-    ensures { option_copied result ≡ first_of (property_at groups.now instance.now general property.now) (property_at groups.now service.now general property.now) }
+    ensures { option_copied result ≡ property_of_either (option_copied own.entry) (option_copied services_own.entry) name.now }
 {
-    match property_at(groups, instance, "general", property) {
+    match property_in(own, name) {
         Some(property) => Some(property),
-        None => property_at(groups, service, "general", property),
+        None => property_in(services_own, name),
     }
 }
 
@@ -73,31 +66,45 @@ pub(crate) fn service_owner(alloc: Global, name: &InstanceFmri) -> Result<Owner,
     Ok(Owner::Service(service))
 }
 
+/// The group of a name of an owner.
+#[tactic(auto, unfolding(crate::specs::Look::groups_of))]
+pub(crate) fn group_of<'a>(tables: &'a Tables, owner: &Owner, name: &str) -> Option<&'a Group>
+    ensures { option_copied result ≡ group tables.now owner.now name.now }
+{
+    match tables.owned(owner) {
+        None => None,
+        Some(groups) => groups.get_text(name),
+    }
+}
+
 /// Whether an instance is enabled: by `general_ovr/enabled`, else by `general/enabled`.
 #[tactic(auto, unfolding(crate::specs::Setting::enabled))]
 pub(crate) fn enabled(
     alloc: Global,
-    groups: &[Held],
+    tables: &Tables,
     instance: &Instance,
 ) -> Result<bool, AllocError>
-    ensures { IfOk result (λ b. b ≡ enabled groups.now instance.now) }
+    ensures { IfOk result (λ b. b ≡ enabled (groups_of tables.now) instance.now) }
 {
     let own = Owner::Instance(instance.number);
     let service = service_owner(alloc, &instance.name)?;
-    Ok(is_true(enabled_property(groups, &own, &service)))
+    let ovr = group_of(tables, &own, "general_ovr");
+    let general = group_of(tables, &own, "general");
+    let services_own = group_of(tables, &service, "general");
+    Ok(is_true(enabled_property(ovr, general, services_own)))
 }
 
 /// The property that says whether an instance is enabled.
 fn enabled_property<'a>(
-    groups: &'a [Held],
-    instance: &Owner,
-    service: &Owner,
+    ovr: Option<&'a Group>,
+    own: Option<&'a Group>,
+    services_own: Option<&'a Group>,
 ) -> Option<&'a Property>
-    ensures { option_copied result ≡ first_of (property_at groups.now instance.now general_ovr enabled_name) (first_of (property_at groups.now instance.now general enabled_name) (property_at groups.now service.now general enabled_name)) }
+    ensures { option_copied result ≡ enabled_property (option_copied ovr.entry) (option_copied own.entry) (option_copied services_own.entry) }
 {
-    match property_at(groups, instance, "general_ovr", "enabled") {
+    match property_in(ovr, "enabled") {
         Some(property) => Some(property),
-        None => general_of(groups, instance, service, "enabled"),
+        None => property_of_either(own, services_own, "enabled"),
     }
 }
 
@@ -157,14 +164,27 @@ fn named(name: Fmri) -> Setting
 #[tactic(auto, unfolding(crate::specs::Setting::setting))]
 pub(crate) fn setting_for(
     alloc: Global,
-    groups: &[Held],
+    tables: &Tables,
     instance: &Instance,
 ) -> Result<Setting, AllocError>
-    ensures { IfOk result (λ s. s ≡ setting groups.now instance.now) }
+    ensures { IfOk result (λ s. s ≡ setting (groups_of tables.now) instance.now) }
 {
     let own = Owner::Instance(instance.number);
     let service = service_owner(alloc, &instance.name)?;
-    set_by(alloc, general_of(groups, &own, &service, "restarter"))
+    let general = group_of(tables, &own, "general");
+    let services_own = group_of(tables, &service, "general");
+    setting_by(alloc, general, services_own)
+}
+
+/// What the groups `general` of an instance and of its service say.
+pub(crate) fn setting_by(
+    alloc: Global,
+    own: Option<&Group>,
+    services_own: Option<&Group>,
+) -> Result<Setting, AllocError>
+    ensures { IfOk result (λ s. s ≡ setting_by (option_copied own.entry) (option_copied services_own.entry)) }
+{
+    set_by(alloc, property_of_either(own, services_own, "restarter"))
 }
 
 fn set_by(alloc: Global, property: Option<&Property>) -> Result<Setting, AllocError>
@@ -196,13 +216,13 @@ pub(crate) fn owner_by(alloc: Global, setting: Setting) -> Result<InstanceFmri, 
 #[tactic(auto, unfolding(crate::specs::Setting::current))]
 pub(crate) fn current(
     alloc: Global,
-    groups: &[Held],
+    tables: &Tables,
     mut instance: Instance,
 ) -> Result<Instance, AllocError>
-    ensures { IfOk result (λ i. i ≡ current groups.now instance) }
+    ensures { IfOk result (λ i. i ≡ current (groups_of tables.now) instance) }
 {
     if instance.row.number == 0 {
-        let setting = setting_for(alloc, groups, &instance)?;
+        let setting = setting_for(alloc, tables, &instance)?;
         instance.row.owner = owner_by(alloc, setting)?;
     }
     Ok(instance)

@@ -1,31 +1,40 @@
-ghost use Rattle.std.specs.Prelude.{◌≡◌, true, codes, map, filter, IfOk};
-ghost use Rattle.smf_model.specs.Shown.{children, is_run_by, made_group, next_text, rows_of, shown_groups, text_property};
+ghost use Rattle.std.specs.Prelude.{◌≡◌, true, codes, filter, map, IfOk};
+ghost use Rattle.smf_fmri.specs.ByKey.{put_all};
+ghost use Rattle.smf_value.specs.Groups.{by_group};
+ghost use Rattle.smf_model.specs.Look.{bare, groups_of};
+ghost use Rattle.smf_model.specs.Shown.{all_read, children, composed_groups, composed_of, is_run_by, made_group, next_text, rows_of, shown_groups, text_property};
 ghost use Rattle.smf_model.specs.Next.{is_instance_of, new_group};
 ghost use Rattle.smf_model.specs.Setting.{current, framework, restarter_name};
-ghost use Rattle.smf_model.specs.Tables.{held_in};
 ghost use Rattle.smf_state.specs.States.{state_text};
 ghost use Rattle.smf_value.specs.Texts.{is_astring};
 
 use crate::booting::is_instance_of;
-use crate::grouping::new_group;
-use crate::held::{Instance, Owner};
-use crate::look::instance_of;
-use crate::setting::current;
-use crate::snapping::groups_of;
+use crate::grouping::{groups_of, new_group};
+use crate::held::{Instance, InstanceEntry, Owner};
+use crate::setting::{current, service_owner};
 use crate::tables::Tables;
-use smf_fmri::{InstanceFmri, Items, ServiceFmri};
-use smf_snap::put;
+use smf_fmri::{InstanceFmri, Items, Ordered, ServiceFmri};
 use smf_state::{Row, State};
 use smf_value::{Astring, Group, Name, Property, Value};
 use std::alloc::{AllocError, Global};
 
 /// All instances as they are read.
-fn all_read(alloc: Global, tables: &Tables) -> Result<Vec<Instance>, AllocError>
-    ensures { IfOk result (λ all. all.items ≡ map (current (held_in tables.now).groups) (held_in tables.now).instances) }
+pub(crate) fn all_read(alloc: Global, tables: &Tables) -> Result<Vec<Instance>, AllocError>
+    ensures { IfOk result (λ all. all.items ≡ all_read tables.now) }
+{
+    read_each(alloc, tables, tables.entries())
+}
+
+fn read_each(
+    alloc: Global,
+    tables: &Tables,
+    entries: &[InstanceEntry],
+) -> Result<Vec<Instance>, AllocError>
+    ensures { IfOk result (λ all. all.items ≡ map (current (groups_of tables.now)) (bare entries.now)) }
 {
     let mut all = Vec::new(alloc);
-    for instance in &tables.instances {
-        all.push(current(alloc, &tables.groups, instance.clone()?)?)?;
+    for entry in entries {
+        all.push(current(alloc, tables, entry.instance.clone()?)?)?;
     }
     Ok(all)
 }
@@ -54,7 +63,7 @@ pub(crate) fn rows_of(
     tables: &Tables,
     restarter: &InstanceFmri,
 ) -> Result<Items<Instance>, AllocError>
-    ensures { IfOk result (λ all. all ≡ rows_of (held_in tables.now) restarter.now) }
+    ensures { IfOk result (λ all. all ≡ rows_of tables.now restarter.now) }
 {
     let rows = run_by(alloc, all_read(alloc, tables)?, restarter)?;
     Ok(Items::from_vec(rows))
@@ -84,7 +93,7 @@ pub(crate) fn children(
     tables: &Tables,
     service: &ServiceFmri,
 ) -> Result<Items<Instance>, AllocError>
-    ensures { IfOk result (λ all. all ≡ children (held_in tables.now) service.now) }
+    ensures { IfOk result (λ all. all ≡ children tables.now service.now) }
 {
     let rows = of_service(alloc, all_read(alloc, tables)?, service)?;
     Ok(Items::from_vec(rows))
@@ -147,19 +156,61 @@ pub(crate) fn shown_groups(
     alloc: Global,
     tables: &Tables,
     owner: &Owner,
-) -> Result<Items<Group>, AllocError>
-    ensures { IfOk result (λ gs. gs ≡ shown_groups (held_in tables.now) owner.now) }
+) -> Result<Ordered<Group>, AllocError>
+    ensures { IfOk result (λ gs. gs ≡ shown_groups tables.now owner.now) }
 {
-    let groups = groups_of(alloc, tables, owner)?;
+    let mut groups = groups_of(alloc, tables, owner)?;
     let Owner::Instance(number) = owner else {
         return Ok(groups);
     };
-    match instance_of(&tables.instances, *number) {
+    match tables.instance(*number) {
         None => Ok(groups),
         Some(instance) => {
-            let mut all = groups.into_vec();
-            put(&mut all, made_group(alloc, &instance.row)?)?;
-            Ok(Items::from_vec(all))
+            groups.put(made_group(alloc, &instance.row)?)?;
+            Ok(groups)
+        }
+    }
+}
+
+/// Puts copies of groups among others, each over the one that has its name.
+fn put_copies(into: Ordered<Group>, groups: &[Group]) -> Result<Ordered<Group>, AllocError>
+    ensures { IfOk result (λ gs. gs ≡ put_all by_group groups.now into) }
+{
+    let mut all = into;
+    for group in groups {
+        all.put(group.clone()?)?;
+    }
+    Ok(all)
+}
+
+/// The groups that an instance has: its own, else those of its service.
+fn composed_of(
+    alloc: Global,
+    tables: &Tables,
+    instance: &Instance,
+) -> Result<Ordered<Group>, AllocError>
+    ensures { IfOk result (λ gs. gs ≡ composed_of tables.now instance.now) }
+{
+    let service = service_owner(alloc, &instance.name)?;
+    let own = groups_of(alloc, tables, &Owner::Instance(instance.number))?;
+    let services_own = groups_of(alloc, tables, &service)?;
+    put_copies(services_own, own.as_slice())
+}
+
+/// The groups that the instance of a number has, or none where there is no such instance.
+#[tactic(auto, unfolding(crate::specs::Shown::composed_groups))]
+pub(crate) fn composed_groups(
+    alloc: Global,
+    tables: &Tables,
+    number: u64,
+) -> Result<Option<Ordered<Group>>, AllocError>
+    ensures { IfOk result (λ gs. gs ≡ composed_groups tables.now number) }
+{
+    match tables.instance(number) {
+        None => Ok(None),
+        Some(instance) => {
+            let all = composed_of(alloc, tables, instance)?;
+            Ok(Some(all))
         }
     }
 }

@@ -1,21 +1,18 @@
-ghost use Rattle.std.specs.Option.{option_copied};
-ghost use Rattle.std.specs.Prelude.{◌≡◌, ◌==◌, ◌||◌, ◌<◌, ◌++◌, ◌∷◌, [], IfOk, Some, None, OnOk, filter, map};
-ghost use Rattle.smf_model.specs.Look.{is_owned_by};
-ghost use Rattle.smf_model.specs.Next.{accepted, asked_refresh, found, groups_of, is_in_use, may_be_moved, moved, moved_row, owned_groups, refreshed, refreshed_row, service_owner, snapshot_of, target_by, with_snapshot};
-ghost use Rattle.smf_model.specs.Setting.{owner_by, service_fmri, setting};
-ghost use Rattle.smf_model.specs.Tables.{held_in};
+ghost use Rattle.std.specs.Prelude.{◌≡◌, ◌||◌, ◌<◌, ◌∷◌, [], IfOk};
+ghost use Rattle.smf_model.specs.Look.{groups_of};
+ghost use Rattle.smf_model.specs.Next.{asked_refresh, found, may_be_moved, moved, moved_row, refreshed, refreshed_row, snapshot_of, target_by, with_snapshot};
 ghost use Rattle.smf_state.specs.Rows.{same_state};
-ghost use Rattle.smf_snap.specs.Taking.{put_all, put_group, taken};
+ghost use Rattle.smf_snap.specs.Taking.{taken};
 
 use crate::asking::{Asked, MAX_COUNT, accepted, found, refused};
 use crate::change::Change;
 use crate::command::Reply;
-use crate::held::{Groups, Held, Instance, Owner, Snapshot};
+use crate::held::{Instance, Owner, Snapshot};
 use crate::setting::{Setting, owner_by, service_owner, setting_for};
-use crate::tables::{Tables, same_owner};
+use crate::tables::Tables;
 use bitflags::Flags;
-use smf_fmri::{InstanceFmri, Items};
-use smf_snap::{put, take};
+use smf_fmri::{InstanceFmri, Items, Ordered};
+use smf_snap::take;
 use smf_state::{Asks, Row, State};
 use smf_value::Group;
 use std::alloc::{AllocError, Global};
@@ -23,48 +20,25 @@ use std::alloc::{AllocError, Global};
 /// The greatest number of a snapshot, 2^63 - 2.
 pub const MAX_SNAPSHOT: u64 = 0x7fff_ffff_ffff_fffe;
 
-/// An owner's groups, in the order of their names.
-#[tactic(auto, unfolding(crate::specs::Next::groups_of))]
-pub(crate) fn groups_of(
-    alloc: Global,
-    tables: &Tables,
-    owner: &Owner,
-) -> Result<Items<Group>, AllocError>
-    ensures { IfOk result (λ gs. gs ≡ groups_of (held_in tables.now) owner.now) }
-{
-    let groups = in_order(alloc, &tables.groups, owner)?;
-    Ok(Items::from_vec(groups))
-}
-
-fn in_order(alloc: Global, groups: &[Held], owner: &Owner) -> Result<Vec<Group>, AllocError>
-    ensures { IfOk result (λ gs. gs.items ≡ put_all (owned_groups groups.now owner.now) []) }
-{
-    let mut ordered = Vec::new(alloc);
-    for held in groups {
-        if same_owner(&held.owner, owner) {
-            put(&mut ordered, held.group.clone()?)?;
-        }
-    }
-    Ok(ordered)
-}
-
 /// What a snapshot keeps of an owner's groups now.
-fn taken(alloc: Global, tables: &Tables, owner: &Owner) -> Result<Groups, AllocError>
-    ensures { IfOk result (λ gs. gs ≡ taken (groups_of (held_in tables.now) owner.now)) }
+#[tactic(auto, unfolding(crate::specs::Look::groups_of))]
+fn taken(alloc: Global, tables: &Tables, owner: &Owner) -> Result<Ordered<Group>, AllocError>
+    ensures { IfOk result (λ gs. gs ≡ taken (groups_of tables.now owner.now)) }
 {
-    let groups = groups_of(alloc, tables, owner)?;
-    let taken = take(alloc, groups.as_slice())?;
-    Ok(Groups::in_order(taken))
+    match tables.owned(owner) {
+        None => take(alloc, &Ordered::new(alloc)),
+        Some(groups) => take(alloc, groups),
+    }
 }
 
 /// What a snapshot of an instance holds now.
 fn snapshot_of(alloc: Global, tables: &Tables, instance: &Instance) -> Result<Snapshot, AllocError>
-    ensures { IfOk result (λ s. s ≡ snapshot_of (held_in tables.now) instance.now) }
+    ensures { IfOk result (λ s. s ≡ snapshot_of tables.now instance.now) }
 {
     let service = service_owner(alloc, &instance.name)?;
     let own = Owner::Instance(instance.number);
     Ok(Snapshot {
-        number: tables.next_snapshot,
+        number: tables.next_snapshot(),
         instance: instance.number,
         service_groups: taken(alloc, tables, &service)?,
         instance_groups: taken(alloc, tables, &own)?,
@@ -76,12 +50,12 @@ pub(crate) fn with_snapshot(
     alloc: Global,
     tables: &Tables,
     instance: &Instance,
-    changes: Vec<Change>,
+    changes: Items<Change>,
     reply: Reply,
 ) -> Asked
-    ensures { IfOk result (λ r. (r.0.items, r.1) ≡ with_snapshot (held_in tables.now) instance.now changes.items reply) }
+    ensures { IfOk result (λ r. r ≡ with_snapshot tables.now instance.now changes reply) }
 {
-    let number = tables.next_snapshot;
+    let number = tables.next_snapshot();
     if number > MAX_SNAPSHOT {
         return refused(alloc, Reply::Limit);
     }
@@ -94,15 +68,15 @@ fn behind_snapshot(
     alloc: Global,
     tables: &Tables,
     instance: &Instance,
-    changes: Vec<Change>,
+    changes: Items<Change>,
     next: u64,
-) -> Result<Vec<Change>, AllocError>
-    ensures { IfOk result (λ all. all.items ≡ Change.AddSnapshot (snapshot_of (held_in tables.now) instance.now) ∷ Change.NextSnapshot next ∷ changes.items) }
+) -> Result<Items<Change>, AllocError>
+    ensures { IfOk result (λ all. all ≡ Change.AddSnapshot (snapshot_of tables.now instance.now) ∷ Change.NextSnapshot next ∷ changes) }
 {
-    let mut all = Vec::new(alloc);
+    let mut all = Items::new(alloc);
     all.push(Change::AddSnapshot(snapshot_of(alloc, tables, instance)?))?;
     all.push(Change::NextSnapshot(next))?;
-    for change in changes {
+    for change in changes.into_vec() {
         all.push(change)?;
     }
     Ok(all)
@@ -172,17 +146,17 @@ fn moved_row(mut row: Row, running: u64, owner: InstanceFmri) -> Row
 
 /// Puts a new row of an instance behind a snapshot of it.
 fn with_row_and_snapshot(alloc: Global, tables: &Tables, mut instance: Instance, row: Row) -> Asked
-    ensures { IfOk result (λ r. (r.0.items, r.1) ≡ with_snapshot (held_in tables.now) instance (Change.PutInstance (record instance { row = row }) ∷ []) Reply.Done) }
+    ensures { IfOk result (λ r. r ≡ with_snapshot tables.now instance (Change.PutInstance (record instance { row = row }) ∷ []) Reply.Done) }
 {
     let old = instance.clone()?;
     instance.row = row;
-    let mut changes = Vec::new(alloc);
+    let mut changes = Items::new(alloc);
     changes.push(Change::PutInstance(instance))?;
     with_snapshot(alloc, tables, &old, changes, Reply::Done)
 }
 
 fn moved(alloc: Global, tables: &Tables, instance: Instance, owner: InstanceFmri) -> Asked
-    ensures { IfOk result (λ r. (r.0.items, r.1) ≡ moved (held_in tables.now) instance owner) }
+    ensures { IfOk result (λ r. r ≡ moved tables.now instance owner) }
 {
     if !may_be_moved(&instance.row) {
         return refused(alloc, Reply::InUse);
@@ -191,7 +165,7 @@ fn moved(alloc: Global, tables: &Tables, instance: Instance, owner: InstanceFmri
     if number >= MAX_COUNT {
         return refused(alloc, Reply::Limit);
     }
-    let row = moved_row(instance.row.clone()?, tables.next_snapshot, owner);
+    let row = moved_row(instance.row.clone()?, tables.next_snapshot(), owner);
     with_row_and_snapshot(alloc, tables, instance, row)
 }
 
@@ -201,14 +175,19 @@ fn refreshed(
     instance: Instance,
     target: Option<InstanceFmri>,
 ) -> Asked
-    ensures { IfOk result (λ r. (r.0.items, r.1) ≡ refreshed (held_in tables.now) instance target) }
+    ensures { IfOk result (λ r. r ≡ refreshed tables.now instance target) }
 {
     match target {
         Some(owner) => moved(alloc, tables, instance, owner),
         None => {
             let runs = instance.row.state.runs();
-            let revision = tables.revision.get() + 1;
-            let row = refreshed_row(instance.row.clone()?, tables.next_snapshot, revision, runs);
+            let revision = tables.revision().get() + 1;
+            let row = refreshed_row(
+                instance.row.clone()?,
+                tables.next_snapshot(),
+                revision,
+                runs,
+            );
             with_row_and_snapshot(alloc, tables, instance, row)
         }
     }
@@ -216,12 +195,12 @@ fn refreshed(
 
 /// Takes the snapshot `running`, and moves the instance where its restarter is another now.
 pub(crate) fn refresh(alloc: Global, tables: &Tables, number: u64) -> Asked
-    ensures { IfOk result (λ r. (r.0.items, r.1) ≡ asked_refresh (held_in tables.now) (found (held_in tables.now) number)) }
+    ensures { IfOk result (λ r. r ≡ asked_refresh tables.now (found tables.now number)) }
 {
     let Some(instance) = found(alloc, tables, number)? else {
         return refused(alloc, Reply::NoSuch);
     };
-    let setting = setting_for(alloc, &tables.groups, &instance)?;
+    let setting = setting_for(alloc, tables, &instance)?;
     let target = target_by(alloc, setting, &instance.row.owner)?;
     refreshed(alloc, tables, instance, target)
 }

@@ -1,203 +1,287 @@
-ghost use Rattle.std.specs.Prelude.{◌≡◌, ◌+◌, ◌<◌, ◌≤◌, ◌++◌, ◌∷◌, [], length, position, vec_len, vec_capacity, ℕ, IfSome, IfOk, OnErr, OnOk};
-ghost use Rattle.smf_model.specs.Holdings.{Holdings};
-ghost use Rattle.smf_model.specs.Look.{changed, empty, has_number, installed, is_group, is_launch_of, is_owned_by, is_service, is_snapshot_of, placed, replaced, same_owner, without};
+ghost use Rattle.std.specs.Option.{option_copied};
+ghost use Rattle.std.specs.Prelude.{◌≡◌, ◌+◌, ◌<◌, ◌≤◌, length, ℕ, IfOk, OnOk};
+ghost use Rattle.smf_fmri.specs.ByKey.{Rises, lookup};
+ghost use Rattle.smf_model.specs.Look.{by_entry, by_name, by_snapshot, changed, empty, installed, instance, launch_of, named, others_of, owned, put_new, service, snapshot, with_groups};
 ghost use Rattle.smf_model.specs.Tables.{HasRoom, held_in};
 
 use crate::change::Change;
-use crate::held::{Held, Instance, Launch, Owner, Snapshot};
-use smf_fmri::{InstanceFmri, Number, ServiceFmri};
-use smf_value::Name;
+use crate::held::{
+    EntryPart, Instance, InstanceEntry, InstanceName, Launch, Owner, Service, Snapshot,
+};
+use smf_fmri::{InstanceFmri, Number, Ordered, ServiceFmri, Table};
+use smf_value::Group;
 use std::alloc::{AllocError, Global};
+use std::marker::Model;
 
-/// What a repository holds, in lists.
+/// What a repository holds, in lists in key order.
 #[derive(Drop)]
 pub struct Tables {
-    pub services: Vec<ServiceFmri>,
-    /// In number order.
-    pub instances: Vec<Instance>,
-    pub groups: Vec<Held>,
-    /// In number order.
-    pub snapshots: Vec<Snapshot>,
-    pub launches: Vec<Launch>,
-    pub next_instance: u64,
-    pub next_snapshot: u64,
-    pub revision: Number,
+    pub(crate) lists: Lists,
 }
 
-/// Nothing held, at revision 0.
-pub fn no_tables(alloc: Global) -> Tables
-    ensures { held_in result ≡ empty }
-{
-    Tables {
-        services: Vec::new(alloc),
-        instances: Vec::new(alloc),
-        groups: Vec::new(alloc),
-        snapshots: Vec::new(alloc),
-        launches: Vec::new(alloc),
-        next_instance: 1,
-        next_snapshot: 1,
-        revision: Number::zero(),
+/// The lists, with the room that is left in them.
+#[derive(Drop)]
+pub(crate) struct Lists {
+    pub(crate) services: Table<Service>,
+    pub(crate) instances: Table<InstanceEntry>,
+    pub(crate) names: Table<InstanceName>,
+    pub(crate) snapshots: Table<Snapshot>,
+    pub(crate) launches: Table<Launch>,
+    pub(crate) next_instance: u64,
+    pub(crate) next_snapshot: u64,
+    pub(crate) revision: Number,
+}
+
+impl Model for Tables {
+    ghost use Rattle.smf_model.specs.Holdings.{Holdings};
+    ghost use Rattle.smf_model.specs.Tables.{held_in};
+
+    ghost Value = { Holdings };
+
+    ghost view = { λ t. held_in t.lists };
+}
+
+impl Tables {
+    /// Nothing held, at revision 0.
+    pub fn new(alloc: Global) -> Tables
+        ensures { result ≡ empty }
+    {
+        Tables {
+            lists: Lists {
+                services: Table::new(alloc),
+                instances: Table::new(alloc),
+                names: Table::new(alloc),
+                snapshots: Table::new(alloc),
+                launches: Table::new(alloc),
+                next_instance: 1,
+                next_snapshot: 1,
+                revision: Number::zero(),
+            },
+        }
+    }
+
+    /// The services by name.
+    pub fn services(&self) -> &[Service]
+        ensures { result.now ≡ self.now.services }
+    {
+        self.lists.services.as_slice()
+    }
+
+    /// The instances by number.
+    pub fn entries(&self) -> &[InstanceEntry]
+        ensures all { result.now ≡ self.now.instances }
+        ensures rises { Rises by_entry self.now.instances }
+    {
+        self.lists.instances.as_slice()
+    }
+
+    /// Names with numbers, by name.
+    pub fn names(&self) -> &[InstanceName]
+        ensures all { result.now ≡ self.now.names }
+        ensures rises { Rises by_name self.now.names }
+    {
+        self.lists.names.as_slice()
+    }
+
+    pub fn launches(&self) -> &[Launch]
+        ensures { result.now ≡ self.now.launches }
+    {
+        self.lists.launches.as_slice()
+    }
+
+    pub fn next_instance(&self) -> u64
+        ensures { result ≡ self.now.next_instance }
+    {
+        self.lists.next_instance
+    }
+
+    pub fn next_snapshot(&self) -> u64
+        ensures { result ≡ self.now.next_snapshot }
+    {
+        self.lists.next_snapshot
+    }
+
+    /// How many commands were accepted.
+    pub fn revision(&self) -> Number
+        ensures { result ≡ self.now.revision }
+    {
+        self.lists.revision
+    }
+
+    pub fn service(&self, name: &ServiceFmri) -> Option<&Service>
+        ensures { option_copied result ≡ service self.now name.now }
+    {
+        self.lists.services.get(name)
+    }
+
+    /// An instance with its groups.
+    fn entry(&self, number: u64) -> Option<&InstanceEntry>
+        ensures { option_copied result ≡ lookup by_entry self.now.instances number }
+    {
+        self.lists.instances.get(&number)
+    }
+
+    /// The instance of a number, its row as it is stored.
+    #[tactic(auto, using(crate::proofs::Entries::lookup_bare))]
+    pub fn instance(&self, number: u64) -> Option<&Instance>
+        ensures { option_copied result ≡ instance self.now number }
+    {
+        self.entry(number).map(|entry| &entry.instance)
+    }
+
+    fn number_named(&self, name: &InstanceFmri) -> Option<&InstanceName>
+        ensures { option_copied result ≡ lookup by_name self.now.names name.now }
+    {
+        self.lists.names.get(name)
+    }
+
+    /// The instance of a name.
+    pub fn named(&self, name: &InstanceFmri) -> Option<&Instance>
+        ensures { option_copied result ≡ named self.now name.now }
+    {
+        match self.number_named(name) {
+            None => None,
+            Some(entry) => self.instance(entry.number),
+        }
+    }
+
+    pub fn snapshot(&self, number: u64) -> Option<&Snapshot>
+        ensures { option_copied result ≡ snapshot self.now number }
+    {
+        self.lists.snapshots.get(&number)
+    }
+
+    /// How often a restarter was launched.
+    pub fn launch_of(&self, restarter: &InstanceFmri) -> u64
+        ensures { result ≡ launch_of self.now restarter.now }
+    {
+        match self.lists.launches.get(restarter) {
+            None => 0,
+            Some(launch) => launch.count,
+        }
+    }
+
+    /// The groups of an owner, or none where there is no such owner.
+    pub fn owned(&self, owner: &Owner) -> Option<&Ordered<Group>>
+        ensures { option_copied result ≡ owned self.now owner.now }
+    {
+        match owner {
+            Owner::Service(name) => self.service(name).map(|service| &service.groups),
+            Owner::Instance(number) => self.entry(*number).map(|entry| &entry.groups),
+        }
     }
 }
 
-pub(crate) fn same_owner(a: &Owner, b: &Owner) -> bool
-    ensures { result ≡ same_owner a.now b.now }
-{
-    match (a, b) {
-        (Owner::Service(a), Owner::Service(b)) => a == b,
-        (Owner::Instance(m), Owner::Instance(n)) => m == n,
-        _ => false,
-    }
-}
-
-pub(crate) fn is_group(owner: &Owner, name: &Name, held: &Held) -> bool
-    ensures { result ≡ is_group owner.now name.now held.now }
-{
-    same_owner(&held.owner, owner) && held.group.name() == name
-}
-
-/// Where the instance of a number stands.
-pub(crate) fn place_of_instance(instances: &[Instance], number: u64) -> Option<usize>
-    ensures exact { result ≡ position (has_number number) instances.now }
-    ensures in_range { IfSome result (λ k. k < length instances.now) }
-{
-    instances.iter().position(|i| i.number == number)
-}
-
-pub(crate) fn place_of_group(groups: &[Held], owner: &Owner, name: &Name) -> Option<usize>
-    ensures exact { result ≡ position (is_group owner.now name.now) groups.now }
-    ensures in_range { IfSome result (λ k. k < length groups.now) }
-{
-    groups.iter().position(|held| is_group(owner, name, held))
-}
-
-pub(crate) fn place_of_launch(launches: &[Launch], restarter: &InstanceFmri) -> Option<usize>
-    ensures exact { result ≡ position (is_launch_of restarter.now) launches.now }
-    ensures in_range { IfSome result (λ k. k < length launches.now) }
-{
-    launches.iter().position(|l| l.restarter == *restarter)
-}
-
-fn drop_service(services: &mut Vec<ServiceFmri>, name: &ServiceFmri)
-    ensures dropped { services.new.items ≡ without (is_service name.now) services.old.items }
-    ensures len { vec_len services.new ≤ vec_len services.old }
-    ensures capacity { vec_capacity services.new ≡ vec_capacity services.old }
-{
-    services.retain(|service| *service != *name);
-}
-
-fn drop_instance(instances: &mut Vec<Instance>, number: u64)
-    ensures dropped { instances.new.items ≡ without (has_number number) instances.old.items }
-    ensures len { vec_len instances.new ≤ vec_len instances.old }
-    ensures capacity { vec_capacity instances.new ≡ vec_capacity instances.old }
-{
-    instances.retain(|i| i.number != number);
-}
-
-fn drop_group(groups: &mut Vec<Held>, owner: &Owner, name: &Name)
-    ensures dropped { groups.new.items ≡ without (is_group owner.now name.now) groups.old.items }
-    ensures len { vec_len groups.new ≤ vec_len groups.old }
-    ensures capacity { vec_capacity groups.new ≡ vec_capacity groups.old }
-{
-    groups.retain(|held| !is_group(owner, name, held));
-}
-
-fn drop_groups(groups: &mut Vec<Held>, owner: &Owner)
-    ensures dropped { groups.new.items ≡ without (is_owned_by owner.now) groups.old.items }
-    ensures len { vec_len groups.new ≤ vec_len groups.old }
-    ensures capacity { vec_capacity groups.new ≡ vec_capacity groups.old }
-{
-    groups.retain(|held| !same_owner(&held.owner, owner));
-}
-
-fn drop_snapshots(snapshots: &mut Vec<Snapshot>, instance: u64)
-    ensures dropped { snapshots.new.items ≡ without (is_snapshot_of instance) snapshots.old.items }
-    ensures len { vec_len snapshots.new ≤ vec_len snapshots.old }
-    ensures capacity { vec_capacity snapshots.new ≡ vec_capacity snapshots.old }
+fn drop_snapshots(snapshots: &mut Table<Snapshot>, instance: u64)
+    ensures dropped { snapshots.new.items ≡ others_of instance snapshots.old.items }
+    ensures room { snapshots.old.room ≤ snapshots.new.room }
 {
     snapshots.retain(|s| s.instance != instance);
 }
 
-#[tactic(auto, using(crate::proofs::Lists::replaced_at, crate::proofs::Lists::replaced_none))]
-fn put_instance(instances: &mut Vec<Instance>, instance: Instance)
-    ensures put { instances.new.items ≡ replaced (has_number instance.number) instance instances.old.items }
-    ensures len { vec_len instances.new ≡ vec_len instances.old }
-    ensures capacity { vec_capacity instances.new ≡ vec_capacity instances.old }
+/// Puts a snapshot in its place, where none has its number.
+fn add_snapshot(snapshots: &mut Table<Snapshot>, snapshot: Snapshot)
+    requires { 0 < snapshots.old.room }
+    ensures put { snapshots.new.items ≡ put_new by_snapshot snapshot snapshots.old.items }
+    ensures room { snapshots.old.room ≤ snapshots.new.room + 1 }
 {
-    if let Some(k) = place_of_instance(instances, instance.number) {
-        instances[k] = instance;
+    if snapshots.get(&snapshot.number).is_none() {
+        snapshots.put(snapshot);
     }
 }
 
-#[tactic(auto, using(crate::proofs::Lists::placed_at, crate::proofs::Lists::placed_none))]
-fn put_group(groups: &mut Vec<Held>, held: Held)
-    requires { vec_len groups.old < vec_capacity groups.old }
-    ensures put { groups.new.items ≡ placed (is_group held.owner held.group.name) held groups.old.items }
-    ensures len { vec_len groups.new ≤ vec_len groups.old + 1 }
-    ensures capacity { vec_capacity groups.old ≤ vec_capacity groups.new }
+fn put_groups(lists: &mut Lists, owner: Owner, groups: Ordered<Group>)
+    ensures made { held_in lists.new ≡ with_groups (held_in lists.old) groups owner }
+    ensures room { (n : ℕ) → HasRoom lists.old (n + 1) → HasRoom lists.new n }
 {
-    match place_of_group(groups, &held.owner, held.group.name()) {
-        Some(k) => groups[k] = held,
-        None => groups.push(held).unwrap(),
+    match owner {
+        Owner::Service(name) => lists.services.amend(&name, groups),
+        Owner::Instance(number) => lists.instances.amend(&number, EntryPart::Groups(groups)),
     }
 }
 
-#[tactic(auto, using(crate::proofs::Lists::placed_at, crate::proofs::Lists::placed_none))]
-fn put_launch(launches: &mut Vec<Launch>, launch: Launch)
-    requires { vec_len launches.old < vec_capacity launches.old }
-    ensures put { launches.new.items ≡ placed (is_launch_of launch.restarter) launch launches.old.items }
-    ensures len { vec_len launches.new ≤ vec_len launches.old + 1 }
-    ensures capacity { vec_capacity launches.old ≤ vec_capacity launches.new }
+fn put_instance(lists: &mut Lists, instance: Instance)
+    ensures made { held_in lists.new ≡ changed (held_in lists.old) (Change.PutInstance instance) }
+    ensures room { (n : ℕ) → HasRoom lists.old (n + 1) → HasRoom lists.new n }
 {
-    match place_of_launch(launches, &launch.restarter) {
-        Some(k) => launches[k] = launch,
-        None => launches.push(launch).unwrap(),
-    }
+    let number = instance.number;
+    lists
+        .instances
+        .amend(&number, EntryPart::Instance(instance));
 }
 
 /// Makes one change, for which there is room.
-fn install_one(tables: &mut Tables, change: Change)
-    requires { HasRoom tables.old 1 }
-    ensures made { held_in tables.new ≡ changed (held_in tables.old) change }
-    ensures room { (n : ℕ) → HasRoom tables.old (n + 1) → HasRoom tables.new n }
+fn install_one(lists: &mut Lists, change: Change)
+    requires { HasRoom lists.old 1 }
+    ensures made { held_in lists.new ≡ changed (held_in lists.old) change }
+    ensures room { (n : ℕ) → HasRoom lists.old (n + 1) → HasRoom lists.new n }
 {
     match change {
-        Change::AddService(name) => tables.services.push(name).unwrap(),
-        Change::DropService(name) => drop_service(&mut tables.services, &name),
-        Change::AddInstance(instance) => tables.instances.push(instance).unwrap(),
-        Change::PutInstance(instance) => put_instance(&mut tables.instances, instance),
-        Change::DropInstance(number) => drop_instance(&mut tables.instances, number),
-        Change::PutGroup(held) => put_group(&mut tables.groups, held),
-        Change::DropGroup(owner, name) => drop_group(&mut tables.groups, &owner, &name),
-        Change::DropGroups(owner) => drop_groups(&mut tables.groups, &owner),
-        Change::AddSnapshot(snapshot) => tables.snapshots.push(snapshot).unwrap(),
-        Change::DropSnapshots(instance) => drop_snapshots(&mut tables.snapshots, instance),
-        Change::PutLaunch(launch) => put_launch(&mut tables.launches, launch),
-        Change::NextInstance(number) => tables.next_instance = number,
-        Change::NextSnapshot(number) => tables.next_snapshot = number,
-        Change::SetRevision(number) => tables.revision = number,
+        Change::AddService(service) => lists.services.put(service),
+        Change::DropService(name) => lists.services.remove(&name),
+        Change::AddInstance(entry) => lists.instances.put(entry),
+        Change::PutInstance(instance) => put_instance(lists, instance),
+        Change::DropInstance(number) => lists.instances.remove(&number),
+        Change::PutName(name) => lists.names.put(name),
+        Change::DropName(name) => lists.names.remove(&name),
+        Change::PutGroups(owner, groups) => put_groups(lists, owner, groups),
+        Change::AddSnapshot(snapshot) => add_snapshot(&mut lists.snapshots, snapshot),
+        Change::DropSnapshots(instance) => drop_snapshots(&mut lists.snapshots, instance),
+        Change::PutLaunch(launch) => lists.launches.put(launch),
+        Change::NextInstance(number) => lists.next_instance = number,
+        Change::NextSnapshot(number) => lists.next_snapshot = number,
+        Change::SetRevision(number) => lists.revision = number,
     }
 }
 
 /// Makes the changes, for which there is room.
-pub fn install(tables: &mut Tables, changes: Vec<Change>)
-    requires { HasRoom tables.old (length changes.items) }
-    ensures { held_in tables.new ≡ installed (held_in tables.old) changes.items }
+pub(crate) fn install(lists: &mut Lists, changes: Vec<Change>)
+    requires { HasRoom lists.old (length changes.items) }
+    ensures { held_in lists.new ≡ installed (held_in lists.old) changes.items }
 {
     for change in changes {
-        install_one(tables, change);
+        install_one(lists, change);
     }
 }
 
-/// Makes room for so many changes. Where memory runs out the tables hold what they held.
-pub fn reserve(tables: &mut Tables, changes: usize) -> Result<(), AllocError>
-    ensures room { OnOk result (HasRoom tables.new changes) }
-    ensures same { held_in tables.new ≡ held_in tables.old }
+/// Makes room for so many changes. Where memory runs out the lists hold what they held.
+pub(crate) fn reserve(lists: &mut Lists, changes: usize) -> Result<(), AllocError>
+    ensures room { OnOk result (HasRoom lists.new changes) }
+    ensures same { held_in lists.new ≡ held_in lists.old }
 {
-    tables.services.reserve(changes)?;
-    tables.instances.reserve(changes)?;
-    tables.groups.reserve(changes)?;
-    tables.snapshots.reserve(changes)?;
-    tables.launches.reserve(changes)?;
+    lists.services.reserve(changes)?;
+    lists.instances.reserve(changes)?;
+    lists.names.reserve(changes)?;
+    lists.snapshots.reserve(changes)?;
+    lists.launches.reserve(changes)?;
     Ok(())
+}
+
+impl Clone for Tables {
+    ghost is_clone = { λ s copy. copy ≡ s };
+
+    fn clone(&self) -> Result<Tables, AllocError> {
+        let lists = copy_of(&self.lists)?;
+        Ok(Tables { lists })
+    }
+}
+
+fn copy_of(lists: &Lists) -> Result<Lists, AllocError>
+    ensures { IfOk result (λ copy. held_in copy ≡ held_in lists.now) }
+{
+    let services = lists.services.clone()?;
+    let instances = lists.instances.clone()?;
+    let names = lists.names.clone()?;
+    let snapshots = lists.snapshots.clone()?;
+    let launches = lists.launches.clone()?;
+    Ok(Lists {
+        services,
+        instances,
+        names,
+        snapshots,
+        launches,
+        next_instance: lists.next_instance,
+        next_snapshot: lists.next_snapshot,
+        revision: lists.revision,
+    })
 }

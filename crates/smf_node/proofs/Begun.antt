@@ -15,7 +15,6 @@ use Rattle.smf_model.specs.Holdings.{Holdings}
 use Rattle.smf_model.specs.Look.{installed, launch_of}
 use Rattle.smf_model.specs.Next.{Asked, accepted, asked, asked_boot, asked_launch, dropped, greatest, is_last_launch, is_last_number, next, persistent, refused, relaunched}
 use Rattle.smf_model.specs.Next.{booted as booted_row}
-use Rattle.smf_model.specs.Tables.{held_in}
 use Rattle.smf_model.proofs.OwnName.{some_is}
 use Rattle.smf_restarter.specs.Replies.{at_first}
 use Rattle.smf_wire.specs.declared.message.Message.TheVariants as messages
@@ -138,7 +137,7 @@ launched_at name v _ n e = absurd cc
 
 pub launch_is : (h k : Holdings) (p p2 q s : Parts) (name named own : List ℕ) (r : Answer) (n : ℕ) → IsCommitted (world_of h p2) (commands.Launch named) (world_of k q) r → launch_in r ≡ Some n
     → world_of h p2 ≡ world_of h p → named ≡ name → own ≡ name
-    → held_in s.first ≡ held_in q.first → s.commands.items ≡ q.commands.items → s.engine ≡ q.engine → s.messages.items ≡ q.messages.items → s.trail.items ≡ q.trail.items
+    → s.first ≡ q.first → s.commands.items ≡ q.commands.items → s.engine ≡ q.engine → s.messages.items ≡ q.messages.items → s.trail.items ≡ q.trail.items
     → s.restarters.items ≡ q.restarters.items ++ at_first own n ∷ []
     → world_of k s ≡ happens (world_of h p) (events.Launch name)
 unfolding world_of happens
@@ -174,7 +173,7 @@ done_is answers.Done e = refl
 done_is _ e = absurd cc
 
 pub boot_is : (h k : Holdings) (p q s : Parts) (r : Answer) → IsCommitted (world_of h p) commands.Boot (world_of k q) r → is_done r ≡ true
-    → held_in s.first ≡ held_in q.first → s.commands.items ≡ q.commands.items → s.messages.items ≡ q.messages.items → s.trail.items ≡ q.trail.items
+    → s.first ≡ q.first → s.commands.items ≡ q.commands.items → s.messages.items ≡ q.messages.items → s.trail.items ≡ q.trail.items
     → s.restarters.items ≡ [] → s.engine ≡ None
     → world_of k s ≡ happens (world_of h p) events.Boot
 unfolding world_of happens
@@ -189,7 +188,7 @@ boot_accepted h p v r e done = sym (answered (world_of h p) v commands.Boot r e.
 
 -- ---- crashes
 
-pub crash_is : (h : Holdings) (p q : Parts) (name : List ℕ) → held_in q.first ≡ held_in p.first → q.commands.items ≡ p.commands.items → q.engine ≡ p.engine → q.messages.items ≡ p.messages.items → q.trail.items ≡ p.trail.items
+pub crash_is : (h : Holdings) (p q : Parts) (name : List ℕ) → q.first ≡ p.first → q.commands.items ≡ p.commands.items → q.engine ≡ p.engine → q.messages.items ≡ p.messages.items → q.trail.items ≡ p.trail.items
     → q.restarters.items ≡ filter (λ k. not (is_named name k)) p.restarters.items
     → world_of h q ≡ happens (world_of h p) (events.Crash name)
 unfolding world_of happens
@@ -199,7 +198,7 @@ crash_is h p q name f cs g ms t rs = world_is _ _ _ _ _ _ _ _ _ _ _ _ _ _ f (ap 
 
 pub proposed_is : (h k : Holdings) (p p2 q s : Parts) (x asked : Proposal) (r : Answer) → IsCommitted (world_of h p2) (commands.Propose asked) (world_of k q) r
     → world_of h p2 ≡ world_of h p → asked ≡ x
-    → held_in s.first ≡ held_in q.first → s.commands.items ≡ q.commands.items → s.restarters.items ≡ q.restarters.items → s.engine ≡ q.engine → s.trail.items ≡ q.trail.items
+    → s.first ≡ q.first → s.commands.items ≡ q.commands.items → s.restarters.items ≡ q.restarters.items → s.engine ≡ q.engine → s.trail.items ≡ q.trail.items
     → s.messages.items ≡ q.messages.items ++ option_to_list (answer x r)
     → world_of k s ≡ delivered (world_of h p) (messages.Propose x)
 unfolding delivered

@@ -12,9 +12,10 @@ use Rattle.smf_model.specs.declared.command.Reply.{Reply as Answer}
 use Rattle.smf_model.specs.declared.command.Reply.TheVariants as answers
 use Rattle.smf_model.specs.declared.held.Instance.{Instance}
 use Rattle.smf_model.specs.History.{is_revised}
+use Rattle.smf_model.specs.declared.change.Outcome.{Outcome as Asked}
 use Rattle.smf_model.specs.Holdings.{Holdings}
-use Rattle.smf_model.specs.Look.{installed}
-use Rattle.smf_model.specs.Next.{Asked, asked, asked_boot, is_last_launch, is_last_number, next, refused}
+use Rattle.smf_model.specs.Look.{groups_of, installed, instances}
+use Rattle.smf_model.specs.Next.{asked, asked_boot, is_last_launch, is_last_number, next, refused}
 use Rattle.smf_model.specs.declared.setting.Setting.{Setting}
 use Rattle.smf_model.specs.Setting.{current, owned_by_setting, setting}
 use Rattle.smf_model.specs.Shown.{view, view_item}
@@ -35,7 +36,7 @@ same_number false s i = refl
 
 number_is : (h : Holdings) (i : Instance) → (view_item h i).row.number ≡ i.row.number
 unfolding current
-number_is h i = same_number (i.row.number == 0) (setting h.groups i) i
+number_is h i = same_number (i.row.number == 0) (setting (groups_of h) i) i
 
 row_is : (h : Holdings) (i : Instance) → is_last_number i ≡ false → foreseen_item (view_item h i) ≡ booted_item (view_item h i)
 row_is h i e =
@@ -54,28 +55,28 @@ any_is : (b : Bool) → (b || true) ≡ true
 any_is true = refl
 any_is false = refl
 
-at_limit : (h : Holdings) → list_any is_last_number h.instances ≡ true → asked_boot h ≡ refused answers.Limit
+at_limit : (h : Holdings) → list_any is_last_number (instances h) ≡ true → asked_boot h ≡ refused answers.Limit
 unfolding asked_boot
 at_limit h e =
-    let any : (list_any is_last_launch h.launches || list_any is_last_number h.instances) ≡ true
+    let any : (list_any is_last_launch h.launches || list_any is_last_number (instances h)) ≡ true
     = ap (λ b. list_any is_last_launch h.launches || b) e ∙ any_is (list_any is_last_launch h.launches) in
     rw any refl
 
 same_by : (h k : Holdings) (r : Answer) → asked_boot h ≡ refused answers.Limit → next h commands.Boot ≡ (k, r) → h ≡ k
 unfolding next asked installed
 same_by h k r e g =
-    sym (ap (λ (a : Asked). installed h a.0) e) ∙ ap (λ (x : Holdings × Answer). x.0) g
+    sym (ap (λ (a : Asked). installed h a.changes) e) ∙ ap (λ (x : Holdings × Answer). x.0) g
 
 -- ---- the whole
 
-foreseen_at : (h k : Holdings) (r : Answer) (b : Bool) → list_any is_last_number h.instances ≡ b → next h commands.Boot ≡ (k, r) → is_revised h k ≡ true → foreseen h commands.Boot ≡ booting h commands.Boot
+foreseen_at : (h k : Holdings) (r : Answer) (b : Bool) → list_any is_last_number (instances h) ≡ b → next h commands.Boot ≡ (k, r) → is_revised h k ≡ true → foreseen h commands.Boot ≡ booting h commands.Boot
 unfolding view
-foreseen_at h k r false e g revised = ap (λ is. Boot ∷ is) (rows_are h h.instances e)
+foreseen_at h k r false e g revised = ap (λ is. Boot ∷ is) (rows_are h (instances h) e)
 foreseen_at h k r true e g revised =
     absurd (differ h.revision (subst (λ x. is_revised h x ≡ true) (sym (same_by h k r (at_limit h e) g)) revised))
 
 pub foreseen_is : (h k : Holdings) (c : Command) (r : Answer) → next h c ≡ (k, r) → is_revised h k ≡ true → foreseen h c ≡ booting h c
-foreseen_is h k commands.Boot r g revised = foreseen_at h k r (list_any is_last_number h.instances) refl g revised
+foreseen_is h k commands.Boot r g revised = foreseen_at h k r (list_any is_last_number (instances h)) refl g revised
 foreseen_is h k (commands.Edit edit) r g revised = refl
 foreseen_is h k (commands.Propose proposal) r g revised = refl
 foreseen_is h k (commands.Launch name) r g revised = refl

@@ -8,7 +8,6 @@ use Rattle.std.specs.Option.{option_map_or}
 use Rattle.std.specs.Prelude.{find, map, reverse}
 use Rattle.smf_model.specs.Holdings.{Holdings}
 use Rattle.smf_model.specs.Look.{replaced}
-use Rattle.smf_model.specs.Tables.{held_in}
 use Rattle.smf_model.proofs.Lists.{replaced_at}
 use Rattle.smf_model.proofs.OwnName.{some_is}
 use Rattle.smf_restarter.specs.declared.reply.Reply.{Reply}
@@ -90,7 +89,7 @@ same_name (x ∷ a) (y ∷ b) e = names_by (nat_eq x y) x y a b refl e (same_nam
 
 -- what a reply makes of the world, the restarter being the one at a place
 pub replied_is : (h : Holdings) (p q : Parts) (name : List ℕ) (at : ℕ) (k : Knowledge) (r : Reply) → position (is_named name) p.restarters.items ≡ Some at → slice_get p.restarters.items at ≡ Some k → is_named name k ≡ true
-    → held_in q.first ≡ held_in p.first → q.commands.items ≡ p.commands.items → q.engine ≡ p.engine
+    → q.first ≡ p.first → q.commands.items ≡ p.commands.items → q.engine ≡ p.engine
     → q.restarters.items ≡ changed_at at r.change p.restarters.items
     → q.messages.items ≡ p.messages.items ++ sent_by r.action
     → q.trail.items ≡ p.trail.items ++ (held_at at r.taken p.restarters.items ++ begun_by r.action)
@@ -107,7 +106,7 @@ pub on_err : {X E A : Type 0} (r : Result X E) → A → OnErr r A
 on_err (Ok x) a = tt
 on_err (Err e) a = a
 
-pub acted_not : (h : Holdings) (p q : Parts) → held_in q.first ≡ held_in p.first → q.commands.items ≡ p.commands.items → q.engine ≡ p.engine → q.restarters.items ≡ p.restarters.items → q.messages.items ≡ p.messages.items → q.trail.items ≡ p.trail.items → world_of h q ≡ world_of h p
+pub acted_not : (h : Holdings) (p q : Parts) → q.first ≡ p.first → q.commands.items ≡ p.commands.items → q.engine ≡ p.engine → q.restarters.items ≡ p.restarters.items → q.messages.items ≡ p.messages.items → q.trail.items ≡ p.trail.items → world_of h q ≡ world_of h p
 acted_not h p q f cs g rs m t = same_world h h p q refl (record { first = f; commands = cs; restarters = rs; engine = g; messages = m; trail = t })
 
 -- the restarter of a name in the world of the parts
@@ -129,7 +128,7 @@ unfolding happens
 ticked_none h p name n place = sym (ap (λ o. ticked_at n (world_of h p) o) (restarter_none h p name place))
 
 pub ticked_is : (h : Holdings) (p q : Parts) (name : List ℕ) (n at : ℕ) (k : Knowledge) (r : Reply) → Some at ≡ position (is_named name) p.restarters.items → slice_get p.restarters.items at ≡ Some k → r ≡ tick_reply k n
-    → held_in q.first ≡ held_in p.first → q.commands.items ≡ p.commands.items → q.engine ≡ p.engine
+    → q.first ≡ p.first → q.commands.items ≡ p.commands.items → q.engine ≡ p.engine
     → q.restarters.items ≡ changed_at at r.change p.restarters.items
     → q.messages.items ≡ p.messages.items ++ sent_by r.action
     → q.trail.items ≡ p.trail.items ++ (held_at at r.taken p.restarters.items ++ begun_by r.action)
@@ -146,7 +145,7 @@ unfolding told_by
 told_none h p name m place = sym (ap (λ o. told m (world_of h p) o) (restarter_none h p name place))
 
 pub told_is : (h : Holdings) (p q : Parts) (name : List ℕ) (m : Message) (at : ℕ) (k : Knowledge) (r : Reply) → Some at ≡ position (is_named name) p.restarters.items → slice_get p.restarters.items at ≡ Some k → r ≡ heard k m
-    → held_in q.first ≡ held_in p.first → q.commands.items ≡ p.commands.items → q.engine ≡ p.engine
+    → q.first ≡ p.first → q.commands.items ≡ p.commands.items → q.engine ≡ p.engine
     → q.restarters.items ≡ changed_at at r.change p.restarters.items
     → q.messages.items ≡ p.messages.items ++ sent_by r.action
     → q.trail.items ≡ p.trail.items ++ (held_at at r.taken p.restarters.items ++ begun_by r.action)

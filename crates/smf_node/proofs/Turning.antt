@@ -9,7 +9,6 @@ use Rattle.smf_model.specs.declared.command.Command.TheVariants as commands
 use Rattle.smf_model.specs.declared.command.Edit.{Edit}
 use Rattle.smf_model.specs.declared.command.Reply.{Reply as Answer}
 use Rattle.smf_model.specs.Holdings.{Holdings}
-use Rattle.smf_model.specs.Tables.{held_in}
 use Rattle.smf_model.specs.Shown.{view}
 use Rattle.smf_restarter.specs.Knowledge.{Knowledge}
 use Rattle.smf_restarter.specs.Replies.{at_rest}
@@ -100,7 +99,7 @@ settled_later rounds i s t low e busy =
 -- ---- orders
 
 pub ordered_is : (h : Holdings) (p q : Parts) (sent : List Message) → sent ≡ map (λ o. messages.Order o) (orders_seen p.engine)
-    → held_in q.first ≡ held_in p.first → q.commands.items ≡ p.commands.items → q.restarters.items ≡ p.restarters.items → q.engine ≡ p.engine → q.trail.items ≡ p.trail.items
+    → q.first ≡ p.first → q.commands.items ≡ p.commands.items → q.restarters.items ≡ p.restarters.items → q.engine ≡ p.engine → q.trail.items ≡ p.trail.items
     → q.messages.items ≡ p.messages.items ++ sent
     → world_of h q ≡ happens (world_of h p) events.Orders
 unfolding world_of happens
@@ -251,7 +250,7 @@ applied_later r h k p q n s edit is made stays = subst (FromTo (world_of k q)) i
 
 -- ---- what is found, and reached
 
-pub found_is : (h : Holdings) (p : Parts) → held_in p.first ≡ h → p.commands.items ≡ [] → p.restarters.items ≡ [] → p.engine ≡ None → p.messages.items ≡ [] → p.trail.items ≡ [] → world_of h p ≡ found h
+pub found_is : (h : Holdings) (p : Parts) → p.first ≡ h → p.commands.items ≡ [] → p.restarters.items ≡ [] → p.engine ≡ None → p.messages.items ≡ [] → p.trail.items ≡ [] → world_of h p ≡ found h
 unfolding world_of
 found_is h p f cs ks g ms t = world_is _ _ _ _ _ _ _ _ _ _ _ _ _ _ f (ap reverse cs) refl ks g (ap reverse ms) (ap reverse t)
 

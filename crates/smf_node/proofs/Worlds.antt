@@ -7,7 +7,6 @@ use Rattle.smf_model.specs.declared.command.Reply.{Reply as Answer}
 use Rattle.smf_model.specs.declared.held.View.{View}
 use Rattle.smf_model.specs.History.{is_revised}
 use Rattle.smf_model.specs.Holdings.{Holdings}
-use Rattle.smf_model.specs.Tables.{held_in}
 use Rattle.smf_restarter.specs.Knowledge.{Knowledge}
 use Rattle.smf_wire.specs.declared.message.Message.{Message}
 use Rattle.smf_world.specs.declared.item.Item.{Item}
@@ -34,7 +33,7 @@ behind_one xs x ys e = sym (ap reverse e ∙ reverse-append xs (x ∷ []))
 pub behind_more : {A : Type 0} (xs zs ys : List A) → ys ≡ xs ++ zs → reverse zs ++ reverse xs ≡ reverse ys
 behind_more xs zs ys e = sym (ap reverse e ∙ reverse-append xs zs)
 
-given_by : (b : Bool) (h k : Holdings) (p q : Parts) (c : Command) (r : Answer) → is_revised h k ≡ b → held_in q.first ≡ held_in p.first → q.restarters.items ≡ p.restarters.items → q.engine ≡ p.engine → q.messages.items ≡ p.messages.items
+given_by : (b : Bool) (h k : Holdings) (p q : Parts) (c : Command) (r : Answer) → is_revised h k ≡ b → q.first ≡ p.first → q.restarters.items ≡ p.restarters.items → q.engine ≡ p.engine → q.messages.items ≡ p.messages.items
     → q.commands.items ≡ commands_after p.commands.items c b → q.trail.items ≡ trail_after p.trail.items (items_of h c (k, r)) b
     → revised (world_of h p) c (k, r) b ≡ world_of k q
 unfolding world_of
@@ -47,7 +46,7 @@ now_of h p = refl
 
 -- what a command that was given makes of the world
 pub committed_is : (h k : Holdings) (p q : Parts) (c : Command) (r : Answer) → IsGiven h c r k p.commands.items q.commands.items p.trail.items q.trail.items
-    → held_in q.first ≡ held_in p.first → q.restarters.items ≡ p.restarters.items → q.engine ≡ p.engine → q.messages.items ≡ p.messages.items
+    → q.first ≡ p.first → q.restarters.items ≡ p.restarters.items → q.engine ≡ p.engine → q.messages.items ≡ p.messages.items
     → IsCommitted (world_of h p) c (world_of k q) r
 unfolding committed world_of
 committed_is h k p q c r g f rs e m =
@@ -58,18 +57,18 @@ committed_is h k p q c r g f rs e m =
     }
 
 pub committed_ok : {E : Type 0} (h k : Holdings) (p q : Parts) (c : Command) (r : Result Answer E) → IfOk r (λ x. IsGiven h c x k p.commands.items q.commands.items p.trail.items q.trail.items)
-    → held_in q.first ≡ held_in p.first → q.restarters.items ≡ p.restarters.items → q.engine ≡ p.engine → q.messages.items ≡ p.messages.items
+    → q.first ≡ p.first → q.restarters.items ≡ p.restarters.items → q.engine ≡ p.engine → q.messages.items ≡ p.messages.items
     → IfOk r (λ x. IsCommitted (world_of h p) c (world_of k q) x)
 committed_ok h k p q c (Ok x) g f rs e m = committed_is h k p q c x g f rs e m
 committed_ok h k p q c (Err x) g f rs e m = tt
 
 pub left_is : {X E : Type 0} (h k : Holdings) (p q : Parts) (r : Result X E) → OnErr r (IsLeft h k p.commands.items q.commands.items p.trail.items q.trail.items)
-    → held_in q.first ≡ held_in p.first → q.restarters.items ≡ p.restarters.items → q.engine ≡ p.engine → q.messages.items ≡ p.messages.items
+    → q.first ≡ p.first → q.restarters.items ≡ p.restarters.items → q.engine ≡ p.engine → q.messages.items ≡ p.messages.items
     → OnErr r (world_of k q ≡ world_of h p)
 left_is h k p q (Ok x) l f rs e m = tt
 left_is h k p q (Err x) l f rs e m = same_world h k p q l.held (record { first = f; commands = l.listed; restarters = rs; engine = e; messages = m; trail = l.noted })
 
-pub said_behind : (h : Holdings) (p q : Parts) (m : Option Message) → q.messages.items ≡ p.messages.items ++ option_to_list m → held_in q.first ≡ held_in p.first → q.commands.items ≡ p.commands.items → q.restarters.items ≡ p.restarters.items → q.engine ≡ p.engine → q.trail.items ≡ p.trail.items
+pub said_behind : (h : Holdings) (p q : Parts) (m : Option Message) → q.messages.items ≡ p.messages.items ++ option_to_list m → q.first ≡ p.first → q.commands.items ≡ p.commands.items → q.restarters.items ≡ p.restarters.items → q.engine ≡ p.engine → q.trail.items ≡ p.trail.items
     → world_of h q ≡ said_if (world_of h p) m
 unfolding world_of
 said_behind h p q None e f cs rs g t = world_is _ _ _ _ _ _ _ _ _ _ _ _ _ _ f (ap reverse cs) refl rs g (ap reverse (e ∙ append-nil p.messages.items)) (ap reverse t)

@@ -2,7 +2,6 @@
 use Rattle.std.specs.Option.{option_map_or}
 use Rattle.std.specs.Prelude.{◌≡◌, ℕ, ◌+◌, ◌-◌, ◌^◌, min, List, [], ◌∷◌, ◌++◌, map, reverse, slice_get, slice_set, Bool, true, false, Option, Some, None}
 use Rattle.smf_model.specs.Holdings.{Holdings}
-use Rattle.smf_model.specs.Tables.{held_in}
 use Rattle.smf_node.specs.declared.machine.Parts.{Parts}
 use Rattle.smf_model.specs.declared.command.Command.{Command}
 use Rattle.smf_model.specs.declared.command.Command.TheVariants as commands
@@ -29,7 +28,7 @@ use Rattle.smf_world.specs.World.{World}
 unfoldable pub world_of : Holdings → Parts → World
 world_of h p =
     record {
-      history = record { first = held_in p.first; past = reverse p.commands.items };
+      history = record { first = p.first; past = reverse p.commands.items };
       now = h;
       restarters = p.restarters.items;
       seen = p.engine;
@@ -39,7 +38,7 @@ world_of h p =
 
 -- nothing that the world shows has changed
 pub record IsSame (p q : Parts) : Type 0 where
-  pub first : held_in q.first ≡ held_in p.first
+  pub first : q.first ≡ p.first
   pub commands : q.commands.items ≡ p.commands.items
   pub restarters : q.restarters.items ≡ p.restarters.items
   pub engine : q.engine ≡ p.engine

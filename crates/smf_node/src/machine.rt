@@ -72,7 +72,7 @@ fn foreseen<J: Journal>(
     repository: &Plain<J>,
     command: &Command,
 ) -> Result<Vec<Item>, AllocError>
-    ensures { IfOk result (λ all. all.items ≡ foreseen repository.now command.now) }
+    ensures { IfOk result (λ all. all.items ≡ foreseen repository.now.held command.now) }
 {
     let Command::Boot = command else {
         return Ok(Vec::new(alloc));
@@ -87,7 +87,7 @@ fn foreseen<J: Journal>(
 
 /// The row number of the instance that a refresh may move.
 fn number_moved<J: Journal>(repository: &Plain<J>, command: &Command) -> Option<u64>
-    ensures { result ≡ number_moved repository.now command.now }
+    ensures { result ≡ number_moved repository.now.held command.now }
 {
     match command {
         Command::Edit(Edit::Refresh(instance)) => repository.row_number(*instance),
@@ -178,7 +178,7 @@ fn prepare<J: Journal>(
 ) -> Result<Vec<Item>, AllocError>
     ensures commands { commands.new.items ≡ commands.old.items }
     ensures trail { trail.new.items ≡ trail.old.items }
-    ensures items { IfOk result (λ items. items.items ≡ foreseen repository.now command.now) }
+    ensures items { IfOk result (λ items. items.items ≡ foreseen repository.now.held command.now) }
     ensures command_room { OnOk result (vec_len commands.new + 1 ≤ vec_capacity commands.new) }
     ensures item_room { IfOk result (λ items. vec_len items + 1 ≤ vec_capacity items) }
     ensures trail_room { IfOk result (λ items. vec_len trail.new + (vec_len items + 1) ≤ vec_capacity trail.new) }
@@ -215,9 +215,9 @@ fn give<J: Journal>(
     trail: &mut Vec<Item>,
     command: Command,
 ) -> Result<Reply, NodeFault>
-    ensures exact { IfOk result (λ reply. IsGiven repository.old command reply repository.new commands.old.items commands.new.items trail.old.items trail.new.items) }
+    ensures exact { IfOk result (λ reply. IsGiven repository.old.held command reply repository.new.held commands.old.items commands.new.items trail.old.items trail.new.items) }
     ensures fault { IfErr result (λ e. HasNoReply J.write_fails e) }
-    ensures err { OnErr result (IsLeft repository.old repository.new commands.old.items commands.new.items trail.old.items trail.new.items) }
+    ensures err { OnErr result (IsLeft repository.old.held repository.new.held commands.old.items commands.new.items trail.old.items trail.new.items) }
 {
     let items = prepare(alloc, repository, commands, trail, &command)?;
     let revision = repository.revision();
@@ -235,8 +235,8 @@ fn give<J: Journal>(
 impl<J: Journal> Machine<J> {
     /// Gives the repository a command, and notes it where it is accepted.
     pub(crate) fn commit(&mut self, command: Command) -> Result<Reply, NodeFault>
-        ensures exact { IfOk result (λ reply. IsCommitted (world_of self.old.repository self.old.parts) command (world_of self.new.repository self.new.parts) reply) }
-        ensures err { OnErr result (world_of self.new.repository self.new.parts ≡ world_of self.old.repository self.old.parts) }
+        ensures exact { IfOk result (λ reply. IsCommitted (world_of self.old.repository.held self.old.parts) command (world_of self.new.repository.held self.new.parts) reply) }
+        ensures err { OnErr result (world_of self.new.repository.held self.new.parts ≡ world_of self.old.repository.held self.old.parts) }
         ensures fault { IfErr result (λ e. HasNoReply J.write_fails e) }
         // What stands beside is not touched, and keeps its room.
         ensures messages { self.new.parts.messages ≡ self.old.parts.messages }
@@ -254,10 +254,10 @@ impl<J: Journal> Machine<J> {
     /// Sends a message.
     #[tactic(auto, using(crate::proofs::Lists::reverse_both), unfolding(crate::specs::Parts::world_of))]
     pub(crate) fn say(&mut self, message: Message) -> Result<(), NodeFault>
-        ensures ok { OnOk result (world_of self.new.repository self.new.parts ≡ said (world_of self.old.repository self.old.parts) message) }
+        ensures ok { OnOk result (world_of self.new.repository.held self.new.parts ≡ said (world_of self.old.repository.held self.old.parts) message) }
         ensures fault { IfErr result (λ e. e ≡ Memory) }
         ensures repository { self.new.repository ≡ self.old.repository }
-        ensures err { OnErr result (world_of self.new.repository self.new.parts ≡ world_of self.old.repository self.old.parts) }
+        ensures err { OnErr result (world_of self.new.repository.held self.new.parts ≡ world_of self.old.repository.held self.old.parts) }
     {
         self.parts.messages.push(message)?;
         Ok(())

@@ -2,7 +2,6 @@ ghost use Rattle.std.specs.Prelude.{◌≡◌, IfErr, IfOk, OnErr, OnOk, reverse
 ghost use Rattle.smf_model.specs.declared.command.Command.TheVariants as commands;
 ghost use Rattle.smf_model.specs.Holdings.{Holdings};
 ghost use Rattle.smf_model.specs.Setting.{startd as the_startd};
-ghost use Rattle.smf_model.specs.Tables.{held_in};
 ghost use Rattle.smf_node.specs.Faults.{HasNoReply, IsUndone};
 ghost use Rattle.smf_node.specs.Parts.{world_of};
 ghost use Rattle.smf_node.specs.Steps.{Goes, IsFault, IsStep, Stops};
@@ -43,7 +42,7 @@ impl<J: Journal> Model for Node<J> {
 
 /// Nothing was said or seen yet.
 fn parts_of(alloc: Global, first: Tables) -> Parts
-    ensures { (h : Holdings) → held_in first ≡ h → world_of h result ≡ found h }
+    ensures { (h : Holdings) → first ≡ h → world_of h result ≡ found h }
 {
     Parts {
         first,
@@ -59,10 +58,10 @@ impl<J: Journal> Node<J> {
     /// Boots what was found. A fault hands the repository back, as it was; `Limit` where a row or a launch has no next
     /// number.
     pub fn new(alloc: Global, repository: Plain<J>) -> Result<Node<J>, (NodeFault, Plain<J>)>
-        ensures ok { IfOk result (λ node. node ≡ record { world = happens (found repository) events.Boot; delivered = 0 }) }
+        ensures ok { IfOk result (λ node. node ≡ record { world = happens (found repository.held) events.Boot; delivered = 0 }) }
         ensures safe { IfOk result (λ node. IsSafe node.world) }
-        ensures err { IfErr result (λ e. e.1 ≡ repository) }
-        ensures fault { IfErr result (λ e. IsUndone J.write_fails repository commands.Boot e.0) }
+        ensures err { IfErr result (λ e. e.1.held ≡ repository.held) }
+        ensures fault { IfErr result (λ e. IsUndone J.write_fails repository.held commands.Boot e.0) }
     {
         let first = match repository.copy() {
             Ok(first) => first,
@@ -123,7 +122,7 @@ impl<J: Journal> Node<J> {
 
     /// What is held now.
     pub fn repository(&self) -> &Plain<J>
-        ensures { result.now ≡ self.now.world.now }
+        ensures { result.now.held ≡ self.now.world.now }
     {
         self.schedule.repository()
     }

@@ -43,7 +43,7 @@ impl<J: Journal> Model for Schedule<J> {
 
     ghost Value = { Progress };
 
-    ghost view = { λ n. record { world = world_of n.machine.repository n.machine.parts; delivered = n.delivered } };
+    ghost view = { λ n. record { world = world_of n.machine.repository.held n.machine.parts; delivered = n.delivered } };
 }
 
 fn names_of(alloc: Global, restarters: &[Restarter]) -> Result<Vec<InstanceFmri>, AllocError>
@@ -81,7 +81,7 @@ fn has_no_orders(alloc: Global, view: &View) -> Result<bool, AllocError>
 
 /// Whether nothing is ordered of what is held.
 fn nothing_ordered<J: Journal>(alloc: Global, repository: &Plain<J>) -> Result<bool, AllocError>
-    ensures { IfOk result (λ b. b ≡ has_no_orders (view repository.now)) }
+    ensures { IfOk result (λ b. b ≡ has_no_orders (view repository.now.held)) }
 {
     let view = repository.view()?;
     has_no_orders(alloc, &view)
@@ -101,7 +101,7 @@ impl<J: Journal> Schedule<J> {
 
     #[tactic(auto, unfolding(crate::specs::Parts::world_of))]
     pub(crate) fn repository(&self) -> &Plain<J>
-        ensures { result.now ≡ self.now.world.now }
+        ensures { result.now.held ≡ self.now.world.now }
     {
         &self.machine.repository
     }

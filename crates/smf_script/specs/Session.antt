@@ -4,7 +4,7 @@ use Rattle.smf_admin.specs.Asking.{commands_of, no_match_text, several_text, svc
 use Rattle.smf_admin.specs.Listing.{header_of, svcs_text}
 use Rattle.smf_admin.specs.declared.asking.Asked.{Asked}
 use Rattle.smf_admin.specs.declared.asking.Asked.TheVariants as asks
-use Rattle.smf_model.specs.Shown.{view}
+use Rattle.smf_model.specs.Shown.{rows}
 use Rattle.smf_model.specs.declared.command.Command.TheVariants as commands
 use Rattle.smf_model.specs.declared.command.Edit.{Edit}
 use Rattle.smf_model.specs.declared.command.Reply.{Reply}
@@ -82,13 +82,13 @@ svcadm_by p (Some all) = asked_all (done p []) all
 
 -- all words are looked up before the first is done
 unfoldable pub svcadm : Progress → List (List ℕ) → Deed
-svcadm p words = svcadm_by p (commands_of (view p.world.now).items words)
+svcadm p words = svcadm_by p (commands_of p.world.now.names words)
 
 -- ---- svcs
 
 abbrev pub svcs_by : Progress → Option Bool → Deed
 svcs_by p None = failed p svcs_usage
-svcs_by p (Some header) = done p (svcs_text (view p.world.now).items header)
+svcs_by p (Some header) = done p (svcs_text (rows p.world.now) header)
 
 unfoldable pub svcs : Progress → List (List ℕ) → Deed
 svcs p words = svcs_by p (header_of words)

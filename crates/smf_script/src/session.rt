@@ -3,7 +3,7 @@ ghost use Rattle.smf_admin.specs.Asking.{commands_of};
 ghost use Rattle.smf_admin.specs.Listing.{svcs_text};
 ghost use Rattle.smf_model.specs.declared.command.Command.TheVariants as commands;
 ghost use Rattle.smf_model.specs.Setting.{startd as the_startd};
-ghost use Rattle.smf_model.specs.Shown.{view};
+ghost use Rattle.smf_model.specs.Shown.{rows};
 ghost use Rattle.smf_node.specs.Faults.{IsUndone};
 ghost use Rattle.smf_repo.specs.Refusals.{refusal};
 ghost use Rattle.smf_script.specs.Session.{IsDeed, IsEffect, asked, asked_all, done, effect, effect_of, given, settle, settled_text, svcadm, svccfg, svcs, told_text};
@@ -139,10 +139,9 @@ fn commands_on<J: Journal>(
     node: &Node<J>,
     words: &[Text],
 ) -> Result<Option<Items<Asked>>, AllocError>
-    ensures { IfOk result (λ all. all ≡ commands_of (view node.now.world.now).items words.now) }
+    ensures { IfOk result (λ all. all ≡ commands_of node.now.world.now.names words.now) }
 {
-    let view = node.repository().view()?;
-    commands_of(alloc, words, view.items.as_slice())
+    commands_of(alloc, words, node.repository().names())
 }
 
 #[tactic(auto, unfolding(crate::specs::Session::svcadm))]
@@ -167,10 +166,10 @@ fn svcadm<J: Journal>(
 
 /// What svcs prints of what the node holds.
 fn listing<J: Journal>(alloc: Global, node: &Node<J>, header: bool) -> Result<Text, AllocError>
-    ensures { IfOk result (λ text. text ≡ svcs_text (view node.now.world.now).items header) }
+    ensures { IfOk result (λ text. text ≡ svcs_text (rows node.now.world.now) header) }
 {
-    let view = node.repository().view()?;
-    svcs_text(alloc, view.items.as_slice(), header)
+    let rows = node.repository().rows()?;
+    svcs_text(alloc, rows.as_slice(), header)
 }
 
 #[tactic(auto, unfolding(crate::specs::Session::svcs))]

@@ -1,14 +1,11 @@
 -- Which group of a name an instance has.
-use Rattle.std.specs.Prelude.{ℕ, List, Bool, Option, Some, None, find, nat_eq}
-use Rattle.std.specs.Cmp.Lexicographic.{pointwise}
-use Rattle.smf_value.specs.Groups.{GroupRecord}
-
-abbrev pub is_group : List ℕ → GroupRecord → Bool
-is_group name g = pointwise nat_eq g.name name
+use Rattle.std.specs.Prelude.{ℕ, List, Option, Some, None}
+use Rattle.smf_fmri.specs.ByKey.{lookup}
+use Rattle.smf_value.specs.Groups.{GroupRecord, by_group}
 
 -- the group of a name
 abbrev pub group_of : List ℕ → List GroupRecord → Option GroupRecord
-group_of name gs = find (is_group name) gs
+group_of name gs = lookup by_group gs name
 
 abbrev pub first_of : Option GroupRecord → Option GroupRecord → Option GroupRecord
 first_of (Some g) other = Some g

@@ -1,43 +1,34 @@
 ghost use Rattle.smf_snap.specs.Body.{IsSnapshot, decoded_snapshot, spelled_both, spelled_snapshot};
 ghost use Rattle.smf_snap.specs.declared.body.Snapshot.{Snapshot as AnySnapshot};
-ghost use Rattle.smf_value.specs.Body.{AreGroups, names_of};
-ghost use Rattle.smf_value.specs.Groups.{Rises};
+ghost use Rattle.smf_value.specs.Body.{AreGroups};
 ghost use Rattle.smf_value.specs.Reading.{Gives};
 ghost use Rattle.std.specs.Prelude.{◌≡◌, IfOk, Ok};
 
-use smf_fmri::{Bytes, Items};
+use smf_fmri::{Bytes, Ordered};
 use smf_value::{BodyFault, Group, decode, decode_first, encode};
 use std::alloc::{AllocError, Global};
 
 /// The groups that a snapshot holds of an instance and of its service.
 #[derive(Debug, Drop)]
 pub struct Snapshot {
-    pub service: Items<Group>,
-    pub instance: Items<Group>,
+    pub service: Ordered<Group>,
+    pub instance: Ordered<Group>,
 }
 
 /// The bytes of a snapshot: the service's body, and then the instance's.
 pub fn encode_snapshot(alloc: Global, snapshot: &Snapshot) -> Result<Bytes, AllocError>
-    requires service { Rises (names_of snapshot.now.service) }
-    requires instance { Rises (names_of snapshot.now.instance) }
     ensures spelled { IfOk result (λ b. b ≡ spelled_snapshot snapshot.now) }
     ensures formed { IfOk result (λ _. IsSnapshot snapshot.now) }
 {
-    encode_both(
-        alloc,
-        snapshot.service.as_slice(),
-        snapshot.instance.as_slice(),
-    )
+    encode_both(alloc, &snapshot.service, &snapshot.instance)
 }
 
 /// The bytes of the snapshot that holds these groups of a service and of its instance.
 pub fn encode_both(
     alloc: Global,
-    service: &[Group],
-    instance: &[Group],
+    service: &Ordered<Group>,
+    instance: &Ordered<Group>,
 ) -> Result<Bytes, AllocError>
-    requires service { Rises (names_of service.now) }
-    requires instance { Rises (names_of instance.now) }
     ensures spelled { IfOk result (λ b. b ≡ spelled_both service.now instance.now) }
     ensures formed { IfOk result (λ _. AreGroups service.now × AreGroups instance.now) }
 {
@@ -53,11 +44,11 @@ pub fn decode_snapshot(alloc: Global, bytes: &[u8]) -> Result<Snapshot, BodyFaul
     ensures only { (s : AnySnapshot) → IsSnapshot s → bytes.now ≡ spelled_snapshot s → Gives (λ x. x) result (Ok s) }
     ensures exact { Gives (λ x. x) result (decoded_snapshot bytes.now) }
 {
-    whole(alloc, bytes)
+    decode_snapshot_exact(alloc, bytes)
 }
 
 #[tactic(auto, unfolding(crate::specs::Body::decoded_snapshot))]
-fn whole(alloc: Global, bytes: &[u8]) -> Result<Snapshot, BodyFault>
+fn decode_snapshot_exact(alloc: Global, bytes: &[u8]) -> Result<Snapshot, BodyFault>
     ensures { Gives (λ x. x) result (decoded_snapshot bytes.now) }
 {
     let (service, rest) = match decode_first(alloc, bytes) {

@@ -8,6 +8,6 @@ mod name;
 mod taking;
 
 pub use body::{Snapshot, decode_snapshot, encode_both, encode_snapshot};
-pub use composing::{composed, find};
+pub use composing::composed;
 pub use name::{SnapshotName, names};
-pub use taking::{is_snapped, put, restore, take};
+pub use taking::{is_snapped, restore, take};

@@ -39,7 +39,7 @@ fn present_service<J: Journal>(
     repository: &Plain<J>,
     name: Option<ServiceFmri>,
 ) -> Option<Selection>
-    ensures { result ≡ present_service repository.now name }
+    ensures { result ≡ present_service repository.now.held name }
 {
     let name = name?;
     if repository.has_service(&name) {
@@ -53,7 +53,7 @@ fn present_instance<J: Journal>(
     repository: &Plain<J>,
     name: Option<InstanceFmri>,
 ) -> Option<Selection>
-    ensures { result ≡ present_instance repository.now name }
+    ensures { result ≡ present_instance repository.now.held name }
 {
     let number = repository.number_of(&name?)?;
     Some(Selection::Instance(number))
@@ -66,7 +66,7 @@ fn child<J: Journal>(
     selection: &Selection,
     word: &str,
 ) -> Result<Option<Selection>, AllocError>
-    ensures { IfOk result (λ found. found ≡ child repository.now selection.now word.now) }
+    ensures { IfOk result (λ found. found ≡ child repository.now.held selection.now word.now) }
 {
     match selection {
         Selection::Nothing => {
@@ -90,7 +90,7 @@ fn entity<J: Journal>(
     repository: &Plain<J>,
     word: &str,
 ) -> Result<Option<Selection>, AllocError>
-    ensures { IfOk result (λ found. found ≡ entity repository.now word.now) }
+    ensures { IfOk result (λ found. found ≡ entity repository.now.held word.now) }
 {
     let name = match Fmri::parse(alloc, word) {
         Ok(name) => name,
@@ -110,7 +110,7 @@ fn select<J: Journal>(
     selection: &Selection,
     word: &str,
 ) -> Result<Judged, CfgFault>
-    ensures { Gives result (judged_select (child repository.now selection.now word.now) (entity repository.now word.now)) }
+    ensures { Gives result (judged_select (child repository.now.held selection.now word.now) (entity repository.now.held word.now)) }
 {
     if let Some(found) = child(alloc, repository, selection, word)? {
         return Ok(Judged::Select(found));
@@ -206,8 +206,8 @@ pub fn judge<J: Journal>(
     line: &str,
 ) -> Result<Judged, CfgFault>
     // What is selected anew is present, and an edit is of what is selected.
-    ensures fits { IfOk result (λ j. Fits repository.now selection.now j) }
-    ensures exact { Gives result (judged repository.now selection.now line.now) }
+    ensures fits { IfOk result (λ j. Fits repository.now.held selection.now j) }
+    ensures exact { Gives result (judged repository.now.held selection.now line.now) }
 {
     come(alloc, repository, selection, line)
 }
@@ -219,7 +219,7 @@ fn come<J: Journal>(
     selection: &Selection,
     line: &str,
 ) -> Result<Judged, CfgFault>
-    ensures { Gives result (judged repository.now selection.now line.now) }
+    ensures { Gives result (judged repository.now.held selection.now line.now) }
 {
     match parse_line(alloc, line)? {
         Line::Nothing => Ok(Judged::Nothing),

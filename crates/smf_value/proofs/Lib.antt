@@ -2,7 +2,7 @@ pub mod Copies
 pub mod Names
 pub mod Texts
 pub mod Numbers
-pub mod Order
+pub mod Limits
 pub mod Changes
 pub mod Digits
 pub mod Loops

@@ -7,13 +7,14 @@ use Rattle.std.specs.Ordering.{nat_cmp}
 use Rattle.std.specs.declared.cmp.Ordering.{Ordering}
 use Rattle.std.specs.declared.cmp.Ordering.TheVariants.{Less, Equal, Greater}
 use Rattle.std.proofs.lemmas.List.{append-nil, nil_from_length}
+use Rattle.smf_fmri.specs.ByKey.{IsBelowFirst, Rises, by_text}
 use Rattle.smf_value.specs.declared.kind.Kind.{Kind}
 use Rattle.smf_value.specs.declared.value.Value.{Value}
 use Rattle.smf_value.specs.Kinds.{kind_code, is_kind}
 use Rattle.smf_value.specs.Names.{is_name, IsName}
 use Rattle.smf_value.specs.Values.{kind_of, IsValue}
-use Rattle.smf_value.specs.Groups.{PropertyRecord, GroupRecord, AreOf, IsProperty, IsGroup, IsBelowFirst, Rises, property_names}
-use Rattle.smf_value.specs.Body.{spelled_text, spelled_bit, spelled_value, spelled_all, spelled_property, spelled_group, spelled, IsWholeProperty, IsWholeGroup, AreGroups, names_of}
+use Rattle.smf_value.specs.Groups.{PropertyRecord, GroupRecord, AreOf, IsProperty, IsGroup, by_property, by_group}
+use Rattle.smf_value.specs.Body.{spelled_text, spelled_bit, spelled_value, spelled_all, spelled_property, spelled_group, spelled, IsWholeProperty, IsWholeGroup, AreGroups}
 use Rattle.smf_value.specs.Reading.{◌>>=◌, number_at, text_at, wrong, is_less, is_above, name_at, bit_at, kind_at, count_at, value_at, values_at, property_at, properties_at, group_at, groups_at, body_at, all_at, whole, placed, decoded, decoded_first}
 use Rattle.smf_value.proofs.Loops.{unnamed, one_value, all_values, values_all, property_name, properties_all, group_name, groups_all}
 use Rattle.smf_value.proofs.Fields.{IsBytes, bind_ok, test_ok, ok_is, Takes, Takes-then, wide16, wide32, number_takes, number_again, text_takes, text_again, Chain, IsSpelled, AreTaken, all_take, all_again}
@@ -70,21 +71,25 @@ less_is Less h = refl
 less_is Equal h = cc
 less_is Greater h = cc
 
-chain_below : (name : List ℕ) (names : List (List ℕ)) → Chain IsAbove (Some name) names → IsBelowFirst name names
-chain_below name [] h = tt
-chain_below name (next ∷ names) h = less_is (slice_cmp nat_cmp name next) h.0
+chain_below : {X : Type 0} (name : X → List ℕ) (k : List ℕ) (xs : List X) → Chain IsAbove (Some k) (map name xs)
+    → IsBelowFirst (by_text name) k xs
+chain_below name k [] h = tt
+chain_below name k (x ∷ xs) h = less_is (slice_cmp nat_cmp k (name x)) h.0
 
-pub chain_rises : (before : Option (List ℕ)) (names : List (List ℕ)) → Chain IsAbove before names → Rises names
-chain_rises before [] h = tt
-chain_rises before (name ∷ names) h = (chain_below name names h.1, chain_rises (Some name) names h.1)
+pub chain_rises : {X : Type 0} (name : X → List ℕ) (before : Option (List ℕ)) (xs : List X)
+    → Chain IsAbove before (map name xs) → Rises (by_text name) xs
+chain_rises name before [] h = tt
+chain_rises name before (x ∷ xs) h = (chain_below name (name x) xs h.1, chain_rises name (Some (name x)) xs h.1)
 
-rises_chain_by : (name : List ℕ) (names : List (List ℕ)) → Rises (name ∷ names) → Chain IsAbove (Some name) names
-rises_chain_by name [] h = tt
-rises_chain_by name (next ∷ names) h = (rw h.0 refl, rises_chain_by next names h.1)
+rises_chain_by : {X : Type 0} (name : X → List ℕ) (x : X) (xs : List X) → Rises (by_text name) (x ∷ xs)
+    → Chain IsAbove (Some (name x)) (map name xs)
+rises_chain_by name x [] h = tt
+rises_chain_by name x (next ∷ xs) h = (rw h.0 refl, rises_chain_by name next xs h.1)
 
-pub rises_chain : (names : List (List ℕ)) → Rises names → Chain IsAbove None names
-rises_chain [] h = tt
-rises_chain (name ∷ names) h = (refl, rises_chain_by name names h)
+pub rises_chain : {X : Type 0} (name : X → List ℕ) (xs : List X) → Rises (by_text name) xs
+    → Chain IsAbove None (map name xs)
+rises_chain name [] h = tt
+rises_chain name (x ∷ xs) h = (refl, rises_chain_by name x xs h)
 
 name_takes : (before : Option (List ℕ)) (bytes : List ℕ) (x : List ℕ × List ℕ) → IsBytes bytes → name_at before bytes ≡ Ok x → Takes bytes (spelled_text w16 x.0) x.1 × IsName x.0 × IsAbove before x.0
 unfolding name_at
@@ -177,7 +182,7 @@ group_takes before bytes x fits e =
     let e04 = Takes-then bytes (spelled_text w16 a.0.0) a.0.1 (spelled_text w16 b.0.0 ++ (spelled_bit c.0.0 ++ spelled_all w16 spelled_property f.0.0)) f.0.1 t0.0 e14 in
     let made : GroupRecord = record { name = a.0.0; group_type = b.0.0; non_persistent = c.0.0; properties = f.0.0 } in
     let low : length f.0.0 ≤ 1000 = rw t4.count t3.1 in
-    let formed : IsGroup made = record { rises = chain_rises None (property_names f.0.0) t4.chain; bounded = low } in
+    let formed : IsGroup made = record { rises = chain_rises property_name None f.0.0 t4.chain; bounded = low } in
     let P : GroupRecord × List ℕ → Type 0 = λ y. Takes bytes (spelled_group y.0) y.1 × IsWholeGroup y.0 × IsAbove before y.0.name in
     subst P (ok_is (made, f.0.1) x f.2) (e04, record { named = t0.1; typed = record { fits = t1.1 }; formed = formed; each = t4.each }, t0.2)
 
@@ -198,19 +203,19 @@ group_again before g rest is above =
       plain_again g.group_type (spelled_bit g.non_persistent ++ (count ++ last)) is.typed,
       bit_again g.non_persistent (count ++ last),
       count_again (length g.properties) last is.formed.bounded,
-      all_again property_name property_at properties_at spelled_property IsWholeProperty IsAbove properties_all properties_spelled None g.properties rest is.each (rises_chain (property_names g.properties) is.formed.rises),
+      all_again property_name property_at properties_at spelled_property IsWholeProperty IsAbove properties_all properties_spelled None g.properties rest is.each (rises_chain property_name g.properties is.formed.rises),
     ) refl
 
 -- what is known of a group that is read part by part
 pub group_parts : (before : Option (List ℕ)) (bytes name group_type r1 r2 r3 r4 r5 : List ℕ) (flag : Bool) (count : ℕ) (ps : List PropertyRecord) → IsBytes bytes → name_at before bytes ≡ Ok (name, r1)
-    → text_at w16 is_name r1 ≡ Ok (group_type, r2) → bit_at r2 ≡ Ok (flag, r3) → count_at r3 ≡ Ok (count, r4) → properties_at None count r4 ≡ Ok (ps, r5) → Rises (property_names ps) × (length ps ≤ 1000)
+    → text_at w16 is_name r1 ≡ Ok (group_type, r2) → bit_at r2 ≡ Ok (flag, r3) → count_at r3 ≡ Ok (count, r4) → properties_at None count r4 ≡ Ok (ps, r5) → Rises by_property ps × (length ps ≤ 1000)
 group_parts before bytes name group_type r1 r2 r3 r4 r5 flag count ps fits a b c d e =
     let t0 = name_takes before bytes (name, r1) fits a in
     let t1 = text_takes w16 (2 ^ 16) wide16 is_name r1 (group_type, r2) t0.0.rest_fits b in
     let t2 = bit_takes r2 (flag, r3) t1.0.rest_fits c in
     let t3 = count_takes r3 (count, r4) t2.rest_fits d in
     let t4 = properties_take count r4 (ps, r5) t3.0.rest_fits e in
-    let low : length ps ≤ 1000 = rw t4.count t3.1 in (chain_rises None (property_names ps) t4.chain, low)
+    let low : length ps ≤ 1000 = rw t4.count t3.1 in (chain_rises property_name None ps t4.chain, low)
 
 groups_spelled : IsSpelled group_name group_at spelled_group IsWholeGroup IsAbove
 groups_spelled = record { takes = group_takes; again = group_again }
@@ -226,13 +231,21 @@ body_takes bytes x fits e =
     let both = (Takes-then bytes (to_be_bytes w32 a.0.0) a.0.1 (flat_map spelled_group x.0) x.1 t0.0 t1.takes).parts in
     let parts : bytes ≡ spelled x.0 ++ x.1 = both ∙ ap (λ (n : ℕ). (to_be_bytes w32 n ++ flat_map spelled_group x.0) ++ x.1) (sym t1.count) in
     let low : length x.0 < 2 ^ 32 = rw t1.count t0.1 in
-    (record { bounded = low; rises = chain_rises None (names_of x.0) t1.chain; each = t1.each }, parts)
+    (record { bounded = low; rises = chain_rises group_name None x.0 t1.chain; each = t1.each }, parts)
+
+-- what is known of groups that are read part by part
+pub body_rises : (bytes r1 r2 : List ℕ) (count : ℕ) (gs : List GroupRecord) → IsBytes bytes
+    → number_at w32 bytes ≡ Ok (count, r1) → groups_at None count r1 ≡ Ok (gs, r2) → Rises by_group gs
+body_rises bytes r1 r2 count gs fits a b =
+    let t0 = number_takes w32 (2 ^ 32) wide32 bytes count r1 fits a in
+    let t1 = all_take group_name group_at groups_at spelled_group IsWholeGroup IsAbove groups_all groups_spelled count None r1 (gs, r2) t0.0.rest_fits b in
+    chain_rises group_name None gs t1.chain
 
 pub body_again : (gs : List GroupRecord) (rest : List ℕ) → AreGroups gs → body_at (spelled gs ++ rest) ≡ Ok (gs, rest)
 unfolding body_at
 body_again gs rest is =
     ap body_at (append_assoc (to_be_bytes w32 (length gs)) (flat_map spelled_group gs) rest)
-    ∙ rw (number_again w32 (2 ^ 32) wide32 (length gs) (flat_map spelled_group gs ++ rest) is.bounded) (all_again group_name group_at groups_at spelled_group IsWholeGroup IsAbove groups_all groups_spelled None gs rest is.each (rises_chain (names_of gs) is.rises))
+    ∙ rw (number_again w32 (2 ^ 32) wide32 (length gs) (flat_map spelled_group gs ++ rest) is.bounded) (all_again group_name group_at groups_at spelled_group IsWholeGroup IsAbove groups_all groups_spelled None gs rest is.each (rises_chain group_name gs is.rises))
 
 placed_ok : {A : Type 0} (bytes : List ℕ) (r : Result A ℕ) (x : A) → placed bytes r ≡ Ok x → r ≡ Ok x
 placed_ok bytes (Ok y) x e = let same : y ≡ x = cc in ap (λ z. Ok z) same

@@ -1,5 +1,6 @@
 -- How groups are changed.
-use Rattle.std.specs.Prelude.{◌≡◌, ℕ, List, [], ◌∷◌, ◌++◌, length, not, nat_lt, if◌then◌else◌, filter, find, Option, Some, None, Result, Ok, Err}
+use Rattle.std.specs.Prelude.{◌≡◌, ℕ, List, [], ◌∷◌, ◌++◌, length, not, nat_lt, if◌then◌else◌, filter, is_some, Option, Some, None, Result, Ok, Err}
+use Rattle.smf_fmri.specs.ByKey.{put, without}
 use Rattle.smf_value.specs.declared.fault.GroupFault.{GroupFault}
 use Rattle.smf_value.specs.declared.fault.GroupFault.TheVariants.{Memory, NoSuch, NeedsKind, KindDiffers, TooLong, NotA, Range, Full}
 use Rattle.smf_value.specs.declared.fault.ValueFault.{ValueFault}
@@ -9,7 +10,7 @@ use Rattle.smf_value.specs.declared.value.Value.{Value}
 use Rattle.smf_value.specs.Kinds.{is_kind}
 use Rattle.smf_value.specs.Values.{is_value}
 use Rattle.smf_value.specs.Spellings.{read_value}
-use Rattle.smf_value.specs.Groups.{PropertyRecord, GroupRecord, property_of, put_in, is_named, without}
+use Rattle.smf_value.specs.Groups.{PropertyRecord, GroupRecord, by_property, property_of}
 
 abbrev pub Fails : {Y : Type 0} → GroupFault → Result Y GroupFault → Type 0
 Fails Memory given = Unit {0}
@@ -60,25 +61,11 @@ abbrev pub values_of : Option PropertyRecord → List Value
 values_of None = []
 values_of (Some p) = p.values
 
--- a property put among others, at most 1,000 in all
-unfoldable pub put_among : PropertyRecord → List PropertyRecord → Result (List PropertyRecord) GroupFault
-put_among p ps = if nat_lt 1000 (length (put_in p ps)) then Err Full else Ok (put_in p ps)
-
-abbrev pub taken_by : Option PropertyRecord → List PropertyRecord → Result (List PropertyRecord) GroupFault
-taken_by None ps = Err NoSuch
-taken_by (Some p) ps = Ok ps
-
--- the properties but for that of a name, which is there
-unfoldable pub taken_from : List ℕ → List PropertyRecord → Result (List PropertyRecord) GroupFault
-taken_from name ps = taken_by (find (is_named name) ps) (without name ps)
-
-abbrev pub with_properties : GroupRecord → Result (List PropertyRecord) GroupFault → Result GroupRecord GroupFault
-with_properties g (Ok ps) = Ok (record g { properties = ps })
-with_properties g (Err e) = Err e
-
--- a property put in its place, over the one that has its name
-unfoldable pub put : PropertyRecord → GroupRecord → Result GroupRecord GroupFault
-put p g = with_properties g (put_among p g.properties)
+-- a property put in its place, over the one that has its name: at most 1,000 in all
+unfoldable pub put_property : PropertyRecord → GroupRecord → Result GroupRecord GroupFault
+put_property p g =
+    if nat_lt 1000 (length (put by_property p g.properties)) then Err Full
+    else Ok (record g { properties = put by_property p g.properties })
 
 -- at most 1,000 values in a property
 abbrev pub bounded : PropertyRecord → Result PropertyRecord GroupFault
@@ -94,7 +81,7 @@ property_set name kind texts found = do
 unfoldable pub set : List ℕ → Option Kind → List (List ℕ) → GroupRecord → Result GroupRecord GroupFault
 set name kind texts g = do
   p ← property_set name kind texts (property_of name g)
-  put p g
+  put_property p g
 
 -- a value behind the others, also one that is there
 unfoldable pub property_added : List ℕ → Option Kind → List ℕ → Option PropertyRecord → Result PropertyRecord GroupFault
@@ -106,7 +93,7 @@ property_added name kind text found = do
 unfoldable pub add_value : List ℕ → Option Kind → List ℕ → GroupRecord → Result GroupRecord GroupFault
 add_value name kind text g = do
   p ← property_added name kind text (property_of name g)
-  put p g
+  put_property p g
 
 -- all values that equal it go; a property without values stays
 unfoldable pub property_less : List ℕ → PropertyRecord → Result PropertyRecord GroupFault
@@ -121,7 +108,10 @@ present_less text (Some p) = property_less text p
 unfoldable pub del_value : List ℕ → List ℕ → GroupRecord → Result GroupRecord GroupFault
 del_value name text g = do
   p ← present_less text (property_of name g)
-  put p g
+  put_property p g
 
+-- without the property of a name, which is there
 unfoldable pub del : List ℕ → GroupRecord → Result GroupRecord GroupFault
-del name g = with_properties g (taken_from name g.properties)
+del name g =
+    if is_some (property_of name g) then Ok (record g { properties = without by_property name g.properties })
+    else Err NoSuch

@@ -1,11 +1,12 @@
 //! Groups as bytes.
 
-ghost use Rattle.smf_value.specs.Body.{AreGroups, IsWholeGroup, IsWholeProperty, names_of, spelled, spelled_bit, spelled_group, spelled_property, spelled_text, spelled_value};
-ghost use Rattle.smf_value.specs.Groups.{Rises};
+ghost use Rattle.smf_fmri.specs.ByKey.{Rises};
+ghost use Rattle.smf_value.specs.Body.{AreGroups, IsWholeGroup, IsWholeProperty, spelled, spelled_bit, spelled_group, spelled_moment, spelled_property, spelled_text, spelled_value};
+ghost use Rattle.smf_value.specs.Groups.{by_group};
 ghost use Rattle.smf_value.specs.Names.{IsName};
 ghost use Rattle.smf_value.specs.Values.{IsValue};
 ghost use Rattle.smf_value.specs.Moments.{IsMoment};
-ghost use Rattle.std.specs.Int.{to_be_bytes, w16, w32, w64};
+ghost use Rattle.std.specs.Int.{w16, w32};
 ghost use Rattle.std.specs.Prelude.{◌≡◌, ◌++◌, ◌<◌, ◌^◌, IfOk, OnOk, length};
 
 use crate::group::Group;
@@ -14,7 +15,7 @@ use crate::property::Property;
 use crate::spelling::short_of;
 use crate::time::Time;
 use crate::value::Value;
-use smf_fmri::Bytes;
+use smf_fmri::{Bytes, Ordered};
 use std::alloc::{AllocError, Global};
 
 /// A length in two bytes, and the bytes of a name.
@@ -44,7 +45,7 @@ fn put_bit(out: &mut Vec<u8>, bit: bool) -> Result<(), AllocError>
 }
 
 fn put_time(out: &mut Vec<u8>, time: Time) -> Result<(), AllocError>
-    ensures put { OnOk result (out.new.items ≡ out.old.items ++ (to_be_bytes w64 time.seconds ++ to_be_bytes w32 time.nanoseconds)) }
+    ensures put { OnOk result (out.new.items ≡ out.old.items ++ spelled_moment time) }
     ensures formed { IsMoment time }
 {
     let seconds = time.seconds();
@@ -100,11 +101,9 @@ fn put_group(alloc: Global, out: &mut Vec<u8>, group: &Group) -> Result<(), Allo
     Ok(())
 }
 
-/// The body of groups, whose names rise.
-pub fn encode(alloc: Global, groups: &[Group]) -> Result<Bytes, AllocError>
-    requires { Rises (names_of groups.now) }
+fn body_of(alloc: Global, groups: &[Group]) -> Result<Bytes, AllocError>
+    requires { Rises by_group groups.now }
     ensures spelled { IfOk result (λ b. b ≡ spelled groups.now) }
-    // Such groups are what `decode` gives of their body.
     ensures formed { IfOk result (λ _. AreGroups groups.now) }
 {
     let Ok(count) = u32::try_from(groups.len()) else {
@@ -116,4 +115,13 @@ pub fn encode(alloc: Global, groups: &[Group]) -> Result<Bytes, AllocError>
         put_group(alloc, &mut out, group)?;
     }
     Ok(Bytes::from_vec(out))
+}
+
+/// The body of groups.
+pub fn encode(alloc: Global, groups: &Ordered<Group>) -> Result<Bytes, AllocError>
+    ensures spelled { IfOk result (λ b. b ≡ spelled groups.now) }
+    // Such groups are what `decode` gives of their body.
+    ensures formed { IfOk result (λ _. AreGroups groups.now) }
+{
+    body_of(alloc, groups.as_slice())
 }

@@ -1,25 +1,18 @@
-ghost use Rattle.smf_value.specs.Edits.{Leaves, del, put, put_among, taken_from};
-ghost use Rattle.smf_value.specs.Groups.{GroupRecord, IsGroup, Rises, index_of, place_of, property_names, property_of};
+ghost use Rattle.smf_fmri.specs.ByKey.{Rises, by_text, put};
+ghost use Rattle.smf_value.specs.Edits.{Leaves, del, put_property};
+ghost use Rattle.smf_value.specs.Groups.{IsGroup, by_property, group_with, property_of};
 ghost use Rattle.std.specs.Int.RustNames.{bit_and};
 ghost use Rattle.std.specs.Option.{option_copied};
-ghost use Rattle.std.specs.Prelude.{◌≡◌, ◌≤◌, ◌==◌, [], IfOk, length};
+ghost use Rattle.std.specs.Prelude.{◌≡◌, ◌≤◌, ◌==◌, [], length, nat_lt, refl};
 
 use crate::fault::GroupFault;
 use crate::flags::GroupFlags;
 use crate::name::Name;
 use crate::property::Property;
 use bitflags::Flags;
-use smf_fmri::Items;
+use smf_fmri::{ExactClone, Items, Keyed, Ordered, TextKeyed};
 use std::alloc::{AllocError, Global};
-use std::cmp::Ordering;
 use std::marker::Model;
-
-/// Where a property of a name stands, or before which one it would stand.
-#[derive(Clone, Copy, Debug)]
-enum Place {
-    At(usize),
-    Before(usize),
-}
 
 /// A group: a name, a type, whether it is kept over a boot, and at most 1,000 properties in the order of their names.
 #[derive(Debug, Drop)]
@@ -27,19 +20,19 @@ pub struct Group {
     name: Name,
     group_type: Name,
     flags: GroupFlags,
-    properties: Vec<Property>,
+    properties: Ordered<Property>,
 }
 
 impl Model for Group {
-    ghost use Rattle.smf_value.specs.Groups.{GroupRecord, IsGroup, IsGroup};
+    ghost use Rattle.smf_value.specs.Groups.{GroupRecord, group_with};
     ghost use Rattle.std.specs.Int.RustNames.{bit_and};
-    ghost use Rattle.std.specs.Prelude.{◌==◌};
+    ghost use Rattle.std.specs.Prelude.{◌==◌, ◌≤◌, length};
 
     ghost Value = { GroupRecord };
 
-    ghost view = { λ g. record { name = g.name; group_type = g.group_type; non_persistent = bit_and g.flags.0 1 == 1; properties = g.properties.items } };
+    ghost view = { λ g. group_with g.name g.group_type (bit_and g.flags.0 1 == 1) g.properties };
 
-    ghost invariant = { λ g. IsGroup (record { name = g.name; group_type = g.group_type; non_persistent = bit_and g.flags.0 1 == 1; properties = g.properties.items }) };
+    ghost invariant = { λ g. length g.properties ≤ 1000 };
 }
 
 impl Group {
@@ -48,13 +41,13 @@ impl Group {
 
     /// A group without properties.
     pub fn new(alloc: Global, name: Name, group_type: Name, flags: GroupFlags) -> Group
-        ensures { result ≡ record { name = name; group_type = group_type; non_persistent = bit_and flags.0 1 == 1; properties = [] } }
+        ensures { result ≡ group_with name group_type (bit_and flags.0 1 == 1) [] }
     {
         Group {
             name,
             group_type,
             flags,
-            properties: Vec::new(alloc),
+            properties: Ordered::new(alloc),
         }
     }
 
@@ -65,9 +58,9 @@ impl Group {
         non_persistent: bool,
         properties: Items<Property>,
     ) -> Group
-        requires rises { Rises (property_names properties) }
+        requires rises { Rises by_property properties }
         requires bounded { length properties ≤ 1000 }
-        ensures { result ≡ record { name = name; group_type = group_type; non_persistent = non_persistent; properties = properties } }
+        ensures { result ≡ group_with name group_type non_persistent properties }
     {
         Group {
             name,
@@ -77,7 +70,7 @@ impl Group {
             } else {
                 GroupFlags::NONE
             },
-            properties: properties.into_vec(),
+            properties: Ordered::from_vec(properties.into_vec()),
         }
     }
 
@@ -110,12 +103,7 @@ impl Group {
     pub fn find(&self, name: &str) -> Option<&Property>
         ensures { option_copied result ≡ property_of name.now self.now }
     {
-        for property in &self.properties {
-            if property.name().as_str() == name {
-                return Some(property);
-            }
-        }
-        None
+        self.properties.get_text(name)
     }
 }
 
@@ -123,75 +111,58 @@ impl Group {
     /// Puts a property in its place, over the one that has its name, of whatever kind that is. `Full`: a new one past
     /// 1,000.
     pub fn put(&mut self, property: Property) -> Result<(), GroupFault>
-        ensures { Leaves result (put property self.old) self.old self.new }
+        ensures { Leaves result (put_property property self.old) self.old self.new }
     {
-        put_in(&mut self.properties, property)
+        if is_one_too_many(&self.properties, &property) {
+            return Err(GroupFault::Full);
+        }
+        self.properties.put(property)?;
+        Ok(())
     }
 
     /// Takes a property out of the group.
     pub fn del(&mut self, name: &Name) -> Result<(), GroupFault>
         ensures { Leaves result (del name.now self.old) self.old self.new }
     {
-        take_out(&mut self.properties, name)
+        if self.properties.get(name).is_none() {
+            return Err(GroupFault::NoSuch);
+        }
+        self.properties.remove(name);
+        Ok(())
     }
 }
 
-fn put_in(properties: &mut Vec<Property>, property: Property) -> Result<(), GroupFault>
-    requires { length properties.old.items ≤ 1000 }
-    ensures { Leaves result (put_among property properties.old.items) properties.old.items properties.new.items }
+/// Whether a property would be one more than a group has.
+fn is_one_too_many(properties: &Ordered<Property>, property: &Property) -> bool
+    requires { length properties.now ≤ 1000 }
+    ensures { result ≡ nat_lt 1000 (length (put by_property property.now properties.now)) }
 {
-    match place_of(properties, property.name()) {
-        Place::At(place) => {
-            properties[place] = property;
-            Ok(())
-        }
-        Place::Before(place) => {
-            if properties.len() >= Group::MAX_PROPERTIES {
-                return Err(GroupFault::Full);
-            }
-            properties.insert(place, property)?;
-            Ok(())
-        }
+    if properties.as_slice().len() < Group::MAX_PROPERTIES {
+        return false;
     }
+    properties.get(property.key()).is_none()
 }
 
-fn take_out(properties: &mut Vec<Property>, name: &Name) -> Result<(), GroupFault>
-    ensures { Leaves result (taken_from name.now properties.old.items) properties.old.items properties.new.items }
-{
-    match index_of(properties, name) {
-        Some(place) => {
-            properties.remove(place);
-            Ok(())
-        }
-        None => Err(GroupFault::NoSuch),
+impl Keyed for Group {
+    type Key = Name;
+
+    ghost by = { by_text (λ g. g.name) };
+
+    fn key(&self) -> &Name {
+        &self.name
     }
+
+    ghost same = { refl };
 }
 
-fn place_of(properties: &[Property], name: &Name) -> Place
-    ensures { result ≡ place_of 0 name.now properties.now }
-{
-    let mut at = 0;
-    for other in properties {
-        match name.cmp(other.name()) {
-            Ordering::Less => return Place::Before(at),
-            Ordering::Equal => return Place::At(at),
-            Ordering::Greater => at += 1,
-        }
-    }
-    Place::Before(at)
-}
+impl TextKeyed for Group {
+    ghost text = { λ g. g.name };
 
-fn index_of(properties: &[Property], name: &Name) -> Option<usize>
-    ensures { result ≡ index_of 0 name.now properties.now }
-{
-    let mut at = 0;
-    for other in properties {
-        if *other.name() == *name {
-            return Some(at);
-        }
-        at += 1;
+    fn key_text(&self) -> &str {
+        self.name.as_str()
     }
-    None
+
+    ghost same_order = { λ gs rises. rises };
 }
 
 impl Clone for Group {
@@ -200,7 +171,7 @@ impl Clone for Group {
     fn clone(&self) -> Result<Group, AllocError> {
         let name = self.name.clone()?;
         let group_type = self.group_type.clone()?;
-        let properties = copy_of(&self.properties)?;
+        let properties = self.properties.clone()?;
         Ok(Group {
             name,
             group_type,
@@ -210,9 +181,6 @@ impl Clone for Group {
     }
 }
 
-#[tactic(auto, using(crate::proofs::Copies::same_items))]
-fn copy_of(properties: &Vec<Property>) -> Result<Vec<Property>, AllocError>
-    ensures { IfOk result (λ copy. copy.items ≡ properties.now.items) }
-{
-    properties.clone()
+impl ExactClone for Group {
+    ghost exact = { λ g copy same. same };
 }

@@ -1,11 +1,12 @@
+ghost use Rattle.smf_fmri.specs.ByKey.{by_text};
 ghost use Rattle.smf_value.specs.Groups.{AreOf, PropertyRecord};
 ghost use Rattle.smf_value.specs.Values.{kind_of};
-ghost use Rattle.std.specs.Prelude.{◌≡◌, ◌≤◌, [], ◌∷◌, IfOk, length};
+ghost use Rattle.std.specs.Prelude.{◌≡◌, ◌≤◌, [], ◌∷◌, IfOk, length, refl};
 
 use crate::kind::Kind;
 use crate::name::Name;
 use crate::value::Value;
-use smf_fmri::Items;
+use smf_fmri::{ExactClone, Items, Keyed, TextKeyed};
 use std::alloc::{AllocError, Global};
 use std::marker::Model;
 
@@ -85,6 +86,28 @@ impl Property {
     }
 }
 
+impl Keyed for Property {
+    type Key = Name;
+
+    ghost by = { by_text (λ p. p.name) };
+
+    fn key(&self) -> &Name {
+        &self.name
+    }
+
+    ghost same = { refl };
+}
+
+impl TextKeyed for Property {
+    ghost text = { λ p. p.name };
+
+    fn key_text(&self) -> &str {
+        self.name.as_str()
+    }
+
+    ghost same_order = { λ ps rises. rises };
+}
+
 impl Clone for Property {
     ghost is_clone = { λ s copy. copy ≡ s };
 
@@ -97,6 +120,10 @@ impl Clone for Property {
             values,
         })
     }
+}
+
+impl ExactClone for Property {
+    ghost exact = { λ p copy same. same };
 }
 
 #[tactic(auto, using(crate::proofs::Copies::same_items))]

@@ -13,7 +13,6 @@ ghost use Rattle.std.specs.Prelude.{◌≡◌, ◌++◌, IfErr, IfOk, IsOkUnless
 
 use crate::astring::Astring;
 use crate::fault::BodyFault;
-use crate::flags::GroupFlags;
 use crate::group::Group;
 use crate::kind::Kind;
 use crate::name::{Name, name_wrong};
@@ -21,7 +20,7 @@ use crate::property::Property;
 use crate::time::Time;
 use crate::ustring::Ustring;
 use crate::value::Value;
-use smf_fmri::{Fmri, FmriFault, Items};
+use smf_fmri::{Fmri, FmriFault, Items, Ordered};
 use std::alloc::{AllocError, AllocFailed, Global};
 use std::cmp::Ordering;
 use std::str;
@@ -406,15 +405,16 @@ fn groups_at(alloc: Global, count: u32, bytes: &[u8]) -> Result<(Items<Group>, &
 }
 
 #[tactic(auto, unfolding(crate::specs::Reading::body_at))]
-fn body_at(alloc: Global, bytes: &[u8]) -> Result<(Items<Group>, &[u8]), ReadFault>
+fn body_at(alloc: Global, bytes: &[u8]) -> Result<(Ordered<Group>, &[u8]), ReadFault>
     ensures { GivesAt (λ x. (x.0, x.1.now)) result (body_at bytes.now) }
 {
     let (count, rest) = u32_at(bytes)?;
-    groups_at(alloc, count, rest)
+    let (groups, rest) = groups_at(alloc, count, rest)?;
+    Ok((Ordered::from_vec(groups.into_vec()), rest))
 }
 
 #[tactic(auto, unfolding(crate::specs::Reading::all_at))]
-fn all_at(alloc: Global, bytes: &[u8]) -> Result<Items<Group>, ReadFault>
+fn all_at(alloc: Global, bytes: &[u8]) -> Result<Ordered<Group>, ReadFault>
     ensures { GivesAt (λ x. x) result (all_at bytes.now) }
 {
     let (groups, rest) = body_at(alloc, bytes)?;
@@ -436,7 +436,7 @@ fn placed(fault: ReadFault, bytes: &[u8]) -> BodyFault
 }
 
 /// The groups of a body.
-pub fn decode(alloc: Global, bytes: &[u8]) -> Result<Items<Group>, BodyFault>
+pub fn decode(alloc: Global, bytes: &[u8]) -> Result<Ordered<Group>, BodyFault>
     // What is read is spelled so.
     ensures found { IfOk result (λ gs. AreGroups gs × (bytes.now ≡ spelled gs)) }
     // What is spelled so is read, unless memory runs out.
@@ -445,11 +445,11 @@ pub fn decode(alloc: Global, bytes: &[u8]) -> Result<Items<Group>, BodyFault>
     ensures exact { Gives (λ x. x) result (decoded bytes.now) }
     ensures place { IfErr result (IsWithin (length bytes.now)) }
 {
-    all(alloc, bytes)
+    decode_exact(alloc, bytes)
 }
 
 #[tactic(auto, unfolding(crate::specs::Reading::decoded))]
-fn all(alloc: Global, bytes: &[u8]) -> Result<Items<Group>, BodyFault>
+fn decode_exact(alloc: Global, bytes: &[u8]) -> Result<Ordered<Group>, BodyFault>
     ensures exact { Gives (λ x. x) result (decoded bytes.now) }
     ensures place { IfErr result (IsWithin (length bytes.now)) }
 {
@@ -460,17 +460,17 @@ fn all(alloc: Global, bytes: &[u8]) -> Result<Items<Group>, BodyFault>
 }
 
 /// The groups of a body that stands first, and what stands behind it.
-pub fn decode_first(alloc: Global, bytes: &[u8]) -> Result<(Items<Group>, &[u8]), BodyFault>
+pub fn decode_first(alloc: Global, bytes: &[u8]) -> Result<(Ordered<Group>, &[u8]), BodyFault>
     ensures found { IfOk result (λ x. AreGroups x.0 × (bytes.now ≡ spelled x.0 ++ x.1.now)) }
     ensures only { (gs : List GroupRecord) (rest : List ℕ) → AreGroups gs → bytes.now ≡ spelled gs ++ rest
         → Gives {Y = List GroupRecord × List ℕ} (λ x. (x.0, x.1.now)) result (Ok (gs, rest)) }
     ensures exact { Gives (λ x. (x.0, x.1.now)) result (decoded_first bytes.now) }
 {
-    first(alloc, bytes)
+    decode_first_exact(alloc, bytes)
 }
 
 #[tactic(auto, unfolding(crate::specs::Reading::decoded_first))]
-fn first(alloc: Global, bytes: &[u8]) -> Result<(Items<Group>, &[u8]), BodyFault>
+fn decode_first_exact(alloc: Global, bytes: &[u8]) -> Result<(Ordered<Group>, &[u8]), BodyFault>
     ensures { Gives (λ x. (x.0, x.1.now)) result (decoded_first bytes.now) }
 {
     match body_at(alloc, bytes) {

@@ -15,10 +15,14 @@ use Rattle.smf_model.specs.declared.command.Why.{Why}
 use Rattle.smf_model.specs.declared.command.Why.TheVariants as whys
 use Rattle.smf_model.specs.declared.held.Instance.{Instance}
 use Rattle.smf_model.specs.Holdings.{Holdings}
-use Rattle.smf_model.specs.Look.{has_number, instance, replaced, installed}
+use Rattle.smf_model.specs.Look.{by_instance, groups_of, in_place, installed, instance, instances, put_over}
 use Rattle.smf_model.specs.Setting.{current}
-use Rattle.smf_model.specs.Next.{Asked, greatest, greatest_snapshot, refused, accepted, snapshot_of, is_again, stale, with_row, takes_running, granted, step_answer, fresh_answer, answer_at, answer, asked, next}
-use Rattle.smf_model.proofs.LawLists.{at_replaced}
+use Rattle.smf_model.specs.Next.{greatest, greatest_snapshot, refused, accepted, snapshot_of, is_again, stale, with_row, takes_running, with_running, granted, step_answer, fresh_answer, answer_at, answer, asked, next}
+use Rattle.smf_model.specs.declared.change.Outcome.{Outcome as Asked}
+use Rattle.smf_model.proofs.Entries.{bare_instance}
+use Rattle.smf_model.proofs.LawLists.{at_put, is_number}
+use Rattle.smf_fmri.specs.ByKey.{lookup}
+use Rattle.smf_world.proofs.CommitLists.{same_number}
 use Rattle.smf_model.proofs.LawOutcomes.{Found, installed_closed, is_found}
 
 -- a row has the number and the state of an instance's
@@ -38,7 +42,7 @@ Answers k n (Stale why row) = IsRowIn k n row
 Answers k n _ = Unit {0}
 
 abbrev AnswersOf : Holdings → ℕ → Asked → Type 0
-AnswersOf h n a = Answers (installed h a.0) n a.1
+AnswersOf h n a = Answers (installed h a.changes) n a.reply
 
 abbrev after : Holdings → List Change → ℕ → Holdings
 after h cs m = record (installed h cs) { revision = m }
@@ -50,7 +54,7 @@ refuses h n r a = a
 accepts : (h : Holdings) (n : ℕ) (cs : List Change) (r : Reply) → ((m : ℕ) → Answers (after h cs m) n r) → AnswersOf h n (accepted h cs r)
 accepts h n cs r a = by (nat_lt h.revision greatest)
   where
-    by : (b : Bool) → AnswersOf h n (if b then (cs ++ SetRevision (h.revision + 1) ∷ [], r) else refused Limit)
+    by : (b : Bool) → AnswersOf h n (if b then (record { changes = cs ++ SetRevision (h.revision + 1) ∷ []; reply = r }) else refused Limit)
     by true = subst (λ (k : Holdings). Answers k n r) (sym (installed_closed h cs (h.revision + 1))) (a (h.revision + 1))
     by false = refuses h n Limit tt
 
@@ -61,17 +65,19 @@ either h n false x y p q = q
 abbrev with_taken : Holdings → Instance → List Change → List Change
 with_taken h i cs = AddSnapshot (snapshot_of h i) ∷ NextSnapshot (h.next_snapshot + 1) ∷ cs
 
-is_it : (m n : ℕ) → m ≡ n → (m == n) ≡ true
-is_it m n e = grind (arith, nat_tests)
+same_instance : (x y : Instance) → y.number ≡ x.number → in_place x y ≡ x
+same_instance x y e = ap (λ (n : ℕ). let placed : Instance = record x { number = n } in placed) e
 
-find_put : (n : ℕ) (x before : Instance) (xs : List Instance) → find (has_number n) xs ≡ Some before → x.number ≡ n → find (has_number n) (replaced (has_number x.number) x xs) ≡ Some x
-find_put n x before xs there number = at_replaced n x xs ∙ rw (is_it x.number n number, there) refl
+find_put : (n : ℕ) (x before : Instance) (xs : List Instance) → lookup by_instance xs n ≡ Some before → x.number ≡ n → lookup by_instance (put_over x xs) n ≡ Some x
+find_put n x before xs there number =
+    let same : before.number ≡ x.number = is_number n xs before there ∙ sym number in
+    at_put n x xs ∙ rw (number, same_number n, there) (ap Some (same_instance x before same))
 
-put_row : (h : Holdings) (n : ℕ) (before x : Instance) (k : Holdings) → instance h n ≡ Some before → x.number ≡ n → k.instances ≡ replaced (has_number x.number) x h.instances → IsRowOf k n x.row
+put_row : (h : Holdings) (n : ℕ) (before x : Instance) (k : Holdings) → instance h n ≡ Some before → x.number ≡ n → instances k ≡ put_over x (instances h) → IsRowOf k n x.row
 put_row h n before x k there number e =
     record {
       of = x;
-      is_there = ap (λ (xs : List Instance). find (has_number n) xs) e ∙ find_put n x before h.instances there number;
+      is_there = ap (λ (xs : List Instance). lookup by_instance xs n) e ∙ find_put n x before (instances h) there number;
       number = refl;
       state = refl;
     }
@@ -79,14 +85,14 @@ put_row h n before x k there number e =
 grants : (h : Holdings) (p : Proposal) (before i : Instance) (row : Row) (b : Bool) → Found h p.instance before i → AnswersOf h p.instance (granted h i row b)
 unfolding installed
 grants h p before i row true f =
-    let x : Instance = with_row i (record row { running = Some h.next_snapshot }) in
+    let x : Instance = with_row i (with_running h row) in
     let cs : List Change = with_taken h i (PutInstance x ∷ []) in
     either h p.instance (nat_le h.next_snapshot greatest_snapshot) _ _
-    (accepts h p.instance cs (Granted x.row) (λ m. put_row h p.instance before x (after h cs m) f.is_there f.is_number refl))
+    (accepts h p.instance cs (Granted x.row) (λ m. put_row h p.instance before x (after h cs m) f.is_there f.is_number (bare_instance x h.instances)))
     (refuses h p.instance Limit tt)
 grants h p before i row false f =
     let x : Instance = with_row i row in
-    accepts h p.instance (PutInstance x ∷ []) (Granted x.row) (λ m. put_row h p.instance before x (after h (PutInstance x ∷ []) m) f.is_there f.is_number refl)
+    accepts h p.instance (PutInstance x ∷ []) (Granted x.row) (λ m. put_row h p.instance before x (after h (PutInstance x ∷ []) m) f.is_there f.is_number (bare_instance x h.instances))
 
 as_found : (h : Holdings) (n : ℕ) (before i : Instance) → Found h n before i → IsRowOf h n i.row
 as_found h n before i f = record { of = before; is_there = f.is_there; number = ap (λ (r : Row). r.number) f.reads.same; state = ap (λ (r : Row). r.state) f.reads.same }
@@ -106,9 +112,9 @@ of_answer : (h : Holdings) (p : Proposal) → AnswersOf h p.instance (answer h p
 unfolding answer
 of_answer h p = by (instance h p.instance) refl
   where
-    by : (o : Option Instance) → instance h p.instance ≡ o → AnswersOf h p.instance (answer_at h p (option_map (current h.groups) o))
+    by : (o : Option Instance) → instance h p.instance ≡ o → AnswersOf h p.instance (answer_at h p (option_map (current (groups_of h)) o))
     by None e = refuses h p.instance (Stale whys.NoSuch None) tt
-    by (Some i) e = of_found h p i (current h.groups i) (is_found h p.instance i e)
+    by (Some i) e = of_found h p i (current (groups_of h) i) (is_found h p.instance i e)
 
 pub answered : (h : Holdings) (p : Proposal) → Answers (next h (commands.Propose p)).0 p.instance (next h (commands.Propose p)).1
 unfolding next asked

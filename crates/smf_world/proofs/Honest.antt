@@ -11,7 +11,7 @@ use Rattle.smf_model.specs.declared.held.View.{View}
 use Rattle.smf_model.specs.History.{is_revised}
 use Rattle.smf_model.specs.Holdings.{Holdings}
 use Rattle.smf_model.specs.Laws.{IsNumbered}
-use Rattle.smf_model.specs.Look.{instance, launch_of}
+use Rattle.smf_model.specs.Look.{instance, instances, launch_of}
 use Rattle.smf_model.specs.Next.{next}
 use Rattle.smf_model.specs.Shown.{view}
 use Rattle.smf_wire.specs.declared.message.Known.{Known}
@@ -51,11 +51,11 @@ pub record IsHonest (h : Holdings) (v : Option View) (ms : List Message) (t : Li
 abbrev pub Honest : World → Type 0
 Honest w = IsHonest w.now w.seen w.sent w.trail
 
-told_now : (h : Holdings) (t : List Item) → IsTracked h (commits t) → InstancesTold t h.instances
-told_now h t k = tracked_told t h.instances k.rows
+told_now : (h : Holdings) (t : List Item) → IsTracked h (commits t) → InstancesTold t (instances h)
+told_now h t k = tracked_told t (instances h) k.rows
 
 found_told : (n : ℕ) (h : Holdings) (t : List Item) (i : Instance) → IsTracked h (commits t) → instance h n ≡ Some i → RowTold t n i.row
-found_told n h t i k e = was_in n i.row.number i.row.state t (last_was n (commits t) (last_held i) (tracked_at (commits t) n h.instances i k.rows e))
+found_told n h t i k e = was_in n i.row.number i.row.state t (last_was n (commits t) (last_held i) (tracked_at (commits t) n (instances h) i k.rows e))
 
 -- ---- a command
 

@@ -6,6 +6,7 @@ use Rattle.smf_model.specs.declared.command.Command.{Command}
 use Rattle.smf_model.specs.declared.command.Command.TheVariants as commands
 use Rattle.smf_model.specs.declared.held.Instance.{Instance}
 use Rattle.smf_model.specs.Holdings.{Holdings}
+use Rattle.smf_model.specs.Look.{instances}
 use Rattle.smf_wire.specs.declared.message.Known.{Known}
 use Rattle.smf_restarter.specs.declared.reply.Action.{Action}
 use Rattle.smf_restarter.specs.declared.reply.Action.TheVariants as actions
@@ -42,10 +43,10 @@ rows_commit [] = tt
 rows_commit (i ∷ is) = (refl, rows_commit is)
 
 pub made_commit : (c : Command) (h k : Holdings) → AllCommit true (made_items c h k)
-made_commit (commands.Edit e) h k = rows_commit (filter (is_committed h) k.instances)
-made_commit (commands.Propose p) h k = rows_commit (filter (is_committed h) k.instances)
-made_commit (commands.Launch name) h k = rows_commit (filter (is_committed h) k.instances)
-made_commit commands.Boot h k = (refl, rows_commit (filter (is_committed h) k.instances))
+made_commit (commands.Edit e) h k = rows_commit (filter (is_committed h) (instances k))
+made_commit (commands.Propose p) h k = rows_commit (filter (is_committed h) (instances k))
+made_commit (commands.Launch name) h k = rows_commit (filter (is_committed h) (instances k))
+made_commit commands.Boot h k = (refl, rows_commit (filter (is_committed h) (instances k)))
 
 pub begun_others : (a : Action) → AllCommit false (begun_by a)
 begun_others (actions.BuiltIn b) = (refl, tt)

@@ -6,7 +6,7 @@ use Rattle.smf_state.specs.Rows.{same_state}
 use Rattle.smf_state.specs.States.{runs}
 use Rattle.smf_state.specs.declared.state.State.TheVariants.{Online, Degraded, Maintenance}
 use Rattle.smf_model.specs.declared.change.Change.{Change}
-use Rattle.smf_model.specs.declared.change.Change.TheVariants.{AddService, DropService, PutInstance, PutGroup, DropGroup, DropInstance, DropGroups, AddSnapshot, DropSnapshots, PutLaunch, NextInstance, NextSnapshot, SetRevision}
+use Rattle.smf_model.specs.declared.change.Change.TheVariants.{AddService, AddInstance, DropService, PutInstance, PutGroups, PutName, DropName, DropInstance, AddSnapshot, DropSnapshots, PutLaunch, NextInstance, NextSnapshot, SetRevision}
 use Rattle.smf_model.specs.declared.command.Command.{Command}
 use Rattle.smf_model.specs.declared.command.Command.TheVariants as commands
 use Rattle.smf_model.specs.declared.command.Edit.{Edit}
@@ -21,10 +21,12 @@ use Rattle.smf_model.specs.declared.held.Owner.{Owner}
 use Rattle.smf_model.specs.declared.held.Owner.TheVariants as owners
 use Rattle.smf_model.specs.declared.held.Snapshot.{Snapshot}
 use Rattle.smf_model.specs.Holdings.{Holdings}
-use Rattle.smf_model.specs.Laws.{AreApart, RowFollows, stays, steps, boots, moves}
-use Rattle.smf_model.specs.Look.{has_number, service, group, launch_of, changed, installed}
-use Rattle.smf_model.specs.Setting.{general_ovr}
-use Rattle.smf_model.specs.Next.{Asked, greatest, greatest_snapshot, refused, accepted, found, asked_add_service, is_instance_of, asked_delete_service, is_in_use, asked_delete_instance, is_there, is_made, guarded, added_group, deleted_group, property_changed, put_or_denied, changed_group, enabled_for_good, enabled_for_now, asked_enable, asking, asked_if, asked_where, asked_restart, asked_clear, marked, asked_mark, with_snapshot, snapshot_of, service_owner, number_of, named_snapshot, regrouped, reverted_to, reverted, asked_revert, asked_edit, asked_launch, asked, next}
+use Rattle.smf_model.specs.Laws.{IsNumbered, RowFollows, stays, steps, boots, moves}
+use Rattle.smf_model.specs.Look.{has_number, instances, service, group, launch_of, changed, installed}
+use Rattle.smf_model.specs.Next.{accepted, added_group, asked, asked_add_service, asked_clear, asked_delete_instance, asked_delete_service, asked_edit, asked_enable, asked_if, asked_launch, asked_mark, asked_restart, asked_revert, asked_where, asking, changed_group, deleted_group, enabled_for_good, enabled_for_now, enabling_of, found, greatest, greatest_snapshot, group_dropped, group_put, guarded, is_in_use, is_instance_of, is_made, is_there, leaving, marked, named_snapshot, next, next_launch, number_of, property_changed, put_or_denied, refused, reverted, reverted_to, reverting, snapshot_of, with_snapshot}
+use Rattle.smf_model.specs.Setting.{service_owner}
+use Rattle.smf_model.specs.declared.change.Outcome.{Outcome as Asked}
+use Rattle.smf_model.specs.declared.held.Service.{Service}
 use Rattle.smf_model.proofs.LawOutcomes.{Outcome, nothing, goes, OfInstances, alike, joined, left, put, each, installed_closed, outcome}
 use Rattle.smf_world.specs.Safe.{is_committed}
 use Rattle.smf_world.proofs.CommitLists.{NonePass, none_kept, none_pass_without, all_same, still_same}
@@ -47,10 +49,12 @@ keeps : (h : Holdings) (cs : List Change) → Others cs → (installed h cs).nex
 unfolding installed
 keeps h [] o = refl
 keeps h (NextInstance n ∷ cs) o = absurd o
+keeps h (PutGroups (owners.Service s) gs ∷ cs) o = keeps (changed h (PutGroups (owners.Service s) gs)) cs o
+keeps h (PutGroups (owners.Instance n) gs ∷ cs) o = keeps (changed h (PutGroups (owners.Instance n) gs)) cs o
 keeps h (c ∷ cs) o = keeps (changed h c) cs o
 
 abbrev pub KeepsNext : Holdings → Asked → Type 0
-KeepsNext h a = (installed h a.0).next_instance ≡ h.next_instance
+KeepsNext h a = (installed h a.changes).next_instance ≡ h.next_instance
 
 refuses : (h : Holdings) (r : Reply) → KeepsNext h (refused r)
 unfolding installed
@@ -59,7 +63,7 @@ refuses h r = refl
 accepts : (h : Holdings) (cs : List Change) (r : Reply) → Others cs → KeepsNext h (accepted h cs r)
 accepts h cs r o = by (nat_lt h.revision greatest)
   where
-    by : (b : Bool) → KeepsNext h (if b then (cs ++ SetRevision (h.revision + 1) ∷ [], r) else refused Limit)
+    by : (b : Bool) → KeepsNext h (if b then (record { changes = cs ++ SetRevision (h.revision + 1) ∷ []; reply = r }) else refused Limit)
     by true = ap (λ (k : Holdings). k.next_instance) (installed_closed h cs (h.revision + 1)) ∙ keeps h cs o
     by false = refuses h Limit
 
@@ -70,32 +74,32 @@ either h false x y p q = q
 snaps : (h : Holdings) (i : Instance) (cs : List Change) (r : Reply) → Others cs → KeepsNext h (with_snapshot h i cs r)
 snaps h i cs r o = either h (nat_le h.next_snapshot greatest_snapshot) _ _ (accepts h (AddSnapshot (snapshot_of h i) ∷ NextSnapshot (h.next_snapshot + 1) ∷ cs) r o) (refuses h Limit)
 
-add_service : (h : Holdings) (name : List ℕ) (o : Option (List ℕ)) → KeepsNext h (asked_add_service h name o)
+add_service : (h : Holdings) (name : List ℕ) (o : Option Service) → KeepsNext h (asked_add_service h name o)
 add_service h name (Some s) = refuses h Exists
-add_service h name None = accepts h (AddService name ∷ []) Done tt
+add_service h name None = accepts h (AddService (record { name = name; groups = [] }) ∷ []) Done tt
 
-delete_service : (h : Holdings) (o : Option (List ℕ)) → KeepsNext h (asked_delete_service h o)
+delete_service : (h : Holdings) (o : Option Service) → KeepsNext h (asked_delete_service h o)
 delete_service h None = refuses h NoSuch
-delete_service h (Some s) = either h (list_any (is_instance_of s) h.instances) _ _ (refuses h InUse) (accepts h (DropGroups (owners.Service s) ∷ DropService s ∷ []) Done tt)
+delete_service h (Some s) = either h (list_any (is_instance_of s.name) (instances h)) _ _ (refuses h InUse) (accepts h (DropService s.name ∷ []) Done tt)
 
 delete_instance : (h : Holdings) (o : Option Instance) → KeepsNext h (asked_delete_instance h o)
 delete_instance h None = refuses h NoSuch
-delete_instance h (Some i) = either h (is_in_use i.row) _ _ (refuses h InUse) (accepts h (DropGroups (owners.Instance i.number) ∷ DropSnapshots i.number ∷ DropInstance i.number ∷ []) Done tt)
+delete_instance h (Some i) = either h (is_in_use i.row) _ _ (refuses h InUse) (accepts h (leaving i) Done tt)
 
 guards : (h : Holdings) (owner : Owner) (name : List ℕ) (a : Asked) → KeepsNext h a → KeepsNext h (guarded h owner name a)
 guards h owner name a o = either h (not (is_there h owner)) _ _ (refuses h NoSuch) (either h (is_made owner name) _ _ (refuses h InUse) o)
 
 add_group : (h : Holdings) (owner : Owner) (g : _) (o : _) → KeepsNext h (added_group h owner g o)
 add_group h owner g (Some there) = refuses h Exists
-add_group h owner g None = either h _ _ _ (accepts h (PutGroup (record { owner = owner; group = g }) ∷ []) Done tt) (refuses h Limit)
+add_group h owner g None = either h _ _ _ (accepts h (group_put h owner g ∷ []) Done tt) (refuses h Limit)
 
 delete_group : (h : Holdings) (owner : Owner) (name : List ℕ) (o : _) → KeepsNext h (deleted_group h owner name o)
 delete_group h owner name None = refuses h NoSuch
-delete_group h owner name (Some g) = accepts h (DropGroup owner name ∷ []) Done tt
+delete_group h owner name (Some g) = accepts h (group_dropped h owner name ∷ []) Done tt
 
 put_denied : (h : Holdings) (owner : Owner) (r : _) → KeepsNext h (put_or_denied h owner r)
 put_denied h owner (Err fault) = refuses h (Denied fault)
-put_denied h owner (Ok g) = accepts h (PutGroup (record { owner = owner; group = g }) ∷ []) Done tt
+put_denied h owner (Ok g) = accepts h (group_put h owner g ∷ []) Done tt
 
 change_group : (h : Holdings) (owner : Owner) (change : PropertyChange) (o : _) → KeepsNext h (changed_group h owner change o)
 change_group h owner change None = refuses h NoSuch
@@ -103,11 +107,11 @@ change_group h owner change (Some g) = put_denied h owner (property_changed chan
 
 enable_for_good : (h : Holdings) (n : ℕ) (r : _) → KeepsNext h (enabled_for_good h n r)
 enable_for_good h n (Err fault) = refuses h (Denied fault)
-enable_for_good h n (Ok g) = either h _ _ _ (accepts h (DropGroup (owners.Instance n) general_ovr ∷ PutGroup (record { owner = owners.Instance n; group = g }) ∷ []) Done tt) (refuses h Limit)
+enable_for_good h n (Ok g) = either h _ _ _ (accepts h (enabling_of h (owners.Instance n) g ∷ []) Done tt) (refuses h Limit)
 
 enable_for_now : (h : Holdings) (n : ℕ) (r : _) → KeepsNext h (enabled_for_now h n r)
 enable_for_now h n (Err fault) = refuses h (Denied fault)
-enable_for_now h n (Ok g) = either h _ _ _ (accepts h (PutGroup (record { owner = owners.Instance n; group = g }) ∷ []) Done tt) (refuses h Limit)
+enable_for_now h n (Ok g) = either h _ _ _ (accepts h (group_put h (owners.Instance n) g ∷ []) Done tt) (refuses h Limit)
 
 enable : (h : Holdings) (n : ℕ) (b temporary : Bool) (o : Option Instance) → KeepsNext h (asked_enable h n b temporary o)
 enable h n b temporary None = refuses h NoSuch
@@ -139,19 +143,8 @@ mark_at : (h : Holdings) (mark : Mark) (o : Option Instance) → KeepsNext h (as
 mark_at h mark None = refuses h NoSuch
 mark_at h mark (Some i) = marks_one h mark i
 
-regroups : (owner : Owner) (gs : _) (cs : List Change) → Others cs → Others (map (λ g. PutGroup (record { owner = owner; group = g })) gs ++ cs)
-regroups owner [] cs o = o
-regroups owner (g ∷ gs) cs o = regroups owner gs cs o
-
-regroups_last : (owner : Owner) (gs : _) → Others (map (λ g. PutGroup (record { owner = owner; group = g })) gs)
-regroups_last owner [] = tt
-regroups_last owner (g ∷ gs) = regroups_last owner gs
-
 revert_to : (h : Holdings) (i : Instance) (ss gs : _) → KeepsNext h (reverted_to h i ss gs)
-revert_to h i ss gs =
-    either h _ _ _ (refuses h Limit)
-    (snaps h i (PutInstance (record i { previous = Some h.next_snapshot }) ∷ (regrouped (service_owner i) ss ++ regrouped (owners.Instance i.number) gs)) Done
-    (regroups (service_owner i) ss (regrouped (owners.Instance i.number) gs) (regroups_last (owners.Instance i.number) gs)))
+revert_to h i ss gs = either h _ _ _ (refuses h Limit) (snaps h i (reverting h i ss gs) Done tt)
 
 revert_by : (h : Holdings) (i : Instance) (o : Option Snapshot) → KeepsNext h (reverted h i o)
 revert_by h i None = refuses h NoSuch
@@ -163,7 +156,7 @@ revert h name (Some i) = revert_by h i (named_snapshot h (number_of i name))
 
 launch : (h : Holdings) (name : List ℕ) → KeepsNext h (asked_launch h name)
 unfolding asked_launch
-launch h name = either h (nat_lt (launch_of h name) greatest) _ _ (accepts h (PutLaunch (record { restarter = name; count = launch_of h name + 1 }) ∷ []) (Made (launch_of h name + 1)) tt) (refuses h Limit)
+launch h name = either h (nat_lt (launch_of h name) greatest) _ _ (accepts h (PutLaunch (next_launch h name) ∷ []) (Made (launch_of h name + 1)) tt) (refuses h Limit)
 
 edit : (h : Holdings) (e : Edit) → is_plain (commands.Edit e) ≡ true → KeepsNext h (asked_edit h e)
 unfolding asked_edit
@@ -199,19 +192,19 @@ same_number c n before after p (steps q is at g) = absurd (clash (is_plain c) p 
 same_number c n before after p (boots is b) = absurd (clash (is_plain c) p (ap is_plain is))
 same_number c n before after p (moves is from b) = absurd (clash (is_plain c) p (ap is_plain is))
 
-none_by : (h : Holdings) (c : Command) (xs : List Instance) (m : ℕ) → is_plain c ≡ true → OfInstances h c xs m → m ≡ h.next_instance → AreApart h.instances → NonePass (is_committed h) xs
+none_by : (h : Holdings) (c : Command) (xs : List Instance) (m : ℕ) → is_plain c ≡ true → OfInstances h c xs m → m ≡ h.next_instance → IsNumbered h → NonePass (is_committed h) xs
 none_by h c xs m p (alike e f) next_one a = subst (NonePass (is_committed h)) (sym e) (all_same h a)
 none_by h c xs m p (joined name e f) next_one a = absurd (more h.next_instance (sym next_one ∙ f))
   where
     more : (n : ℕ) → n ≡ n + 1 → ⊥
     more n e = omega arith
-none_by h c xs m p (left n e f) next_one a = subst (NonePass (is_committed h)) (sym e) (none_pass_without (is_committed h) (has_number n) h.instances (all_same h a))
+none_by h c xs m p (left n e f) next_one a = subst (NonePass (is_committed h)) (sym e) (none_pass_without (is_committed h) (has_number n) (instances h) (all_same h a))
 none_by h c xs m p (put n i x there number follows e f) next_one a = subst (NonePass (is_committed h)) (sym e) (still_same h n i x a there number (same_number c n i.row x.row p follows))
 none_by h c xs m p (each boot gs e f) next_one a = absurd (clash (is_plain c) p (ap is_plain boot))
 
-none_of : (h : Holdings) (c : Command) (k : Holdings) (r : Reply) → is_plain c ≡ true → Outcome h c k r → k.next_instance ≡ h.next_instance → AreApart h.instances → NonePass (is_committed h) k.instances
-none_of h c k r p (nothing e x) next_one a = subst (λ (l : Holdings). NonePass (is_committed h) l.instances) (sym e) (all_same h a)
-none_of h c k r p (goes g) next_one a = none_by h c k.instances k.next_instance p g.instances next_one a
+none_of : (h : Holdings) (c : Command) (k : Holdings) (r : Reply) → is_plain c ≡ true → Outcome h c k r → k.next_instance ≡ h.next_instance → IsNumbered h → NonePass (is_committed h) (instances k)
+none_of h c k r p (nothing e x) next_one a = subst (λ (l : Holdings). NonePass (is_committed h) (instances l)) (sym e) (all_same h a)
+none_of h c k r p (goes g) next_one a = none_by h c (instances k) k.next_instance p g.instances next_one a
 
-pub none_committed : (h : Holdings) (c : Command) → is_plain c ≡ true → AreApart h.instances → filter (is_committed h) (next h c).0.instances ≡ []
-none_committed h c p a = none_kept (is_committed h) (next h c).0.instances (none_of h c (next h c).0 (next h c).1 p (outcome h c) (keeps_next h c p) a)
+pub none_committed : (h : Holdings) (c : Command) → is_plain c ≡ true → IsNumbered h → filter (is_committed h) (instances (next h c).0) ≡ []
+none_committed h c p a = none_kept (is_committed h) (instances (next h c).0) (none_of h c (next h c).0 (next h c).1 p (outcome h c) (keeps_next h c p) a)

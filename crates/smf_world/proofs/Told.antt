@@ -10,6 +10,7 @@ use Rattle.smf_state.specs.declared.view.ViewItem.{ViewItem}
 use Rattle.smf_model.specs.declared.held.Instance.{Instance}
 use Rattle.smf_model.specs.declared.held.View.{View}
 use Rattle.smf_model.specs.Holdings.{Holdings}
+use Rattle.smf_model.specs.Look.{groups_of, instances}
 use Rattle.smf_model.specs.Setting.{current}
 use Rattle.smf_model.specs.Shown.{is_run_by, rows_of, view, view_item}
 use Rattle.smf_model.proofs.LawOutcomes.{current_row}
@@ -184,14 +185,14 @@ row_as t i j row new e f g w = rw (e, f, g) w
 
 pub current_told : (t : List Item) (gs : _) (i : Instance) → RowTold t i.number i.row → RowTold t i.number (current gs i).row
 current_told t gs i w =
-    let read = (current_row gs i).1.same in
+    let read = (current_row gs i).row.same in
     row_as t i.number i.number i.row (current gs i).row refl (ap (λ (r : Row). r.number) read) (ap (λ (r : Row). r.state) read) w
 
 all_current : (t : List Item) (gs : _) (is : List Instance) → InstancesTold t is → InstancesTold t (map (current gs) is)
 all_current t gs [] a = tt
 all_current t gs (i ∷ is) a =
     let read = current_row gs i in
-    (row_as t i.number (current gs i).number i.row (current gs i).row read.0 (ap (λ (r : Row). r.number) read.1.same) (ap (λ (r : Row). r.state) read.1.same) a.0, all_current t gs is a.1)
+    (row_as t i.number (current gs i).number i.row (current gs i).row read.number (ap (λ (r : Row). r.number) read.row.same) (ap (λ (r : Row). r.state) read.row.same) a.0, all_current t gs is a.1)
 
 some_of : (t : List Item) (test : Instance → Bool) (is : List Instance) → InstancesTold t is → InstancesTold t (filter test is)
 some_of t test [] a = tt
@@ -205,17 +206,17 @@ all_known : (t : List Item) (is : List Instance) → InstancesTold t is → Rows
 all_known t [] a = tt
 all_known t (i ∷ is) a = (a.0, all_known t is a.1)
 
-pub rows_told : (t : List Item) (h : Holdings) (name : List ℕ) → InstancesTold t h.instances → RowsTold t (map known_of (rows_of h name))
+pub rows_told : (t : List Item) (h : Holdings) (name : List ℕ) → InstancesTold t (instances h) → RowsTold t (map known_of (rows_of h name))
 unfolding rows_of
-rows_told t h name a = all_known t _ (some_of t (is_run_by name) (map (current h.groups) h.instances) (all_current t h.groups h.instances a))
+rows_told t h name a = all_known t _ (some_of t (is_run_by name) (map (current (groups_of h)) (instances h)) (all_current t (groups_of h) (instances h) a))
 
 all_viewed : (t : List Item) (h : Holdings) (is : List Instance) → InstancesTold t is → ItemsTold t (map (view_item h) is)
 all_viewed t h [] a = tt
-all_viewed t h (i ∷ is) a = (current_told t h.groups i a.0, all_viewed t h is a.1)
+all_viewed t h (i ∷ is) a = (current_told t (groups_of h) i a.0, all_viewed t h is a.1)
 
-pub view_told : (t : List Item) (h : Holdings) → InstancesTold t h.instances → ItemsTold t (view h).items
+pub view_told : (t : List Item) (h : Holdings) → InstancesTold t (instances h) → ItemsTold t (view h).items
 unfolding view
-view_told t h a = all_viewed t h h.instances a
+view_told t h a = all_viewed t h (instances h) a
 
 -- ---- what the graph tells
 

@@ -8,15 +8,15 @@ use Rattle.smf_state.specs.States.{edge}
 use Rattle.smf_model.specs.declared.command.Command.{Command}
 use Rattle.smf_model.specs.declared.command.Command.TheVariants as commands
 use Rattle.smf_model.specs.declared.command.Reply.TheVariants as answers
-use Rattle.smf_model.specs.declared.held.Held.{Held}
 use Rattle.smf_model.specs.declared.held.Instance.{Instance}
 use Rattle.smf_model.specs.History.{is_revised}
 use Rattle.smf_model.specs.Holdings.{Holdings}
 use Rattle.smf_model.specs.Laws.{Follows, IsNumbered, RowFollows as GoesOnBy, boots, moves, stays, steps}
-use Rattle.smf_model.specs.Look.{instance}
+use Rattle.smf_model.specs.Look.{groups_of, instance, instances}
+use Rattle.smf_model.specs.Setting.{Groups}
 use Rattle.smf_model.specs.Next.{booted, next, persistent}
 use Rattle.smf_model.proofs.LawNumbers.{instance_gone, instances_rise, stays_numbered}
-use Rattle.smf_model.proofs.LawOutcomes.{next_revision}
+use Rattle.smf_model.proofs.LawOutcomes.{apart, next_revision}
 use Rattle.smf_model.proofs.LawRows.{follows_next}
 use Rattle.smf_world.specs.declared.event.Event.{Event}
 use Rattle.smf_world.specs.declared.event.Event.TheVariants as events
@@ -35,7 +35,7 @@ use Rattle.smf_world.proofs.Pushed.{ArePushed, AreReady, AreTracked, IsReady, al
 
 pub record IsTracked (h : Holdings) (t : List Item) : Type 0 where
   pub numbered : IsNumbered h
-  pub rows : AreTracked t h.instances
+  pub rows : AreTracked t (instances h)
   pub fresh : (n : ℕ) → h.next_instance ≤ n → last_of n t ≡ None
   pub along : AlongTheDiagram t
 
@@ -87,15 +87,15 @@ ready_one h c t j no_boot k there = by (instance h j.number) refl (follows_next 
   where
     by : (p : Option Instance) → instance h j.number ≡ p → Follows c j.number p j → IsReady (is_other_number p) j (last_of j.number t)
     by None e row = (λ f. subst (λ (o : Option Last). RowFollows o j.row.number j.row.state) (sym (never h c t j k e there)) (ap (λ (r : Row). r.state) row), λ f. absurd cc)
-    by (Some i) e row = ready_by c j.number (last_of j.number t) (Some i) i j no_boot refl (tracked_at t j.number h.instances i k.rows e) row
+    by (Some i) e row = ready_by c j.number (last_of j.number t) (Some i) i j no_boot refl (tracked_at t j.number (instances h) i k.rows e) row
 
-ready_all : (h : Holdings) (c : Command) (t : List Item) (js : List Instance) → is_boot c ≡ false → IsTracked h t → AreFound (next h c).0.instances js → AreReady (is_committed h) t js
+ready_all : (h : Holdings) (c : Command) (t : List Item) (js : List Instance) → is_boot c ≡ false → IsTracked h t → AreFound (instances (next h c).0) js → AreReady (is_committed h) t js
 ready_all h c t [] no_boot k a = tt
 ready_all h c t (j ∷ js) no_boot k a = (ready_one h c t j no_boot k a.0, ready_all h c t js no_boot k a.1)
 
 -- ---- a command that makes a revision
 
-tracks : (h k : Holdings) (t u : List Item) → IsNumbered k → h.next_instance ≤ k.next_instance → ((n : ℕ) → h.next_instance ≤ n → last_of n t ≡ None) → ArePushed k.instances t u → IsTracked k u
+tracks : (h k : Holdings) (t u : List Item) → IsNumbered k → h.next_instance ≤ k.next_instance → ((n : ℕ) → h.next_instance ≤ n → last_of n t ≡ None) → ArePushed (instances k) t u → IsTracked k u
 tracks h k t u numbered rises fresh p =
     record {
       numbered = numbered;
@@ -107,11 +107,11 @@ tracks h k t u numbered rises fresh p =
 abbrev after : Holdings → Command → List Item → List Item
 after h c t = noted (made_items c h (next h c).0) t
 
-quiet_tracked : (h : Holdings) (c : Command) (t : List Item) → is_boot c ≡ false → IsTracked h t → IsTracked (next h c).0 (noted (map row_item (filter (is_committed h) (next h c).0.instances)) t)
+quiet_tracked : (h : Holdings) (c : Command) (t : List Item) → is_boot c ≡ false → IsTracked h t → IsTracked (next h c).0 (noted (map row_item (filter (is_committed h) (instances (next h c).0))) t)
 quiet_tracked h c t no_boot k =
     let numbered = stays_numbered h c k.numbered in
-    let ready = ready_all h c t (next h c).0.instances no_boot k (found_all (next h c).0.instances numbered.apart) in
-    tracks h (next h c).0 t _ numbered (instances_rise h c) k.fresh (pushed (is_committed h) (next h c).0.instances t numbered.apart ready k.along)
+    let ready = ready_all h c t (instances (next h c).0) no_boot k (found_all (instances (next h c).0) (apart (next h c).0 numbered)) in
+    tracks h (next h c).0 t _ numbered (instances_rise h c) k.fresh (pushed (is_committed h) (instances (next h c).0) t (apart (next h c).0 numbered) ready k.along)
 
 -- ---- a boot
 
@@ -124,19 +124,19 @@ boots_from : (o : Option Last) (i : Instance) → (o ≡ None) ⊎ (o ≡ Some (
 boots_from o i (inl e) = subst (λ (x : Option Last). RowFollows (option_map behind_boot x) (i.row.number + 1) Uninitialized) (sym e) refl
 boots_from o i (inr e) = subst (λ (x : Option Last). RowFollows (option_map behind_boot x) (i.row.number + 1) Uninitialized) (sym e) (refl, refl)
 
-boots_ready : (h : Holdings) (gs : List Held) (t : List Item) (is : List Instance) → AreFound h.instances is → AreBefore t is → AreReady (is_committed h) (items.Boot ∷ t) (map (booted gs) is)
+boots_ready : (h : Holdings) (gs : Groups) (t : List Item) (is : List Instance) → AreFound (instances h) is → AreBefore t is → AreReady (is_committed h) (items.Boot ∷ t) (map (booted gs) is)
 boots_ready h gs t [] a b = tt
 boots_ready h gs t (i ∷ is) a b = (stepped _ (instance h i.number) i (booted gs i) a.0 refl (boots_from (last_of i.number t) i b.0), boots_ready h gs t is a.1 b.1)
 
-boot_tracked : (h : Holdings) (t : List Item) → IsNumbered h → is_revised h (next h commands.Boot).0 ≡ true → AreBefore t h.instances → ((n : ℕ) → h.next_instance ≤ n → last_of n t ≡ None) → AlongTheDiagram t → IsTracked (next h commands.Boot).0 (after h commands.Boot t)
+boot_tracked : (h : Holdings) (t : List Item) → IsNumbered h → is_revised h (next h commands.Boot).0 ≡ true → AreBefore t (instances h) → ((n : ℕ) → h.next_instance ≤ n → last_of n t ≡ None) → AlongTheDiagram t → IsTracked (next h commands.Boot).0 (after h commands.Boot t)
 boot_tracked h t numbered e before fresh along =
     let k : Holdings = (next h commands.Boot).0 in
     let is_k : IsNumbered k = stays_numbered h commands.Boot numbered in
-    let xs : List Item = map row_item (filter (is_committed h) k.instances) in
-    let ready : AreReady (is_committed h) (items.Boot ∷ t) k.instances =
-    subst (AreReady (is_committed h) (items.Boot ∷ t)) (sym (boot_leaves h numbered.apart e)) (boots_ready h (persistent h.groups) t h.instances (found_all h.instances numbered.apart) before) in
+    let xs : List Item = map row_item (filter (is_committed h) (instances k)) in
+    let ready : AreReady (is_committed h) (items.Boot ∷ t) (instances k) =
+    subst (AreReady (is_committed h) (items.Boot ∷ t)) (sym (boot_leaves h numbered e)) (boots_ready h (persistent (groups_of h)) t (instances h) (found_all (instances h) (apart h numbered)) before) in
     subst (IsTracked k) (sym (noted_more items.Boot xs t))
-    (tracks h k (items.Boot ∷ t) (noted xs (items.Boot ∷ t)) is_k (instances_rise h commands.Boot) (λ n le. ap (λ (o : Option Last). option_map behind_boot o) (fresh n le)) (pushed (is_committed h) k.instances (items.Boot ∷ t) is_k.apart ready along))
+    (tracks h k (items.Boot ∷ t) (noted xs (items.Boot ∷ t)) is_k (instances_rise h commands.Boot) (λ n le. ap (λ (o : Option Last). option_map behind_boot o) (fresh n le)) (pushed (is_committed h) (instances k) (items.Boot ∷ t) (apart k is_k) ready along))
 
 are_before : (t : List Item) (is : List Instance) → AreTracked t is → AreBefore t is
 are_before t [] a = tt
@@ -148,7 +148,7 @@ revised_tracked : (h : Holdings) (c : Command) (t : List Item) → is_revised h 
 revised_tracked h (commands.Edit e) t is k = quiet_tracked h (commands.Edit e) t refl k
 revised_tracked h (commands.Propose p) t is k = quiet_tracked h (commands.Propose p) t refl k
 revised_tracked h (commands.Launch name) t is k = quiet_tracked h (commands.Launch name) t refl k
-revised_tracked h commands.Boot t is k = boot_tracked h t k.numbered is (are_before t h.instances k.rows) k.fresh k.along
+revised_tracked h commands.Boot t is k = boot_tracked h t k.numbered is (are_before t (instances h) k.rows) k.fresh k.along
 
 abbrev pub Tracked : Fact
 Tracked y h t = IsTracked h t
@@ -172,7 +172,7 @@ raised m n e = grind (arith, nat_tests)
 
 first_by : (h : Holdings) (b : Bool) → is_revised h (next h commands.Boot).0 ≡ b → b ≡ true → IsNumbered h → Of Tracked (revised (found h) commands.Boot (next h commands.Boot) b)
 first_by h false e f n = absurd cc
-first_by h true e f n = subst (IsTracked (next h commands.Boot).0) (sym (commits_shown (found h) commands.Boot n e)) (boot_tracked h [] n e (none_before h.instances) (λ m le. refl) tt)
+first_by h true e f n = subst (IsTracked (next h commands.Boot).0) (sym (commits_shown (found h) commands.Boot n e)) (boot_tracked h [] n e (none_before (instances h)) (λ m le. refl) tt)
 
 pub first_boot : (h : Holdings) → is_revised h (next h commands.Boot).0 ≡ true → IsNumbered h → Of Tracked (committed (found h) commands.Boot).0
 unfolding committed

@@ -8,7 +8,7 @@ use Rattle.smf_model.specs.declared.command.Command.TheVariants as commands
 use Rattle.smf_model.specs.declared.held.Instance.{Instance}
 use Rattle.smf_model.specs.History.{made}
 use Rattle.smf_model.specs.Holdings.{Holdings}
-use Rattle.smf_model.specs.Look.{instance}
+use Rattle.smf_model.specs.Look.{instance, instances}
 use Rattle.smf_world.specs.declared.item.Item.{Item}
 use Rattle.smf_world.specs.declared.item.Item.TheVariants.{Boot, Committed, Held}
 use Rattle.smf_world.specs.World.{World}
@@ -41,7 +41,7 @@ boot_items _ = []
 
 -- what leads from one value to the next: a boot, and the rows that are new or have another number, in number order
 abbrev pub made_items : Command → Holdings → Holdings → List Item
-made_items c before after = boot_items c ++ map row_item (filter (is_committed before) after.instances)
+made_items c before after = boot_items c ++ map row_item (filter (is_committed before) (instances after))
 
 -- the boots and the rows of a history, newest first
 abbrev pub commits_of : Holdings → List Command → List Item

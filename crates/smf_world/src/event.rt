@@ -1,4 +1,3 @@
-use smf_contract::Exit;
 use smf_fmri::InstanceFmri;
 use smf_model::Edit;
 
@@ -15,7 +14,8 @@ pub enum SpawnAnswer {
 #[derive(Clone, Copy, Debug, PartialEq, Eq)]
 pub enum ProcessEvent {
     Fork,
-    Exit(Exit),
+    /// With this code.
+    Exit(u8),
     Core,
     Signal,
     Hwerr,

@@ -1,8 +1,11 @@
-use Rattle.std.proofs.Common.{◌≡◌, ◌++◌, map, drop, false}
+use Rattle.std.proofs.Common.{◌≡◌, ◌++◌, drop, false}
 use Rattle.std.specs.List.{list_any}
-use Rattle.smf_model.specs.declared.change.Change.TheVariants.{PutInstance}
-use Rattle.smf_model.specs.Next.{booted, is_last_number}
+use Rattle.smf_model.specs.Look.{bare, groups_of}
+use Rattle.smf_model.specs.Next.{all_booted, is_last_number, persistent}
 use Rattle.smf_model.proofs.booting.boot_all.Given as goal
 
-abbrev pub invariant-loop-instance : goal.invariant-loop-instance
-invariant-loop-instance l = (list_any is_last_number (drop l.instance-index l.instances) ≡ false) × (l.changes.items ++ map (λ i. PutInstance (booted l.groups i)) (drop l.instance-index l.instances) ≡ l.fn.changes.items ++ map (λ i. PutInstance (booted l.groups i)) l.instances)
+abbrev pub invariant-loop-entry : goal.invariant-loop-entry
+invariant-loop-entry l = record {
+  within : list_any is_last_number (bare (drop l.entry-index l.entries)) ≡ false;
+  same : l.changes ++ all_booted (persistent (groups_of l.tables)) (bare (drop l.entry-index l.entries)) ≡ l.fn.changes ++ all_booted (persistent (groups_of l.tables)) (bare l.entries);
+}

@@ -4,4 +4,7 @@ use Rattle.smf_model.specs.Next.{is_last_launch, relaunched}
 use Rattle.smf_model.proofs.booting.relaunch.Given as goal
 
 abbrev pub invariant-loop-launch : goal.invariant-loop-launch
-invariant-loop-launch l = (list_any is_last_launch (drop l.launch-index l.launches) ≡ false) × (l.changes.items ++ map relaunched (drop l.launch-index l.launches) ≡ l.fn.changes.items ++ map relaunched l.launches)
+invariant-loop-launch l = record {
+  within : list_any is_last_launch (drop l.launch-index l.launches) ≡ false;
+  same : l.changes ++ map relaunched (drop l.launch-index l.launches) ≡ l.fn.changes ++ map relaunched l.launches;
+}

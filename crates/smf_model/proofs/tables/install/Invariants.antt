@@ -6,6 +6,6 @@ use Rattle.smf_model.proofs.tables.install.Given as goal
 
 abbrev pub invariant-loop-change : goal.invariant-loop-change
 invariant-loop-change l = record {
-  same : installed (held_in l.tables) (into_iter_items l.change-iterator) ≡ installed (held_in l.fn.tables) l.fn.changes.items;
-  room : HasRoom l.tables (length (into_iter_items l.change-iterator));
+  same : installed (held_in l.lists) (into_iter_items l.change-iterator) ≡ installed (held_in l.fn.lists) l.fn.changes.items;
+  room : HasRoom l.lists (length (into_iter_items l.change-iterator));
 }

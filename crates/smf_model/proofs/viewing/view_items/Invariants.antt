@@ -1,7 +1,7 @@
 use Rattle.std.proofs.Common.{◌≡◌, ◌++◌, map, drop}
+use Rattle.smf_model.specs.Look.{bare}
 use Rattle.smf_model.specs.Shown.{view_item}
-use Rattle.smf_model.specs.Tables.{held_in}
 use Rattle.smf_model.proofs.viewing.view_items.Given as goal
 
-abbrev pub invariant-loop-instance : goal.invariant-loop-instance
-invariant-loop-instance l = l.all.items ++ map (view_item (held_in l.tables)) (drop l.instance-index l.tables.instances.items) ≡ map (view_item (held_in l.tables)) l.tables.instances.items
+abbrev pub invariant-loop-entry : goal.invariant-loop-entry
+invariant-loop-entry l = l.all.items ++ map (view_item l.tables) (bare (drop l.entry-index l.entries)) ≡ map (view_item l.tables) (bare l.entries)

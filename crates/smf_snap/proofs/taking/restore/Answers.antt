@@ -1,5 +1,7 @@
-use Rattle.smf_snap.proofs.Places.{all_rise, rises_restored}
+use Rattle.smf_snap.proofs.Rising.{rises_staying}
 use Rattle.smf_snap.proofs.taking.restore.Goals as goal
 
-pub returns-clause-rises : goal.returns-clause-rises
-returns-clause-rises c = λ r. all_rise c.restored.result _ c.restored.ensures (rises_restored c.args.current.now c.args.snapshot.now r)
+pub from_vec-requires : goal.from_vec-requires
+from_vec-requires c =
+    rw (c.into_vec.ensures, c.in_ok-staying.ensures, c.as_slice.ensures.all)
+    (rises_staying c.args.current.now c.as_slice.ensures.rises)

@@ -1,5 +1,7 @@
-use Rattle.smf_snap.proofs.Places.{all_rise, rises_taken}
+use Rattle.smf_snap.proofs.Rising.{rises_taken}
 use Rattle.smf_snap.proofs.taking.take.Goals as goal
 
-pub returns-clause-rises : goal.returns-clause-rises
-returns-clause-rises c = λ r. all_rise c.taken.result _ c.taken.ensures (rises_taken c.args.groups.now r)
+pub from_vec-requires : goal.from_vec-requires
+from_vec-requires c =
+    rw (c.into_vec.ensures, c.in_ok-taken.ensures, c.as_slice.ensures.all)
+    (rises_taken c.args.groups.now c.as_slice.ensures.rises)

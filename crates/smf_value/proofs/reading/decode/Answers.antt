@@ -12,7 +12,7 @@ found bytes (Ok gs) fits given = all_takes bytes gs fits given
 found bytes (Err e) fits given = tt
 
 pub returns-clause-found : goal.returns-clause-found
-returns-clause-found c = found c.args.bytes.now c.all.result (λ i. omega (arith, c.type_inv.bytes i)) c.all.ensures.exact
+returns-clause-found c = found c.args.bytes.now c.decode_exact.result (λ i. omega (arith, c.type_inv.bytes i)) c.decode_exact.ensures.exact
 
 pub returns-clause-only : goal.returns-clause-only
-returns-clause-only c = λ gs is e. let P : Result (List GroupRecord) BodyFault → Type 0 = λ f. Gives {X = List GroupRecord} (λ x. x) c.all.result f in subst P (ap decoded e ∙ whole_again gs is) c.all.ensures.exact
+returns-clause-only c = λ gs is e. let P : Result (List GroupRecord) BodyFault → Type 0 = λ f. Gives {X = List GroupRecord} (λ x. x) c.decode_exact.result f in subst P (ap decoded e ∙ whole_again gs is) c.decode_exact.ensures.exact

@@ -19,7 +19,7 @@ found bytes (Ok x) fits given = first_takes bytes (x.0, x.1.now) fits given
 found bytes (Err e) fits given = tt
 
 pub returns-clause-found : goal.returns-clause-found
-returns-clause-found c = found c.args.bytes.now c.first.result (λ i. omega (arith, c.type_inv.bytes i)) c.first.ensures
+returns-clause-found c = found c.args.bytes.now c.decode_first_exact.result (λ i. omega (arith, c.type_inv.bytes i)) c.decode_first_exact.ensures
 
 pub returns-clause-only : goal.returns-clause-only
-returns-clause-only c = λ gs rest is e. let P : Result (List GroupRecord × List ℕ) BodyFault → Type 0 = λ f. Gives seen c.first.result f in subst P (ap decoded_first e ∙ first_again gs rest is) c.first.ensures
+returns-clause-only c = λ gs rest is e. let P : Result (List GroupRecord × List ℕ) BodyFault → Type 0 = λ f. Gives seen c.decode_first_exact.result f in subst P (ap decoded_first e ∙ first_again gs rest is) c.decode_first_exact.ensures

@@ -1,6 +1,6 @@
 use Rattle.std.proofs.Common.{◌≡◌, ◌++◌, arith, string_bytes, Some, ◌∙◌, ap, refl}
 use Rattle.std.proofs.lemmas.Grind.{common_steps}
-use Rattle.smf_fmri.specs.Name.{short, IsName}
+use Rattle.smf_fmri.specs.Name.{short}
 use Rattle.smf_fmri.specs.Matching.{service_of, named_service, IsServiceName}
 use Rattle.smf_fmri.proofs.Services.{shown_service, is_named_service}
 use Rattle.smf_fmri.proofs.fmri.Fmri.service_fmri.Goals as goal

@@ -1,11 +1,19 @@
-use Rattle.smf_value.proofs.Changes.{del_leaves}
-use Rattle.smf_value.proofs.Order.{taken_kept}
+use Rattle.std.proofs.Common.{refl, arith}
+use Rattle.smf_fmri.proofs.Places.{length_without}
+use Rattle.smf_value.specs.Groups.{by_property}
+use Rattle.smf_value.proofs.Limits.{del_absent, del_present, is_found}
 use Rattle.smf_value.proofs.group.Group.del.Goals as goal
+
+pub returns-then-is_none : goal.returns-then-is_none
+returns-then-is_none c =
+    (rw (← c.self.view_is) (del_absent c.args.name.now _ (is_found c.get.result _ _ _ c.get.ensures c.is_none.ensures c.if-is_none.true)), refl)
 
 pub invariant_of-self : goal.invariant_of-self
 invariant_of-self c =
-    let p = taken_kept c.take_out.result c.args.name.now c.self.inside.properties.items c.take_out.new.properties.items c.take_out.ensures c.self.invariant.rises c.self.invariant.bounded in
-    record { rises = p.0; bounded = p.1 }
+    let shorter = length_without by_property c.args.name.now c.self.inside.properties in
+    rw c.remove.ensures (omega (arith, shorter, c.self.invariant))
 
 pub returns : goal.returns
-returns c = rw (← c.self.view_is) (del_leaves c.take_out.result c.args.name.now _ c.take_out.new.properties.items c.take_out.ensures)
+returns c =
+    rw (← c.self.view_is, c.remove.ensures)
+    (del_present c.args.name.now _ (is_found c.get.result _ _ _ c.get.ensures c.is_none.ensures c.if-is_none.false))

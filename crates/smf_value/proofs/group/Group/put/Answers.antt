@@ -1,11 +1,11 @@
-use Rattle.smf_value.proofs.Changes.{put_leaves}
-use Rattle.smf_value.proofs.Order.{put_kept}
+use Rattle.std.proofs.Common.{refl, sym, ◌∙◌}
+use Rattle.smf_value.proofs.Limits.{put_fits, put_full}
 use Rattle.smf_value.proofs.group.Group.put.Goals as goal
 
-pub invariant_of-self : goal.invariant_of-self
-invariant_of-self c =
-    let p = put_kept c.put_in.result c.args.property c.self.inside.properties.items c.put_in.new.properties.items c.put_in.ensures c.self.invariant.rises c.self.invariant.bounded in
-    record { rises = p.0; bounded = p.1 }
+pub returns-then-is_one_too_many : goal.returns-then-is_one_too_many
+returns-then-is_one_too_many c =
+    (rw (← c.self.view_is) (put_full c.args.property _ (sym c.is_one_too_many.ensures ∙ c.if-is_one_too_many.true)), refl)
 
 pub returns : goal.returns
-returns c = rw (← c.self.view_is) (put_leaves c.put_in.result c.args.property _ c.put_in.new.properties.items c.put_in.ensures)
+returns c =
+    rw (← c.self.view_is, c.in_ok-put.ensures.ok) (put_fits c.args.property _ (sym c.is_one_too_many.ensures ∙ c.if-is_one_too_many.false))

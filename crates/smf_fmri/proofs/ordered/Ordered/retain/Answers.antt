@@ -1,0 +1,5 @@
+use Rattle.smf_fmri.proofs.Rising.{rises_kept}
+use Rattle.smf_fmri.proofs.ordered.Ordered.retain.Goals as goal
+
+pub invariant_of-self : goal.invariant_of-self
+invariant_of-self g c = rises_kept g.T.Keyed.by _ _ _ _ c.retain.ensures.filtered c.self.invariant

@@ -1,0 +1,41 @@
+ghost use Rattle.std.specs.Prelude.{◌≡◌, List, ℕ};
+ghost use Rattle.smf_fmri.specs.ByKey.{By, Rises, by_text};
+
+/// What has a key, by which it is found and put in order: `by` says it in contracts, and compares as the key's type.
+pub trait Keyed {
+    type Key: Ord;
+
+    ghost by: { By Self Self.Key };
+
+    fn key(&self) -> &Self::Key
+        ensures { result.now ≡ by.key self.now };
+
+    ghost same: { by.cmp ≡ Self.Key.cmp };
+}
+
+/// What has a text as its key, so that it is found by one that is borrowed.
+pub trait TextKeyed: Keyed {
+    ghost text: { Self → List ℕ };
+
+    fn key_text(&self) -> &str
+        ensures { result.now ≡ text self.now };
+
+    ghost same_order: { (xs : List Self) → Rises Self.by xs → Rises (by_text text) xs };
+}
+
+/// What has a part that can be given to it, and keeps its key.
+pub trait HasPart: Keyed {
+    type Part: Drop;
+
+    ghost with_part: { Self → Self.Part → Self };
+
+    fn set_part(&mut self, part: Self::Part)
+        ensures { self.new ≡ with_part self.old part };
+
+    ghost keeps_key: { (x : Self) (part : Self.Part) → Self.by.key (with_part x part) ≡ Self.by.key x };
+}
+
+/// What is cloned as it is.
+pub trait ExactClone: Clone {
+    ghost exact: { (x copy : Self) → Self.is_clone x copy → copy ≡ x };
+}

@@ -1,0 +1,25 @@
+-- What a journal is told, and what a crash may leave in it.
+use Rattle.std.specs.Prelude.{◌≡◌, ◌⊎◌, List, Option, Some}
+use Rattle.smf_model.specs.declared.change.Change.{Change}
+use Rattle.smf_model.specs.Holdings.{Holdings}
+use Rattle.smf_model.specs.Look.{installed}
+
+-- what stood in the journal stands in it with the changes made
+abbrev pub IsTold : {J : Type 0} → (J → Holdings → Type 0) → J → J → List Change → Type 0
+IsTold stands old new changes = (h : Holdings) → stands old h → stands new (installed h changes)
+
+-- what stood in the journal stands in it
+abbrev pub IsUntold : {J : Type 0} → (J → Holdings → Type 0) → J → J → Type 0
+IsUntold stands old new = (h : Holdings) → stands old h → stands new h
+
+-- a crash leaves what it could leave before, or this value
+abbrev pub LeavesOldOr : {J : Type 0} → (J → Option Holdings → Type 0) → J → J → Holdings → Type 0
+LeavesOldOr could old new h = (found : Option Holdings) → could new found → could old found ⊎ (found ≡ Some h)
+
+-- the same, for what stood in the journal with the changes made
+abbrev pub LeavesOldOrTold : {J : Type 0} → (J → Holdings → Type 0) → (J → Option Holdings → Type 0) → J → J → List Change → Type 0
+LeavesOldOrTold stands could old new changes = (h : Holdings) → stands old h → LeavesOldOr could old new (installed h changes)
+
+-- a crash leaves this value
+abbrev pub LeavesOnly : {J : Type 0} → (J → Option Holdings → Type 0) → J → Holdings → Type 0
+LeavesOnly could journal h = (found : Option Holdings) → could journal found → found ≡ Some h
