@@ -70,9 +70,14 @@ fn run_in_memory<R: ScriptReader, W: ScriptWriter>(
     let repository = Plain::new(alloc, NoJournal {});
     let mut node = match Node::new(alloc, repository) {
         Ok(node) => node,
-        Err((fault, _)) => return Err(ScriptFault::Node(fault)),
+        Err((fault, repository)) => {
+            let NoJournal {} = repository.into_journal();
+            return Err(ScriptFault::Node(fault));
+        }
     };
-    run_script(alloc, reader, writer, &mut node)
+    let end = run_script(alloc, reader, writer, &mut node);
+    let NoJournal {} = node.into_repository().into_journal();
+    end
 }
 
 /// Does a script over a repository in memory, and gives the status of the run.

@@ -1,11 +1,10 @@
 -- Launches and boots, accepted or the world stays, and proposals.
 use Rattle.std.proofs.Common.{◌≡◌, ◌⊎◌, ◌==◌, not, ℕ, ◌+◌, List, [], ◌∷◌, ◌++◌, Bool, true, false, cond, Some, None, refl, sym, ap, ◌∙◌, inl, inr, arith}
 use Rattle.std.proofs.lemmas.Bool.Decides.{nat_tests}
-use Rattle.std.specs.Prelude.{◌||◌, filter, map, nat_lt, option_to_list, reverse}
-use Rattle.std.specs.List.{list_any}
+use Rattle.std.specs.Prelude.{filter, nat_lt, option_to_list, reverse}
 use Rattle.smf_state.specs.declared.step.Proposal.{Proposal}
 use Rattle.smf_model.specs.declared.change.Change.{Change}
-use Rattle.smf_model.specs.declared.change.Change.TheVariants.{PutInstance, PutLaunch, SetRevision}
+use Rattle.smf_model.specs.declared.change.Change.TheVariants.{PutLaunch, SetRevision}
 use Rattle.smf_model.specs.declared.command.Command.{Command}
 use Rattle.smf_model.specs.declared.command.Command.TheVariants as commands
 use Rattle.smf_model.specs.declared.command.Reply.{Reply as Answer}
@@ -13,8 +12,7 @@ use Rattle.smf_model.specs.declared.command.Reply.TheVariants as answers
 use Rattle.smf_model.specs.History.{is_revised}
 use Rattle.smf_model.specs.Holdings.{Holdings}
 use Rattle.smf_model.specs.Look.{installed, launch_of}
-use Rattle.smf_model.specs.Next.{Asked, accepted, asked, asked_boot, asked_launch, dropped, greatest, is_last_launch, is_last_number, next, persistent, refused, relaunched}
-use Rattle.smf_model.specs.Next.{booted as booted_row}
+use Rattle.smf_model.specs.Next.{Asked, accepted, asked, asked_boot, asked_launch, booting, greatest, may_not_boot, next, next_launch, refused}
 use Rattle.smf_model.proofs.OwnName.{some_is}
 use Rattle.smf_restarter.specs.Replies.{at_first}
 use Rattle.smf_wire.specs.declared.message.Message.TheVariants as messages
@@ -41,7 +39,7 @@ leaves w c r e = ap (λ x. commanded w c x) e ∙ ap (λ v. (v, r)) (same_by (is
 -- ---- accepted with such an answer, or refused at a limit
 
 abbrev Accepts : (Answer → Type 0) → Asked → Type 0
-Accepts P a = P a.1 ⊎ (a ≡ ([], answers.Limit))
+Accepts P a = P a.reply ⊎ (a ≡ refused answers.Limit)
 
 abbrev IsMade : Answer → Type 0
 IsMade r = (n : ℕ) × (r ≡ answers.Made n)
@@ -52,7 +50,7 @@ IsDone r = r ≡ answers.Done
 where_left : (P : Answer → Type 0) (h : Holdings) (cs : List Change) (r : Answer) → P r → Accepts P (accepted h cs r)
 where_left P h cs r p = by (nat_lt h.revision greatest)
   where
-    by : (b : Bool) → Accepts P (cond b (cs ++ SetRevision (h.revision + 1) ∷ [], r) (refused answers.Limit))
+    by : (b : Bool) → Accepts P (cond b (record { changes = cs ++ SetRevision (h.revision + 1) ∷ []; reply = r }) (refused answers.Limit))
     by true = inl p
     by false = inr refl
 
@@ -60,20 +58,17 @@ launches : (h : Holdings) (name : List ℕ) → Accepts IsMade (asked_launch h n
 unfolding asked_launch
 launches h name = by (nat_lt (launch_of h name) greatest)
   where
-    by : (b : Bool) → Accepts IsMade (cond b (accepted h (PutLaunch (record { restarter = name; count = launch_of h name + 1 }) ∷ []) (answers.Made (launch_of h name + 1))) (refused answers.Limit))
-    by true = where_left IsMade h (PutLaunch (record { restarter = name; count = launch_of h name + 1 }) ∷ []) (answers.Made (launch_of h name + 1)) (launch_of h name + 1, refl)
+    by : (b : Bool) → Accepts IsMade (cond b (accepted h (PutLaunch (next_launch h name) ∷ []) (answers.Made (launch_of h name + 1))) (refused answers.Limit))
+    by true = where_left IsMade h (PutLaunch (next_launch h name) ∷ []) (answers.Made (launch_of h name + 1)) (launch_of h name + 1, refl)
     by false = inr refl
-
-abbrev boot_changes : Holdings → List Change
-boot_changes h = (map relaunched h.launches ++ map dropped (filter (λ g. g.group.non_persistent) h.groups)) ++ map (λ i. PutInstance (booted_row (persistent h.groups) i)) h.instances
 
 boots : (h : Holdings) → Accepts IsDone (asked_boot h)
 unfolding asked_boot
-boots h = by (list_any is_last_launch h.launches || list_any is_last_number h.instances)
+boots h = by (may_not_boot h)
   where
-    by : (b : Bool) → Accepts IsDone (cond b (refused answers.Limit) (accepted h (boot_changes h) answers.Done))
+    by : (b : Bool) → Accepts IsDone (cond b (refused answers.Limit) (accepted h (booting h) answers.Done))
     by true = inr refl
-    by false = where_left IsDone h (boot_changes h) answers.Done refl
+    by false = where_left IsDone h (booting h) answers.Done refl
 
 abbrev NextAccepts : (Answer → Type 0) → Holdings → Command → Type 0
 NextAccepts P h c = P (next h c).1 ⊎ (next h c ≡ (h, answers.Limit))
@@ -81,11 +76,11 @@ NextAccepts P h c = P (next h c).1 ⊎ (next h c ≡ (h, answers.Limit))
 next_by : (P : Answer → Type 0) (h : Holdings) (c : Command) → Accepts P (asked h c) → NextAccepts P h c
 unfolding next installed
 next_by P h c (inl p) = inl p
-next_by P h c (inr e) = inr (ap (λ (a : Asked). (installed h a.0, a.1)) e)
+next_by P h c (inr e) = inr (ap (λ (a : Asked). (installed h a.changes, a.reply)) e)
 
-next_launch : (h : Holdings) (name : List ℕ) → NextAccepts IsMade h (commands.Launch name)
+makes_launch : (h : Holdings) (name : List ℕ) → NextAccepts IsMade h (commands.Launch name)
 unfolding asked
-next_launch h name = next_by IsMade h (commands.Launch name) (launches h name)
+makes_launch h name = next_by IsMade h (commands.Launch name) (launches h name)
 
 next_boot : (h : Holdings) → NextAccepts IsDone h commands.Boot
 unfolding asked
@@ -111,7 +106,7 @@ launch_left w v name r (inl p) e none = absurd (not_made r p.0 (answered w v (co
 launch_left w v name r (inr l) e none = refused_by w v (commands.Launch name) r e l
 
 pub launch_refused : (w v : World) (name : List ℕ) (r : Answer) → IsCommitted w (commands.Launch name) v r → launch_in r ≡ None → v ≡ w
-launch_refused w v name r e none = launch_left w v name r (next_launch w.now name) e.made none
+launch_refused w v name r e none = launch_left w v name r (makes_launch w.now name) e.made none
 
 limit_by : (w : World) (c : Command) → next w.now c ≡ (w.now, answers.Limit) → (next w.now c).1 ≡ answers.Limit
 limit_by w c l = ap (λ (a : Holdings × Answer). a.1) l
@@ -121,7 +116,7 @@ limited w v name r (inl p) e none = absurd (not_made r p.0 (answered w v (comman
 limited w v name r (inr l) e none = limit_by w (commands.Launch name) l
 
 pub launch_limit : (w v : World) (name : List ℕ) (r : Answer) → IsCommitted w (commands.Launch name) v r → launch_in r ≡ None → (next w.now (commands.Launch name)).1 ≡ answers.Limit
-launch_limit w v name r e none = limited w v name r (next_launch w.now name) e.made none
+launch_limit w v name r e none = limited w v name r (makes_launch w.now name) e.made none
 
 not_limit : (r : Answer) (n : ℕ) → launch_in r ≡ Some n → r ≡ answers.Limit → ⊥
 not_limit r n some limit = let none : launch_in r ≡ None = ap launch_in limit in cc

@@ -12,10 +12,9 @@ use Rattle.smf_model.specs.declared.command.Reply.{Reply as Answer}
 use Rattle.smf_model.specs.declared.command.Reply.TheVariants as answers
 use Rattle.smf_model.specs.declared.held.Instance.{Instance}
 use Rattle.smf_model.specs.History.{is_revised}
-use Rattle.smf_model.specs.declared.change.Outcome.{Outcome as Asked}
 use Rattle.smf_model.specs.Holdings.{Holdings}
 use Rattle.smf_model.specs.Look.{groups_of, installed, instances}
-use Rattle.smf_model.specs.Next.{asked, asked_boot, is_last_launch, is_last_number, next, refused}
+use Rattle.smf_model.specs.Next.{Asked, asked, asked_boot, is_last_launch, is_last_number, next, refused}
 use Rattle.smf_model.specs.declared.setting.Setting.{Setting}
 use Rattle.smf_model.specs.Setting.{current, owned_by_setting, setting}
 use Rattle.smf_model.specs.Shown.{view, view_item}

@@ -138,7 +138,8 @@ fn act(
     requires { at < length restarters.old.items }
     ensures restarters { OnOk result (restarters.new.items ≡ changed_at at reply.change restarters.old.items) }
     ensures messages { OnOk result (messages.new.items ≡ messages.old.items ++ sent_by reply.action) }
-    ensures trail { OnOk result (trail.new.items ≡ trail.old.items ++ (held_at at reply.taken restarters.old.items ++ begun_by reply.action)) }
+    ensures trail { OnOk result (trail.new.items ≡ trail.old.items ++
+        (held_at at reply.taken restarters.old.items ++ begun_by reply.action)) }
     ensures restarters_stay { OnErr result (restarters.new.items ≡ restarters.old.items) }
     ensures messages_stay { OnErr result (messages.new.items ≡ messages.old.items) }
     ensures trail_stays { OnErr result (trail.new.items ≡ trail.old.items) }
@@ -167,8 +168,10 @@ impl<J: Journal> Machine<J> {
 
     /// A tick of a restarter: its own (0), or one for an instance.
     pub(crate) fn tick(&mut self, name: &InstanceFmri, instance: u64) -> Result<(), NodeFault>
-        ensures ok { OnOk result (world_of self.new.repository.held self.new.parts ≡ happens (world_of self.old.repository.held self.old.parts) (events.Tick name.now instance spawns.Made)) }
-        ensures err { OnErr result (world_of self.new.repository.held self.new.parts ≡ world_of self.old.repository.held self.old.parts) }
+        ensures ok { OnOk result (world_of self.new.repository.held self.new.parts ≡
+            happens (world_of self.old.repository.held self.old.parts) (events.Tick name.now instance spawns.Made)) }
+        ensures err { OnErr result (world_of self.new.repository.held self.new.parts ≡
+            world_of self.old.repository.held self.old.parts) }
         ensures fault { IfErr result (λ e. e ≡ Memory) }
     {
         let Some(at) = self.place_of(name) else {
@@ -188,8 +191,10 @@ impl<J: Journal> Machine<J> {
 
     /// A message comes to a restarter.
     pub(crate) fn tell(&mut self, name: &InstanceFmri, message: &Message) -> Result<(), NodeFault>
-        ensures ok { OnOk result (world_of self.new.repository.held self.new.parts ≡ told_by message.now (world_of self.old.repository.held self.old.parts) name.now) }
-        ensures err { OnErr result (world_of self.new.repository.held self.new.parts ≡ world_of self.old.repository.held self.old.parts) }
+        ensures ok { OnOk result (world_of self.new.repository.held self.new.parts ≡
+            told_by message.now (world_of self.old.repository.held self.old.parts) name.now) }
+        ensures err { OnErr result (world_of self.new.repository.held self.new.parts ≡
+            world_of self.old.repository.held self.old.parts) }
         ensures fault { IfErr result (λ e. e ≡ Memory) }
     {
         let Some(at) = self.place_of(name) else {

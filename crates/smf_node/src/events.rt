@@ -66,8 +66,10 @@ fn remove(restarters: &mut Vec<Restarter>, name: &InstanceFmri)
 impl<J: Journal> Machine<J> {
     /// A message is delivered.
     pub(crate) fn deliver(&mut self, message: &Message) -> Result<(), NodeFault>
-        ensures ok { OnOk result (world_of self.new.repository.held self.new.parts ≡ delivered (world_of self.old.repository.held self.old.parts) message.now) }
-        ensures err { OnErr result (world_of self.new.repository.held self.new.parts ≡ world_of self.old.repository.held self.old.parts) }
+        ensures ok { OnOk result (world_of self.new.repository.held self.new.parts ≡
+            delivered (world_of self.old.repository.held self.old.parts) message.now) }
+        ensures err { OnErr result (world_of self.new.repository.held self.new.parts ≡
+            world_of self.old.repository.held self.old.parts) }
         ensures fault { IfErr result (λ e. EndsWith (is_proposal message.now) J.write_fails e) }
     {
         match message {
@@ -84,8 +86,10 @@ impl<J: Journal> Machine<J> {
 
     /// The graph sends the orders of the view that it holds.
     pub(crate) fn order(&mut self) -> Result<(), NodeFault>
-        ensures ok { OnOk result (world_of self.new.repository.held self.new.parts ≡ happens (world_of self.old.repository.held self.old.parts) events.Orders) }
-        ensures err { OnErr result (world_of self.new.repository.held self.new.parts ≡ world_of self.old.repository.held self.old.parts) }
+        ensures ok { OnOk result (world_of self.new.repository.held self.new.parts ≡
+            happens (world_of self.old.repository.held self.old.parts) events.Orders) }
+        ensures err { OnErr result (world_of self.new.repository.held self.new.parts ≡
+            world_of self.old.repository.held self.old.parts) }
         ensures fault { IfErr result (λ e. e ≡ Memory) }
     {
         let orders = self.parts.engine.decide_all(self.alloc)?;
@@ -96,10 +100,13 @@ impl<J: Journal> Machine<J> {
 
     /// A restarter begins. A launch number at its limit has no next one.
     pub(crate) fn launch(&mut self, name: &InstanceFmri) -> Result<(), NodeFault>
-        ensures ok { OnOk result (world_of self.new.repository.held self.new.parts ≡ happens (world_of self.old.repository.held self.old.parts) (events.Launch name.now)) }
-        ensures err { OnErr result (world_of self.new.repository.held self.new.parts ≡ world_of self.old.repository.held self.old.parts) }
+        ensures ok { OnOk result (world_of self.new.repository.held self.new.parts ≡
+            happens (world_of self.old.repository.held self.old.parts) (events.Launch name.now)) }
+        ensures err { OnErr result (world_of self.new.repository.held self.new.parts ≡
+            world_of self.old.repository.held self.old.parts) }
         ensures within { OnOk result ((next self.old.repository.held (commands.Launch name.now)).1 ≡ Limit → ⊥) }
-        ensures fault { IfErr result (λ e. IsUndone J.write_fails self.old.repository.held (commands.Launch name.now) e) }
+        ensures fault { IfErr result (λ e.
+            IsUndone J.write_fails self.old.repository.held (commands.Launch name.now) e) }
     {
         self.parts.restarters.reserve(1)?;
         let own = name.clone()?;
@@ -114,16 +121,19 @@ impl<J: Journal> Machine<J> {
 
     /// The restarters of a name are gone.
     pub(crate) fn crash(&mut self, name: &InstanceFmri)
-        ensures { world_of self.new.repository.held self.new.parts ≡ happens (world_of self.old.repository.held self.old.parts) (events.Crash name.now) }
+        ensures { world_of self.new.repository.held self.new.parts ≡
+            happens (world_of self.old.repository.held self.old.parts) (events.Crash name.now) }
     {
         remove(&mut self.parts.restarters, name);
     }
 
     /// What the actors knew is gone, and the repository boots.
     pub(crate) fn boot(&mut self) -> Result<(), NodeFault>
-        ensures ok { OnOk result (world_of self.new.repository.held self.new.parts ≡ happens (world_of self.old.repository.held self.old.parts) events.Boot) }
+        ensures ok { OnOk result (world_of self.new.repository.held self.new.parts ≡
+            happens (world_of self.old.repository.held self.old.parts) events.Boot) }
         ensures accepted { OnOk result ((next self.old.repository.held commands.Boot).1 ≡ Done) }
-        ensures err { OnErr result (world_of self.new.repository.held self.new.parts ≡ world_of self.old.repository.held self.old.parts) }
+        ensures err { OnErr result (world_of self.new.repository.held self.new.parts ≡
+            world_of self.old.repository.held self.old.parts) }
         ensures fault { IfErr result (λ e. IsUndone J.write_fails self.old.repository.held commands.Boot e) }
     {
         let reply = self.commit(Command::Boot)?;

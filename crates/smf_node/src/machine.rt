@@ -215,9 +215,13 @@ fn give<J: Journal>(
     trail: &mut Vec<Item>,
     command: Command,
 ) -> Result<Reply, NodeFault>
-    ensures exact { IfOk result (λ reply. IsGiven repository.old.held command reply repository.new.held commands.old.items commands.new.items trail.old.items trail.new.items) }
+    ensures exact { IfOk result (λ reply.
+        IsGiven repository.old.held command reply repository.new.held commands.old.items commands.new.items
+        trail.old.items trail.new.items) }
     ensures fault { IfErr result (λ e. HasNoReply J.write_fails e) }
-    ensures err { OnErr result (IsLeft repository.old.held repository.new.held commands.old.items commands.new.items trail.old.items trail.new.items) }
+    ensures err { OnErr result
+        (IsLeft repository.old.held repository.new.held commands.old.items commands.new.items trail.old.items
+        trail.new.items) }
 {
     let items = prepare(alloc, repository, commands, trail, &command)?;
     let revision = repository.revision();
@@ -235,8 +239,11 @@ fn give<J: Journal>(
 impl<J: Journal> Machine<J> {
     /// Gives the repository a command, and notes it where it is accepted.
     pub(crate) fn commit(&mut self, command: Command) -> Result<Reply, NodeFault>
-        ensures exact { IfOk result (λ reply. IsCommitted (world_of self.old.repository.held self.old.parts) command (world_of self.new.repository.held self.new.parts) reply) }
-        ensures err { OnErr result (world_of self.new.repository.held self.new.parts ≡ world_of self.old.repository.held self.old.parts) }
+        ensures exact { IfOk result (λ reply.
+            IsCommitted (world_of self.old.repository.held self.old.parts) command
+            (world_of self.new.repository.held self.new.parts) reply) }
+        ensures err { OnErr result (world_of self.new.repository.held self.new.parts ≡
+            world_of self.old.repository.held self.old.parts) }
         ensures fault { IfErr result (λ e. HasNoReply J.write_fails e) }
         // What stands beside is not touched, and keeps its room.
         ensures messages { self.new.parts.messages ≡ self.old.parts.messages }
@@ -254,10 +261,12 @@ impl<J: Journal> Machine<J> {
     /// Sends a message.
     #[tactic(auto, using(crate::proofs::Lists::reverse_both), unfolding(crate::specs::Parts::world_of))]
     pub(crate) fn say(&mut self, message: Message) -> Result<(), NodeFault>
-        ensures ok { OnOk result (world_of self.new.repository.held self.new.parts ≡ said (world_of self.old.repository.held self.old.parts) message) }
+        ensures ok { OnOk result (world_of self.new.repository.held self.new.parts ≡
+            said (world_of self.old.repository.held self.old.parts) message) }
         ensures fault { IfErr result (λ e. e ≡ Memory) }
-        ensures repository { self.new.repository ≡ self.old.repository }
-        ensures err { OnErr result (world_of self.new.repository.held self.new.parts ≡ world_of self.old.repository.held self.old.parts) }
+        ensures repository { self.new.repository.held ≡ self.old.repository.held }
+        ensures err { OnErr result (world_of self.new.repository.held self.new.parts ≡
+            world_of self.old.repository.held self.old.parts) }
     {
         self.parts.messages.push(message)?;
         Ok(())

@@ -58,7 +58,8 @@ impl<J: Journal> Node<J> {
     /// Boots what was found. A fault hands the repository back, as it was; `Limit` where a row or a launch has no next
     /// number.
     pub fn new(alloc: Global, repository: Plain<J>) -> Result<Node<J>, (NodeFault, Plain<J>)>
-        ensures ok { IfOk result (λ node. node ≡ record { world = happens (found repository.held) events.Boot; delivered = 0 }) }
+        ensures ok { IfOk result (λ node. node ≡
+            record { world = happens (found repository.held) events.Boot; delivered = 0 }) }
         ensures safe { IfOk result (λ node. IsSafe node.world) }
         ensures err { IfErr result (λ e. e.1.held ≡ repository.held) }
         ensures fault { IfErr result (λ e. IsUndone J.write_fails repository.held commands.Boot e.0) }
@@ -125,6 +126,13 @@ impl<J: Journal> Node<J> {
         ensures { result.now.held ≡ self.now.world.now }
     {
         self.schedule.repository()
+    }
+
+    /// Ends the actors, and hands back the repository as it is.
+    pub fn into_repository(self) -> Plain<J>
+        ensures { result.held ≡ self.world.now }
+    {
+        self.schedule.into_repository()
     }
 
     /// What happened, the first first.

@@ -73,8 +73,10 @@ impl<J: Journal> Machine<J> {
     /// A restarter asks for its rows.
     #[tactic(auto, unfolding(crate::specs::Parts::world_of, smf_world::specs::Happens::delivered))]
     pub(crate) fn join(&mut self, name: &InstanceFmri, launch: u64) -> Result<(), NodeFault>
-        ensures ok { OnOk result (world_of self.new.repository.held self.new.parts ≡ delivered (world_of self.old.repository.held self.old.parts) (messages.Join name.now launch)) }
-        ensures err { OnErr result (world_of self.new.repository.held self.new.parts ≡ world_of self.old.repository.held self.old.parts) }
+        ensures ok { OnOk result (world_of self.new.repository.held self.new.parts ≡
+            delivered (world_of self.old.repository.held self.old.parts) (messages.Join name.now launch)) }
+        ensures err { OnErr result (world_of self.new.repository.held self.new.parts ≡
+            world_of self.old.repository.held self.old.parts) }
         ensures fault { IfErr result (λ e. e ≡ Memory) }
     {
         if launch != self.repository.launch_of(name) {
@@ -88,8 +90,10 @@ impl<J: Journal> Machine<J> {
 
     /// A restarter proposes a step.
     pub(crate) fn propose(&mut self, proposal: &Proposal) -> Result<(), NodeFault>
-        ensures ok { OnOk result (world_of self.new.repository.held self.new.parts ≡ delivered (world_of self.old.repository.held self.old.parts) (messages.Propose proposal.now)) }
-        ensures err { OnErr result (world_of self.new.repository.held self.new.parts ≡ world_of self.old.repository.held self.old.parts) }
+        ensures ok { OnOk result (world_of self.new.repository.held self.new.parts ≡
+            delivered (world_of self.old.repository.held self.old.parts) (messages.Propose proposal.now)) }
+        ensures err { OnErr result (world_of self.new.repository.held self.new.parts ≡
+            world_of self.old.repository.held self.old.parts) }
         ensures fault { IfErr result (λ e. HasNoReply J.write_fails e) }
     {
         self.parts.messages.reserve(1)?;
@@ -103,8 +107,10 @@ impl<J: Journal> Machine<J> {
     /// The graph asks what is held.
     #[tactic(auto, unfolding(crate::specs::Parts::world_of, smf_world::specs::Happens::delivered))]
     pub(crate) fn show(&mut self) -> Result<(), NodeFault>
-        ensures ok { OnOk result (world_of self.new.repository.held self.new.parts ≡ delivered (world_of self.old.repository.held self.old.parts) messages.AskView) }
-        ensures err { OnErr result (world_of self.new.repository.held self.new.parts ≡ world_of self.old.repository.held self.old.parts) }
+        ensures ok { OnOk result (world_of self.new.repository.held self.new.parts ≡
+            delivered (world_of self.old.repository.held self.old.parts) messages.AskView) }
+        ensures err { OnErr result (world_of self.new.repository.held self.new.parts ≡
+            world_of self.old.repository.held self.old.parts) }
         ensures fault { IfErr result (λ e. e ≡ Memory) }
     {
         let view = self.repository.view()?;
@@ -114,8 +120,10 @@ impl<J: Journal> Machine<J> {
     /// The graph takes a view.
     #[tactic(auto, unfolding(crate::specs::Parts::world_of, smf_world::specs::Happens::delivered))]
     pub(crate) fn take_view(&mut self, view: &View) -> Result<(), NodeFault>
-        ensures ok { OnOk result (world_of self.new.repository.held self.new.parts ≡ delivered (world_of self.old.repository.held self.old.parts) (messages.View view.now)) }
-        ensures err { OnErr result (world_of self.new.repository.held self.new.parts ≡ world_of self.old.repository.held self.old.parts) }
+        ensures ok { OnOk result (world_of self.new.repository.held self.new.parts ≡
+            delivered (world_of self.old.repository.held self.old.parts) (messages.View view.now)) }
+        ensures err { OnErr result (world_of self.new.repository.held self.new.parts ≡
+            world_of self.old.repository.held self.old.parts) }
         ensures fault { IfErr result (λ e. e ≡ Memory) }
     {
         let view = view.clone()?;

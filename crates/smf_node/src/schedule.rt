@@ -43,7 +43,8 @@ impl<J: Journal> Model for Schedule<J> {
 
     ghost Value = { Progress };
 
-    ghost view = { λ n. record { world = world_of n.machine.repository.held n.machine.parts; delivered = n.delivered } };
+    ghost view = { λ n.
+        record { world = world_of n.machine.repository.held n.machine.parts; delivered = n.delivered } };
 }
 
 fn names_of(alloc: Global, restarters: &[Restarter]) -> Result<Vec<InstanceFmri>, AllocError>
@@ -106,6 +107,14 @@ impl<J: Journal> Schedule<J> {
         &self.machine.repository
     }
 
+    /// The repository, without the actors.
+    #[tactic(auto, unfolding(crate::specs::Parts::world_of))]
+    pub(crate) fn into_repository(self) -> Plain<J>
+        ensures { result.held ≡ self.world.now }
+    {
+        self.machine.repository
+    }
+
     /// What happened, the first first.
     #[tactic(auto, unfolding(crate::specs::Parts::world_of))]
     pub(crate) fn trail(&self) -> &[Item]
@@ -118,7 +127,8 @@ impl<J: Journal> Schedule<J> {
     fn deliver_one(&mut self) -> Result<(), NodeFault>
         ensures ok { OnOk result (self.new ≡ deliver_one self.old) }
         ensures later { IsLater self.old.world self.new.world }
-        ensures fault { IfErr result (λ e. EndsWith (gives_command self.old.world (events.Deliver self.old.delivered)) J.write_fails e) }
+        ensures fault { IfErr result (λ e.
+            EndsWith (gives_command self.old.world (events.Deliver self.old.delivered)) J.write_fails e) }
         ensures err { OnErr result (self.new ≡ self.old) }
     {
         let Some(message) = self.machine.parts.messages.get(self.delivered) else {
@@ -190,7 +200,8 @@ impl<J: Journal> Schedule<J> {
 
     /// A restarter begins where it is not launched.
     fn launch_if(&mut self, name: &InstanceFmri) -> Result<(), NodeFault>
-        ensures ok { OnOk result (self.new ≡ launched_if (is_some (restarter self.old.world name.now)) self.old name.now) }
+        ensures ok { OnOk result (self.new ≡
+            launched_if (is_some (restarter self.old.world name.now)) self.old name.now) }
         ensures later { IsLater self.old.world self.new.world }
         ensures fault { IfErr result (λ e. IsUndone J.write_fails self.new.world.now (commands.Launch name.now) e) }
     {
@@ -254,9 +265,11 @@ impl<J: Journal> Schedule<J> {
 
     /// A launched restarter has its turn.
     fn tick_launched(&mut self, name: &InstanceFmri, instance: u64) -> Result<(), NodeFault>
-        ensures ok { (spawn : AnySpawn) → OnOk result (IsStep self.old (events.Tick name.now instance spawn) self.new None) }
+        ensures ok { (spawn : AnySpawn) →
+            OnOk result (IsStep self.old (events.Tick name.now instance spawn) self.new None) }
         ensures later { IsLater self.old.world self.new.world }
-        ensures fault { (spawn : AnySpawn) → IfErr result (λ e. IsFault J.write_fails self.old (events.Tick name.now instance spawn) e) }
+        ensures fault { (spawn : AnySpawn) →
+            IfErr result (λ e. IsFault J.write_fails self.old (events.Tick name.now instance spawn) e) }
         ensures err { OnErr result (self.new ≡ self.old) }
     {
         self.expect_launched(name)?;

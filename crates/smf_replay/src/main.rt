@@ -16,9 +16,8 @@ use std::process::ExitCode;
 const FAULT: u8 = 3;
 
 /// Does each line of standard input, and writes its text when it is done.
-fn run(rt: &HostRuntime) -> Result<(), ReplayFault> {
+fn run_lines(rt: &HostRuntime, replay: &mut Replay) -> Result<(), ReplayFault> {
     let alloc = rt.alloc();
-    let mut replay = Replay::new(alloc)?;
     let mut reader = BufReader::new(alloc, rt.reader())?;
     let mut line = Vec::new(alloc);
     for _ in 0..u64::MAX {
@@ -30,6 +29,13 @@ fn run(rt: &HostRuntime) -> Result<(), ReplayFault> {
         io::writer(rt).write_all(text.as_bytes())?;
     }
     Ok(())
+}
+
+fn run(rt: &HostRuntime) -> Result<(), ReplayFault> {
+    let mut replay = Replay::new(rt.alloc())?;
+    let end = run_lines(rt, &mut replay);
+    replay.end();
+    end
 }
 
 fn main(rt: HostRuntime) -> ExitCode {

@@ -13,8 +13,7 @@ use std::str;
 /// What is printed for a line that is none of a replay.
 const BAD_LINE: &str = "smf: bad line\n";
 
-/// A node over a repository in memory, and what svccfg has selected.
-#[derive(Drop)]
+/// A node over a repository in memory, and what svccfg has selected. It is let go by `end` alone.
 pub(crate) struct Replay {
     node: Node<NoJournal>,
     selection: Selection,
@@ -46,8 +45,17 @@ impl Replay {
         let selection = Selection::Nothing;
         match Node::new(alloc, Plain::new(alloc, NoJournal {})) {
             Ok(node) => Ok(Replay { node, selection }),
-            Err((fault, _)) => Err(fault),
+            Err((fault, repository)) => {
+                let NoJournal {} = repository.into_journal();
+                Err(fault)
+            }
         }
+    }
+
+    /// Ends the node.
+    pub(crate) fn end(self) {
+        let Replay { node, selection: _ } = self;
+        let NoJournal {} = node.into_repository().into_journal();
     }
 
     /// The rows that are held: the number of the instance and the text of its row.

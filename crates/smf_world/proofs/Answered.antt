@@ -1,7 +1,6 @@
 -- The row in the answer to a proposal is that of the instance, as the answer leaves it.
-use Rattle.std.proofs.Common.{◌≡◌, ℕ, ◌+◌, ◌==◌, nat_lt, nat_le, Bool, true, false, if◌then◌else◌, List, [], ◌∷◌, ◌++◌, Option, Some, None, option_map, Result, Ok, Err, refl, sym, ap, ◌∙◌, subst, arith}
-use Rattle.std.specs.Prelude.{find}
-use Rattle.std.proofs.lemmas.Bool.Decides.{nat_tests}
+use Rattle.std.proofs.Common.{◌≡◌, ℕ, ◌+◌, nat_lt, nat_le, Bool, true, false, if◌then◌else◌, List, [], ◌∷◌, ◌++◌, Option, Some, None, option_map, Result, Ok, Err, refl, sym, ap, ◌∙◌, subst}
+use Rattle.smf_fmri.specs.ByKey.{lookup}
 use Rattle.smf_state.specs.Rows.{applied}
 use Rattle.smf_state.specs.declared.fault.StepFault.{StepFault}
 use Rattle.smf_state.specs.declared.row.Row.{Row}
@@ -15,15 +14,13 @@ use Rattle.smf_model.specs.declared.command.Why.{Why}
 use Rattle.smf_model.specs.declared.command.Why.TheVariants as whys
 use Rattle.smf_model.specs.declared.held.Instance.{Instance}
 use Rattle.smf_model.specs.Holdings.{Holdings}
-use Rattle.smf_model.specs.Look.{by_instance, groups_of, in_place, installed, instance, instances, put_over}
+use Rattle.smf_model.specs.Look.{by_instance, groups_of, installed, instance, instances, put_over}
 use Rattle.smf_model.specs.Setting.{current}
-use Rattle.smf_model.specs.Next.{greatest, greatest_snapshot, refused, accepted, snapshot_of, is_again, stale, with_row, takes_running, with_running, granted, step_answer, fresh_answer, answer_at, answer, asked, next}
-use Rattle.smf_model.specs.declared.change.Outcome.{Outcome as Asked}
+use Rattle.smf_model.specs.Next.{Asked, greatest, greatest_snapshot, refused, accepted, snapshot_of, is_again, stale, with_row, with_running, takes_running, granted, step_answer, fresh_answer, answer_at, answer, asked, next}
 use Rattle.smf_model.proofs.Entries.{bare_instance}
 use Rattle.smf_model.proofs.LawLists.{at_put, is_number}
-use Rattle.smf_fmri.specs.ByKey.{lookup}
-use Rattle.smf_world.proofs.CommitLists.{same_number}
 use Rattle.smf_model.proofs.LawOutcomes.{Found, installed_closed, is_found}
+use Rattle.smf_world.proofs.CommitLists.{has_same, in_place_is}
 
 -- a row has the number and the state of an instance's
 pub record IsRowOf (k : Holdings) (n : ℕ) (row : Row) : Type 0 where
@@ -65,13 +62,10 @@ either h n false x y p q = q
 abbrev with_taken : Holdings → Instance → List Change → List Change
 with_taken h i cs = AddSnapshot (snapshot_of h i) ∷ NextSnapshot (h.next_snapshot + 1) ∷ cs
 
-same_instance : (x y : Instance) → y.number ≡ x.number → in_place x y ≡ x
-same_instance x y e = ap (λ (n : ℕ). let placed : Instance = record x { number = n } in placed) e
-
 find_put : (n : ℕ) (x before : Instance) (xs : List Instance) → lookup by_instance xs n ≡ Some before → x.number ≡ n → lookup by_instance (put_over x xs) n ≡ Some x
 find_put n x before xs there number =
-    let same : before.number ≡ x.number = is_number n xs before there ∙ sym number in
-    at_put n x xs ∙ rw (number, same_number n, there) (ap Some (same_instance x before same))
+    let here : before.number ≡ x.number = is_number n xs before there ∙ sym number in
+    at_put n x xs ∙ rw (has_same x.number n number, there) (ap (λ (i : Instance). Some i) (in_place_is x before here))
 
 put_row : (h : Holdings) (n : ℕ) (before x : Instance) (k : Holdings) → instance h n ≡ Some before → x.number ≡ n → instances k ≡ put_over x (instances h) → IsRowOf k n x.row
 put_row h n before x k there number e =

@@ -1,12 +1,12 @@
 -- Commands that commit no row: no instance joins, and none changes its number.
-use Rattle.std.proofs.Common.{◌≡◌, ℕ, ◌+◌, ◌||◌, nat_lt, nat_le, not, Bool, true, false, if◌then◌else◌, List, [], ◌∷◌, ◌++◌, map, filter, Option, Some, None, Ok, Err, refl, sym, ap, ◌∙◌, subst, arith}
+use Rattle.std.proofs.Common.{◌≡◌, ℕ, ◌+◌, ◌||◌, nat_lt, nat_le, not, Bool, true, false, if◌then◌else◌, List, [], ◌∷◌, ◌++◌, filter, Option, Some, None, Ok, Err, refl, sym, ap, ◌∙◌, subst, arith}
 use Rattle.std.specs.List.{list_any}
 use Rattle.smf_state.specs.declared.row.Row.{Row}
 use Rattle.smf_state.specs.Rows.{same_state}
 use Rattle.smf_state.specs.States.{runs}
 use Rattle.smf_state.specs.declared.state.State.TheVariants.{Online, Degraded, Maintenance}
 use Rattle.smf_model.specs.declared.change.Change.{Change}
-use Rattle.smf_model.specs.declared.change.Change.TheVariants.{AddService, AddInstance, DropService, PutInstance, PutGroups, PutName, DropName, DropInstance, AddSnapshot, DropSnapshots, PutLaunch, NextInstance, NextSnapshot, SetRevision}
+use Rattle.smf_model.specs.declared.change.Change.TheVariants.{AddService, DropService, PutInstance, PutGroups, AddSnapshot, PutLaunch, NextInstance, NextSnapshot, SetRevision}
 use Rattle.smf_model.specs.declared.command.Command.{Command}
 use Rattle.smf_model.specs.declared.command.Command.TheVariants as commands
 use Rattle.smf_model.specs.declared.command.Edit.{Edit}
@@ -19,17 +19,16 @@ use Rattle.smf_model.specs.declared.command.Reply.TheVariants.{Made, Done, NoSuc
 use Rattle.smf_model.specs.declared.held.Instance.{Instance}
 use Rattle.smf_model.specs.declared.held.Owner.{Owner}
 use Rattle.smf_model.specs.declared.held.Owner.TheVariants as owners
+use Rattle.smf_model.specs.declared.held.Service.{Service}
 use Rattle.smf_model.specs.declared.held.Snapshot.{Snapshot}
 use Rattle.smf_model.specs.Holdings.{Holdings}
-use Rattle.smf_model.specs.Laws.{IsNumbered, RowFollows, stays, steps, boots, moves}
-use Rattle.smf_model.specs.Look.{has_number, instances, service, group, launch_of, changed, installed}
-use Rattle.smf_model.specs.Next.{accepted, added_group, asked, asked_add_service, asked_clear, asked_delete_instance, asked_delete_service, asked_edit, asked_enable, asked_if, asked_launch, asked_mark, asked_restart, asked_revert, asked_where, asking, changed_group, deleted_group, enabled_for_good, enabled_for_now, enabling_of, found, greatest, greatest_snapshot, group_dropped, group_put, guarded, is_in_use, is_instance_of, is_made, is_there, leaving, marked, named_snapshot, next, next_launch, number_of, property_changed, put_or_denied, refused, reverted, reverted_to, reverting, snapshot_of, with_snapshot}
-use Rattle.smf_model.specs.Setting.{service_owner}
-use Rattle.smf_model.specs.declared.change.Outcome.{Outcome as Asked}
-use Rattle.smf_model.specs.declared.held.Service.{Service}
+use Rattle.smf_model.specs.Laws.{AreApart, RowFollows, stays, steps, boots, moves}
+use Rattle.smf_fmri.specs.ByKey.{has_key}
+use Rattle.smf_model.specs.Look.{by_instance, changed, group, installed, instances, launch_of, service}
+use Rattle.smf_model.specs.Next.{Asked, greatest, greatest_snapshot, refused, accepted, found, asked_add_service, is_instance_of, asked_delete_service, is_in_use, leaving, asked_delete_instance, is_there, is_made, group_put, group_dropped, guarded, added_group, deleted_group, property_changed, put_or_denied, changed_group, enabling_of, enabled_for_good, enabled_for_now, asked_enable, asking, asked_if, asked_where, asked_restart, asked_clear, marked, asked_mark, with_snapshot, snapshot_of, number_of, named_snapshot, reverting, reverted_to, reverted, asked_revert, asked_edit, next_launch, asked_launch, asked, next}
 use Rattle.smf_model.proofs.LawOutcomes.{Outcome, nothing, goes, OfInstances, alike, joined, left, put, each, installed_closed, outcome}
 use Rattle.smf_world.specs.Safe.{is_committed}
-use Rattle.smf_world.proofs.CommitLists.{NonePass, none_kept, none_pass_without, all_same, still_same}
+use Rattle.smf_world.proofs.CommitLists.{NonePass, none_kept, none_pass_filter, all_same, still_same}
 
 abbrev pub is_plain : Command → Bool
 is_plain (commands.Edit (asked_for.AddInstance s name)) = false
@@ -192,19 +191,19 @@ same_number c n before after p (steps q is at g) = absurd (clash (is_plain c) p 
 same_number c n before after p (boots is b) = absurd (clash (is_plain c) p (ap is_plain is))
 same_number c n before after p (moves is from b) = absurd (clash (is_plain c) p (ap is_plain is))
 
-none_by : (h : Holdings) (c : Command) (xs : List Instance) (m : ℕ) → is_plain c ≡ true → OfInstances h c xs m → m ≡ h.next_instance → IsNumbered h → NonePass (is_committed h) xs
+none_by : (h : Holdings) (c : Command) (xs : List Instance) (m : ℕ) → is_plain c ≡ true → OfInstances h c xs m → m ≡ h.next_instance → AreApart (instances h) → NonePass (is_committed h) xs
 none_by h c xs m p (alike e f) next_one a = subst (NonePass (is_committed h)) (sym e) (all_same h a)
 none_by h c xs m p (joined name e f) next_one a = absurd (more h.next_instance (sym next_one ∙ f))
   where
     more : (n : ℕ) → n ≡ n + 1 → ⊥
     more n e = omega arith
-none_by h c xs m p (left n e f) next_one a = subst (NonePass (is_committed h)) (sym e) (none_pass_without (is_committed h) (has_number n) (instances h) (all_same h a))
+none_by h c xs m p (left n e f) next_one a = subst (NonePass (is_committed h)) (sym e) (none_pass_filter (is_committed h) (λ (x : Instance). not (has_key by_instance n x)) (instances h) (all_same h a))
 none_by h c xs m p (put n i x there number follows e f) next_one a = subst (NonePass (is_committed h)) (sym e) (still_same h n i x a there number (same_number c n i.row x.row p follows))
 none_by h c xs m p (each boot gs e f) next_one a = absurd (clash (is_plain c) p (ap is_plain boot))
 
-none_of : (h : Holdings) (c : Command) (k : Holdings) (r : Reply) → is_plain c ≡ true → Outcome h c k r → k.next_instance ≡ h.next_instance → IsNumbered h → NonePass (is_committed h) (instances k)
+none_of : (h : Holdings) (c : Command) (k : Holdings) (r : Reply) → is_plain c ≡ true → Outcome h c k r → k.next_instance ≡ h.next_instance → AreApart (instances h) → NonePass (is_committed h) (instances k)
 none_of h c k r p (nothing e x) next_one a = subst (λ (l : Holdings). NonePass (is_committed h) (instances l)) (sym e) (all_same h a)
 none_of h c k r p (goes g) next_one a = none_by h c (instances k) k.next_instance p g.instances next_one a
 
-pub none_committed : (h : Holdings) (c : Command) → is_plain c ≡ true → IsNumbered h → filter (is_committed h) (instances (next h c).0) ≡ []
+pub none_committed : (h : Holdings) (c : Command) → is_plain c ≡ true → AreApart (instances h) → filter (is_committed h) (instances (next h c).0) ≡ []
 none_committed h c p a = none_kept (is_committed h) (instances (next h c).0) (none_of h c (next h c).0 (next h c).1 p (outcome h c) (keeps_next h c p) a)

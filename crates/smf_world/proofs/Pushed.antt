@@ -1,15 +1,14 @@
 -- What was committed last, behind rows that are put on a trail.
-use Rattle.std.proofs.Common.{◌≡◌, ℕ, ◌==◌, Bool, true, false, cond, if◌then◌else◌, List, [], ◌∷◌, map, filter, Option, Some, None, option_map, refl, sym, ap, ◌∙◌, subst, eqb-true}
+use Rattle.std.proofs.Common.{◌≡◌, ℕ, ◌==◌, Bool, true, false, cond, if◌then◌else◌, List, [], ◌∷◌, map, filter, Option, Some, None, option_map, refl, sym, ap, ◌∙◌, subst}
 use Rattle.std.specs.Prelude.{find}
 use Rattle.smf_model.specs.declared.held.Instance.{Instance}
 use Rattle.smf_model.specs.Laws.{AreApart}
 use Rattle.smf_model.specs.Look.{has_number}
-use Rattle.std.specs.Ordering.{is_eq, nat_cmp}
 use Rattle.smf_world.specs.declared.item.Item.{Item}
 use Rattle.smf_world.specs.declared.item.Item.TheVariants.{Boot, Committed}
 use Rattle.smf_world.specs.Happens.{noted}
 use Rattle.smf_world.specs.Safe.{AlongTheDiagram, Last, RowFollows, behind_boot, commits, last_of, row_item}
-use Rattle.smf_world.proofs.CommitLists.{number_is, other_number, none_first, same, turned}
+use Rattle.smf_world.proofs.CommitLists.{has_other, none_first, number_is, same, turned}
 use Rattle.smf_world.proofs.Noting.{noted_more}
 
 -- ---- the commits alone
@@ -38,9 +37,9 @@ AreTracked t (i ∷ is) = (last_of i.number t ≡ Some (last_held i)) × AreTrac
 
 pub tracked_at : (t : List Item) (n : ℕ) (is : List Instance) (i : Instance) → AreTracked t is → find (has_number n) is ≡ Some i → last_of n t ≡ Some (last_held i)
 tracked_at t n [] i a e = absurd cc
-tracked_at t n (j ∷ js) i a e = by (is_eq (nat_cmp j.number n)) refl e (tracked_at t n js i a.1)
+tracked_at t n (j ∷ js) i a e = by (has_number n j) refl e (tracked_at t n js i a.1)
   where
-    by : (b : Bool) → is_eq (nat_cmp j.number n) ≡ b → cond b (Some j) (find (has_number n) js) ≡ Some i → (find (has_number n) js ≡ Some i → last_of n t ≡ Some (last_held i)) → last_of n t ≡ Some (last_held i)
+    by : (b : Bool) → has_number n j ≡ b → cond b (Some j) (find (has_number n) js) ≡ Some i → (find (has_number n) js ≡ Some i → last_of n t ≡ Some (last_held i)) → last_of n t ≡ Some (last_held i)
     by true is e ih =
         let j_is : j ≡ i = cc in
         subst (λ (m : ℕ). last_of m t ≡ Some (last_held i)) (number_is j.number n is) (subst (λ (x : Instance). last_of j.number t ≡ Some (last_held x)) j_is a.0)
@@ -60,8 +59,8 @@ past_other j n t e = rw e refl
 ready_more : (test : Instance → Bool) (j : Instance) (t : List Item) (is : List Instance) → find (has_number j.number) is ≡ None → AreReady test t is → AreReady test (row_item j ∷ t) is
 ready_more test j t [] n a = tt
 ready_more test j t (i ∷ is) n a =
-    let first = none_first (is_eq (nat_cmp i.number j.number)) i (find (has_number j.number) is) n in
-    (subst (IsReady test i) (sym (past_other j i.number t (other_number j.number i.number (turned i.number j.number first.0)))) a.0, ready_more test j t is first.1 a.1)
+    let first = none_first (has_number j.number i) i (find (has_number j.number) is) n in
+    (subst (IsReady test i) (sym (past_other j i.number t (has_other j.number i.number (turned i.number j.number first.0)))) a.0, ready_more test j t is first.1 a.1)
 
 -- a trail with these on it
 pub record ArePushed (is : List Instance) (t u : List Item) : Type 0 where
@@ -77,7 +76,7 @@ put_on j js t u n p =
     record {
       along = p.along;
       rows = (p.others j.number n ∙ at_row j t, p.rows);
-      others = λ m e. let first = none_first (is_eq (nat_cmp j.number m)) j (find (has_number m) js) e in p.others m first.1 ∙ past_other j m t (other_number j.number m first.0);
+      others = λ m e. let first = none_first (has_number m j) j (find (has_number m) js) e in p.others m first.1 ∙ past_other j m t (has_other j.number m first.0);
     }
 
 left_out : (j : Instance) (js : List Instance) (t u : List Item) → find (has_number j.number) js ≡ None → last_of j.number t ≡ Some (last_held j) → ArePushed js t u → ArePushed (j ∷ js) t u
@@ -85,7 +84,7 @@ left_out j js t u n e p =
     record {
       along = p.along;
       rows = (p.others j.number n ∙ e, p.rows);
-      others = λ m e. p.others m (none_first (is_eq (nat_cmp j.number m)) j (find (has_number m) js) e).1;
+      others = λ m e. p.others m (none_first (has_number m j) j (find (has_number m) js) e).1;
     }
 
 pub pushed : (test : Instance → Bool) (is : List Instance) (t : List Item) → AreApart is → AreReady test t is → AlongTheDiagram t → ArePushed is t (noted (map row_item (filter test is)) t)

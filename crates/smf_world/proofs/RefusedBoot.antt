@@ -1,19 +1,18 @@
 -- Behind a boot that is refused the trail does not show where rows began.
 use Rattle.std.proofs.Common.{◌≡◌, ◌≤◌, ◌==◌, ℕ, false, List, [], ◌∷◌, Option, None, refl, sym, subst, arith}
+use Rattle.std.specs.Ordering.{is_eq, nat_cmp}
 use Rattle.std.proofs.lemmas.Bool.Decides.{nat_tests}
 use Rattle.smf_state.specs.Rows.{applied, fresh}
 use Rattle.smf_state.specs.declared.state.State.TheVariants.{Uninitialized, Disabled}
 use Rattle.smf_model.specs.Holdings.{Holdings}
-use Rattle.smf_model.specs.Laws.{IsNumbered}
 use Rattle.smf_model.specs.declared.held.Instance.{Instance}
-use Rattle.smf_model.specs.Look.{by_instance, groups_of, installed}
-use Rattle.smf_model.proofs.LawLists.{differs}
-use Rattle.smf_model.proofs.LawNumbers.{first_numbers}
-use Rattle.smf_model.proofs.Names.{index_added}
-use Rattle.std.specs.Ordering.{is_eq, nat_cmp}
+use Rattle.smf_model.specs.Laws.{IsIndexed, IsNumbered}
+use Rattle.smf_model.specs.Look.{bare, groups_of, installed}
 use Rattle.smf_model.specs.Setting.{current, enabled, setting, startd}
 use Rattle.smf_model.specs.Shown.{view, rows_of}
 use Rattle.smf_model.specs.Next.{answer, asked, asked_boot, asked_edit, asked_launch, greatest, next}
+use Rattle.smf_model.proofs.LawNumbers.{first_numbers}
+use Rattle.smf_model.proofs.Names.{index_added}
 use Rattle.smf_engine.specs.Orders.{order}
 use Rattle.smf_restarter.specs.Replies.{changed, heard, listed, own_tick, ticked}
 use Rattle.smf_world.specs.declared.event.Event.{Event}
@@ -25,18 +24,19 @@ use Rattle.smf_world.specs.Happens.{committed, delivered, happens, replied}
 use Rattle.smf_world.specs.Runs.{run}
 use Rattle.smf_world.specs.Safe.{AlongTheDiagram, Last, RowFollows, commits}
 use Rattle.smf_world.specs.World.{found}
+use Rattle.smf_world.proofs.CommitLists.{has_not}
 use Rattle.smf_world.proofs.Pushed.{last_commits}
 
--- one instance, and a restarter that cannot be launched again
-abbrev pub only_one : Instance
-only_one = record { number = 1; name = 97 ∷ []; row = fresh startd; start = None; previous = None }
+abbrev alone : Instance
+alone = record { number = 1; name = 97 ∷ []; row = fresh startd; start = None; previous = None }
 
+-- one instance, and a restarter that cannot be launched again
 abbrev pub limited : Holdings
 limited = record {
   revision = 0;
   services = [];
-  instances = record { instance = only_one; groups = [] } ∷ [];
-  names = record { name = 97 ∷ []; number = 1 } ∷ [];
+  instances = record { instance = alone; groups = [] } ∷ [];
+  names = record { name = alone.name; number = alone.number } ∷ [];
   snapshots = [];
   launches = record { restarter = 98 ∷ []; count = greatest } ∷ [];
   next_instance = 2;
@@ -53,18 +53,25 @@ shows : commits (run schedule (happens (found limited) events.Boot)).trail ≡ C
 unfolding next asked asked_boot asked_launch asked_edit answer applied installed current enabled setting view rows_of groups_of order changed heard listed own_tick ticked committed delivered happens replied
 shows = refl
 
+is_other : (n : ℕ) → 2 ≤ n → (1 == n) ≡ false
+is_other n le = grind (arith, nat_tests)
+
 one_alone : (n : ℕ) → 2 ≤ n → is_eq (nat_cmp 1 n) ≡ false
-one_alone n le = differs by_instance 1 n (λ e. omega arith)
+one_alone n le = has_not 1 n (is_other n le)
+
+one_indexed : IsIndexed (bare limited.instances) limited.names
+one_indexed = index_added alone [] [] first_numbers.indexed refl refl
 
 pub limited_numbered : IsNumbered limited
-limited_numbered = record {
-  ordered = record { services = tt; instances = (tt, tt); names = (tt, tt); snapshots = tt; launches = (tt, tt) };
-  first = omega arith;
-  none_at_zero = refl;
-  instances = λ n le. rw (one_alone n le) refl;
-  snapshots = λ n le. refl;
-  indexed = index_added only_one [] [] first_numbers.indexed refl refl;
-}
+limited_numbered =
+    record {
+      ordered = record { services = tt; instances = (tt, tt); names = (tt, tt); snapshots = tt; launches = (tt, tt) };
+      first = omega arith;
+      none_at_zero = refl;
+      instances = λ n le. rw (one_alone n le) refl;
+      snapshots = λ n le. refl;
+      indexed = one_indexed;
+    }
 
 commits_along : (t : List Item) → AlongTheDiagram t → AlongTheDiagram (commits t)
 commits_along [] a = a

@@ -11,7 +11,7 @@ use Rattle.smf_model.specs.declared.held.Instance.{Instance}
 use Rattle.smf_model.specs.declared.held.View.{View}
 use Rattle.smf_model.specs.Holdings.{Holdings}
 use Rattle.smf_model.specs.Look.{groups_of, instances}
-use Rattle.smf_model.specs.Setting.{current}
+use Rattle.smf_model.specs.Setting.{Groups, current}
 use Rattle.smf_model.specs.Shown.{is_run_by, rows_of, view, view_item}
 use Rattle.smf_model.proofs.LawOutcomes.{current_row}
 use Rattle.smf_engine.specs.Orders.{newer, order, order_to, order_under, orders, orders_seen, what_of}
@@ -183,12 +183,12 @@ tracked_told t (i ∷ is) a = (was_in i.number i.row.number i.row.state t (last_
 row_as : (t : List Item) (i j : ℕ) (row new : Row) → j ≡ i → new.number ≡ row.number → new.state ≡ row.state → RowTold t i row → RowTold t j new
 row_as t i j row new e f g w = rw (e, f, g) w
 
-pub current_told : (t : List Item) (gs : _) (i : Instance) → RowTold t i.number i.row → RowTold t i.number (current gs i).row
+pub current_told : (t : List Item) (gs : Groups) (i : Instance) → RowTold t i.number i.row → RowTold t i.number (current gs i).row
 current_told t gs i w =
     let read = (current_row gs i).row.same in
     row_as t i.number i.number i.row (current gs i).row refl (ap (λ (r : Row). r.number) read) (ap (λ (r : Row). r.state) read) w
 
-all_current : (t : List Item) (gs : _) (is : List Instance) → InstancesTold t is → InstancesTold t (map (current gs) is)
+all_current : (t : List Item) (gs : Groups) (is : List Instance) → InstancesTold t is → InstancesTold t (map (current gs) is)
 all_current t gs [] a = tt
 all_current t gs (i ∷ is) a =
     let read = current_row gs i in

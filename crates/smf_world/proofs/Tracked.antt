@@ -12,9 +12,9 @@ use Rattle.smf_model.specs.declared.held.Instance.{Instance}
 use Rattle.smf_model.specs.History.{is_revised}
 use Rattle.smf_model.specs.Holdings.{Holdings}
 use Rattle.smf_model.specs.Laws.{Follows, IsNumbered, RowFollows as GoesOnBy, boots, moves, stays, steps}
-use Rattle.smf_model.specs.Look.{groups_of, instance, instances}
+use Rattle.smf_model.specs.Look.{instance, instances}
+use Rattle.smf_model.specs.Next.{booted, next}
 use Rattle.smf_model.specs.Setting.{Groups}
-use Rattle.smf_model.specs.Next.{booted, next, persistent}
 use Rattle.smf_model.proofs.LawNumbers.{instance_gone, instances_rise, stays_numbered}
 use Rattle.smf_model.proofs.LawOutcomes.{apart, next_revision}
 use Rattle.smf_model.proofs.LawRows.{follows_next}
@@ -27,7 +27,7 @@ use Rattle.smf_world.specs.Runs.{run}
 use Rattle.smf_world.specs.Safe.{AlongTheDiagram, Last, RowFollows, behind_boot, commits, is_committed, is_other_number, last_of, made_items, row_item}
 use Rattle.smf_world.specs.World.{World, found}
 use Rattle.smf_world.proofs.CommitLists.{AreFound, at_next, at_same, found_all, no_such}
-use Rattle.smf_world.proofs.ItemsMade.{boot_leaves}
+use Rattle.smf_world.proofs.ItemsMade.{boot_leaves, lasting}
 use Rattle.smf_world.proofs.Lasting.{Fact, IsKept, Of, of_booted, of_run}
 use Rattle.smf_world.proofs.Logged.{commits_shown, stays as unrevised}
 use Rattle.smf_world.proofs.Noting.{noted_more}
@@ -134,7 +134,7 @@ boot_tracked h t numbered e before fresh along =
     let is_k : IsNumbered k = stays_numbered h commands.Boot numbered in
     let xs : List Item = map row_item (filter (is_committed h) (instances k)) in
     let ready : AreReady (is_committed h) (items.Boot ∷ t) (instances k) =
-    subst (AreReady (is_committed h) (items.Boot ∷ t)) (sym (boot_leaves h numbered e)) (boots_ready h (persistent (groups_of h)) t (instances h) (found_all (instances h) (apart h numbered)) before) in
+    subst (AreReady (is_committed h) (items.Boot ∷ t)) (sym (boot_leaves h (apart h numbered) e)) (boots_ready h (lasting h) t (instances h) (found_all (instances h) (apart h numbered)) before) in
     subst (IsTracked k) (sym (noted_more items.Boot xs t))
     (tracks h k (items.Boot ∷ t) (noted xs (items.Boot ∷ t)) is_k (instances_rise h commands.Boot) (λ n le. ap (λ (o : Option Last). option_map behind_boot o) (fresh n le)) (pushed (is_committed h) (instances k) (items.Boot ∷ t) (apart k is_k) ready along))
 

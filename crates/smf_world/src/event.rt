@@ -1,3 +1,4 @@
+use smf_contract::Exit;
 use smf_fmri::InstanceFmri;
 use smf_model::Edit;
 
@@ -14,8 +15,7 @@ pub enum SpawnAnswer {
 #[derive(Clone, Copy, Debug, PartialEq, Eq)]
 pub enum ProcessEvent {
     Fork,
-    /// With this code.
-    Exit(u8),
+    Exit(Exit),
     Core,
     Signal,
     Hwerr,

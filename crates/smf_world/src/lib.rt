@@ -1,5 +1,5 @@
 //! The written machine: the world, what each event makes of it, the schedule, and why the trail is safe.
-//! Rooms: `item` (the trail), `event`, `schedule`, `law` (what no list of events breaks). Nothing here runs but the
+//! Modules: `item` (the trail), `event`, `schedule`, `law` (what no list of events breaks). Nothing here runs but the
 //! types of items and events.
 #![tactic(auto)]
 
