@@ -38,6 +38,3 @@ pub use law::{
 pub use plain::Plain;
 pub use setting::{Setting, startd};
 pub use tables::Tables;
-
-#[cfg(test)]
-mod tests;

@@ -13,6 +13,3 @@ mod schedule;
 
 pub use fault::NodeFault;
 pub use node::Node;
-
-#[cfg(test)]
-mod tests;

@@ -21,6 +21,3 @@ pub use script::run_script;
 pub use session::run_line;
 pub use text::trail_text;
 pub use writer::ScriptWriter;
-
-#[cfg(test)]
-mod tests;

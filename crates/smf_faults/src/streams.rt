@@ -1,6 +1,6 @@
-use super::*;
 use smf_model::{NoJournal, Plain};
 use smf_node::Node;
+use smf_script::{NotedReader, ScriptFault, ScriptReader, run_script};
 use std::alloc::Global;
 use std::io::{BufRead, BufReader, Read, Write};
 use std::test::Fail;
@@ -14,9 +14,14 @@ fn run_in_memory<R: ScriptReader, W: Write>(
 ) -> Result<u8, ScriptFault> {
     let mut node = match Node::new(alloc, Plain::new(alloc, NoJournal {})) {
         Ok(node) => node,
-        Err((fault, _)) => return Err(ScriptFault::Node(fault)),
+        Err((fault, repository)) => {
+            let NoJournal {} = repository.into_journal();
+            return Err(ScriptFault::Node(fault));
+        }
     };
-    run_script(alloc, reader, writer, &mut node)
+    let end = run_script(alloc, reader, writer, &mut node);
+    let NoJournal {} = node.into_repository().into_journal();
+    end
 }
 
 /// How a script ended.
