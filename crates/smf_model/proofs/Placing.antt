@@ -20,7 +20,7 @@ none_first false x o e = (refl, e)
 
 -- ---- in place of one
 
-over_none : (x : Instance) (ys : List Instance) → lookup by_instance ys x.number ≡ None → put_over x ys ≡ ys
+pub over_none : (x : Instance) (ys : List Instance) → lookup by_instance ys x.number ≡ None → put_over x ys ≡ ys
 over_none x [] e = refl
 over_none x (y ∷ ys) e =
     let first = none_first (has_key by_instance x.number y) y (lookup by_instance ys x.number) e in

@@ -181,6 +181,13 @@ abbrev pub deleted_group : Holdings → Owner → List ℕ → Option GroupRecor
 deleted_group h owner name None = refused NoSuch
 deleted_group h owner name (Some g) = accepted h (group_dropped h owner name ∷ []) Done
 
+-- what an edit of a group asks, where it is given the owner's group of that name
+abbrev pub asked_add_group : Holdings → Owner → GroupRecord → Asked
+asked_add_group h owner g = guarded h owner g.name (added_group h owner g (group h owner g.name))
+
+abbrev pub asked_delete_group : Holdings → Owner → List ℕ → Asked
+asked_delete_group h owner name = guarded h owner name (deleted_group h owner name (group h owner name))
+
 abbrev pub property_changed : PropertyChange → GroupRecord → Result GroupRecord GroupFault
 property_changed (properties.Set name kind values) g = edits.set name kind values g
 property_changed (properties.AddValue name kind value) g = edits.add_value name kind value g
@@ -194,6 +201,9 @@ put_or_denied h owner (Ok g) = accepted h (group_put h owner g ∷ []) Done
 abbrev pub changed_group : Holdings → Owner → PropertyChange → Option GroupRecord → Asked
 changed_group h owner change None = refused NoSuch
 changed_group h owner change (Some g) = put_or_denied h owner (property_changed change g)
+
+abbrev pub asked_property : Holdings → Owner → List ℕ → PropertyChange → Asked
+asked_property h owner name change = guarded h owner name (changed_group h owner change (group h owner name))
 
 -- ---- enable and disable
 
@@ -225,10 +235,16 @@ group_or_new h n name non_persistent = unwrap_or (group h (owners.Instance n) na
 abbrev pub group_enabled : Bool → GroupRecord → Result GroupRecord GroupFault
 group_enabled b g = edits.put_property (enabled_property b) g
 
+abbrev pub asked_for_good : Holdings → ℕ → Bool → Asked
+asked_for_good h n b = enabled_for_good h n (group_enabled b (group_or_new h n general false))
+
+abbrev pub asked_for_now : Holdings → ℕ → Bool → Asked
+asked_for_now h n b = enabled_for_now h n (group_enabled b (group_or_new h n general_ovr true))
+
 abbrev pub asked_enable : Holdings → ℕ → Bool → Bool → Option Instance → Asked
 asked_enable h n b temporary None = refused NoSuch
-asked_enable h n b false (Some i) = enabled_for_good h n (group_enabled b (group_or_new h n general false))
-asked_enable h n b true (Some i) = enabled_for_now h n (group_enabled b (group_or_new h n general_ovr true))
+asked_enable h n b false (Some i) = asked_for_good h n b
+asked_enable h n b true (Some i) = asked_for_now h n b
 
 -- ---- what is asked of an instance
 

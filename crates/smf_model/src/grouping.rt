@@ -2,7 +2,7 @@ ghost use Rattle.std.specs.Int.RustNames.{bit_and};
 ghost use Rattle.std.specs.Prelude.{◌≡◌, ◌==◌, false, true, ◌∷◌, [], IfOk, None, count_by, Ok};
 ghost use Rattle.smf_value.specs.Edits.{Answers};
 ghost use Rattle.smf_model.specs.Look.{group, groups_of};
-ghost use Rattle.smf_model.specs.Next.{accepted, added_group, asked_enable, changed_group, deleted_group, enabled_for_good, enabled_for_now, enabling_of, found, group_dropped, group_enabled, group_or_new, group_put, guarded, has_room, is_other_group, new_group, property_changed};
+ghost use Rattle.smf_model.specs.Next.{accepted, added_group, asked_add_group, asked_delete_group, asked_for_good, asked_for_now, asked_property, asked_enable, changed_group, deleted_group, enabled_for_good, enabled_for_now, enabling_of, found, group_dropped, group_enabled, group_or_new, group_put, guarded, has_room, is_other_group, new_group, property_changed};
 ghost use Rattle.smf_model.specs.Setting.{general, general_ovr};
 
 use crate::asking::{Asked, found, is_made, is_there, one, refused};
@@ -67,7 +67,7 @@ pub(crate) fn groups_of(
 }
 
 pub(crate) fn add_group(alloc: Global, tables: &Tables, owner: &Owner, new: Group) -> Asked
-    ensures { IfOk result (λ r. r ≡ guarded tables.now owner.now new.name (added_group tables.now owner.now new (group tables.now owner.now new.name))) }
+    ensures { IfOk result (λ r. r ≡ asked_add_group tables.now owner.now new) }
 {
     if !is_there(tables, owner) {
         return refused(alloc, Reply::NoSuch);
@@ -112,7 +112,7 @@ fn drop_group(alloc: Global, tables: &Tables, owner: &Owner, name: &Name) -> Ask
 }
 
 pub(crate) fn delete_group(alloc: Global, tables: &Tables, owner: &Owner, name: &Name) -> Asked
-    ensures { IfOk result (λ r. r ≡ guarded tables.now owner.now name.now (deleted_group tables.now owner.now name.now (group tables.now owner.now name.now))) }
+    ensures { IfOk result (λ r. r ≡ asked_delete_group tables.now owner.now name.now) }
 {
     if !is_there(tables, owner) {
         return refused(alloc, Reply::NoSuch);
@@ -133,7 +133,7 @@ pub(crate) fn change_property(
     name: &Name,
     change: &PropertyChange,
 ) -> Asked
-    ensures { IfOk result (λ r. r ≡ guarded tables.now owner.now name.now (changed_group tables.now owner.now change.now (group tables.now owner.now name.now))) }
+    ensures { IfOk result (λ r. r ≡ asked_property tables.now owner.now name.now change.now) }
 {
     if !is_there(tables, owner) {
         return refused(alloc, Reply::NoSuch);
@@ -217,7 +217,7 @@ fn group_or_new(
 
 /// Enables or disables an instance for good: `general/enabled`, and no `general_ovr`.
 fn enable_for_good(alloc: Global, tables: &Tables, number: u64, enabled: bool) -> Asked
-    ensures { IfOk result (λ r. r ≡ enabled_for_good tables.now number (group_enabled enabled (group_or_new tables.now number general false))) }
+    ensures { IfOk result (λ r. r ≡ asked_for_good tables.now number enabled) }
 {
     let name = Name::new(alloc, "general")?;
     let general = group_or_new(alloc, tables, number, name, false)?;
@@ -257,7 +257,7 @@ fn enabling(
 
 /// Enables or disables an instance until the next boot: `general_ovr/enabled`.
 fn enable_for_now(alloc: Global, tables: &Tables, number: u64, enabled: bool) -> Asked
-    ensures { IfOk result (λ r. r ≡ enabled_for_now tables.now number (group_enabled enabled (group_or_new tables.now number general_ovr true))) }
+    ensures { IfOk result (λ r. r ≡ asked_for_now tables.now number enabled) }
 {
     let name = Name::new(alloc, "general_ovr")?;
     let present = group_or_new(alloc, tables, number, name, true)?;

@@ -1,5 +1,5 @@
 ghost use Rattle.std.specs.Option.{option_copied};
-ghost use Rattle.std.specs.Prelude.{◌≡◌, ◌+◌, ◌<◌, ◌≤◌, length, ℕ, IfOk, OnOk};
+ghost use Rattle.std.specs.Prelude.{◌≡◌, ◌+◌, ◌<◌, ◌≤◌, length, ℕ, IfOk, OnErr, OnOk};
 ghost use Rattle.smf_fmri.specs.ByKey.{Rises, lookup};
 ghost use Rattle.smf_model.specs.Look.{by_entry, by_name, by_snapshot, changed, empty, installed, instance, launch_of, named, others_of, owned, put_new, service, snapshot, with_groups};
 ghost use Rattle.smf_model.specs.Tables.{HasRoom, held_in};
@@ -8,7 +8,7 @@ use crate::change::Change;
 use crate::held::{
     EntryPart, Instance, InstanceEntry, InstanceName, Launch, Owner, Service, Snapshot,
 };
-use smf_fmri::{InstanceFmri, Number, Ordered, ServiceFmri, Table};
+use smf_fmri::{InstanceFmri, Items, Number, Ordered, ServiceFmri, Table};
 use smf_value::Group;
 use std::alloc::{AllocError, Global};
 use std::marker::Model;
@@ -169,6 +169,18 @@ impl Tables {
             Owner::Service(name) => self.service(name).map(|service| &service.groups),
             Owner::Instance(number) => self.entry(*number).map(|entry| &entry.groups),
         }
+    }
+}
+
+impl Tables {
+    /// Makes changes, as a store does with what it reads. Where memory runs out what is held is as it was.
+    pub fn make(&mut self, changes: Items<Change>) -> Result<(), AllocError>
+        ensures ok { OnOk result (self.new ≡ installed self.old changes) }
+        ensures err { OnErr result (self.new ≡ self.old) }
+    {
+        reserve(&mut self.lists, changes.len())?;
+        install(&mut self.lists, changes.into_vec());
+        Ok(())
     }
 }
 
