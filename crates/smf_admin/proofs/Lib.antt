@@ -1,3 +1,4 @@
 pub mod Places
 pub mod Order
 pub mod Picking
+pub mod Named

@@ -70,7 +70,7 @@ answer_by pattern word view at count len l c (inr h) =
     let within : nat_lt at len ≡ true = lt-ltb at len (omega (arith, h.2)) in
     rw within (only_by (count == 1) pattern word view h.0 h.1 at count refl c h.3 h.4)
 
-picked_answers : (pattern word : List ℕ) (view : List InstanceName) → IsAnswer pattern word view (asked_by word view (picked pattern (names_of view)))
+pub picked_answers : (pattern word : List ℕ) (view : List InstanceName) → IsAnswer pattern word view (asked_by word view (picked pattern (names_of view)))
 picked_answers pattern word view =
     answer_by pattern word view (position_or_len (matches pattern) (names_of view)) (count_by (matches pattern) (names_of view)) (length (names_of view))
     (length-names view) (counted (matches pattern) view) (first (matches pattern) view)

@@ -19,8 +19,11 @@ use Rattle.smf_admin.specs.declared.asking.Asked.TheVariants as answers
 abbrev pub names_of : List InstanceName → List (List ℕ)
 names_of view = map (λ i. i.name) view
 
+abbrev pub enabling : InstanceName → Asked
+enabling item = answers.Edit (edits.Enable item.number true false)
+
 abbrev pub asked_at : List ℕ → Option InstanceName → Asked
-asked_at word (Some item) = answers.Edit (edits.Enable item.number true false)
+asked_at word (Some item) = enabling item
 asked_at word None = answers.NoMatch word
 
 abbrev pub asked_by : List ℕ → List InstanceName → Result ℕ PickFault → Asked

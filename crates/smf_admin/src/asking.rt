@@ -1,8 +1,10 @@
 ghost use Rattle.std.specs.List.{list_any};
-ghost use Rattle.std.specs.Prelude.{◌≡◌, IfOk, map};
-ghost use Rattle.smf_admin.specs.Asking.{asked_by, asked_of, commands_of, is_flag, names_of};
+ghost use Rattle.std.specs.Option.{option_copied, option_to_list};
+ghost use Rattle.std.specs.Prelude.{◌≡◌, IfOk, IfSome, Ok, map};
+ghost use Rattle.smf_fmri.specs.Name.{read_pattern};
+ghost use Rattle.smf_admin.specs.Asking.{asked_at, asked_by, asked_of, commands_of, enabling, is_flag, matching, names_of};
 
-use smf_fmri::{Fmri, FmriFault, Items, Pattern, PickFault, Text, pick};
+use smf_fmri::{Fmri, FmriFault, InstanceFmri, Items, Pattern, PickFault, Table, Text, pick};
 use smf_model::{Edit, InstanceName};
 use std::alloc::{AllocError, Global};
 
@@ -26,6 +28,25 @@ fn names_of(alloc: Global, view: &[InstanceName]) -> Result<Vec<Fmri>, AllocErro
     Ok(names)
 }
 
+fn enabling(item: &InstanceName) -> Asked
+    ensures { result ≡ enabling item.now }
+{
+    Asked::Edit(Edit::Enable {
+        instance: item.number,
+        enabled: true,
+        temporary: false,
+    })
+}
+
+fn asked_at(word: &Text, item: Option<&InstanceName>) -> Result<Asked, AllocError>
+    ensures { IfOk result (λ one. one ≡ asked_at word.now (option_copied item.entry)) }
+{
+    match item {
+        Some(item) => Ok(enabling(item)),
+        None => Ok(Asked::NoMatch(word.clone()?)),
+    }
+}
+
 fn asked_by(
     word: &Text,
     view: &[InstanceName],
@@ -35,11 +56,7 @@ fn asked_by(
 {
     match picked {
         Ok(place) => match view.get(place) {
-            Some(item) => Ok(Asked::Edit(Edit::Enable {
-                instance: item.number,
-                enabled: true,
-                temporary: false,
-            })),
+            Some(item) => Ok(enabling(item)),
             None => Ok(Asked::NoMatch(word.clone()?)),
         },
         Err(PickFault::NoMatch) => Ok(Asked::NoMatch(word.clone()?)),
@@ -47,15 +64,13 @@ fn asked_by(
     }
 }
 
-/// What is asked by a word that stands for an instance, over the names of instances.
+/// What is asked by a word that stands for an instance, by a look at all names.
 #[tactic(auto, unfolding(crate::specs::Asking::asked_of))]
-fn asked_of(
+fn asked_of_all(
     alloc: Global,
-    names: &[Fmri],
     view: &[InstanceName],
     word: &Text,
 ) -> Result<Asked, AllocError>
-    requires { names.now ≡ names_of view.now }
     ensures { IfOk result (λ one. one ≡ asked_of view.now word.now) }
 {
     let pattern = match Pattern::parse(alloc, word.as_str()) {
@@ -63,7 +78,46 @@ fn asked_of(
         Err(FmriFault::Memory) => return Err(AllocError),
         Err(_) => return Ok(Asked::NoMatch(word.clone()?)),
     };
-    asked_by(word, view, pick(&pattern, names))
+    let names = names_of(alloc, view)?;
+    asked_by(word, view, pick(&pattern, &names))
+}
+
+/// The instance that a word names in full.
+fn full_name(alloc: Global, word: &Text) -> Result<Option<InstanceFmri>, AllocError>
+    ensures { IfOk result (λ found. IfSome found (λ name. read_pattern word.now ≡ Ok name)) }
+{
+    match Fmri::parse(alloc, word.as_str()) {
+        Ok(name) => Ok(InstanceFmri::of(name)),
+        Err(FmriFault::Memory) => Err(AllocError),
+        Err(_) => Ok(None),
+    }
+}
+
+/// The instance of a full name, the only one that the name matches.
+fn match_of<'a>(view: &'a Table<InstanceName>, name: &InstanceFmri) -> Option<&'a InstanceName>
+    ensures { matching name.now view.now.items ≡ option_to_list (option_copied result) }
+{
+    let names = view.as_slice();
+    let first = names.first()?;
+    let last = names.last()?;
+    // All names stand between the first and the last, so they begin as these do.
+    let _ends = (first.name.print(), last.name.print());
+    let _own = name.print();
+    view.get(name)
+}
+
+/// What is asked by a word that stands for an instance, over the names of instances. A full name is looked up.
+fn asked_of(
+    alloc: Global,
+    view: &Table<InstanceName>,
+    word: &Text,
+) -> Result<Asked, AllocError>
+    ensures { IfOk result (λ one. one ≡ asked_of view.now.items word.now) }
+{
+    match full_name(alloc, word)? {
+        Some(name) => asked_at(word, match_of(view, &name)),
+        None => asked_of_all(alloc, view.as_slice(), word),
+    }
 }
 
 /// A dash with something behind it.
@@ -85,14 +139,13 @@ fn has_flag(words: &[Text]) -> bool
 fn asked_all(
     alloc: Global,
     words: &[Text],
-    view: &[InstanceName],
+    view: &Table<InstanceName>,
 ) -> Result<Items<Asked>, AllocError>
-    ensures { IfOk result (λ all. all ≡ map (asked_of view.now) words.now) }
+    ensures { IfOk result (λ all. all ≡ map (asked_of view.now.items) words.now) }
 {
-    let names = names_of(alloc, view)?;
     let mut all = Items::new(alloc);
     for word in words {
-        all.push(asked_of(alloc, &names, view, word)?)?;
+        all.push(asked_of(alloc, view, word)?)?;
     }
     Ok(all)
 }
@@ -102,9 +155,9 @@ fn asked_all(
 pub fn commands_of(
     alloc: Global,
     words: &[Text],
-    view: &[InstanceName],
+    view: &Table<InstanceName>,
 ) -> Result<Option<Items<Asked>>, AllocError>
-    ensures { IfOk result (λ all. all ≡ commands_of view.now words.now) }
+    ensures { IfOk result (λ all. all ≡ commands_of view.now.items words.now) }
 {
     let [command, patterns @ ..] = words else {
         return Ok(None);

@@ -9,7 +9,7 @@ use smf_admin::{
     Asked, commands_of, header_of, no_match_text, several_text, svcadm_usage, svcs_text, svcs_usage,
 };
 use smf_engine::{Engine, orders};
-use smf_fmri::{Bytes, Items};
+use smf_fmri::{Bytes, Items, Table};
 use smf_model::{Edit, InstanceName, View};
 use smf_state::{Row, ViewItem};
 use smf_wire::{Order, What};
@@ -155,13 +155,15 @@ fn put_asked(alloc: Global, out: &mut String, all: &[Asked]) -> Result<(), Alloc
 }
 
 /// The names of a view, with their numbers.
-fn names_of(alloc: Global, items: &[ViewItem]) -> Result<Vec<InstanceName>, AllocError> {
-    let mut names = Vec::new(alloc);
+fn names_of(alloc: Global, items: &[ViewItem]) -> Result<Table<InstanceName>, AllocError> {
+    let mut names = Table::new(alloc);
     for item in items {
-        names.push(InstanceName {
-            name: item.name.clone()?,
+        let name = item.name.clone()?;
+        names.reserve(1)?;
+        names.put(InstanceName {
+            name,
             number: item.instance,
-        })?;
+        });
     }
     Ok(names)
 }

@@ -18,7 +18,7 @@ use crate::setting::enabled;
 use crate::showing::{all_read, children, composed_groups, rows_of, shown_groups};
 use crate::tables::{Lists, Tables, install, reserve};
 use crate::viewing::{rows, snapshot_number, snapshots_of, view};
-use smf_fmri::{InstanceFmri, Items, Number, Ordered, ServiceFmri};
+use smf_fmri::{InstanceFmri, Items, Number, Ordered, ServiceFmri, Table};
 use smf_snap::SnapshotName;
 use smf_state::ViewItem;
 use smf_value::Group;
@@ -140,8 +140,8 @@ impl<J: Journal> Plain<J> {
     }
 
     /// The names of instances with their numbers, by name.
-    pub fn names(&self) -> &[InstanceName]
-        ensures { result.now ≡ self.now.held.names }
+    pub fn names(&self) -> &Table<InstanceName>
+        ensures { result.now.items ≡ self.now.held.names }
     {
         self.tables.names()
     }

@@ -76,11 +76,10 @@ impl Tables {
     }
 
     /// Names with numbers, by name.
-    pub fn names(&self) -> &[InstanceName]
-        ensures all { result.now ≡ self.now.names }
-        ensures rises { Rises by_name self.now.names }
+    pub fn names(&self) -> &Table<InstanceName>
+        ensures { result.now.items ≡ self.now.names }
     {
-        self.lists.names.as_slice()
+        &self.lists.names
     }
 
     pub fn launches(&self) -> &[Launch]
