@@ -15,28 +15,13 @@ replaced_here : {X : Type 0} (test : X → Bool) (x : X) (xs : List X) → posit
 replaced_here test x [] low = absurd (omega arith)
 replaced_here test x (y ∷ ys) low = replaced_by (test y) test x y ys refl (replaced_here test x ys) low
 
-past_by : {X : Type 0} (v : Bool) (test : X → Bool) (y : X) (ys : List X) → test y ≡ v → length (y ∷ ys) ≤ position_or_len test (y ∷ ys) → (v ≡ false) × (length ys ≤ position_or_len test ys)
-past_by true test y ys e high = let no : length (y ∷ ys) ≤ 0 = rw e at high in absurd (omega arith)
-past_by false test y ys e high = let more : length (y ∷ ys) ≤ 1 + position_or_len test ys = rw e at high in (refl, omega arith)
-
-replaced_past : {X : Type 0} (test : X → Bool) (x : X) (xs : List X) → length xs ≤ position_or_len test xs → replaced test x xs ≡ xs
-replaced_past test x [] high = refl
-replaced_past test x (y ∷ ys) high = let past = past_by (test y) test y ys refl high in rw past.0 (ap (λ l. y ∷ l) (replaced_past test x ys past.1))
-
 found_at : (v : Bool) (p n k : ℕ) → nat_lt p n ≡ v → cond v (Some p) None ≡ Some k → (p < n) × (p ≡ k)
 found_at true p n k e h = (ltb-true p n e, cc)
 found_at false p n k e h = cc
 
-found_nowhere : (v : Bool) (p n : ℕ) → nat_lt p n ≡ v → cond v (Some p) None ≡ None → n ≤ p
-found_nowhere true p n e h = cc
-found_nowhere false p n e h = ltb-false p n e
-
 -- at the place of the first that passes
 pub replaced_at : {X : Type 0} (test : X → Bool) (x : X) (xs : List X) (k : ℕ) → position test xs ≡ Some k → replaced test x xs ≡ slice_set xs k x
 replaced_at test x xs k h = let at = found_at _ (position_or_len test xs) (length xs) k refl h in replaced_here test x xs at.0 ∙ ap (λ i. slice_set xs i x) at.1
-
-pub replaced_none : {X : Type 0} (test : X → Bool) (x : X) (xs : List X) → position test xs ≡ None → replaced test x xs ≡ xs
-replaced_none test x xs h = replaced_past test x xs (found_nowhere _ (position_or_len test xs) (length xs) refl h)
 
 -- where a clone equals its source, the clones of a list are the list
 pub same_items : {X : Type 0} (xs ys : List X) → AllZip (λ x y. y ≡ x) xs ys → ys ≡ xs

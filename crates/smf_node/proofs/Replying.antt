@@ -8,6 +8,7 @@ use Rattle.std.specs.Option.{option_map_or}
 use Rattle.std.specs.Prelude.{find, map, reverse}
 use Rattle.smf_model.specs.Holdings.{Holdings}
 use Rattle.smf_model.specs.Look.{replaced}
+use Rattle.smf_model.proofs.Lists.{replaced_at}
 use Rattle.smf_model.proofs.OwnName.{some_is}
 use Rattle.smf_restarter.specs.declared.reply.Reply.{Reply}
 use Rattle.smf_restarter.specs.Knowledge.{Knowledge}
@@ -85,26 +86,6 @@ same_name (x ∷ a) (y ∷ b) e = names_by (nat_eq x y) x y a b refl e (same_nam
   where
     names_by : (v : Bool) (x y : ℕ) (a b : List ℕ) → nat_eq x y ≡ v → pointwise nat_eq (x ∷ a) (y ∷ b) ≡ true → (pointwise nat_eq a b ≡ true → a ≡ b) → x ∷ a ≡ y ∷ b
     names_by v x y a b f e h = grind (arith, common_steps)
-
--- ---- one in place of another
-
-replaced_by : {X : Type 0} (v : Bool) (test : X → Bool) (x y : X) (ys : List X) → test y ≡ v → (position_or_len test ys < length ys → replaced test x ys ≡ slice_set ys (position_or_len test ys) x)
-    → position_or_len test (y ∷ ys) < length (y ∷ ys) → cond v (x ∷ ys) (y ∷ replaced test x ys) ≡ slice_set (y ∷ ys) (position_or_len test (y ∷ ys)) x
-replaced_by true test x y ys e h low = rw e refl
-replaced_by false test x y ys e h low =
-    let next : 1 + position_or_len test ys ≡ suc (position_or_len test ys) = omega arith in
-    let less : 1 + position_or_len test ys < length (y ∷ ys) = rw e at low in
-    rw (e, next) (ap (λ l. y ∷ l) (h (omega arith)))
-
-replaced_here : {X : Type 0} (test : X → Bool) (x : X) (xs : List X) → position_or_len test xs < length xs → replaced test x xs ≡ slice_set xs (position_or_len test xs) x
-replaced_here test x [] low = absurd (omega arith)
-replaced_here test x (y ∷ ys) low = replaced_by (test y) test x y ys refl (replaced_here test x ys) low
-
--- at the place of the first that passes
-replaced_at : {X : Type 0} (test : X → Bool) (x : X) (xs : List X) (k : ℕ) → position test xs ≡ Some k → replaced test x xs ≡ slice_set xs k x
-replaced_at test x xs k h =
-    let at = placed_by _ (position_or_len test xs) (length xs) k refl h in
-    replaced_here test x xs at.0 ∙ ap (λ i. slice_set xs i x) at.1
 
 -- what a reply makes of the world, the restarter being the one at a place
 pub replied_is : (h : Holdings) (p q : Parts) (name : List ℕ) (at : ℕ) (k : Knowledge) (r : Reply) → position (is_named name) p.restarters.items ≡ Some at → slice_get p.restarters.items at ≡ Some k → is_named name k ≡ true
