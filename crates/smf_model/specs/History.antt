@@ -1,5 +1,5 @@
 -- The history of a repository: the commands that made its revisions, newest first, and each value that they made.
-use Rattle.std.specs.Prelude.{◌≡◌, ℕ, ◌+◌, ◌==◌, not, List, [], ◌∷◌, Bool, true, false, Option, find}
+use Rattle.std.specs.Prelude.{◌≡◌, ℕ, ◌+◌, ◌≤◌, ◌==◌, not, List, [], ◌∷◌, Bool, true, false, Option, find, IsSome}
 use Rattle.smf_model.specs.declared.command.Command.{Command}
 use Rattle.smf_model.specs.Holdings.{Holdings}
 use Rattle.smf_model.specs.Next.{next}
@@ -64,6 +64,10 @@ has_revision n h = h.revision == n
 -- the value of a revision
 abbrev pub value_at : History → ℕ → Option Holdings
 value_at y n = find (has_revision n) (values y)
+
+-- each revision from the first on has its value
+abbrev pub HasValueAt : Holdings → List Command → ℕ → Type 0
+HasValueAt h cs n = h.revision ≤ n → n ≤ (made h cs).revision → IsSome (value_at (history h cs) n)
 
 -- ---- in turn
 

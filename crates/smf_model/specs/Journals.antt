@@ -1,6 +1,8 @@
 -- What a journal is told, and what a crash may leave in it.
-use Rattle.std.specs.Prelude.{◌≡◌, ◌⊎◌, List, Option, Some}
+use Rattle.std.specs.Prelude.{◌≡◌, ◌⊎◌, ◌<◌, List, length, Option, Some}
 use Rattle.smf_model.specs.declared.change.Change.{Change}
+use Rattle.smf_model.specs.declared.journal.RepoFault.{RepoFault}
+use Rattle.smf_model.specs.declared.journal.RepoFault.TheVariants.{Memory}
 use Rattle.smf_model.specs.Holdings.{Holdings}
 use Rattle.smf_model.specs.Look.{installed}
 
@@ -23,3 +25,7 @@ LeavesOldOrTold stands could old new changes = (h : Holdings) → stands old h �
 -- a crash leaves this value
 abbrev pub LeavesOnly : {J : Type 0} → (J → Option Holdings → Type 0) → J → Holdings → Type 0
 LeavesOnly could journal h = (found : Option Holdings) → could journal found → found ≡ Some h
+
+-- memory ran out, or changes could not be written
+abbrev pub IsUnwritten : (RepoFault → Type 0) → List Change → RepoFault → Type 0
+IsUnwritten fails changes fault = (fault ≡ Memory) ⊎ (fails fault × (0 < length changes))

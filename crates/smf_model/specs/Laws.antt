@@ -1,5 +1,5 @@
 -- What holds of every repository and every command.
-use Rattle.std.specs.Prelude.{◌≡◌, ◌⊎◌, ℕ, ◌+◌, ◌≤◌, List, [], ◌∷◌, Bool, true, false, Option, Some, None, find}
+use Rattle.std.specs.Prelude.{◌≡◌, ◌⊎◌, ℕ, ◌+◌, ◌<◌, ◌≤◌, List, [], ◌∷◌, Bool, true, false, Option, Some, None, find}
 use Rattle.smf_state.specs.declared.row.Row.{Row}
 use Rattle.smf_state.specs.declared.state.State.TheVariants.{Uninitialized, Disabled}
 use Rattle.smf_state.specs.declared.step.Proposal.{Proposal}
@@ -12,8 +12,10 @@ use Rattle.smf_model.specs.declared.command.Reply.TheVariants.{Made, Granted, Do
 use Rattle.smf_fmri.specs.ByKey.{Rises, lookup}
 use Rattle.smf_model.specs.declared.held.Instance.{Instance}
 use Rattle.smf_model.specs.declared.held.InstanceName.{InstanceName}
+use Rattle.smf_model.specs.declared.held.Snapshot.{Snapshot}
 use Rattle.smf_model.specs.Holdings.{Holdings}
-use Rattle.smf_model.specs.Look.{bare, by_entry, by_instance, by_launch, by_name, by_service, by_snapshot, has_number, instance, snapshot}
+use Rattle.smf_model.specs.Look.{bare, by_entry, by_instance, by_launch, by_name, by_service, by_snapshot, has_number, instance, named, snapshot}
+use Rattle.smf_model.specs.Next.{found, is_again, next}
 use Rattle.smf_model.specs.Setting.{startd}
 
 -- ---- replies
@@ -29,6 +31,14 @@ abbrev pub is_accepted : Reply → Bool
 is_accepted (Made n) = true
 is_accepted Done = true
 is_accepted _ = false
+
+-- the proposal that was granted last is granted again, and leaves what is held
+abbrev pub IsGrantedAgain : Holdings → Proposal → Instance → Type 0
+IsGrantedAgain h p i = found h p.instance ≡ Some i → is_again i.row p ≡ true → next h (commands.Propose p) ≡ (h, Granted i.row)
+
+-- a command that is accepted makes one revision
+abbrev pub MakesRevision : Holdings → Command → Type 0
+MakesRevision h c = is_accepted (next h c).1 ≡ true → (next h c).0.revision ≡ h.revision + 1
 
 -- ---- numbers
 
@@ -62,7 +72,46 @@ abbrev pub AreApart : List Instance → Type 0
 AreApart [] = Unit {0}
 AreApart (i ∷ is) = (find (has_number i.number) is ≡ None) × AreApart is
 
+-- what had a number that was given, and is gone, stays gone
+abbrev pub InstanceStaysGone : Holdings → Command → ℕ → Type 0
+InstanceStaysGone h c n = n < h.next_instance → instance h n ≡ None → instance (next h c).0 n ≡ None
+
+abbrev pub SnapshotStaysGone : Holdings → Command → ℕ → Type 0
+SnapshotStaysGone h c n = n < h.next_snapshot → snapshot h n ≡ None → snapshot (next h c).0 n ≡ None
+
+abbrev pub adding : List ℕ → List ℕ → Command
+adding service name = commands.Edit (asked_for.AddInstance service name)
+
+-- an instance that is added gets the number that came next
+abbrev pub GetsNextNumber : Holdings → List ℕ → List ℕ → ℕ → Type 0
+GetsNextNumber h service name n =
+    (next h (adding service name)).1 ≡ Made n
+    → (n ≡ h.next_instance) × ((next h (adding service name)).0.next_instance ≡ n + 1)
+
+-- ---- names
+
+abbrev pub IsFoundByName : Holdings → ℕ → Instance → Type 0
+IsFoundByName h n i = instance h n ≡ Some i → named h i.name ≡ Some i
+
+abbrev pub HasTheName : Holdings → List ℕ → Instance → Type 0
+HasTheName h name i = named h name ≡ Some i → i.name ≡ name
+
+-- ---- snapshots
+
+-- a snapshot stays as it is, or its instance is deleted
+abbrev pub SnapshotStays : Holdings → Command → ℕ → Snapshot → Type 0
+SnapshotStays h c n s =
+    snapshot h n ≡ Some s
+    → (snapshot (next h c).0 n ≡ Some s) ⊎ (c ≡ commands.Edit (asked_for.DeleteInstance s.instance))
+
 -- ---- rows
+
+-- neither the number of the row of instance n nor its greatest run falls
+abbrev pub RowRises : Holdings → Command → ℕ → Instance → Instance → Type 0
+RowRises h c n i j =
+    instance h n ≡ Some i
+    → instance (next h c).0 n ≡ Some j
+    → (i.row.number ≤ j.row.number) × (i.row.last ≤ j.row.last)
 
 -- a row stays but for what is asked, the snapshot `running` and the last refresh; its owner stays where its number isn't 0
 pub record Stays (before after : Row) : Type 0 where
@@ -91,3 +140,6 @@ pub data RowFollows (c : Command) (n : ℕ) (before after : Row) : Type 0 where
 abbrev pub Follows : Command → ℕ → Option Instance → Instance → Type 0
 Follows c n None after = after.row ≡ fresh startd
 Follows c n (Some before) after = RowFollows c n before.row after.row
+
+abbrev pub RowGoesOn : Holdings → Command → ℕ → Instance → Type 0
+RowGoesOn h c n j = instance (next h c).0 n ≡ Some j → Follows c n (instance h n) j

@@ -288,12 +288,20 @@ snapshot_of h i =
       instance_groups = taken (groups_of h (owners.Instance i.number));
     }
 
+-- the changes behind those that take a snapshot
+abbrev pub behind_snapshot : Holdings → Instance → ℕ → List Change → List Change
+behind_snapshot h i next_one changes = AddSnapshot (snapshot_of h i) ∷ NextSnapshot next_one ∷ changes
+
 -- a snapshot is taken, where a number is left for it
 abbrev pub with_snapshot : Holdings → Instance → List Change → Reply → Asked
 with_snapshot h i changes reply =
     if nat_le h.next_snapshot greatest_snapshot
-    then accepted h (AddSnapshot (snapshot_of h i) ∷ NextSnapshot (h.next_snapshot + 1) ∷ changes) reply
+    then accepted h (behind_snapshot h i (h.next_snapshot + 1) changes) reply
     else refused Limit
+
+-- the same, and then an instance has a row
+abbrev pub with_row_and_snapshot : Holdings → Instance → Row → Asked
+with_row_and_snapshot h i row = with_snapshot h i (PutInstance (record i { row = row }) ∷ []) Done
 
 -- ---- refresh, and the move to another restarter
 
@@ -386,9 +394,9 @@ asked_edit h (asked_for.AddService name) = asked_add_service h name (service h n
 asked_edit h (asked_for.AddInstance s name) = asked_add_instance h name (service h s)
 asked_edit h (asked_for.DeleteService name) = asked_delete_service h (service h name)
 asked_edit h (asked_for.DeleteInstance n) = asked_delete_instance h (found h n)
-asked_edit h (asked_for.AddGroup owner name group_type p) = guarded h owner name (added_group h owner (new_group name group_type p) (group h owner name))
-asked_edit h (asked_for.DeleteGroup owner name) = guarded h owner name (deleted_group h owner name (group h owner name))
-asked_edit h (asked_for.Property owner name change) = guarded h owner name (changed_group h owner change (group h owner name))
+asked_edit h (asked_for.AddGroup owner name group_type p) = asked_add_group h owner (new_group name group_type p)
+asked_edit h (asked_for.DeleteGroup owner name) = asked_delete_group h owner name
+asked_edit h (asked_for.Property owner name change) = asked_property h owner name change
 asked_edit h (asked_for.Enable n b temporary) = asked_enable h n b temporary (found h n)
 asked_edit h (asked_for.Restart n) = asked_restart h (found h n)
 asked_edit h (asked_for.Refresh n) = asked_refresh h (found h n)

@@ -109,7 +109,7 @@ fn granted(alloc: Global, tables: &Tables, instance: &Instance, mut row: Row, ta
 
 /// Takes the step of a proposal, whose reasons to be refused were looked at.
 fn step_answer(alloc: Global, tables: &Tables, instance: &Instance, proposal: &Proposal) -> Asked
-    ensures { IfOk result (λ r. r ≡ step_answer tables.now instance.now (applied instance.now.row proposal.now (tables.now.revision + 1))) }
+    ensures { IfOk result (λ r. r ≡ fresh_answer tables.now instance.now proposal.now None) }
 {
     let mut row = instance.row.clone()?;
     let revision = tables.revision().get() + 1;

@@ -1,6 +1,6 @@
 ghost use Rattle.std.specs.Prelude.{◌≡◌, ◌⊎◌, ◌<◌, [], IfOk, IfErr, OnOk, true, OnErr, is_some, length, option_map};
 ghost use Rattle.std.specs.Option.{option_copied};
-ghost use Rattle.smf_model.specs.Journals.{IsTold, IsUntold, LeavesOldOr, LeavesOldOrTold, LeavesOnly};
+ghost use Rattle.smf_model.specs.Journals.{IsTold, IsUntold, IsUnwritten, LeavesOldOr, LeavesOldOrTold, LeavesOnly};
 ghost use Rattle.smf_model.specs.Laws.{IsNumbered, is_refusal};
 ghost use Rattle.smf_model.specs.Look.{empty, groups_of, installed, instance, launch_of, named, service, snapshot};
 ghost use Rattle.smf_model.specs.Next.{asked, found, next};
@@ -102,7 +102,7 @@ impl<J: Journal> Plain<J> {
         ensures stands { J.stands self.new.journal self.new.held }
         ensures crash { LeavesOldOr J.could self.old.journal self.new.journal (installed self.old.held changes) }
         ensures settled { J.is_sound self.new.journal → LeavesOnly J.could self.new.journal self.new.held }
-        ensures fault { IfErr result (λ fault. (fault ≡ RepoFault.Memory) ⊎ (J.write_fails fault × (0 < length changes))) }
+        ensures fault { IfErr result (IsUnwritten J.write_fails changes) }
     {
         let tables = &mut self.tables;
         commit(&mut self.journal, &mut tables.lists, changes.into_vec())
@@ -285,7 +285,7 @@ fn commit<J: Journal>(
     ensures told { OnOk result (IsTold J.stands journal.old journal.new changes.items) }
     ensures untold { OnErr result (IsUntold J.stands journal.old journal.new) }
     ensures crash { LeavesOldOrTold J.stands J.could journal.old journal.new changes.items }
-    ensures fault { IfErr result (λ fault. (fault ≡ RepoFault.Memory) ⊎ (J.write_fails fault × (0 < length changes.items))) }
+    ensures fault { IfErr result (IsUnwritten J.write_fails changes.items) }
 {
     if changes.is_empty() {
         return Ok(());

@@ -50,7 +50,8 @@ fn property_of_either<'a>(
     services_own: Option<&'a Group>,
     name: &str,
 ) -> Option<&'a Property>
-    ensures { option_copied result ≡ property_of_either (option_copied own.entry) (option_copied services_own.entry) name.now }
+    ensures { option_copied result ≡
+        property_of_either (option_copied own.entry) (option_copied services_own.entry) name.now }
 {
     match property_in(own, name) {
         Some(property) => Some(property),
@@ -100,7 +101,8 @@ fn enabled_property<'a>(
     own: Option<&'a Group>,
     services_own: Option<&'a Group>,
 ) -> Option<&'a Property>
-    ensures { option_copied result ≡ enabled_property (option_copied ovr.entry) (option_copied own.entry) (option_copied services_own.entry) }
+    ensures { option_copied result ≡
+        enabled_property (option_copied ovr.entry) (option_copied own.entry) (option_copied services_own.entry) }
 {
     match property_in(ovr, "enabled") {
         Some(property) => Some(property),

@@ -1,6 +1,7 @@
-ghost use Rattle.std.specs.Prelude.{◌≡◌, ◌||◌, ◌<◌, ◌∷◌, [], IfOk};
+ghost use Rattle.std.specs.Prelude.{◌≡◌, ◌||◌, ◌<◌, IfOk};
 ghost use Rattle.smf_model.specs.Look.{groups_of};
-ghost use Rattle.smf_model.specs.Next.{asked_refresh, found, may_be_moved, moved, moved_row, refreshed, refreshed_row, snapshot_of, target_by, with_snapshot};
+ghost use Rattle.smf_model.specs.Next.{asked_refresh, behind_snapshot, found, may_be_moved, moved, moved_row, refreshed, refreshed_row};
+ghost use Rattle.smf_model.specs.Next.{snapshot_of, target_by, with_row_and_snapshot, with_snapshot};
 ghost use Rattle.smf_state.specs.Rows.{same_state};
 ghost use Rattle.smf_snap.specs.Taking.{taken};
 
@@ -71,7 +72,7 @@ fn behind_snapshot(
     changes: Items<Change>,
     next: u64,
 ) -> Result<Items<Change>, AllocError>
-    ensures { IfOk result (λ all. all ≡ Change.AddSnapshot (snapshot_of tables.now instance.now) ∷ Change.NextSnapshot next ∷ changes) }
+    ensures { IfOk result (λ all. all ≡ behind_snapshot tables.now instance.now next changes) }
 {
     let mut all = Items::new(alloc);
     all.push(Change::AddSnapshot(snapshot_of(alloc, tables, instance)?))?;
@@ -146,7 +147,7 @@ fn moved_row(mut row: Row, running: u64, owner: InstanceFmri) -> Row
 
 /// Puts a new row of an instance behind a snapshot of it.
 fn with_row_and_snapshot(alloc: Global, tables: &Tables, mut instance: Instance, row: Row) -> Asked
-    ensures { IfOk result (λ r. r ≡ with_snapshot tables.now instance (Change.PutInstance (record instance { row = row }) ∷ []) Reply.Done) }
+    ensures { IfOk result (λ r. r ≡ with_row_and_snapshot tables.now instance row) }
 {
     let old = instance.clone()?;
     instance.row = row;
