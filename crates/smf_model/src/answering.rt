@@ -92,7 +92,7 @@ fn granted(alloc: Global, tables: &Tables, instance: &Instance, mut row: Row, ta
     ensures { IfOk result (λ r. r ≡ granted tables.now instance.now row takes) }
 {
     if takes {
-        row.running = Some(tables.next_snapshot());
+        row.running = Some(tables.next_snapshot().get());
         let after = with_row(instance.clone()?, row.clone()?);
         let mut changes = Items::new(alloc);
         changes.push(Change::PutInstance(after))?;

@@ -8,7 +8,7 @@ use crate::held::{Instance, InstanceEntry, InstanceName, Launch, Owner, Service}
 use crate::setting::{current, startd};
 use crate::tables::Tables;
 use bitflags::Flags;
-use smf_fmri::{InstanceFmri, Items, Ordered, ServiceFmri};
+use smf_fmri::{InstanceFmri, Items, Number, Ordered, ServiceFmri};
 use smf_state::{Asks, Row, State};
 use smf_value::Name;
 use std::alloc::{AllocError, Global};
@@ -132,7 +132,7 @@ fn add_at(alloc: Global, tables: &Tables, name: InstanceFmri) -> Asked
     if tables.named(&name).is_some() {
         return refused(alloc, Reply::Exists);
     }
-    let number = tables.next_instance();
+    let number = tables.next_instance().get();
     if number > MAX_INSTANCE {
         return refused(alloc, Reply::Limit);
     }
@@ -145,7 +145,8 @@ fn joining(alloc: Global, tables: &Tables, name: InstanceFmri) -> Result<Items<C
     requires { tables.now.next_instance ≤ greatest_instance }
     ensures { IfOk result (λ all. all ≡ joining tables.now name) }
 {
-    let number = tables.next_instance();
+    let number = tables.next_instance().get();
+    let next = Number::new(number + 1).unwrap();
     let entry = InstanceName {
         name: name.clone()?,
         number,
@@ -163,7 +164,7 @@ fn joining(alloc: Global, tables: &Tables, name: InstanceFmri) -> Result<Items<C
         groups: Ordered::new(alloc),
     }))?;
     changes.push(Change::PutName(entry))?;
-    changes.push(Change::NextInstance(number + 1))?;
+    changes.push(Change::NextInstance(next))?;
     Ok(changes)
 }
 
@@ -335,9 +336,10 @@ pub(crate) fn launch(alloc: Global, tables: &Tables, restarter: &InstanceFmri) -
     if count >= MAX_COUNT {
         return refused(alloc, Reply::Limit);
     }
+    let next = Number::new(count + 1).unwrap();
     let launch = Launch {
         restarter: restarter.clone()?,
-        count: count + 1,
+        count: next,
     };
     one(
         alloc,

@@ -21,7 +21,7 @@ use std::alloc::{AllocError, Global};
 fn is_last_launch(launch: &Launch) -> bool
     ensures { result ≡ is_last_launch launch.now }
 {
-    !(launch.count < MAX_COUNT)
+    !(launch.count.get() < MAX_COUNT)
 }
 
 fn is_last_number(instance: &Instance) -> bool
@@ -55,7 +55,7 @@ fn relaunch(mut changes: Items<Change>, launches: &[Launch]) -> Result<Items<Cha
     for launch in launches {
         let next = Launch {
             restarter: launch.restarter.clone()?,
-            count: launch.count + 1,
+            count: launch.count.next().unwrap(),
         };
         changes.push(Change::PutLaunch(next))?;
     }

@@ -25,8 +25,8 @@ pub enum Change {
     DropSnapshots(u64),
     /// In place of the launch of this restarter.
     PutLaunch(Launch),
-    NextInstance(u64),
-    NextSnapshot(u64),
+    NextInstance(Number),
+    NextSnapshot(Number),
     SetRevision(Number),
 }
 

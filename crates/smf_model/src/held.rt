@@ -62,7 +62,7 @@ pub struct Snapshot {
 #[derive(Debug, Drop)]
 pub struct Launch {
     pub restarter: InstanceFmri,
-    pub count: u64,
+    pub count: Number,
 }
 
 /// What takes the place of a part of an entry.

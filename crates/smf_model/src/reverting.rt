@@ -49,7 +49,7 @@ fn reverting(
 {
     let service = service_owner(alloc, &instance.name)?;
     let own = Owner::Instance(instance.number);
-    instance.previous = Some(tables.next_snapshot());
+    instance.previous = Some(tables.next_snapshot().get());
     let mut changes = Items::new(alloc);
     changes.push(Change::PutInstance(instance))?;
     changes.push(Change::PutGroups(service, service_groups))?;

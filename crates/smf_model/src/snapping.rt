@@ -12,7 +12,7 @@ use crate::held::{Instance, Owner, Snapshot};
 use crate::setting::{Setting, owner_by, service_owner, setting_for};
 use crate::tables::Tables;
 use bitflags::Flags;
-use smf_fmri::{InstanceFmri, Items, Ordered};
+use smf_fmri::{InstanceFmri, Items, Number, Ordered};
 use smf_snap::take;
 use smf_state::{Asks, Row, State};
 use smf_value::Group;
@@ -39,7 +39,7 @@ fn snapshot_of(alloc: Global, tables: &Tables, instance: &Instance) -> Result<Sn
     let service = service_owner(alloc, &instance.name)?;
     let own = Owner::Instance(instance.number);
     Ok(Snapshot {
-        number: tables.next_snapshot(),
+        number: tables.next_snapshot().get(),
         instance: instance.number,
         service_groups: taken(alloc, tables, &service)?,
         instance_groups: taken(alloc, tables, &own)?,
@@ -56,11 +56,12 @@ pub(crate) fn with_snapshot(
 ) -> Asked
     ensures { IfOk result (λ r. r ≡ with_snapshot tables.now instance.now changes reply) }
 {
-    let number = tables.next_snapshot();
+    let number = tables.next_snapshot().get();
     if number > MAX_SNAPSHOT {
         return refused(alloc, Reply::Limit);
     }
-    let changes = behind_snapshot(alloc, tables, instance, changes, number + 1)?;
+    let next = Number::new(number + 1).unwrap();
+    let changes = behind_snapshot(alloc, tables, instance, changes, next)?;
     accepted(alloc, tables, changes, reply)
 }
 
@@ -70,7 +71,7 @@ fn behind_snapshot(
     tables: &Tables,
     instance: &Instance,
     changes: Items<Change>,
-    next: u64,
+    next: Number,
 ) -> Result<Items<Change>, AllocError>
     ensures { IfOk result (λ all. all ≡ behind_snapshot tables.now instance.now next changes) }
 {
@@ -166,7 +167,8 @@ fn moved(alloc: Global, tables: &Tables, instance: Instance, owner: InstanceFmri
     if number >= MAX_COUNT {
         return refused(alloc, Reply::Limit);
     }
-    let row = moved_row(instance.row.clone()?, tables.next_snapshot(), owner);
+    let running = tables.next_snapshot().get();
+    let row = moved_row(instance.row.clone()?, running, owner);
     with_row_and_snapshot(alloc, tables, instance, row)
 }
 
@@ -185,7 +187,7 @@ fn refreshed(
             let revision = tables.revision().get() + 1;
             let row = refreshed_row(
                 instance.row.clone()?,
-                tables.next_snapshot(),
+                tables.next_snapshot().get(),
                 revision,
                 runs,
             );

@@ -27,8 +27,8 @@ pub(crate) struct Lists {
     pub(crate) names: Table<InstanceName>,
     pub(crate) snapshots: Table<Snapshot>,
     pub(crate) launches: Table<Launch>,
-    pub(crate) next_instance: u64,
-    pub(crate) next_snapshot: u64,
+    pub(crate) next_instance: Number,
+    pub(crate) next_snapshot: Number,
     pub(crate) revision: Number,
 }
 
@@ -46,6 +46,7 @@ impl Tables {
     pub fn new(alloc: Global) -> Tables
         ensures { result ≡ empty }
     {
+        let one = Number::new(1).unwrap();
         Tables {
             lists: Lists {
                 services: Table::new(alloc),
@@ -53,8 +54,8 @@ impl Tables {
                 names: Table::new(alloc),
                 snapshots: Table::new(alloc),
                 launches: Table::new(alloc),
-                next_instance: 1,
-                next_snapshot: 1,
+                next_instance: one,
+                next_snapshot: one,
                 revision: Number::zero(),
             },
         }
@@ -88,13 +89,13 @@ impl Tables {
         self.lists.launches.as_slice()
     }
 
-    pub fn next_instance(&self) -> u64
+    pub fn next_instance(&self) -> Number
         ensures { result ≡ self.now.next_instance }
     {
         self.lists.next_instance
     }
 
-    pub fn next_snapshot(&self) -> u64
+    pub fn next_snapshot(&self) -> Number
         ensures { result ≡ self.now.next_snapshot }
     {
         self.lists.next_snapshot
@@ -156,7 +157,7 @@ impl Tables {
     {
         match self.lists.launches.get(restarter) {
             None => 0,
-            Some(launch) => launch.count,
+            Some(launch) => launch.count.get(),
         }
     }
 

@@ -5,4 +5,4 @@ use Rattle.smf_model.specs.Next.{snapshot_of}
 use Rattle.smf_model.proofs.snapping.behind_snapshot.Given as goal
 
 abbrev pub invariant-loop-change : goal.invariant-loop-change
-invariant-loop-change l = l.all ++ into_iter_items l.change-iterator ≡ AddSnapshot (snapshot_of l.tables l.instance) ∷ NextSnapshot l.next ∷ l.fn.changes
+invariant-loop-change l = l.all ++ into_iter_items l.change-iterator ≡ AddSnapshot (snapshot_of l.tables l.instance) ∷ NextSnapshot l.fn.next ∷ l.fn.changes
