@@ -13,3 +13,4 @@ pub mod Order
 pub mod OwnName
 pub mod Placing
 pub mod States
+pub mod ReadAnew

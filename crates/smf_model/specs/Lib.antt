@@ -9,3 +9,4 @@ pub mod Shown
 pub mod History
 pub mod Whole
 pub mod Journals
+pub mod Copied

@@ -1,6 +1,7 @@
 ghost use Rattle.std.specs.Prelude.{◌≡◌, ◌⊎◌, ◌<◌, [], IfOk, IfErr, OnOk, true, OnErr, is_some, length, option_map};
 ghost use Rattle.std.specs.Option.{option_copied};
 ghost use Rattle.smf_model.specs.Journals.{IsTold, IsUntold, IsUnwritten, LeavesOldOr, LeavesOldOrTold, LeavesOnly};
+ghost use Rattle.smf_model.specs.Copied.{copied};
 ghost use Rattle.smf_model.specs.Laws.{IsNumbered, is_refusal};
 ghost use Rattle.smf_model.specs.Look.{empty, groups_of, installed, instance, launch_of, named, service, snapshot};
 ghost use Rattle.smf_model.specs.Next.{asked, found, next};
@@ -15,7 +16,7 @@ use crate::dispatch::asked;
 use crate::held::{Instance, InstanceName, Owner, Service, Snapshot, View};
 use crate::journal::{Journal, RepoFault};
 use crate::setting::enabled;
-use crate::showing::{all_read, children, composed_groups, rows_of, shown_groups};
+use crate::showing::{all_read, children, composed_groups, copied, rows_of, shown_groups};
 use crate::tables::{Lists, Tables, install, reserve};
 use crate::viewing::{rows, snapshot_number, snapshots_of, view};
 use smf_fmri::{InstanceFmri, Items, Number, Ordered, ServiceFmri, Table};
@@ -255,8 +256,15 @@ impl<J: Journal> Plain<J> {
         enabled(self.alloc, &self.tables, instance)
     }
 
-    /// All that is held.
+    /// All that is held, each instance as it is read.
     pub fn copy(&self) -> Result<Tables, AllocError>
+        ensures { IfOk result (λ t. t ≡ copied self.now.held) }
+    {
+        copied(self.alloc, &self.tables)
+    }
+
+    /// All that is held as it is stored, which a history begins with.
+    pub fn stored(&self) -> Result<Tables, AllocError>
         ensures exact { IfOk result (λ t. t ≡ self.now.held) }
         ensures numbered { IsNumbered self.now.held }
     {

@@ -1,6 +1,7 @@
 ghost use Rattle.std.specs.Prelude.{◌≡◌, true, codes, filter, map, IfOk};
 ghost use Rattle.smf_fmri.specs.ByKey.{put_all};
 ghost use Rattle.smf_value.specs.Groups.{by_group};
+ghost use Rattle.smf_model.specs.Copied.{copied, reads_written};
 ghost use Rattle.smf_model.specs.Look.{bare, groups_of};
 ghost use Rattle.smf_model.specs.Shown.{all_read, children, composed_groups, composed_of, is_run_by, made_group, next_text, rows_of, shown_groups, text_property};
 ghost use Rattle.smf_model.specs.Next.{is_instance_of, new_group};
@@ -9,6 +10,7 @@ ghost use Rattle.smf_state.specs.States.{state_text};
 ghost use Rattle.smf_value.specs.Texts.{is_astring};
 
 use crate::booting::is_instance_of;
+use crate::change::Change;
 use crate::grouping::{groups_of, new_group};
 use crate::held::{Instance, InstanceEntry, Owner};
 use crate::setting::{current, service_owner};
@@ -37,6 +39,32 @@ fn read_each(
         all.push(current(alloc, tables, entry.instance.clone()?)?)?;
     }
     Ok(all)
+}
+
+/// The changes that write each instance as it is read.
+fn reads_written(
+    alloc: Global,
+    tables: &Tables,
+    entries: &[InstanceEntry],
+) -> Result<Items<Change>, AllocError>
+    ensures { IfOk result (λ all. all ≡ reads_written (groups_of tables.now) entries.now) }
+{
+    let mut all = Items::new(alloc);
+    for entry in entries {
+        let shown = current(alloc, tables, entry.instance.clone()?)?;
+        all.push(Change::PutInstance(shown))?;
+    }
+    Ok(all)
+}
+
+/// All that is held, each instance as it is read.
+pub(crate) fn copied(alloc: Global, tables: &Tables) -> Result<Tables, AllocError>
+    ensures { IfOk result (λ copy. copy ≡ copied tables.now) }
+{
+    let changes = reads_written(alloc, tables, tables.entries())?;
+    let mut copy = tables.clone()?;
+    copy.make(changes)?;
+    Ok(copy)
 }
 
 /// Those that a restarter runs.

@@ -64,7 +64,7 @@ impl<J: Journal> Node<J> {
         ensures err { IfErr result (λ e. e.1.held ≡ repository.held) }
         ensures fault { IfErr result (λ e. IsUndone J.write_fails repository.held commands.Boot e.0) }
     {
-        let first = match repository.copy() {
+        let first = match repository.stored() {
             Ok(first) => first,
             Err(_) => return Err((NodeFault::Memory, repository)),
         };
