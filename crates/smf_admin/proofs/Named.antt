@@ -127,7 +127,7 @@ module _ (name : List ℕ) (h : IsInstanceName name) where
 
 -- ---- names that stand between two begin as these do
 
-by_itself : By ℕ ℕ
+abbrev by_itself : By ℕ ℕ
 by_itself = by_number (λ (n : ℕ). n)
 
 between_by : (r : Ordering) (p a x b : List ℕ) (c d : ℕ) → nat_cmp c d ≡ r → ordering_then r (slice_cmp nat_cmp (p ++ a) x) ≡ Less
@@ -190,21 +190,6 @@ short_all (x ∷ y ∷ ys) first last r f l s t =
     (here, short_behind x.name (y ∷ ys) last here t r.0 r.1 (sym (last_at x (y ∷ ys)) ∙ subst P at l))
 
 -- ---- what a full name asks for
-
-pub nothing_matches : (name : List ℕ) (view : List InstanceName) → slice_get view 0 ≡ None → matching name view ≡ []
-nothing_matches name [] e = refl
-nothing_matches name (x ∷ xs) e = absurd cc
-
-some_last : (x : InstanceName) (xs : List InstanceName) → last_of (x ∷ xs) ≡ None → ⊥
-some_last x [] e = cc
-some_last x (y ∷ ys) e = some_last y ys e
-
-pub nothing_last : (name : List ℕ) (view : List InstanceName) (first : InstanceName) → slice_get view 0 ≡ Some first → slice_get view (length view - 1) ≡ None → matching name view ≡ []
-nothing_last name [] first f l = refl
-nothing_last name (x ∷ xs) first f l =
-    let at : length (x ∷ xs) - 1 ≡ length xs = omega arith in
-    let P : ℕ → Type 0 = λ k. slice_get (x ∷ xs) k ≡ None in
-    absurd (some_last x xs (sym (last_at x xs) ∙ subst P at l))
 
 pub full_match : (view : List InstanceName) (name : List ℕ) (first last : InstanceName) → Rises by_name view → slice_get view 0 ≡ Some first → slice_get view (length view - 1) ≡ Some last
     → IsInstanceName first.name → IsInstanceName last.name → IsInstanceName name → matching name view ≡ option_to_list (lookup by_name view name)

@@ -66,11 +66,7 @@ fn asked_by(
 
 /// What is asked by a word that stands for an instance, by a look at all names.
 #[tactic(auto, unfolding(crate::specs::Asking::asked_of))]
-fn asked_of_all(
-    alloc: Global,
-    view: &[InstanceName],
-    word: &Text,
-) -> Result<Asked, AllocError>
+fn asked_of_all(alloc: Global, view: &[InstanceName], word: &Text) -> Result<Asked, AllocError>
     ensures { IfOk result (λ one. one ≡ asked_of view.now word.now) }
 {
     let pattern = match Pattern::parse(alloc, word.as_str()) {
@@ -101,17 +97,14 @@ fn match_of<'a>(view: &'a Table<InstanceName>, name: &InstanceFmri) -> Option<&'
     let first = names.first()?;
     let last = names.last()?;
     // All names stand between the first and the last, so they begin as these do.
-    let _ends = (first.name.print(), last.name.print());
+    let _low = first.name.print();
+    let _high = last.name.print();
     let _own = name.print();
     view.get(name)
 }
 
 /// What is asked by a word that stands for an instance, over the names of instances. A full name is looked up.
-fn asked_of(
-    alloc: Global,
-    view: &Table<InstanceName>,
-    word: &Text,
-) -> Result<Asked, AllocError>
+fn asked_of(alloc: Global, view: &Table<InstanceName>, word: &Text) -> Result<Asked, AllocError>
     ensures { IfOk result (λ one. one ≡ asked_of view.now.items word.now) }
 {
     match full_name(alloc, word)? {
