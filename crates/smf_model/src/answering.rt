@@ -1,6 +1,5 @@
 ghost use Rattle.std.specs.Prelude.{◌≡◌, ◌==◌, ◌+◌, ◌∷◌, [], IfOk, Some, None, Ok, Err};
-ghost use Rattle.smf_state.specs.Rows.{applied};
-ghost use Rattle.smf_model.specs.Next.{answer, answer_at, found, fresh_answer, granted, is_again, is_other_snapshot, is_running, refused, stale, started_by, step_answer, takes_running, with_row};
+ghost use Rattle.smf_model.specs.Next.{answer, answer_at, found, fresh_answer, granted, is_again, is_other_snapshot, is_running, refused, stale, started_by, takes_running, with_row};
 
 use crate::asking::{Asked, accepted, found, one, refused};
 use crate::change::Change;

@@ -2,7 +2,7 @@ ghost use Rattle.std.specs.Int.RustNames.{bit_and};
 ghost use Rattle.std.specs.Prelude.{◌≡◌, ◌==◌, false, true, ◌∷◌, [], IfOk, None, count_by, Ok};
 ghost use Rattle.smf_value.specs.Edits.{Answers};
 ghost use Rattle.smf_model.specs.Look.{group, groups_of};
-ghost use Rattle.smf_model.specs.Next.{accepted, added_group, asked_add_group, asked_delete_group, asked_for_good, asked_for_now, asked_property, asked_enable, changed_group, deleted_group, enabled_for_good, enabled_for_now, enabling_of, found, group_dropped, group_enabled, group_or_new, group_put, guarded, has_room, is_other_group, new_group, property_changed};
+ghost use Rattle.smf_model.specs.Next.{accepted, added_group, asked_add_group, asked_delete_group, asked_for_good, asked_for_now, asked_property, asked_enable, enabled_for_good, enabled_for_now, enabling_of, found, group_dropped, group_enabled, group_or_new, group_put, has_room, is_other_group, new_group, property_changed};
 ghost use Rattle.smf_model.specs.Setting.{general, general_ovr};
 
 use crate::asking::{Asked, found, is_made, is_there, one, refused};
