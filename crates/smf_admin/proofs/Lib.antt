@@ -1,4 +1,3 @@
-pub mod Places
 pub mod Order
 pub mod Picking
 pub mod Named

@@ -1,62 +1,67 @@
--- What putting entries in their places makes: the same entries, in order.
-use Rattle.std.proofs.Common.{◌≡◌, ◌≢◌, ℕ, ◌-◌, List, [], ◌∷◌, ◌++◌, refl, sym, ◌∙◌, ap, subst, append-nil}
+-- What keeping entries in the order of their names makes: the same entries, in order.
+use Rattle.std.proofs.Common.{◌≡◌, ◌≢◌, ℕ, zero, suc, ◌<◌, List, [], ◌∷◌, ◌++◌, length, reverse, cond, Option, Some, refl, sym, ap, ◌∙◌, subst, append-nil, append_assoc, arith}
 use Rattle.std.specs.Prelude.{filter, map}
-use Rattle.std.specs.Cmp.Lexicographic.{slice_cmp, nat_list_cmp_total}
+use Rattle.std.specs.Cmp.Lexicographic.{slice_cmp}
+use Rattle.std.specs.List.{AllByRecursion as Every, slice_index_or}
 use Rattle.std.specs.List.Sorted.{IsPermutation}
-use Rattle.std.specs.Ordering.{nat_cmp, ordering_reverse}
+use Rattle.std.specs.Ordering.{nat_cmp}
 use Rattle.std.specs.declared.cmp.Ordering.{Ordering}
 use Rattle.std.specs.declared.cmp.Ordering.TheVariants.{Less, Equal, Greater}
+use Rattle.std.proofs.lemmas.List.{reverse-append}
+use Rattle.std.proofs.lemmas.List.Kept.{AllPairs-filter}
 use Rattle.std.proofs.lemmas.List.Sorted.{IsPermutation-refl, IsPermutation-cons, IsPermutation-trans, IsPermutation-insert, IsPermutation-append_right}
+use Rattle.smf_fmri.specs.ByKey.{has_key, lookup, put, put_all, put_by}
+use Rattle.smf_fmri.proofs.Lookups.{lookup_put}
+use Rattle.smf_fmri.proofs.Rising.{all_put, rises_put_all}
 use Rattle.smf_state.specs.declared.view.ViewItem.{ViewItem}
 use Rattle.smf_admin.specs.declared.listing.Entry.{Entry}
-use Rattle.smf_admin.specs.Listing.{IsAtMostFirst, IsInOrder, IsListing, entries, entry_of, is_listed, place_of, put_all, put_by, put_in_order}
-use Rattle.smf_admin.proofs.Places.{put_is}
+use Rattle.smf_admin.specs.Listing.{HaveNamesApart, IsListing, by_entry, entries, entry_of, is_listed}
 
-abbrev compared : List ℕ → List ℕ → Ordering
-compared x y = slice_cmp nat_cmp x y
+-- ---- names that are apart
 
--- ---- the order
+-- none has the name
+abbrev Misses : List ℕ → List Entry → Type 0
+Misses name es = Every (λ f. f.name ≢ name) es
 
-turned : (x y : List ℕ) → compared x y ≡ Greater → compared y x ≢ Greater
-turned x y h k = let less : compared y x ≡ Less = nat_list_cmp_total.antisymm y x ∙ ap ordering_reverse h in absurd cc
+abbrev AreApart : List Entry → Type 0
+AreApart [] = Unit {0}
+AreApart (e ∷ es) = Every (λ f. e.name ≢ f.name) es × AreApart es
 
-at_most_put_by : (o : Ordering) (x : List ℕ) (e f : Entry) (fs behind : List Entry) → compared x e.name ≢ Greater → compared x f.name ≢ Greater
-    → IsAtMostFirst x (put_by o e f fs behind)
-at_most_put_by Less x e f fs behind h k = h
-at_most_put_by Equal x e f fs behind h k = h
-at_most_put_by Greater x e f fs behind h k = k
+entries_behind : (i d : ViewItem) (js : List ViewItem) → ((k : ℕ) → k < length js → i.name ≢ (slice_index_or js k d).name)
+    → Every (λ f. i.name ≢ f.name) (map entry_of js)
+entries_behind i d [] h = tt
+entries_behind i d (j ∷ js) h = (h zero (omega arith), entries_behind i d js (λ k low. h (suc k) (omega arith)))
 
-at_most_put : (x : List ℕ) (e : Entry) (fs : List Entry) → compared x e.name ≢ Greater → IsAtMostFirst x fs → IsAtMostFirst x (put_in_order e fs)
-at_most_put x e [] h k = h
-at_most_put x e (f ∷ fs) h k = at_most_put_by (compared e.name f.name) x e f fs (put_in_order e fs) h k
-
-not_greater : (o : Ordering) → o ≡ Less → o ≢ Greater
-not_greater o h k = absurd cc
-
-not_past : (o : Ordering) → o ≡ Equal → o ≢ Greater
-not_past o h k = absurd cc
-
-order_put_by : (o : Ordering) (e f : Entry) (fs : List Entry) → compared e.name f.name ≡ o → IsInOrder (f ∷ fs) → IsInOrder (put_in_order e fs)
-    → IsInOrder (put_by o e f fs (put_in_order e fs))
-order_put_by Less e f fs h r k = (not_greater (compared e.name f.name) h, r)
-order_put_by Equal e f fs h r k = (not_past (compared e.name f.name) h, r)
-order_put_by Greater e f fs h r k = (at_most_put f.name e fs (turned e.name f.name h) r.0, k)
-
-order_put : (e : Entry) (es : List Entry) → IsInOrder es → IsInOrder (put_in_order e es)
-order_put e [] r = (tt, tt)
-order_put e (f ∷ fs) r = order_put_by (compared e.name f.name) e f fs refl r (order_put e fs r.1)
-
-order_all : (es done : List Entry) → IsInOrder done → IsInOrder (put_all es done)
-order_all [] done r = r
-order_all (e ∷ es) done r = order_all es (put_in_order e done) (order_put e done r)
+entries_apart : (items : List ViewItem) → HaveNamesApart items → AreApart (map entry_of items)
+entries_apart [] h = tt
+entries_apart (i ∷ is) h =
+    (entries_behind i i is (λ k low. h zero (suc k) i (omega arith) (omega arith)), entries_apart is (λ j k d low high. h (suc j) (suc k) d (omega arith) (omega arith)))
 
 -- ---- the same entries
 
-same_put : (e : Entry) (es : List Entry) → IsPermutation (e ∷ es) (put_in_order e es)
-same_put e es = subst (IsPermutation (e ∷ es)) (sym (put_is 0 e es)) (IsPermutation-insert es (place_of 0 e.name es - 0) e)
-
 first_two : (e f : Entry) (es : List Entry) → IsPermutation (e ∷ f ∷ es) (f ∷ e ∷ es)
 first_two e f es = IsPermutation-insert (f ∷ es) 1 e
+
+same_put_by : (o : Ordering) (e f : Entry) (fs behind : List Entry) → slice_cmp nat_cmp f.name e.name ≡ o → f.name ≢ e.name
+    → IsPermutation (e ∷ fs) behind → IsPermutation (e ∷ f ∷ fs) (put_by o e f fs behind)
+same_put_by Less e f fs behind c apart h =
+    IsPermutation-trans (e ∷ f ∷ fs) (f ∷ e ∷ fs) (f ∷ behind) (first_two e f fs) (IsPermutation-cons f (e ∷ fs) behind h)
+same_put_by Equal e f fs behind c apart h = absurd (apart (by_entry.exact f.name e.name c))
+same_put_by Greater e f fs behind c apart h = IsPermutation-refl (e ∷ f ∷ fs)
+
+same_put : (e : Entry) (es : List Entry) → Misses e.name es → IsPermutation (e ∷ es) (put by_entry e es)
+same_put e [] apart = IsPermutation-refl (e ∷ [])
+same_put e (f ∷ fs) apart = same_put_by (slice_cmp nat_cmp f.name e.name) e f fs (put by_entry e fs) refl apart.0 (same_put e fs apart.1)
+
+-- what has none of the names has none of them after a put of another name
+misses_put : (e : Entry) (es done : List Entry) → Every (λ f. e.name ≢ f.name) es → Every (λ f. Misses f.name done) es
+    → Every (λ f. Misses f.name (put by_entry e done)) es
+misses_put e [] done h k = tt
+misses_put e (f ∷ fs) done h k = (all_put by_entry (λ d. d.name ≢ f.name) e done h.0 k.0, misses_put e fs done h.1 k.1)
+
+misses_nothing : (es : List Entry) → Every (λ f. Misses f.name []) es
+misses_nothing [] = tt
+misses_nothing (e ∷ es) = (tt, misses_nothing es)
 
 behind_others : (e : Entry) (es done : List Entry) → IsPermutation (e ∷ (es ++ done)) (es ++ e ∷ done)
 behind_others e [] done = IsPermutation-refl (e ∷ done)
@@ -64,18 +69,42 @@ behind_others e (f ∷ fs) done =
     IsPermutation-trans (e ∷ f ∷ (fs ++ done)) (f ∷ e ∷ (fs ++ done)) (f ∷ (fs ++ e ∷ done)) (first_two e f (fs ++ done))
     (IsPermutation-cons f (e ∷ (fs ++ done)) (fs ++ e ∷ done) (behind_others e fs done))
 
-same_all : (es done : List Entry) → IsPermutation (es ++ done) (put_all es done)
-same_all [] done = IsPermutation-refl done
-same_all (e ∷ es) done =
-    IsPermutation-trans (e ∷ (es ++ done)) (es ++ e ∷ done) (put_all es (put_in_order e done)) (behind_others e es done)
-    (IsPermutation-trans (es ++ e ∷ done) (es ++ put_in_order e done) (put_all es (put_in_order e done))
-    (IsPermutation-append_right es (e ∷ done) (put_in_order e done) (same_put e done)) (same_all es (put_in_order e done)))
+same_all : (es done : List Entry) → AreApart es → Every (λ f. Misses f.name done) es → IsPermutation (es ++ done) (put_all by_entry es done)
+same_all [] done apart misses = IsPermutation-refl done
+same_all (e ∷ es) done apart misses =
+    let more : List Entry = put by_entry e done in
+    IsPermutation-trans (e ∷ (es ++ done)) (es ++ e ∷ done) (put_all by_entry es more) (behind_others e es done)
+    (IsPermutation-trans (es ++ e ∷ done) (es ++ more) (put_all by_entry es more)
+    (IsPermutation-append_right es (e ∷ done) more (same_put e done misses.0))
+    (same_all es more apart.1 (misses_put e es done apart.0 misses.1)))
+
+same_entries : (view : List ViewItem) → HaveNamesApart view → IsPermutation (map entry_of (filter is_listed view)) (put_all by_entry (map entry_of (filter is_listed view)) [])
+same_entries view h =
+    let es : List Entry = map entry_of (filter is_listed view) in
+    let apart : AreApart es = entries_apart (filter is_listed view) (AllPairs-filter (λ i j. i.name ≢ j.name) is_listed view h) in
+    let P : List Entry → Type 0 = λ l. IsPermutation l (put_all by_entry es []) in
+    subst P (append-nil es) (same_all es [] apart (misses_nothing es))
+
+-- ---- what a name finds
+
+found_behind : (zs xs ys : List Entry) (name : List ℕ) → lookup by_entry xs name ≡ lookup by_entry ys name → lookup by_entry (zs ++ xs) name ≡ lookup by_entry (zs ++ ys) name
+found_behind [] xs ys name h = h
+found_behind (z ∷ zs) xs ys name h = ap (λ (o : Option Entry). cond (has_key by_entry name z) (Some z) o) (found_behind zs xs ys name h)
+
+last_first : (e : Entry) (es done : List Entry) → reverse (e ∷ es) ++ done ≡ reverse es ++ e ∷ done
+last_first e es done = ap (λ (l : List Entry). l ++ done) (reverse-append (e ∷ []) es) ∙ append_assoc (reverse es) (e ∷ []) done
+
+-- what is put last is found
+found_all : (es done : List Entry) (name : List ℕ) → lookup by_entry (put_all by_entry es done) name ≡ lookup by_entry (reverse es ++ done) name
+found_all [] done name = refl
+found_all (e ∷ es) done name =
+    found_all es (put by_entry e done) name
+    ∙ found_behind (reverse es) (put by_entry e done) (e ∷ done) name (lookup_put by_entry e done name)
+    ∙ ap (λ (l : List Entry). lookup by_entry l name) (sym (last_first e es done))
+
+found_last : (es : List Entry) (name : List ℕ) → lookup by_entry (put_all by_entry es []) name ≡ lookup by_entry (reverse es) name
+found_last es name = found_all es [] name ∙ ap (λ (l : List Entry). lookup by_entry l name) (append-nil (reverse es))
 
 pub is_listing : (view : List ViewItem) → IsListing view (entries view)
 unfolding entries
-is_listing view =
-    let es : List Entry = map entry_of (filter is_listed view) in
-    record {
-      same = let P : List Entry → Type 0 = λ l. IsPermutation l (put_all es []) in subst P (append-nil es) (same_all es []);
-      in_order = order_all es [] tt;
-    }
+is_listing view = record { shown = found_last (map entry_of (filter is_listed view)); same = same_entries view; in_order = rises_put_all by_entry (map entry_of (filter is_listed view)) [] tt }

@@ -7,8 +7,8 @@ ghost use Rattle.smf_admin.specs.Listing.{IsListing, entries};
 ghost use Rattle.smf_model.specs.declared.held.InstanceName.{InstanceName as AnyName};
 ghost use Rattle.smf_state.specs.declared.view.ViewItem.{ViewItem as AnyItem};
 
-/// What svcs prints of a view are the instances that are enabled or run and no others, each once, in the byte order of
-/// their names.
+/// What svcs prints of a view are the instances that are enabled or run, in the byte order of their names, and of
+/// several of one name the last; where no two have one name, these and no others, each once.
 pub fn listings_are_in_order()
     ensures { (view : List AnyItem) → IsListing view (entries view) }
 {}

@@ -1,11 +1,11 @@
-ghost use Rattle.std.specs.Prelude.{◌≡◌, ◌++◌, replicate, IfOk, OnOk, string_bytes};
+ghost use Rattle.std.specs.Prelude.{◌≡◌, ◌++◌, replicate, refl, IfOk, OnOk, string_bytes};
 ghost use Rattle.std.specs.List.{flat_map};
-ghost use Rattle.smf_admin.specs.Listing.{entries, entry_of, entry_text, header_of, is_listed, place_of, put_in_order, svcs_text};
+ghost use Rattle.smf_fmri.specs.ByKey.{by_text};
+ghost use Rattle.smf_admin.specs.Listing.{entries, entry_of, entry_text, header_of, is_listed, svcs_text};
 
-use smf_fmri::{InstanceFmri, Text};
+use smf_fmri::{InstanceFmri, Keyed, Ordered, Text};
 use smf_state::{State, ViewItem};
 use std::alloc::{AllocError, Global};
-use std::cmp::Ordering;
 
 /// What svcs prints of an instance.
 #[derive(Debug, Drop)]
@@ -13,6 +13,18 @@ struct Entry {
     name: InstanceFmri,
     state: State,
     in_transition: bool,
+}
+
+impl Keyed for Entry {
+    type Key = InstanceFmri;
+
+    ghost by = { by_text (λ e. e.name) };
+
+    fn key(&self) -> &InstanceFmri {
+        &self.name
+    }
+
+    ghost same = { refl };
 }
 
 /// Whether the words behind svcs want the header; none is bad usage.
@@ -43,37 +55,15 @@ fn entry_of(item: &ViewItem) -> Result<Entry, AllocError>
     })
 }
 
-/// The place of the first entry whose name is not less, or the length.
-fn place_of(entries: &[Entry], name: &InstanceFmri) -> usize
-    ensures { result ≡ place_of 0 name.now entries.now }
-{
-    let mut at = 0;
-    for other in entries {
-        match name.cmp(&other.name) {
-            Ordering::Less | Ordering::Equal => return at,
-            Ordering::Greater => at += 1,
-        }
-    }
-    at
-}
-
-fn put_in_order(entries: &mut Vec<Entry>, entry: Entry) -> Result<(), AllocError>
-    ensures { OnOk result (entries.new.items ≡ put_in_order entry entries.old.items) }
-{
-    let place = place_of(entries, &entry.name);
-    entries.insert(place, entry)?;
-    Ok(())
-}
-
 /// The entries of the instances that are enabled or run, in the byte order of their names.
 #[tactic(auto, unfolding(crate::specs::Listing::entries))]
-fn entries(alloc: Global, view: &[ViewItem]) -> Result<Vec<Entry>, AllocError>
-    ensures { IfOk result (λ es. es.items ≡ entries view.now) }
+fn entries(alloc: Global, view: &[ViewItem]) -> Result<Ordered<Entry>, AllocError>
+    ensures { IfOk result (λ es. es ≡ entries view.now) }
 {
-    let mut entries = Vec::new(alloc);
+    let mut entries = Ordered::new(alloc);
     for item in view {
         if is_listed(item) {
-            put_in_order(&mut entries, entry_of(item)?)?;
+            entries.put(entry_of(item)?)?;
         }
     }
     Ok(entries)
@@ -123,6 +113,6 @@ pub fn svcs_text(alloc: Global, view: &[ViewItem], header: bool) -> Result<Text,
     if header {
         out.push_str("STATE          FMRI\n")?;
     }
-    put_entries(&mut out, &entries)?;
+    put_entries(&mut out, entries.as_slice())?;
     Ok(Text::from_string(out))
 }
