@@ -1,6 +1,9 @@
 pub mod Entries
+pub mod EventRows
+pub mod EventSteps
 pub mod Installs
 pub mod Kept
+pub mod LawEvents
 pub mod LawHistory
 pub mod LawLists
 pub mod LawNumbers

@@ -7,6 +7,7 @@ pub mod Tables
 pub mod Laws
 pub mod Shown
 pub mod History
+pub mod Events
 pub mod Whole
 pub mod Journals
 pub mod Copied

@@ -2,6 +2,7 @@ ghost use Rattle.std.specs.Prelude.{◌≡◌, ◌⊎◌, ◌+◌, ◌≤◌, []
 ghost use Rattle.smf_model.specs.declared.command.Command.{Command as AnyCommand};
 ghost use Rattle.smf_model.specs.declared.held.Instance.{Instance as AnyInstance};
 ghost use Rattle.smf_model.specs.declared.held.Snapshot.{Snapshot as AnySnapshot};
+ghost use Rattle.smf_model.specs.Events.{EventKind, IsDated, IsKept, IsTold};
 ghost use Rattle.smf_model.specs.History.{AreInTurn, HasValueAt, entries, history, made, now};
 ghost use Rattle.smf_model.specs.Holdings.{Holdings};
 ghost use Rattle.smf_model.specs.Laws.{GetsNextNumber, HasTheName, InstanceStaysGone, IsFoundByName, IsGrantedAgain};
@@ -63,4 +64,13 @@ pub fn histories_are_made_in_turn()
     ensures first { (h : Holdings) (cs : List AnyCommand) → (history h cs).first ≡ h }
     ensures turn { (h : Holdings) (cs : List AnyCommand) → AreInTurn h (entries (history h cs)) }
     ensures found { (h : Holdings) (cs : List AnyCommand) (n : ℕ) → HasValueAt h cs n }
+{}
+
+/// A row keeps the revision of the last event of each kind: what it keeps is above a base exactly where such an event
+/// came after the base. No row keeps a revision that is still to come.
+pub fn revisions_tell_events()
+    ensures at_first { IsDated empty }
+    ensures kept { (h : Holdings) (c : AnyCommand) → IsNumbered h → IsDated h → IsDated (next h c).0 }
+    ensures told { (h : Holdings) (cs : List AnyCommand) (k : EventKind) (n base : ℕ) (i : AnyInstance) → IsTold h cs k n base i }
+    ensures happened { (h : Holdings) (cs : List AnyCommand) (k : EventKind) (n base : ℕ) (i : AnyInstance) → IsKept h cs k n base i }
 {}

@@ -1,0 +1,114 @@
+-- The events of instances, told by commands and what they led to, and the revisions that rows keep of them.
+use Rattle.std.specs.Prelude.{◌≡◌, ◌⊎◌, ℕ, ◌+◌, ◌≤◌, ◌<◌, List, [], ◌∷◌, Bool, true, false, Some}
+use Rattle.smf_state.specs.declared.row.Row.{Row}
+use Rattle.smf_state.specs.declared.state.Cause.{Cause}
+use Rattle.smf_state.specs.declared.state.Cause.TheVariants as causes
+use Rattle.smf_state.specs.declared.state.State.{State}
+use Rattle.smf_state.specs.declared.state.State.TheVariants.{Offline, Online}
+use Rattle.smf_state.specs.declared.step.Proposal.{Proposal}
+use Rattle.smf_state.specs.declared.step.Step.TheVariants.{End}
+use Rattle.smf_state.specs.States.{runs}
+use Rattle.smf_model.specs.declared.command.Command.{Command}
+use Rattle.smf_model.specs.declared.command.Command.TheVariants as commands
+use Rattle.smf_model.specs.declared.command.Edit.TheVariants as asked_for
+use Rattle.smf_model.specs.declared.command.Reply.{Reply}
+use Rattle.smf_model.specs.declared.command.Reply.TheVariants.{Granted, Done}
+use Rattle.smf_model.specs.declared.held.Instance.{Instance}
+use Rattle.smf_model.specs.Holdings.{Holdings}
+use Rattle.smf_model.specs.Look.{instance}
+use Rattle.smf_model.specs.Next.{next}
+use Rattle.smf_model.specs.History.{made}
+use Rattle.smf_model.specs.Laws.{IsNumbered}
+
+-- a stop by an error, any other stop, a refresh of an instance that runs, and a start that succeeded
+pub data EventKind : Type 0 where
+  ErrorStop : EventKind
+  OtherStop : EventKind
+  Refreshed : EventKind
+  Started : EventKind
+
+-- the revision that a row keeps of the last event of a kind
+abbrev pub revision_of : EventKind → Row → ℕ
+revision_of ErrorStop row = row.err
+revision_of OtherStop row = row.stop
+revision_of Refreshed row = row.refresh
+revision_of Started row = row.start
+
+-- ---- what an event is: a value h, a command c, the value k that it led to, and its reply r
+
+-- a proposal that ends what is under way at the instance n is granted, for the first time, since it makes a revision
+pub record Ends (n : ℕ) (h : Holdings) (c : Command) (k : Holdings) (r : Reply) : Type 0 where
+  pub proposal : Proposal
+  pub to : State
+  pub keep : Bool
+  pub failed : ℕ
+  pub cause : Cause
+  pub before : Instance
+  pub after : Instance
+  pub proposed : c ≡ commands.Propose proposal
+  pub of_instance : proposal.instance ≡ n
+  pub step : proposal.step ≡ End to keep failed cause
+  pub was : instance h n ≡ Some before
+  pub became : instance k n ≡ Some after
+  pub granted : r ≡ Granted after.row
+  pub revised : k.revision ≡ h.revision + 1
+
+-- an instance that ran does not run any more, by an error
+pub record IsErrorStop (n : ℕ) (h : Holdings) (c : Command) (k : Holdings) (r : Reply) : Type 0 where
+  pub end : Ends n h c k r
+  pub ran : runs end.before.row.state ≡ true
+  pub stopped : runs end.after.row.state ≡ false
+  pub by_error : end.cause ≡ causes.Error
+
+-- or by another cause
+pub record IsOtherStop (n : ℕ) (h : Holdings) (c : Command) (k : Holdings) (r : Reply) : Type 0 where
+  pub end : Ends n h c k r
+  pub ran : runs end.before.row.state ≡ true
+  pub stopped : runs end.after.row.state ≡ false
+  pub by_other : end.cause ≡ causes.Error → ⊥
+
+-- a refresh of an instance that runs is accepted
+pub record IsRefresh (n : ℕ) (h : Holdings) (c : Command) (k : Holdings) (r : Reply) : Type 0 where
+  pub asked : c ≡ commands.Edit (asked_for.Refresh n)
+  pub done : r ≡ Done
+  pub before : Instance
+  pub was : instance h n ≡ Some before
+  pub ran : runs before.row.state ≡ true
+
+-- an instance that was offline is online
+pub record IsStart (n : ℕ) (h : Holdings) (c : Command) (k : Holdings) (r : Reply) : Type 0 where
+  pub end : Ends n h c k r
+  pub from : end.before.row.state ≡ Offline
+  pub online : end.after.row.state ≡ Online
+
+abbrev pub IsEventTo : EventKind → ℕ → Holdings → Command → Holdings → Reply → Type 0
+IsEventTo ErrorStop n h c k r = IsErrorStop n h c k r
+IsEventTo OtherStop n h c k r = IsOtherStop n h c k r
+IsEventTo Refreshed n h c k r = IsRefresh n h c k r
+IsEventTo Started n h c k r = IsStart n h c k r
+
+-- the command c on h is an event of this kind for the instance n
+abbrev pub IsEvent : EventKind → ℕ → Holdings → Command → Type 0
+IsEvent kind n h c = IsEventTo kind n h c (next h c).0 (next h c).1
+
+-- ---- in a history
+
+-- among these commands, of which the newest stands first, is an event of this kind for the instance n, and the revision
+-- that it made is above the base
+abbrev pub Happened : EventKind → ℕ → ℕ → Holdings → List Command → Type 0
+Happened kind n base h [] = ⊥
+Happened kind n base h (c ∷ cs) = (IsEvent kind n (made h cs) c × (base < (made h (c ∷ cs)).revision)) ⊎ Happened kind n base h cs
+
+-- no row keeps a revision that is still to come
+abbrev pub IsDated : Holdings → Type 0
+IsDated h = (n : ℕ) (i : Instance) (kind : EventKind) → instance h n ≡ Some i → revision_of kind i.row ≤ h.revision
+
+-- where a row keeps a revision above the base, such an event happened after it
+abbrev pub IsTold : Holdings → List Command → EventKind → ℕ → ℕ → Instance → Type 0
+IsTold h cs kind n base i =
+    IsNumbered h → IsDated h → h.revision ≤ base → instance (made h cs) n ≡ Some i → base < revision_of kind i.row → Happened kind n base h cs
+
+-- and where one happened, the row keeps such a revision
+abbrev pub IsKept : Holdings → List Command → EventKind → ℕ → ℕ → Instance → Type 0
+IsKept h cs kind n base i =
+    IsNumbered h → IsDated h → h.revision ≤ base → instance (made h cs) n ≡ Some i → Happened kind n base h cs → base < revision_of kind i.row
