@@ -38,6 +38,7 @@ fn line_text(alloc: Global, line: &Line) -> Result<String, AllocError> {
     match line {
         Line::Nothing => String::from_str(alloc, "nothing"),
         Line::Select(word) => child_text(alloc, CfgCommand::Select, word),
+        Line::Unselect => String::from_str(alloc, CfgCommand::Unselect.as_str()),
         Line::Add(word) => child_text(alloc, CfgCommand::Add, word),
         Line::AddGroup { name, group_type } => {
             let command = CfgCommand::AddGroup;
@@ -49,6 +50,7 @@ fn line_text(alloc: Global, line: &Line) -> Result<String, AllocError> {
             kind,
             value,
         } => set_text(alloc, group, property, *kind, value),
+        Line::End => String::from_str(alloc, CfgCommand::End.as_str()),
     }
 }
 

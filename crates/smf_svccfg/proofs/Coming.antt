@@ -8,7 +8,8 @@ use Rattle.smf_value.specs.declared.kind.Kind.{Kind}
 use Rattle.smf_model.specs.declared.held.Instance.{Instance}
 use Rattle.smf_model.specs.declared.held.Owner.{Owner}
 use Rattle.smf_model.specs.Holdings.{Holdings}
-use Rattle.smf_model.specs.Look.{service, named}
+use Rattle.smf_model.specs.Look.{instance, service, named}
+use Rattle.smf_model.specs.Setting.{service_fmri}
 use Rattle.smf_svccfg.specs.declared.fault.CfgFault.{CfgFault}
 use Rattle.smf_svccfg.specs.declared.fault.LineFault.{LineFault}
 use Rattle.smf_svccfg.specs.declared.line.Line.{Line}
@@ -16,8 +17,9 @@ use Rattle.smf_svccfg.specs.declared.line.Line.TheVariants as lines
 use Rattle.smf_svccfg.specs.declared.selection.Selection.{Selection}
 use Rattle.smf_svccfg.specs.declared.selection.Selection.TheVariants as selected
 use Rattle.smf_svccfg.specs.declared.selection.Judged.{Judged}
+use Rattle.smf_svccfg.specs.declared.selection.Judged.TheVariants as judgements
 use Rattle.smf_svccfg.specs.Lines.{name_in, line_of}
-use Rattle.smf_svccfg.specs.Judged.{Fits, Gives, IsPresent, added_instance, added_service, child, entity, entity_by, judged, judged_add, judged_add_group, judged_by, judged_line, judged_select, judged_set, owner_of, present_instance, present_service, read_service}
+use Rattle.smf_svccfg.specs.Judged.{Fits, FitsBy, Gives, IsPresent, above_instance, added_instance, added_service, child, entity, entity_by, judged, judged_add, judged_add_group, judged_by, judged_line, judged_select, judged_set, judged_unselect, leaves_by, is_leaving, owner_of, present_instance, present_service, read_service}
 
 -- ---- what is selected is there
 
@@ -52,55 +54,68 @@ entity_by_present h (Ok name) =
     (instance_present h (named_instance name)) (service_present h (named_service name))
 entity_by_present h (Err e) = tt
 
-select_fits : (h : Holdings) (s : Selection) (a b : Option Selection) → IfSome a (IsPresent h) → IfSome b (IsPresent h) → IfOk (judged_select a b) (Fits h s)
+select_fits : (h : Holdings) (s : Selection) (a b : Option Selection) → IfSome a (IsPresent h) → IfSome b (IsPresent h) → IfOk (judged_select a b) (FitsBy false h s)
 select_fits h s (Some found) b p q = p
 select_fits h s None (Some found) p q = q
 select_fits h s None None p q = tt
 
 -- ---- an edit is of what is selected
 
-added_service_fits : (h : Holdings) (name : Option (List ℕ)) → IfOk (added_service name) (Fits h selected.Nothing)
+added_service_fits : (h : Holdings) (name : Option (List ℕ)) → IfOk (added_service name) (FitsBy false h selected.Nothing)
 added_service_fits h (Some name) = tt
 added_service_fits h None = tt
 
-added_instance_fits : (h : Holdings) (s : List ℕ) (name : Option (List ℕ)) → IfOk (added_instance s name) (Fits h (selected.Service s))
+added_instance_fits : (h : Holdings) (s : List ℕ) (name : Option (List ℕ)) → IfOk (added_instance s name) (FitsBy false h (selected.Service s))
 added_instance_fits h s (Some name) = refl
 added_instance_fits h s None = tt
 
-add_fits : (h : Holdings) (s : Selection) (word : List ℕ) → IfOk (judged_add s word) (Fits h s)
+add_fits : (h : Holdings) (s : Selection) (word : List ℕ) → IfOk (judged_add s word) (FitsBy false h s)
 add_fits h selected.Nothing word = added_service_fits h (read_service (short ++ word))
 add_fits h (selected.Service s) word = added_instance_fits h s (name_in word)
 add_fits h (selected.Instance n) word = tt
 
-group_fits : (h : Holdings) (s : Selection) (o : Option Owner) (name group_type : List ℕ) → owner_of s ≡ o → IfOk (judged_add_group o name group_type) (Fits h s)
+group_fits : (h : Holdings) (s : Selection) (o : Option Owner) (name group_type : List ℕ) → owner_of s ≡ o → IfOk (judged_add_group o name group_type) (FitsBy false h s)
 group_fits h s None name group_type e = tt
 group_fits h s (Some owner) name group_type e = e
 
 set_fits : (h : Holdings) (s : Selection) (o : Option Owner) (group property : List ℕ) (kind : Kind) (value : List ℕ) → owner_of s ≡ o
-    → IfOk (judged_set o group property kind value) (Fits h s)
+    → IfOk (judged_set o group property kind value) (FitsBy false h s)
 set_fits h s None group property kind value e = tt
 set_fits h s (Some owner) group property kind value e = e
 
+-- ---- a line that leaves goes up
+
+above_fits : (h : Holdings) (n : ℕ) (i : Option Instance) → instance h n ≡ i → FitsBy true h (selected.Instance n) (judgements.Select (above_instance i))
+above_fits h n None e = tt
+above_fits h n (Some i) e = ap (option_map (λ j. service_fmri j.name)) e
+
+unselect_fits : (h : Holdings) (s : Selection) → IfOk (judged_unselect h s) (FitsBy true h s)
+unselect_fits h selected.Nothing = tt
+unselect_fits h (selected.Service s) = tt
+unselect_fits h (selected.Instance n) = above_fits h n (instance h n) refl
+
 -- ---- the whole
 
-line_fits : (h : Holdings) (s : Selection) (line : Line) → IfOk (judged_line h s line) (Fits h s)
+line_fits : (h : Holdings) (s : Selection) (line : Line) → IfOk (judged_line h s line) (FitsBy (is_leaving line) h s)
 line_fits h s lines.Nothing = tt
 line_fits h s (lines.Select word) = select_fits h s (child h s word) (entity h word) (child_present h s word) (entity_by_present h (read word))
+line_fits h s lines.Unselect = unselect_fits h s
 line_fits h s (lines.Add word) = add_fits h s word
 line_fits h s (lines.AddGroup name group_type) = group_fits h s (owner_of s) name group_type refl
 line_fits h s (lines.Set group property kind value) = set_fits h s (owner_of s) group property kind value refl
+line_fits h s lines.End = tt
 
-by_fits : (h : Holdings) (s : Selection) (r : Result Line LineFault) → IfOk (judged_by h s r) (Fits h s)
+by_fits : (h : Holdings) (s : Selection) (r : Result Line LineFault) → IfOk (judged_by h s r) (FitsBy (leaves_by r) h s)
 by_fits h s (Ok line) = line_fits h s line
 by_fits h s (Err e) = tt
 
-judged_fits : (h : Holdings) (s : Selection) (line : List ℕ) → IfOk (judged h s line) (Fits h s)
+judged_fits : (h : Holdings) (s : Selection) (line : List ℕ) → IfOk (judged h s line) (Fits h s line)
 unfolding judged
 judged_fits h s line = by_fits h s (line_of line)
 
-given_fits : (h : Holdings) (s : Selection) (r given : Result Judged CfgFault) → Gives r given → IfOk given (Fits h s) → IfOk r (Fits h s)
-given_fits h s (Ok j) given e p = let P : Result Judged CfgFault → Type 0 = λ x. IfOk x (Fits h s) in subst P e p
-given_fits h s (Err f) given e p = tt
+given_fits : (P : Judged → Type 0) (r given : Result Judged CfgFault) → Gives r given → IfOk given P → IfOk r P
+given_fits P (Ok j) given e p = let Q : Result Judged CfgFault → Type 0 = λ x. IfOk x P in subst Q e p
+given_fits P (Err f) given e p = tt
 
-pub comes_fit : (h : Holdings) (s : Selection) (line : List ℕ) (r : Result Judged CfgFault) → Gives r (judged h s line) → IfOk r (Fits h s)
-comes_fit h s line r e = given_fits h s r (judged h s line) e (judged_fits h s line)
+pub comes_fit : (h : Holdings) (s : Selection) (line : List ℕ) (r : Result Judged CfgFault) → Gives r (judged h s line) → IfOk r (Fits h s line)
+comes_fit h s line r e = given_fits (Fits h s line) r (judged h s line) e (judged_fits h s line)

@@ -165,24 +165,30 @@ kind_again Fmri = refl
 all_bare : (l : Line) → IsWritable l → AllByRecursion IsBare (words_for l)
 all_bare lines.Nothing h = tt
 all_bare (lines.Select word) h = (bare (codes "select") refl refl refl, (h, tt))
+all_bare lines.Unselect h = (bare (codes "unselect") refl refl refl, tt)
 all_bare (lines.Add word) h = (bare (codes "add") refl refl refl, (h, tt))
 all_bare (lines.AddGroup name group_type) h = (bare (codes "addpg") refl refl refl, (name_bare name h.0, (name_bare group_type h.1, tt)))
 all_bare (lines.Set group property kind value) h =
     (bare (codes "setprop") refl refl refl, (slashed_bare group property h.0 h.1, (bare (codes "=") refl refl refl, (kind_bare kind, (h.2, tt)))))
+all_bare lines.End h = (bare (codes "end") refl refl refl, tt)
 
 no_comment : (l : Line) → is_comment (written l) ≡ false
 no_comment lines.Nothing = refl
 no_comment (lines.Select word) = refl
+no_comment lines.Unselect = refl
 no_comment (lines.Add word) = refl
 no_comment (lines.AddGroup name group_type) = refl
 no_comment (lines.Set group property kind value) = refl
+no_comment lines.End = refl
 
 words_give : (l : Line) → IsWritable l → line_by (words_for l) ≡ Ok l
 words_give lines.Nothing h = refl
 words_give (lines.Select word) h = refl
+words_give lines.Unselect h = refl
 words_give (lines.Add word) h = refl
 words_give (lines.AddGroup name group_type) h = rw (name_again name h.0, name_again group_type h.1) refl
 words_give (lines.Set group property kind value) h = rw (target_again group property h.0 h.1, kind_again kind) refl
+words_give lines.End h = refl
 
 line_by_parts : (text : List ℕ) (ws : List (List ℕ)) (l : Result Line LineFault) → is_comment text ≡ false → list_any is_quoting text ≡ false → words text ≡ ws → line_by ws ≡ l → line_of text ≡ l
 unfolding line_of

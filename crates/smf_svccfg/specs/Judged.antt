@@ -1,5 +1,5 @@
 -- What a line is judged to be, where something is selected in a repository.
-use Rattle.std.specs.Prelude.{◌≡◌, ℕ, List, [], ◌∷◌, ◌++◌, nat_eq, codes, false, true, if◌then◌else◌, Option, Some, None, is_some, option_map, Result, Ok, Err}
+use Rattle.std.specs.Prelude.{◌≡◌, ℕ, List, [], ◌∷◌, ◌++◌, nat_eq, codes, Bool, false, true, if◌then◌else◌, Option, Some, None, is_some, option_map, Result, Ok, Err}
 use Rattle.std.specs.Cmp.Lexicographic.{pointwise}
 use Rattle.smf_fmri.specs.declared.fault.FmriFault.{FmriFault}
 use Rattle.smf_fmri.specs.Name.{short, read}
@@ -8,10 +8,12 @@ use Rattle.smf_value.specs.declared.kind.Kind.{Kind}
 use Rattle.smf_model.specs.declared.command.Edit.{Edit}
 use Rattle.smf_model.specs.declared.command.Edit.TheVariants as edits
 use Rattle.smf_model.specs.declared.command.PropertyChange.TheVariants as properties
+use Rattle.smf_model.specs.declared.held.Instance.{Instance}
 use Rattle.smf_model.specs.declared.held.Owner.{Owner}
 use Rattle.smf_model.specs.declared.held.Owner.TheVariants as owners
 use Rattle.smf_model.specs.Holdings.{Holdings}
-use Rattle.smf_model.specs.Look.{service, named}
+use Rattle.smf_model.specs.Look.{instance, service, named}
+use Rattle.smf_model.specs.Setting.{service_fmri}
 use Rattle.smf_svccfg.specs.declared.command.CfgCommand.TheVariants as commands
 use Rattle.smf_svccfg.specs.declared.fault.CfgFault.{CfgFault}
 use Rattle.smf_svccfg.specs.declared.fault.CfgFault.TheVariants.{Memory, Unknown, Usage, NotSelected, NoSuch}
@@ -74,6 +76,18 @@ abbrev pub judged_select : Option Selection → Option Selection → Result Judg
 judged_select (Some s) other = Ok (judgements.Select s)
 judged_select None other = judged_by_name other
 
+-- ---- unselect
+
+-- what stands above an instance: its service, or nothing where it is not there any more
+abbrev pub above_instance : Option Instance → Selection
+above_instance None = selected.Nothing
+above_instance (Some i) = selected.Service (service_fmri i.name)
+
+abbrev pub judged_unselect : Holdings → Selection → Result Judged CfgFault
+judged_unselect h selected.Nothing = Err NotSelected
+judged_unselect h (selected.Service s) = Ok (judgements.Select selected.Nothing)
+judged_unselect h (selected.Instance n) = Ok (judgements.Select (above_instance (instance h n)))
+
 -- ---- edits
 
 abbrev pub added_service : Option (List ℕ) → Result Judged CfgFault
@@ -108,9 +122,11 @@ judged_set (Some owner) group property kind value = Ok (judgements.Edit (edits.P
 abbrev pub judged_line : Holdings → Selection → Line → Result Judged CfgFault
 judged_line h s lines.Nothing = Ok judgements.Nothing
 judged_line h s (lines.Select word) = judged_select (child h s word) (entity h word)
+judged_line h s lines.Unselect = judged_unselect h s
 judged_line h s (lines.Add word) = judged_add s word
 judged_line h s (lines.AddGroup name group_type) = judged_add_group (owner_of s) name group_type
 judged_line h s (lines.Set group property kind value) = judged_set (owner_of s) group property kind value
+judged_line h s lines.End = Ok (judgements.Select selected.Nothing)
 
 abbrev pub given_by : LineFault → CfgFault
 given_by line_faults.Memory = Memory
@@ -141,11 +157,34 @@ Concerns (edits.AddGroup owner name group_type non_persistent) s = owner_of s �
 Concerns (edits.Property owner group change) s = owner_of s ≡ Some owner
 Concerns _ s = ⊥
 
--- what is selected anew is present, and an edit is of what is selected
-abbrev pub Fits : Holdings → Selection → Judged → Type 0
-Fits h s judgements.Nothing = Unit {0}
-Fits h s (judgements.Select found) = IsPresent h found
-Fits h s (judgements.Edit edit) = Concerns edit s
+-- nothing, or the service of the selected instance
+abbrev pub IsAbove : Holdings → Selection → Selection → Type 0
+IsAbove h s selected.Nothing = Unit {0}
+IsAbove h (selected.Instance n) (selected.Service name) = option_map (λ i. service_fmri i.name) (instance h n) ≡ Some name
+IsAbove h s found = ⊥
+
+-- a line that leaves what is selected
+abbrev pub is_leaving : Line → Bool
+is_leaving lines.Unselect = true
+is_leaving lines.End = true
+is_leaving _ = false
+
+abbrev pub leaves_by : Result Line LineFault → Bool
+leaves_by (Ok line) = is_leaving line
+leaves_by (Err e) = false
+
+abbrev pub MaySelect : Bool → Holdings → Selection → Selection → Type 0
+MaySelect true h s found = IsAbove h s found
+MaySelect false h s found = IsPresent h found
+
+abbrev pub FitsBy : Bool → Holdings → Selection → Judged → Type 0
+FitsBy leaves h s judgements.Nothing = Unit {0}
+FitsBy leaves h s (judgements.Select found) = MaySelect leaves h s found
+FitsBy leaves h s (judgements.Edit edit) = Concerns edit s
+
+-- what is selected anew is present, or stands above what is left; an edit is of what is selected
+abbrev pub Fits : Holdings → Selection → List ℕ → Judged → Type 0
+Fits h s line j = FitsBy (leaves_by (line_of line)) h s j
 
 -- ---- texts
 

@@ -29,17 +29,25 @@ Gives (Err e) given = Fails e given
 
 abbrev pub command_text : CfgCommand → List ℕ
 command_text commands.Select = codes "select"
+command_text commands.Unselect = codes "unselect"
 command_text commands.Add = codes "add"
 command_text commands.AddGroup = codes "addpg"
 command_text commands.SetProperty = codes "setprop"
+command_text commands.End = codes "end"
+command_text commands.Exit = codes "exit"
+command_text commands.Quit = codes "quit"
 
 -- the command of a word
 abbrev pub command_from : List ℕ → Option CfgCommand
 command_from word =
     if pointwise nat_eq word (codes "select") then Some commands.Select
+    else if pointwise nat_eq word (codes "unselect") then Some commands.Unselect
     else if pointwise nat_eq word (codes "add") then Some commands.Add
     else if pointwise nat_eq word (codes "addpg") then Some commands.AddGroup
     else if pointwise nat_eq word (codes "setprop") then Some commands.SetProperty
+    else if pointwise nat_eq word (codes "end") then Some commands.End
+    else if pointwise nat_eq word (codes "exit") then Some commands.Exit
+    else if pointwise nat_eq word (codes "quit") then Some commands.Quit
     else None
 
 -- ---- what words name
@@ -93,6 +101,10 @@ abbrev pub select_line : List (List ℕ) → Result Line LineFault
 select_line (word ∷ []) = Ok (lines.Select word)
 select_line _ = Err (Usage commands.Select)
 
+abbrev pub unselect_line : List (List ℕ) → Result Line LineFault
+unselect_line [] = Ok lines.Unselect
+unselect_line _ = Err (Usage commands.Unselect)
+
 abbrev pub add_line : List (List ℕ) → Result Line LineFault
 add_line (word ∷ []) = Ok (lines.Add word)
 add_line _ = Err (Usage commands.Add)
@@ -120,12 +132,21 @@ set_line (target ∷ sign ∷ value ∷ []) = if is_equals sign then Err Unknown
 set_line (target ∷ sign ∷ kind ∷ value ∷ []) = if is_equals sign then new_value_line (target_in target) (kind_in kind) value else Err (Usage commands.SetProperty)
 set_line _ = Err (Usage commands.SetProperty)
 
+-- a command by which svccfg ends
+abbrev pub end_line : CfgCommand → List (List ℕ) → Result Line LineFault
+end_line command [] = Ok lines.End
+end_line command _ = Err (Usage command)
+
 abbrev pub command_line : Option CfgCommand → List (List ℕ) → Result Line LineFault
 command_line None arguments = Err Unknown
 command_line (Some commands.Select) arguments = select_line arguments
+command_line (Some commands.Unselect) arguments = unselect_line arguments
 command_line (Some commands.Add) arguments = add_line arguments
 command_line (Some commands.AddGroup) arguments = add_group_line arguments
 command_line (Some commands.SetProperty) arguments = set_line arguments
+command_line (Some commands.End) arguments = end_line commands.End arguments
+command_line (Some commands.Exit) arguments = end_line commands.Exit arguments
+command_line (Some commands.Quit) arguments = end_line commands.Quit arguments
 
 -- ---- the line
 
@@ -159,16 +180,20 @@ pub record IsBare (text : List ℕ) : Type 0 where
 abbrev pub IsWritable : Line → Type 0
 IsWritable lines.Nothing = Unit {0}
 IsWritable (lines.Select word) = IsBare word
+IsWritable lines.Unselect = Unit {0}
 IsWritable (lines.Add word) = IsBare word
 IsWritable (lines.AddGroup name group_type) = IsNameText name × IsNameText group_type
 IsWritable (lines.Set group property kind value) = IsNameText group × IsNameText property × IsBare value
+IsWritable lines.End = Unit {0}
 
 abbrev pub words_for : Line → List (List ℕ)
 words_for lines.Nothing = []
 words_for (lines.Select word) = codes "select" ∷ word ∷ []
+words_for lines.Unselect = codes "unselect" ∷ []
 words_for (lines.Add word) = codes "add" ∷ word ∷ []
 words_for (lines.AddGroup name group_type) = codes "addpg" ∷ name ∷ group_type ∷ []
 words_for (lines.Set group property kind value) = codes "setprop" ∷ (group ++ 47 ∷ property) ∷ codes "=" ∷ (kind_text kind ++ 58 ∷ []) ∷ value ∷ []
+words_for lines.End = codes "end" ∷ []
 
 -- a line as it is written, with one space between two words
 abbrev pub written : Line → List ℕ

@@ -7,9 +7,13 @@ use std::fmt;
 #[derive(Clone, Copy, Debug, PartialEq, Eq)]
 pub enum CfgCommand {
     Select,
+    Unselect,
     Add,
     AddGroup,
     SetProperty,
+    End,
+    Exit,
+    Quit,
 }
 
 impl CfgCommand {
@@ -18,9 +22,13 @@ impl CfgCommand {
     {
         match self {
             CfgCommand::Select => "select",
+            CfgCommand::Unselect => "unselect",
             CfgCommand::Add => "add",
             CfgCommand::AddGroup => "addpg",
             CfgCommand::SetProperty => "setprop",
+            CfgCommand::End => "end",
+            CfgCommand::Exit => "exit",
+            CfgCommand::Quit => "quit",
         }
     }
 
@@ -30,12 +38,20 @@ impl CfgCommand {
     {
         if word == "select" {
             Some(CfgCommand::Select)
+        } else if word == "unselect" {
+            Some(CfgCommand::Unselect)
         } else if word == "add" {
             Some(CfgCommand::Add)
         } else if word == "addpg" {
             Some(CfgCommand::AddGroup)
         } else if word == "setprop" {
             Some(CfgCommand::SetProperty)
+        } else if word == "end" {
+            Some(CfgCommand::End)
+        } else if word == "exit" {
+            Some(CfgCommand::Exit)
+        } else if word == "quit" {
+            Some(CfgCommand::Quit)
         } else {
             None
         }

@@ -1,6 +1,7 @@
 ghost use Rattle.std.specs.Prelude.{◌≡◌, [], ◌++◌, ◌∷◌, IfOk};
 ghost use Rattle.smf_fmri.specs.Name.{short};
-ghost use Rattle.smf_svccfg.specs.Judged.{Fits, Gives, child, entity, judged, judged_add, judged_add_group, judged_select, judged_set, owner_of, present_instance, present_service, read_service};
+ghost use Rattle.smf_model.specs.Look.{instance};
+ghost use Rattle.smf_svccfg.specs.Judged.{Fits, Gives, above_instance, child, entity, judged, judged_add, judged_add_group, judged_select, judged_set, judged_unselect, owner_of, present_instance, present_service, read_service};
 
 use crate::command::CfgCommand;
 use crate::fault::CfgFault;
@@ -121,6 +122,40 @@ fn select<J: Journal>(
     }
 }
 
+/// What stands above an instance: its service, or nothing where it is not there any more.
+fn above_instance<J: Journal>(
+    alloc: Global,
+    repository: &Plain<J>,
+    number: u64,
+) -> Result<Selection, AllocError>
+    ensures { IfOk result (λ found. found ≡ above_instance (instance repository.now.held number)) }
+{
+    match repository.instance(number)? {
+        None => Ok(Selection::Nothing),
+        Some(instance) => {
+            let service = instance.name.as_fmri().service_fmri(alloc)?;
+            Ok(Selection::Service(service))
+        }
+    }
+}
+
+fn unselect<J: Journal>(
+    alloc: Global,
+    repository: &Plain<J>,
+    selection: &Selection,
+) -> Result<Judged, CfgFault>
+    ensures { Gives result (judged_unselect repository.now.held selection.now) }
+{
+    match selection {
+        Selection::Nothing => Err(CfgFault::NotSelected),
+        Selection::Service(_) => Ok(Judged::Select(Selection::Nothing)),
+        Selection::Instance(number) => {
+            let above = above_instance(alloc, repository, *number)?;
+            Ok(Judged::Select(above))
+        }
+    }
+}
+
 fn add(alloc: Global, selection: &Selection, word: &str) -> Result<Judged, CfgFault>
     ensures { Gives result (judged_add selection.now word.now) }
 {
@@ -205,8 +240,8 @@ pub fn judge<J: Journal>(
     selection: &Selection,
     line: &str,
 ) -> Result<Judged, CfgFault>
-    // What is selected anew is present, and an edit is of what is selected.
-    ensures fits { IfOk result (λ j. Fits repository.now.held selection.now j) }
+    // What is selected anew is present, or stands above what is left; an edit is of what is selected.
+    ensures fits { IfOk result (λ j. Fits repository.now.held selection.now line.now j) }
     ensures exact { Gives result (judged repository.now.held selection.now line.now) }
 {
     come(alloc, repository, selection, line)
@@ -224,6 +259,7 @@ fn come<J: Journal>(
     match parse_line(alloc, line)? {
         Line::Nothing => Ok(Judged::Nothing),
         Line::Select(word) => select(alloc, repository, selection, word.as_str()),
+        Line::Unselect => unselect(alloc, repository, selection),
         Line::Add(word) => add(alloc, selection, word.as_str()),
         Line::AddGroup { name, group_type } => add_group(selection, name, group_type),
         Line::Set {
@@ -232,5 +268,6 @@ fn come<J: Journal>(
             kind,
             value,
         } => set(alloc, selection, group, property, kind, value),
+        Line::End => Ok(Judged::Select(Selection::Nothing)),
     }
 }

@@ -1,7 +1,7 @@
 ghost use Rattle.std.specs.List.{list_any};
 ghost use Rattle.std.specs.Prelude.{◌≡◌, IfOk, Ok, option_map};
 ghost use Rattle.smf_svccfg.specs.declared.line.Line.{Line as AnyLine};
-ghost use Rattle.smf_svccfg.specs.Lines.{Gives, IsWritable, add_group_line, add_line, is_comment, is_quoting, kind_in, line_by, line_of, name_in, new_group_line, new_value_line, parts_at_slash, select_line, set_line, target_in, written};
+ghost use Rattle.smf_svccfg.specs.Lines.{Gives, IsWritable, add_group_line, add_line, end_line, is_comment, is_quoting, kind_in, line_by, line_of, name_in, new_group_line, new_value_line, parts_at_slash, select_line, set_line, target_in, unselect_line, written};
 
 use crate::command::CfgCommand;
 use crate::fault::LineFault;
@@ -16,6 +16,8 @@ pub enum Line {
     Nothing,
     /// A child of what is selected, or an entity by its full name.
     Select(Text),
+    /// What stands above what is selected.
+    Unselect,
     Add(Text),
     AddGroup {
         name: Name,
@@ -27,6 +29,8 @@ pub enum Line {
         kind: Kind,
         value: Text,
     },
+    /// svccfg ends. Nothing is selected where it begins again.
+    End,
 }
 
 /// The group and the property that a word names.
@@ -123,6 +127,15 @@ fn select_line(arguments: &[Text]) -> Result<Line, LineFault>
     }
 }
 
+fn unselect_line(arguments: &[Text]) -> Result<Line, LineFault>
+    ensures { Gives result (unselect_line arguments.now) }
+{
+    match arguments {
+        [] => Ok(Line::Unselect),
+        _ => Err(LineFault::Usage(CfgCommand::Unselect)),
+    }
+}
+
 fn add_line(arguments: &[Text]) -> Result<Line, LineFault>
     ensures { Gives result (add_line arguments.now) }
 {
@@ -183,6 +196,16 @@ fn set_line(alloc: Global, arguments: &[Text]) -> Result<Line, LineFault>
     }
 }
 
+/// A command by which svccfg ends.
+fn end_line(command: CfgCommand, arguments: &[Text]) -> Result<Line, LineFault>
+    ensures { Gives result (end_line command arguments.now) }
+{
+    match arguments {
+        [] => Ok(Line::End),
+        _ => Err(LineFault::Usage(command)),
+    }
+}
+
 fn line_by(alloc: Global, words: &[Text]) -> Result<Line, LineFault>
     ensures { Gives result (line_by words.now) }
 {
@@ -192,9 +215,13 @@ fn line_by(alloc: Global, words: &[Text]) -> Result<Line, LineFault>
     match CfgCommand::read(first.as_str()) {
         None => Err(LineFault::Unknown),
         Some(CfgCommand::Select) => select_line(arguments),
+        Some(CfgCommand::Unselect) => unselect_line(arguments),
         Some(CfgCommand::Add) => add_line(arguments),
         Some(CfgCommand::AddGroup) => add_group_line(alloc, arguments),
         Some(CfgCommand::SetProperty) => set_line(alloc, arguments),
+        Some(CfgCommand::End) => end_line(CfgCommand::End, arguments),
+        Some(CfgCommand::Exit) => end_line(CfgCommand::Exit, arguments),
+        Some(CfgCommand::Quit) => end_line(CfgCommand::Quit, arguments),
     }
 }
 
