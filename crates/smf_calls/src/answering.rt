@@ -2,8 +2,8 @@ use crate::fault::CallFault;
 use crate::views::Views;
 use crate::words::split_word;
 use crate::{
-    config, contracts, cookies, fields, groups, names, refusals, repository, rows, snapshots,
-    steps, values, views,
+    config, contracts, cookies, dependencies, fields, groups, methods, names, refusals, repository,
+    rows, snapshots, steps, values, views,
 };
 use smf_contract::Table;
 use smf_model::{NoJournal, Plain};
@@ -62,6 +62,20 @@ fn value_answer(alloc: Global, call: &str, text: &str) -> Result<Option<String>,
     refusals::answer(alloc, call, text)
 }
 
+/// The same of a call of methods or dependencies, by what the session has.
+fn service_answer(
+    alloc: Global,
+    session: &Session,
+    call: &str,
+    text: &str,
+) -> Result<Option<String>, CallFault> {
+    if let Some(answer) = methods::answer(alloc, &session.group, call, text)? {
+        return Ok(Some(answer));
+    }
+    let items = session.views.items();
+    dependencies::answer(alloc, &session.group, items, call, text)
+}
+
 /// The answer of a call that may change the session.
 fn session_answer(alloc: Global, session: &mut Session, line: &str) -> Result<String, CallFault> {
     let (call, text) = split_word(line);
@@ -84,6 +98,9 @@ fn call_answer(alloc: Global, session: &mut Session, line: &str) -> Result<Strin
         return Ok(answer);
     }
     if let Some(answer) = value_answer(alloc, call, text)? {
+        return Ok(answer);
+    }
+    if let Some(answer) = service_answer(alloc, session, call, text)? {
         return Ok(answer);
     }
     session_answer(alloc, session, line)

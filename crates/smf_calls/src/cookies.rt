@@ -14,7 +14,7 @@ pub(crate) fn answer(alloc: Global, call: &str, text: &str) -> Result<Option<Str
     }))
 }
 
-fn method_of(word: &str) -> Result<Method, CallFault> {
+pub(crate) fn method_of(word: &str) -> Result<Method, CallFault> {
     match word {
         "start" => Ok(Method::Start),
         "stop" => Ok(Method::Stop),

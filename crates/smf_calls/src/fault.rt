@@ -1,5 +1,7 @@
 use smf_contract::{ContractFault, CookieFault};
+use smf_dep::DependencyFault;
 use smf_fmri::{FmriFault, PickFault};
+use smf_method::MethodFault;
 use smf_state::{FieldFault, RowFault, StepFault, StepTextFault, WrongField};
 use smf_svccfg::LineFault;
 use smf_value::{BodyFault, GroupFault, NameFault, ValueFault};
@@ -51,6 +53,10 @@ pub(crate) enum CallFault {
     Cookie(CookieFault),
     #[error("{0}")]
     Line(LineFault),
+    #[error("{0}")]
+    Method(MethodFault),
+    #[error("{0}")]
+    Dependency(DependencyFault),
 }
 
 impl From<AllocError> for RunFault {
@@ -68,6 +74,24 @@ impl From<AllocError> for CallFault {
 impl<T: Drop> From<AllocFailed<T>> for CallFault {
     fn from(_e: AllocFailed<T>) -> CallFault {
         CallFault::Memory
+    }
+}
+
+impl From<MethodFault> for CallFault {
+    fn from(e: MethodFault) -> CallFault {
+        match e {
+            MethodFault::Memory => CallFault::Memory,
+            e => CallFault::Method(e),
+        }
+    }
+}
+
+impl From<DependencyFault> for CallFault {
+    fn from(e: DependencyFault) -> CallFault {
+        match e {
+            DependencyFault::Memory => CallFault::Memory,
+            e => CallFault::Dependency(e),
+        }
     }
 }
 

@@ -1,6 +1,6 @@
 //! `smf_calls`: reads lines that each name a call of the pure crates with its arguments, and prints what it answers.
 //! Modules: `answering` (which family a line is of); the families `names`, `rows`, `steps`, `fields`, `values`, `groups`,
-//! `snapshots`, `contracts`, `cookies`, `config`, `views`, `refusals`, `repository`; `events`, `bytes`, `words`, `fault`.
+//! `snapshots`, `contracts`, `cookies`, `methods`, `dependencies`, `config`, `views`, `refusals`, `repository`; `events`, `bytes`, `words`, `fault`.
 #![tactic(auto)]
 
 mod answering;
@@ -8,10 +8,12 @@ mod bytes;
 mod config;
 mod contracts;
 mod cookies;
+mod dependencies;
 mod events;
 mod fault;
 mod fields;
 mod groups;
+mod methods;
 mod names;
 mod refusals;
 mod repository;

@@ -32,6 +32,10 @@ impl Views {
             engine: Engine::new(),
         }
     }
+
+    pub(crate) fn items(&self) -> &[ViewItem] {
+        self.items.as_slice()
+    }
 }
 
 /// What a call of the view answers, or none where the word is no such call.

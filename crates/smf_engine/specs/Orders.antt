@@ -1,113 +1,174 @@
--- What svc.startd's graph orders, by what it sees of each instance.
-use Rattle.std.specs.Prelude.{ℕ, ◌==◌, ◌&&◌, nat_lt, nat_eq, List, [], ◌∷◌, Bool, true, false, if◌then◌else◌, codes, Option, Some, None, is_none, find, Result, Ok, Err}
-use Rattle.std.specs.Cmp.Lexicographic.{pointwise}
+-- What svc.startd's graph orders, by what it sees of the instances.
+use Rattle.std.specs.Prelude.{ℕ, ◌==◌, ◌&&◌, ◌||◌, not, nat_lt, List, [], ◌∷◌, Bool, true, false, if◌then◌else◌, Option, Some, None, find, Result, Ok, Err}
+use Rattle.std.specs.Int.RustNames.{bit_and}
 use Rattle.std.specs.List.{filter_map}
+use Rattle.smf_contract.specs.declared.cookie.Method.{Method}
+use Rattle.smf_contract.specs.declared.cookie.Method.TheVariants as methods
+use Rattle.smf_state.specs.declared.row.Row.{Row}
 use Rattle.smf_state.specs.declared.state.State.{State}
-use Rattle.smf_state.specs.declared.state.State.TheVariants.{Uninitialized, Disabled, Offline}
-use Rattle.smf_state.specs.declared.state.Duration.{Duration}
-use Rattle.smf_state.specs.declared.state.Duration.TheVariants.{Contract, Transient, Child}
+use Rattle.smf_state.specs.declared.state.State.TheVariants.{Uninitialized, Disabled, Offline, Online, Degraded, Maintenance}
+use Rattle.smf_state.specs.declared.state.Cause.{Cause}
+use Rattle.smf_state.specs.declared.state.Cause.TheVariants.{Error, NonError, Admin, Config}
 use Rattle.smf_state.specs.declared.view.ViewItem.{ViewItem}
-use Rattle.smf_value.specs.declared.fault.BodyFault.{BodyFault}
-use Rattle.smf_value.specs.declared.value.Value.{Value}
-use Rattle.smf_value.specs.declared.value.Value.TheVariants.{Astring}
-use Rattle.smf_value.specs.Groups.{PropertyRecord, GroupRecord, property_of}
-use Rattle.smf_snap.specs.declared.body.Snapshot.{Snapshot}
-use Rattle.smf_snap.specs.Body.{decoded_snapshot}
-use Rattle.smf_snap.specs.Composed.{composed}
+use Rattle.smf_state.specs.Rows.{same_state}
+use Rattle.smf_state.specs.States.{runs}
+use Rattle.smf_method.specs.declared.fault.MethodFault.{MethodFault}
+use Rattle.smf_method.specs.declared.call.MethodCall.{MethodCall}
+use Rattle.smf_method.specs.declared.call.ReadMethod.{ReadMethod}
+use Rattle.smf_method.specs.Methods.{method_of}
+use Rattle.smf_method.specs.Tokens.{names_of}
+use Rattle.smf_dep.specs.declared.graph.Finding.{Finding}
+use Rattle.smf_dep.specs.declared.member.Member.{Member}
+use Rattle.smf_dep.specs.Members.{member_of, members}
+use Rattle.smf_dep.specs.Places.{finding_of}
 use Rattle.smf_wire.specs.declared.order.Order.{Order}
 use Rattle.smf_wire.specs.declared.order.What.{What}
-use Rattle.smf_wire.specs.declared.order.What.TheVariants.{To, Start}
+use Rattle.smf_wire.specs.declared.order.What.TheVariants as whats
+use Rattle.smf_engine.specs.declared.deciding.Decision.{Decision}
+use Rattle.smf_engine.specs.declared.deciding.Decision.TheVariants.{To, Start, Stop, Refresh}
 use Rattle.smf_model.specs.declared.held.View.{View}
 
--- ---- the start method of a snapshot: the built-in `:true` alone, without a timeout
+-- ---- methods
 
--- one text of kind astring
-abbrev pub text_of : List Value → Option (List ℕ)
-text_of (Astring text ∷ []) = Some text
-text_of _ = None
+abbrev pub MethodRead : Type 0
+MethodRead = Result (Option ReadMethod) MethodFault
 
-abbrev pub text_in : Option PropertyRecord → Option (List ℕ)
-text_in None = None
-text_in (Some p) = text_of p.values
+-- a method of the running snapshot, as it is read
+abbrev pub method_in : ViewItem → Member → Method → MethodRead
+method_in i m method = method_of m.composed (names_of i.row.owner method i.name)
 
-abbrev pub built_in : List ℕ
-built_in = codes ":true"
+-- one that can't be read counts as none
+abbrev pub call_in : MethodRead → Option MethodCall
+call_in (Ok (Some read)) = Some read.call
+call_in (Ok None) = None
+call_in (Err fault) = None
 
-abbrev pub is_built_in : Option (List ℕ) → Bool
-is_built_in None = false
-is_built_in (Some text) = pointwise nat_eq text built_in
+abbrev pub is_unreadable : MethodRead → Bool
+is_unreadable (Err fault) = true
+is_unreadable (Ok read) = false
 
--- whether the group `start` runs the built-in
-abbrev pub starts_built_in : Option GroupRecord → Bool
-starts_built_in None = false
-starts_built_in (Some g) = is_built_in (text_in (property_of (codes "exec") g)) && is_none (property_of (codes "timeout_seconds") g)
+-- there is a start method, and it can be read
+abbrev pub can_start : MethodRead → Bool
+can_start (Ok (Some read)) = true
+can_start (Ok None) = false
+can_start (Err fault) = false
 
-abbrev pub duration_by : List ℕ → Option Duration
-duration_by text =
-    if pointwise nat_eq text (codes "contract") then Some Contract
-    else if pointwise nat_eq text (codes "transient") then Some Transient
-    else if pointwise nat_eq text (codes "child") then Some Child
-    else if pointwise nat_eq text (codes "wait") then Some Child
-    else None
-
-abbrev pub duration_text : Option (List ℕ) → Option Duration
-duration_text None = None
-duration_text (Some text) = duration_by text
-
--- `startd/duration`, which is contract where it is missing
-abbrev pub duration_in : Option PropertyRecord → Option Duration
-duration_in None = Some Contract
-duration_in (Some p) = duration_text (text_of p.values)
-
--- the duration that the group `startd` gives, where it leaves no failure out of account
-abbrev pub duration_of : Option GroupRecord → Option Duration
-duration_of None = Some Contract
-duration_of (Some g) = if is_none (property_of (codes "ignore_error") g) then duration_in (property_of (codes "duration") g) else None
-
-abbrev pub start_with : Bool → Option Duration → Option What
-start_with true (Some duration) = Some (Start (record { timeout = None; command = built_in }) duration 0)
-start_with _ _ = None
-
-abbrev pub start_in : Result Snapshot BodyFault → Option What
-start_in (Err fault) = None
-start_in (Ok s) = start_with (starts_built_in (composed s.instance s.service (codes "start"))) (duration_of (composed s.instance s.service (codes "startd")))
-
--- the start by the running snapshot's method, where that can be read
-unfoldable pub start_of : Option (List ℕ) → Option What
-start_of None = None
-start_of (Some body) = start_in (decoded_snapshot body)
-
--- ---- orders
+-- ---- decisions
 
 abbrev pub first_state : Bool → State
 first_state enabled = if enabled then Offline else Disabled
 
-abbrev pub start_if : Bool → Option (List ℕ) → Option What
-start_if true body = start_of body
-start_if false body = None
+abbrev pub asks : Row → ℕ → Bool
+asks r bit = bit_and r.asks.0 bit == bit
 
--- what is to be done with an instance in a state, nothing being under way
-abbrev pub what_of : ViewItem → State → Option What
-what_of i Uninitialized = Some (To (first_state i.enabled))
-what_of i Disabled = if i.enabled then Some (To Offline) else None
-what_of i Offline = start_if (i.enabled && i.readable) i.body
-what_of i _ = None
+-- a running instance is stopped, any other goes there at once
+abbrev pub stop_or_move : State → State → Cause → Bool → Decision
+stop_or_move state to cause by_method = if runs state then Stop to cause by_method else To to
+
+abbrev pub cleared : ViewItem → State
+cleared i = if same_state i.row.state Degraded then Online else first_state i.enabled
+
+-- what is asked of an instance by svcadm(1M) or its restarter, the first that applies
+abbrev pub asked : ViewItem → Option Decision
+asked i =
+    if asks i.row 1 then Some (stop_or_move i.row.state Maintenance Admin false)
+    else if asks i.row 2 then Some (stop_or_move i.row.state Maintenance Admin true)
+    else if asks i.row 4 then Some (Stop Offline Error true)
+    else if asks i.row 8 then Some (Stop Offline NonError false)
+    else if asks i.row 16 then Some (Stop Offline NonError true)
+    else if asks i.row 32 then Some (To (cleared i))
+    else if asks i.row 64 then Some (To Degraded)
+    else if asks i.row 128 then Some Refresh
+    else None
+
+-- what follows where an instance is not enabled
+abbrev pub disabling : State → Option Decision
+disabling Offline = Some (To Disabled)
+disabling Maintenance = Some (To Disabled)
+disabling Online = Some (Stop Disabled Admin true)
+disabling Degraded = Some (Stop Disabled Admin true)
+disabling _ = None
+
+-- a fault of the instance: its restarter or a dependency can't be read, it can't be started, a method can't be read,
+-- or it depends on itself
+abbrev pub has_fault : ViewItem → Member → Finding → Bool
+has_fault i m f =
+    not i.readable || not f.readable || f.on_cycle
+    || not (can_start (method_in i m methods.Start))
+    || is_unreadable (method_in i m methods.Stop)
+    || is_unreadable (method_in i m methods.Refresh)
+
+-- what its dependencies decide of an enabled instance without a fault
+abbrev pub by_dependencies : Finding → State → Option Decision
+by_dependencies f Offline = if f.all_met then Some Start else None
+by_dependencies f _ = if f.must_stop then Some (Stop Offline NonError true) else None
+
+abbrev pub judged : Bool → Finding → State → Option Decision
+judged true f state = Some (stop_or_move state Maintenance Config false)
+judged false f state = by_dependencies f state
+
+-- an enabled instance of which nothing is asked
+abbrev pub enabling : ViewItem → Member → Finding → State → Option Decision
+enabling i m f Disabled = Some (To Offline)
+enabling i m f Offline = judged (has_fault i m f) f Offline
+enabling i m f Online = judged (has_fault i m f) f Online
+enabling i m f Degraded = judged (has_fault i m f) f Degraded
+enabling i m f _ = None
+
+abbrev pub unasked : ViewItem → Member → Finding → Bool → Option Decision
+unasked i m f true = enabling i m f i.row.state
+unasked i m f false = disabling i.row.state
+
+abbrev pub asked_or : ViewItem → Member → Finding → Option Decision → Option Decision
+asked_or i m f (Some decision) = Some decision
+asked_or i m f None = unasked i m f i.enabled
+
+-- the first row that applies, nothing being under way
+abbrev pub decision : ViewItem → Member → Finding → Option Decision
+decision i m f =
+    if same_state i.row.state Uninitialized then Some (To (first_state i.enabled))
+    else asked_or i m f (asked i)
+
+-- ---- orders
+
+abbrev pub starting : MethodRead → Option What
+starting (Ok (Some read)) = Some (whats.Start read.call read.duration read.ignore)
+starting (Ok None) = None
+starting (Err fault) = None
+
+abbrev pub call_if : Bool → MethodRead → Option MethodCall
+call_if true read = call_in read
+call_if false read = None
+
+abbrev pub what_of : ViewItem → Member → Decision → Option What
+what_of i m (To state) = Some (whats.To state)
+what_of i m Start = starting (method_in i m methods.Start)
+what_of i m (Stop to cause by_method) = Some (whats.Stop to cause (call_if by_method (method_in i m methods.Stop)))
+what_of i m Refresh = Some (whats.Refresh (call_in (method_in i m methods.Refresh)))
+
+abbrev pub what_by : ViewItem → Member → Option Decision → Option What
+what_by i m None = None
+what_by i m (Some decided) = what_of i m decided
 
 abbrev pub order_to : ℕ → ViewItem → Option What → Option Order
 order_to revision i None = None
 order_to revision i (Some what) = Some (record { restarter = i.row.owner; instance = i.instance; name = i.name; revision = revision; row = i.row; what = what })
 
-abbrev pub order_under : ℕ → ViewItem → Option State → Option Order
-order_under revision i None = order_to revision i (what_of i i.row.state)
-order_under revision i (Some next) = None
+abbrev pub order_under : ℕ → ViewItem → Member → Finding → Option State → Option Order
+order_under revision i m f None = order_to revision i (what_by i m (decision i m f))
+order_under revision i m f (Some next) = None
 
--- the order for an instance, by a view of a revision
-unfoldable pub order : ℕ → ViewItem → Option Order
-order revision i = order_under revision i i.row.next
+abbrev pub order_with : ℕ → ViewItem → Option Member → Option Finding → Option Order
+order_with revision i (Some m) (Some f) = order_under revision i m f i.row.next
+order_with revision i m f = None
+
+-- the order for an instance, by the items of a view of a revision
+unfoldable pub order : ℕ → List ViewItem → ViewItem → Option Order
+order revision items i = order_under revision i (member_of i) (finding_of (members items) (member_of i)) i.row.next
 
 -- all orders, in the order of the view's instances
 abbrev pub orders : ℕ → List ViewItem → List Order
-orders revision items = filter_map (order revision) items
+orders revision items = filter_map (order revision items) items
 
 -- ---- the view that is held
 
@@ -122,10 +183,10 @@ orders_seen (Some seen) = orders seen.revision seen.items
 abbrev pub is_about : ℕ → ViewItem → Bool
 is_about instance i = i.instance == instance
 
-abbrev pub order_about : ℕ → Option ViewItem → Option Order
-order_about revision None = None
-order_about revision (Some i) = order revision i
+abbrev pub order_in : ℕ → List ViewItem → Option ViewItem → Option Order
+order_in revision items None = None
+order_in revision items (Some i) = order revision items i
 
 abbrev pub decided : Option View → ℕ → Option Order
 decided None instance = None
-decided (Some seen) instance = order_about seen.revision (find (is_about instance) seen.items)
+decided (Some seen) instance = order_in seen.revision seen.items (find (is_about instance) seen.items)

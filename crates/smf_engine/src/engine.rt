@@ -1,11 +1,9 @@
-ghost use Rattle.std.specs.Prelude.{◌≡◌, IfOk, None, find};
-ghost use Rattle.smf_engine.specs.Orders.{decided, is_about, newer, orders_seen};
-ghost use Rattle.std.specs.Option.{option_copied};
+ghost use Rattle.std.specs.Prelude.{◌≡◌, IfOk, None};
+ghost use Rattle.smf_engine.specs.Orders.{decided, newer, orders_seen};
 
-use crate::ordering::{order, orders};
+use crate::ordering::{order_of, orders};
 use smf_fmri::Items;
 use smf_model::View;
-use smf_state::ViewItem;
 use smf_wire::Order;
 use std::alloc::{AllocError, Global};
 use std::marker::Model;
@@ -25,17 +23,6 @@ impl Model for Engine {
     ghost view = { λ e. e.seen };
 }
 
-fn item_of(items: &[ViewItem], instance: u64) -> Option<&ViewItem>
-    ensures { option_copied result ≡ find (is_about instance) items.now }
-{
-    for item in items {
-        if item.instance == instance {
-            return Some(item);
-        }
-    }
-    None
-}
-
 impl Engine {
     pub fn new() -> Engine
         ensures { result ≡ None }
@@ -53,16 +40,13 @@ impl Engine {
         }
     }
 
-    /// The order for one instance, by the view that is held.
+    /// The order for one instance, by the view that is held. It takes the whole view into account.
     pub fn decide(&self, alloc: Global, instance: u64) -> Result<Option<Order>, AllocError>
         ensures { IfOk result (λ o. o ≡ decided self.now instance) }
     {
-        let Some(seen) = &self.seen else {
-            return Ok(None);
-        };
-        match item_of(seen.items.as_slice(), instance) {
+        match &self.seen {
             None => Ok(None),
-            Some(item) => order(alloc, seen.revision.get(), item),
+            Some(seen) => order_of(alloc, seen.revision.get(), seen.items.as_slice(), instance),
         }
     }
 

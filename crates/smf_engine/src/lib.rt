@@ -1,10 +1,10 @@
 //! svc.startd's graph: the newest view that it was given, and the orders that it makes of it.
-//! Modules: `method` (the start method of a snapshot), `ordering` (the order for an instance), `engine`.
+//! Modules: `deciding` (what is to be done with an instance), `ordering` (the orders of a view), `engine`.
 #![tactic(auto)]
 
+mod deciding;
 mod engine;
-mod method;
 mod ordering;
 
 pub use engine::Engine;
-pub use ordering::{order, orders};
+pub use ordering::orders;

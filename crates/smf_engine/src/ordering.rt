@@ -1,64 +1,158 @@
-ghost use Rattle.std.specs.Prelude.{◌≡◌, IfOk};
-ghost use Rattle.smf_engine.specs.Orders.{first_state, order, orders, what_of};
+ghost use Rattle.std.specs.Prelude.{◌≡◌, IfOk, Some, find, option_map, slice_get};
+ghost use Rattle.smf_dep.specs.Members.{members};
+ghost use Rattle.smf_dep.specs.Places.{finding_of};
+ghost use Rattle.smf_engine.specs.Orders.{decision, is_about, order, order_in, order_to, order_under, order_with, orders, what_by};
 
-use crate::method::start_of;
+use crate::deciding::{decide_instance, what_of};
+use smf_dep::{Finding, Graph, Member};
 use smf_fmri::Items;
-use smf_state::{State, ViewItem};
+use smf_state::ViewItem;
 use smf_wire::{Order, What};
 use std::alloc::{AllocError, Global};
 
-fn first_state(enabled: bool) -> State
-    ensures { result ≡ first_state enabled }
+/// An order by what is to be done.
+fn order_to(revision: u64, item: &ViewItem, what: What) -> Result<Order, AllocError>
+    ensures { IfOk result (λ o. Some o ≡ order_to revision item.now (Some what)) }
 {
-    if enabled {
-        State::Offline
-    } else {
-        State::Disabled
-    }
-}
-
-/// What is to be done with an instance that has nothing under way.
-fn what_of(alloc: Global, item: &ViewItem) -> Result<Option<What>, AllocError>
-    ensures { IfOk result (λ what. what ≡ what_of item.now item.now.row.state) }
-{
-    match item.row.state {
-        State::Uninitialized => Ok(Some(What::To(first_state(item.enabled)))),
-        State::Disabled if item.enabled => Ok(Some(What::To(State::Offline))),
-        State::Offline if item.enabled && item.readable => start_of(alloc, &item.body),
-        _ => Ok(None),
-    }
-}
-
-/// The order for an instance as a view of a revision shows it.
-#[tactic(auto, unfolding(crate::specs::Orders::order))]
-pub fn order(alloc: Global, revision: u64, item: &ViewItem) -> Result<Option<Order>, AllocError>
-    ensures { IfOk result (λ o. o ≡ order revision item.now) }
-{
-    if item.row.next.is_some() {
-        return Ok(None);
-    }
-    let Some(what) = what_of(alloc, item)? else {
-        return Ok(None);
-    };
-    Ok(Some(Order {
+    Ok(Order {
         restarter: item.row.owner.clone()?,
         instance: item.instance,
         name: item.name.clone()?,
         revision,
         row: item.row.clone()?,
         what,
-    }))
+    })
 }
 
-/// The orders for all instances of a view.
-pub fn orders(alloc: Global, revision: u64, items: &[ViewItem]) -> Result<Items<Order>, AllocError>
+fn what_to_do(
+    alloc: Global,
+    item: &ViewItem,
+    member: &Member,
+    finding: &Finding,
+) -> Result<Option<What>, AllocError>
+    ensures { IfOk result (λ what. what ≡ what_by item.now member.now (decision item.now member.now finding.now)) }
+{
+    match decide_instance(alloc, item, member, finding)? {
+        None => Ok(None),
+        Some(decision) => what_of(alloc, item, member, decision),
+    }
+}
+
+/// The order for an instance, where nothing is under way.
+pub(crate) fn order_under(
+    alloc: Global,
+    revision: u64,
+    item: &ViewItem,
+    member: &Member,
+    finding: &Finding,
+) -> Result<Option<Order>, AllocError>
+    ensures { IfOk result (λ o. o ≡ order_under revision item.now member.now finding.now item.now.row.next) }
+{
+    if item.row.next.is_some() {
+        return Ok(None);
+    }
+    match what_to_do(alloc, item, member, finding)? {
+        None => Ok(None),
+        Some(what) => Ok(Some(order_to(revision, item, what)?)),
+    }
+}
+
+/// The order for an item, by what a graph has at a place.
+fn order_with(
+    alloc: Global,
+    revision: u64,
+    graph: &Graph,
+    item: &ViewItem,
+    place: usize,
+) -> Result<Option<Order>, AllocError>
+    ensures { IfOk result (λ o. o ≡ order_with revision item.now (slice_get graph.now place) (option_map (finding_of graph.now) (slice_get graph.now place))) }
+{
+    let Some(member) = graph.members().get(place) else {
+        return Ok(None);
+    };
+    let Some(finding) = graph.finding(place) else {
+        return Ok(None);
+    };
+    order_under(alloc, revision, item, member, &finding)
+}
+
+/// The order for the item at a place.
+#[tactic(auto, using(crate::proofs::Placed::placed))]
+fn order_at(
+    alloc: Global,
+    revision: u64,
+    graph: &Graph,
+    items: &[ViewItem],
+    item: &ViewItem,
+    place: usize,
+) -> Result<Option<Order>, AllocError>
+    requires graph { graph.now ≡ members items.now }
+    requires place { slice_get items.now place ≡ Some item.now }
+    ensures { IfOk result (λ o. o ≡ order revision items.now item.now) }
+{
+    let order = order_with(alloc, revision, graph, item, place)?;
+    Ok(order)
+}
+
+#[tactic(auto, using(crate::proofs::Placed::placed_item))]
+fn orders_by(
+    alloc: Global,
+    revision: u64,
+    graph: &Graph,
+    items: &[ViewItem],
+) -> Result<Items<Order>, AllocError>
+    requires { graph.now ≡ members items.now }
     ensures { IfOk result (λ os. os ≡ orders revision items.now) }
 {
     let mut all = Vec::new(alloc);
+    let mut place = 0;
     for item in items {
-        if let Some(order) = order(alloc, revision, item)? {
+        if let Some(order) = order_at(alloc, revision, graph, items, item, place)? {
             all.push(order)?;
         }
+        place += 1;
     }
     Ok(Items::from_vec(all))
+}
+
+/// The orders for all instances of a view, in their order.
+pub fn orders(alloc: Global, revision: u64, items: &[ViewItem]) -> Result<Items<Order>, AllocError>
+    ensures { IfOk result (λ os. os ≡ orders revision items.now) }
+{
+    let graph = Graph::of(alloc, items)?;
+    orders_by(alloc, revision, &graph, items)
+}
+
+#[tactic(auto, using(crate::proofs::Placed::placed_item))]
+fn order_in(
+    alloc: Global,
+    revision: u64,
+    graph: &Graph,
+    items: &[ViewItem],
+    instance: u64,
+) -> Result<Option<Order>, AllocError>
+    requires { graph.now ≡ members items.now }
+    ensures { IfOk result (λ o. o ≡ order_in revision items.now (find (is_about instance) items.now)) }
+{
+    let mut place = 0;
+    for item in items {
+        if item.instance == instance {
+            return order_at(alloc, revision, graph, items, item, place);
+        }
+        place += 1;
+    }
+    Ok(None)
+}
+
+/// The order for the instance of a number.
+pub(crate) fn order_of(
+    alloc: Global,
+    revision: u64,
+    items: &[ViewItem],
+    instance: u64,
+) -> Result<Option<Order>, AllocError>
+    ensures { IfOk result (λ o. o ≡ order_in revision items.now (find (is_about instance) items.now)) }
+{
+    let graph = Graph::of(alloc, items)?;
+    order_in(alloc, revision, &graph, items, instance)
 }

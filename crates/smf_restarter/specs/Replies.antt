@@ -1,10 +1,10 @@
 -- What a restarter does on each input.
-use Rattle.std.specs.Prelude.{ℕ, ◌+◌, ◌==◌, ◌&&◌, not, nat_lt, nat_eq, List, [], ◌∷◌, map, filter, find, Bool, true, false, if◌then◌else◌, codes, Option, Some, None, unwrap_or}
-use Rattle.std.specs.Cmp.Lexicographic.{pointwise}
+use Rattle.std.specs.Prelude.{ℕ, ◌+◌, ◌==◌, ◌&&◌, not, nat_lt, List, [], ◌∷◌, map, filter, find, Bool, true, false, if◌then◌else◌, Option, Some, None, is_some, unwrap_or}
 use Rattle.std.specs.List.{list_all}
 use Rattle.smf_state.specs.declared.row.Row.{Row}
 use Rattle.smf_state.specs.declared.state.State.{State}
 use Rattle.smf_state.specs.declared.state.State.TheVariants.{Offline, Online, Maintenance}
+use Rattle.smf_state.specs.declared.state.Cause.{Cause}
 use Rattle.smf_state.specs.declared.state.Cause.TheVariants.{NonError}
 use Rattle.smf_state.specs.declared.state.Duration.{Duration}
 use Rattle.smf_state.specs.declared.step.Proposal.{Proposal}
@@ -16,14 +16,16 @@ use Rattle.smf_model.specs.declared.command.Why.TheVariants as whys
 use Rattle.smf_wire.specs.declared.message.Known.{Known}
 use Rattle.smf_wire.specs.declared.message.Message.{Message}
 use Rattle.smf_wire.specs.declared.message.Message.TheVariants as messages
-use Rattle.smf_wire.specs.declared.order.MethodCall.{MethodCall}
+use Rattle.smf_method.specs.declared.call.MethodCall.{MethodCall}
+use Rattle.smf_method.specs.Commands.{builtin}
 use Rattle.smf_wire.specs.declared.order.Order.{Order}
 use Rattle.smf_wire.specs.declared.order.What.{What}
 use Rattle.smf_wire.specs.declared.order.What.TheVariants as whats
 use Rattle.smf_restarter.specs.declared.known.Drain.TheVariants as drains
 use Rattle.smf_restarter.specs.declared.known.Ending.{Ending}
 use Rattle.smf_restarter.specs.declared.known.KnownInstance.{KnownInstance}
-use Rattle.smf_restarter.specs.declared.known.Method.TheVariants as methods
+use Rattle.smf_contract.specs.declared.cookie.Method.{Method}
+use Rattle.smf_contract.specs.declared.cookie.Method.TheVariants as methods
 use Rattle.smf_restarter.specs.declared.known.Owed.{Owed}
 use Rattle.smf_restarter.specs.declared.known.Phase.{Phase}
 use Rattle.smf_restarter.specs.declared.known.Phase.TheVariants.{Idle, Waiting, Owes, Running, Ending as Ends}
@@ -100,23 +102,55 @@ proposing_if false k i step after taken = nothing
 abbrev pub proposing : Knowledge → KnownInstance → Step → After → List Known → Reply
 proposing k i step after taken = proposing_if (nat_lt k.serial greatest_serial && nat_lt i.row.number greatest_word) k i step after taken
 
+-- ---- ends
+
+abbrev pub ended_start : Row → Ending
+ended_start r = record { to = Offline; failed = r.failed; cause = NonError; drain = drains.Live }
+
+abbrev pub ended_refresh : Row → Ending
+ended_refresh r = record { to = r.state; failed = 0; cause = NonError; drain = drains.Side }
+
+abbrev pub ended_stop : Row → State → Ending
+ended_stop r next = record { to = next; failed = 0; cause = unwrap_or r.cause NonError; drain = drains.Both }
+
+-- a stop to a state, without a method
+abbrev pub stopped : State → Cause → Ending
+stopped to cause = record { to = to; failed = 0; cause = cause; drain = drains.Both }
+
 -- ---- orders
 
-abbrev pub start_owed : Order → ℕ → MethodCall → After
-start_owed o run call = afters.Owes (record { method = methods.Start; run = run; revision = o.revision; call = call })
+-- a method that is to be begun for an order
+abbrev pub owed_by : Order → Method → ℕ → MethodCall → After
+owed_by o method run call = afters.Owes (record { method = method; run = run; revision = o.revision; call = call })
 
 abbrev pub start_step : Order → ℕ → Duration → ℕ → Step
 start_step o run duration ignore = steps.Start run (unwrap_or o.row.running 0) duration ignore o.revision
 
 -- a start past the last run leads to maintenance
 abbrev pub starting : Bool → Knowledge → KnownInstance → Order → List Known → MethodCall → Duration → ℕ → Reply
-starting true k i o taken call duration ignore = proposing k i (start_step o (i.row.last + 1) duration ignore) (start_owed o (i.row.last + 1) call) taken
+starting true k i o taken call duration ignore = proposing k i (start_step o (i.row.last + 1) duration ignore) (owed_by o methods.Start (i.row.last + 1) call) taken
 starting false k i o taken call duration ignore = proposing k i (steps.Move Maintenance) afters.Idle taken
+
+-- the method of a stop or a refresh, where a run is left for it
+abbrev pub call_with_run : Row → Option MethodCall → Option MethodCall
+call_with_run r None = None
+call_with_run r (Some call) = if nat_lt r.last greatest_run then Some call else None
+
+abbrev pub stopping : Knowledge → KnownInstance → Order → List Known → State → Cause → Option MethodCall → Reply
+stopping k i o taken to cause (Some call) =
+    proposing k i (steps.Stop to cause (Some (i.row.last + 1))) (owed_by o methods.Stop (i.row.last + 1) call) taken
+stopping k i o taken to cause None = proposing k i (steps.Stop to cause None) (afters.Ending (stopped to cause)) taken
+
+abbrev pub refreshing : Knowledge → KnownInstance → Order → List Known → Option MethodCall → Reply
+refreshing k i o taken (Some call) =
+    proposing k i (steps.Refresh (Some (i.row.last + 1))) (owed_by o methods.Refresh (i.row.last + 1) call) taken
+refreshing k i o taken None = proposing k i (steps.Refresh None) (afters.Ending (ended_refresh i.row)) taken
 
 abbrev pub ordered_what : Knowledge → KnownInstance → Order → List Known → What → Reply
 ordered_what k i o taken (whats.To state) = proposing k i (steps.Move state) afters.Idle taken
 ordered_what k i o taken (whats.Start call duration ignore) = starting (nat_lt i.row.last greatest_run) k i o taken call duration ignore
-ordered_what k i o taken _ = nothing
+ordered_what k i o taken (whats.Stop to cause call) = stopping k i o taken to cause (call_with_run i.row call)
+ordered_what k i o taken (whats.Refresh call) = refreshing k i o taken (call_with_run i.row call)
 
 -- an order for an instance with which nothing is being done
 abbrev pub ordered : Knowledge → KnownInstance → Order → List Known → Reply
@@ -224,13 +258,20 @@ end_step r e = steps.End e.to (keeps r.state r.next) e.failed e.cause
 abbrev pub start_succeeded : Ending
 start_succeeded = record { to = Online; failed = 0; cause = NonError; drain = drains.Nothing }
 
-abbrev pub is_true : List ℕ → Bool
-is_true command = pointwise nat_eq command (codes ":true")
+-- what the success of a method leads to
+abbrev pub succeeded : Row → Method → Ending
+succeeded r methods.Start = start_succeeded
+succeeded r methods.Stop = ended_stop r (unwrap_or r.next r.state)
+succeeded r methods.Refresh = ended_refresh r
 
+abbrev pub is_built_in : List ℕ → Bool
+is_built_in command = is_some (builtin command)
+
+-- a built-in succeeds at once: no run has a contract that it could kill
 abbrev pub began_if : Bool → KnownInstance → Owed → Reply
 began_if true i o =
     record {
-      change = changes.Put (record i { phase = Ends start_succeeded });
+      change = changes.Put (record i { phase = Ends (succeeded i.row o.method) });
       action = actions.BuiltIn (record { instance = i.instance; run = o.run; method = o.method; revision = o.revision; command = o.call.command });
       taken = [];
     }
@@ -238,7 +279,7 @@ began_if false i o = nothing
 
 abbrev pub ticked_in : Knowledge → KnownInstance → Phase → Reply
 ticked_in k i (Waiting p after) = sending (messages.Propose p)
-ticked_in k i (Owes o) = began_if (is_true o.call.command) i o
+ticked_in k i (Owes o) = began_if (is_built_in o.call.command) i o
 ticked_in k i (Ends e) = proposing k i (end_step i.row e) afters.Idle []
 ticked_in k i _ = nothing
 
@@ -261,15 +302,6 @@ unfoldable pub ticked : Knowledge → ℕ → Reply
 ticked k n = ticked_up k n k.stage
 
 -- ---- the list of contracts, none of which there is yet
-
-abbrev pub ended_start : Row → Ending
-ended_start r = record { to = Offline; failed = r.failed; cause = NonError; drain = drains.Live }
-
-abbrev pub ended_refresh : Row → Ending
-ended_refresh r = record { to = r.state; failed = 0; cause = NonError; drain = drains.Side }
-
-abbrev pub ended_stop : Row → State → Ending
-ended_stop r next = record { to = next; failed = 0; cause = unwrap_or r.cause NonError; drain = drains.Both }
 
 -- what was under way when the restarter was launched is ended
 abbrev pub phase_under : Row → Option State → Phase

@@ -1,8 +1,9 @@
 ghost use Rattle.std.specs.Prelude.{◌≡◌};
 
+use smf_contract::Method;
 use smf_fmri::InstanceFmri;
+use smf_method::MethodCall;
 use smf_state::{Cause, Proposal, Row, State};
-use smf_wire::MethodCall;
 use std::alloc::AllocError;
 
 /// How far a restarter has come since its launch.
@@ -13,14 +14,6 @@ pub enum Stage {
     /// It does not know which contracts there are.
     Listing,
     Up,
-}
-
-/// The methods of smf_method(5).
-#[derive(Clone, Copy, Debug, PartialEq, Eq)]
-pub enum Method {
-    Start,
-    Stop,
-    Refresh,
 }
 
 /// The runs whose contracts have to be empty before an end is proposed.

@@ -3,6 +3,7 @@
 //! (messages), `ticking` (ticks), `restarter`.
 #![tactic(auto)]
 
+mod ending;
 mod hearing;
 mod known;
 mod places;
@@ -11,6 +12,6 @@ mod restarter;
 mod steps;
 mod ticking;
 
-pub use known::{After, Drain, Ending, KnownInstance, KnownRun, Method, Owed, Phase, Stage};
+pub use known::{After, Drain, Ending, KnownInstance, KnownRun, Owed, Phase, Stage};
 pub use reply::{Action, Begun, Change, Reply};
 pub use restarter::Restarter;

@@ -1,5 +1,7 @@
-use crate::known::{KnownInstance, Method};
-use smf_fmri::{Items, Number, Text};
+use crate::known::KnownInstance;
+use smf_contract::Method;
+use smf_fmri::{Items, Number};
+use smf_method::Command;
 use smf_wire::{Known, Message};
 
 /// A method that is begun.
@@ -10,7 +12,7 @@ pub struct Begun {
     pub method: Method,
     /// The revision that its order was decided on.
     pub revision: u64,
-    pub command: Text,
+    pub command: Command,
 }
 
 /// What a restarter asks for.

@@ -1,14 +1,15 @@
 ghost use Rattle.std.specs.Option.{option_copied};
 ghost use Rattle.std.specs.Prelude.{◌≡◌, map, IfOk};
-ghost use Rattle.smf_restarter.specs.Replies.{began_if, end_step, ended_refresh, ended_start, ended_stop, is_true, keeps, listed, own_tick, phase_under, phased, start_succeeded, ticked, ticked_in};
+ghost use Rattle.smf_restarter.specs.Replies.{began_if, end_step, is_built_in, keeps, listed, own_tick, phase_under, phased, ticked, ticked_in};
 
-use crate::known::{After, Drain, Ending, KnownInstance, Owed, Phase, Stage};
+use crate::ending::{ended_refresh, ended_start, ended_stop, succeeded};
+use crate::known::{After, Ending, KnownInstance, Owed, Phase, Stage};
 use crate::places::{known, with};
 use crate::reply::{Action, Begun, Change, Reply};
 use crate::restarter::Restarter;
 use crate::steps::{nothing, proposing, sending};
 use smf_fmri::Items;
-use smf_state::{Cause, Row, State, Step};
+use smf_state::{Row, State, Step};
 use smf_wire::Message;
 use std::alloc::{AllocError, Global};
 
@@ -34,26 +35,14 @@ pub(crate) fn own_tick(alloc: Global, restarter: &Restarter) -> Result<Reply, Al
     }
 }
 
-/// A start that succeeded ends online, with nothing to be drained.
-fn start_succeeded() -> Ending
-    ensures { result ≡ start_succeeded }
-{
-    Ending {
-        to: State::Online,
-        failed: 0,
-        cause: Cause::NonError,
-        drain: Drain::Nothing,
-    }
-}
-
-/// Begins a method that is owed, where it is the built-in.
+/// Begins a method that is owed, where it is built in.
 fn began(alloc: Global, known: &KnownInstance, owed: &Owed) -> Result<Reply, AllocError>
-    ensures { IfOk result (λ r. r ≡ began_if (is_true owed.now.call.command) known.now owed.now) }
+    ensures { IfOk result (λ r. r ≡ began_if (is_built_in owed.now.call.command) known.now owed.now) }
 {
-    if owed.call.command.as_str() != ":true" {
+    if owed.call.command.builtin().is_none() {
         return Ok(nothing(alloc));
     }
-    let phase = Phase::Ending(start_succeeded());
+    let phase = Phase::Ending(succeeded(&known.row, owed.method));
     Ok(Reply {
         change: Change::Put(with(known, &known.row, phase)?),
         action: Action::BuiltIn(Begun {
@@ -130,39 +119,6 @@ pub(crate) fn ticked(
     match known(&restarter.instances, instance) {
         None => Ok(nothing(alloc)),
         Some(known) => ticked_in(alloc, restarter, known, &known.phase),
-    }
-}
-
-fn ended_start(row: &Row) -> Ending
-    ensures { result ≡ ended_start row.now }
-{
-    Ending {
-        to: State::Offline,
-        failed: row.failed,
-        cause: Cause::NonError,
-        drain: Drain::Live,
-    }
-}
-
-fn ended_refresh(row: &Row) -> Ending
-    ensures { result ≡ ended_refresh row.now }
-{
-    Ending {
-        to: row.state,
-        failed: 0,
-        cause: Cause::NonError,
-        drain: Drain::Side,
-    }
-}
-
-fn ended_stop(row: &Row, next: State) -> Ending
-    ensures { result ≡ ended_stop row.now next }
-{
-    Ending {
-        to: next,
-        failed: 0,
-        cause: row.cause.unwrap_or(Cause::NonError),
-        drain: Drain::Both,
     }
 }
 

@@ -2,8 +2,8 @@
 use Rattle.std.specs.Prelude.{ℕ, List, [], ◌∷◌, ◌++◌, codes, Option, Some, None}
 use Rattle.std.specs.List.{flat_map}
 use Rattle.std.specs.Fmt.{decimal}
-use Rattle.smf_restarter.specs.declared.known.Method.{Method}
-use Rattle.smf_restarter.specs.declared.known.Method.TheVariants.{Start, Stop, Refresh}
+use Rattle.smf_contract.specs.declared.cookie.Method.{Method}
+use Rattle.smf_contract.specs.declared.cookie.Method.TheVariants.{Start, Stop, Refresh}
 use Rattle.smf_state.specs.declared.state.State.{State}
 use Rattle.smf_state.specs.States.{state_text}
 use Rattle.smf_world.specs.declared.item.Item.{Item}

@@ -2,8 +2,8 @@ ghost use Rattle.std.specs.Prelude.{◌≡◌, ◌++◌, IfOk, OnOk, string_byte
 ghost use Rattle.std.specs.List.{flat_map};
 ghost use Rattle.smf_script.specs.Text.{item_text, method_text, next_text, trail_text};
 
+use smf_contract::Method;
 use smf_fmri::Text;
-use smf_restarter::Method;
 use smf_state::State;
 use smf_world::Item;
 use std::alloc::{AllocError, Global};

@@ -6,4 +6,4 @@ mod message;
 mod order;
 
 pub use message::{Known, Message};
-pub use order::{MethodCall, Order, What};
+pub use order::{Order, What};

@@ -1,16 +1,9 @@
 ghost use Rattle.std.specs.Prelude.{◌≡◌, IfOk};
 
-use smf_fmri::{InstanceFmri, Text};
+use smf_fmri::InstanceFmri;
+use smf_method::MethodCall;
 use smf_state::{Cause, Duration, Ignore, Row, State};
 use std::alloc::AllocError;
-
-/// A method as it is carried: its tokens are replaced already.
-#[derive(Debug, Drop)]
-pub struct MethodCall {
-    /// In seconds, where there is one.
-    pub timeout: Option<u64>,
-    pub command: Text,
-}
 
 /// What is to be done with an instance.
 #[derive(Debug, Drop)]
@@ -44,18 +37,6 @@ pub struct Order {
     /// The row at that revision.
     pub row: Row,
     pub what: What,
-}
-
-impl Clone for MethodCall {
-    ghost is_clone = { λ s copy. copy ≡ s };
-
-    fn clone(&self) -> Result<MethodCall, AllocError> {
-        let command = self.command.clone()?;
-        Ok(MethodCall {
-            timeout: self.timeout,
-            command,
-        })
-    }
 }
 
 fn copy_of(method: &Option<MethodCall>) -> Result<Option<MethodCall>, AllocError>

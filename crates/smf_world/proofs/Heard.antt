@@ -1,7 +1,9 @@
 -- What a restarter takes is what it was told.
 use Rattle.std.proofs.Common.{◌≡◌, ◌==◌, ◌&&◌, nat_lt, ℕ, Bool, true, false, if◌then◌else◌, List, [], ◌∷◌, map, Option, Some, None, refl, sym, subst, eqb-true}
 use Rattle.smf_state.specs.declared.row.Row.{Row}
+use Rattle.smf_state.specs.declared.state.Cause.{Cause}
 use Rattle.smf_state.specs.declared.state.Duration.{Duration}
+use Rattle.smf_state.specs.declared.state.State.{State}
 use Rattle.smf_state.specs.declared.step.Step.{Step}
 use Rattle.smf_model.specs.declared.command.Why.{Why}
 use Rattle.smf_model.specs.declared.command.Why.TheVariants as whys
@@ -9,7 +11,7 @@ use Rattle.smf_model.proofs.LawLists.{found_passes}
 use Rattle.smf_wire.specs.declared.message.Known.{Known}
 use Rattle.smf_wire.specs.declared.message.Message.{Message}
 use Rattle.smf_wire.specs.declared.message.Message.TheVariants as messages
-use Rattle.smf_wire.specs.declared.order.MethodCall.{MethodCall}
+use Rattle.smf_method.specs.declared.call.MethodCall.{MethodCall}
 use Rattle.smf_wire.specs.declared.order.Order.{Order}
 use Rattle.smf_wire.specs.declared.order.What.{What}
 use Rattle.smf_wire.specs.declared.order.What.TheVariants as whats
@@ -25,7 +27,7 @@ use Rattle.smf_restarter.specs.declared.reply.Action.TheVariants as actions
 use Rattle.smf_restarter.specs.declared.reply.Change.TheVariants as changes
 use Rattle.smf_restarter.specs.declared.reply.Reply.{Reply}
 use Rattle.smf_restarter.specs.Knowledge.{Knowledge}
-use Rattle.smf_restarter.specs.Replies.{acked, acked_by, awaited, began_if, greatest_serial, greatest_word, heard, heard_order, heard_rows, idle, is_known, is_true, known, learned, listed, nacked, nacked_by, nothing, ordered_idle, ordered_in, ordered_known, ordered_what, own_tick, proposing, proposing_if, refused_by, starting, ticked, ticked_in, ticked_known, ticked_up, told, anew}
+use Rattle.smf_restarter.specs.Replies.{acked, acked_by, awaited, began_if, call_with_run, greatest_serial, greatest_word, heard, heard_order, heard_rows, idle, is_built_in, is_known, known, learned, listed, nacked, nacked_by, nothing, ordered_idle, ordered_in, ordered_known, ordered_what, own_tick, proposing, proposing_if, refreshing, refused_by, starting, stopping, ticked, ticked_in, ticked_known, ticked_up, told, anew}
 use Rattle.smf_world.specs.declared.item.Item.{Item}
 use Rattle.smf_world.specs.Happens.{is_listing, own_reply, tick_reply}
 use Rattle.smf_world.proofs.Told.{MessageTold, OptionTold, RowTold, RowsTold}
@@ -49,11 +51,19 @@ starts : (t : List Item) (b : Bool) (k : Knowledge) (i : KnownInstance) (o : Ord
 starts t true k i o taken call duration ignore a = proposes t k i _ _ taken a
 starts t false k i o taken call duration ignore a = proposes t k i _ _ taken a
 
+stops : (t : List Item) (k : Knowledge) (i : KnownInstance) (o : Order) (taken : List Known) (to : State) (cause : Cause) (call : Option MethodCall) → RowsTold t taken → ReplyTold t (stopping k i o taken to cause call)
+stops t k i o taken to cause None a = proposes t k i _ _ taken a
+stops t k i o taken to cause (Some call) a = proposes t k i _ _ taken a
+
+refreshes : (t : List Item) (k : Knowledge) (i : KnownInstance) (o : Order) (taken : List Known) (call : Option MethodCall) → RowsTold t taken → ReplyTold t (refreshing k i o taken call)
+refreshes t k i o taken None a = proposes t k i _ _ taken a
+refreshes t k i o taken (Some call) a = proposes t k i _ _ taken a
+
 by_what : (t : List Item) (k : Knowledge) (i : KnownInstance) (o : Order) (taken : List Known) (what : What) → RowsTold t taken → ReplyTold t (ordered_what k i o taken what)
 by_what t k i o taken (whats.To state) a = proposes t k i _ _ taken a
 by_what t k i o taken (whats.Start call duration ignore) a = starts t _ k i o taken call duration ignore a
-by_what t k i o taken (whats.Stop to cause call) a = (tt, tt)
-by_what t k i o taken (whats.Refresh call) a = (tt, tt)
+by_what t k i o taken (whats.Stop to cause call) a = stops t k i o taken to cause (call_with_run i.row call) a
+by_what t k i o taken (whats.Refresh call) a = refreshes t k i o taken (call_with_run i.row call) a
 
 idle_told : (t : List Item) (b greater : Bool) (k : Knowledge) (i : KnownInstance) (o : Order) → RowTold t o.instance o.row → ReplyTold t (ordered_idle b greater k i o)
 idle_told t true greater k i o a = by_what t k i o [] o.what tt
@@ -137,7 +147,7 @@ began t false i o = (tt, tt)
 tick_phase : (t : List Item) (k : Knowledge) (i : KnownInstance) (p : Phase) → ReplyTold t (ticked_in k i p)
 tick_phase t k i Idle = (tt, tt)
 tick_phase t k i (Waiting p after) = (tt, tt)
-tick_phase t k i (Owes o) = began t (is_true o.call.command) i o
+tick_phase t k i (Owes o) = began t (is_built_in o.call.command) i o
 tick_phase t k i (Running o) = (tt, tt)
 tick_phase t k i (Ends e) = proposes t k i _ _ [] tt
 

@@ -1,7 +1,7 @@
 -- Rows that are told were committed.
 use Rattle.std.proofs.Common.{◌≡◌, ◌⊎◌, ◌==◌, nat_lt, ℕ, zero, suc, Bool, true, false, cond, if◌then◌else◌, List, [], ◌∷◌, ◌++◌, map, filter, reverse, Option, Some, None, option_map, refl, sym, ap, ◌∙◌, subst, inl, inr, append-nil, eqb-true}
 use Rattle.std.specs.Prelude.{slice_get}
-use Rattle.std.specs.List.{cons_option}
+use Rattle.std.specs.List.{cons_option, filter_map}
 use Rattle.std.proofs.lemmas.Grind.{reverse_onto}
 use Rattle.std.proofs.lemmas.List.{append_assoc}
 use Rattle.smf_state.specs.declared.row.Row.{Row}
@@ -14,12 +14,12 @@ use Rattle.smf_model.specs.Look.{groups_of, instances}
 use Rattle.smf_model.specs.Setting.{Groups, current}
 use Rattle.smf_model.specs.Shown.{is_run_by, rows_of, view, view_item}
 use Rattle.smf_model.proofs.LawOutcomes.{current_row}
-use Rattle.smf_engine.specs.Orders.{newer, order, order_to, order_under, orders, orders_seen, what_of}
+use Rattle.smf_engine.specs.Orders.{newer, order, orders_seen}
+use Rattle.smf_engine.proofs.Shape.{order_shape}
 use Rattle.smf_wire.specs.declared.message.Known.{Known}
 use Rattle.smf_wire.specs.declared.message.Message.{Message}
 use Rattle.smf_wire.specs.declared.message.Message.TheVariants as messages
 use Rattle.smf_wire.specs.declared.order.Order.{Order}
-use Rattle.smf_wire.specs.declared.order.What.{What}
 use Rattle.smf_world.specs.declared.item.Item.{Item}
 use Rattle.smf_world.specs.declared.item.Item.TheVariants.{Boot, Committed, Held, Spawned, Emptied}
 use Rattle.smf_world.specs.Happens.{known_of, noted}
@@ -232,26 +232,19 @@ abbrev OrderTold : List Item → Option Order → Type 0
 OrderTold t None = Unit {0}
 OrderTold t (Some o) = RowTold t o.instance o.row
 
-order_told : (t : List Item) (revision : ℕ) (i : ViewItem) → RowTold t i.instance i.row → OrderTold t (order revision i)
-unfolding order
-order_told t revision i a = by i.row.next
-  where
-    to : (o : Option What) → OrderTold t (order_to revision i o)
-    to None = tt
-    to (Some what) = a
+order_told : (t : List Item) (revision : ℕ) (all : List ViewItem) (i : ViewItem) → RowTold t i.instance i.row → OrderTold t (order revision all i)
+order_told t revision all i a = order_shape revision all i (OrderTold t) tt (λ what. a)
 
-    by : (o : Option State) → OrderTold t (order_under revision i o)
-    by None = to (what_of i i.row.state)
-    by (Some next) = tt
-
-messages_of : (t : List Item) (revision : ℕ) (is : List ViewItem) → ItemsTold t is → MessagesTold t (map (λ (o : Order). messages.Order o) (orders revision is))
-messages_of t revision [] a = tt
-messages_of t revision (i ∷ is) a = by (order revision i) (order_told t revision i a.0) (messages_of t revision is a.1)
+messages_of : (t : List Item) (revision : ℕ) (all is : List ViewItem) → ItemsTold t is
+    → MessagesTold t (map (λ (o : Order). messages.Order o) (filter_map (order revision all) is))
+messages_of t revision all [] a = tt
+messages_of t revision all (i ∷ is) a = by (order revision all i) (order_told t revision all i a.0) (messages_of t revision all is a.1)
   where
-    by : (o : Option Order) → OrderTold t o → MessagesTold t (map (λ (o : Order). messages.Order o) (orders revision is)) → MessagesTold t (map (λ (o : Order). messages.Order o) (cons_option o (orders revision is)))
+    by : (o : Option Order) → OrderTold t o → MessagesTold t (map (λ (o : Order). messages.Order o) (filter_map (order revision all) is))
+        → MessagesTold t (map (λ (o : Order). messages.Order o) (cons_option o (filter_map (order revision all) is)))
     by None b ih = ih
     by (Some o) b ih = (b, ih)
 
 pub orders_told : (t : List Item) (o : Option View) → ViewTold t o → MessagesTold t (map (λ (o : Order). messages.Order o) (orders_seen o))
 orders_told t None a = tt
-orders_told t (Some v) a = messages_of t v.revision v.items a
+orders_told t (Some v) a = messages_of t v.revision v.items v.items a

@@ -1,5 +1,6 @@
-use smf_fmri::{InstanceFmri, Text};
-use smf_restarter::Method;
+use smf_contract::Method;
+use smf_fmri::InstanceFmri;
+use smf_method::Command;
 use smf_state::State;
 
 /// What the trail shows, in the order in which it happened.
@@ -28,7 +29,7 @@ pub enum Item {
         method: Method,
         /// The revision that its order was decided on.
         revision: u64,
-        command: Text,
+        command: Command,
     },
     /// A contract was first found empty.
     Emptied(u64),

@@ -1,0 +1,5 @@
+pub mod Membership
+pub mod Flags
+pub mod Falling
+pub mod Searching
+pub mod Components

@@ -1,0 +1,6 @@
+use Rattle.std.proofs.Common.{slice_index}
+use Rattle.smf_cycles.specs.Components.{Comes, FlagsSay}
+use Rattle.smf_cycles.proofs.members.led_from.Given as goal
+
+abbrev pub invariant-loop-place : goal.invariant-loop-place
+invariant-loop-place l = FlagsSay (λ a. Comes l.edges (slice_index l.roots a) a) l.flags.items

@@ -1,0 +1,4 @@
+pub mod Paths
+pub mod Ranks
+pub mod Searches
+pub mod Components

@@ -1,0 +1,50 @@
+ghost use Rattle.std.specs.Prelude.{◌≡◌, ◌<◌, ◌↔◌, ℕ, IfOk, IsTrue, length};
+ghost use Rattle.smf_cycles.specs.Components.{FlagsSay};
+ghost use Rattle.smf_cycles.specs.Paths.{IsOnCycle, flag_at};
+ghost use Rattle.smf_cycles.specs.Ranks.{NeverRises};
+
+use crate::graph::{edges_of, is_flagged, number_at};
+use crate::members::members_of;
+use crate::places::Places;
+use crate::ranks::{all_below, checked};
+use crate::search::is_on_cycle;
+use crate::walk::Walk;
+use std::alloc::{AllocError, Global};
+
+/// Whether a place is on a cycle, by what is known of it, or else by a search.
+fn settle(
+    alloc: Global,
+    edges: &[Places],
+    ranks: &[usize],
+    members: &[bool],
+    place: usize,
+) -> Result<bool, AllocError>
+    requires ranks { NeverRises edges.now ranks.now }
+    requires members { FlagsSay (IsOnCycle edges.now) members.now }
+    ensures { IfOk result (λ answer. IsTrue answer ↔ IsOnCycle edges.now place) }
+{
+    if is_flagged(members, place) {
+        return Ok(true);
+    }
+    if all_below(ranks, number_at(ranks, place), edges_of(edges, place)) {
+        return Ok(false);
+    }
+    is_on_cycle(alloc, edges, place)
+}
+
+/// Of each place whether it is on a cycle. An edge may lead to a place that is not there, which has no edges.
+pub fn places_on_cycles(alloc: Global, edges: &[Places]) -> Result<Vec<bool>, AllocError>
+    ensures length { IfOk result (λ flags. length flags.items ≡ length edges.now) }
+    ensures exact { IfOk result (λ flags. (a : ℕ) → a < length edges.now → IsTrue (flag_at flags.items a) ↔ IsOnCycle edges.now a) }
+{
+    let mut walk = Walk::new(alloc, edges.len())?;
+    walk.run(edges)?;
+    let known = members_of(alloc, edges, &walk)?;
+    let ranks = checked(alloc, edges, walk.into_ranks());
+    let mut flags = Vec::new(alloc);
+    for place in 0..edges.len() {
+        let flag = settle(alloc, edges, ranks.as_slice(), known.as_slice(), place)?;
+        flags.push(flag)?;
+    }
+    Ok(flags)
+}

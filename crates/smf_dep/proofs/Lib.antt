@@ -1,0 +1,7 @@
+pub mod Behind
+pub mod Copies
+pub mod CyclePlaces
+pub mod Flagged
+pub mod LawCycles
+pub mod LawStops
+pub mod Round

@@ -1,0 +1,74 @@
+-- What a verdict looks at: of each instance its state, its revisions, and what it depends on.
+use Rattle.std.specs.Prelude.{ℕ, nat_eq, List, [], ◌∷◌, ◌++◌, map, Bool, true, false, if◌then◌else◌, Option, Some, None, Result, Ok, Err}
+use Rattle.std.specs.Cmp.Lexicographic.{pointwise}
+use Rattle.smf_fmri.specs.ByKey.{put_all}
+use Rattle.smf_state.specs.declared.view.ViewItem.{ViewItem}
+use Rattle.smf_value.specs.declared.fault.BodyFault.{BodyFault}
+use Rattle.smf_value.specs.Groups.{GroupRecord, by_group}
+use Rattle.smf_snap.specs.declared.body.Snapshot.{Snapshot}
+use Rattle.smf_snap.specs.Body.{decoded_snapshot}
+use Rattle.smf_model.specs.Setting.{startd}
+use Rattle.smf_dep.specs.declared.dependency.Dependency.{Dependency}
+use Rattle.smf_dep.specs.declared.dependency.Grouping.TheVariants.{RequireAll}
+use Rattle.smf_dep.specs.declared.dependency.RestartOn.TheVariants as restarts
+use Rattle.smf_dep.specs.declared.fault.DependencyFault.{DependencyFault}
+use Rattle.smf_dep.specs.declared.member.Member.{Member}
+use Rattle.smf_dep.specs.Requirements.{read_groups}
+
+-- the groups of the running snapshot, each by name the instance's own, else the service's, as a whole
+abbrev pub composed : Snapshot → List GroupRecord
+composed s = put_all by_group s.instance s.service
+
+abbrev pub snapshot_in : Option (List ℕ) → Result Snapshot BodyFault
+snapshot_in (Some body) = decoded_snapshot body
+snapshot_in None = Ok (record { service = []; instance = [] })
+
+-- an instance of a delegated restarter requires that restarter's instance
+abbrev pub implicit : List ℕ → List Dependency
+implicit owner =
+    if pointwise nat_eq owner startd then []
+    else record { grouping = RequireAll; restart_on = restarts.Nothing; entities = owner ∷ [] } ∷ []
+
+-- a list of none or one
+abbrev pub when_there : Option Dependency → List Dependency
+when_there None = []
+when_there (Some d) = d ∷ []
+
+abbrev pub with_implicit : List ℕ → Result (List Dependency) DependencyFault → Option (List Dependency)
+with_implicit owner (Ok ds) = Some (ds ++ implicit owner)
+with_implicit owner (Err fault) = None
+
+-- what an instance depends on, where each of its groups can be read; bytes that are no snapshot are as a group that can't
+abbrev pub dependencies_in : List ℕ → Result Snapshot BodyFault → Option (List Dependency)
+dependencies_in owner (Ok s) = with_implicit owner (read_groups (composed s))
+dependencies_in owner (Err fault) = None
+
+abbrev pub composed_in : Result Snapshot BodyFault → List GroupRecord
+composed_in (Ok s) = composed s
+composed_in (Err fault) = []
+
+abbrev pub member_with : ViewItem → List GroupRecord → Option (List Dependency) → Member
+member_with i groups dependencies =
+    record {
+      instance = i.instance;
+      name = i.name;
+      enabled = i.enabled;
+      state = i.row.state;
+      next = i.row.next;
+      base = i.row.base;
+      err = i.row.err;
+      stop = i.row.stop;
+      refresh = i.row.refresh;
+      start = i.row.start;
+      composed = groups;
+      dependencies = dependencies;
+    }
+
+abbrev pub member_by : ViewItem → Result Snapshot BodyFault → Member
+member_by i snapshot = member_with i (composed_in snapshot) (dependencies_in i.row.owner snapshot)
+
+unfoldable pub member_of : ViewItem → Member
+member_of i = member_by i (snapshot_in i.body)
+
+abbrev pub members : List ViewItem → List Member
+members items = map member_of items

@@ -1,0 +1,146 @@
+-- Dependencies by the places of instances in a list, so that a name is looked for once.
+use Rattle.std.specs.Prelude.{◌≡◌, ℕ, zero, suc, ◌+◌, List, [], ◌∷◌, ◌++◌, map, length, Bool, true, false, not, ◌&&◌, ◌||◌, if◌then◌else◌, Option, Some, None, unwrap_or, is_some, slice_get}
+use Rattle.std.specs.List.{list_all, list_any}
+use Rattle.std.specs.Option.{option_map_or}
+use Rattle.smf_dep.specs.declared.dependency.Dependency.{Dependency}
+use Rattle.smf_dep.specs.declared.dependency.Grouping.{Grouping}
+use Rattle.smf_dep.specs.declared.dependency.Grouping.TheVariants.{RequireAll, RequireAny, OptionalAll, ExcludeAll}
+use Rattle.smf_dep.specs.declared.graph.Finding.{Finding}
+use Rattle.smf_dep.specs.declared.link.Link.{Link}
+use Rattle.smf_dep.specs.declared.link.Node.{Node}
+use Rattle.smf_dep.specs.declared.link.Flags.{Flags}
+use Rattle.smf_dep.specs.declared.member.Member.{Member}
+use Rattle.smf_dep.specs.Cycles.{excludes, on_cycle}
+use Rattle.smf_dep.specs.Verdicts.{all_met, any_must_stop, is_cited, is_idle, is_off, is_parked, is_running, is_waiting, stops_by}
+
+-- the places, counted from at, of the instances that an entity stands for
+abbrev pub places_from : ℕ → List ℕ → List Member → List ℕ
+places_from at e [] = []
+places_from at e (m ∷ ms) = if is_cited e m then at ∷ places_from (at + 1) e ms else places_from (at + 1) e ms
+
+unfoldable pub places : List Member → List ℕ → List ℕ
+places ms e = places_from 0 e ms
+
+abbrev pub link_of : List Member → Dependency → Link
+link_of ms d = record { grouping = d.grouping; restart_on = d.restart_on; cited = map (places ms) d.entities }
+
+abbrev pub links_of : List Member → Option (List Dependency) → List Link
+links_of ms None = []
+links_of ms (Some ds) = map (link_of ms) ds
+
+-- an instance with what it depends on by places, none where a group can't be read
+abbrev pub node_of : List Member → Member → Node
+node_of ms m = record { idle = is_idle m; waiting = is_waiting m; readable = is_some m.dependencies; base = m.base; links = links_of ms m.dependencies }
+
+abbrev pub nodes_of : List Member → List Node
+nodes_of ms = map (node_of ms) ms
+
+-- ---- flags, one for each instance
+
+abbrev pub flag_at : List Bool → ℕ → Bool
+flag_at flags place = unwrap_or (slice_get flags place) false
+
+abbrev pub has_flag : List Bool → List ℕ → Bool
+has_flag flags ps = list_any (flag_at flags) ps
+
+abbrev pub has_flags : List Bool → List ℕ → Bool
+has_flags flags ps = list_all (flag_at flags) ps
+
+-- what the instances are by their states
+abbrev pub flags_of : List Member → Flags
+flags_of ms = record { running = map is_running ms; off = map is_off ms }
+
+abbrev pub blocks_at : Grouping → Flags → List Bool → List (List ℕ) → Bool
+blocks_at RequireAll f parked es = not (list_all (has_flag f.running) es) && list_any (has_flags parked) es
+blocks_at RequireAny f parked es = not (list_any (has_flag f.running) es) && list_all (has_flags parked) es
+blocks_at OptionalAll f parked es = false
+blocks_at ExcludeAll f parked es = not (list_all (has_flags f.off) es) && list_any (has_flag f.running) es
+
+abbrev pub is_link_blocked : Flags → List Bool → Link → Bool
+is_link_blocked f parked l = blocks_at l.grouping f parked l.cited
+
+abbrev pub all_settled : Flags → List Bool → List ℕ → Bool
+all_settled f parked ps = list_all (λ p. flag_at f.running p || flag_at parked p) ps
+
+abbrev pub meets_at : Grouping → Flags → List Bool → List (List ℕ) → Bool
+meets_at RequireAll f parked es = list_all (has_flag f.running) es
+meets_at RequireAny f parked es = list_any (has_flag f.running) es
+meets_at OptionalAll f parked es = list_all (all_settled f parked) es
+meets_at ExcludeAll f parked es = list_all (has_flags f.off) es
+
+abbrev pub is_link_met : Flags → List Bool → Link → Bool
+is_link_met f parked l = meets_at l.grouping f parked l.cited
+
+-- ---- rounds
+
+abbrev pub node_parked : Flags → List Bool → Node → Bool
+node_parked f parked n = n.idle || (n.waiting && list_any (is_link_blocked f parked) n.links)
+
+abbrev pub round : Flags → List Node → List Bool → List Bool
+round f nodes parked = map (node_parked f parked) nodes
+
+unfoldable pub rounds : ℕ → Flags → List Node → List Bool
+rounds zero f nodes = map (λ n. n.idle) nodes
+rounds (suc k) f nodes = round f nodes (rounds k f nodes)
+
+-- ---- what stops a running instance, by places
+
+abbrev pub event_at : (Member → Bool) → List Member → ℕ → Bool
+event_at is_event ms place = option_map_or is_event (slice_get ms place) false
+
+abbrev pub link_stops : List Member → ℕ → Link → Bool
+link_stops ms base l = list_any (λ ps. list_any (event_at (stops_by l.grouping l.restart_on base) ms) ps) l.cited
+
+-- ---- edges
+
+-- the places of what an instance cites, each as often as it is cited
+abbrev pub joined : List (List ℕ) → List ℕ
+joined [] = []
+joined (ps ∷ pss) = ps ++ joined pss
+
+abbrev pub edges_in : List Link → List ℕ
+edges_in [] = []
+edges_in (l ∷ ls) = if excludes l.grouping then edges_in ls else joined l.cited ++ edges_in ls
+
+-- where the edges of each instance lead
+abbrev pub edges_of : List Node → List (List ℕ)
+edges_of nodes = map (λ n. edges_in n.links) nodes
+
+-- flags that say of each instance whether it depends on itself
+pub record AreCycles (ms : List Member) (flags : List Bool) : Type 0 where
+  pub flag : (a : ℕ) (m : Member) → slice_get ms a ≡ Some m → flag_at flags a ≡ on_cycle ms m
+
+-- ---- what is found of each instance
+
+unfoldable pub finding_of : List Member → Member → Finding
+finding_of ms m =
+    record {
+      readable = is_some m.dependencies;
+      all_met = all_met ms m;
+      must_stop = any_must_stop ms m.base m.dependencies;
+      on_cycle = on_cycle ms m;
+    }
+
+abbrev pub findings : List Member → List Finding
+findings ms = map (finding_of ms) ms
+
+-- the same by places
+abbrev pub finding_at : List Member → Flags → List Bool → Bool → Node → Finding
+finding_at ms f parked on_cycle n =
+    record {
+      readable = n.readable;
+      all_met = n.readable && list_all (is_link_met f parked) n.links;
+      must_stop = list_any (link_stops ms n.base) n.links;
+      on_cycle = on_cycle;
+    }
+
+abbrev pub findings_from : ℕ → List Member → Flags → List Bool → List Bool → List Node → List Finding
+findings_from at ms f parked cycles [] = []
+findings_from at ms f parked cycles (n ∷ ns) =
+    finding_at ms f parked (flag_at cycles at) n ∷ findings_from (at + 1) ms f parked cycles ns
+
+-- what a graph keeps beside its instances
+pub record IsGraph (ms : List Member) (fs : List Finding) (flags : Flags) (parked : List Bool) : Type 0 where
+  pub found : fs ≡ findings ms
+  pub states : flags ≡ flags_of ms
+  pub rounds : parked ≡ map (is_parked ms) ms

@@ -1,0 +1,23 @@
+//! Dependencies of instances: what each group asks, whether it is met, what stops a running instance, and which of
+//! them depend on themselves, as smf(5) has them.
+//! Modules: `dependency`, `reading` (groups as dependencies), `member` (what a verdict looks at of an instance),
+//! `link` (dependencies by places), `parking` (which instances won't run), `cycle`, `graph`, `law` (laws of the
+//! definitions), `fault`.
+#![tactic(auto)]
+
+mod cycle;
+mod dependency;
+mod fault;
+mod graph;
+mod law;
+mod link;
+mod member;
+mod parking;
+mod reading;
+
+pub use dependency::{Dependency, Grouping, RestartOn};
+pub use fault::DependencyFault;
+pub use graph::{Finding, Graph, Verdict};
+pub use law::{cycles_are_lists, rows_tell_what_stops};
+pub use member::{Member, members};
+pub use reading::read_groups;

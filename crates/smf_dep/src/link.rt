@@ -1,0 +1,160 @@
+ghost use Rattle.std.specs.Prelude.{◌≡◌, IfOk, map};
+ghost use Rattle.smf_dep.specs.Places.{flags_of, link_of, links_of, node_of, nodes_of, places};
+ghost use Rattle.smf_dep.specs.Verdicts.{is_off, is_running};
+
+use crate::dependency::{Dependency, Grouping, RestartOn};
+use crate::member::Member;
+use smf_fmri::{Fmri, Items};
+use std::alloc::{AllocError, Global};
+
+/// A dependency, with the places of the instances that each of its entities stands for.
+#[derive(Debug, Drop)]
+pub struct Link {
+    pub grouping: Grouping,
+    pub restart_on: RestartOn,
+    pub cited: Items<Items<usize>>,
+}
+
+/// An instance, with what it depends on: nothing where a group can't be read.
+#[derive(Debug, Drop)]
+pub struct Node {
+    pub idle: bool,
+    pub waiting: bool,
+    pub readable: bool,
+    /// The revision on which its last start was decided.
+    pub base: u64,
+    pub links: Items<Link>,
+}
+
+/// What the instances are, one flag for each.
+#[derive(Debug, Drop)]
+pub struct Flags {
+    pub running: Items<bool>,
+    /// Disabled, or in maintenance.
+    pub off: Items<bool>,
+}
+
+#[tactic(auto, unfolding(crate::specs::Places::places))]
+fn places(alloc: Global, members: &[Member], entity: &Fmri) -> Result<Items<usize>, AllocError>
+    ensures { IfOk result (λ ps. ps ≡ places members.now entity.now) }
+{
+    let mut places = Items::new(alloc);
+    let mut place = 0;
+    for member in members {
+        if member.is_cited(entity) {
+            places.push(place)?;
+        }
+        place += 1;
+    }
+    Ok(places)
+}
+
+fn cited(
+    alloc: Global,
+    members: &[Member],
+    entities: &[Fmri],
+) -> Result<Items<Items<usize>>, AllocError>
+    ensures { IfOk result (λ pss. pss ≡ map (places members.now) entities.now) }
+{
+    let mut cited = Items::new(alloc);
+    for entity in entities {
+        cited.push(places(alloc, members, entity)?)?;
+    }
+    Ok(cited)
+}
+
+/// A dependency by the places of what it cites.
+pub(crate) fn link_of(
+    alloc: Global,
+    members: &[Member],
+    dependency: &Dependency,
+) -> Result<Link, AllocError>
+    ensures { IfOk result (λ l. l ≡ link_of members.now dependency.now) }
+{
+    let cited = cited(alloc, members, dependency.entities.as_slice())?;
+    Ok(Link {
+        grouping: dependency.grouping,
+        restart_on: dependency.restart_on,
+        cited,
+    })
+}
+
+fn links(
+    alloc: Global,
+    members: &[Member],
+    dependencies: &[Dependency],
+) -> Result<Items<Link>, AllocError>
+    ensures { IfOk result (λ ls. ls ≡ map (link_of members.now) dependencies.now) }
+{
+    let mut links = Items::new(alloc);
+    for dependency in dependencies {
+        links.push(link_of(alloc, members, dependency)?)?;
+    }
+    Ok(links)
+}
+
+fn links_of(
+    alloc: Global,
+    members: &[Member],
+    dependencies: &Option<Items<Dependency>>,
+) -> Result<Items<Link>, AllocError>
+    ensures { IfOk result (λ ls. ls ≡ links_of members.now dependencies.now) }
+{
+    match dependencies {
+        None => Ok(Items::new(alloc)),
+        Some(dependencies) => links(alloc, members, dependencies.as_slice()),
+    }
+}
+
+fn node_of(alloc: Global, members: &[Member], member: &Member) -> Result<Node, AllocError>
+    ensures { IfOk result (λ n. n ≡ node_of members.now member.now) }
+{
+    let links = links_of(alloc, members, &member.dependencies)?;
+    Ok(Node {
+        idle: member.is_idle(),
+        waiting: member.is_waiting(),
+        readable: member.dependencies.is_some(),
+        base: member.base,
+        links,
+    })
+}
+
+/// Each instance with what it depends on by places.
+pub(crate) fn nodes(alloc: Global, members: &[Member]) -> Result<Items<Node>, AllocError>
+    ensures { IfOk result (λ ns. ns ≡ nodes_of members.now) }
+{
+    let mut nodes = Items::new(alloc);
+    for member in members {
+        nodes.push(node_of(alloc, members, member)?)?;
+    }
+    Ok(nodes)
+}
+
+fn running(alloc: Global, members: &[Member]) -> Result<Items<bool>, AllocError>
+    ensures { IfOk result (λ fs. fs ≡ map is_running members.now) }
+{
+    let mut flags = Items::new(alloc);
+    for member in members {
+        flags.push(member.is_running())?;
+    }
+    Ok(flags)
+}
+
+fn off(alloc: Global, members: &[Member]) -> Result<Items<bool>, AllocError>
+    ensures { IfOk result (λ fs. fs ≡ map is_off members.now) }
+{
+    let mut flags = Items::new(alloc);
+    for member in members {
+        flags.push(member.is_off())?;
+    }
+    Ok(flags)
+}
+
+/// What each instance is by its state.
+pub(crate) fn flags_of(alloc: Global, members: &[Member]) -> Result<Flags, AllocError>
+    ensures { IfOk result (λ f. f ≡ flags_of members.now) }
+{
+    let running = running(alloc, members)?;
+    let off = off(alloc, members)?;
+    Ok(Flags { running, off })
+}

@@ -1,0 +1,4 @@
+pub mod PlainTexts
+pub mod TokenSteps
+pub mod Replaced
+pub mod ReadOrDefined

@@ -1,0 +1,7 @@
+pub mod Faults
+pub mod Timeouts
+pub mod Commands
+pub mod Tokens
+pub mod Settings
+pub mod Methods
+pub mod Outcomes

@@ -1,0 +1,43 @@
+ghost use Rattle.smf_method.specs.Outcomes.{is_fatal, outcome_of};
+ghost use Rattle.std.specs.Prelude.{◌≡◌};
+
+use smf_contract::{Exit, Method};
+
+/// What the end of a method means.
+#[derive(Clone, Copy, Debug, PartialEq, Eq)]
+pub enum Outcome {
+    Good,
+    /// It failed, and may be run again.
+    Retry,
+    /// It failed, and would fail again.
+    Fatal,
+}
+
+/// Whether a code says that no further run would succeed.
+fn is_fatal(method: Method, code: u8) -> bool
+    ensures { result ≡ is_fatal method code }
+{
+    match method {
+        Method::Start => code == 95 || code == 96 || code == 99 || code == 100,
+        Method::Stop => false,
+        Method::Refresh => false,
+    }
+}
+
+/// What it means that a method ended so.
+pub fn judge(method: Method, exit: Exit) -> Outcome
+    ensures { result ≡ outcome_of method exit }
+{
+    match exit {
+        Exit::Killed => Outcome::Retry,
+        Exit::Code(code) => {
+            if code == 0 {
+                Outcome::Good
+            } else if is_fatal(method, code) {
+                Outcome::Fatal
+            } else {
+                Outcome::Retry
+            }
+        }
+    }
+}
