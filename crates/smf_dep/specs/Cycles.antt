@@ -36,6 +36,9 @@ IsPath ms a (m ∷ path) b = IsAmong m ms × (cites a m ≡ true) × IsPath ms m
 abbrev pub IsCycle : List Member → Member → List Member → Type 0
 IsCycle ms m path = IsPath ms m path m
 
+abbrev pub HasCycle : List Member → Member → Type 0
+HasCycle ms m = (path : List Member) × IsCycle ms m path
+
 -- the same as a test: one leads to the other by way of these
 unfoldable pub leads : List Member → Member → Member → Bool
 leads [] a b = cites a b

@@ -1,19 +1,23 @@
 -- What stops a running instance, told by the history in place of the rows.
-use Rattle.std.specs.Prelude.{◌≡◌, ℕ, nat_eq, List, Bool, true, false, Some, is_some}
+use Rattle.std.specs.Prelude.{◌≡◌, ◌≤◌, ℕ, nat_eq, List, Bool, true, false, Some, is_some}
 use Rattle.std.specs.Cmp.Lexicographic.{pointwise}
 use Rattle.std.specs.List.{Any}
 use Rattle.smf_fmri.specs.Matching.{service_of, instance_of}
 use Rattle.smf_model.specs.declared.command.Command.{Command}
 use Rattle.smf_model.specs.declared.held.Instance.{Instance}
-use Rattle.smf_model.specs.Events.{EventKind, ErrorStop, OtherStop, Refreshed, Started, Happened}
+use Rattle.smf_model.specs.Events.{EventKind, ErrorStop, OtherStop, Refreshed, Started, Happened, IsDated}
 use Rattle.smf_model.specs.History.{made}
 use Rattle.smf_model.specs.Holdings.{Holdings}
+use Rattle.smf_model.specs.Laws.{IsNumbered}
 use Rattle.smf_model.specs.Look.{instance}
+use Rattle.smf_model.specs.Shown.{view}
 use Rattle.smf_dep.specs.declared.dependency.Dependency.{Dependency}
 use Rattle.smf_dep.specs.declared.dependency.Grouping.{Grouping}
 use Rattle.smf_dep.specs.declared.dependency.Grouping.TheVariants.{RequireAll, RequireAny, OptionalAll, ExcludeAll}
 use Rattle.smf_dep.specs.declared.dependency.RestartOn.{RestartOn}
 use Rattle.smf_dep.specs.declared.dependency.RestartOn.TheVariants as restarts
+use Rattle.smf_dep.specs.Members.{members}
+use Rattle.smf_dep.specs.Verdicts.{must_stop}
 
 -- ---- which events count
 
@@ -67,3 +71,15 @@ pub record MustStop (d : Dependency) (base : ℕ) (h : Holdings) (cs : List Comm
   pub cited : IsCitedBy d held.name
   pub counted : counts d.grouping d.restart_on kind ≡ true
   pub happened : Happened kind number base h cs
+
+-- ---- rows and history
+
+-- the graph of the value that the commands made of the first one says that the dependency stops
+abbrev pub stops_now : Dependency → ℕ → Holdings → List Command → Bool
+stops_now d base h cs = must_stop (members (view (made h cs)).items) d base
+
+abbrev pub IsTold : Dependency → ℕ → Holdings → List Command → Type 0
+IsTold d base h cs = IsNumbered h → IsDated h → h.revision ≤ base → stops_now d base h cs ≡ true → MustStop d base h cs
+
+abbrev pub IsShown : Dependency → ℕ → Holdings → List Command → Type 0
+IsShown d base h cs = IsNumbered h → IsDated h → h.revision ≤ base → MustStop d base h cs → stops_now d base h cs ≡ true

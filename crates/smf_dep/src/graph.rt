@@ -202,6 +202,7 @@ impl Graph {
         })
     }
 
+    /// The instances, in the order of the items.
     pub fn members(&self) -> &[Member]
         ensures { result.now ≡ self.now }
     {

@@ -154,6 +154,7 @@ impl Member {
         }
     }
 
+    /// Online or degraded.
     pub fn is_running(&self) -> bool
         ensures { result ≡ is_running self.now }
     {

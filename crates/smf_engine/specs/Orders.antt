@@ -1,5 +1,5 @@
 -- What svc.startd's graph orders, by what it sees of the instances.
-use Rattle.std.specs.Prelude.{ℕ, ◌==◌, ◌&&◌, ◌||◌, not, nat_lt, List, [], ◌∷◌, Bool, true, false, if◌then◌else◌, Option, Some, None, find, Result, Ok, Err}
+use Rattle.std.specs.Prelude.{ℕ, ◌==◌, ◌&&◌, ◌||◌, not, nat_lt, List, [], ◌∷◌, Bool, true, false, if◌then◌else◌, Option, Some, None, find, option_map, slice_get, Result, Ok, Err}
 use Rattle.std.specs.Int.RustNames.{bit_and}
 use Rattle.std.specs.List.{filter_map}
 use Rattle.smf_contract.specs.declared.cookie.Method.{Method}
@@ -161,6 +161,10 @@ order_under revision i m f (Some next) = None
 abbrev pub order_with : ℕ → ViewItem → Option Member → Option Finding → Option Order
 order_with revision i (Some m) (Some f) = order_under revision i m f i.row.next
 order_with revision i m f = None
+
+-- by the instance at a place
+abbrev pub order_placed : ℕ → ViewItem → List Member → ℕ → Option Order
+order_placed revision i ms place = order_with revision i (slice_get ms place) (option_map (finding_of ms) (slice_get ms place))
 
 -- the order for an instance, by the items of a view of a revision
 unfoldable pub order : ℕ → List ViewItem → ViewItem → Option Order

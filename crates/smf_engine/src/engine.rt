@@ -24,6 +24,7 @@ impl Model for Engine {
 }
 
 impl Engine {
+    /// A graph that holds no view, and so orders nothing.
     pub fn new() -> Engine
         ensures { result ≡ None }
     {

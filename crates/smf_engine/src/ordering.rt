@@ -1,7 +1,6 @@
-ghost use Rattle.std.specs.Prelude.{◌≡◌, IfOk, Some, find, option_map, slice_get};
+ghost use Rattle.std.specs.Prelude.{◌≡◌, IfOk, Some, find, slice_get};
 ghost use Rattle.smf_dep.specs.Members.{members};
-ghost use Rattle.smf_dep.specs.Places.{finding_of};
-ghost use Rattle.smf_engine.specs.Orders.{decision, is_about, order, order_in, order_to, order_under, order_with, orders, what_by};
+ghost use Rattle.smf_engine.specs.Orders.{decision, is_about, order, order_in, order_to, order_under, order_placed, orders, what_by};
 
 use crate::deciding::{decide_instance, what_of};
 use smf_dep::{Finding, Graph, Member};
@@ -65,7 +64,7 @@ fn order_with(
     item: &ViewItem,
     place: usize,
 ) -> Result<Option<Order>, AllocError>
-    ensures { IfOk result (λ o. o ≡ order_with revision item.now (slice_get graph.now place) (option_map (finding_of graph.now) (slice_get graph.now place))) }
+    ensures { IfOk result (λ o. o ≡ order_placed revision item.now graph.now place) }
 {
     let Some(member) = graph.members().get(place) else {
         return Ok(None);
