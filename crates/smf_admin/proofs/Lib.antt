@@ -1,3 +1,4 @@
 pub mod Order
 pub mod Picking
 pub mod Named
+pub mod Rows

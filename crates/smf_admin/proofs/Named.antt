@@ -1,5 +1,5 @@
 -- A full name of an instance matches the instance of that name alone.
-use Rattle.std.proofs.Common.{◌≡◌, ℕ, suc, ◌+◌, ◌-◌, ◌<◌, ◌≤◌, List, [], ◌∷◌, ◌++◌, length, drop, Bool, true, false, cond, nat_lt, get_or, Option, Some, None, is_some, Ok, inl, refl, sym, ◌∙◌, ap, subst, arith, eqb-true, ltb-true}
+use Rattle.std.proofs.Common.{◌≡◌, ℕ, ◌-◌, ◌<◌, List, [], ◌∷◌, ◌++◌, length, drop, Bool, true, false, cond, nat_lt, get_or, Option, Some, None, is_some, Ok, inl, refl, sym, ◌∙◌, ap, subst, arith, eqb-true, ltb-true}
 use Rattle.std.specs.Prelude.{slice_get, IfSome}
 use Rattle.std.specs.Option.{option_to_list, MatchOption}
 use Rattle.std.specs.Cmp.Lexicographic.{slice_cmp}
@@ -9,21 +9,20 @@ use Rattle.std.specs.declared.cmp.Ordering.{Ordering}
 use Rattle.std.specs.declared.cmp.Ordering.TheVariants.{Less, Equal, Greater}
 use Rattle.std.proofs.lemmas.List.Sums.{passes_at_first, split_at_first}
 use Rattle.std.proofs.lemmas.Map.Lookups.{exact_unsigned}
-use Rattle.smf_fmri.specs.ByKey.{By, IsBelowFirst, Rises, by_number, has_key, lookup}
+use Rattle.smf_fmri.specs.ByKey.{By, IsBelowFirst, Rises, by_number, lookup}
 use Rattle.smf_fmri.specs.Matching.{Abbreviates, IsInstanceName, IsOf, Matches, is_colon, matches, named_instance, parts_of, parts_of_name}
-use Rattle.smf_fmri.specs.Name.{IsName, read, read_pattern, short, strip}
+use Rattle.smf_fmri.specs.Name.{read, read_pattern, short, strip}
 use Rattle.smf_fmri.specs.Spelling.{Spells}
 use Rattle.smf_fmri.proofs.Lookups.{cmp_reversed, equal_from_test, same_key}
 use Rattle.smf_fmri.proofs.Matching.{matches_decides}
 use Rattle.smf_fmri.proofs.Places.{equal_first, none_above}
 use Rattle.smf_fmri.proofs.Rising.{first_below}
-use Rattle.smf_fmri.proofs.Whole.{IsShort, name_is_short, name_strips, pattern_is_read}
+use Rattle.smf_fmri.proofs.Whole.{name_is_short, name_strips, pattern_is_read}
 use Rattle.smf_model.specs.declared.held.InstanceName.{InstanceName}
-use Rattle.smf_model.specs.declared.command.Edit.TheVariants as edits
 use Rattle.smf_model.specs.Look.{by_name}
-use Rattle.smf_admin.specs.declared.asking.Asked.{Asked}
-use Rattle.smf_admin.specs.declared.asking.Asked.TheVariants as answers
-use Rattle.smf_admin.specs.Asking.{IsAnswer, asked_at, asked_by, asked_of, asked_with, matching, names_of}
+use Rattle.smf_admin.specs.declared.finding.Found.{Found}
+use Rattle.smf_admin.specs.declared.finding.Found.TheVariants as finds
+use Rattle.smf_admin.specs.Finding.{IsAnswer, found_at, found_of, found_with, matching}
 use Rattle.smf_admin.proofs.Picking.{picked_answers}
 
 -- ---- a full name is a pattern
@@ -189,7 +188,7 @@ short_all (x ∷ y ∷ ys) first last r f l s t =
     let P : ℕ → Type 0 = λ k. slice_get (x ∷ y ∷ ys) k ≡ Some last in
     (here, short_behind x.name (y ∷ ys) last here t r.0 r.1 (sym (last_at x (y ∷ ys)) ∙ subst P at l))
 
--- ---- what a full name asks for
+-- ---- what a full name stands for
 
 pub full_match : (view : List InstanceName) (name : List ℕ) (first last : InstanceName) → Rises by_name view → slice_get view 0 ≡ Some first → slice_get view (length view - 1) ≡ Some last
     → IsInstanceName first.name → IsInstanceName last.name → IsInstanceName name → matching name view ≡ option_to_list (lookup by_name view name)
@@ -202,17 +201,17 @@ first_one x y e = cc
 none_first : (x : InstanceName) → ◌≡◌ {A = List InstanceName} [] (x ∷ []) → ⊥
 none_first x e = cc
 
-answer_by : (pattern word : List ℕ) (view : List InstanceName) (found : Option InstanceName) (one : Asked) → matching pattern view ≡ option_to_list found → IsAnswer pattern word view one → one ≡ asked_at word found
-answer_by pattern word view (Some i) (answers.Edit edit) e h =
+answer_by : (pattern word : List ℕ) (view : List InstanceName) (found : Option InstanceName) (one : Found) → matching pattern view ≡ option_to_list found → IsAnswer pattern word view one → one ≡ found_at word found
+answer_by pattern word view (Some i) (finds.One number) e h =
     let same : h.0 ≡ i = first_one h.0 i (sym h.1 ∙ e) in
-    ap answers.Edit (h.2 ∙ ap (λ (j : InstanceName). edits.Enable j.number true false) same)
-answer_by pattern word view None (answers.Edit edit) e h = absurd (none_first h.0 (sym e ∙ h.1))
-answer_by pattern word view (Some i) (answers.NoMatch w) e h = absurd (none_first i (sym h.1 ∙ e))
-answer_by pattern word view None (answers.NoMatch w) e h = ap answers.NoMatch h.0
-answer_by pattern word view (Some i) (answers.Several w count) e h = let one : length (matching pattern view) ≡ 1 = ap length e in absurd (omega (arith, h.1, h.2))
-answer_by pattern word view None (answers.Several w count) e h = let none : length (matching pattern view) ≡ 0 = ap length e in absurd (omega (arith, h.1, h.2))
+    ap finds.One (h.2 ∙ ap (λ (j : InstanceName). j.number) same)
+answer_by pattern word view None (finds.One number) e h = absurd (none_first h.0 (sym e ∙ h.1))
+answer_by pattern word view (Some i) (finds.NoMatch w) e h = absurd (none_first i (sym h.1 ∙ e))
+answer_by pattern word view None (finds.NoMatch w) e h = ap finds.NoMatch h.0
+answer_by pattern word view (Some i) (finds.Several w count) e h = let one : length (matching pattern view) ≡ 1 = ap length e in absurd (omega (arith, h.1, h.2))
+answer_by pattern word view None (finds.Several w count) e h = let none : length (matching pattern view) ≡ 0 = ap length e in absurd (omega (arith, h.1, h.2))
 
--- what is found by a full name is what the word asks for
-pub asked_is : (view : List InstanceName) (word name : List ℕ) (found : Option InstanceName) → read_pattern word ≡ Ok name → matching name view ≡ option_to_list found → asked_at word found ≡ asked_of view word
-unfolding asked_of
-asked_is view word name found e h = sym (ap (asked_with word view) e ∙ answer_by name word view found _ h (picked_answers name word view))
+-- what is found by a full name is what the word stands for
+pub found_is : (view : List InstanceName) (word name : List ℕ) (found : Option InstanceName) → read_pattern word ≡ Ok name → matching name view ≡ option_to_list found → found_at word found ≡ found_of view word
+unfolding found_of
+found_is view word name found e h = sym (ap (found_with word view) e ∙ answer_by name word view found _ h (picked_answers name word view))

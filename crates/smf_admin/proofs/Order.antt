@@ -1,21 +1,26 @@
 -- What keeping entries in the order of their names makes: the same entries, in order.
-use Rattle.std.proofs.Common.{◌≡◌, ◌≢◌, ℕ, zero, suc, ◌<◌, List, [], ◌∷◌, ◌++◌, length, reverse, cond, Option, Some, refl, sym, ap, ◌∙◌, subst, append-nil, append_assoc, arith}
+use Rattle.std.proofs.Common.{◌≡◌, ◌≢◌, ℕ, zero, suc, ◌<◌, List, [], ◌∷◌, ◌++◌, length, reverse, cond, Bool, true, false, Option, Some, refl, sym, ap, ◌∙◌, subst, append-nil, append_assoc, arith}
 use Rattle.std.specs.Prelude.{filter, map}
 use Rattle.std.specs.Cmp.Lexicographic.{slice_cmp}
-use Rattle.std.specs.List.{AllByRecursion as Every, slice_index_or}
+use Rattle.std.specs.List.{AllByRecursion as Every, AllPairs, slice_index_or}
 use Rattle.std.specs.List.Sorted.{IsPermutation}
 use Rattle.std.specs.Ordering.{nat_cmp}
 use Rattle.std.specs.declared.cmp.Ordering.{Ordering}
 use Rattle.std.specs.declared.cmp.Ordering.TheVariants.{Less, Equal, Greater}
 use Rattle.std.proofs.lemmas.List.{reverse-append}
-use Rattle.std.proofs.lemmas.List.Kept.{AllPairs-filter}
 use Rattle.std.proofs.lemmas.List.Sorted.{IsPermutation-refl, IsPermutation-cons, IsPermutation-trans, IsPermutation-insert, IsPermutation-append_right}
+use Rattle.smf_dep.specs.declared.member.Member.{Member}
+use Rattle.smf_dep.specs.Members.{member_of, members}
 use Rattle.smf_fmri.specs.ByKey.{has_key, lookup, put, put_all, put_by}
 use Rattle.smf_fmri.proofs.Lookups.{lookup_put}
 use Rattle.smf_fmri.proofs.Rising.{all_put, rises_put_all}
 use Rattle.smf_state.specs.declared.view.ViewItem.{ViewItem}
 use Rattle.smf_admin.specs.declared.listing.Entry.{Entry}
-use Rattle.smf_admin.specs.Listing.{HaveNamesApart, IsListing, by_entry, entries, entry_of, is_listed}
+use Rattle.smf_admin.specs.declared.choosing.Chosen.{Chosen}
+use Rattle.smf_admin.specs.declared.choosing.Chosen.TheVariants.{Listed, All, Named, Related}
+use Rattle.smf_admin.specs.declared.choosing.Options.{Options}
+use Rattle.smf_admin.specs.Relating.{is_related}
+use Rattle.smf_admin.specs.Listing.{HaveNamesApart, IsListing, by_entry, chosen, entries, entry_of, is_chosen, item_entries, kept, member_entries, patterns_of, shown, shown_by}
 
 -- ---- names that are apart
 
@@ -27,15 +32,81 @@ abbrev AreApart : List Entry → Type 0
 AreApart [] = Unit {0}
 AreApart (e ∷ es) = Every (λ f. e.name ≢ f.name) es × AreApart es
 
-entries_behind : (i d : ViewItem) (js : List ViewItem) → ((k : ℕ) → k < length js → i.name ≢ (slice_index_or js k d).name)
-    → Every (λ f. i.name ≢ f.name) (map entry_of js)
-entries_behind i d [] h = tt
-entries_behind i d (j ∷ js) h = (h zero (omega arith), entries_behind i d js (λ k low. h (suc k) (omega arith)))
+-- the same of any list
+module _ {A : Type 0} (name : A → List ℕ) where
+  abbrev Apart : List A → Type 0
+  Apart [] = Unit {0}
+  Apart (x ∷ xs) = Every (λ y. name x ≢ name y) xs × Apart xs
 
-entries_apart : (items : List ViewItem) → HaveNamesApart items → AreApart (map entry_of items)
-entries_apart [] h = tt
-entries_apart (i ∷ is) h =
-    (entries_behind i i is (λ k low. h zero (suc k) i (omega arith) (omega arith)), entries_apart is (λ j k d low high. h (suc j) (suc k) d (omega arith) (omega arith)))
+  every_if : (b : Bool) (P : A → Type 0) (x : A) (xs : List A) → P x → Every P xs → Every P (cond b (x ∷ xs) xs)
+  every_if true P x xs h k = (h, k)
+  every_if false P x xs h k = k
+
+  every_filtered : (P : A → Type 0) (p : A → Bool) (xs : List A) → Every P xs → Every P (filter p xs)
+  every_filtered P p [] h = tt
+  every_filtered P p (x ∷ xs) h = every_if (p x) P x (filter p xs) h.0 (every_filtered P p xs h.1)
+
+  apart_if : (b : Bool) (x : A) (xs : List A) → Every (λ y. name x ≢ name y) xs → Apart xs → Apart (cond b (x ∷ xs) xs)
+  apart_if true x xs h k = (h, k)
+  apart_if false x xs h k = k
+
+  apart_filtered : (p : A → Bool) (xs : List A) → Apart xs → Apart (filter p xs)
+  apart_filtered p [] h = tt
+  apart_filtered p (x ∷ xs) h = apart_if (p x) x (filter p xs) (every_filtered (λ y. name x ≢ name y) p xs h.0) (apart_filtered p xs h.1)
+
+  behind_first : (n : List ℕ) (d : A) (xs : List A) → ((k : ℕ) → k < length xs → n ≢ name (slice_index_or xs k d)) → Every (λ y. n ≢ name y) xs
+  behind_first n d [] h = tt
+  behind_first n d (x ∷ xs) h = (h zero (omega arith), behind_first n d xs (λ k low. h (suc k) (omega arith)))
+
+  apart_by_place : (xs : List A) → AllPairs (λ x y. name x ≢ name y) xs → Apart xs
+  apart_by_place [] h = tt
+  apart_by_place (x ∷ xs) h =
+      (behind_first (name x) x xs (λ k low. h zero (suc k) x (omega arith) (omega arith)), apart_by_place xs (λ j k d low high. h (suc j) (suc k) d (omega arith) (omega arith)))
+
+  -- what is made of each with the same name
+  module _ (entry : A → Entry) (same : (x : A) → name x ≡ (entry x).name) where
+    every_made : (n : List ℕ) (xs : List A) → Every (λ y. n ≢ name y) xs → Every (λ f. n ≢ f.name) (map entry xs)
+    every_made n [] h = tt
+    every_made n (x ∷ xs) h = (subst (λ (m : List ℕ). n ≢ m) (same x) h.0, every_made n xs h.1)
+
+    apart_made : (xs : List A) → Apart xs → AreApart (map entry xs)
+    apart_made [] h = tt
+    apart_made (x ∷ xs) h = (subst (λ (m : List ℕ). Every (λ f. m ≢ f.name) (map entry xs)) (same x) (every_made (name x) xs h.0), apart_made xs h.1)
+
+abbrev item_name : ViewItem → List ℕ
+item_name i = i.name
+
+abbrev member_name : Member → List ℕ
+member_name m = m.name
+
+named_so : (i : ViewItem) → (member_of i).name ≡ i.name
+unfolding member_of
+named_so i = refl
+
+every_member : (n : List ℕ) (view : List ViewItem) → Every (λ i. n ≢ i.name) view → Every (λ m. n ≢ m.name) (members view)
+every_member n [] h = tt
+every_member n (i ∷ is) h = (subst (λ (m : List ℕ). n ≢ m) (sym (named_so i)) h.0, every_member n is h.1)
+
+members_apart : (view : List ViewItem) → Apart item_name view → Apart member_name (members view)
+members_apart [] h = tt
+members_apart (i ∷ is) h =
+    (subst (λ (n : List ℕ). Every (λ m. n ≢ m.name) (members is)) (sym (named_so i)) (every_member i.name is h.0), members_apart is h.1)
+
+items_apart : (p : ViewItem → Bool) (view : List ViewItem) → Apart item_name view → AreApart (item_entries (filter p view))
+items_apart p view h = apart_made item_name (λ i. entry_of i.name i.row.state i.row.next) (λ i. refl) (filter p view) (apart_filtered item_name p view h)
+
+related_apart : (p : Member → Bool) (view : List ViewItem) → Apart item_name view → AreApart (member_entries (filter p (members view)))
+related_apart p view h =
+    apart_made member_name (λ m. entry_of m.name m.state m.next) (λ m. refl) (filter p (members view)) (apart_filtered member_name p (members view) (members_apart view h))
+
+apart_by : (c : Chosen) (ps : List (List ℕ)) (view : List ViewItem) → Apart item_name view → AreApart (shown_by c ps view)
+apart_by Listed ps view h = items_apart (is_chosen Listed ps) view h
+apart_by All ps view h = items_apart (is_chosen All ps) view h
+apart_by Named ps view h = items_apart (is_chosen Named ps) view h
+apart_by (Related r) ps view h = related_apart (is_related r (members (chosen (Related r) ps view))) view h
+
+shown_apart : (view : List ViewItem) (options : Options) → HaveNamesApart view → AreApart (shown view options)
+shown_apart view options h = apart_by options.chosen (patterns_of options.patterns) view (apart_by_place item_name view h)
 
 -- ---- the same entries
 
@@ -78,11 +149,9 @@ same_all (e ∷ es) done apart misses =
     (IsPermutation-append_right es (e ∷ done) more (same_put e done misses.0))
     (same_all es more apart.1 (misses_put e es done apart.0 misses.1)))
 
-same_entries : (view : List ViewItem) → HaveNamesApart view → IsPermutation (map entry_of (filter is_listed view)) (put_all by_entry (map entry_of (filter is_listed view)) [])
-same_entries view h =
-    let es : List Entry = map entry_of (filter is_listed view) in
-    let apart : AreApart es = entries_apart (filter is_listed view) (AllPairs-filter (λ i j. i.name ≢ j.name) is_listed view h) in
-    let P : List Entry → Type 0 = λ l. IsPermutation l (put_all by_entry es []) in
+same_entries : (es : List Entry) → AreApart es → IsPermutation es (kept es)
+same_entries es apart =
+    let P : List Entry → Type 0 = λ l. IsPermutation l (kept es) in
     subst P (append-nil es) (same_all es [] apart (misses_nothing es))
 
 -- ---- what a name finds
@@ -105,6 +174,8 @@ found_all (e ∷ es) done name =
 found_last : (es : List Entry) (name : List ℕ) → lookup by_entry (put_all by_entry es []) name ≡ lookup by_entry (reverse es) name
 found_last es name = found_all es [] name ∙ ap (λ (l : List Entry). lookup by_entry l name) (append-nil (reverse es))
 
-pub is_listing : (view : List ViewItem) → IsListing view (entries view)
+pub is_listing : (view : List ViewItem) (options : Options) → IsListing view (shown view options) (entries view options)
 unfolding entries
-is_listing view = record { shown = found_last (map entry_of (filter is_listed view)); same = same_entries view; in_order = rises_put_all by_entry (map entry_of (filter is_listed view)) [] tt }
+is_listing view options =
+    let all = shown view options in
+    record { shown = found_last all; same = λ h. same_entries all (shown_apart view options h); in_order = rises_put_all by_entry all [] tt }

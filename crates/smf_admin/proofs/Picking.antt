@@ -1,4 +1,4 @@
--- What a word asks for is of the instances whose names it matches.
+-- What a word stands for is of the instances whose names it matches.
 use Rattle.std.proofs.Common.{◌≡◌, ℕ, suc, ◌+◌, ◌<◌, ◌≤◌, List, [], ◌∷◌, length, Bool, true, false, cond, not, nat_lt, le-ltb, lt-ltb, eqb-true, ◌==◌, ◌⊎◌, inl, inr, Option, Some, None, Result, Ok, Err, refl, sym, ◌∙◌, ap, subst, arith}
 use Rattle.std.specs.Prelude.{count_by, filter, slice_get}
 use Rattle.std.specs.List.{position_or_len}
@@ -9,7 +9,7 @@ use Rattle.smf_fmri.specs.declared.fault.PickFault.TheVariants as picks
 use Rattle.smf_fmri.specs.Matching.{matches, only_of, picked}
 use Rattle.smf_fmri.specs.Name.{read_pattern}
 use Rattle.smf_model.specs.declared.held.InstanceName.{InstanceName}
-use Rattle.smf_admin.specs.Asking.{Answers, IsAnswer, asked_at, asked_by, asked_of, asked_with, matching, names_of}
+use Rattle.smf_admin.specs.Finding.{Answers, IsAnswer, found_at, found_by, found_of, found_with, matching, names_of}
 
 abbrev passing : (List ℕ → Bool) → List InstanceName → List InstanceName
 passing p view = filter (λ i. p i.name) view
@@ -51,10 +51,10 @@ only_one [] i h = refl
 only_one (j ∷ js) i h = absurd (omega arith)
 
 only_by : (v : Bool) (pattern word : List ℕ) (view : List InstanceName) (i : InstanceName) (rest : List InstanceName) (at count : ℕ) → (count == 1) ≡ v → count ≡ length (matching pattern view)
-    → slice_get view at ≡ Some i → matching pattern view ≡ i ∷ rest → IsAnswer pattern word view (asked_by word view (cond v (Ok at) (Err (picks.Several count))))
+    → slice_get view at ≡ Some i → matching pattern view ≡ i ∷ rest → IsAnswer pattern word view (found_by word view (cond v (Ok at) (Err (picks.Several count))))
 only_by true pattern word view i rest at count e c get all =
     let one : length (i ∷ rest) ≡ 1 = ap length (sym all) ∙ sym c ∙ eqb-true count 1 e in
-    let P : Option InstanceName → Type 0 = λ o. IsAnswer pattern word view (asked_at word o) in
+    let P : Option InstanceName → Type 0 = λ o. IsAnswer pattern word view (found_at word o) in
     subst P (sym get) (i, all ∙ ap (λ (l : List InstanceName). i ∷ l) (only_one rest i one), refl)
 only_by false pattern word view i rest at count e c get all =
     let some : count ≡ length (i ∷ rest) = c ∙ ap length all in
@@ -64,21 +64,21 @@ only_by false pattern word view i rest at count e c get all =
     two n k e h = grind (arith, nat_tests)
 
 answer_by : (pattern word : List ℕ) (view : List InstanceName) (at count len : ℕ) → len ≡ length view → count ≡ length (matching pattern view) → IsFirst (matches pattern) view at
-    → IsAnswer pattern word view (asked_by word view (only_of count (cond (nat_lt at len) (Some at) None)))
+    → IsAnswer pattern word view (found_by word view (only_of count (cond (nat_lt at len) (Some at) None)))
 answer_by pattern word view at count len l c (inl h) = let past : nat_lt at len ≡ false = le-ltb at len (omega (arith, h.0)) in rw past (refl, h.1)
 answer_by pattern word view at count len l c (inr h) =
     let within : nat_lt at len ≡ true = lt-ltb at len (omega (arith, h.2)) in
     rw within (only_by (count == 1) pattern word view h.0 h.1 at count refl c h.3 h.4)
 
-pub picked_answers : (pattern word : List ℕ) (view : List InstanceName) → IsAnswer pattern word view (asked_by word view (picked pattern (names_of view)))
+pub picked_answers : (pattern word : List ℕ) (view : List InstanceName) → IsAnswer pattern word view (found_by word view (picked pattern (names_of view)))
 picked_answers pattern word view =
     answer_by pattern word view (position_or_len (matches pattern) (names_of view)) (count_by (matches pattern) (names_of view)) (length (names_of view))
     (length-names view) (counted (matches pattern) view) (first (matches pattern) view)
 
-with_answers : (word : List ℕ) (view : List InstanceName) (r : Result (List ℕ) FmriFault) → Answers r word view (asked_with word view r)
+with_answers : (word : List ℕ) (view : List InstanceName) (r : Result (List ℕ) FmriFault) → Answers r word view (found_with word view r)
 with_answers word view (Ok pattern) = picked_answers pattern word view
 with_answers word view (Err fault) = refl
 
-pub asked_answers : (view : List InstanceName) (word : List ℕ) → Answers (read_pattern word) word view (asked_of view word)
-unfolding asked_of
-asked_answers view word = with_answers word view (read_pattern word)
+pub found_answers : (view : List InstanceName) (word : List ℕ) → Answers (read_pattern word) word view (found_of view word)
+unfolding found_of
+found_answers view word = with_answers word view (read_pattern word)

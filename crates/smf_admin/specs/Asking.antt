@@ -1,98 +1,128 @@
 -- What the words of svcadm ask for.
-use Rattle.std.specs.Prelude.{◌≡◌, ◌≤◌, length, filter, ℕ, ◌==◌, ◌&&◌, ◌++◌, not, nat_eq, List, [], ◌∷◌, map, Bool, true, false, codes, Option, Some, None, slice_get, Result, Ok, Err}
+use Rattle.std.specs.Prelude.{ℕ, List, [], ◌∷◌, map, length, ◌==◌, ◌&&◌, not, nat_eq, Bool, true, false, codes, if◌then◌else◌, Option, Some, None, option_map}
 use Rattle.std.specs.Cmp.Lexicographic.{pointwise}
-use Rattle.std.specs.Fmt.{decimal}
-use Rattle.std.specs.List.{list_any}
-use Rattle.smf_fmri.specs.declared.fault.FmriFault.{FmriFault}
-use Rattle.smf_fmri.specs.declared.fault.PickFault.{PickFault}
-use Rattle.smf_fmri.specs.declared.fault.PickFault.TheVariants as picks
-use Rattle.smf_fmri.specs.Matching.{matches, picked}
-use Rattle.smf_fmri.specs.Name.{read_pattern}
+use Rattle.clap.specs.Words.{Row}
 use Rattle.smf_model.specs.declared.held.InstanceName.{InstanceName}
+use Rattle.smf_model.specs.declared.command.Edit.{Edit}
 use Rattle.smf_model.specs.declared.command.Edit.TheVariants as edits
+use Rattle.smf_model.specs.declared.command.Mark.{Mark}
+use Rattle.smf_model.specs.declared.command.Mark.TheVariants as marks
+use Rattle.smf_admin.specs.declared.asking.AdminCommand.{AdminCommand}
+use Rattle.smf_admin.specs.declared.asking.AdminCommand.TheVariants as commands
+use Rattle.smf_admin.specs.declared.asking.AdminFlags.{AdminFlags}
+use Rattle.smf_admin.specs.declared.asking.AdminWords.{AdminWords}
 use Rattle.smf_admin.specs.declared.asking.Asked.{Asked}
 use Rattle.smf_admin.specs.declared.asking.Asked.TheVariants as answers
+use Rattle.smf_admin.specs.declared.asking.Verb.{Verb}
+use Rattle.smf_admin.specs.declared.asking.Verb.TheVariants as verbs
+use Rattle.smf_admin.specs.declared.finding.Found.{Found}
+use Rattle.smf_admin.specs.declared.finding.Found.TheVariants as finds
+use Rattle.smf_admin.specs.Finding.{found_of}
+use Rattle.smf_admin.specs.Words.{is_set, operands_of, parsed, svcadm_app}
 
--- ---- one instance
+-- ---- the command
 
--- the names of the instances, in their order
-abbrev pub names_of : List InstanceName → List (List ℕ)
-names_of view = map (λ i. i.name) view
+abbrev pub verb_of : List ℕ → Option Verb
+verb_of word =
+    if pointwise nat_eq word (codes "enable") then Some verbs.Enable
+    else if pointwise nat_eq word (codes "disable") then Some verbs.Disable
+    else if pointwise nat_eq word (codes "restart") then Some verbs.Restart
+    else if pointwise nat_eq word (codes "refresh") then Some verbs.Refresh
+    else if pointwise nat_eq word (codes "clear") then Some verbs.Clear
+    else if pointwise nat_eq word (codes "mark") then Some verbs.Mark
+    else None
 
-abbrev pub enabling : InstanceName → Asked
-enabling item = answers.Edit (edits.Enable item.number true false)
+-- `-I` and `-t`
+abbrev pub flags_of : List Row → AdminFlags
+flags_of rows = record { at_once = is_set (codes "I") rows; temporary = is_set (codes "t") rows }
 
-abbrev pub asked_at : List ℕ → Option InstanceName → Asked
-asked_at word (Some item) = enabling item
-asked_at word None = answers.NoMatch word
+-- enable and disable take `-t`, mark both, the others none
+abbrev pub is_taken : Verb → AdminFlags → Bool
+is_taken verbs.Enable flags = not flags.at_once
+is_taken verbs.Disable flags = not flags.at_once
+is_taken verbs.Mark flags = true
+is_taken _ flags = not flags.at_once && not flags.temporary
 
-abbrev pub asked_by : List ℕ → List InstanceName → Result ℕ PickFault → Asked
-asked_by word view (Ok place) = asked_at word (slice_get view place)
-asked_by word view (Err picks.NoMatch) = answers.NoMatch word
-asked_by word view (Err (picks.Several count)) = answers.Several word count
+abbrev pub maintenance : Bool → Mark
+maintenance at_once = if at_once then marks.MaintenanceNow else marks.Maintenance
 
--- a word that is no pattern matches nothing
-abbrev pub asked_with : List ℕ → List InstanceName → Result (List ℕ) FmriFault → Asked
-asked_with word view (Ok pattern) = asked_by word view (picked pattern (names_of view))
-asked_with word view (Err fault) = answers.NoMatch word
+-- degraded is never at once
+abbrev pub mark_of : List ℕ → Bool → Option Mark
+mark_of state at_once =
+    if pointwise nat_eq state (codes "degraded") then Some marks.Degraded
+    else if pointwise nat_eq state (codes "maintenance") then Some (maintenance at_once)
+    else None
 
--- what is asked by a word that stands for an instance
-unfoldable pub asked_of : List InstanceName → List ℕ → Asked
-asked_of view word = asked_with word view (read_pattern word)
+-- mark has the name of a state before the others
+abbrev pub marked : Bool → List (List ℕ) → Option AdminCommand
+marked at_once [] = None
+marked at_once (state ∷ names) = option_map commands.Mark (mark_of state at_once)
 
--- ---- what is asked is of what matches
+-- `-t` of mark is without effect
+abbrev pub command_of : Verb → AdminFlags → List (List ℕ) → Option AdminCommand
+command_of verbs.Enable flags operands = Some (commands.Enable flags.temporary)
+command_of verbs.Disable flags operands = Some (commands.Disable flags.temporary)
+command_of verbs.Restart flags operands = Some commands.Restart
+command_of verbs.Refresh flags operands = Some commands.Refresh
+command_of verbs.Clear flags operands = Some commands.Clear
+command_of verbs.Mark flags operands = marked flags.at_once operands
 
--- the instances whose names a pattern matches
-abbrev pub matching : List ℕ → List InstanceName → List InstanceName
-matching pattern view = filter (λ i. matches pattern i.name) view
+abbrev pub names_in : Verb → List (List ℕ) → List (List ℕ)
+names_in verbs.Mark (state ∷ names) = names
+names_in verb operands = operands
 
--- the only instance that matches is enabled; else none matches, or so many do
-abbrev pub IsAnswer : List ℕ → List ℕ → List InstanceName → Asked → Type 0
-IsAnswer pattern word view (answers.Edit edit) = (i : InstanceName) × (matching pattern view ≡ i ∷ []) × (edit ≡ edits.Enable i.number true false)
-IsAnswer pattern word view (answers.NoMatch w) = (w ≡ word) × (matching pattern view ≡ [])
-IsAnswer pattern word view (answers.Several w count) = (w ≡ word) × (length (matching pattern view) ≡ count) × (2 ≤ count)
+-- with one word or more that stands for an instance
+abbrev pub with_names : Bool → List (List ℕ) → AdminCommand → Option AdminWords
+with_names taken names command =
+    if length names == 0 then None
+    else if taken then Some (record { command = command; names = names })
+    else None
 
-abbrev pub Answers : Result (List ℕ) FmriFault → List ℕ → List InstanceName → Asked → Type 0
-Answers (Ok pattern) word view one = IsAnswer pattern word view one
-Answers (Err fault) word view one = one ≡ answers.NoMatch word
+abbrev pub words_with : Bool → List (List ℕ) → Option AdminCommand → Option AdminWords
+words_with taken names None = None
+words_with taken names (Some command) = with_names taken names command
 
--- ---- all words
+abbrev pub admin_words : Verb → AdminFlags → List (List ℕ) → Option AdminWords
+admin_words verb flags operands =
+    words_with (is_taken verb flags) (names_in verb operands) (command_of verb flags operands)
 
--- 45 is '-', which stands for itself alone
-abbrev pub is_flag : List ℕ → Bool
-is_flag [] = false
-is_flag (b ∷ []) = false
-is_flag (b ∷ c ∷ cs) = b == 45
+abbrev pub read_rows : Verb → Option (List Row) → Option AdminWords
+read_rows verb None = None
+read_rows verb (Some rows) = admin_words verb (flags_of rows) (operands_of rows)
 
-abbrev pub is_enable : List ℕ → Bool
-is_enable word = pointwise nat_eq word (codes "enable")
+abbrev pub read_behind : Verb → List (List ℕ) → Option AdminWords
+read_behind verb words = read_rows verb (parsed svcadm_app words)
 
-abbrev pub is_some_word : List (List ℕ) → Bool
-is_some_word [] = false
-is_some_word (word ∷ words) = true
+abbrev pub read_by : Option Verb → List (List ℕ) → Option AdminWords
+read_by None words = None
+read_by (Some verb) words = read_behind verb words
 
-abbrev pub asked_if : Bool → List InstanceName → List (List ℕ) → Option (List Asked)
-asked_if true view words = Some (map (asked_of view) words)
-asked_if false view words = None
+-- the command and the words that stand for instances; none is bad usage
+unfoldable pub read_words : List (List ℕ) → Option AdminWords
+read_words [] = None
+read_words (word ∷ words) = read_by (verb_of word) words
 
--- what the words behind svcadm ask for, one for each instance that they name; none is bad usage
+-- ---- what is asked of each instance
+
+abbrev pub edit_of : AdminCommand → ℕ → Edit
+edit_of (commands.Enable temporary) n = edits.Enable n true temporary
+edit_of (commands.Disable temporary) n = edits.Enable n false temporary
+edit_of commands.Restart n = edits.Restart n
+edit_of commands.Refresh n = edits.Refresh n
+edit_of commands.Clear n = edits.Clear n
+edit_of (commands.Mark mark) n = edits.Mark n mark
+
+abbrev pub asked_by : AdminCommand → Found → Asked
+asked_by command (finds.One n) = answers.Edit (edit_of command n)
+asked_by command (finds.NoMatch word) = answers.NoMatch word
+asked_by command (finds.Several word count) = answers.Several word count
+
+abbrev pub asked_of : List InstanceName → AdminCommand → List ℕ → Asked
+asked_of view command word = asked_by command (found_of view word)
+
+abbrev pub asked_all : List InstanceName → AdminWords → List Asked
+asked_all view read = map (asked_of view read.command) read.names
+
+-- what the words behind svcadm ask for, one for each that stands for an instance; none is bad usage
 unfoldable pub commands_of : List InstanceName → List (List ℕ) → Option (List Asked)
-commands_of view [] = None
-commands_of view (command ∷ words) = asked_if (is_enable command && is_some_word words && not (list_any is_flag words)) view words
-
--- ---- texts
-
-abbrev pub line_end : List ℕ
-line_end = 10 ∷ []
-
-unfoldable pub no_match_text : List ℕ → List ℕ
-no_match_text word = codes "svcadm: no instance matches " ++ word ++ line_end
-
-unfoldable pub several_text : List ℕ → ℕ → List ℕ
-several_text word count = codes "svcadm: " ++ decimal count ++ codes " instances match " ++ word ++ line_end
-
-abbrev pub svcadm_usage : List ℕ
-svcadm_usage = codes "svcadm: bad usage" ++ line_end
-
-abbrev pub svcs_usage : List ℕ
-svcs_usage = codes "svcs: bad usage" ++ line_end
+commands_of view words = option_map (asked_all view) (read_words words)

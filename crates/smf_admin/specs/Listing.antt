@@ -1,35 +1,95 @@
 -- What svcs prints.
-use Rattle.std.specs.Prelude.{◌≡◌, ◌≢◌, ℕ, ◌-◌, ◌||◌, ◌++◌, nat_eq, List, [], ◌∷◌, length, map, filter, replicate, reverse, Bool, true, false, codes, if◌then◌else◌, Option, Some, None, is_some}
-use Rattle.std.specs.Cmp.Lexicographic.{pointwise}
-use Rattle.std.specs.List.{AllPairs, flat_map}
+use Rattle.std.specs.Prelude.{◌≡◌, ◌≢◌, ℕ, ◌-◌, ◌==◌, ◌||◌, ◌++◌, not, List, [], ◌∷◌, length, map, filter, replicate, reverse, Bool, true, false, codes, if◌then◌else◌, Option, is_some, Result, Ok, Err}
+use Rattle.std.specs.List.{AllPairs, flat_map, list_any}
 use Rattle.std.specs.List.Sorted.{IsPermutation}
+use Rattle.smf_dep.specs.declared.member.Member.{Member}
+use Rattle.smf_dep.specs.Members.{members}
+use Rattle.smf_fmri.specs.declared.fault.FmriFault.{FmriFault}
 use Rattle.smf_fmri.specs.ByKey.{By, Rises, by_text, lookup, put_all}
+use Rattle.smf_fmri.specs.Matching.{matches}
+use Rattle.smf_fmri.specs.Name.{read_pattern}
+use Rattle.smf_state.specs.declared.state.State.{State}
 use Rattle.smf_state.specs.declared.view.ViewItem.{ViewItem}
 use Rattle.smf_state.specs.States.{runs, state_text}
+use Rattle.smf_admin.specs.declared.choosing.Chosen.{Chosen}
+use Rattle.smf_admin.specs.declared.choosing.Chosen.TheVariants.{Listed, All, Named, Related}
+use Rattle.smf_admin.specs.declared.choosing.Options.{Options}
+use Rattle.smf_admin.specs.declared.choosing.Relation.{Relation}
 use Rattle.smf_admin.specs.declared.listing.Entry.{Entry}
-use Rattle.smf_admin.specs.Asking.{line_end}
+use Rattle.smf_admin.specs.declared.listing.Listing.{Listing}
+use Rattle.smf_admin.specs.Relating.{is_related}
+use Rattle.smf_admin.specs.Telling.{line_end, no_match_text}
 
--- whether the words behind svcs want the header; none is bad usage
-abbrev pub header_of : List (List ℕ) → Option Bool
-header_of [] = Some true
-header_of (word ∷ []) = if pointwise nat_eq word (codes "-H") then Some false else None
-header_of _ = None
+-- ---- patterns
+
+-- a list of none or one
+abbrev pub pattern_in : Result (List ℕ) FmriFault → List (List ℕ)
+pattern_in (Ok pattern) = pattern ∷ []
+pattern_in (Err fault) = []
+
+abbrev pub pattern_of : List ℕ → List (List ℕ)
+pattern_of word = pattern_in (read_pattern word)
+
+-- the words that are patterns
+abbrev pub patterns_of : List (List ℕ) → List (List ℕ)
+patterns_of words = flat_map pattern_of words
+
+-- one of the patterns matches
+abbrev pub is_named : List (List ℕ) → List ℕ → Bool
+is_named patterns name = list_any (λ p. matches p name) patterns
+
+-- a word that is no pattern matches nothing
+abbrev pub is_matched : List ViewItem → List ℕ → Bool
+is_matched view word = list_any (λ i. is_named (pattern_of word) i.name) view
+
+abbrev pub unmatched : List ViewItem → List (List ℕ) → List (List ℕ)
+unmatched view words = filter (λ word. not (is_matched view word)) words
 
 -- ---- which instances, and in which order
 
 abbrev pub is_listed : ViewItem → Bool
 is_listed i = i.enabled || runs i.row.state
 
-abbrev pub entry_of : ViewItem → Entry
-entry_of i = record { name = i.name; state = i.row.state; in_transition = is_some i.row.next }
+abbrev pub is_chosen : Chosen → List (List ℕ) → ViewItem → Bool
+is_chosen Listed patterns i = is_listed i
+is_chosen All patterns i = true
+is_chosen Named patterns i = is_named patterns i.name
+is_chosen (Related relation) patterns i = is_named patterns i.name
+
+abbrev pub entry_of : List ℕ → State → Option State → Entry
+entry_of name state next = record { name = name; state = state; in_transition = is_some next }
+
+abbrev pub item_entries : List ViewItem → List Entry
+item_entries items = map (λ i. entry_of i.name i.row.state i.row.next) items
+
+abbrev pub member_entries : List Member → List Entry
+member_entries ms = map (λ m. entry_of m.name m.state m.next) ms
+
+abbrev pub chosen : Chosen → List (List ℕ) → List ViewItem → List ViewItem
+chosen c patterns view = filter (is_chosen c patterns) view
+
+-- all that stand so to one of those named
+abbrev pub related : Relation → List (List ℕ) → List ViewItem → List Entry
+related r patterns view =
+    member_entries (filter (is_related r (members (chosen (Related r) patterns view))) (members view))
+
+abbrev pub shown_by : Chosen → List (List ℕ) → List ViewItem → List Entry
+shown_by (Related r) patterns view = related r patterns view
+shown_by c patterns view = item_entries (chosen c patterns view)
+
+abbrev pub shown : List ViewItem → Options → List Entry
+shown view options = shown_by options.chosen (patterns_of options.patterns) view
 
 -- entries are told apart and put in order by their names
 abbrev pub by_entry : By Entry (List ℕ)
 by_entry = by_text (λ e. e.name)
 
--- the entries of the instances that are enabled or run, in the byte order of their names
-unfoldable pub entries : List ViewItem → List Entry
-entries view = put_all by_entry (map entry_of (filter is_listed view)) []
+-- entries in the byte order of their names
+abbrev pub kept : List Entry → List Entry
+kept es = put_all by_entry es []
+
+unfoldable pub entries : List ViewItem → Options → List Entry
+entries view options = kept (shown view options)
 
 -- ---- what the entries are
 
@@ -37,11 +97,11 @@ entries view = put_all by_entry (map entry_of (filter is_listed view)) []
 abbrev pub HaveNamesApart : List ViewItem → Type 0
 HaveNamesApart view = AllPairs (λ i j. i.name ≢ j.name) view
 
--- the entries of the instances that are enabled or run, in the byte order of their names, and of several of one name the
--- last; where no two have one name, of these instances and of no others, each once
-pub record IsListing (view : List ViewItem) (es : List Entry) : Type 0 where
-  pub shown : (name : List ℕ) → lookup by_entry es name ≡ lookup by_entry (reverse (map entry_of (filter is_listed view))) name
-  pub same : HaveNamesApart view → IsPermutation (map entry_of (filter is_listed view)) es
+-- the entries of the instances that are shown, in the byte order of their names, and of several of one name the last;
+-- where no two have one name, of these instances and of no others, each once
+pub record IsListing (view : List ViewItem) (all es : List Entry) : Type 0 where
+  pub shown : (name : List ℕ) → lookup by_entry es name ≡ lookup by_entry (reverse all) name
+  pub same : HaveNamesApart view → IsPermutation all es
   pub in_order : Rises by_entry es
 
 -- ---- the text
@@ -61,5 +121,14 @@ abbrev pub header_text : Bool → List ℕ
 header_text true = codes "STATE          FMRI" ++ line_end
 header_text false = []
 
-unfoldable pub svcs_text : List ViewItem → Bool → List ℕ
-svcs_text view header = header_text header ++ flat_map entry_text (entries view)
+abbrev pub unmatched_text : List ℕ → List ℕ
+unmatched_text word = no_match_text (codes "svcs") word
+
+abbrev pub printed : List (List ℕ) → Bool → List Entry → List ℕ
+printed words header es = flat_map unmatched_text words ++ header_text header ++ flat_map entry_text es
+
+-- the words without a match, then the header and the instances
+unfoldable pub svcs_text : List ViewItem → Options → Listing
+svcs_text view options =
+    let words = unmatched view options.patterns in
+    record { text = printed words options.header (entries view options); all_matched = length words == 0 }

@@ -1,12 +1,32 @@
-ghost use Rattle.std.specs.List.{list_any};
-ghost use Rattle.std.specs.Option.{option_copied, option_to_list};
-ghost use Rattle.std.specs.Prelude.{◌≡◌, IfOk, IfSome, Ok, map};
-ghost use Rattle.smf_fmri.specs.Name.{read_pattern};
-ghost use Rattle.smf_admin.specs.Asking.{asked_at, asked_by, asked_of, commands_of, enabling, is_flag, matching, names_of};
+ghost use Rattle.std.specs.Prelude.{◌≡◌, IfOk, Some, map};
+ghost use Rattle.smf_admin.specs.Words.{rows_in};
+ghost use Rattle.smf_admin.specs.Asking.{admin_words, asked_all, asked_by, asked_of, command_of, commands_of, edit_of, flags_of, is_taken, mark_of, names_in, read_behind, read_rows, read_words, verb_of};
 
-use smf_fmri::{Fmri, FmriFault, InstanceFmri, Items, Pattern, PickFault, Table, Text, pick};
-use smf_model::{Edit, InstanceName};
+use crate::finding::{Found, found_of};
+use crate::words::{borrowed, is_set, operands_of, svcadm_matches};
+use clap::ArgMatches;
+use smf_fmri::{Items, Table, Text};
+use smf_model::{Edit, InstanceName, Mark};
 use std::alloc::{AllocError, Global};
+
+/// What svcadm is to do with each instance that it is given.
+#[derive(Clone, Copy, Debug, PartialEq, Eq)]
+pub enum AdminCommand {
+    /// Until the next boot alone, where temporary.
+    Enable { temporary: bool },
+    Disable { temporary: bool },
+    Restart,
+    Refresh,
+    Clear,
+    Mark(Mark),
+}
+
+/// A command of svcadm, with the words that stand for instances, one or more.
+#[derive(Debug, Drop)]
+pub struct AdminWords {
+    pub command: AdminCommand,
+    pub names: Items<Text>,
+}
 
 /// What one word that stands for an instance asks for.
 #[derive(Debug, Drop)]
@@ -18,132 +38,223 @@ pub enum Asked {
     Several(Text, usize),
 }
 
-fn names_of(alloc: Global, view: &[InstanceName]) -> Result<Vec<Fmri>, AllocError>
-    ensures { IfOk result (λ names. names.items ≡ names_of view.now) }
-{
-    let mut names = Vec::new(alloc);
-    for item in view {
-        names.push(item.name.as_fmri().clone()?)?;
-    }
-    Ok(names)
+/// The first word of svcadm.
+#[derive(Clone, Copy)]
+pub(crate) enum Verb {
+    Enable,
+    Disable,
+    Restart,
+    Refresh,
+    Clear,
+    Mark,
 }
 
-fn enabling(item: &InstanceName) -> Asked
-    ensures { result ≡ enabling item.now }
-{
-    Asked::Edit(Edit::Enable {
-        instance: item.number,
-        enabled: true,
-        temporary: false,
-    })
+/// The flags behind it: `-I` and `-t`.
+#[derive(Clone, Copy)]
+pub(crate) struct AdminFlags {
+    pub(crate) at_once: bool,
+    pub(crate) temporary: bool,
 }
 
-fn asked_at(word: &Text, item: Option<&InstanceName>) -> Result<Asked, AllocError>
-    ensures { IfOk result (λ one. one ≡ asked_at word.now (option_copied item.entry)) }
+fn verb_of(word: &str) -> Option<Verb>
+    ensures { result ≡ verb_of word.now }
 {
-    match item {
-        Some(item) => Ok(enabling(item)),
-        None => Ok(Asked::NoMatch(word.clone()?)),
-    }
-}
-
-fn asked_by(
-    word: &Text,
-    view: &[InstanceName],
-    picked: Result<usize, PickFault>,
-) -> Result<Asked, AllocError>
-    ensures { IfOk result (λ one. one ≡ asked_by word.now view.now picked) }
-{
-    match picked {
-        Ok(place) => match view.get(place) {
-            Some(item) => Ok(enabling(item)),
-            None => Ok(Asked::NoMatch(word.clone()?)),
-        },
-        Err(PickFault::NoMatch) => Ok(Asked::NoMatch(word.clone()?)),
-        Err(PickFault::Several(count)) => Ok(Asked::Several(word.clone()?, count)),
+    match word {
+        "enable" => Some(Verb::Enable),
+        "disable" => Some(Verb::Disable),
+        "restart" => Some(Verb::Restart),
+        "refresh" => Some(Verb::Refresh),
+        "clear" => Some(Verb::Clear),
+        "mark" => Some(Verb::Mark),
+        _ => None,
     }
 }
 
-/// What is asked by a word that stands for an instance, by a look at all names.
-#[tactic(auto, unfolding(crate::specs::Asking::asked_of))]
-fn asked_of_all(alloc: Global, view: &[InstanceName], word: &Text) -> Result<Asked, AllocError>
-    ensures { IfOk result (λ one. one ≡ asked_of view.now word.now) }
+/// Whether a command takes these flags.
+fn is_taken(verb: Verb, flags: AdminFlags) -> bool
+    ensures { result ≡ is_taken verb flags }
 {
-    let pattern = match Pattern::parse(alloc, word.as_str()) {
-        Ok(pattern) => pattern,
-        Err(FmriFault::Memory) => return Err(AllocError),
-        Err(_) => return Ok(Asked::NoMatch(word.clone()?)),
-    };
-    let names = names_of(alloc, view)?;
-    asked_by(word, view, pick(&pattern, &names))
-}
-
-/// The instance that a word names in full.
-fn full_name(alloc: Global, word: &Text) -> Result<Option<InstanceFmri>, AllocError>
-    ensures { IfOk result (λ found. IfSome found (λ name. read_pattern word.now ≡ Ok name)) }
-{
-    match Fmri::parse(alloc, word.as_str()) {
-        Ok(name) => Ok(InstanceFmri::of(name)),
-        Err(FmriFault::Memory) => Err(AllocError),
-        Err(_) => Ok(None),
+    match verb {
+        Verb::Mark => true,
+        Verb::Enable | Verb::Disable => !flags.at_once,
+        Verb::Restart | Verb::Refresh | Verb::Clear => !flags.at_once && !flags.temporary,
     }
 }
 
-/// The instance of a full name, the only one that the name matches.
-fn match_of<'a>(view: &'a Table<InstanceName>, name: &InstanceFmri) -> Option<&'a InstanceName>
-    ensures { matching name.now view.now.items ≡ option_to_list (option_copied result) }
+/// The mark of a state's name. Degraded is never at once.
+fn mark_of(state: &str, at_once: bool) -> Option<Mark>
+    ensures { result ≡ mark_of state.now at_once }
 {
-    let names = view.as_slice();
-    let first = names.first()?;
-    let last = names.last()?;
-    // All names stand between the first and the last, so they begin as these do.
-    let _low = first.name.print();
-    let _high = last.name.print();
-    let _own = name.print();
-    view.get(name)
-}
-
-/// What is asked by a word that stands for an instance, over the names of instances. A full name is looked up.
-fn asked_of(alloc: Global, view: &Table<InstanceName>, word: &Text) -> Result<Asked, AllocError>
-    ensures { IfOk result (λ one. one ≡ asked_of view.now.items word.now) }
-{
-    match full_name(alloc, word)? {
-        Some(name) => asked_at(word, match_of(view, &name)),
-        None => asked_of_all(alloc, view.as_slice(), word),
+    match state {
+        "degraded" => Some(Mark::Degraded),
+        "maintenance" if at_once => Some(Mark::MaintenanceNow),
+        "maintenance" => Some(Mark::Maintenance),
+        _ => None,
     }
 }
 
-/// A dash with something behind it.
-fn is_flag(word: &Text) -> bool
-    ensures { result ≡ is_flag word.now }
+/// What a command asks for; of mark, the first operand says it.
+fn command_of(verb: Verb, flags: AdminFlags, operands: &[Text]) -> Option<AdminCommand>
+    ensures { result ≡ command_of verb flags operands.now }
 {
-    match word.as_str().as_bytes() {
-        [first, _, ..] => *first == b'-',
-        _ => false,
+    let temporary = flags.temporary;
+    match verb {
+        Verb::Enable => Some(AdminCommand::Enable { temporary }),
+        Verb::Disable => Some(AdminCommand::Disable { temporary }),
+        Verb::Restart => Some(AdminCommand::Restart),
+        Verb::Refresh => Some(AdminCommand::Refresh),
+        Verb::Clear => Some(AdminCommand::Clear),
+        Verb::Mark => {
+            let state = operands.first()?;
+            let mark = mark_of(state.as_str(), flags.at_once)?;
+            Some(AdminCommand::Mark(mark))
+        }
     }
 }
 
-fn has_flag(words: &[Text]) -> bool
-    ensures { result ≡ list_any is_flag words.now }
+/// The operands that stand for instances: all, of mark those behind the first.
+fn names_in(verb: Verb, operands: &[Text]) -> &[Text]
+    ensures { result.now ≡ names_in verb operands.entry.now }
 {
-    words.iter().any(|word| is_flag(word))
+    match (verb, operands) {
+        (Verb::Mark, [_, names @ ..]) => names,
+        _ => operands,
+    }
 }
 
-fn asked_all(
-    alloc: Global,
-    words: &[Text],
-    view: &Table<InstanceName>,
-) -> Result<Items<Asked>, AllocError>
-    ensures { IfOk result (λ all. all ≡ map (asked_of view.now.items) words.now) }
+fn copies(alloc: Global, words: &[Text]) -> Result<Items<Text>, AllocError>
+    ensures { IfOk result (λ all. all ≡ words.now) }
 {
     let mut all = Items::new(alloc);
     for word in words {
-        all.push(asked_of(alloc, view, word)?)?;
+        all.push(word.clone()?)?;
     }
     Ok(all)
 }
 
-/// What the words behind svcadm ask for, in their order; none is bad usage. The command `enable` alone is read.
+fn admin_words(
+    alloc: Global,
+    verb: Verb,
+    flags: AdminFlags,
+    operands: &[Text],
+) -> Result<Option<AdminWords>, AllocError>
+    ensures { IfOk result (λ read. read ≡ admin_words verb flags operands.now) }
+{
+    let Some(command) = command_of(verb, flags, operands) else {
+        return Ok(None);
+    };
+    let names = names_in(verb, operands);
+    if names.is_empty() || !is_taken(verb, flags) {
+        return Ok(None);
+    }
+    let names = copies(alloc, names)?;
+    Ok(Some(AdminWords { command, names }))
+}
+
+fn flags_of(matches: &ArgMatches<'_>) -> AdminFlags
+    ensures { result ≡ flags_of (rows_in matches.now) }
+{
+    AdminFlags {
+        at_once: is_set(matches, "I"),
+        temporary: is_set(matches, "t"),
+    }
+}
+
+fn read_matches(
+    alloc: Global,
+    verb: Verb,
+    matches: &ArgMatches<'_>,
+) -> Result<Option<AdminWords>, AllocError>
+    ensures { IfOk result (λ read. read ≡ read_rows verb (Some (rows_in matches.now))) }
+{
+    let operands = operands_of(alloc, matches)?;
+    admin_words(alloc, verb, flags_of(matches), operands.as_slice())
+}
+
+/// What a command asks for, by the words behind it.
+fn read_behind(alloc: Global, verb: Verb, words: &[Text]) -> Result<Option<AdminWords>, AllocError>
+    ensures { IfOk result (λ read. read ≡ read_behind verb words.now) }
+{
+    let words = borrowed(alloc, words)?;
+    match svcadm_matches(alloc, words.as_slice())? {
+        None => Ok(None),
+        Some(matches) => read_matches(alloc, verb, &matches),
+    }
+}
+
+/// What the words behind svcadm ask for, as svcadm(1M) has them; none is bad usage.
+#[tactic(auto, unfolding(crate::specs::Asking::read_words))]
+pub fn read_words(alloc: Global, words: &[Text]) -> Result<Option<AdminWords>, AllocError>
+    ensures { IfOk result (λ read. read ≡ read_words words.now) }
+{
+    let [word, behind @ ..] = words else {
+        return Ok(None);
+    };
+    match verb_of(word.as_str()) {
+        None => Ok(None),
+        Some(verb) => read_behind(alloc, verb, behind),
+    }
+}
+
+/// What a command asks of an instance.
+fn edit_of(command: AdminCommand, instance: u64) -> Edit
+    ensures { result ≡ edit_of command instance }
+{
+    match command {
+        AdminCommand::Enable { temporary } => Edit::Enable {
+            instance,
+            enabled: true,
+            temporary,
+        },
+        AdminCommand::Disable { temporary } => Edit::Enable {
+            instance,
+            enabled: false,
+            temporary,
+        },
+        AdminCommand::Restart => Edit::Restart(instance),
+        AdminCommand::Refresh => Edit::Refresh(instance),
+        AdminCommand::Clear => Edit::Clear(instance),
+        AdminCommand::Mark(mark) => Edit::Mark { instance, mark },
+    }
+}
+
+fn asked_by(command: AdminCommand, found: Found) -> Asked
+    ensures { result ≡ asked_by command found }
+{
+    match found {
+        Found::One(instance) => Asked::Edit(edit_of(command, instance)),
+        Found::NoMatch(word) => Asked::NoMatch(word),
+        Found::Several(word, count) => Asked::Several(word, count),
+    }
+}
+
+fn asked_each(
+    alloc: Global,
+    command: AdminCommand,
+    words: &[Text],
+    view: &Table<InstanceName>,
+) -> Result<Items<Asked>, AllocError>
+    ensures { IfOk result (λ all. all ≡ map (asked_of view.now.items command) words.now) }
+{
+    let mut all = Items::new(alloc);
+    for word in words {
+        all.push(asked_by(command, found_of(alloc, view, word)?))?;
+    }
+    Ok(all)
+}
+
+fn asked_all(
+    alloc: Global,
+    read: &AdminWords,
+    view: &Table<InstanceName>,
+) -> Result<Items<Asked>, AllocError>
+    ensures { IfOk result (λ all. all ≡ asked_all view.now.items read.now) }
+{
+    asked_each(alloc, read.command, read.names.as_slice(), view)
+}
+
+/// What the words behind svcadm ask for, one for each word that stands for an instance, in their order; none is bad
+/// usage.
 #[tactic(auto, unfolding(crate::specs::Asking::commands_of))]
 pub fn commands_of(
     alloc: Global,
@@ -152,11 +263,8 @@ pub fn commands_of(
 ) -> Result<Option<Items<Asked>>, AllocError>
     ensures { IfOk result (λ all. all ≡ commands_of view.now.items words.now) }
 {
-    let [command, patterns @ ..] = words else {
-        return Ok(None);
-    };
-    if command.as_str() != "enable" || patterns.is_empty() || has_flag(patterns) {
-        return Ok(None);
+    match read_words(alloc, words)? {
+        None => Ok(None),
+        Some(read) => Ok(Some(asked_all(alloc, &read, view)?)),
     }
-    Ok(Some(asked_all(alloc, patterns, view)?))
 }

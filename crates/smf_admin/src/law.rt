@@ -1,20 +1,32 @@
 //! What the definitions of this crate come to.
 
-ghost use Rattle.smf_admin.specs.Asking.{Answers, asked_of};
+ghost use Rattle.smf_admin.specs.Finding.{Answers, found_of};
 ghost use Rattle.smf_fmri.specs.Name.{read_pattern};
+ghost use Rattle.smf_admin.specs.Examples.{CommandsHaveTheirFlags, FlagsAreOnce, FlagsEnd, FlagsJoin, MarksAreRead, OthersAreRefused};
 ghost use Rattle.std.specs.Prelude.{List, ℕ};
-ghost use Rattle.smf_admin.specs.Listing.{IsListing, entries};
+ghost use Rattle.smf_admin.specs.Listing.{IsListing, entries, shown};
+ghost use Rattle.smf_admin.specs.declared.choosing.Options.{Options as AnyOptions};
 ghost use Rattle.smf_model.specs.declared.held.InstanceName.{InstanceName as AnyName};
 ghost use Rattle.smf_state.specs.declared.view.ViewItem.{ViewItem as AnyItem};
 
-/// What svcs prints of a view are the instances that are enabled or run, in the byte order of their names, and of
-/// several of one name the last; where no two have one name, these and no others, each once.
+/// What svcs prints of a view are the instances that are to be shown, in the byte order of their names, and of several
+/// of one name the last; where no two have one name, these and no others, each once.
 pub fn listings_are_in_order()
-    ensures { (view : List AnyItem) → IsListing view (entries view) }
+    ensures { (view : List AnyItem) (o : AnyOptions) → IsListing view (shown view o) (entries view o) }
 {}
 
-/// A word that is a pattern enables the only instance whose name it matches; where none or several match, it says so. A
-/// word that is none matches nothing.
+/// A word that is a pattern stands for the only instance whose name it matches; where none or several match, it says
+/// so. A word that is none matches nothing.
 pub fn answers_are_of_what_matches()
-    ensures { (view : List AnyName) (word : List ℕ) → Answers (read_pattern word) word view (asked_of view word) }
+    ensures { (view : List AnyName) (word : List ℕ) → Answers (read_pattern word) word view (found_of view word) }
+{}
+
+/// Words are read as svcs(1) and svcadm(1M) write them: one example for each rule.
+pub fn words_are_read_so()
+    ensures joined { FlagsJoin }
+    ensures ended { FlagsEnd }
+    ensures once { FlagsAreOnce }
+    ensures others { OthersAreRefused }
+    ensures marks { MarksAreRead }
+    ensures flags { CommandsHaveTheirFlags }
 {}

@@ -1,14 +1,21 @@
 //! svcadm(1M) and svcs(1): what their words ask for, and what is printed.
-//! Modules: `asking` (words of svcadm), `listing` (svcs), `telling` (texts), `law` (what the definitions
-//! come to).
+//! Modules: `words` (what clap reads), `finding` (which instance a word stands for), `asking` (words of svcadm),
+//! `choosing` (words of svcs), `relating` (who depends on whom), `listing` (what svcs prints), `telling` (texts), `law`
+//! (what the definitions come to).
 #![tactic(auto)]
 
 mod asking;
+mod choosing;
+mod finding;
 mod law;
 mod listing;
+mod relating;
 mod telling;
+mod words;
 
-pub use asking::{Asked, commands_of};
-pub use law::{answers_are_of_what_matches, listings_are_in_order};
-pub use listing::{header_of, svcs_text};
+pub use asking::{AdminCommand, AdminWords, Asked, commands_of, read_words};
+pub use choosing::{Chosen, Options, Relation, options_of};
+pub use finding::{Found, found_of};
+pub use law::{answers_are_of_what_matches, listings_are_in_order, words_are_read_so};
+pub use listing::{Listing, svcs_text};
 pub use telling::{no_match_text, several_text, svcadm_usage, svcs_usage};

@@ -1,11 +1,27 @@
-ghost use Rattle.std.specs.Prelude.{◌≡◌, ◌++◌, replicate, refl, IfOk, OnOk, string_bytes};
-ghost use Rattle.std.specs.List.{flat_map};
+ghost use Rattle.std.specs.List.{flat_map, list_any};
+ghost use Rattle.std.specs.Option.{option_to_list};
+ghost use Rattle.std.specs.Prelude.{◌≡◌, ◌++◌, replicate, refl, filter, IfOk, OnOk, string_bytes};
+ghost use Rattle.smf_admin.specs.Relating.{is_related};
+ghost use Rattle.smf_dep.specs.Members.{members};
 ghost use Rattle.smf_fmri.specs.ByKey.{by_text};
-ghost use Rattle.smf_admin.specs.Listing.{entries, entry_of, entry_text, header_of, is_listed, svcs_text};
+ghost use Rattle.smf_fmri.specs.Matching.{matches};
+ghost use Rattle.smf_admin.specs.Listing.{chosen as chosen_of, entries, entry_of, entry_text, header_text, is_chosen, is_listed, is_matched, is_named, item_entries, kept, member_entries, pattern_of, patterns_of, related, svcs_text, unmatched, unmatched_text};
 
-use smf_fmri::{InstanceFmri, Keyed, Ordered, Text};
+use crate::choosing::{Chosen, Options, Relation};
+use crate::relating::is_related;
+use crate::telling::no_match_text;
+use smf_dep::{Member, members};
+use smf_fmri::{FmriFault, InstanceFmri, Items, Keyed, Ordered, Pattern, Text};
 use smf_state::{State, ViewItem};
 use std::alloc::{AllocError, Global};
+
+/// What svcs prints.
+#[derive(Debug, Drop)]
+pub struct Listing {
+    pub text: Text,
+    /// Whether each pattern matches an instance.
+    pub all_matched: bool,
+}
 
 /// What svcs prints of an instance.
 #[derive(Debug, Drop)]
@@ -27,16 +43,72 @@ impl Keyed for Entry {
     ghost same = { refl };
 }
 
-/// Whether the words behind svcs want the header; none is bad usage.
-pub fn header_of(words: &[Text]) -> Option<bool>
-    ensures { result ≡ header_of words.now }
+// ---- patterns
+
+/// The pattern that a word is, if it is one.
+fn pattern_of(alloc: Global, word: &Text) -> Result<Option<Pattern>, AllocError>
+    ensures { IfOk result (λ p. option_to_list p ≡ pattern_of word.now) }
 {
-    match words {
-        [] => Some(true),
-        [word] if word.as_str() == "-H" => Some(false),
-        _ => None,
+    match Pattern::parse(alloc, word.as_str()) {
+        Ok(pattern) => Ok(Some(pattern)),
+        Err(FmriFault::Memory) => Err(AllocError),
+        Err(_) => Ok(None),
     }
 }
+
+fn patterns_of(alloc: Global, words: &[Text]) -> Result<Vec<Pattern>, AllocError>
+    ensures { IfOk result (λ all. all.items ≡ patterns_of words.now) }
+{
+    let mut all = Vec::new(alloc);
+    for word in words {
+        if let Some(pattern) = pattern_of(alloc, word)? {
+            all.push(pattern)?;
+        }
+    }
+    Ok(all)
+}
+
+fn is_match(pattern: &Pattern, name: &InstanceFmri) -> bool
+    ensures { result ≡ matches pattern.now name.now }
+{
+    pattern.matches(name.as_fmri())
+}
+
+fn is_named(patterns: &[Pattern], name: &InstanceFmri) -> bool
+    ensures { result ≡ is_named patterns.now name.now }
+{
+    patterns.iter().any(|pattern| is_match(pattern, name))
+}
+
+fn any_named(patterns: &[Pattern], view: &[ViewItem]) -> bool
+    ensures { result ≡ list_any (λ i. is_named patterns.now i.name) view.now }
+{
+    view.iter().any(|item| is_named(patterns, &item.name))
+}
+
+fn is_matched(alloc: Global, view: &[ViewItem], word: &Text) -> Result<bool, AllocError>
+    ensures { IfOk result (λ b. b ≡ is_matched view.now word.now) }
+{
+    match pattern_of(alloc, word)? {
+        Some(pattern) => Ok(any_named(&[pattern], view)),
+        None => Ok(false),
+    }
+}
+
+/// The words that match no instance.
+fn unmatched(alloc: Global, view: &[ViewItem], words: &[Text]) -> Result<Items<Text>, AllocError>
+    ensures { IfOk result (λ all. all ≡ unmatched view.now words.now) }
+{
+    let mut all = Items::new(alloc);
+    for word in words {
+        if !is_matched(alloc, view, word)? {
+            all.push(word.clone()?)?;
+        }
+    }
+    Ok(all)
+}
+
+// ---- which instances
 
 fn is_listed(item: &ViewItem) -> bool
     ensures { result ≡ is_listed item.now }
@@ -44,30 +116,123 @@ fn is_listed(item: &ViewItem) -> bool
     item.enabled || item.row.state.runs()
 }
 
-fn entry_of(item: &ViewItem) -> Result<Entry, AllocError>
-    ensures { IfOk result (λ entry. entry ≡ entry_of item.now) }
+fn is_chosen(chosen: Chosen, patterns: &[Pattern], item: &ViewItem) -> bool
+    ensures { result ≡ is_chosen chosen patterns.now item.now }
 {
-    let name = item.name.clone()?;
+    match chosen {
+        Chosen::Listed => is_listed(item),
+        Chosen::All => true,
+        Chosen::Named => is_named(patterns, &item.name),
+        Chosen::Related(_) => is_named(patterns, &item.name),
+    }
+}
+
+fn entry_of(name: &InstanceFmri, state: State, next: Option<State>) -> Result<Entry, AllocError>
+    ensures { IfOk result (λ entry. entry ≡ entry_of name.now state next) }
+{
+    let name = name.clone()?;
     Ok(Entry {
         name,
-        state: item.row.state,
-        in_transition: item.row.next.is_some(),
+        state,
+        in_transition: next.is_some(),
     })
 }
 
-/// The entries of the instances that are enabled or run, in the byte order of their names.
-#[tactic(auto, unfolding(crate::specs::Listing::entries))]
-fn entries(alloc: Global, view: &[ViewItem]) -> Result<Ordered<Entry>, AllocError>
-    ensures { IfOk result (λ es. es ≡ entries view.now) }
+/// The entries of the instances that are chosen, in the byte order of their names.
+fn chosen_entries(
+    alloc: Global,
+    view: &[ViewItem],
+    chosen: Chosen,
+    patterns: &[Pattern],
+) -> Result<Ordered<Entry>, AllocError>
+    ensures { IfOk result (λ es. es ≡ kept (item_entries (chosen_of chosen patterns.now view.now))) }
 {
     let mut entries = Ordered::new(alloc);
     for item in view {
-        if is_listed(item) {
-            entries.put(entry_of(item)?)?;
+        if is_chosen(chosen, patterns, item) {
+            entries.put(entry_of(&item.name, item.row.state, item.row.next)?)?;
         }
     }
     Ok(entries)
 }
+
+fn chosen_items(
+    alloc: Global,
+    view: &[ViewItem],
+    chosen: Chosen,
+    patterns: &[Pattern],
+) -> Result<Vec<ViewItem>, AllocError>
+    ensures { IfOk result (λ all. all.items ≡ chosen_of chosen patterns.now view.now) }
+{
+    let mut all = Vec::new(alloc);
+    for item in view {
+        if is_chosen(chosen, patterns, item) {
+            all.push(item.clone()?)?;
+        }
+    }
+    Ok(all)
+}
+
+fn chosen_members(
+    alloc: Global,
+    view: &[ViewItem],
+    chosen: Chosen,
+    patterns: &[Pattern],
+) -> Result<Items<Member>, AllocError>
+    ensures { IfOk result (λ ms. ms ≡ members (chosen_of chosen patterns.now view.now)) }
+{
+    let items = chosen_items(alloc, view, chosen, patterns)?;
+    members(alloc, items.as_slice())
+}
+
+/// The entries of the instances that stand so to one of those chosen, in the byte order of their names.
+fn related_entries(
+    alloc: Global,
+    all: &[Member],
+    relation: Relation,
+    chosen: &[Member],
+) -> Result<Ordered<Entry>, AllocError>
+    ensures { IfOk result (λ es. es ≡ kept (member_entries (filter (is_related relation chosen.now) all.now))) }
+{
+    let mut entries = Ordered::new(alloc);
+    for member in all {
+        if is_related(relation, chosen, member) {
+            entries.put(entry_of(&member.name, member.state, member.next)?)?;
+        }
+    }
+    Ok(entries)
+}
+
+fn related(
+    alloc: Global,
+    view: &[ViewItem],
+    relation: Relation,
+    patterns: &[Pattern],
+) -> Result<Ordered<Entry>, AllocError>
+    ensures { IfOk result (λ es. es ≡ kept (related relation patterns.now view.now)) }
+{
+    let chosen = chosen_members(alloc, view, Chosen::Related(relation), patterns)?;
+    let all = members(alloc, view)?;
+    related_entries(alloc, all.as_slice(), relation, chosen.as_slice())
+}
+
+/// The entries of the instances that are shown, in the byte order of their names.
+#[tactic(auto, unfolding(crate::specs::Listing::entries))]
+fn entries(
+    alloc: Global,
+    view: &[ViewItem],
+    options: &Options,
+) -> Result<Ordered<Entry>, AllocError>
+    ensures { IfOk result (λ es. es ≡ entries view.now options.now) }
+{
+    let patterns = patterns_of(alloc, options.patterns.as_slice())?;
+    match options.chosen {
+        Chosen::Related(relation) => related(alloc, view, relation, patterns.as_slice()),
+        chosen => chosen_entries(alloc, view, chosen, patterns.as_slice()),
+    }
+}
+
+// ---- the text
 
 fn put_blanks(out: &mut String, count: usize) -> Result<(), AllocError>
     ensures { OnOk result (string_bytes out.new ≡ string_bytes out.old ++ replicate count 32) }
@@ -103,16 +268,37 @@ fn put_entries(out: &mut String, entries: &[Entry]) -> Result<(), AllocError>
     Ok(())
 }
 
-/// What svcs prints of a view: the instances that are enabled or run.
-#[tactic(auto, unfolding(crate::specs::Listing::svcs_text))]
-pub fn svcs_text(alloc: Global, view: &[ViewItem], header: bool) -> Result<Text, AllocError>
-    ensures { IfOk result (λ text. text ≡ svcs_text view.now header) }
+fn put_unmatched(alloc: Global, out: &mut String, words: &[Text]) -> Result<(), AllocError>
+    ensures { OnOk result (string_bytes out.new ≡ string_bytes out.old ++ flat_map unmatched_text words.now) }
 {
-    let entries = entries(alloc, view)?;
-    let mut out = String::new(alloc);
+    for word in words {
+        out.push_str(no_match_text(alloc, "svcs", word.as_str())?.as_str())?;
+    }
+    Ok(())
+}
+
+fn put_header(out: &mut String, header: bool) -> Result<(), AllocError>
+    ensures { OnOk result (string_bytes out.new ≡ string_bytes out.old ++ header_text header) }
+{
     if header {
         out.push_str("STATE          FMRI\n")?;
     }
+    Ok(())
+}
+
+/// What svcs prints of a view. Where dependencies are asked for, the view has to have the bodies of running snapshots.
+#[tactic(auto, unfolding(crate::specs::Listing::svcs_text))]
+pub fn svcs_text(alloc: Global, view: &[ViewItem], options: &Options) -> Result<Listing, AllocError>
+    ensures { IfOk result (λ listing. listing ≡ svcs_text view.now options.now) }
+{
+    let unmatched = unmatched(alloc, view, options.patterns.as_slice())?;
+    let entries = entries(alloc, view, options)?;
+    let mut out = String::new(alloc);
+    put_unmatched(alloc, &mut out, unmatched.as_slice())?;
+    put_header(&mut out, options.header)?;
     put_entries(&mut out, entries.as_slice())?;
-    Ok(Text::from_string(out))
+    Ok(Listing {
+        text: Text::from_string(out),
+        all_matched: unmatched.as_slice().is_empty(),
+    })
 }

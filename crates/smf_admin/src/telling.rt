@@ -1,25 +1,30 @@
 ghost use Rattle.std.specs.Prelude.{◌≡◌, IfOk};
-ghost use Rattle.smf_admin.specs.Asking.{no_match_text, several_text, svcadm_usage, svcs_usage};
+ghost use Rattle.smf_admin.specs.Telling.{no_match_text, several_text, svcadm_usage, svcs_usage};
 
 use smf_fmri::Text;
 use std::alloc::{AllocError, Global};
 use std::fmt::Write;
 
-/// What is said of a word that matches no instance.
-#[tactic(auto, unfolding(crate::specs::Asking::no_match_text))]
-pub fn no_match_text(alloc: Global, word: &str) -> Result<Text, AllocError>
-    ensures { IfOk result (λ text. text ≡ no_match_text word.now) }
+/// What a program says of a word that matches no instance.
+#[tactic(auto, unfolding(crate::specs::Telling::no_match_text))]
+pub fn no_match_text(alloc: Global, program: &str, word: &str) -> Result<Text, AllocError>
+    ensures { IfOk result (λ text. text ≡ no_match_text program.now word.now) }
 {
-    let text = format!(in alloc; "svcadm: no instance matches {word}\n")?;
+    let text = format!(in alloc; "{program}: no instance matches {word}\n")?;
     Ok(Text::from_string(text))
 }
 
-/// What is said of a word that matches so many instances.
-#[tactic(auto, unfolding(crate::specs::Asking::several_text))]
-pub fn several_text(alloc: Global, word: &str, count: usize) -> Result<Text, AllocError>
-    ensures { IfOk result (λ text. text ≡ several_text word.now count) }
+/// What a program says of a word that matches so many instances.
+#[tactic(auto, unfolding(crate::specs::Telling::several_text))]
+pub fn several_text(
+    alloc: Global,
+    program: &str,
+    word: &str,
+    count: usize,
+) -> Result<Text, AllocError>
+    ensures { IfOk result (λ text. text ≡ several_text program.now word.now count) }
 {
-    let text = format!(in alloc; "svcadm: {count} instances match {word}\n")?;
+    let text = format!(in alloc; "{program}: {count} instances match {word}\n")?;
     Ok(Text::from_string(text))
 }
 

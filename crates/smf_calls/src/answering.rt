@@ -2,8 +2,8 @@ use crate::fault::CallFault;
 use crate::views::Views;
 use crate::words::split_word;
 use crate::{
-    config, contracts, cookies, dependencies, fields, groups, methods, names, refusals, repository,
-    rows, snapshots, steps, values, views,
+    config, contracts, cookies, dependencies, fields, groups, lines, methods, names, refusals,
+    repository, rows, snapshots, steps, values, views,
 };
 use smf_contract::Table;
 use smf_model::{NoJournal, Plain};
@@ -45,7 +45,7 @@ fn row_answer(alloc: Global, call: &str, text: &str) -> Result<Option<String>, C
     fields::answer(alloc, call, text)
 }
 
-/// The same of a call of values, snapshots, cookies, lines of svccfg or refusals.
+/// The same of a call of values, snapshots, cookies, lines of svccfg, messages or refusals.
 fn value_answer(alloc: Global, call: &str, text: &str) -> Result<Option<String>, CallFault> {
     if let Some(answer) = values::answer(alloc, call, text)? {
         return Ok(Some(answer));
@@ -57,6 +57,9 @@ fn value_answer(alloc: Global, call: &str, text: &str) -> Result<Option<String>,
         return Ok(Some(answer));
     }
     if let Some(answer) = config::answer(alloc, call, text)? {
+        return Ok(Some(answer));
+    }
+    if let Some(answer) = lines::answer(alloc, call, text)? {
         return Ok(Some(answer));
     }
     refusals::answer(alloc, call, text)

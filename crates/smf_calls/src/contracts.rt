@@ -1,9 +1,10 @@
 //! The contract table that lines change.
 
-use crate::events::{put_events, put_terms, terms_of};
+use crate::calls::{call_of, exit_of};
+use crate::events::{put_event, put_events, put_terms, terms_of};
 use crate::fault::CallFault;
-use crate::words::{byte_of, copied, count_of, number_of, words_of};
-use smf_contract::{ContractFault, Exit, Holder, Made, Status, Table, Terms};
+use crate::words::{copied, count_of, number_of, truth, words_of};
+use smf_contract::{Contract, ContractFault, Holder, Made, Status, Table, Terms};
 use smf_fmri::Number;
 use std::alloc::{AllocError, Global};
 use std::fmt::Write;
@@ -22,10 +23,43 @@ pub(crate) fn answer(alloc: Global, table: &mut Table, line: &str) -> Result<Str
         ["events", contract, number] => events(alloc, table, contract, number),
         ["status", contract] => status(alloc, table, contract),
         ["list"] => list(alloc, table),
-        words => {
-            change(table, words)?;
-            copied(alloc, "done")
+        ["emptied_by", call @ ..] => emptied_by(alloc, table, call),
+        words => match read(alloc, table, words)? {
+            Some(answer) => Ok(answer),
+            None => {
+                change(table, words)?;
+                copied(alloc, "done")
+            }
+        },
+    }
+}
+
+/// The calls that only read, or none where the word is no such call.
+fn read(alloc: Global, table: &Table, words: &[&str]) -> Result<Option<String>, CallFault> {
+    Ok(Some(match words {
+        ["report", contract, number] => report(alloc, table, contract, number)?,
+        ["next_contract"] => number_text(alloc, table.next_contract())?,
+        ["contract", contract] => contract_text(alloc, table, contract)?,
+        ["home", process] => number_text(alloc, table.home(number_of(process)?))?,
+        ["has_members", contract] => {
+            copied(alloc, truth(table.has_members(number_of(contract)?)))?
         }
+        ["first_member", contract] => {
+            number_text(alloc, table.first_member(number_of(contract)?))?
+        }
+        ["counts"] => counts(alloc, table)?,
+        _ => return Ok(None),
+    }))
+}
+
+/// A number, or `none`.
+fn number_text(alloc: Global, number: Option<Number>) -> Result<String, CallFault> {
+    match number {
+        Some(number) => {
+            let number = number.get();
+            Ok(format!(in alloc; "{number}")?)
+        }
+        None => copied(alloc, "none"),
     }
 }
 
@@ -33,6 +67,12 @@ pub(crate) fn answer(alloc: Global, table: &mut Table, line: &str) -> Result<Str
 fn change(table: &mut Table, words: &[&str]) -> Result<(), CallFault> {
     match words {
         ["reserve"] => table.reserve()?,
+        ["reboot"] => table.reboot(),
+        ["call", call @ ..] => {
+            let call = call_of(call)?;
+            table.reserve()?;
+            table.call(call);
+        }
         ["holder_gone", actor] => table.holder_gone(count_of(actor)?)?,
         ["adopt", actor, contract] => table.adopt(count_of(actor)?, number_of(contract)?)?,
         ["abandon", actor, contract] => table.abandon(count_of(actor)?, number_of(contract)?)?,
@@ -48,10 +88,7 @@ fn change(table: &mut Table, words: &[&str]) -> Result<(), CallFault> {
 /// What happens to a process.
 fn end_process(table: &mut Table, words: &[&str]) -> Result<(), CallFault> {
     match words {
-        ["exit", process, "killed"] => table.exit(number_of(process)?, Exit::Killed)?,
-        ["exit", process, code] => {
-            table.exit(number_of(process)?, Exit::Code(byte_of(code)?))?;
-        }
+        ["exit", process, exit] => table.exit(number_of(process)?, exit_of(exit)?)?,
         ["core", process] => table.core(number_of(process)?)?,
         ["signal", process] => table.signal(number_of(process)?)?,
         ["hwerr", process] => table.hwerr(number_of(process)?)?,
@@ -115,27 +152,31 @@ fn put_holder(out: &mut String, holder: Holder) -> Result<(), AllocError> {
     }
 }
 
-fn put_members(out: &mut String, members: &[Number]) -> Result<(), AllocError> {
-    if members.is_empty() {
+fn put_numbers(out: &mut String, numbers: &[Number]) -> Result<(), AllocError> {
+    if numbers.is_empty() {
         out.push_str(" -")?;
     }
-    for member in members {
-        let member = member.get();
-        write!(out, " {member}")?;
+    for number in numbers {
+        let number = number.get();
+        write!(out, " {number}")?;
     }
     Ok(())
 }
 
-fn put_status(out: &mut String, status: &Status) -> Result<(), AllocError> {
-    let contract = &status.contract;
+fn put_contract(out: &mut String, contract: &Contract) -> Result<(), AllocError> {
     let (id, cookie) = (contract.id.get(), contract.cookie);
-    let acknowledged = contract.acknowledged.get();
+    let (first, acknowledged) = (contract.first.get(), contract.acknowledged.get());
     write!(out, "contract {id} cookie {cookie} ")?;
     put_holder(out, contract.holder)?;
     out.push_str(" terms ")?;
     put_terms(out, &contract.terms)?;
-    write!(out, " acknowledged {acknowledged} members")?;
-    put_members(out, status.members.as_slice())?;
+    write!(out, " first {first} acknowledged {acknowledged}")
+}
+
+fn put_status(out: &mut String, status: &Status) -> Result<(), AllocError> {
+    put_contract(out, &status.contract)?;
+    out.push_str(" members")?;
+    put_numbers(out, status.members.as_slice())?;
     out.push_str(" events ")?;
     put_events(out, status.events.as_slice())
 }
@@ -146,6 +187,50 @@ fn status(alloc: Global, table: &Table, contract: &str) -> Result<String, CallFa
     };
     let mut out = String::new(alloc);
     put_status(&mut out, &status)?;
+    Ok(out)
+}
+
+/// The contract of an id, without its members and events.
+fn contract_text(alloc: Global, table: &Table, contract: &str) -> Result<String, CallFault> {
+    let Some(contract) = table.contract(number_of(contract)?) else {
+        return copied(alloc, "none");
+    };
+    let mut out = String::new(alloc);
+    put_contract(&mut out, &contract)?;
+    Ok(out)
+}
+
+/// An event of a contract, behind the contract.
+fn report(alloc: Global, table: &Table, contract: &str, number: &str) -> Result<String, CallFault> {
+    let Some(report) = table.report(count_of(contract)?, count_of(number)?) else {
+        return copied(alloc, "none");
+    };
+    let mut out = String::new(alloc);
+    put_contract(&mut out, &report.contract)?;
+    out.push_str(" event ")?;
+    put_event(&mut out, &report.event)?;
+    Ok(out)
+}
+
+/// The contracts that a call would empty.
+fn emptied_by(alloc: Global, table: &Table, call: &[&str]) -> Result<String, CallFault> {
+    let ids = table.emptied_by(call_of(call)?)?;
+    let mut out = String::from_str(alloc, "contracts")?;
+    put_numbers(&mut out, ids.as_slice())?;
+    Ok(out)
+}
+
+/// How many contracts, members and events there are, and the last numbers that were given.
+fn counts(alloc: Global, table: &Table) -> Result<String, CallFault> {
+    let (contracts, members) = (table.contracts().len(), table.members().len());
+    let events = table.events().len();
+    let (contract, process) = (table.last_contract().get(), table.last_process().get());
+    let mut out = String::new(alloc);
+    write!(
+        out,
+        "contracts {contracts} members {members} events {events} "
+    )?;
+    write!(out, "last contract {contract} process {process}")?;
     Ok(out)
 }
 

@@ -1,7 +1,7 @@
 //! Cookies of contracts.
 
 use crate::fault::CallFault;
-use crate::words::{copied, count_of, small_of, words_of};
+use crate::words::{copied, count_of, words_of};
 use smf_contract::{Cookie, Method};
 use std::alloc::Global;
 
@@ -35,7 +35,7 @@ fn method_text(method: Method) -> &'static str {
 fn cookie_of(alloc: Global, text: &str) -> Result<Cookie, CallFault> {
     match words_of(alloc, text)?.as_slice() {
         [instance, run, method] => Ok(Cookie {
-            instance: small_of(instance)?,
+            instance: count_of(instance)?,
             run: count_of(run)?,
             method: method_of(method)?,
         }),

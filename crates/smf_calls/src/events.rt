@@ -109,8 +109,9 @@ fn put_exit(out: &mut String, kind: EventKind) -> Result<(), AllocError> {
     }
 }
 
-/// `CONTRACT/NUMBER KIND`, and then the process that it happened to, and how it ended.
-fn put_event(out: &mut String, event: &Event) -> Result<(), AllocError> {
+/// `CONTRACT/NUMBER KIND`, and then the process that it happened to, how it ended, and `left` where
+/// a member is left.
+pub(crate) fn put_event(out: &mut String, event: &Event) -> Result<(), AllocError> {
     let (contract, number) = (event.contract.get(), event.number.get());
     write!(out, "{contract}/{number} ")?;
     put_set(out, event.kind.set())?;
@@ -118,7 +119,11 @@ fn put_event(out: &mut String, event: &Event) -> Result<(), AllocError> {
         let process = process.get();
         write!(out, " {process}")?;
     }
-    put_exit(out, event.kind)
+    put_exit(out, event.kind)?;
+    if event.left {
+        out.push_str(" left")?;
+    }
+    Ok(())
 }
 
 /// Events with commas between; `-` where there is none.

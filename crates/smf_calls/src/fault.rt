@@ -5,6 +5,7 @@ use smf_method::MethodFault;
 use smf_state::{FieldFault, RowFault, StepFault, StepTextFault, WrongField};
 use smf_svccfg::LineFault;
 use smf_value::{BodyFault, GroupFault, NameFault, ValueFault};
+use smf_wire::WireFault;
 use std::alloc::{AllocError, AllocFailed};
 use thiserror::Error;
 
@@ -57,6 +58,8 @@ pub(crate) enum CallFault {
     Method(MethodFault),
     #[error("{0}")]
     Dependency(DependencyFault),
+    #[error("{0}")]
+    Wire(WireFault),
 }
 
 impl From<AllocError> for RunFault {
@@ -202,6 +205,15 @@ impl From<LineFault> for CallFault {
         match e {
             LineFault::Memory => CallFault::Memory,
             e => CallFault::Line(e),
+        }
+    }
+}
+
+impl From<WireFault> for CallFault {
+    fn from(e: WireFault) -> CallFault {
+        match e {
+            WireFault::Memory => CallFault::Memory,
+            e => CallFault::Wire(e),
         }
     }
 }

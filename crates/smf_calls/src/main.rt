@@ -1,10 +1,12 @@
 //! `smf_calls`: reads lines that each name a call of the pure crates with its arguments, and prints what it answers.
 //! Modules: `answering` (which family a line is of); the families `names`, `rows`, `steps`, `fields`, `values`, `groups`,
-//! `snapshots`, `contracts`, `cookies`, `methods`, `dependencies`, `config`, `views`, `refusals`, `repository`; `events`, `bytes`, `words`, `fault`.
+//! `snapshots`, `contracts`, `cookies`, `methods`, `dependencies`, `config`, `views`, `refusals`, `repository`, `lines` (messages); `calls`,
+//! `events`, `bytes`, `words`, `fault`.
 #![tactic(auto)]
 
 mod answering;
 mod bytes;
+mod calls;
 mod config;
 mod contracts;
 mod cookies;
@@ -13,6 +15,7 @@ mod events;
 mod fault;
 mod fields;
 mod groups;
+mod lines;
 mod methods;
 mod names;
 mod refusals;

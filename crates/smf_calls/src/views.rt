@@ -6,11 +6,12 @@ use crate::names::instance_of;
 use crate::rows::state_of;
 use crate::words::{copied, count_of, number_of, texts_of, words_of};
 use smf_admin::{
-    Asked, commands_of, header_of, no_match_text, several_text, svcadm_usage, svcs_text, svcs_usage,
+    Asked, commands_of, no_match_text, options_of, several_text, svcadm_usage, svcs_text,
+    svcs_usage,
 };
 use smf_engine::{Engine, orders};
 use smf_fmri::{Bytes, Items, Table};
-use smf_model::{Edit, InstanceName, View};
+use smf_model::{Edit, InstanceName, Mark, View};
 use smf_state::{Row, ViewItem};
 use smf_wire::{Order, What};
 use std::alloc::{AllocError, Global};
@@ -71,9 +72,9 @@ fn shown(
     }))
 }
 
-/// A row in a state; the next state may be `-`.
-fn row_of(alloc: Global, state: &str, next: &str) -> Result<Row, CallFault> {
-    let mut row = Row::new(instance_of(alloc, RESTARTER)?);
+/// A row of a restarter's in a state; the next state may be `-`.
+fn row_of(alloc: Global, owner: &str, state: &str, next: &str) -> Result<Row, CallFault> {
+    let mut row = Row::new(instance_of(alloc, owner)?);
     row.state = state_of(state)?;
     if next != "-" {
         row.next = Some(state_of(next)?);
@@ -97,18 +98,26 @@ fn is_enabled(word: &str) -> Result<bool, CallFault> {
     }
 }
 
-/// `NUMBER NAME enabled|disabled STATE NEXT BODY`.
-fn item_of(alloc: Global, text: &str) -> Result<ViewItem, CallFault> {
-    match words_of(alloc, text)?.as_slice() {
+/// An item of a restarter's, of the words `NUMBER NAME enabled|disabled STATE NEXT BODY`.
+fn item_of_owner(alloc: Global, words: &[&str], owner: &str) -> Result<ViewItem, CallFault> {
+    match words {
         [number, name, enabled, state, next, body] => Ok(ViewItem {
             instance: count_of(number)?,
             enabled: is_enabled(enabled)?,
             readable: true,
             name: instance_of(alloc, name)?,
-            row: row_of(alloc, state, next)?,
+            row: row_of(alloc, owner, state, next)?,
             body: body_of(alloc, body)?,
         }),
         _ => Err(CallFault::BadLine),
+    }
+}
+
+/// `NUMBER NAME enabled|disabled STATE NEXT BODY`, and where it is another than svc.startd the restarter behind it.
+fn item_of(alloc: Global, text: &str) -> Result<ViewItem, CallFault> {
+    match words_of(alloc, text)?.as_slice() {
+        [front @ .., owner] if front.len() == 6 => item_of_owner(alloc, front, owner),
+        words => item_of_owner(alloc, words, RESTARTER),
     }
 }
 
@@ -123,30 +132,66 @@ fn put_lines(out: &mut String, text: &str) -> Result<(), AllocError> {
     Ok(())
 }
 
+/// What svcs prints, and `failed` where a pattern matches nothing.
 fn svcs(alloc: Global, items: &[ViewItem], text: &str) -> Result<String, CallFault> {
     let words = texts_of(alloc, text)?;
     let mut out = String::new(alloc);
-    match header_of(words.as_slice()) {
-        None => put_lines(&mut out, svcs_usage())?,
-        Some(header) => put_lines(&mut out, svcs_text(alloc, items, header)?.as_str())?,
+    let Some(options) = options_of(alloc, words.as_slice())? else {
+        put_lines(&mut out, svcs_usage())?;
+        return Ok(out);
+    };
+    let listing = svcs_text(alloc, items, &options)?;
+    put_lines(&mut out, listing.text.as_str())?;
+    if !listing.all_matched {
+        out.push_str("failed")?;
     }
     Ok(out)
+}
+
+fn enable_word(enabled: bool) -> &'static str {
+    if enabled { "enable" } else { "disable" }
+}
+
+fn temporary_text(temporary: bool) -> &'static str {
+    if temporary { " temporary" } else { "" }
+}
+
+fn mark_word(mark: Mark) -> &'static str {
+    match mark {
+        Mark::Degraded => "degraded",
+        Mark::Maintenance => "maintenance",
+        Mark::MaintenanceNow => "maintenance at once",
+    }
+}
+
+fn edit_text(alloc: Global, edit: &Edit) -> Result<String, AllocError> {
+    match edit {
+        Edit::Enable {
+            instance,
+            enabled,
+            temporary,
+        } => {
+            let (word, until) = (enable_word(*enabled), temporary_text(*temporary));
+            format!(in alloc; "{word} {instance}{until}\n")
+        }
+        Edit::Restart(instance) => format!(in alloc; "restart {instance}\n"),
+        Edit::Refresh(instance) => format!(in alloc; "refresh {instance}\n"),
+        Edit::Clear(instance) => format!(in alloc; "clear {instance}\n"),
+        Edit::Mark { instance, mark } => {
+            let word = mark_word(*mark);
+            format!(in alloc; "mark {instance} {word}\n")
+        }
+        _ => String::from_str(alloc, "another edit\n"),
+    }
 }
 
 /// What a word of svcadm asks for.
 fn asked_text(alloc: Global, asked: &Asked) -> Result<String, AllocError> {
     match asked {
-        Asked::Edit(
-            Edit::Enable {
-                instance,
-                enabled: true,
-                temporary: false,
-            },
-        ) => format!(in alloc; "enable {instance}\n"),
-        Asked::Edit(_) => String::from_str(alloc, "another edit\n"),
-        Asked::NoMatch(word) => Ok(no_match_text(alloc, word.as_str())?.into_string()),
+        Asked::Edit(edit) => edit_text(alloc, edit),
+        Asked::NoMatch(word) => { Ok(no_match_text(alloc, "svcadm", word.as_str())?.into_string()) }
         Asked::Several(word, count) => {
-            Ok(several_text(alloc, word.as_str(), *count)?.into_string())
+            Ok(several_text(alloc, "svcadm", word.as_str(), *count)?.into_string())
         }
     }
 }

@@ -47,11 +47,6 @@ pub(crate) fn number_of(word: &str) -> Result<Number, CallFault> {
     Number::new(count_of(word)?).ok_or(CallFault::BadLine)
 }
 
-/// The same of a number of 32 bits.
-pub(crate) fn small_of(word: &str) -> Result<u32, CallFault> {
-    u32::try_from(count_of(word)?).map_err(|_| CallFault::BadLine)
-}
-
 /// The same of a byte.
 pub(crate) fn byte_of(word: &str) -> Result<u8, CallFault> {
     u8::try_from(count_of(word)?).map_err(|_| CallFault::BadLine)

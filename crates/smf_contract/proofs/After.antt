@@ -1,5 +1,5 @@
 -- What each call keeps of a contract table.
-use Rattle.std.proofs.Common.{IfOk, ◌≡◌, ℕ, zero, suc, ◌+◌, ◌==◌, Bool, true, false, cond, List, [], ◌∷◌, ◌++◌, Option, Some, None, IfSome, Ok, Err, filter, map, position, slice_set, arith, refl, ap, subst}
+use Rattle.std.proofs.Common.{IfOk, ◌≡◌, ℕ, zero, suc, ◌+◌, ◌==◌, Bool, true, false, cond, List, [], ◌∷◌, ◌++◌, Option, Some, None, IfSome, Ok, Err, filter, map, length, nat_lt, position, slice_set, arith, refl, ap, subst}
 use Rattle.std.specs.Option.{option_map_or}
 use Rattle.std.specs.List.{slice_get}
 use Rattle.std.proofs.lemmas.List.{map-append}
@@ -18,7 +18,11 @@ use Rattle.smf_contract.specs.declared.terms.Terms.{Terms}
 use Rattle.smf_contract.specs.Entries.{Contracts, Activity, empty, contract, home, has_id, has_members, is_process, processes, without, outside, last_event}
 use Rattle.smf_contract.specs.Calls
 use Rattle.smf_contract.specs.Calls.{activity, with_activity}
-use Rattle.smf_contract.specs.Laws.{Call, Spawn, ForkOf, ExitOf, FailureOf, HolderGone, Adopt, Abandon, Kill, Acknowledge, done, after, left_by, left_by_making, IsOrdered, NeverFalls, StaysEmpty, Ascends, Homed, ids, is_among, numbers_of, counted}
+use Rattle.smf_contract.specs.Called
+use Rattle.smf_contract.specs.Called.{left_by, left_by_making}
+use Rattle.smf_contract.specs.declared.call.ContractCall.{ContractCall}
+use Rattle.smf_contract.specs.declared.call.ContractCall.TheVariants as calls
+use Rattle.smf_contract.specs.Laws.{Call, Asked, Abandon, Acknowledge, done, after, IsOrdered, NeverFalls, StaysEmpty, Ascends, Homed, ids, is_among, numbers_of, counted}
 use Rattle.smf_contract.proofs.Numbered
 use Rattle.smf_contract.proofs.Ordered
 
@@ -28,7 +32,7 @@ act ms es = record { members = ms; events = es }
 -- a fact that is kept where members go and where events come
 pub record Lasts (P : Activity → Type 0) : Type 0 where
   pub filtered : (p : Member → Bool) (ms : List Member) (es : List Event) → P (act ms es) → P (act (filter p ms) es)
-  pub noted : (id : ℕ) (kind : EventKind) (ms : List Member) (es : List Event) → P (act ms es) → P (act ms (Calls.noted es id kind))
+  pub noted : (id : ℕ) (kind : EventKind) (left : Bool) (ms : List Member) (es : List Event) → P (act ms es) → P (act ms (Calls.noted es id kind left))
 
 -- members only go, events only come, and no contract comes
 pub record Shrinks (P : Activity → Type 0) (old new : Contracts) : Type 0 where
@@ -61,26 +65,33 @@ shrinks_by P t a h = record { active = h; same_ids = refl; same_contract = refl;
 
 exits_last : (P : Activity → Type 0) → Lasts P → (id : ℕ) (ps : List ℕ) (ms : List Member) (es : List Event) → P (act ms es) → P (act ms (Calls.exits es id ps))
 exits_last P lasts id [] ms es h = h
-exits_last P lasts id (p ∷ ps) ms es h = exits_last P lasts id ps ms (Calls.noted es id (kinds.Exit p Killed)) (lasts.noted id (kinds.Exit p Killed) ms es h)
+exits_last P lasts id (p ∷ ps) ms es h =
+    let left : Bool = nat_lt 0 (length ps) in
+    exits_last P lasts id ps ms (Calls.noted es id (kinds.Exit p Killed) left) (lasts.noted id (kinds.Exit p Killed) left ms es h)
 
 emptied_last : (P : Activity → Type 0) → Lasts P → (b : Bool) (id : ℕ) (ms : List Member) (es : List Event) → P (act ms es) → P (act ms (Calls.emptied b es id))
 emptied_last P lasts true id ms es h = h
-emptied_last P lasts false id ms es h = lasts.noted id kinds.Empty ms es h
+emptied_last P lasts false id ms es h = lasts.noted id kinds.Empty false ms es h
 
 force_quits : (P : Activity → Type 0) → Lasts P → (id : ℕ) (a : Activity) → Quits P a (Calls.emptied_by_force id a)
 force_quits P lasts id a h =
-    lasts.noted id kinds.Empty _ _ (exits_last P lasts id (processes id a.members) (outside id a.members) a.events (lasts.filtered _ a.members a.events h))
+    lasts.noted id kinds.Empty false _ _ (exits_last P lasts id (processes id a.members) (outside id a.members) a.events (lasts.filtered _ a.members a.events h))
 
 ended_quits : (P : Activity → Type 0) → Lasts P → (id : ℕ) (a : Activity) → Quits P a (Calls.ended id a)
 ended_quits P lasts id a = quits_choice P (has_members id a.members) a (Calls.emptied_by_force id a) a (force_quits P lasts id a) (λ h. h)
 
 one_quits : (P : Activity → Type 0) → Lasts P → (id p : ℕ) (e : ends.Exit) (a : Activity) → Quits P a (Calls.one_exit id p e a)
 one_quits P lasts id p e a h =
-    emptied_last P lasts (has_members id (without p a.members)) id (without p a.members) _ (lasts.noted id (kinds.Exit p e) (without p a.members) a.events (lasts.filtered _ a.members a.events h))
+    let left : Bool = has_members id (without p a.members) in
+    let kept : P (act (without p a.members) a.events) = lasts.filtered _ a.members a.events h in
+    emptied_last P lasts left id (without p a.members) _ (lasts.noted id (kinds.Exit p e) left (without p a.members) a.events kept)
 
 all_quit : (P : Activity → Type 0) → Lasts P → (id p : ℕ) (a : Activity) → Quits P a (Calls.all_exit id p a)
 all_quit P lasts id p a h =
-    force_quits P lasts id (act (without p a.members) (Calls.noted a.events id (kinds.Exit p Killed))) (lasts.noted id (kinds.Exit p Killed) (without p a.members) a.events (lasts.filtered _ a.members a.events h))
+    let left : Bool = has_members id (without p a.members) in
+    let kept : P (act (without p a.members) a.events) = lasts.filtered _ a.members a.events h in
+    force_quits P lasts id (act (without p a.members) (Calls.noted a.events id (kinds.Exit p Killed) left))
+    (lasts.noted id (kinds.Exit p Killed) left (without p a.members) a.events kept)
 
 failure_quits : (P : Activity → Type 0) → Lasts P → (fatal : Bool) (id p : ℕ) (a : Activity) → Quits P a (Calls.exits_by_failure fatal id p a)
 failure_quits P lasts true id p a = all_quit P lasts id p a
@@ -92,7 +103,7 @@ exit_shrinks P lasts t p e (Some id) = shrinks_by P t _ (one_quits P lasts id p 
 
 fail_shrinks : (P : Activity → Type 0) → Lasts P → (t : Contracts) (p : ℕ) (f : Failure) (o : Option ℕ) → Shrinks P t (left_by t (Calls.failed_in t p f o))
 fail_shrinks P lasts t p f None = shrinks_same P t
-fail_shrinks P lasts t p f (Some id) = shrinks_by P t _ (λ h. failure_quits P lasts (Calls.is_fatal f (contract t id)) id p (Calls.with_failure id p f (activity t)) (lasts.noted id (Calls.failure_kind f p) t.members t.events h))
+fail_shrinks P lasts t p f (Some id) = shrinks_by P t _ (λ h. failure_quits P lasts (Calls.is_fatal f (contract t id)) id p (Calls.with_failure id p f (activity t)) (lasts.noted id (Calls.failure_kind f p) true t.members t.events h))
 
 gone_one_quits : (P : Activity → Type 0) → Lasts P → (actor : ℕ) (c : Contract) (a : Activity) → Quits P a (Calls.ended_one_with actor c a)
 gone_one_quits P lasts actor c a = quits_choice P (Calls.ends_with actor c) a (Calls.ended c.id a) a (ended_quits P lasts c.id a) (λ h. h)
@@ -154,16 +165,16 @@ abandon_shrinks P lasts t id (Some c) =
 
 -- the facts that are kept
 lasts_empty : (id : ℕ) → Lasts (λ a. has_members id a.members ≡ false)
-lasts_empty id = record { filtered = λ p ms es h. Ordered.none_filter p id ms h; noted = λ at kind ms es h. h }
+lasts_empty id = record { filtered = λ p ms es h. Ordered.none_filter p id ms h; noted = λ at kind left ms es h. h }
 
 lasts_ascending : (last : ℕ) → Lasts (λ a. Ascends 0 (map (λ m. m.process) a.members) last)
-lasts_ascending last = record { filtered = λ p ms es h. Ordered.ascends_filter p 0 last ms h; noted = λ at kind ms es h. h }
+lasts_ascending last = record { filtered = λ p ms es h. Ordered.ascends_filter p 0 last ms h; noted = λ at kind left ms es h. h }
 
 lasts_homed : (ns : List ℕ) → Lasts (λ a. Homed ns a.members)
-lasts_homed ns = record { filtered = λ p ms es h. Ordered.homed_filter p ns ms h; noted = λ at kind ms es h. h }
+lasts_homed ns = record { filtered = λ p ms es h. Ordered.homed_filter p ns ms h; noted = λ at kind left ms es h. h }
 
 lasts_numbered : Lasts (λ a. (id : ℕ) → numbers_of id a.events ≡ counted (last_event id a.events))
-lasts_numbered = record { filtered = λ p ms es h. h; noted = λ at kind ms es h. Numbered.noted_numbered es at kind h }
+lasts_numbered = record { filtered = λ p ms es h. h; noted = λ at kind left ms es h. Numbered.noted_numbered es at kind left h }
 
 -- what is kept where members only go
 pub record Keeps (old new : Contracts) : Type 0 where
@@ -218,24 +229,37 @@ fork_keeps t (Some c) (Some p) h a k = record {
     contracts_ascend = o.contracts_ascend;
     members_ascend = rw map-append (Ordered.ascends_more 0 (map (λ m. m.process) t.members) t.last_process p (omega arith) o.members_ascend);
     homed = Ordered.homed_more (ids t) t.members (record { process = p; contract = c }) o.homed (a o.homed);
-    numbered = Numbered.noted_numbered t.events c (kinds.Fork p) o.numbered;
+    numbered = Numbered.noted_numbered t.events c (kinds.Fork p) true o.numbered;
   };
   never_falls = record { contract = omega arith; process = omega arith };
   stays_empty = λ j given none. Ordered.none_more j t.members (record { process = p; contract = c }) none (differs_by (c == j) c j t.members (eqb-true c j) h none);
 }
 
+reboot_keeps : (t : Contracts) → Keeps t (Calls.rebooted t)
+reboot_keeps t = record {
+  ordered = λ o. record { contracts_ascend = omega arith; members_ascend = omega arith; homed = tt; numbered = λ id. refl };
+  never_falls = record { contract = omega arith; process = omega arith };
+  stays_empty = λ id given none. refl;
+}
+
+pub asked_keeps : (t : Contracts) (call : ContractCall) → Keeps t (Called.called t call)
+unfolding Called.called Calls.spawned Calls.forked Calls.exited Calls.failed Calls.adopted Calls.killed
+asked_keeps t calls.Nothing = keeps_same t
+asked_keeps t calls.Reboot = reboot_keeps t
+asked_keeps t (calls.Spawn actor cookie terms) = spawn_keeps t actor cookie terms _ _ (Ordered.next_is t.last_contract) (Ordered.next_is t.last_process)
+asked_keeps t (calls.Fork p) =
+    fork_keeps t (home t.members p) _ (Ordered.home_has t.members (position (is_process p) t.members)) (Ordered.home_among (ids t) t.members (position (is_process p) t.members)) (Ordered.next_is t.last_process)
+asked_keeps t (calls.Exit p e) = keeps_by t _ (λ P lasts. exit_shrinks P lasts t p e (home t.members p))
+asked_keeps t (calls.Fail p f) = keeps_by t _ (λ P lasts. fail_shrinks P lasts t p f (home t.members p))
+asked_keeps t (calls.Gone actor) = keeps_by t _ (λ P lasts. gone_shrinks P lasts t actor)
+asked_keeps t (calls.Adopt actor id) = keeps_by t _ (λ P lasts. adopt_shrinks P t actor id (contract t id))
+asked_keeps t (calls.Kill actor id) = keeps_by t _ (λ P lasts. kill_shrinks P lasts t id (Calls.held t actor id))
+
 -- what every call keeps
 pub call_keeps : (t : Contracts) (call : Call) → Keeps t (done t call)
-unfolding Calls.spawned Calls.forked Calls.exited Calls.failed Calls.adopted Calls.abandoned Calls.killed Calls.acknowledged
-call_keeps t (Spawn actor cookie terms) = spawn_keeps t actor cookie terms _ _ (Ordered.next_is t.last_contract) (Ordered.next_is t.last_process)
-call_keeps t (ForkOf p) =
-    fork_keeps t (home t.members p) _ (Ordered.home_has t.members (position (is_process p) t.members)) (Ordered.home_among (ids t) t.members (position (is_process p) t.members)) (Ordered.next_is t.last_process)
-call_keeps t (ExitOf p e) = keeps_by t _ (λ P lasts. exit_shrinks P lasts t p e (home t.members p))
-call_keeps t (FailureOf p f) = keeps_by t _ (λ P lasts. fail_shrinks P lasts t p f (home t.members p))
-call_keeps t (HolderGone actor) = keeps_by t _ (λ P lasts. gone_shrinks P lasts t actor)
-call_keeps t (Adopt actor id) = keeps_by t _ (λ P lasts. adopt_shrinks P t actor id (contract t id))
+unfolding Calls.abandoned Calls.acknowledged
+call_keeps t (Asked call) = asked_keeps t call
 call_keeps t (Abandon actor id) = keeps_by t _ (λ P lasts. abandon_shrinks P lasts t id (Calls.held t actor id))
-call_keeps t (Kill actor id) = keeps_by t _ (λ P lasts. kill_shrinks P lasts t id (Calls.held t actor id))
 call_keeps t (Acknowledge actor id number) = keeps_by t _ (λ P lasts. ack_shrinks P t id number (Calls.held t actor id))
 
 spawn_next : (t : Contracts) (actor cookie : ℕ) (terms : Terms) (new : Option ℕ) (first : Option ℕ) → IfSome new (λ m. m ≡ t.last_contract + 1) → IfSome first (λ m. m ≡ t.last_process + 1) → IfOk (Calls.spawned_as t actor cookie terms new first) (λ r. (r.1.contract ≡ t.last_contract + 1) × (r.1.process ≡ t.last_process + 1))

@@ -26,7 +26,7 @@ one_more : (b : Bool) (at id : ℕ) (es : List Event) → (b ≡ true → at ≡
 one_more true at id es e h = let same : at ≡ id = e refl in rw (same, h, add-one) refl
 one_more false at id es e h = grind (arith, common_steps)
 
-pub noted_numbered : (es : List Event) (at : ℕ) (kind : EventKind) → ((id : ℕ) → numbers_of id es ≡ counted (last_event id es)) → (id : ℕ) → numbers_of id (noted es at kind) ≡ counted (last_event id (noted es at kind))
-noted_numbered es at kind h id =
-    let e : Event = record { contract = at; number = last_event at es + 1; kind = kind } in
+pub noted_numbered : (es : List Event) (at : ℕ) (kind : EventKind) (left : Bool) → ((id : ℕ) → numbers_of id es ≡ counted (last_event id es)) → (id : ℕ) → numbers_of id (noted es at kind left) ≡ counted (last_event id (noted es at kind left))
+noted_numbered es at kind left h id =
+    let e : Event = record { contract = at; number = last_event at es + 1; kind = kind; left = left } in
     numbers_more id es e ∙ one_more (at == id) at id es (eqb-true at id) (h id) ∙ ap counted (sym (count_more (is_event_of id) es e))

@@ -1,5 +1,5 @@
 -- What each call makes of a contract table.
-use Rattle.std.specs.Prelude.{◌≡◌, ℕ, ◌+◌, List, [], ◌∷◌, ◌++◌, Bool, true, false, ◌==◌, ◌&&◌, not, nat_lt, if◌then◌else◌, Option, Some, None, Result, Ok, Err, map, position, slice_get, slice_set}
+use Rattle.std.specs.Prelude.{◌≡◌, ℕ, ◌+◌, List, [], ◌∷◌, ◌++◌, Bool, true, false, ◌==◌, ◌&&◌, not, nat_lt, length, if◌then◌else◌, Option, Some, None, Result, Ok, Err, map, position, slice_get, slice_set}
 use Rattle.std.specs.Int.RustNames.{bit_and}
 use Rattle.std.specs.Option.{option_map_or}
 use Rattle.smf_contract.specs.declared.contract.Contract.{Contract}
@@ -38,23 +38,27 @@ Makes (Err e) given left = Fails e given
 abbrev pub next_number : ℕ → Option ℕ
 next_number last = if nat_lt last 0x7fff_ffff_ffff_ffff then Some (last + 1) else None
 
--- one more event of a contract
-abbrev pub noted : List Event → ℕ → EventKind → List Event
-noted es id kind = es ++ record { contract = id; number = last_event id es + 1; kind = kind } ∷ []
+-- one more event of a contract, and whether a member is left after it
+abbrev pub noted : List Event → ℕ → EventKind → Bool → List Event
+noted es id kind left = es ++ record { contract = id; number = last_event id es + 1; kind = kind; left = left } ∷ []
 
--- processes are killed, one after the other
+-- processes are killed, one after the other, and all others of their contract are gone
 abbrev pub exits : List Event → ℕ → List ℕ → List Event
 exits es id [] = es
-exits es id (p ∷ ps) = exits (noted es id (kinds.Exit p Killed)) id ps
+exits es id (p ∷ ps) = exits (noted es id (kinds.Exit p Killed) (nat_lt 0 (length ps))) id ps
 
 -- empty follows where no member is left
 abbrev pub emptied : Bool → List Event → ℕ → List Event
 emptied true es id = es
-emptied false es id = noted es id Empty
+emptied false es id = noted es id Empty false
 
 -- all members of a contract are killed in number order, and empty follows
 abbrev pub emptied_by_force : ℕ → Activity → Activity
-emptied_by_force id a = record { members = outside id a.members; events = noted (exits a.events id (processes id a.members)) id Empty }
+emptied_by_force id a =
+    record {
+      members = outside id a.members;
+      events = noted (exits a.events id (processes id a.members)) id Empty false;
+    }
 
 -- the same, where it has a member; an empty contract stays as it is
 abbrev pub ended : ℕ → Activity → Activity
@@ -66,10 +70,24 @@ activity t = record { members = t.members; events = t.events }
 abbrev pub with_activity : Contracts → Activity → Contracts
 with_activity t a = record t { members = a.members; events = a.events }
 
+abbrev pub next_of : Option ℕ → Option ℕ → Option ℕ
+next_of None process = None
+next_of (Some id) None = None
+next_of (Some id) (Some process) = Some id
+
+-- the id that a spawn would make
+unfoldable pub next_contract : Contracts → Option ℕ
+next_contract t = next_of (next_number t.last_contract) (next_number t.last_process)
+
+-- a contract with its first process
+abbrev pub begun : ℕ → ℕ → ℕ → Terms → ℕ → Contract
+begun id actor cookie terms process =
+    record { id = id; cookie = cookie; holder = Held actor; terms = terms; first = process; acknowledged = 0 }
+
 abbrev pub made : Contracts → ℕ → ℕ → Terms → ℕ → ℕ → Contracts
 made t actor cookie terms id process =
     record t {
-      contracts = t.contracts ++ record { id = id; cookie = cookie; holder = Held actor; terms = terms; acknowledged = 0 } ∷ [];
+      contracts = t.contracts ++ begun id actor cookie terms process ∷ [];
       members = t.members ++ record { process = process; contract = id } ∷ [];
       last_contract = id;
       last_process = process;
@@ -88,7 +106,14 @@ abbrev pub forked_in : Contracts → Option ℕ → Option ℕ → Result (Contr
 forked_in t None child = Err NoSuchProcess
 forked_in t (Some id) None = Err Full
 forked_in t (Some id) (Some child) =
-    Ok (record t { members = t.members ++ record { process = child; contract = id } ∷ []; events = noted t.events id (Fork child); last_process = child }, child)
+    Ok (
+      record t {
+        members = t.members ++ record { process = child; contract = id } ∷ [];
+        events = noted t.events id (Fork child) true;
+        last_process = child;
+      },
+      child,
+    )
 
 -- a member forks a process, which is a member too
 unfoldable pub forked : Contracts → ℕ → Result (Contracts × ℕ) ContractFault
@@ -97,9 +122,10 @@ forked t process = forked_in t (home t.members process) (next_number t.last_proc
 -- a process exits, and empty follows where it was the last member
 abbrev pub one_exit : ℕ → ℕ → ends.Exit → Activity → Activity
 one_exit id process exit a =
+    let left : Bool = has_members id (without process a.members) in
     record {
       members = without process a.members;
-      events = emptied (has_members id (without process a.members)) (noted a.events id (kinds.Exit process exit)) id;
+      events = emptied left (noted a.events id (kinds.Exit process exit) left) id;
     }
 
 abbrev pub exited_in : Contracts → ℕ → ends.Exit → Option ℕ → Result Contracts ContractFault
@@ -125,12 +151,17 @@ is_fatal failure None = false
 is_fatal failure (Some c) = bit_and c.terms.fatal.0 (failure_bit failure) == failure_bit failure
 
 abbrev pub with_failure : ℕ → ℕ → Failure → Activity → Activity
-with_failure id process failure a = record { members = a.members; events = noted a.events id (failure_kind failure process) }
+with_failure id process failure a =
+    record { members = a.members; events = noted a.events id (failure_kind failure process) true }
 
 -- a process exits, the others after it, and empty follows
 abbrev pub all_exit : ℕ → ℕ → Activity → Activity
 all_exit id process a =
-    emptied_by_force id (record { members = without process a.members; events = noted a.events id (kinds.Exit process Killed) })
+    let left : Bool = has_members id (without process a.members) in
+    emptied_by_force id (record {
+      members = without process a.members;
+      events = noted a.events id (kinds.Exit process Killed) left;
+    })
 
 abbrev pub exits_by_failure : Bool → ℕ → ℕ → Activity → Activity
 exits_by_failure true id process a = all_exit id process a
@@ -227,6 +258,10 @@ killed_if t id (Some c) = Ok (with_activity t (ended id (activity t)))
 -- its holder kills the members of a contract
 unfoldable pub killed : Contracts → ℕ → ℕ → Result Contracts ContractFault
 killed t actor id = killed_if t id (held t actor id)
+
+-- the machine begins anew: no number is given again
+abbrev pub rebooted : Contracts → Contracts
+rebooted t = record t { contracts = []; members = []; events = [] }
 
 abbrev pub earlier : ℕ → ℕ → ℕ
 earlier a b = if nat_lt b a then b else a

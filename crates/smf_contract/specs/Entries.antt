@@ -3,6 +3,7 @@ use Rattle.std.specs.Prelude.{ℕ, ◌+◌, ◌*◌, List, [], Bool, ◌==◌, �
 use Rattle.std.specs.List.{list_any}
 use Rattle.smf_contract.specs.declared.contract.Contract.{Contract}
 use Rattle.smf_contract.specs.declared.contract.Member.{Member}
+use Rattle.smf_contract.specs.declared.contract.Report.{Report}
 use Rattle.smf_contract.specs.declared.contract.Status.{Status}
 use Rattle.smf_contract.specs.declared.event.Event.{Event}
 
@@ -49,9 +50,12 @@ abbrev pub found_at : {X : Type 0} → List X → Option ℕ → Option X
 found_at xs None = None
 found_at xs (Some k) = slice_get xs k
 
+abbrev pub contract_in : List Contract → ℕ → Option Contract
+contract_in cs id = found_at cs (position (has_id id) cs)
+
 -- the contract of an id
 abbrev pub contract : Contracts → ℕ → Option Contract
-contract t id = found_at t.contracts (position (has_id id) t.contracts)
+contract t id = contract_in t.contracts id
 
 -- the contract that a process is in
 abbrev pub home : List Member → ℕ → Option ℕ
@@ -75,6 +79,25 @@ outside id ms = filter (λ m. not (is_in id m)) ms
 -- the number of the last event of a contract
 abbrev pub last_event : ℕ → List Event → ℕ
 last_event id es = count_by (is_event_of id) es
+
+-- the lowest process of a contract
+abbrev pub first_member : ℕ → List Member → Option ℕ
+first_member id ms = option_map (λ m. m.process) (found_at ms (position (is_in id) ms))
+
+abbrev pub is_event : ℕ → ℕ → Event → Bool
+is_event id number e = e.contract == id && e.number == number
+
+abbrev pub event_in : List Event → ℕ → ℕ → Option Event
+event_in es id number = found_at es (position (is_event id number) es)
+
+abbrev pub report_of : Option Contract → Option Event → Option Report
+report_of None e = None
+report_of (Some c) None = None
+report_of (Some c) (Some e) = Some (record { contract = c; event = e })
+
+-- an event of a contract by its number, with the contract as it is now
+unfoldable pub reported : Contracts → ℕ → ℕ → Option Report
+reported t id number = report_of (contract t id) (event_in t.events id number)
 
 -- a contract with its members and all its events
 abbrev pub status_of : Contracts → Contract → Status

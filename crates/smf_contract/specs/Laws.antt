@@ -1,46 +1,23 @@
 -- What holds of a contract table after any call.
-use Rattle.std.specs.Prelude.{◌≡◌, ℕ, ◌<◌, ◌≤◌, ◌==◌, zero, suc, List, [], ◌∷◌, ◌++◌, Bool, true, false, Result, Ok, Err, map, filter}
+use Rattle.std.specs.Prelude.{◌≡◌, ℕ, ◌<◌, ◌≤◌, ◌==◌, ◌&&◌, not, zero, suc, List, [], ◌∷◌, ◌++◌, Bool, true, false, map, filter}
 use Rattle.std.specs.List.{list_any}
 use Rattle.smf_contract.specs.declared.contract.Member.{Member}
 use Rattle.smf_contract.specs.declared.event.Event.{Event}
-use Rattle.smf_contract.specs.declared.event.Exit as ends
-use Rattle.smf_contract.specs.declared.event.Failure.{Failure}
-use Rattle.smf_contract.specs.declared.fault.ContractFault.{ContractFault}
-use Rattle.smf_contract.specs.declared.terms.Terms.{Terms}
+use Rattle.smf_contract.specs.declared.call.ContractCall.{ContractCall}
 use Rattle.smf_contract.specs.Entries.{Contracts, empty, has_members, is_event_of, last_event}
-use Rattle.smf_contract.specs.Calls.{spawned, forked, exited, failed, gone, adopted, abandoned, killed, acknowledged}
+use Rattle.smf_contract.specs.Calls.{abandoned, acknowledged}
+use Rattle.smf_contract.specs.Called.{called, left_by}
 
 -- a call that may change the table
 pub data Call : Type 0 where
-  Spawn : (actor cookie : ℕ) → Terms → Call
-  ForkOf : (process : ℕ) → Call
-  ExitOf : (process : ℕ) → ends.Exit → Call
-  FailureOf : (process : ℕ) → Failure → Call
-  HolderGone : (actor : ℕ) → Call
-  Adopt : (actor id : ℕ) → Call
+  Asked : ContractCall → Call
   Abandon : (actor id : ℕ) → Call
-  Kill : (actor id : ℕ) → Call
   Acknowledge : (actor id number : ℕ) → Call
-
--- a refusal changes nothing
-abbrev pub left_by : Contracts → Result Contracts ContractFault → Contracts
-left_by t (Ok u) = u
-left_by t (Err e) = t
-
-abbrev pub left_by_making : {X : Type 0} → Contracts → Result (Contracts × X) ContractFault → Contracts
-left_by_making t (Ok r) = r.0
-left_by_making t (Err e) = t
 
 -- the table after a call
 abbrev pub done : Contracts → Call → Contracts
-done t (Spawn actor cookie terms) = left_by_making t (spawned t actor cookie terms)
-done t (ForkOf process) = left_by_making t (forked t process)
-done t (ExitOf process exit) = left_by t (exited t process exit)
-done t (FailureOf process failure) = left_by t (failed failure t process)
-done t (HolderGone actor) = gone t actor
-done t (Adopt actor id) = left_by t (adopted t actor id)
+done t (Asked call) = called t call
 done t (Abandon actor id) = left_by t (abandoned t actor id)
-done t (Kill actor id) = left_by t (killed t actor id)
 done t (Acknowledge actor id number) = left_by t (acknowledged t actor id number)
 
 -- the table after calls, the newest first
@@ -58,6 +35,11 @@ ids t = map (λ c. c.id) t.contracts
 
 abbrev pub is_among : ℕ → List ℕ → Bool
 is_among n ns = list_any (λ m. m == n) ns
+
+-- it is a contract of the later table, and lost its last member
+abbrev pub is_lost : ℕ → Contracts → Contracts → Bool
+is_lost id before after =
+    is_among id (ids after) && (has_members id before.members && not (has_members id after.members))
 
 -- each member is in a contract of these ids
 abbrev pub Homed : List ℕ → List Member → Type 0

@@ -5,7 +5,7 @@ ghost use Rattle.smf_contract.specs.Calls.{noted, exits, emptied, emptied_by_for
 
 use crate::contract::{Contract, Holder, Member};
 use crate::event::{Event, EventKind, Exit, Failure};
-use crate::lookup::{has_members, is_held_by, last_event};
+use crate::lookup::{count_members, has_members, is_held_by, last_event};
 use smf_fmri::Number;
 use std::alloc::AllocError;
 
@@ -29,9 +29,9 @@ pub(crate) fn make_room(
 }
 
 /// Notes an event of a contract behind the others.
-pub(crate) fn note(events: &mut Vec<Event>, contract: Number, kind: EventKind)
+pub(crate) fn note(events: &mut Vec<Event>, contract: Number, kind: EventKind, left: bool)
     requires { vec_len events.old < vec_capacity events.old }
-    ensures noted { events.new.items ≡ noted events.old.items contract kind }
+    ensures noted { events.new.items ≡ noted events.old.items contract kind left }
     ensures len { vec_len events.new ≡ vec_len events.old + 1 }
     ensures capacity { vec_capacity events.old ≤ vec_capacity events.new }
 {
@@ -41,6 +41,7 @@ pub(crate) fn note(events: &mut Vec<Event>, contract: Number, kind: EventKind)
             contract,
             number,
             kind,
+            left,
         })
         .unwrap();
 }
@@ -52,9 +53,12 @@ pub(crate) fn note_exits(members: &[Member], events: &mut Vec<Event>, contract: 
     ensures len { vec_len events.new ≡ vec_len events.old + length (processes contract members.now) }
     ensures capacity { vec_capacity events.old ≤ vec_capacity events.new }
 {
+    let mut others = count_members(members, contract);
     for m in members {
         if m.contract == contract {
-            note(events, contract, EventKind::Exit(m.process, Exit::Killed));
+            others -= 1;
+            let exit = EventKind::Exit(m.process, Exit::Killed);
+            note(events, contract, exit, others > 0);
         }
     }
 }
@@ -97,7 +101,7 @@ pub(crate) fn empty_by_force(members: &mut Vec<Member>, events: &mut Vec<Event>,
 {
     note_exits(members, events, contract);
     remove_all(members, contract);
-    note(events, contract, EventKind::Empty);
+    note(events, contract, EventKind::Empty, false);
 }
 
 /// Ends one member.
@@ -112,9 +116,10 @@ pub(crate) fn exit_one(
     ensures { one_exit contract process exit (record { members = members.old.items; events = events.old.items }) ≡ record { members = members.new.items; events = events.new.items } }
 {
     remove(members, process);
-    note(events, contract, EventKind::Exit(process, exit));
-    if !has_members(members, contract) {
-        note(events, contract, EventKind::Empty);
+    let left = has_members(members, contract);
+    note(events, contract, EventKind::Exit(process, exit), left);
+    if !left {
+        note(events, contract, EventKind::Empty, false);
     }
 }
 
@@ -129,7 +134,9 @@ pub(crate) fn exit_all(
     ensures { all_exit contract process (record { members = members.old.items; events = events.old.items }) ≡ record { members = members.new.items; events = events.new.items } }
 {
     remove(members, process);
-    note(events, contract, EventKind::Exit(process, Exit::Killed));
+    let left = has_members(members, contract);
+    let exit = EventKind::Exit(process, Exit::Killed);
+    note(events, contract, exit, left);
     empty_by_force(members, events, contract);
 }
 

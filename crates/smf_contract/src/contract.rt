@@ -22,6 +22,8 @@ pub struct Contract {
     pub cookie: u64,
     pub holder: Holder,
     pub terms: Terms,
+    /// Its first process, which its maker began.
+    pub first: Number,
     /// The number of the last event that was acknowledged; 0 where none was.
     pub acknowledged: Number,
 }
@@ -31,6 +33,13 @@ pub struct Contract {
 pub struct Member {
     pub process: Number,
     pub contract: Number,
+}
+
+/// An event of a contract, and the contract as it is when that is reported.
+#[derive(Clone, Copy, Debug, PartialEq, Eq)]
+pub struct Report {
+    pub contract: Contract,
+    pub event: Event,
 }
 
 /// A contract with its members, by their numbers, and all its events, the newest last.

@@ -4,7 +4,7 @@ ghost use Rattle.smf_contract.specs.Cookies.{packed, unpacked};
 use thiserror::Error;
 
 /// The greatest number of an instance that a cookie holds, 2^24 - 1.
-const MAX_INSTANCE: u32 = 16_777_215;
+const MAX_INSTANCE: u64 = 16_777_215;
 
 /// The greatest run that a cookie holds, 2^38 - 1.
 const MAX_RUN: u64 = 274_877_906_943;
@@ -21,7 +21,7 @@ pub enum Method {
 /// which run of which instance it is, and of which method.
 #[derive(Clone, Copy, Debug, PartialEq, Eq)]
 pub struct Cookie {
-    pub instance: u32,
+    pub instance: u64,
     pub run: u64,
     pub method: Method,
 }
@@ -48,7 +48,7 @@ impl Cookie {
             Method::Stop => 1,
             Method::Refresh => 2,
         };
-        Ok((u64::from(self.instance) << 40) + (self.run << 2) + method)
+        Ok((self.instance << 40) + (self.run << 2) + method)
     }
 
     /// What stands in a cookie's 64 bits, if their last two name a method.
@@ -63,7 +63,7 @@ impl Cookie {
             _ => return None,
         };
         Some(Cookie {
-            instance: (bits >> 40) as u32,
+            instance: bits >> 40,
             run: bits % (1 << 40) / 4,
             method,
         })

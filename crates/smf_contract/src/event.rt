@@ -63,6 +63,8 @@ pub struct Event {
     pub contract: Number,
     pub number: Number,
     pub kind: EventKind,
+    /// Whether the contract has a member left after it.
+    pub left: bool,
 }
 
 /// What ends a member from outside.

@@ -2,11 +2,19 @@ ghost use Rattle.std.specs.Prelude.{◌≡◌, ℕ, ◌+◌, List, IfOk};
 ghost use Rattle.smf_contract.specs.Calls.{spawned, forked};
 ghost use Rattle.smf_contract.specs.declared.terms.Terms.{Terms};
 ghost use Rattle.smf_contract.specs.Entries.{Contracts};
-ghost use Rattle.smf_contract.specs.Laws.{Call, done, after, IsOrdered, NeverFalls, StaysEmpty};
+ghost use Rattle.smf_contract.specs.Called.{called, emptied_by};
+ghost use Rattle.smf_contract.specs.Laws.{Call, done, after, is_among, is_lost, IsOrdered, NeverFalls, StaysEmpty};
+ghost use Rattle.smf_contract.specs.declared.call.ContractCall.{ContractCall};
 
 /// A law of the definitions: no call gives a member to a contract that has none.
 pub fn an_empty_contract_stays_empty()
     ensures { (t : Contracts) (call : Call) → StaysEmpty t (done t call) }
+{}
+
+/// A law of the definitions: what a call empties is a contract that is left in the table, had a
+/// member before it, and has none after it.
+pub fn an_emptied_contract_had_members()
+    ensures { (t : Contracts) (call : ContractCall) (id : ℕ) → is_among id (emptied_by t call) ≡ is_lost id t (called t call) }
 {}
 
 /// A law of the definitions: ids and process numbers stand in order and none is above the last ones.

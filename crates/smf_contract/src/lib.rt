@@ -1,11 +1,13 @@
 //! Process contracts: who holds which, what processes are in it, and what happened to them.
-//! Modules: `terms` (event sets), `event`, `contract` (what the table keeps), `table` (the calls) over `lookup`
+//! Modules: `terms` (event sets), `event`, `contract` (what the table keeps), `call`, `table` (the calls) over `lookup`
 //! and `change`, `law`, `cookie`, `fault`.
 #![tactic(auto)]
 
+mod call;
 mod change;
 mod contract;
 mod cookie;
+mod emptying;
 mod event;
 mod fault;
 mod law;
@@ -13,10 +15,13 @@ mod lookup;
 mod table;
 mod terms;
 
-pub use contract::{Contract, Holder, Member, Status};
+pub use call::ContractCall;
+pub use contract::{Contract, Holder, Member, Report, Status};
 pub use cookie::{Cookie, CookieFault, Method};
-pub use event::{Event, EventKind, Exit};
+pub use event::{Event, EventKind, Exit, Failure};
 pub use fault::ContractFault;
-pub use law::{an_empty_contract_stays_empty, numbers_stay_in_order};
+pub use law::{
+    an_emptied_contract_had_members, an_empty_contract_stays_empty, numbers_stay_in_order,
+};
 pub use table::{Made, Table};
 pub use terms::{EventSet, Terms};

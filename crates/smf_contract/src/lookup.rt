@@ -1,9 +1,9 @@
 // What a table's lists say of a contract, a process or an event.
-ghost use Rattle.std.specs.Prelude.{◌≡◌, ◌<◌, IfOk, IfSome, length, position, filter};
-ghost use Rattle.smf_contract.specs.Entries.{found_at, home, has_id, is_process, has_members, processes, last_event, is_given, is_event_of, acknowledged_at};
+ghost use Rattle.std.specs.Prelude.{◌≡◌, ◌<◌, IfOk, IfSome, length, position, filter, count_by, is_some};
+ghost use Rattle.smf_contract.specs.Entries.{contract_in, event_in, found_at, home, has_id, is_process, is_in, has_members, processes, first_member, last_event, is_event, report_of, is_given, is_event_of, acknowledged_at};
 ghost use Rattle.smf_contract.specs.Calls.{is_held_by, held_by, is_fatal};
 
-use crate::contract::{Contract, Holder, Member};
+use crate::contract::{Contract, Holder, Member, Report};
 use crate::event::{Event, Failure};
 use crate::terms::EventSet;
 use bitflags::Flags;
@@ -39,6 +39,68 @@ pub(crate) fn has_members(members: &[Member], contract: Number) -> bool
     members.iter().any(|m| m.contract == contract)
 }
 
+/// The lowest process of a contract.
+pub(crate) fn first_member(members: &[Member], contract: Number) -> Option<Number>
+    ensures { result ≡ first_member contract members.now }
+{
+    place_of_member(members, contract).map(|k| members[k].process)
+}
+
+/// Where the first member of a contract stands in the list.
+fn place_of_member(members: &[Member], contract: Number) -> Option<usize>
+    ensures exact { result ≡ position (is_in contract) members.now }
+    ensures in_range { IfSome result (λ k. k < length members.now) }
+{
+    members.iter().position(|m| m.contract == contract)
+}
+
+/// How many members a contract has.
+#[tactic(auto, using(crate::proofs::Parts::counted_in))]
+pub(crate) fn count_members(members: &[Member], contract: Number) -> usize
+    ensures { result ≡ length (processes contract members.now) }
+{
+    count_in(members, contract)
+}
+
+fn count_in(members: &[Member], contract: Number) -> usize
+    ensures { result ≡ count_by (is_in contract) members.now }
+{
+    members.iter().filter(|m| m.contract == contract).count()
+}
+
+/// Where an event of a contract stands in the list.
+fn place_of_event(events: &[Event], contract: u64, number: u64) -> Option<usize>
+    ensures exact { result ≡ position (is_event contract number) events.now }
+    ensures in_range { IfSome result (λ k. k < length events.now) }
+{
+    events.iter().position(|e| e.contract.get() == contract && e.number.get() == number)
+}
+
+/// Where the contract of any number stands in the list.
+fn place_of_any(contracts: &[Contract], id: u64) -> Option<usize>
+    ensures exact { result ≡ position (has_id id) contracts.now }
+    ensures in_range { IfSome result (λ k. k < length contracts.now) }
+{
+    contracts.iter().position(|c| c.id.get() == id)
+}
+
+/// An event of a contract, and the contract.
+pub(crate) fn report(
+    contracts: &[Contract],
+    events: &[Event],
+    contract: u64,
+    number: u64,
+) -> Option<Report>
+    ensures { result ≡ report_of (contract_in contracts.now contract) (event_in events.now contract number) }
+{
+    let at = place_of_any(contracts, contract)?;
+    let k = place_of_event(events, contract, number)?;
+    Some(Report {
+        contract: contracts[at],
+        event: events[k],
+    })
+}
+
 /// The number of a contract's last event, which is their count.
 pub(crate) fn last_event(events: &[Event], contract: Number) -> u64
     ensures exact { result ≡ last_event contract events.now }
@@ -67,6 +129,16 @@ pub(crate) fn place_held(contracts: &[Contract], actor: u64, id: Number) -> Opti
         Some(k)
     } else {
         None
+    }
+}
+
+/// Whether an actor holds the contract of an id.
+pub(crate) fn is_held(contracts: &[Contract], actor: u64, id: Number) -> bool
+    ensures { result ≡ is_some (held_by actor (contract_in contracts.now id)) }
+{
+    match place_of(contracts, id) {
+        Some(k) => is_held_by(contracts[k].holder, actor),
+        None => false,
     }
 }
 

@@ -1,16 +1,20 @@
 ghost use Rattle.std.specs.Prelude.{◌≡◌, IfOk, MatchResult, OnOk, OnErr, true, false};
-ghost use Rattle.smf_contract.specs.Entries.{empty, status, status_of, statuses, events_from};
-ghost use Rattle.smf_contract.specs.Calls.{Leaves, Makes, spawned, forked, exited, failed, cored, signalled, failed_by_hardware, gone, adopted, abandoned, killed, acknowledged};
+ghost use Rattle.smf_contract.specs.Entries.{contract, empty, first_member, has_members, home, reported, status, status_of, statuses, events_from};
+ghost use Rattle.smf_contract.specs.Calls.{Leaves, Makes, spawned, forked, exited, failed, cored, signalled, failed_by_hardware, gone, adopted, abandoned, killed, acknowledged, next_contract, rebooted};
+ghost use Rattle.smf_contract.specs.Called.{called, emptied_by};
+ghost use Rattle.smf_contract.specs.declared.call.ContractCall.TheVariants as calls;
 
+use crate::call::ContractCall;
 use crate::change::{
     earlier, end_members, end_with, exit_all, exit_one, give_up, kind_of, later, make_room, note,
 };
-use crate::contract::{Contract, Holder, Member, Status};
+use crate::contract::{Contract, Holder, Member, Report, Status};
+use crate::emptying::{ended_ids, failed_ids, ids_left, killed_ids};
 use crate::event::{Event, EventKind, Exit, Failure};
 use crate::fault::ContractFault;
 use crate::lookup::{
-    acknowledged_at, events_of, given_events, home, is_fatal, last_event, place_held, place_of,
-    processes,
+    acknowledged_at, events_of, first_member, given_events, has_members, home, is_fatal, is_held,
+    last_event, place_held, place_of, processes, report,
 };
 use crate::terms::Terms;
 use smf_fmri::{Items, Number};
@@ -87,6 +91,7 @@ impl Table {
                 cookie,
                 holder: Holder::Held(actor),
                 terms,
+                first: process,
                 acknowledged: Number::zero(),
             })
             .unwrap();
@@ -115,7 +120,7 @@ impl Table {
             contract,
         };
         self.members.push(member).unwrap();
-        note(&mut self.events, contract, EventKind::Fork(child));
+        note(&mut self.events, contract, EventKind::Fork(child), true);
         self.last_process = child;
         Ok(child)
     }
@@ -162,8 +167,9 @@ impl Table {
         self.fail(process, Failure::Hwerr)
     }
 
+    /// A failure ends a member, and all others where it is fatal.
     #[tactic(auto, unfolding(crate::specs::Calls::failed))]
-    fn fail(&mut self, process: Number, failure: Failure) -> Result<(), ContractFault>
+    pub fn fail(&mut self, process: Number, failure: Failure) -> Result<(), ContractFault>
         ensures exact { Leaves result (failed failure self.old.table process) self.new.table }
         ensures err { OnErr result (self.new.table ≡ self.old.table) }
         ensures memory { result ≡ Err ContractFault.Memory → self.old.room ≡ false }
@@ -172,7 +178,7 @@ impl Table {
             return Err(ContractFault::NoSuchProcess);
         };
         make_room(&mut self.contracts, &mut self.members, &mut self.events)?;
-        note(&mut self.events, contract, kind_of(failure, process));
+        note(&mut self.events, contract, kind_of(failure, process), true);
         if is_fatal(&self.contracts, contract, failure) {
             exit_all(&mut self.members, &mut self.events, contract, process);
         } else {
@@ -220,6 +226,7 @@ impl Table {
             Holder::Held(_) | Holder::Abandoned => Err(ContractFault::NotInherited),
         }
     }
+
     /// Gives a contract up for good. Its members end where the terms say `noorphan`.
     #[tactic(auto, unfolding(crate::specs::Calls::abandoned))]
     pub fn abandon(&mut self, actor: u64, id: Number) -> Result<(), ContractFault>
@@ -271,6 +278,133 @@ impl Table {
         Ok(())
     }
 
+    /// The machine begins anew: no contract, member or event is left. The numbers that were given
+    /// are not given again.
+    pub fn reboot(&mut self)
+        ensures exact { self.new.table ≡ rebooted self.old.table }
+        ensures room { self.old.room ≡ true → self.new.room ≡ true }
+    {
+        self.contracts.clear();
+        self.members.clear();
+        self.events.clear();
+    }
+
+    /// Does what is asked, for which room was made by `reserve`. What the table refuses leaves it
+    /// as it was.
+    #[tactic(auto, unfolding(crate::specs::Called::called))]
+    pub fn call(&mut self, call: ContractCall)
+        requires { self.old.room ≡ true }
+        ensures { self.new.table ≡ called self.old.table call }
+    {
+        match call {
+            ContractCall::Nothing => {}
+            ContractCall::Spawn {
+                actor,
+                cookie,
+                terms,
+            } => {
+                let _ = self.spawn(actor, cookie, terms);
+            }
+            ContractCall::Adopt { actor, contract } => {
+                let _ = self.adopt(actor, contract);
+            }
+            ContractCall::Kill { actor, contract } => {
+                let _ = self.kill(actor, contract);
+            }
+            ContractCall::Gone { actor } => {
+                let _ = self.holder_gone(actor);
+            }
+            ContractCall::Reboot => self.reboot(),
+            ContractCall::Fork(process) => {
+                let _ = self.fork(process);
+            }
+            ContractCall::Exit(process, exit) => {
+                let _ = self.exit(process, exit);
+            }
+            ContractCall::Fail(process, failure) => {
+                let _ = self.fail(process, failure);
+            }
+        }
+    }
+
+    /// The contracts that a call would take the last member of, in the order of their ids.
+    /// A reboot empties none, since none is left.
+    #[tactic(auto, using(crate::proofs::EmptiedBy::nothing_empties, crate::proofs::EmptiedBy::spawn_empties, crate::proofs::EmptiedBy::adopt_empties, crate::proofs::EmptiedBy::reboot_empties, crate::proofs::EmptiedBy::fork_empties))]
+    pub fn emptied_by(&self, call: ContractCall) -> Result<Items<Number>, AllocError>
+        ensures { IfOk result (λ ids. ids ≡ emptied_by self.now.table call) }
+    {
+        match call {
+            ContractCall::Nothing => Ok(Items::new(self.alloc)),
+            ContractCall::Spawn { .. } => Ok(Items::new(self.alloc)),
+            ContractCall::Adopt { .. } => Ok(Items::new(self.alloc)),
+            ContractCall::Reboot => Ok(Items::new(self.alloc)),
+            ContractCall::Fork(_) => Ok(Items::new(self.alloc)),
+            ContractCall::Kill { actor, contract } => self.emptied_by_kill(actor, contract),
+            ContractCall::Gone { actor } => self.emptied_by_loss(actor),
+            ContractCall::Exit(process, exit) => self.emptied_by_exit(process, exit),
+            ContractCall::Fail(process, failure) => self.emptied_by_failure(process, failure),
+        }
+    }
+
+    #[tactic(auto, using(crate::proofs::EmptiedBy::kill_empties))]
+    fn emptied_by_kill(&self, actor: u64, id: Number) -> Result<Items<Number>, AllocError>
+        ensures { IfOk result (λ ids. ids ≡ emptied_by self.now.table (calls.Kill actor id)) }
+    {
+        if !is_held(&self.contracts, actor, id) {
+            return Ok(Items::new(self.alloc));
+        }
+        let ids = killed_ids(self.alloc, &self.contracts, &self.members, id)?;
+        Ok(Items::from_vec(ids))
+    }
+
+    #[tactic(auto, using(crate::proofs::EmptiedBy::loss_empties))]
+    fn emptied_by_loss(&self, actor: u64) -> Result<Items<Number>, AllocError>
+        ensures { IfOk result (λ ids. ids ≡ emptied_by self.now.table (calls.Gone actor)) }
+    {
+        let ids = ids_left(self.alloc, &self.contracts, &self.members, actor)?;
+        Ok(Items::from_vec(ids))
+    }
+
+    #[tactic(auto, using(crate::proofs::EmptiedBy::exit_empties))]
+    fn emptied_by_exit(&self, process: Number, exit: Exit) -> Result<Items<Number>, AllocError>
+        ensures { IfOk result (λ ids. ids ≡ emptied_by self.now.table (calls.Exit process exit)) }
+    {
+        let Some(id) = home(&self.members, process) else {
+            return Ok(Items::new(self.alloc));
+        };
+        let ids = ended_ids(
+            self.alloc,
+            &self.contracts,
+            &self.members,
+            false,
+            id,
+            process,
+        )?;
+        Ok(Items::from_vec(ids))
+    }
+
+    #[tactic(auto, using(crate::proofs::EmptiedBy::failure_empties))]
+    fn emptied_by_failure(
+        &self,
+        process: Number,
+        failure: Failure,
+    ) -> Result<Items<Number>, AllocError>
+        ensures { IfOk result (λ ids. ids ≡ emptied_by self.now.table (calls.Fail process failure)) }
+    {
+        let Some(id) = home(&self.members, process) else {
+            return Ok(Items::new(self.alloc));
+        };
+        let ids = failed_ids(
+            self.alloc,
+            &self.contracts,
+            &self.members,
+            failure,
+            id,
+            process,
+        )?;
+        Ok(Items::from_vec(ids))
+    }
+
     /// All contracts, in the order of their ids.
     pub fn list(&self) -> Result<Items<Status>, AllocError>
         ensures { IfOk result (λ list. list ≡ statuses self.now.table) }
@@ -314,10 +448,85 @@ impl Table {
         Ok(Items::from_vec(given))
     }
 
+    /// The event of a number of a contract, for a report to its holder; none where there is no such
+    /// event.
+    #[tactic(auto, unfolding(crate::specs::Entries::reported))]
+    pub fn report(&self, contract: u64, number: u64) -> Option<Report>
+        ensures { result ≡ reported self.now.table contract number }
+    {
+        report(&self.contracts, &self.events, contract, number)
+    }
+
+    /// The id that a spawn would make; none where it would be `Full`.
+    #[tactic(auto, unfolding(crate::specs::Calls::next_contract))]
+    pub fn next_contract(&self) -> Option<Number>
+        ensures { result ≡ next_contract self.now.table }
+    {
+        let contract = self.last_contract.next()?;
+        self.last_process.next()?;
+        Some(contract)
+    }
+
+    /// The contract of an id, if there is one, without its members and events.
+    pub fn contract(&self, id: Number) -> Option<Contract>
+        ensures { result ≡ contract self.now.table id }
+    {
+        place_of(&self.contracts, id).map(|k| self.contracts[k])
+    }
+
+    /// The contract that a process is in.
+    pub fn home(&self, process: Number) -> Option<Number>
+        ensures { result ≡ home self.now.table.members process }
+    {
+        home(&self.members, process)
+    }
+
+    /// Whether a contract has a member; not so where there is no such contract.
+    pub fn has_members(&self, id: Number) -> bool
+        ensures { result ≡ has_members id self.now.table.members }
+    {
+        has_members(&self.members, id)
+    }
+
+    /// The lowest process of a contract; none where it is empty.
+    pub fn first_member(&self, id: Number) -> Option<Number>
+        ensures { result ≡ first_member id self.now.table.members }
+    {
+        first_member(&self.members, id)
+    }
+
+    /// All contracts, in the order of their ids.
+    pub fn contracts(&self) -> &[Contract]
+        ensures { result.now ≡ self.now.table.contracts }
+    {
+        &self.contracts
+    }
+
+    /// All processes, in the order of their numbers.
+    pub fn members(&self) -> &[Member]
+        ensures { result.now ≡ self.now.table.members }
+    {
+        &self.members
+    }
+
     /// The events of all contracts, in the order in which they happened.
     pub fn events(&self) -> &[Event]
         ensures { result.now ≡ self.now.table.events }
     {
         &self.events
+    }
+
+    /// The last id that was given; 0 where none was.
+    pub fn last_contract(&self) -> Number
+        ensures { result ≡ self.now.table.last_contract }
+    {
+        self.last_contract
+    }
+
+    /// The last process number that was given; 0 where none was.
+    pub fn last_process(&self) -> Number
+        ensures { result ≡ self.now.table.last_process }
+    {
+        self.last_process
     }
 }

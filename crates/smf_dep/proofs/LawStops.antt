@@ -11,16 +11,15 @@ use Rattle.smf_fmri.proofs.Lookups.{equal_from_test, same_key}
 use Rattle.smf_state.specs.declared.view.ViewItem.{ViewItem}
 use Rattle.smf_model.specs.declared.command.Command.{Command}
 use Rattle.smf_model.specs.declared.held.Instance.{Instance}
-use Rattle.smf_model.specs.Events.{EventKind, ErrorStop, OtherStop, Refreshed, Started, IsDated, revision_of}
+use Rattle.smf_model.specs.Dates.{EventKind, ErrorStop, OtherStop, Refreshed, Started, revision_of}
 use Rattle.smf_model.specs.History.{made}
 use Rattle.smf_model.specs.Holdings.{Holdings}
 use Rattle.smf_model.specs.Laws.{AreApart, IsNumbered}
 use Rattle.smf_model.specs.Look.{by_instance, groups_of, has_number, instance, instances}
 use Rattle.smf_model.specs.Setting.{Groups, current, owned_by_setting, setting}
 use Rattle.smf_model.specs.Shown.{view, view_item}
-use Rattle.smf_model.proofs.LawEvents.{event_dated, event_told}
+use Rattle.smf_model.proofs.LawEvents.{event_dated, event_told, numbered_made}
 use Rattle.smf_model.proofs.LawLists.{no_such, some_same}
-use Rattle.smf_model.proofs.LawNumbers.{stays_numbered}
 use Rattle.smf_model.proofs.LawOutcomes.{apart}
 use Rattle.smf_dep.specs.declared.dependency.Dependency.{Dependency}
 use Rattle.smf_dep.specs.declared.dependency.Grouping.{Grouping}
@@ -248,14 +247,10 @@ stopped k d base n i kind entity is stands counted after =
 
 -- ---- the law
 
-numbered_made : (h : Holdings) (cs : List Command) → IsNumbered h → IsNumbered (made h cs)
-numbered_made h [] numbered = numbered
-numbered_made h (c ∷ cs) numbered = stays_numbered (made h cs) c (numbered_made h cs numbered)
-
-pub stop_told : (h : Holdings) (cs : List Command) (d : Dependency) (base : ℕ) → IsNumbered h → IsDated h → h.revision ≤ base
+pub stop_told : (h : Holdings) (cs : List Command) (d : Dependency) (base : ℕ) → IsNumbered h → h.revision ≤ base
     → must_stop (members (view (made h cs)).items) d base ≡ true → MustStop d base h cs
 unfolding must_stop view
-stop_told h cs d base numbered dated low e =
+stop_told h cs d base numbered low e =
     let k : Holdings = made h cs in
     let a = Any-from_list_any (has_one (stops_by d.grouping d.restart_on base) (seen_all k)) d.entities e in
     let s = stopper k d base a.1 (numbered_made h cs numbered) a.4 in
@@ -266,15 +261,15 @@ stop_told h cs d base numbered dated low e =
       is_there = s.is_there;
       cited = (a.0, a.1, a.2, a.3, s.stands);
       counted = s.counted;
-      happened = event_told h cs s.kind s.held.number base s.held numbered dated low s.is_there s.after;
+      happened = event_told h cs s.kind s.held.number base s.held numbered low s.is_there s.after;
     }
 
-pub stop_happened : (h : Holdings) (cs : List Command) (d : Dependency) (base : ℕ) → IsNumbered h → IsDated h → h.revision ≤ base
+pub stop_happened : (h : Holdings) (cs : List Command) (d : Dependency) (base : ℕ) → IsNumbered h → h.revision ≤ base
     → MustStop d base h cs → must_stop (members (view (made h cs)).items) d base ≡ true
 unfolding must_stop view
-stop_happened h cs d base numbered dated low v =
+stop_happened h cs d base numbered low v =
     let k : Holdings = made h cs in
-    let after : base < revision_of v.kind v.held.row = event_dated h cs v.kind v.number base v.held numbered dated low v.is_there v.happened in
+    let after : base < revision_of v.kind v.held.row = event_dated h cs v.kind v.number base v.held numbered low v.is_there v.happened in
     let a = v.cited in
     list_any-from_Any (has_one (stops_by d.grouping d.restart_on base) (seen_all k)) d.entities
     (a.0, a.1, a.2, a.3, stopped k d base v.number v.held v.kind a.1 v.is_there a.4 v.counted after)

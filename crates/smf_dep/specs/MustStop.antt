@@ -5,7 +5,8 @@ use Rattle.std.specs.List.{Any}
 use Rattle.smf_fmri.specs.Matching.{service_of, instance_of}
 use Rattle.smf_model.specs.declared.command.Command.{Command}
 use Rattle.smf_model.specs.declared.held.Instance.{Instance}
-use Rattle.smf_model.specs.Events.{EventKind, ErrorStop, OtherStop, Refreshed, Started, Happened, IsDated}
+use Rattle.smf_model.specs.Dates.{EventKind, ErrorStop, OtherStop, Refreshed, Started}
+use Rattle.smf_model.specs.Events.{Happened}
 use Rattle.smf_model.specs.History.{made}
 use Rattle.smf_model.specs.Holdings.{Holdings}
 use Rattle.smf_model.specs.Laws.{IsNumbered}
@@ -79,7 +80,7 @@ abbrev pub stops_now : Dependency → ℕ → Holdings → List Command → Bool
 stops_now d base h cs = must_stop (members (view (made h cs)).items) d base
 
 abbrev pub IsTold : Dependency → ℕ → Holdings → List Command → Type 0
-IsTold d base h cs = IsNumbered h → IsDated h → h.revision ≤ base → stops_now d base h cs ≡ true → MustStop d base h cs
+IsTold d base h cs = IsNumbered h → h.revision ≤ base → stops_now d base h cs ≡ true → MustStop d base h cs
 
 abbrev pub IsShown : Dependency → ℕ → Holdings → List Command → Type 0
-IsShown d base h cs = IsNumbered h → IsDated h → h.revision ≤ base → MustStop d base h cs → stops_now d base h cs ≡ true
+IsShown d base h cs = IsNumbered h → h.revision ≤ base → MustStop d base h cs → stops_now d base h cs ≡ true

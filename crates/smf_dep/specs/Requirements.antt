@@ -7,7 +7,7 @@ use Rattle.smf_value.specs.declared.kind.Kind.{Kind}
 use Rattle.smf_value.specs.declared.kind.Kind.TheVariants as kinds
 use Rattle.smf_value.specs.declared.value.Value.{Value}
 use Rattle.smf_value.specs.declared.value.Value.TheVariants.{Astring, Fmri}
-use Rattle.smf_value.specs.Groups.{PropertyRecord, GroupRecord, property_of}
+use Rattle.smf_value.specs.Groups.{PropertyRecord, GroupRecord, property_of, text_in, text_of}
 use Rattle.smf_dep.specs.declared.dependency.Dependency.{Dependency}
 use Rattle.smf_dep.specs.declared.dependency.Grouping.{Grouping}
 use Rattle.smf_dep.specs.declared.dependency.Grouping.TheVariants.{RequireAll, RequireAny, OptionalAll, ExcludeAll}
@@ -31,15 +31,6 @@ abbrev pub ◌>>=◌ : {A B : Type 0} → Result A DependencyFault → (A → Re
 (Err e) >>= f = Err e
 
 -- ---- properties
-
--- one text of kind astring
-abbrev pub text_of : List Value → Option (List ℕ)
-text_of (Astring text ∷ []) = Some text
-text_of _ = None
-
-abbrev pub text_in : Option PropertyRecord → Option (List ℕ)
-text_in None = None
-text_in (Some p) = text_of p.values
 
 abbrev pub grouping_by : List ℕ → Option Grouping
 grouping_by text =

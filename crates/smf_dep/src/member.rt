@@ -8,13 +8,11 @@ use crate::dependency::{Dependency, Grouping, RestartOn};
 use crate::fault::DependencyFault;
 use crate::reading::read_groups;
 use smf_fmri::{Fmri, InstanceFmri, Items, Ordered};
+use smf_model::is_startd;
 use smf_snap::{Snapshot, decode_snapshot};
 use smf_state::{State, ViewItem};
 use smf_value::{BodyFault, Group};
 use std::alloc::{AllocError, Global};
-
-/// The name of svc.startd's own restarter, which needs no instance.
-const STARTD: &str = "svc:/system/svc/restarter:default";
 
 /// What a verdict looks at of an instance.
 #[derive(Debug, Drop)]
@@ -64,7 +62,7 @@ fn compose(snapshot: Snapshot) -> Result<Ordered<Group>, AllocError>
 fn implicit(alloc: Global, owner: &InstanceFmri) -> Result<Option<Dependency>, AllocError>
     ensures { IfOk result (λ d. when_there d ≡ implicit owner.now) }
 {
-    if owner.print() == STARTD {
+    if is_startd(owner) {
         return Ok(None);
     }
     let mut entities = Items::new(alloc);

@@ -1,8 +1,8 @@
 ghost use Rattle.std.specs.Option.{option_copied};
 ghost use Rattle.std.specs.Prelude.{◌≡◌, codes};
-ghost use Rattle.smf_dep.specs.Requirements.{Gives, dependency_of, entities_in, entities_of, entity_of, found, grouping_in, is_dependency, is_of_names, is_of_services, read_groups, restart_in, text_in, text_of};
+ghost use Rattle.smf_dep.specs.Requirements.{Gives, dependency_of, entities_in, entities_of, entity_of, found, grouping_in, is_dependency, is_of_names, is_of_services, read_groups, restart_in};
 ghost use Rattle.smf_dep.specs.declared.fault.DependencyFault.TheVariants.{BadGrouping, BadRestartOn};
-ghost use Rattle.smf_value.specs.Groups.{property_of};
+ghost use Rattle.smf_value.specs.Groups.{property_of, text_in};
 
 use crate::dependency::{Dependency, Grouping, RestartOn};
 use crate::fault::DependencyFault;
@@ -10,32 +10,13 @@ use smf_fmri::{Fmri, FmriFault, Items, Ordered};
 use smf_value::{Group, Kind, Property, Value};
 use std::alloc::Global;
 
-/// One text of kind astring.
-fn text_of(values: &[Value]) -> Option<&str>
-    ensures { option_copied result ≡ text_of values.now }
-{
-    match values {
-        [Value::Astring(text)] => Some(text.as_str()),
-        _ => None,
-    }
-}
-
-fn text_in<'a>(property: Option<&'a Property>) -> Option<&'a str>
-    ensures { option_copied result ≡ text_in (option_copied property.entry) }
-{
-    match property {
-        None => None,
-        Some(property) => text_of(property.values()),
-    }
-}
-
 fn grouping_of(group: &Group) -> Result<Grouping, DependencyFault>
     ensures { result ≡ found BadGrouping (grouping_in (text_in (property_of (codes "grouping") group.now))) }
 {
-    let Some(text) = text_in(group.find("grouping")) else {
+    let Some(text) = group.text("grouping") else {
         return Err(DependencyFault::BadGrouping);
     };
-    match Grouping::parse(text) {
+    match Grouping::parse(text.as_str()) {
         Some(grouping) => Ok(grouping),
         None => Err(DependencyFault::BadGrouping),
     }
@@ -44,10 +25,10 @@ fn grouping_of(group: &Group) -> Result<Grouping, DependencyFault>
 fn restart_of(group: &Group) -> Result<RestartOn, DependencyFault>
     ensures { result ≡ found BadRestartOn (restart_in (text_in (property_of (codes "restart_on") group.now))) }
 {
-    let Some(text) = text_in(group.find("restart_on")) else {
+    let Some(text) = group.text("restart_on") else {
         return Err(DependencyFault::BadRestartOn);
     };
-    match RestartOn::parse(text) {
+    match RestartOn::parse(text.as_str()) {
         Some(restart_on) => Ok(restart_on),
         None => Err(DependencyFault::BadRestartOn),
     }
@@ -59,9 +40,9 @@ fn is_of_services(property: Option<&Property>) -> bool
 {
     match property {
         None => true,
-        Some(property) => match text_of(property.values()) {
+        Some(property) => match property.text() {
             None => false,
-            Some(text) => text == "service",
+            Some(text) => text.as_str() == "service",
         },
     }
 }

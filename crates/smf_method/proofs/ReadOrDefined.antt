@@ -4,13 +4,13 @@ use Rattle.std.specs.Option.{ok_or}
 use Rattle.std.specs.Prelude.{codes}
 use Rattle.smf_contract.specs.declared.cookie.Method.{Method}
 use Rattle.smf_state.specs.declared.state.Duration.{Duration}
-use Rattle.smf_value.specs.Groups.{GroupRecord, property_of}
+use Rattle.smf_value.specs.Groups.{GroupRecord, property_of, text_in}
 use Rattle.smf_method.specs.declared.call.ReadMethod.{ReadMethod}
 use Rattle.smf_method.specs.declared.fault.MethodFault.{MethodFault}
 use Rattle.smf_method.specs.declared.fault.MethodFault.TheVariants.{NoExec, BadTimeout, BadToken, BadDuration, BadIgnore}
 use Rattle.smf_method.specs.Faults.{Gives, ◌>>=◌}
 use Rattle.smf_method.specs.Methods.{Definition, IsReadBy, call_of, checked_text, checked_by, command_in, define_by, definition_of, group_of, method_of, read_group, read_if}
-use Rattle.smf_method.specs.Settings.{text_in, timeout_in, duration_of, ignore_of}
+use Rattle.smf_method.specs.Settings.{timeout_in, duration_of, ignore_of}
 use Rattle.smf_method.specs.Tokens.{Names, method_text, wrong_token}
 
 -- both definitions, by what was found

@@ -4,13 +4,13 @@ use Rattle.std.specs.Option.{ok_or}
 use Rattle.smf_contract.specs.declared.cookie.Method.{Method}
 use Rattle.smf_fmri.specs.ByKey.{lookup}
 use Rattle.smf_state.specs.declared.state.Duration.{Duration}
-use Rattle.smf_value.specs.Groups.{GroupRecord, by_group, property_of}
+use Rattle.smf_value.specs.Groups.{GroupRecord, by_group, property_of, text_in}
 use Rattle.smf_method.specs.declared.call.MethodCall.{MethodCall}
 use Rattle.smf_method.specs.declared.call.ReadMethod.{ReadMethod}
 use Rattle.smf_method.specs.declared.fault.MethodFault.{MethodFault}
 use Rattle.smf_method.specs.declared.fault.MethodFault.TheVariants.{NoExec, BadTimeout, BadToken, BadDuration, BadIgnore}
 use Rattle.smf_method.specs.Faults.{◌>>=◌}
-use Rattle.smf_method.specs.Settings.{text_in, timeout_in, duration_of, ignore_of}
+use Rattle.smf_method.specs.Settings.{timeout_in, duration_of, ignore_of}
 use Rattle.smf_method.specs.Tokens.{Names, names_of, method_text, wrong_token, filled_text, is_refused}
 
 -- what groups say of a method: its command has its tokens

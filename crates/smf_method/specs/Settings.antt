@@ -5,18 +5,9 @@ use Rattle.std.specs.List.{list_all, list_any, slice_split}
 use Rattle.smf_state.specs.declared.state.Duration.{Duration}
 use Rattle.smf_state.specs.declared.state.Duration.TheVariants.{Contract, Transient, Child}
 use Rattle.smf_value.specs.declared.value.Value.{Value}
-use Rattle.smf_value.specs.declared.value.Value.TheVariants.{Astring, Count}
-use Rattle.smf_value.specs.Groups.{PropertyRecord, GroupRecord, property_of}
+use Rattle.smf_value.specs.declared.value.Value.TheVariants.{Count}
+use Rattle.smf_value.specs.Groups.{PropertyRecord, GroupRecord, property_of, text_of}
 use Rattle.smf_method.specs.Timeouts.{timeout_of}
-
--- one text of kind astring
-abbrev pub text_of : List Value → Option (List ℕ)
-text_of (Astring text ∷ []) = Some text
-text_of _ = None
-
-abbrev pub text_in : Option PropertyRecord → Option (List ℕ)
-text_in None = None
-text_in (Some p) = text_of p.values
 
 -- one count, which may stand for no timeout
 abbrev pub timeout_by : List Value → Option (Option ℕ)

@@ -9,7 +9,7 @@ ghost use Rattle.std.specs.Prelude.{◌≡◌, IfOk, IfSome, true};
 use crate::command::{Builtin, Command};
 use crate::fault::MethodFault;
 use crate::naming::method_text;
-use crate::settings::{duration_of, ignore_of, text_in, timeout_in};
+use crate::settings::{duration_of, ignore_of, timeout_in};
 use crate::timeout::Timeout;
 use crate::tokens::{fill, wrong_token};
 use smf_contract::Method;
@@ -77,7 +77,7 @@ fn read_group(
 ) -> Result<Option<ReadMethod>, MethodFault>
     ensures { Gives result (read_group (names_of restarter.now method instance.now) group.now (option_copied startd.entry)) }
 {
-    let Some(exec) = text_in(group.find("exec")) else {
+    let Some(exec) = group.text("exec") else {
         return Err(MethodFault::NoExec);
     };
     let Some(timeout) = timeout_in(group.find("timeout_seconds")) else {

@@ -8,7 +8,7 @@ use crate::call::{MethodCall, command_in};
 use crate::command::Command;
 use crate::fault::MethodFault;
 use crate::naming::method_text;
-use crate::settings::{duration_of, ignore_of, text_in, timeout_in};
+use crate::settings::{duration_of, ignore_of, timeout_in};
 use crate::timeout::Timeout;
 use crate::tokens::wrong_token;
 use smf_contract::Method;
@@ -48,7 +48,7 @@ fn define_by(
 ) -> Result<Option<MethodDefinition>, MethodFault>
     ensures { Gives result (define_by method group.now (option_copied startd.entry)) }
 {
-    let Some(exec) = text_in(group.find("exec")) else {
+    let Some(exec) = group.text("exec") else {
         return Err(MethodFault::NoExec);
     };
     let Some(timeout) = timeout_in(group.find("timeout_seconds")) else {

@@ -1,4 +1,4 @@
-ghost use Rattle.smf_method.specs.Settings.{bits_of, duration_by, duration_in, duration_of, ignore_by, ignore_in, ignore_of, is_comma, is_failure, text_in, text_of, timeout_by, timeout_in};
+ghost use Rattle.smf_method.specs.Settings.{bits_of, duration_by, duration_in, duration_of, ignore_by, ignore_in, ignore_of, is_comma, is_failure, timeout_by, timeout_in};
 ghost use Rattle.std.specs.Cmp.Lexicographic.{pointwise};
 ghost use Rattle.std.specs.List.{list_all, list_any, slice_split};
 ghost use Rattle.std.specs.Option.{option_copied};
@@ -6,26 +6,7 @@ ghost use Rattle.std.specs.Prelude.{◌≡◌, nat_eq};
 
 use crate::timeout::Timeout;
 use smf_state::{Duration, Ignore};
-use smf_value::{Astring, Group, Property, Value};
-
-/// One text of kind astring.
-fn text_of(values: &[Value]) -> Option<&Astring>
-    ensures { option_copied result ≡ text_of values.now }
-{
-    match values {
-        [Value::Astring(text)] => Some(text),
-        _ => None,
-    }
-}
-
-pub(crate) fn text_in(property: Option<&Property>) -> Option<&Astring>
-    ensures { option_copied result ≡ text_in (option_copied property.entry) }
-{
-    match property {
-        None => None,
-        Some(property) => text_of(property.values()),
-    }
-}
+use smf_value::{Group, Property, Value};
 
 fn timeout_by(values: &[Value]) -> Option<Option<Timeout>>
     ensures { result ≡ timeout_by values.now }
@@ -65,7 +46,7 @@ fn duration_in(property: Option<&Property>) -> Option<Duration>
 {
     match property {
         None => Some(Duration::Contract),
-        Some(property) => match text_of(property.values()) {
+        Some(property) => match property.text() {
             None => None,
             Some(text) => duration_by(text.as_str()),
         },
@@ -128,7 +109,7 @@ fn ignore_in(property: Option<&Property>) -> Option<Ignore>
 {
     match property {
         None => Some(Ignore::none()),
-        Some(property) => match text_of(property.values()) {
+        Some(property) => match property.text() {
             None => None,
             Some(text) => ignore_by(text.as_str()),
         },

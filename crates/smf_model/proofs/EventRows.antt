@@ -11,7 +11,7 @@ use Rattle.smf_state.specs.declared.step.Step.{Step}
 use Rattle.smf_state.specs.declared.step.Step.TheVariants.{Move, Start, Stop, Refresh, End, Note}
 use Rattle.smf_state.specs.Rows.{applied, applied_unless, is_error, numbered, refusal, same_state, stepped}
 use Rattle.smf_state.specs.States.{runs}
-use Rattle.smf_model.specs.Events.{EventKind, ErrorStop, OtherStop, Refreshed, Started, revision_of}
+use Rattle.smf_model.specs.Dates.{EventKind, ErrorStop, OtherStop, Refreshed, Started, revision_of}
 
 -- the four revisions stay
 pub record SameDates (before after : Row) : Type 0 where

@@ -38,7 +38,8 @@ use Rattle.smf_model.specs.Look.{bare, by_instance, changed, group, groups_of, i
 use Rattle.smf_model.specs.Setting.{Groups, current, general, general_ovr, owned_by_setting, service_owner, setting}
 use Rattle.smf_model.specs.Laws.{IsNumbered, is_accepted}
 use Rattle.smf_model.specs.Next.{greatest, greatest_instance, greatest_snapshot, refused, accepted, found, asked_add_service, joining, added_at, added_named, asked_add_instance, is_instance_of, asked_delete_service, is_in_use, leaving, asked_delete_instance, is_there, is_made, has_room, group_put, group_dropped, guarded, added_group, deleted_group, new_group, property_changed, put_or_denied, changed_group, enabling_of, enabled_for_good, enabled_for_now, asked_enable, asking, asked_if, asked_where, asked_restart, asked_clear, marked, asked_mark, with_snapshot, snapshot_of, target_by, may_be_moved, refreshed_row, moved_instance, refreshed_instance, refreshed, asked_refresh, number_of, named_snapshot, is_past_most, reverting, reverted_to, reverted, asked_revert, asked_edit, is_again, stale, with_row, with_running, takes_running, granted, step_answer, fresh_answer, answer_at, answer, next_launch, asked_launch, relaunched, persistent, kept_of_services, kept_of_instances, booted, all_booted, booting, may_not_boot, asked_boot, asked, next}
-use Rattle.smf_model.specs.Events.{EventKind, ErrorStop, OtherStop, Refreshed, Started, Ends, IsRefresh, IsEventTo}
+use Rattle.smf_model.specs.Dates.{EventKind, ErrorStop, OtherStop, Refreshed, Started}
+use Rattle.smf_model.specs.Events.{Ends, IsRefresh, IsEventTo}
 use Rattle.smf_model.proofs.Entries.{bare_groups, bare_instance, bare_put, bare_without}
 use Rattle.smf_model.proofs.EventRows.{SameDates, dates_equal, EndDates, RowDates, no_end, at_end, applied_dates, with_snapshot_dates, not_running}
 use Rattle.smf_model.proofs.LawLists.{at_put, is_number, some_same}

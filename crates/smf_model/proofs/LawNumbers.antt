@@ -14,11 +14,13 @@ use Rattle.smf_model.specs.declared.held.Instance.{Instance}
 use Rattle.smf_model.specs.declared.held.InstanceName.{InstanceName}
 use Rattle.smf_model.specs.declared.held.Service.{Service}
 use Rattle.smf_model.specs.declared.held.Snapshot.{Snapshot}
+use Rattle.smf_model.specs.Dates.{IsDated}
 use Rattle.smf_model.specs.Holdings.{Holdings}
 use Rattle.smf_model.specs.Look.{by_instance, by_snapshot, empty, installed, instance, instances, is_snapshot_of, named, others_of, put_new, put_over, service, snapshot}
 use Rattle.smf_model.specs.Laws.{IsNumbered, IsOrdered, is_refusal}
 use Rattle.smf_model.specs.Setting.{Groups}
 use Rattle.smf_model.specs.Next.{greatest, greatest_instance, refused, accepted, joining, new_instance, added_at, added_named, asked_add_instance, asked_edit, booted, asked, next}
+use Rattle.smf_model.proofs.LawDates.{first_dated, stays_dated}
 use Rattle.smf_model.proofs.LawLists.{none_filter, none_put, none_put_new, none_put_over, none_without}
 use Rattle.smf_model.proofs.LawOutcomes.{Outcome, nothing, goes, OfInstances, alike, joined, left, put, each, OfSnapshots, kept, taken, gone, put_each, no_changes, outcome}
 use Rattle.smf_model.proofs.Order.{ordered_after}
@@ -36,6 +38,7 @@ first_numbers = record {
   none_at_zero = refl;
   instances = λ n h. refl;
   snapshots = λ n h. refl;
+  dated = first_dated;
   indexed = record { right = λ name e p. absurd (nothing_named e p); whole = λ n i p. absurd (no_instance i p) };
 }
 
@@ -134,15 +137,16 @@ snapshot_gone h c n below is = snapshot_gone_by h c (next h c).0 (next h c).1 n 
 -- ---- all of it
 
 numbered_by : (h : Holdings) (c : Command) (k : Holdings) (r : Reply) → Outcome h c k r → IsNumbered h
-    → IsOrdered k → h.next_instance ≤ k.next_instance → instance k 0 ≡ None → IsNumbered k
-numbered_by h c k r (nothing e a) b o rises zero = subst IsNumbered (sym e) b
-numbered_by h c k r (goes g) b o rises zero =
+    → IsOrdered k → h.next_instance ≤ k.next_instance → instance k 0 ≡ None → IsDated k → IsNumbered k
+numbered_by h c k r (nothing e a) b o rises zero dated = subst IsNumbered (sym e) b
+numbered_by h c k r (goes g) b o rises zero dated =
     record {
       ordered = o;
       first = (let first : 1 ≤ h.next_instance = b.first in omega arith);
       none_at_zero = zero;
       instances = instances_below h c (instances k) k.next_instance g.instances b.instances;
       snapshots = snapshots_below h c k.snapshots k.next_snapshot g.snapshots b.snapshots;
+      dated = dated;
       indexed = g.indexed b;
     }
 
@@ -153,7 +157,7 @@ ordered_next h c o = ordered_after h (asked h c).changes o
 pub stays_numbered : (h : Holdings) (c : Command) → IsNumbered h → IsNumbered (next h c).0
 stays_numbered h c b =
     let first : 1 ≤ h.next_instance = b.first in
-    numbered_by h c (next h c).0 (next h c).1 (outcome h c) b (ordered_next h c b.ordered) (instances_rise h c) (instance_gone h c 0 (omega arith) b.none_at_zero)
+    numbered_by h c (next h c).0 (next h c).1 (outcome h c) b (ordered_next h c b.ordered) (instances_rise h c) (instance_gone h c 0 (omega arith) b.none_at_zero) (stays_dated h c b)
 
 next_is : (h : Holdings) (c : Command) → (next h c).0 ≡ installed h (asked h c).changes
 unfolding next

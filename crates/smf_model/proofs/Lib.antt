@@ -3,6 +3,7 @@ pub mod EventRows
 pub mod EventSteps
 pub mod Installs
 pub mod Kept
+pub mod LawDates
 pub mod LawEvents
 pub mod LawHistory
 pub mod LawLists

@@ -1,6 +1,5 @@
--- The events of instances, told by commands and what they led to, and the revisions that rows keep of them.
+-- The events of instances, told by commands and what they led to.
 use Rattle.std.specs.Prelude.{◌≡◌, ◌⊎◌, ℕ, ◌+◌, ◌≤◌, ◌<◌, List, [], ◌∷◌, Bool, true, false, Some}
-use Rattle.smf_state.specs.declared.row.Row.{Row}
 use Rattle.smf_state.specs.declared.state.Cause.{Cause}
 use Rattle.smf_state.specs.declared.state.Cause.TheVariants as causes
 use Rattle.smf_state.specs.declared.state.State.{State}
@@ -14,25 +13,12 @@ use Rattle.smf_model.specs.declared.command.Edit.TheVariants as asked_for
 use Rattle.smf_model.specs.declared.command.Reply.{Reply}
 use Rattle.smf_model.specs.declared.command.Reply.TheVariants.{Granted, Done}
 use Rattle.smf_model.specs.declared.held.Instance.{Instance}
+use Rattle.smf_model.specs.Dates.{EventKind, ErrorStop, OtherStop, Refreshed, Started, revision_of}
 use Rattle.smf_model.specs.Holdings.{Holdings}
 use Rattle.smf_model.specs.Look.{instance}
 use Rattle.smf_model.specs.Next.{next}
 use Rattle.smf_model.specs.History.{made}
 use Rattle.smf_model.specs.Laws.{IsNumbered}
-
--- a stop by an error, any other stop, a refresh of an instance that runs, and a start that succeeded
-pub data EventKind : Type 0 where
-  ErrorStop : EventKind
-  OtherStop : EventKind
-  Refreshed : EventKind
-  Started : EventKind
-
--- the revision that a row keeps of the last event of a kind
-abbrev pub revision_of : EventKind → Row → ℕ
-revision_of ErrorStop row = row.err
-revision_of OtherStop row = row.stop
-revision_of Refreshed row = row.refresh
-revision_of Started row = row.start
 
 -- ---- what an event is: a value h, a command c, the value k that it led to, and its reply r
 
@@ -99,16 +85,12 @@ abbrev pub Happened : EventKind → ℕ → ℕ → Holdings → List Command �
 Happened kind n base h [] = ⊥
 Happened kind n base h (c ∷ cs) = (IsEvent kind n (made h cs) c × (base < (made h (c ∷ cs)).revision)) ⊎ Happened kind n base h cs
 
--- no row keeps a revision that is still to come
-abbrev pub IsDated : Holdings → Type 0
-IsDated h = (n : ℕ) (i : Instance) (kind : EventKind) → instance h n ≡ Some i → revision_of kind i.row ≤ h.revision
-
 -- where a row keeps a revision above the base, such an event happened after it
 abbrev pub IsTold : Holdings → List Command → EventKind → ℕ → ℕ → Instance → Type 0
 IsTold h cs kind n base i =
-    IsNumbered h → IsDated h → h.revision ≤ base → instance (made h cs) n ≡ Some i → base < revision_of kind i.row → Happened kind n base h cs
+    IsNumbered h → h.revision ≤ base → instance (made h cs) n ≡ Some i → base < revision_of kind i.row → Happened kind n base h cs
 
 -- and where one happened, the row keeps such a revision
 abbrev pub IsKept : Holdings → List Command → EventKind → ℕ → ℕ → Instance → Type 0
 IsKept h cs kind n base i =
-    IsNumbered h → IsDated h → h.revision ≤ base → instance (made h cs) n ≡ Some i → Happened kind n base h cs → base < revision_of kind i.row
+    IsNumbered h → h.revision ≤ base → instance (made h cs) n ≡ Some i → Happened kind n base h cs → base < revision_of kind i.row

@@ -13,6 +13,7 @@ use Rattle.smf_fmri.specs.ByKey.{Rises, lookup}
 use Rattle.smf_model.specs.declared.held.Instance.{Instance}
 use Rattle.smf_model.specs.declared.held.InstanceName.{InstanceName}
 use Rattle.smf_model.specs.declared.held.Snapshot.{Snapshot}
+use Rattle.smf_model.specs.Dates.{IsDated}
 use Rattle.smf_model.specs.Holdings.{Holdings}
 use Rattle.smf_model.specs.Look.{bare, by_entry, by_instance, by_launch, by_name, by_service, by_snapshot, has_number, instance, named, snapshot}
 use Rattle.smf_model.specs.Next.{found, is_again, next}
@@ -57,14 +58,15 @@ pub record IsIndexed (is : List Instance) (names : List InstanceName) : Type 0 w
   pub whole : (n : ℕ) (i : Instance) → lookup by_instance is n ≡ Some i
       → lookup by_name names i.name ≡ Some (record { name = i.name; number = n })
 
--- every list is in order, numbers of instances begin at 1, nothing has the number that comes next, or a greater one,
--- and instances are found by their names
+-- every list is in order, numbers of instances begin at 1, nothing has the number that comes next, or a greater one, no
+-- row keeps a revision that is still to come, and instances are found by their names
 pub record IsNumbered (h : Holdings) : Type 0 where
   pub ordered : IsOrdered h
   pub first : 1 ≤ h.next_instance
   pub none_at_zero : instance h 0 ≡ None
   pub instances : (n : ℕ) → h.next_instance ≤ n → instance h n ≡ None
   pub snapshots : (n : ℕ) → h.next_snapshot ≤ n → snapshot h n ≡ None
+  pub dated : IsDated h
   pub indexed : IsIndexed (bare h.instances) h.names
 
 -- no number is found a second time

@@ -4,6 +4,7 @@ pub mod Look
 pub mod Setting
 pub mod Next
 pub mod Tables
+pub mod Dates
 pub mod Laws
 pub mod Shown
 pub mod History

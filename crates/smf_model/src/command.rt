@@ -1,8 +1,12 @@
+ghost use Rattle.smf_model.specs.declared.command.Edit.TheVariants.{AddGroup, Property};
+ghost use Rattle.std.specs.Prelude.{◌≡◌, IfOk};
+
 use crate::held::Owner;
 use smf_fmri::{InstanceFmri, Items, ServiceFmri, Text};
 use smf_snap::SnapshotName;
 use smf_state::{Proposal, Row, StepFault};
 use smf_value::{GroupFault, Kind, Name};
+use std::alloc::AllocError;
 
 /// What is asked of the repository.
 #[derive(Debug, Drop)]
@@ -118,4 +122,149 @@ pub enum Reply {
     Denied(GroupFault),
     Limit,
     Stale(Why, Option<Row>),
+}
+
+#[tactic(auto, using(crate::proofs::Lists::same_items))]
+fn copy_of(values: &Items<Text>) -> Result<Items<Text>, AllocError>
+    ensures { IfOk result (λ copy. copy ≡ values.now) }
+{
+    values.clone()
+}
+
+impl Clone for PropertyChange {
+    ghost is_clone = { λ s copy. copy ≡ s };
+
+    fn clone(&self) -> Result<PropertyChange, AllocError> {
+        match self {
+            PropertyChange::Set { name, kind, values } => {
+                let name = name.clone()?;
+                let values = copy_of(values)?;
+                Ok(PropertyChange::Set {
+                    name,
+                    kind: *kind,
+                    values,
+                })
+            }
+            PropertyChange::AddValue { name, kind, value } => {
+                let name = name.clone()?;
+                let value = value.clone()?;
+                Ok(PropertyChange::AddValue {
+                    name,
+                    kind: *kind,
+                    value,
+                })
+            }
+            PropertyChange::DeleteValue { name, value } => {
+                let name = name.clone()?;
+                let value = value.clone()?;
+                Ok(PropertyChange::DeleteValue { name, value })
+            }
+            PropertyChange::Delete { name } => {
+                let name = name.clone()?;
+                Ok(PropertyChange::Delete { name })
+            }
+        }
+    }
+}
+
+fn copy_of_add_group(
+    owner: &Owner,
+    name: &Name,
+    group_type: &Name,
+    non_persistent: bool,
+) -> Result<Edit, AllocError>
+    ensures { IfOk result (λ copy. copy ≡ AddGroup owner.now name.now group_type.now non_persistent) }
+{
+    let owner = owner.clone()?;
+    let name = name.clone()?;
+    let group_type = group_type.clone()?;
+    Ok(Edit::AddGroup {
+        owner,
+        name,
+        group_type,
+        non_persistent,
+    })
+}
+
+fn copy_of_property(
+    owner: &Owner,
+    group: &Name,
+    change: &PropertyChange,
+) -> Result<Edit, AllocError>
+    ensures { IfOk result (λ copy. copy ≡ Property owner.now group.now change.now) }
+{
+    let owner = owner.clone()?;
+    let group = group.clone()?;
+    let change = change.clone()?;
+    Ok(Edit::Property {
+        owner,
+        group,
+        change,
+    })
+}
+
+impl Clone for Edit {
+    ghost is_clone = { λ s copy. copy ≡ s };
+
+    fn clone(&self) -> Result<Edit, AllocError> {
+        match self {
+            Edit::AddService(name) => Ok(Edit::AddService(name.clone()?)),
+            Edit::AddInstance { service, name } => {
+                let service = service.clone()?;
+                let name = name.clone()?;
+                Ok(Edit::AddInstance { service, name })
+            }
+            Edit::DeleteService(name) => Ok(Edit::DeleteService(name.clone()?)),
+            Edit::DeleteInstance(instance) => Ok(Edit::DeleteInstance(*instance)),
+            Edit::AddGroup {
+                owner,
+                name,
+                group_type,
+                non_persistent,
+            } => copy_of_add_group(owner, name, group_type, *non_persistent),
+            Edit::DeleteGroup { owner, name } => {
+                let owner = owner.clone()?;
+                let name = name.clone()?;
+                Ok(Edit::DeleteGroup { owner, name })
+            }
+            Edit::Property {
+                owner,
+                group,
+                change,
+            } => copy_of_property(owner, group, change),
+            Edit::Enable {
+                instance,
+                enabled,
+                temporary,
+            } => Ok(Edit::Enable {
+                instance: *instance,
+                enabled: *enabled,
+                temporary: *temporary,
+            }),
+            Edit::Restart(instance) => Ok(Edit::Restart(*instance)),
+            Edit::Refresh(instance) => Ok(Edit::Refresh(*instance)),
+            Edit::Clear(instance) => Ok(Edit::Clear(*instance)),
+            Edit::Mark { instance, mark } => Ok(Edit::Mark {
+                instance: *instance,
+                mark: *mark,
+            }),
+            Edit::Revert { instance, snapshot } => Ok(Edit::Revert {
+                instance: *instance,
+                snapshot: *snapshot,
+            }),
+        }
+    }
+}
+
+impl Clone for Command {
+    ghost is_clone = { λ s copy. copy ≡ s };
+
+    fn clone(&self) -> Result<Command, AllocError> {
+        match self {
+            Command::Edit(edit) => Ok(Command::Edit(edit.clone()?)),
+            Command::Propose(proposal) => Ok(Command::Propose(proposal.clone()?)),
+            Command::Launch(name) => Ok(Command::Launch(name.clone()?)),
+            Command::Boot => Ok(Command::Boot),
+        }
+    }
 }

@@ -2,7 +2,8 @@ ghost use Rattle.std.specs.Prelude.{◌≡◌, ◌⊎◌, ◌+◌, ◌≤◌, []
 ghost use Rattle.smf_model.specs.declared.command.Command.{Command as AnyCommand};
 ghost use Rattle.smf_model.specs.declared.held.Instance.{Instance as AnyInstance};
 ghost use Rattle.smf_model.specs.declared.held.Snapshot.{Snapshot as AnySnapshot};
-ghost use Rattle.smf_model.specs.Events.{EventKind, IsDated, IsKept, IsTold};
+ghost use Rattle.smf_model.specs.Dates.{EventKind, IsDated};
+ghost use Rattle.smf_model.specs.Events.{IsKept, IsTold};
 ghost use Rattle.smf_model.specs.History.{AreInTurn, HasValueAt, entries, history, made, now};
 ghost use Rattle.smf_model.specs.Holdings.{Holdings};
 ghost use Rattle.smf_model.specs.Laws.{GetsNextNumber, HasTheName, InstanceStaysGone, IsFoundByName, IsGrantedAgain};
@@ -69,8 +70,7 @@ pub fn histories_are_made_in_turn()
 /// A row keeps the revision of the last event of each kind: what it keeps is above a base exactly where such an event
 /// came after the base. No row keeps a revision that is still to come.
 pub fn revisions_tell_events()
-    ensures at_first { IsDated empty }
-    ensures kept { (h : Holdings) (c : AnyCommand) → IsNumbered h → IsDated h → IsDated (next h c).0 }
+    ensures kept { (h : Holdings) (cs : List AnyCommand) → IsNumbered h → IsDated (made h cs) }
     ensures told { (h : Holdings) (cs : List AnyCommand) (k : EventKind) (n base : ℕ) (i : AnyInstance) → IsTold h cs k n base i }
     ensures happened { (h : Holdings) (cs : List AnyCommand) (k : EventKind) (n base : ℕ) (i : AnyInstance) → IsKept h cs k n base i }
 {}

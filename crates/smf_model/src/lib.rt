@@ -32,9 +32,9 @@ pub use held::{
 pub use journal::{Journal, NoJournal, RepoFault};
 pub use law::{
     accepted_makes_one_revision, changes_follow_the_diagram, histories_are_made_in_turn,
-    names_find_instances, numbers_are_given_once, refusals_change_nothing, rows_never_fall_back,
-    snapshots_stay,
+    names_find_instances, numbers_are_given_once, refusals_change_nothing, revisions_tell_events,
+    rows_never_fall_back, snapshots_stay,
 };
 pub use plain::Plain;
-pub use setting::{Setting, startd};
+pub use setting::{Setting, is_startd, startd};
 pub use tables::Tables;

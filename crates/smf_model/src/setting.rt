@@ -1,5 +1,6 @@
 ghost use Rattle.std.specs.Option.{option_copied};
-ghost use Rattle.std.specs.Prelude.{◌≡◌, ◌==◌, if◌then◌else◌, length, IfOk, option_map, Some, Ok};
+ghost use Rattle.std.specs.Cmp.Lexicographic.{pointwise};
+ghost use Rattle.std.specs.Prelude.{◌≡◌, ◌==◌, if◌then◌else◌, length, nat_eq, IfOk, option_map, Some, Ok};
 ghost use Rattle.smf_fmri.specs.Name.{read};
 ghost use Rattle.smf_fmri.specs.Matching.{service_of};
 ghost use Rattle.smf_model.specs.Look.{group, groups_of};
@@ -32,6 +33,13 @@ pub fn startd(alloc: Global) -> Result<InstanceFmri, AllocError>
         Some(name) => Ok(name),
         None => unreachable!(),
     }
+}
+
+/// Whether it is svc.startd's own restarter.
+pub fn is_startd(name: &InstanceFmri) -> bool
+    ensures { result ≡ pointwise nat_eq name.now startd }
+{
+    name.print() == STARTD
 }
 
 /// A property of a group, where it is there.

@@ -1,10 +1,15 @@
 -- What each line does.
-use Rattle.std.specs.Prelude.{◌≡◌, ℕ, List, [], ◌∷◌, ◌++◌, ◌&&◌, reverse, codes, Bool, true, false, is_none, Option, Some, None, Result, Ok, Err}
-use Rattle.smf_admin.specs.Asking.{commands_of, no_match_text, several_text, svcadm_usage, svcs_usage}
-use Rattle.smf_admin.specs.Listing.{header_of, svcs_text}
+use Rattle.std.specs.Prelude.{◌≡◌, ℕ, List, [], ◌∷◌, ◌++◌, ◌&&◌, reverse, codes, Bool, true, false, if◌then◌else◌, is_none, Option, Some, None, Result, Ok, Err}
+use Rattle.smf_admin.specs.Asking.{commands_of}
+use Rattle.smf_admin.specs.Choosing.{needs_bodies, options_of}
+use Rattle.smf_admin.specs.Listing.{svcs_text}
+use Rattle.smf_admin.specs.Telling.{no_match_text, several_text, svcadm_usage, svcs_usage}
+use Rattle.smf_admin.specs.declared.choosing.Options.{Options}
+use Rattle.smf_admin.specs.declared.listing.Listing.{Listing}
 use Rattle.smf_admin.specs.declared.asking.Asked.{Asked}
 use Rattle.smf_admin.specs.declared.asking.Asked.TheVariants as asks
-use Rattle.smf_model.specs.Shown.{rows}
+use Rattle.smf_model.specs.Holdings.{Holdings}
+use Rattle.smf_model.specs.Shown.{rows, view}
 use Rattle.smf_model.specs.declared.command.Command.TheVariants as commands
 use Rattle.smf_model.specs.declared.command.Edit.{Edit}
 use Rattle.smf_model.specs.declared.command.Reply.{Reply}
@@ -64,8 +69,8 @@ svcadm_name = codes "svcadm: "
 
 unfoldable pub asked : Progress → Asked → Deed
 asked p (asks.Edit edit) = given svcadm_name p edit
-asked p (asks.NoMatch word) = failed p (no_match_text word)
-asked p (asks.Several word count) = failed p (several_text word count)
+asked p (asks.NoMatch word) = failed p (no_match_text (codes "svcadm") word)
+asked p (asks.Several word count) = failed p (several_text (codes "svcadm") word count)
 
 -- one deed, and another on what it left
 abbrev pub behind : Deed → Deed → Deed
@@ -86,12 +91,19 @@ svcadm p words = svcadm_by p (commands_of p.world.now.names words)
 
 -- ---- svcs
 
-abbrev pub svcs_by : Progress → Option Bool → Deed
+-- what svcs prints; the bodies of snapshots are looked at only where dependencies are asked for
+abbrev pub listing_of : Holdings → Options → Listing
+listing_of h options = if needs_bodies options.chosen then svcs_text (view h).items options else svcs_text (rows h) options
+
+abbrev pub listed : Progress → Listing → Deed
+listed p listing = record { progress = p; text = listing.text; fine = listing.all_matched }
+
+abbrev pub svcs_by : Progress → Option Options → Deed
 svcs_by p None = failed p svcs_usage
-svcs_by p (Some header) = done p (svcs_text (rows p.world.now) header)
+svcs_by p (Some options) = listed p (listing_of p.world.now options)
 
 unfoldable pub svcs : Progress → List (List ℕ) → Deed
-svcs p words = svcs_by p (header_of words)
+svcs p words = svcs_by p (options_of words)
 
 -- ---- settle
 

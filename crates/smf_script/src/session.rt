@@ -1,19 +1,18 @@
 ghost use Rattle.std.specs.Prelude.{◌≡◌, [], ◌++◌, ◌∷◌, IfErr, IfOk, OnOk, is_none, reverse, string_bytes};
 ghost use Rattle.smf_admin.specs.Asking.{commands_of};
-ghost use Rattle.smf_admin.specs.Listing.{svcs_text};
 ghost use Rattle.smf_model.specs.declared.command.Command.TheVariants as commands;
 ghost use Rattle.smf_model.specs.Setting.{startd as the_startd};
-ghost use Rattle.smf_model.specs.Shown.{rows};
 ghost use Rattle.smf_node.specs.Faults.{IsUndone};
 ghost use Rattle.smf_repo.specs.Refusals.{refusal};
-ghost use Rattle.smf_script.specs.Session.{IsDeed, IsEffect, asked, asked_all, done, effect, effect_of, given, settle, settled_text, svcadm, svccfg, svcs, told_text};
+ghost use Rattle.smf_script.specs.Session.{IsDeed, IsEffect, asked, asked_all, done, effect, effect_of, given, listing_of, settle, settled_text, svcadm, svccfg, svcs, told_text};
 ghost use Rattle.smf_script.specs.Text.{trail_text};
 ghost use Rattle.smf_world.specs.Reached.{IsLater};
 
 use crate::request::{Request, request_of};
 use crate::text::trail_text;
 use smf_admin::{
-    Asked, commands_of, header_of, no_match_text, several_text, svcadm_usage, svcs_text, svcs_usage,
+    Asked, Listing, Options, commands_of, no_match_text, options_of, several_text, svcadm_usage,
+    svcs_text, svcs_usage,
 };
 use smf_fmri::{Items, Text};
 use smf_model::{Edit, Journal, Reply};
@@ -104,11 +103,11 @@ fn asked<J: Journal>(
     match one {
         Asked::Edit(edit) => give(alloc, node, edit, "svcadm: ", out),
         Asked::NoMatch(word) => {
-            out.push_str(no_match_text(alloc, word.as_str())?.as_str())?;
+            out.push_str(no_match_text(alloc, "svcadm", word.as_str())?.as_str())?;
             Ok(false)
         }
         Asked::Several(word, count) => {
-            out.push_str(several_text(alloc, word.as_str(), count)?.as_str())?;
+            out.push_str(several_text(alloc, "svcadm", word.as_str(), count)?.as_str())?;
             Ok(false)
         }
     }
@@ -164,12 +163,21 @@ fn svcadm<J: Journal>(
     }
 }
 
-/// What svcs prints of what the node holds.
-fn listing<J: Journal>(alloc: Global, node: &Node<J>, header: bool) -> Result<Text, AllocError>
-    ensures { IfOk result (λ text. text ≡ svcs_text (rows node.now.world.now) header) }
+/// What svcs prints of what the node holds. The bodies of snapshots are read only where dependencies are asked for.
+fn listing<J: Journal>(
+    alloc: Global,
+    node: &Node<J>,
+    options: &Options,
+) -> Result<Listing, AllocError>
+    ensures { IfOk result (λ listing. listing ≡ listing_of node.now.world.now options.now) }
 {
-    let rows = node.repository().rows()?;
-    svcs_text(alloc, rows.as_slice(), header)
+    if options.needs_bodies() {
+        let view = node.repository().view()?;
+        svcs_text(alloc, view.items.as_slice(), options)
+    } else {
+        let rows = node.repository().rows()?;
+        svcs_text(alloc, rows.as_slice(), options)
+    }
 }
 
 #[tactic(auto, unfolding(crate::specs::Session::svcs))]
@@ -181,13 +189,13 @@ fn svcs<J: Journal>(
 ) -> Result<bool, AllocError>
     ensures { IfOk result (λ fine. IsDeed (svcs node.now words.now) node.now (string_bytes out.old) (string_bytes out.new) fine) }
 {
-    let Some(header) = header_of(words) else {
+    let Some(options) = options_of(alloc, words)? else {
         out.push_str(svcs_usage())?;
         return Ok(false);
     };
-    let text = listing(alloc, node, header)?;
-    out.push_str(text.as_str())?;
-    Ok(true)
+    let listing = listing(alloc, node, &options)?;
+    out.push_str(listing.text.as_str())?;
+    Ok(listing.all_matched)
 }
 
 fn settled_text(how: Settled) -> &'static str

@@ -1,9 +1,10 @@
 -- What properties and groups are.
-use Rattle.std.specs.Prelude.{◌≡◌, ℕ, ◌≤◌, ◌-◌, List, length, Bool, true, Option, option_map, slice_get}
+use Rattle.std.specs.Prelude.{◌≡◌, ℕ, ◌≤◌, ◌-◌, List, [], ◌∷◌, length, Bool, true, Option, Some, None, option_map, slice_get}
 use Rattle.std.specs.List.{list_all}
 use Rattle.smf_fmri.specs.ByKey.{By, Rises, by_text, lookup}
 use Rattle.smf_value.specs.declared.kind.Kind.{Kind}
 use Rattle.smf_value.specs.declared.value.Value.{Value}
+use Rattle.smf_value.specs.declared.value.Value.TheVariants.{Astring}
 use Rattle.smf_value.specs.Kinds.{is_kind}
 use Rattle.smf_value.specs.Values.{kind_of}
 
@@ -45,6 +46,16 @@ pub record IsGroup (g : GroupRecord) : Type 0 where
 -- the property of a name
 abbrev pub property_of : List ℕ → GroupRecord → Option PropertyRecord
 property_of name g = lookup by_property g.properties name
+
+-- one text of kind astring
+abbrev pub text_of : List Value → Option (List ℕ)
+text_of (Astring text ∷ []) = Some text
+text_of _ = None
+
+-- that of a property, where it is there
+abbrev pub text_in : Option PropertyRecord → Option (List ℕ)
+text_in None = None
+text_in (Some p) = text_of p.values
 
 -- the name of the last property, if there is one
 abbrev pub last_name : List PropertyRecord → Option (List ℕ)

@@ -1,10 +1,11 @@
 ghost use Rattle.smf_fmri.specs.ByKey.{Rises, by_text, put};
 ghost use Rattle.smf_value.specs.Edits.{Leaves, del, put_property};
-ghost use Rattle.smf_value.specs.Groups.{IsGroup, by_property, group_with, property_of};
+ghost use Rattle.smf_value.specs.Groups.{IsGroup, by_property, group_with, property_of, text_in};
 ghost use Rattle.std.specs.Int.RustNames.{bit_and};
 ghost use Rattle.std.specs.Option.{option_copied};
 ghost use Rattle.std.specs.Prelude.{◌≡◌, ◌≤◌, ◌==◌, [], length, nat_lt, refl};
 
+use crate::astring::Astring;
 use crate::fault::GroupFault;
 use crate::flags::GroupFlags;
 use crate::name::Name;
@@ -104,6 +105,16 @@ impl Group {
         ensures { option_copied result ≡ property_of name.now self.now }
     {
         self.properties.get_text(name)
+    }
+
+    /// The text of the property of a name, where it has one value, of kind astring.
+    pub fn text(&self, name: &str) -> Option<&Astring>
+        ensures { option_copied result ≡ text_in (property_of name.now self.now) }
+    {
+        match self.find(name) {
+            None => None,
+            Some(property) => property.text(),
+        }
     }
 }
 

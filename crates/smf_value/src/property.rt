@@ -1,8 +1,10 @@
 ghost use Rattle.smf_fmri.specs.ByKey.{by_text};
-ghost use Rattle.smf_value.specs.Groups.{AreOf, PropertyRecord};
+ghost use Rattle.smf_value.specs.Groups.{AreOf, PropertyRecord, text_of};
 ghost use Rattle.smf_value.specs.Values.{kind_of};
+ghost use Rattle.std.specs.Option.{option_copied};
 ghost use Rattle.std.specs.Prelude.{◌≡◌, ◌≤◌, [], ◌∷◌, IfOk, length, refl};
 
+use crate::astring::Astring;
 use crate::kind::Kind;
 use crate::name::Name;
 use crate::value::Value;
@@ -73,6 +75,22 @@ impl Property {
         ensures bounded { length self.now.values ≤ 1000 }
     {
         self.values.as_slice()
+    }
+
+    /// Its text, where it has one value, of kind astring.
+    pub fn text(&self) -> Option<&Astring>
+        ensures { option_copied result ≡ text_of self.now.values }
+    {
+        text_of(self.values())
+    }
+}
+
+fn text_of(values: &[Value]) -> Option<&Astring>
+    ensures { option_copied result ≡ text_of values.now }
+{
+    match values {
+        [Value::Astring(text)] => Some(text),
+        _ => None,
     }
 }
 

@@ -1,9 +1,19 @@
-//! Messages between the repository, svc.startd's graph and the restarters.
-//! Modules: `order` (what the graph orders), `message`.
+//! Messages between the repository, svc.startd's graph and the restarters, and the lines that they are written as.
+//! Modules: `order` (what the graph orders), `message`, `encoding` and `decoding` (lines), `law`, `word`, `digits`, `fault`.
 #![tactic(auto)]
 
+mod decoding;
+mod digits;
+mod encoding;
+mod fault;
+mod law;
 mod message;
 mod order;
+mod word;
 
+pub use decoding::decode;
+pub use encoding::encode;
+pub use fault::WireFault;
+pub use law::{lines_are_read_again, no_line_begins_another};
 pub use message::{Known, Message};
 pub use order::{Order, What};

@@ -1,16 +1,19 @@
 -- Behind a boot that is refused the trail does not show where rows began.
-use Rattle.std.proofs.Common.{◌≡◌, ◌≤◌, ◌==◌, ℕ, false, List, [], ◌∷◌, Option, None, refl, sym, subst, arith}
+use Rattle.std.proofs.Common.{◌≡◌, ◌≤◌, ◌==◌, ℕ, Bool, true, false, cond, List, [], ◌∷◌, Option, Some, None, refl, sym, subst, arith}
 use Rattle.std.specs.Ordering.{is_eq, nat_cmp}
 use Rattle.std.proofs.lemmas.Bool.Decides.{nat_tests}
 use Rattle.smf_state.specs.Rows.{applied, fresh}
 use Rattle.smf_state.specs.declared.state.State.TheVariants.{Uninitialized, Disabled}
 use Rattle.smf_model.specs.Holdings.{Holdings}
 use Rattle.smf_model.specs.declared.held.Instance.{Instance}
+use Rattle.smf_model.specs.Dates.{IsDated, revision_of}
 use Rattle.smf_model.specs.Laws.{IsIndexed, IsNumbered}
 use Rattle.smf_model.specs.Look.{bare, groups_of, installed}
 use Rattle.smf_model.specs.Setting.{current, enabled, setting, startd}
 use Rattle.smf_model.specs.Shown.{view, rows_of}
 use Rattle.smf_model.specs.Next.{answer, asked, asked_boot, asked_edit, asked_launch, greatest, next}
+use Rattle.smf_model.proofs.LawDates.{fresh_date}
+use Rattle.smf_model.proofs.LawLists.{no_such, some_same}
 use Rattle.smf_model.proofs.LawNumbers.{first_numbers}
 use Rattle.smf_model.proofs.Names.{index_added}
 use Rattle.smf_engine.specs.Orders.{order}
@@ -62,6 +65,15 @@ one_alone n le = has_not 1 n (is_other n le)
 one_indexed : IsIndexed (bare limited.instances) limited.names
 one_indexed = index_added alone [] [] first_numbers.indexed refl refl
 
+one_dated : IsDated limited
+one_dated n i kind e = by (is_eq (nat_cmp 1 n)) e
+  where
+    by : (b : Bool) → cond b (Some alone) None ≡ Some i → revision_of kind i.row ≤ 0
+    by true e =
+        let zero_date : revision_of kind alone.row ≡ 0 = fresh_date kind in
+        subst (λ (x : Instance). revision_of kind x.row ≤ 0) (some_same alone i e) (omega arith)
+    by false e = absurd (no_such None i refl e)
+
 pub limited_numbered : IsNumbered limited
 limited_numbered =
     record {
@@ -70,6 +82,7 @@ limited_numbered =
       none_at_zero = refl;
       instances = λ n le. rw (one_alone n le) refl;
       snapshots = λ n le. refl;
+      dated = one_dated;
       indexed = one_indexed;
     }
 

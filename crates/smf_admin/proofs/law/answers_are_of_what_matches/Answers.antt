@@ -1,5 +1,5 @@
-use Rattle.smf_admin.proofs.Picking.{asked_answers}
+use Rattle.smf_admin.proofs.Picking.{found_answers}
 use Rattle.smf_admin.proofs.law.answers_are_of_what_matches.Goals as goal
 
 pub returns : goal.returns
-returns c = asked_answers
+returns c = found_answers

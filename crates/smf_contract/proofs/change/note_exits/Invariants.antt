@@ -7,6 +7,7 @@ abbrev pub invariant-loop-m : goal.invariant-loop-m
 invariant-loop-m l = record {
   rest : exits l.events.items l.contract (processes l.contract (drop l.m-index l.members)) ≡ exits l.initial.events.items l.contract (processes l.contract l.members);
   len : vec_len l.events + length (processes l.contract (drop l.m-index l.members)) ≡ vec_len l.initial.events + length (processes l.contract l.members);
+  others : l.others ≡ length (processes l.contract (drop l.m-index l.members));
   capacity : vec_capacity l.initial.events ≤ vec_capacity l.events;
   room : vec_len l.initial.events + length (processes l.contract l.members) ≤ vec_capacity l.initial.events;
 }

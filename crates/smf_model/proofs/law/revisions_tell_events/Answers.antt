@@ -1,11 +1,8 @@
-use Rattle.smf_model.proofs.LawEvents.{first_dated, stays_dated, event_told, event_dated}
+use Rattle.smf_model.proofs.LawEvents.{dated_made, event_told, event_dated}
 use Rattle.smf_model.proofs.law.revisions_tell_events.Goals as goal
 
-pub returns-clause-at_first : goal.returns-clause-at_first
-returns-clause-at_first c = first_dated
-
 pub returns-clause-kept : goal.returns-clause-kept
-returns-clause-kept c = stays_dated
+returns-clause-kept c = dated_made
 
 pub returns-clause-told : goal.returns-clause-told
 returns-clause-told c = event_told

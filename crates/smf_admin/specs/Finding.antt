@@ -1,0 +1,50 @@
+-- Which instance a word stands for.
+use Rattle.std.specs.Prelude.{◌≡◌, ◌≤◌, length, filter, ℕ, List, [], ◌∷◌, map, Option, Some, None, slice_get, Result, Ok, Err}
+use Rattle.smf_fmri.specs.declared.fault.FmriFault.{FmriFault}
+use Rattle.smf_fmri.specs.declared.fault.PickFault.{PickFault}
+use Rattle.smf_fmri.specs.declared.fault.PickFault.TheVariants as picks
+use Rattle.smf_fmri.specs.Matching.{matches, picked}
+use Rattle.smf_fmri.specs.Name.{read_pattern}
+use Rattle.smf_model.specs.declared.held.InstanceName.{InstanceName}
+use Rattle.smf_admin.specs.declared.finding.Found.{Found}
+use Rattle.smf_admin.specs.declared.finding.Found.TheVariants as finds
+
+-- ---- one instance
+
+-- the names of the instances, in their order
+abbrev pub names_of : List InstanceName → List (List ℕ)
+names_of view = map (λ i. i.name) view
+
+abbrev pub found_at : List ℕ → Option InstanceName → Found
+found_at word (Some item) = finds.One item.number
+found_at word None = finds.NoMatch word
+
+abbrev pub found_by : List ℕ → List InstanceName → Result ℕ PickFault → Found
+found_by word view (Ok place) = found_at word (slice_get view place)
+found_by word view (Err picks.NoMatch) = finds.NoMatch word
+found_by word view (Err (picks.Several count)) = finds.Several word count
+
+-- a word that is no pattern matches nothing
+abbrev pub found_with : List ℕ → List InstanceName → Result (List ℕ) FmriFault → Found
+found_with word view (Ok pattern) = found_by word view (picked pattern (names_of view))
+found_with word view (Err fault) = finds.NoMatch word
+
+-- which instance a word stands for
+unfoldable pub found_of : List InstanceName → List ℕ → Found
+found_of view word = found_with word view (read_pattern word)
+
+-- ---- it is of what matches
+
+-- the instances whose names a pattern matches
+abbrev pub matching : List ℕ → List InstanceName → List InstanceName
+matching pattern view = filter (λ i. matches pattern i.name) view
+
+-- the only instance that matches is found; else none matches, or so many do
+abbrev pub IsAnswer : List ℕ → List ℕ → List InstanceName → Found → Type 0
+IsAnswer pattern word view (finds.One n) = (i : InstanceName) × (matching pattern view ≡ i ∷ []) × (n ≡ i.number)
+IsAnswer pattern word view (finds.NoMatch w) = (w ≡ word) × (matching pattern view ≡ [])
+IsAnswer pattern word view (finds.Several w count) = (w ≡ word) × (length (matching pattern view) ≡ count) × (2 ≤ count)
+
+abbrev pub Answers : Result (List ℕ) FmriFault → List ℕ → List InstanceName → Found → Type 0
+Answers (Ok pattern) word view one = IsAnswer pattern word view one
+Answers (Err fault) word view one = one ≡ finds.NoMatch word

@@ -1,0 +1,25 @@
+-- What each call of a statement promises besides.
+use Rattle.std.specs.Prelude.{Result, OnErr, OnOk, IfOk, IsTrue}
+use Rattle.sqlite.specs.Store.{Ghosts}
+use Rattle.sqlite.specs.State.{State, HasCleanDisk, KeepsCommit, Survives}
+use Rattle.sqlite.specs.Held.{Held, state}
+
+-- a transaction is open
+abbrev pub IsInside : {S : Type 0} → Ghosts S → Held S → Type 0
+IsInside g old = HasCleanDisk (state g old) → IsTrue (state g old).in_transaction
+
+-- where it went well, this was done
+abbrev pub Does : {S A E : Type 0} → (State → State → Type 0) → Ghosts S → Held S → Held S → Result A E → Type 0
+Does P g old new result = HasCleanDisk (state g new) → OnOk result (P (state g old) (state g new))
+
+-- where it went well, this was found
+abbrev pub Finds : {S A E : Type 0} → (State → State → A → Type 0) → Ghosts S → Held S → Held S → Result A E → Type 0
+Finds P g old new result = HasCleanDisk (state g new) → IfOk result (P (state g old) (state g new))
+
+-- where it failed, nothing was committed
+abbrev pub CommitsNone : {S A E : Type 0} → Ghosts S → Held S → Held S → Result A E → Type 0
+CommitsNone g old new result = HasCleanDisk (state g new) → OnErr result (KeepsCommit (state g old) (state g new))
+
+-- a crash leaves what it could leave before
+abbrev pub LeavesAsBefore : {S : Type 0} → Ghosts S → Held S → Held S → Type 0
+LeavesAsBefore g old new = Survives (state g old) (state g new) (λ _. ⊥)

@@ -1,0 +1,4 @@
+pub mod Schema
+pub mod Rows
+pub mod Calls
+pub mod Statements

@@ -1,0 +1,85 @@
+-- What each statement does.
+use Rattle.std.specs.Prelude.{◌≡◌, ℕ, ℤ, pos, Bool, true, List, [], ◌∷◌, Option, IfSome, IsTrue, string_bytes}
+use Rattle.sqlite.specs.declared.types.Value.{Value}
+use Rattle.sqlite.specs.declared.types.Value.TheVariants.{Null, Int, Text, Blob}
+use Rattle.sqlite.specs.Values.{or_null}
+use Rattle.sqlite.specs.Order.{Row, column}
+use Rattle.sqlite.specs.Edit.{next_rowid}
+use Rattle.sqlite.specs.Tree.{Trees}
+use Rattle.sqlite.specs.State.{State, Shows}
+use Rattle.sqlite.specs.Term.{Term}
+use Rattle.sqlite_rules.specs.Lists.{Has}
+use Rattle.smf_tables.specs.declared.looking.NameColumns.{NameColumns}
+use Rattle.smf_tables.specs.declared.writing.InstanceRow.{InstanceRow}
+use Rattle.smf_tables.specs.Schema.{meta, service, instance, grp, snap, restarter, store_schema}
+use Rattle.smf_tables.specs.Rows.{Alters, Gains, Loses, equal, is_picked}
+
+abbrev pub DropsMeta : List ℕ → State → State → Type 0
+DropsMeta key = Alters (Loses (is_picked (equal 1 0 ∷ []) (Text key ∷ []))) meta
+
+abbrev pub AddsMeta : List ℕ → ℤ → State → State → Type 0
+AddsMeta key n old = Alters (Gains (Int (next_rowid (old.now.trees 0)) ∷ Text key ∷ Int n ∷ [])) meta old
+
+abbrev pub DropsService : List ℕ → State → State → Type 0
+DropsService name = Alters (Loses (is_picked (equal 1 0 ∷ []) (Text name ∷ []))) service
+
+abbrev pub AddsService : List ℕ → State → State → Type 0
+AddsService name old = Alters (Gains (Int (next_rowid (old.now.trees 2)) ∷ Text name ∷ [])) service old
+
+abbrev pub DropsInstance : ℤ → State → State → Type 0
+DropsInstance id = Alters (Loses (is_picked (equal 0 0 ∷ []) (Int id ∷ []))) instance
+
+abbrev pub instance_row : InstanceRow → Row
+instance_row i =
+    Int i.id ∷ Null ∷ Text i.service.now ∷ Text i.name.now ∷ Text i.row.now ∷ or_null Int i.start ∷ or_null Int i.previous ∷ []
+
+abbrev pub AddsInstance : InstanceRow → State → State → Type 0
+AddsInstance i = Alters (Gains (instance_row i)) instance
+
+-- a service's own groups
+abbrev pub DropsServiceGroups : List ℕ → State → State → Type 0
+DropsServiceGroups name = Alters (Loses (is_picked (equal 1 0 ∷ equal 2 1 ∷ []) (Text name ∷ Int (pos 0) ∷ []))) grp
+
+abbrev pub DropsInstanceGroups : ℤ → State → State → Type 0
+DropsInstanceGroups id = Alters (Loses (is_picked (equal 2 0 ∷ []) (Int id ∷ []))) grp
+
+abbrev pub AddsGroup : List ℕ → ℤ → List ℕ → List ℕ → State → State → Type 0
+AddsGroup service id name body old =
+    Alters (Gains (Int (next_rowid (old.now.trees 6)) ∷ Text service ∷ Int id ∷ Text name ∷ Blob body ∷ [])) grp old
+
+abbrev pub DropsSnapshots : ℤ → State → State → Type 0
+DropsSnapshots id = Alters (Loses (is_picked (equal 2 0 ∷ []) (Int id ∷ []))) snap
+
+abbrev pub AddsSnapshot : ℤ → ℤ → List ℕ → State → State → Type 0
+AddsSnapshot id owner body = Alters (Gains (Int id ∷ Null ∷ Int owner ∷ Blob body ∷ [])) snap
+
+abbrev pub DropsLaunch : List ℕ → State → State → Type 0
+DropsLaunch name = Alters (Loses (is_picked (equal 1 0 ∷ []) (Text name ∷ []))) restarter
+
+abbrev pub AddsLaunch : List ℕ → ℤ → State → State → Type 0
+AddsLaunch name count old = Alters (Gains (Int (next_rowid (old.now.trees 9)) ∷ Text name ∷ Int count ∷ [])) restarter old
+
+-- there is such a row
+pub record HasRow (rows : List Row) (tests : List Term) (params : Row) (Shows : Row → Type 0) : Type 0 where
+  pub row : Row
+  pub there : Has rows row
+  pub picked : is_picked tests params row ≡ true
+  pub shows : Shows row
+
+-- a look at the tables, which stay as they are
+pub record Sees (Seen : Trees → Type 0) (old new : State) : Type 0 where
+  pub shows : Shows old new new.now old.committed true
+  pub same : old.now.schema ≡ store_schema → new.now ≡ old.now
+  pub seen : old.now.schema ≡ store_schema → Seen old.now.trees
+
+-- the columns of an instance's name
+abbrev pub ShowsName : NameColumns → Row → Type 0
+ShowsName it r = (column r 2 ≡ Text (string_bytes it.service)) × (column r 3 ≡ Text (string_bytes it.name))
+
+abbrev pub ReadsName : ℤ → State → State → Option NameColumns → Type 0
+ReadsName id old new found =
+    Sees (λ trees. IfSome found (λ it. HasRow (trees 4) (equal 0 0 ∷ []) (Int id ∷ []) (ShowsName it))) old new
+
+abbrev pub FindsService : List ℕ → State → State → Bool → Type 0
+FindsService name old new found =
+    Sees (λ trees. IsTrue found → HasRow (trees 2) (equal 1 0 ∷ []) (Text name ∷ []) (λ r. Unit {0})) old new

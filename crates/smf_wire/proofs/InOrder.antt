@@ -1,0 +1,202 @@
+-- Items in number order: what is written is read, and what is read was written so.
+use Rattle.std.proofs.Common.{◌≡◌, ℕ, zero, suc, ◌<◌, ◌≤◌, List, [], ◌∷◌, ◌++◌, length, map, Bool, true, false, Option, Some, None, IfSome, Result, Ok, Err, refl, sym, ◌∙◌, ap, arith, nat_lt, ltb-true, ltb-false, inl, inr}
+use Rattle.std.specs.Cmp.{nat_cmp_is}
+use Rattle.std.specs.Fmt.{decimal}
+use Rattle.std.specs.List.{AllByRecursion}
+use Rattle.std.specs.Ordering.{nat_cmp}
+use Rattle.std.specs.declared.cmp.Ordering.{Ordering}
+use Rattle.std.specs.declared.cmp.Ordering.TheVariants.{Less, Equal, Greater}
+use Rattle.std.proofs.lemmas.Bool.{cases_lt}
+use Rattle.smf_fmri.specs.ByKey.{IsBelowFirst, Rises, by_number}
+use Rattle.smf_fmri.specs.Matching.{read_short}
+use Rattle.smf_state.specs.Fields.{◌>>=◌, flag_text, optional_text, read_flag, read_optional, taken}
+use Rattle.smf_state.specs.Texts.{IsSmall, row_at, row_text}
+use Rattle.smf_state.specs.declared.view.ViewItem.{ViewItem}
+use Rattle.smf_state.proofs.Lines.{IsTaken, OptionalIn, behind, bind_ok, takes, took}
+use Rattle.smf_state.proofs.Words.{flag, name}
+use Rattle.smf_wire.specs.Digits.{hex_text}
+use Rattle.smf_wire.specs.Grammar.{Field, all_known_at, is_above, item_at, items_at, known_at, read_above, read_body}
+use Rattle.smf_wire.specs.Lines.{AreBytes, HasBody, IsBody, IsItem, IsKnown, item_text, known_text}
+use Rattle.smf_wire.specs.declared.message.Known.{Known}
+use Rattle.smf_wire.proofs.DigitFields.{IsWritten, optional_body}
+use Rattle.smf_wire.proofs.NumberFields.{above}
+use Rattle.smf_wire.proofs.Parts.{as_text, found_as, joins, on, row_is_read, row_was, spaced_on}
+
+abbrev pub Reader : Type 0 → Type 0
+Reader A = Option (List ℕ) → Field A
+
+-- an item that is above the one before it, written and read
+pub record IsItemReader {A : Type 0} (number : A → ℕ) (step : Option ℕ → Reader A) (text : A → List ℕ) (In Out : A → Type 0) : Type 0 where
+  pub reads : (before : Option ℕ) (x : A) → In x → is_above before (number x) ≡ true → (rest : Option (List ℕ)) → step before (Some (text x ++ behind rest)) ≡ Ok (x, rest)
+  pub found : (before : Option ℕ) (s : Option (List ℕ)) (x : A) (rest : Option (List ℕ)) → step before s ≡ Ok (x, rest) → IsTaken text (λ (y : A). (is_above before (number y) ≡ true) × Out y) s x rest
+
+-- all is reading by step so many times, each with the number of the one before it
+pub record IsAll {A : Type 0} (number : A → ℕ) (step : Option ℕ → Reader A) (all : Option ℕ → ℕ → Reader (List A)) : Type 0 where
+  pub none : (before : Option ℕ) (rest : Option (List ℕ)) → all before zero rest ≡ Ok ([], rest)
+  pub more : (before : Option ℕ) (n : ℕ) (rest : Option (List ℕ)) → all before (suc n) rest ≡ (step before rest >>= λ x. all (Some (number x.0)) n x.1 >>= λ y. Ok (x.0 ∷ y.0, y.1))
+
+-- each is above the one before it
+abbrev pub Chain : {A : Type 0} → (A → ℕ) → Option ℕ → List A → Type 0
+Chain number before [] = Unit {0}
+Chain number before (x ∷ xs) = (is_above before (number x) ≡ true) × Chain number (Some (number x)) xs
+
+pub all_reads : {A : Type 0} {number : A → ℕ} {step : Option ℕ → Reader A} {all : Option ℕ → ℕ → Reader (List A)} {text : A → List ℕ} {In Out : A → Type 0}
+    → IsAll number step all → IsItemReader number step text In Out → (before : Option ℕ) (xs : List A) → AllByRecursion In xs → Chain number before xs → (rest : Option (List ℕ))
+    → all before (length xs) (on (map text xs) rest) ≡ Ok (xs, rest)
+all_reads is one before [] h c rest = is.none before rest
+all_reads {number = number} {text = text} is one before (x ∷ xs) h c rest =
+    rw (is.more before (length xs) (on (text x ∷ map text xs) rest), one.reads before x h.0 c.0 (on (map text xs) rest), all_reads is one (Some (number x)) xs h.1 c.1 rest) refl
+
+pub record AreFound {A : Type 0} (number : A → ℕ) (text : A → List ℕ) (Out : A → Type 0) (before : Option ℕ) (n : ℕ) (s : Option (List ℕ)) (xs : List A) (rest : Option (List ℕ)) : Type 0 where
+  pub line : s ≡ on (map text xs) rest
+  pub count : length xs ≡ n
+  pub chain : Chain number before xs
+  pub each : AllByRecursion Out xs
+
+pub all_found : {A : Type 0} {number : A → ℕ} {step : Option ℕ → Reader A} {all : Option ℕ → ℕ → Reader (List A)} {text : A → List ℕ} {In Out : A → Type 0}
+    → IsAll number step all → IsItemReader number step text In Out → (n : ℕ) (before : Option ℕ) (s : Option (List ℕ)) (xs : List A) (rest : Option (List ℕ)) → all before n s ≡ Ok (xs, rest)
+    → AreFound number text Out before n s xs rest
+all_found {number = number} {text = text} {Out = Out} is one zero before s xs rest h =
+    found_as (λ ys r. AreFound number text Out before 0 s ys r) [] xs s rest (sym (is.none before s) ∙ h) (record { line = refl; count = refl; chain = tt; each = tt })
+all_found {number = number} {step = step} {all = all} {text = text} {Out = Out} is one (suc n) before s xs rest h =
+    let a = bind_ok (step before s) _ _ (sym (is.more before n s) ∙ h) in
+    let b = bind_ok (all (Some (number a.0.0)) n a.0.1) _ _ a.2 in
+    let first = one.found before s a.0.0 a.0.1 a.1 in
+    let others = all_found is one n (Some (number a.0.0)) a.0.1 b.0.0 b.0.1 b.1 in
+    found_as (λ ys r. AreFound number text Out before (suc n) s ys r) (a.0.0 ∷ b.0.0) xs b.0.1 rest b.2 (record {
+      line = joins s a.0.1 (on (map text b.0.0) b.0.1) (text a.0.0) first.line others.line;
+      count = ap (λ (k : ℕ). suc k) others.count;
+      chain = (first.inside.0, others.chain);
+      each = (first.inside.1, others.each);
+    })
+
+-- ---- numbers that rise
+
+less : (a b : ℕ) → nat_lt a b ≡ true → nat_cmp a b ≡ Less
+less a b h = sym (nat_cmp_is a b Less (ltb-true a b h))
+
+below_by : (v : Bool) (a b : ℕ) → nat_lt a b ≡ v → nat_cmp a b ≡ Less → v ≡ true
+below_by true a b e h = refl
+below_by false a b e h =
+    let le : b ≤ a = ltb-false a b e in
+    elim (cases_lt b a) [
+      | inl lt ↦ let g : Greater ≡ nat_cmp a b = nat_cmp_is a b Greater lt in cc
+      | inr back ↦ let same : a ≡ b = omega arith in let g : Equal ≡ nat_cmp a b = nat_cmp_is a b Equal same in cc
+    ]
+
+below_first : {A : Type 0} (number : A → ℕ) (k : ℕ) (xs : List A) → Chain number (Some k) xs → IsBelowFirst (by_number number) k xs
+below_first number k [] h = tt
+below_first number k (x ∷ xs) h = less k (number x) h.0
+
+pub chain_rises : {A : Type 0} (number : A → ℕ) (before : Option ℕ) (xs : List A) → Chain number before xs → Rises (by_number number) xs
+chain_rises number before [] h = tt
+chain_rises number before (x ∷ xs) h = (below_first number (number x) xs h.1, chain_rises number (Some (number x)) xs h.1)
+
+rises_above : {A : Type 0} (number : A → ℕ) (x : A) (xs : List A) → Rises (by_number number) (x ∷ xs) → Chain number (Some (number x)) xs
+rises_above number x [] h = tt
+rises_above number x (y ∷ ys) h = (below_by _ (number x) (number y) refl h.0, rises_above number y ys h.1)
+
+pub rises_chain : {A : Type 0} (number : A → ℕ) (xs : List A) → Rises (by_number number) xs → Chain number None xs
+rises_chain number [] h = tt
+rises_chain number (x ∷ xs) h = (refl, rises_above number x xs h)
+
+-- ---- instances that a restarter knows
+
+abbrev pub known_number : Known → ℕ
+known_number k = k.instance
+
+abbrev pub Anything : {X : Type 0} → X → Type 0
+Anything x = Unit {0}
+
+known_on : (before : Option ℕ) (k : Known) → IsKnown k → is_above before k.instance ≡ true → (rest : Option (List ℕ)) → known_at before (on (decimal k.instance ∷ k.name ∷ row_text k.row ∷ []) rest) ≡ Ok (k, rest)
+unfolding known_at
+known_on before k h up rest =
+    rw (takes (above before) k.instance (h.instance, up) (on (k.name ∷ row_text k.row ∷ []) rest), takes name k.name h.name (on (row_text k.row ∷ []) rest), row_is_read k.row h.row rest) refl
+
+known_is_read : (before : Option ℕ) (k : Known) → IsKnown k → is_above before k.instance ≡ true → (rest : Option (List ℕ)) → known_at before (Some (known_text k ++ behind rest)) ≡ Ok (k, rest)
+known_is_read before k h up rest = ap (λ (l : List ℕ). known_at before (Some l)) (spaced_on (decimal k.instance) (k.name ∷ row_text k.row ∷ []) rest) ∙ known_on before k h up rest
+
+abbrev KnownOf : Option ℕ → Option (List ℕ) → Known → Option (List ℕ) → Type 0
+KnownOf before s k rest = IsTaken known_text (λ (y : Known). (is_above before y.instance ≡ true) × Anything y) s k rest
+
+known_was : (before : Option ℕ) (s : Option (List ℕ)) (k : Known) (rest : Option (List ℕ)) → known_at before s ≡ Ok (k, rest) → KnownOf before s k rest
+unfolding known_at
+known_was before s k rest h =
+    let a = bind_ok (taken (read_above before) s) _ _ h in
+    let b = bind_ok (taken read_short a.0.1) _ _ a.2 in
+    let c = bind_ok (row_at b.0.1) _ _ b.2 in
+    let ta = took (above before) s a.0.0 a.0.1 a.1 in
+    let tb = took name a.0.1 b.0.0 b.0.1 b.1 in
+    let lc = row_was b.0.1 c.0.0 c.0.1 c.1 in
+    let line : s ≡ on (decimal a.0.0 ∷ b.0.0 ∷ row_text c.0.0 ∷ []) c.0.1 = joins s a.0.1 _ (decimal a.0.0) ta.line (joins a.0.1 b.0.1 _ b.0.0 tb.line lc) in
+    found_as (λ x r. KnownOf before s x r) (record { instance = a.0.0; name = b.0.0; row = c.0.0 }) k c.0.1 rest c.2 (record {
+      line = as_text s (decimal a.0.0) (b.0.0 ∷ row_text c.0.0 ∷ []) c.0.1 line;
+      inside = (ta.inside.1, tt);
+    })
+
+pub known_items : IsItemReader known_number known_at known_text IsKnown Anything
+known_items = record { reads = known_is_read; found = known_was }
+
+pub known_all : IsAll known_number known_at all_known_at
+unfolding all_known_at
+known_all = record { none = λ before rest. refl; more = λ before n rest. refl }
+
+-- ---- items of a view
+
+abbrev pub item_number : ViewItem → ℕ
+item_number i = i.instance
+
+-- an item whose body, if it has one, is that of a snapshot
+pub record IsWholeItem (i : ViewItem) : Type 0 where
+  pub item : IsItem i
+  pub body : HasBody i
+
+written_in : (body : Option (List ℕ)) → IfSome body AreBytes → IfSome body IsBody → OptionalIn IsWritten body
+written_in None h k = tt
+written_in (Some bytes) h k = (h, k)
+
+body_of : (body : Option (List ℕ)) → OptionalIn IsWritten body → IfSome body IsBody
+body_of None h = tt
+body_of (Some bytes) h = h.1
+
+item_on : (before : Option ℕ) (i : ViewItem) → IsWholeItem i → is_above before i.instance ≡ true → (rest : Option (List ℕ))
+    → item_at before (on (decimal i.instance ∷ i.name ∷ flag_text i.enabled ∷ flag_text i.readable ∷ row_text i.row ∷ optional_text hex_text i.body ∷ []) rest) ≡ Ok (i, rest)
+unfolding item_at
+item_on before i h up rest =
+    rw (takes (above before) i.instance (h.item.instance, up) (on (i.name ∷ flag_text i.enabled ∷ flag_text i.readable ∷ row_text i.row ∷ optional_text hex_text i.body ∷ []) rest), takes name i.name h.item.name (on (flag_text i.enabled ∷ flag_text i.readable ∷ row_text i.row ∷ optional_text hex_text i.body ∷ []) rest), takes flag i.enabled tt (on (flag_text i.readable ∷ row_text i.row ∷ optional_text hex_text i.body ∷ []) rest), takes flag i.readable tt (on (row_text i.row ∷ optional_text hex_text i.body ∷ []) rest), row_is_read i.row h.item.row (on (optional_text hex_text i.body ∷ []) rest), takes optional_body i.body (written_in i.body h.item.body h.body) rest) refl
+
+item_is_read : (before : Option ℕ) (i : ViewItem) → IsWholeItem i → is_above before i.instance ≡ true → (rest : Option (List ℕ)) → item_at before (Some (item_text i ++ behind rest)) ≡ Ok (i, rest)
+item_is_read before i h up rest =
+    ap (λ (l : List ℕ). item_at before (Some l)) (spaced_on (decimal i.instance) (i.name ∷ flag_text i.enabled ∷ flag_text i.readable ∷ row_text i.row ∷ optional_text hex_text i.body ∷ []) rest) ∙ item_on before i h up rest
+
+abbrev ItemOf : Option ℕ → Option (List ℕ) → ViewItem → Option (List ℕ) → Type 0
+ItemOf before s i rest = IsTaken item_text (λ (y : ViewItem). (is_above before y.instance ≡ true) × HasBody y) s i rest
+
+item_was : (before : Option ℕ) (s : Option (List ℕ)) (i : ViewItem) (rest : Option (List ℕ)) → item_at before s ≡ Ok (i, rest) → ItemOf before s i rest
+unfolding item_at
+item_was before s i rest h =
+    let a = bind_ok (taken (read_above before) s) _ _ h in
+    let b = bind_ok (taken read_short a.0.1) _ _ a.2 in
+    let c = bind_ok (taken read_flag b.0.1) _ _ b.2 in
+    let d = bind_ok (taken read_flag c.0.1) _ _ c.2 in
+    let e = bind_ok (row_at d.0.1) _ _ d.2 in
+    let f = bind_ok (taken (read_optional read_body) e.0.1) _ _ e.2 in
+    let ta = took (above before) s a.0.0 a.0.1 a.1 in
+    let tb = took name a.0.1 b.0.0 b.0.1 b.1 in
+    let tc = took flag b.0.1 c.0.0 c.0.1 c.1 in
+    let td = took flag c.0.1 d.0.0 d.0.1 d.1 in
+    let le = row_was d.0.1 e.0.0 e.0.1 e.1 in
+    let tf = took optional_body e.0.1 f.0.0 f.0.1 f.1 in
+    let parts : List (List ℕ) = b.0.0 ∷ flag_text c.0.0 ∷ flag_text d.0.0 ∷ row_text e.0.0 ∷ optional_text hex_text f.0.0 ∷ [] in
+    let line : s ≡ on (decimal a.0.0 ∷ parts) f.0.1 = joins s a.0.1 _ (decimal a.0.0) ta.line (joins a.0.1 b.0.1 _ b.0.0 tb.line (joins b.0.1 c.0.1 _ (flag_text c.0.0) tc.line (joins c.0.1 d.0.1 _ (flag_text d.0.0) td.line (joins d.0.1 e.0.1 _ (row_text e.0.0) le tf.line)))) in
+    found_as (λ x r. ItemOf before s x r) (record { instance = a.0.0; name = b.0.0; enabled = c.0.0; readable = d.0.0; row = e.0.0; body = f.0.0 }) i f.0.1 rest f.2 (record {
+      line = as_text s (decimal a.0.0) parts f.0.1 line;
+      inside = (ta.inside.1, body_of f.0.0 tf.inside);
+    })
+
+pub view_items : IsItemReader item_number item_at item_text IsWholeItem HasBody
+view_items = record { reads = item_is_read; found = item_was }
+
+pub view_all : IsAll item_number item_at items_at
+unfolding items_at
+view_all = record { none = λ before rest. refl; more = λ before n rest. refl }

@@ -1,0 +1,289 @@
+-- How a line is read: each field in turn, what is left behind it, or how much is left where one is wrong.
+use Rattle.std.specs.Prelude.{◌≡◌, ℕ, zero, suc, ◌-◌, List, [], ◌∷◌, length, nat_eq, nat_le, nat_lt, slice_get, codes, if◌then◌else◌, Bool, true, false, Option, Some, None, option_map, Result, Ok, Err}
+use Rattle.std.specs.Cmp.Lexicographic.{pointwise}
+use Rattle.smf_fmri.specs.Counts.{read_count}
+use Rattle.smf_fmri.specs.Matching.{read_short}
+use Rattle.smf_method.specs.Commands.{command_of}
+use Rattle.smf_method.specs.Timeouts.{timeout_of}
+use Rattle.smf_method.specs.declared.call.MethodCall.{MethodCall}
+use Rattle.smf_model.specs.declared.command.Why.{Why}
+use Rattle.smf_model.specs.declared.held.View.{View}
+use Rattle.smf_state.specs.Fields.{◌>>=◌, read_flag, read_ignore, read_optional, taken}
+use Rattle.smf_state.specs.declared.fault.FieldFault.{FieldFault}
+use Rattle.smf_state.specs.declared.fault.FieldFault.TheVariants as fields
+use Rattle.smf_state.specs.declared.fault.WrongField.{WrongField}
+use Rattle.smf_state.specs.States.{read_cause, read_duration, read_state}
+use Rattle.smf_state.specs.Texts.{row_at, step_at}
+use Rattle.smf_state.specs.declared.row.Row.{Row}
+use Rattle.smf_state.specs.declared.step.Proposal.{Proposal}
+use Rattle.smf_state.specs.declared.view.ViewItem.{ViewItem}
+use Rattle.smf_wire.specs.Digits.{read_hex}
+use Rattle.smf_wire.specs.Lines.{has_row, is_body}
+use Rattle.smf_wire.specs.Words.{read_message_word, read_order_word, read_why}
+use Rattle.smf_wire.specs.declared.fault.WireFault.{WireFault}
+use Rattle.smf_wire.specs.declared.fault.WireFault.TheVariants.{Memory, NotInGrammar}
+use Rattle.smf_wire.specs.declared.message.Known.{Known}
+use Rattle.smf_wire.specs.declared.message.Message.{Message}
+use Rattle.smf_wire.specs.declared.message.Message.TheVariants.{Join, Rows, Propose, Ack, Nack, AskView, View as Seen, Order as Ordered}
+use Rattle.smf_wire.specs.declared.order.Order.{Order}
+use Rattle.smf_wire.specs.declared.order.What.{What}
+use Rattle.smf_wire.specs.declared.order.What.TheVariants.{To, Start, Stop, Refresh}
+use Rattle.smf_wire.specs.declared.word.MessageWord.{MessageWord}
+use Rattle.smf_wire.specs.declared.word.MessageWord.TheVariants as words
+use Rattle.smf_wire.specs.declared.word.OrderWord.{OrderWord}
+use Rattle.smf_wire.specs.declared.word.OrderWord.TheVariants as order_words
+
+-- a field that was read, and what is left behind it
+abbrev pub Field : Type 0 → Type 0
+Field A = Result (A × Option (List ℕ)) ℕ
+
+-- ---- kinds of fields
+
+-- numbers that rise: the one before, if there is one, is less
+abbrev pub is_above : Option ℕ → ℕ → Bool
+is_above None number = true
+is_above (Some before) number = nat_lt before number
+
+abbrev pub number_if : (ℕ → Bool) → Option ℕ → Option ℕ
+number_if test None = None
+number_if test (Some number) = if test number then Some number else None
+
+abbrev pub read_above : Option ℕ → List ℕ → Option ℕ
+read_above before text = number_if (is_above before) (read_count text)
+
+-- the revision of a view is below 2^63, as every revision
+abbrev pub is_revision : ℕ → Bool
+is_revision number = nat_le number 0x7fff_ffff_ffff_ffff
+
+abbrev pub read_revision : List ℕ → Option ℕ
+read_revision text = number_if is_revision (read_count text)
+
+-- the seconds of a timeout are below 2^64 - 1
+abbrev pub are_seconds : ℕ → Bool
+are_seconds number = nat_lt number 0xffff_ffff_ffff_ffff
+
+abbrev pub read_seconds : List ℕ → Option ℕ
+read_seconds text = number_if are_seconds (read_count text)
+
+abbrev pub command_in : Option (List ℕ) → Option (List ℕ)
+command_in None = None
+command_in (Some bytes) = command_of bytes
+
+abbrev pub read_command : List ℕ → Option (List ℕ)
+read_command text = command_in (read_hex text)
+
+abbrev pub body_in : Option (List ℕ) → Option (List ℕ)
+body_in None = None
+body_in (Some bytes) = if is_body bytes then Some bytes else None
+
+abbrev pub read_body : List ℕ → Option (List ℕ)
+read_body text = body_in (read_hex text)
+
+-- ---- methods, and what an order says
+
+abbrev pub method_of : ℕ → List ℕ → MethodCall
+method_of seconds command = record { timeout = timeout_of seconds; command = command }
+
+unfoldable pub method_at : Option (List ℕ) → Field MethodCall
+method_at rest = do
+  seconds ← taken read_seconds rest
+  command ← taken read_command seconds.1
+  Ok (method_of seconds.0 command.0, command.1)
+
+-- behind the seconds, or behind "-"
+abbrev pub method_behind : Option ℕ → Option (List ℕ) → Field (Option MethodCall)
+method_behind None rest = Ok (None, rest)
+method_behind (Some seconds) rest = do
+  command ← taken read_command rest
+  Ok (Some (method_of seconds command.0), command.1)
+
+unfoldable pub optional_method_at : Option (List ℕ) → Field (Option MethodCall)
+optional_method_at rest = do
+  seconds ← taken (read_optional read_seconds) rest
+  method_behind seconds.0 seconds.1
+
+unfoldable pub what_behind : OrderWord → Option (List ℕ) → Field What
+what_behind order_words.To rest = do
+  state ← taken read_state rest
+  Ok (To state.0, state.1)
+what_behind order_words.Start rest = do
+  method ← method_at rest
+  duration ← taken read_duration method.1
+  ignore ← taken read_ignore duration.1
+  Ok (Start method.0 duration.0 ignore.0, ignore.1)
+what_behind order_words.Stop rest = do
+  to ← taken read_state rest
+  cause ← taken read_cause to.1
+  method ← optional_method_at cause.1
+  Ok (Stop to.0 cause.0 method.0, method.1)
+what_behind order_words.Refresh rest = do
+  method ← optional_method_at rest
+  Ok (Refresh method.0, method.1)
+
+unfoldable pub what_at : Option (List ℕ) → Field What
+what_at rest = do
+  word ← taken read_order_word rest
+  what_behind word.0 word.1
+
+-- ---- items in number order
+
+unfoldable pub known_at : Option ℕ → Option (List ℕ) → Field Known
+known_at before rest = do
+  instance ← taken (read_above before) rest
+  name ← taken read_short instance.1
+  row ← row_at name.1
+  Ok (record { instance = instance.0; name = name.0; row = row.0 }, row.1)
+
+abbrev pub last_known : List Known → Option ℕ
+last_known rows = option_map (λ k. k.instance) (slice_get rows (length rows - 1))
+
+-- so many, each with the number of the one before it
+unfoldable pub all_known_at : Option ℕ → ℕ → Option (List ℕ) → Field (List Known)
+all_known_at before zero rest = Ok ([], rest)
+all_known_at before (suc n) rest = do
+  first ← known_at before rest
+  others ← all_known_at (Some first.0.instance) n first.1
+  Ok (first.0 ∷ others.0, others.1)
+
+unfoldable pub item_at : Option ℕ → Option (List ℕ) → Field ViewItem
+item_at before rest = do
+  instance ← taken (read_above before) rest
+  name ← taken read_short instance.1
+  enabled ← taken read_flag name.1
+  readable ← taken read_flag enabled.1
+  row ← row_at readable.1
+  body ← taken (read_optional read_body) row.1
+  Ok (record { instance = instance.0; name = name.0; enabled = enabled.0; readable = readable.0; row = row.0; body = body.0 }, body.1)
+
+abbrev pub last_item : List ViewItem → Option ℕ
+last_item items = option_map (λ i. i.instance) (slice_get items (length items - 1))
+
+unfoldable pub items_at : Option ℕ → ℕ → Option (List ℕ) → Field (List ViewItem)
+items_at before zero rest = Ok ([], rest)
+items_at before (suc n) rest = do
+  first ← item_at before rest
+  others ← items_at (Some first.0.instance) n first.1
+  Ok (first.0 ∷ others.0, others.1)
+
+-- ---- messages
+
+unfoldable pub proposal_at : Option (List ℕ) → Field Proposal
+proposal_at rest = do
+  proposer ← taken read_short rest
+  launch ← taken read_count proposer.1
+  serial ← taken read_count launch.1
+  instance ← taken read_count serial.1
+  number ← taken read_count instance.1
+  step ← step_at number.1
+  Ok (record { proposer = proposer.0; launch = launch.0; serial = serial.0; instance = instance.0; number = number.0; step = step.0 }, step.1)
+
+unfoldable pub order_at : Option (List ℕ) → Field Order
+order_at rest = do
+  restarter ← taken read_short rest
+  instance ← taken read_count restarter.1
+  name ← taken read_short instance.1
+  revision ← taken read_count name.1
+  row ← row_at revision.1
+  what ← what_at row.1
+  Ok (record { restarter = restarter.0; instance = instance.0; name = name.0; revision = revision.0; row = row.0; what = what.0 }, what.1)
+
+abbrev pub row_if : Bool → Option (List ℕ) → Field (Option Row)
+row_if false rest = Ok (None, rest)
+row_if true rest = do
+  row ← row_at rest
+  Ok (Some row.0, row.1)
+
+unfoldable pub view_at : Option (List ℕ) → Field View
+view_at rest = do
+  revision ← taken read_revision rest
+  count ← taken read_count revision.1
+  items ← items_at None count.0 count.1
+  Ok (record { revision = revision.0; items = items.0 }, items.1)
+
+-- the fields behind the word
+unfoldable pub message_behind : MessageWord → Option (List ℕ) → Field Message
+message_behind words.Join rest = do
+  name ← taken read_short rest
+  launch ← taken read_count name.1
+  Ok (Join name.0 launch.0, launch.1)
+message_behind words.Rows rest = do
+  name ← taken read_short rest
+  launch ← taken read_count name.1
+  count ← taken read_count launch.1
+  rows ← all_known_at None count.0 count.1
+  Ok (Rows name.0 launch.0 rows.0, rows.1)
+message_behind words.Propose rest = do
+  proposal ← proposal_at rest
+  Ok (Propose proposal.0, proposal.1)
+message_behind words.Ack rest = do
+  name ← taken read_short rest
+  launch ← taken read_count name.1
+  serial ← taken read_count launch.1
+  instance ← taken read_count serial.1
+  row ← row_at instance.1
+  Ok (Ack name.0 launch.0 serial.0 instance.0 row.0, row.1)
+message_behind words.Nack rest = do
+  name ← taken read_short rest
+  launch ← taken read_count name.1
+  serial ← taken read_count launch.1
+  instance ← taken read_count serial.1
+  why ← taken read_why instance.1
+  row ← row_if (has_row why.0) why.1
+  Ok (Nack name.0 launch.0 serial.0 instance.0 why.0 row.0, row.1)
+message_behind words.AskView rest = Ok (AskView, rest)
+message_behind words.View rest = do
+  view ← view_at rest
+  Ok (Seen view.0, view.1)
+message_behind words.Order rest = do
+  order ← order_at rest
+  Ok (Ordered order.0, order.1)
+
+unfoldable pub message_at : Option (List ℕ) → Field Message
+message_at rest = do
+  word ← taken read_message_word rest
+  message_behind word.0 word.1
+
+abbrev pub read_close : List ℕ → Option (Unit {0})
+read_close text = if pointwise nat_eq text (codes ".") then Some tt else None
+
+abbrev pub nothing_behind : Option (List ℕ) → Result (Unit {0}) ℕ
+nothing_behind None = Ok tt
+nothing_behind (Some rest) = Err (length rest)
+
+-- the field that closes a line, with nothing behind it
+unfoldable pub close_at : Option (List ℕ) → Result (Unit {0}) ℕ
+close_at rest = do
+  close ← taken read_close rest
+  nothing_behind close.1
+
+unfoldable pub whole_message : List ℕ → Result Message ℕ
+whole_message line = do
+  message ← message_at (Some line)
+  close ← close_at message.1
+  Ok message.0
+
+-- where a fault is, from the start
+abbrev pub placed : ℕ → Result Message ℕ → Result Message WireFault
+placed size (Ok m) = Ok m
+placed size (Err left) = Err (NotInGrammar (size - left))
+
+-- the message that a line spells, or where the first wrong field begins
+unfoldable pub read_line : List ℕ → Result Message WireFault
+read_line line = placed (length line) (whole_message line)
+
+-- ---- what a call returned
+
+abbrev pub IsClosed : Result (Unit {0}) WrongField → Result (Unit {0}) ℕ → Type 0
+IsClosed (Ok x) given = given ≡ Ok tt
+IsClosed (Err wrong) given = given ≡ Err wrong.left
+
+-- it is what the definition gives, unless memory ran out
+abbrev pub GivesWhole : Result Message FieldFault → Result Message ℕ → Type 0
+GivesWhole (Ok m) given = given ≡ Ok m
+GivesWhole (Err fields.Memory) given = Unit {0}
+GivesWhole (Err (fields.Left left)) given = given ≡ Err left
+
+abbrev pub GivesMessage : Result Message WireFault → Result Message WireFault → Type 0
+GivesMessage (Ok m) given = given ≡ Ok m
+GivesMessage (Err Memory) given = Unit {0}
+GivesMessage (Err e) given = given ≡ Err e

@@ -1,0 +1,58 @@
+//! Bytes as two lower-case digits each, and none as `-`.
+
+ghost use Rattle.std.specs.Cmp.Lexicographic.{pointwise};
+ghost use Rattle.std.specs.Prelude.{◌≡◌, IfOk, nat_eq, string_bytes};
+ghost use Rattle.std.specs.Result.{result_ok};
+ghost use Rattle.hex.specs.Hex.{decode_of};
+ghost use Rattle.smf_wire.specs.Digits.{hex_text, read_hex};
+ghost use Rattle.smf_wire.specs.Lines.{AreBytes};
+
+use hex::FromHexError;
+use smf_fmri::Bytes;
+use std::alloc::{AllocError, Global};
+
+pub(crate) fn hex_text(alloc: Global, bytes: &[u8]) -> Result<String, AllocError>
+    ensures text { IfOk result (λ text. string_bytes text ≡ hex_text bytes.now) }
+    ensures known { AreBytes bytes.now }
+{
+    if bytes.is_empty() {
+        return String::from_str(alloc, "-");
+    }
+    hex::encode(alloc, bytes)
+}
+
+/// Whether bytes are written so.
+fn is_written_so(alloc: Global, text: &str, bytes: &[u8]) -> Result<bool, AllocError>
+    ensures { IfOk result (λ b. b ≡ pointwise nat_eq (hex_text bytes.now) text.now) }
+{
+    let again = hex_text(alloc, bytes)?;
+    Ok(again.as_str() == text)
+}
+
+/// The bytes that digits are, or none where some are missing or of the wrong form.
+fn decoded(alloc: Global, text: &str) -> Result<Option<Bytes>, AllocError>
+    ensures { IfOk result (λ bytes. bytes ≡ result_ok (decode_of text.now)) }
+{
+    match hex::decode(alloc, text) {
+        Ok(bytes) => Ok(Some(Bytes::from_vec(bytes))),
+        Err(FromHexError::OutOfMemory) => Err(AllocError),
+        Err(_) => Ok(None),
+    }
+}
+
+/// The bytes that a text spells.
+#[tactic(auto, unfolding(crate::specs::Digits::read_hex))]
+pub(crate) fn read_hex(alloc: Global, text: &str) -> Result<Option<Bytes>, AllocError>
+    ensures { IfOk result (λ bytes. bytes ≡ read_hex text.now) }
+{
+    if text == "-" {
+        return Ok(Some(Bytes::new(alloc)));
+    }
+    let Some(bytes) = decoded(alloc, text)? else {
+        return Ok(None);
+    };
+    if !is_written_so(alloc, text, bytes.as_slice())? {
+        return Ok(None);
+    }
+    Ok(Some(bytes))
+}
