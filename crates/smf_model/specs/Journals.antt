@@ -4,11 +4,13 @@ use Rattle.smf_model.specs.declared.change.Change.{Change}
 use Rattle.smf_model.specs.declared.journal.RepoFault.{RepoFault}
 use Rattle.smf_model.specs.declared.journal.RepoFault.TheVariants.{Memory}
 use Rattle.smf_model.specs.Holdings.{Holdings}
+use Rattle.smf_model.specs.Laws.{IsNumbered}
 use Rattle.smf_model.specs.Look.{installed}
 
--- what stood in the journal stands in it with the changes made
+-- what stood in the journal stands in it with the changes made, where numbers are given once in what they make
 abbrev pub IsTold : {J : Type 0} → (J → Holdings → Type 0) → J → J → List Change → Type 0
-IsTold stands old new changes = (h : Holdings) → stands old h → stands new (installed h changes)
+IsTold stands old new changes =
+    (h : Holdings) → IsNumbered (installed h changes) → stands old h → stands new (installed h changes)
 
 -- what stood in the journal stands in it
 abbrev pub IsUntold : {J : Type 0} → (J → Holdings → Type 0) → J → J → Type 0
@@ -20,7 +22,8 @@ LeavesOldOr could old new h = (found : Option Holdings) → could new found → 
 
 -- the same, for what stood in the journal with the changes made
 abbrev pub LeavesOldOrTold : {J : Type 0} → (J → Holdings → Type 0) → (J → Option Holdings → Type 0) → J → J → List Change → Type 0
-LeavesOldOrTold stands could old new changes = (h : Holdings) → stands old h → LeavesOldOr could old new (installed h changes)
+LeavesOldOrTold stands could old new changes =
+    (h : Holdings) → IsNumbered (installed h changes) → stands old h → LeavesOldOr could old new (installed h changes)
 
 -- a crash leaves this value
 abbrev pub LeavesOnly : {J : Type 0} → (J → Option Holdings → Type 0) → J → Holdings → Type 0

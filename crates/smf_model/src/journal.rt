@@ -23,7 +23,7 @@ impl From<AllocError> for RepoFault {
     }
 }
 
-/// What is told the changes of a command before they take effect.
+/// What is told the changes of a command before they take effect. Numbers are given once in what the changes make.
 pub trait Journal {
     /// What it rests on has so far given back what was written. It may fall at any call, and no call says so.
     ghost is_clean: { Self → Type 0 };

@@ -6,5 +6,6 @@ pub mod Partly
 pub mod Giving
 pub mod Looking
 pub mod Doing
+pub mod Selecting
 pub mod Why
 pub mod Heard

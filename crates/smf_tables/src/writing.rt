@@ -68,6 +68,7 @@ pub fn drop_instance<S: Alter>(tx: &mut Transaction<'_, S>, id: i64) -> Result<(
 }
 
 /// What a row of the table of instances holds.
+#[derive(Drop)]
 pub struct InstanceRow<'a> {
     pub id: i64,
     /// The name of its service, which is there.

@@ -1,0 +1,12 @@
+pub mod Members
+pub mod Tables
+pub mod Tests
+pub mod Six
+pub mod Statements
+pub mod Found
+pub mod Makes
+pub mod Shows
+pub mod Splits
+pub mod Commits
+pub mod Journal
+pub mod Begins

@@ -1,0 +1,122 @@
+-- How what is held is shown by the rows of the tables.
+use Rattle.std.specs.Prelude.{◌≡◌, ℕ, ◌<◌, ℤ, pos, List, [], ◌∷◌, ◌++◌, codes, Option, Some, option_map, Ok}
+use Rattle.sqlite.specs.declared.types.Value.{Value}
+use Rattle.sqlite.specs.declared.types.Value.TheVariants.{Null, Int, Text, Blob}
+use Rattle.sqlite.specs.Values.{or_null}
+use Rattle.sqlite.specs.Order.{Row}
+use Rattle.smf_fmri.specs.ByKey.{lookup}
+use Rattle.smf_fmri.specs.Matching.{service_of}
+use Rattle.smf_fmri.specs.Name.{short}
+use Rattle.smf_state.specs.Texts.{read_row, row_text}
+use Rattle.smf_value.specs.Body.{AreGroups, spelled}
+use Rattle.smf_value.specs.Groups.{GroupRecord}
+use Rattle.smf_snap.specs.Body.{spelled_both}
+use Rattle.smf_model.specs.declared.held.Instance.{Instance}
+use Rattle.smf_model.specs.declared.held.InstanceEntry.{InstanceEntry}
+use Rattle.smf_model.specs.declared.held.Launch.{Launch}
+use Rattle.smf_model.specs.declared.held.Service.{Service}
+use Rattle.smf_model.specs.declared.held.Snapshot.{Snapshot}
+use Rattle.smf_model.specs.Holdings.{Holdings}
+use Rattle.smf_model.specs.Look.{by_entry, by_launch, group_in, service, snapshot}
+
+-- ---- the table of counters
+
+pub data Counter : Type 0 where
+  Version : Counter
+  Layout : Counter
+  Revision : Counter
+  NextInstance : Counter
+  NextSnapshot : Counter
+
+abbrev pub counter_text : Counter → List ℕ
+counter_text Version = codes "version"
+counter_text Layout = codes "layout"
+counter_text Revision = codes "revision"
+counter_text NextInstance = codes "next_instance"
+counter_text NextSnapshot = codes "next_snapshot"
+
+-- of a store of the version that is written
+abbrev pub count_of : Holdings → Counter → ℕ
+count_of h Version = 2
+count_of h Layout = 2
+count_of h Revision = h.revision
+count_of h NextInstance = h.next_instance
+count_of h NextSnapshot = h.next_snapshot
+
+pub record Count : Type 0 where
+  pub counter : Counter
+  pub value : ℕ
+
+abbrev pub HasCount : Holdings → Count → Type 0
+HasCount h c = count_of h c.counter ≡ c.value
+
+abbrev pub ShowsCount : Count → Row → Type 0
+ShowsCount c r = (id : ℤ) × (r ≡ Int id ∷ Text (counter_text c.counter) ∷ Int (pos c.value) ∷ [])
+
+-- ---- the table of services
+
+abbrev pub HasService : Holdings → List ℕ → Type 0
+HasService h name = (s : Service) × (service h name ≡ Some s)
+
+abbrev pub ShowsService : List ℕ → Row → Type 0
+ShowsService name r = (id : ℤ) × (r ≡ Int id ∷ Text name ∷ [])
+
+-- ---- the table of instances
+
+-- a name is that of its service, a colon, and what stands behind it
+pub record IsSplit (whole front behind : List ℕ) : Type 0 where
+  pub service : front ≡ short ++ service_of whole
+  pub joined : whole ≡ front ++ 58 ∷ behind
+
+abbrev pub HasInstance : Holdings → Instance → Type 0
+HasInstance h i = (e : InstanceEntry) × (lookup by_entry h.instances i.number ≡ Some e) × (e.instance ≡ i)
+
+abbrev pub optional_value : Option ℕ → Value
+optional_value n = or_null Int (option_map pos n)
+
+pub record ShowsInstance (i : Instance) (r : Row) : Type 0 where
+  pub again : read_row (row_text i.row) ≡ Ok i.row
+  pub service : List ℕ
+  pub name : List ℕ
+  pub split : IsSplit i.name service name
+  pub is : r ≡ Int (pos i.number) ∷ Null ∷ Text service ∷ Text name ∷ Text (row_text i.row)
+      ∷ optional_value i.start ∷ optional_value i.previous ∷ []
+
+-- ---- the table of groups
+
+-- a group under the name of a service, with the number of the instance whose it is, or 0 where it is the service's own
+pub record OwnedGroup : Type 0 where
+  pub service : List ℕ
+  pub number : ℕ
+  pub group : GroupRecord
+
+pub data HasGroup (h : Holdings) (x : OwnedGroup) : Type 0 where
+  of_service : x.number ≡ 0 → (s : Service) → service h x.service ≡ Some s
+      → group_in s.groups x.group.name ≡ Some x.group → HasGroup h x
+  of_instance : 0 < x.number → (e : InstanceEntry) → lookup by_entry h.instances x.number ≡ Some e
+      → x.service ≡ short ++ service_of e.instance.name
+      → group_in e.groups x.group.name ≡ Some x.group → HasGroup h x
+
+pub record ShowsGroup (x : OwnedGroup) (r : Row) : Type 0 where
+  pub formed : AreGroups (x.group ∷ [])
+  pub id : ℤ
+  pub is : r ≡ Int id ∷ Text x.service ∷ Int (pos x.number) ∷ Text x.group.name ∷ Blob (spelled (x.group ∷ [])) ∷ []
+
+-- ---- the table of snapshots
+
+abbrev pub HasSnapshot : Holdings → Snapshot → Type 0
+HasSnapshot h s = snapshot h s.number ≡ Some s
+
+pub record ShowsSnapshot (s : Snapshot) (r : Row) : Type 0 where
+  pub service : AreGroups s.service_groups
+  pub instance : AreGroups s.instance_groups
+  pub is : r ≡ Int (pos s.number) ∷ Null ∷ Int (pos s.instance)
+      ∷ Blob (spelled_both s.service_groups s.instance_groups) ∷ []
+
+-- ---- the table of restarters
+
+abbrev pub HasLaunch : Holdings → Launch → Type 0
+HasLaunch h l = lookup by_launch h.launches l.restarter ≡ Some l
+
+abbrev pub ShowsLaunch : Launch → Row → Type 0
+ShowsLaunch l r = (id : ℤ) × (r ≡ Int id ∷ Text l.restarter ∷ Int (pos l.count) ∷ [])

@@ -1,0 +1,77 @@
+-- What each step of a write does.
+use Rattle.std.specs.Prelude.{◌≡◌, ◌⊎◌, ℕ, ◌<◌, List, length, true, IsTrue}
+use Rattle.sqlite.specs.Order.{Row}
+use Rattle.sqlite.specs.Table.{Table}
+use Rattle.sqlite.specs.Tree.{Trees}
+use Rattle.sqlite.specs.Effect.{Database, IsDatabase}
+use Rattle.sqlite.specs.State.{State, Shows, KeepsCommit}
+use Rattle.sqlite_rules.specs.Lists.{Has}
+use Rattle.smf_value.specs.Groups.{GroupRecord}
+use Rattle.smf_tables.specs.Rows.{IsKeyed, Alters, Gains, Turns}
+use Rattle.smf_tables.specs.Schema.{grp, store_schema}
+use Rattle.smf_model.specs.declared.change.Change.{Change}
+use Rattle.smf_model.specs.Holdings.{Holdings}
+use Rattle.smf_model.specs.Look.{installed, changed}
+use Rattle.smf_store.specs.Shown.{OwnedGroup, ShowsGroup}
+use Rattle.smf_store.specs.Holds.{Holds}
+
+abbrev pub owned_by : List ℕ → ℕ → GroupRecord → OwnedGroup
+owned_by service number group = record { service = service; number = number; group = group }
+
+-- there is a row for each of these groups, and each other row is as it was
+pub record Grows (service : List ℕ) (number : ℕ) (gs : List GroupRecord) (old new : List Row) : Type 0 where
+  pub there : (g : GroupRecord) → Has gs g → (r : Row) × Has new r × ShowsGroup (owned_by service number g) r
+  pub was : (r : Row) → Has new r
+      → ((g : GroupRecord) × Has gs g × ShowsGroup (owned_by service number g) r) ⊎ Has old r
+  pub stays : (r : Row) → Has old r → Has new r
+  pub keyed : IsKeyed new
+
+-- inside a transaction, where the six tables are there
+pub record GrowsAll (service : List ℕ) (number : ℕ) (gs : List GroupRecord) (old new : State) : Type 0 where
+  pub shows : Shows old new new.now old.committed true
+  pub turns : old.now.schema ≡ store_schema → IsDatabase old.now → IsKeyed (old.now.trees grp.tree)
+      → Turns (Grows service number gs) grp old.now new.now
+
+-- where the store is open: for no group nothing is asked of it
+abbrev pub GrowsBy : List ℕ → ℕ → List GroupRecord → State → State → Type 0
+GrowsBy service number gs old new = IsTrue old.is_open → GrowsAll service number gs old new
+
+-- there is one more row, which shows this
+pub record Adds (Shows : Row → Type 0) (old new : List Row) : Type 0 where
+  pub row : Row
+  pub shows : Shows row
+  pub gains : Gains row old new
+
+abbrev pub AddsRow : (Row → Type 0) → Table → State → State → Type 0
+AddsRow Shows table = Alters (Adds Shows) table
+
+-- inside a transaction a value gave way to what a change makes of it
+pub record Makes (change : Change) (old new : State) : Type 0 where
+  pub shows : Shows old new new.now old.committed true
+  pub made : (h : Holdings) → Holds old.now h → Holds new.now (changed h change)
+
+-- inside a transaction all changes but the rest were made
+pub record Reached (rest whole : List Change) (old new : State) : Type 0 where
+  pub inside : IsTrue new.in_transaction
+  pub kept : KeepsCommit old new
+  pub live : length rest < length whole → IsTrue new.is_open
+  pub made : (h : Holdings) → Holds old.now h
+      → (g : Holdings) × Holds new.now g × (installed g rest ≡ installed h whole)
+
+-- the changes are committed
+pub record Wrote (changes : List Change) (old new : State) : Type 0 where
+  pub was_open : IsTrue old.is_open
+  pub is_open : IsTrue new.is_open
+  pub made : (h : Holdings) → Holds old.now h → Holds new.now (installed h changes)
+  pub settled : new.committed ≡ new.now
+
+-- what was committed is there, where the store is still open
+pub record Kept (old new : State) : Type 0 where
+  pub was_open : IsTrue new.is_open → IsTrue old.is_open
+  pub same : IsTrue new.is_open → old.committed ≡ old.now → (new.now ≡ old.now) × (new.committed ≡ new.now)
+
+-- what a write may leave in the file
+abbrev pub MayCommit : List Change → State → Trees → Type 0
+MayCommit changes old trees =
+    IsTrue old.is_open × (db : Database) × ((h : Holdings) → Holds old.now h → Holds db (installed h changes))
+    × (trees ≡ db.trees)

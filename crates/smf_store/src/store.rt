@@ -1,0 +1,92 @@
+ghost use Rattle.std.specs.Prelude.{◌≡◌, IfErr, IfOk, IsTrue};
+ghost use Rattle.sqlite.specs.Held.{state};
+ghost use Rattle.sqlite.specs.State.{HasCleanDisk};
+ghost use Rattle.smf_model.specs.Look.{empty};
+ghost use Rattle.smf_tables.specs.Schema.{no_schema};
+ghost use Rattle.smf_store.specs.Creating.{MayMake};
+ghost use Rattle.smf_store.specs.Ends.{LeavesOr};
+ghost use Rattle.smf_store.specs.Holds.{Could, IsSound, Keeps};
+ghost use Rattle.smf_store.specs.Unique.{stays_settled};
+
+use crate::creating::make_store;
+use crate::fault::repo_fault;
+use crate::writing::write_all;
+use smf_model::{Change, Journal, RepoFault};
+use sqlite::{Alter, Connection};
+use sqlite_schema::schema::Schema;
+use std::alloc::Global;
+
+/// The journal of a repository, in six tables of a database.
+#[derive(Drop)]
+pub struct Store<S: Alter> {
+    alloc: Global,
+    conn: Connection<S>,
+}
+
+impl<S: Alter> Store<S> {
+    /// The journal over a database that is open. What stands in it is what its tables show.
+    pub fn over(alloc: Global, conn: Connection<S>) -> Store<S>
+        ensures { result.conn ≡ conn }
+    {
+        Store { alloc, conn }
+    }
+
+    /// Makes the tables of an empty database, which show that nothing is held: all of them or none. Where it is not
+    /// empty or a statement fails, the database is handed back.
+    pub fn create(
+        alloc: Global,
+        mut conn: Connection<S>,
+    ) -> Result<Store<S>, (RepoFault, Connection<S>)>
+        ensures stands { IfOk result (λ s. IsSound (state S.Store s.conn) → Keeps (state S.Store s.conn) empty) }
+        ensures sound { IfOk result (λ s. HasCleanDisk (state S.Store s.conn) → IsSound (state S.Store s.conn)) }
+        ensures crash { IfOk result (λ s. LeavesOr MayMake S.Store conn s.conn) }
+        ensures crash_err { IfErr result (λ e. LeavesOr MayMake S.Store conn e.1) }
+    {
+        if !is_bare(conn.schema()) {
+            return Err((RepoFault::Database, conn));
+        }
+        match make_store(&mut conn) {
+            Ok(()) => Ok(Store { alloc, conn }),
+            Err(fault) => Err((repo_fault(fault), conn)),
+        }
+    }
+
+    /// The database.
+    pub fn release(self) -> Connection<S>
+        ensures { result ≡ self.conn }
+    {
+        let Store { alloc: _, conn } = self;
+        conn
+    }
+}
+
+/// Whether a database has no tables, indexes and views.
+fn is_bare(schema: &Schema) -> bool
+    ensures { IsTrue result → schema.now ≡ no_schema }
+{
+    if !schema.tables.is_empty() || !schema.indexes.is_empty() {
+        return false;
+    }
+    schema.views.is_empty()
+}
+
+impl<S: Alter> Journal for Store<S> {
+    ghost is_clean = { λ j. HasCleanDisk (state S.Store j.conn) };
+
+    ghost is_sound = { λ j. IsSound (state S.Store j.conn) };
+
+    ghost stands = { λ j h. IsSound (state S.Store j.conn) → Keeps (state S.Store j.conn) h };
+
+    ghost could = { λ j found. Could (state S.Store j.conn) found };
+
+    ghost write_fails = { λ _. Unit {0} };
+
+    fn write(&mut self, changes: &[Change]) -> Result<(), RepoFault> {
+        match write_all(self.alloc, &mut self.conn, changes) {
+            Ok(()) => Ok(()),
+            Err(fault) => Err(repo_fault(fault)),
+        }
+    }
+
+    ghost settled = { λ j h sound stands found may. stays_settled _ h (λ db live left. S.Store.settled j.conn.store db live left) sound stands found may };
+}

@@ -1,0 +1,47 @@
+ghost use Rattle.std.specs.Prelude.{◌≡◌, ◌++◌, IfOk, OnOk};
+ghost use Rattle.std.specs.Str.{IsUtf8};
+ghost use Rattle.smf_svccfg.specs.Tokens.{escaped, escaped_byte, quoted};
+
+use crate::token::is_mark;
+use smf_fmri::Text;
+use std::alloc::{AllocError, Global};
+use std::str;
+
+/// Puts a byte, behind a backslash where it is a quote or a backslash.
+fn put_escaped(all: &mut Vec<u8>, b: u8) -> Result<(), AllocError>
+    ensures { OnOk result (all.new.items ≡ all.old.items ++ escaped_byte b) }
+{
+    if is_mark(b) {
+        all.push(b'\\')?;
+        all.push(b)?;
+        Ok(())
+    } else {
+        all.push(b)?;
+        Ok(())
+    }
+}
+
+/// The bytes of a text with a backslash before each quote and each backslash.
+fn escaped(alloc: Global, bytes: &[u8]) -> Result<Vec<u8>, AllocError>
+    ensures { IfOk result (λ all. all.items ≡ escaped bytes.now) }
+{
+    let mut all = Vec::new(alloc);
+    for b in bytes {
+        put_escaped(&mut all, *b)?;
+    }
+    Ok(all)
+}
+
+/// A text in quotes, as a quoted word of a line stands.
+pub fn quoted(alloc: Global, text: &str) -> Result<Text, AllocError>
+    ensures { IfOk result (λ word. word ≡ quoted text.now) }
+{
+    let bytes = escaped(alloc, text.as_bytes())?;
+    let Ok(inner) = str::from_utf8(bytes.as_slice()) else {
+        unreachable!()
+    };
+    let mut word = String::from_str(alloc, "\"")?;
+    word.push_str(inner)?;
+    word.push_str("\"")?;
+    Ok(Text::from_string(word))
+}
