@@ -3,8 +3,7 @@
 use crate::fault::CallFault;
 use crate::words::copied;
 use smf_fmri::Text;
-use smf_model::PropertyChange;
-use smf_svccfg::{CfgCommand, Line, parse_line, quoted, words};
+use smf_svccfg::{CfgCommand, Line, parse_line, words};
 use smf_value::{Kind, Name};
 use std::alloc::{AllocError, Global};
 
@@ -38,101 +37,34 @@ fn line(alloc: Global, text: &str) -> Result<String, CallFault> {
 fn line_text(alloc: Global, line: &Line) -> Result<String, AllocError> {
     match line {
         Line::Nothing => String::from_str(alloc, "nothing"),
-        Line::Select(word) => word_text(alloc, CfgCommand::Select, word),
-        Line::Delete(word) => word_text(alloc, CfgCommand::Delete, word),
+        Line::Select(word) => child_text(alloc, CfgCommand::Select, word),
         Line::Unselect => String::from_str(alloc, CfgCommand::Unselect.as_str()),
-        Line::List => String::from_str(alloc, CfgCommand::List.as_str()),
-        Line::ListGroups => String::from_str(alloc, CfgCommand::ListGroups.as_str()),
-        Line::ListProperties => String::from_str(alloc, CfgCommand::ListProperties.as_str()),
-        Line::ListSnapshots => String::from_str(alloc, CfgCommand::ListSnapshots.as_str()),
-        Line::Add(word) => word_text(alloc, CfgCommand::Add, word),
-        Line::AddGroup {
-            name,
-            group_type,
-            non_persistent,
-        } => add_group_text(alloc, name, group_type, *non_persistent),
-        Line::DeleteGroup(name) => {
-            let command = CfgCommand::DeleteGroup;
-            format!(in alloc; "{command} {name}")
+        Line::Add(word) => child_text(alloc, CfgCommand::Add, word),
+        Line::AddGroup { name, group_type } => {
+            let command = CfgCommand::AddGroup;
+            format!(in alloc; "{command} {name} {group_type}")
         }
-        Line::Property { group, change } => change_text(alloc, group, change),
-        Line::SelectSnapshot(word) => optional_text(alloc, CfgCommand::SelectSnapshot, word),
-        Line::Revert(word) => optional_text(alloc, CfgCommand::Revert, word),
+        Line::Set {
+            group,
+            property,
+            kind,
+            value,
+        } => set_text(alloc, group, property, *kind, value),
         Line::End => String::from_str(alloc, CfgCommand::End.as_str()),
     }
 }
 
-fn word_text(alloc: Global, command: CfgCommand, word: &Text) -> Result<String, AllocError> {
-    let word = quoted(alloc, word.as_str())?;
+fn child_text(alloc: Global, command: CfgCommand, word: &Text) -> Result<String, AllocError> {
     format!(in alloc; "{command} {word}")
-}
-
-fn optional_text(
-    alloc: Global,
-    command: CfgCommand,
-    word: &Option<Text>,
-) -> Result<String, AllocError> {
-    match word {
-        None => String::from_str(alloc, command.as_str()),
-        Some(word) => word_text(alloc, command, word),
-    }
-}
-
-fn add_group_text(
-    alloc: Global,
-    name: &Name,
-    group_type: &Name,
-    non_persistent: bool,
-) -> Result<String, AllocError> {
-    let command = CfgCommand::AddGroup;
-    let flag = if non_persistent { " P" } else { "" };
-    format!(in alloc; "{command} {name} {group_type}{flag}")
-}
-
-/// The text of a kind, behind a space, if there is one.
-fn kind_text(alloc: Global, kind: Option<Kind>) -> Result<String, AllocError> {
-    match kind {
-        None => Ok(String::new(alloc)),
-        Some(kind) => format!(in alloc; " {kind}"),
-    }
-}
-
-fn change_text(alloc: Global, group: &Name, change: &PropertyChange) -> Result<String, AllocError> {
-    match change {
-        PropertyChange::Set { name, kind, values } => {
-            set_text(alloc, group, name, *kind, values.as_slice())
-        }
-        PropertyChange::AddValue { name, kind, value } => {
-            let command = CfgCommand::AddValue;
-            let kind = kind_text(alloc, *kind)?;
-            let value = quoted(alloc, value.as_str())?;
-            format!(in alloc; "{command} {group}/{name}{kind} {value}")
-        }
-        PropertyChange::DeleteValue { name, value } => {
-            let command = CfgCommand::DeleteValue;
-            let value = quoted(alloc, value.as_str())?;
-            format!(in alloc; "{command} {group}/{name} {value}")
-        }
-        PropertyChange::Delete { name } => {
-            let command = CfgCommand::DeleteProperty;
-            format!(in alloc; "{command} {group}/{name}")
-        }
-    }
 }
 
 fn set_text(
     alloc: Global,
     group: &Name,
     property: &Name,
-    kind: Option<Kind>,
-    values: &[Text],
+    kind: Kind,
+    value: &Text,
 ) -> Result<String, AllocError> {
     let command = CfgCommand::SetProperty;
-    let kind = kind_text(alloc, kind)?;
-    let mut out = format!(in alloc; "{command} {group}/{property}{kind}")?;
-    for value in values {
-        out.push(' ')?;
-        out.push_str(quoted(alloc, value.as_str())?.as_str())?;
-    }
-    Ok(out)
+    format!(in alloc; "{command} {group}/{property} {kind} {value}")
 }

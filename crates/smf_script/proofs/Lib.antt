@@ -6,6 +6,5 @@ pub mod Partly
 pub mod Giving
 pub mod Looking
 pub mod Doing
-pub mod Selecting
 pub mod Why
 pub mod Heard

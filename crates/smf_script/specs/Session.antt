@@ -23,7 +23,6 @@ use Rattle.smf_svccfg.specs.declared.fault.CfgFault.{CfgFault}
 use Rattle.smf_svccfg.specs.declared.selection.Judged.{Judged}
 use Rattle.smf_svccfg.specs.declared.selection.Judged.TheVariants as judgements
 use Rattle.smf_svccfg.specs.declared.selection.Selection.{Selection}
-use Rattle.smf_svccfg.specs.declared.selection.Selection.TheVariants.{Nothing}
 use Rattle.smf_world.specs.Happens.{committed}
 use Rattle.smf_world.specs.Schedule.{Progress, settled}
 use Rattle.smf_world.specs.World.{World}
@@ -140,23 +139,10 @@ with_selection s d = record { session = record { progress = d.progress; selectio
 abbrev pub svccfg_name : List ℕ
 svccfg_name = codes "svccfg: "
 
--- what is selected behind an edit is selected where it is accepted
-abbrev pub selected_behind : Selection → Selection → Bool → Selection
-selected_behind before after true = after
-selected_behind before after false = before
-
-abbrev pub chosen_by : Selection → Selection → Deed → Effect
-chosen_by before after d = with_selection (selected_behind before after d.fine) d
-
-unfoldable pub given_selected : Session → Edit → Selection → Effect
-given_selected s edit after = chosen_by s.selection after (given svccfg_name s.progress edit)
-
 abbrev pub svccfg_by : Session → Result Judged CfgFault → Effect
 svccfg_by s (Ok judgements.Nothing) = with_selection s.selection (done s.progress [])
 svccfg_by s (Ok (judgements.Select found)) = with_selection found (done s.progress [])
-svccfg_by s (Ok (judgements.Edit edit after)) = given_selected s edit after
-svccfg_by s (Ok (judgements.Print text)) = with_selection s.selection (done s.progress text)
-svccfg_by s (Ok judgements.End) = with_selection Nothing (done s.progress [])
+svccfg_by s (Ok (judgements.Edit edit)) = with_selection s.selection (given svccfg_name s.progress edit)
 svccfg_by s (Err fault) = with_selection s.selection (failed s.progress (told_text svccfg_name (Some (fault_text fault))))
 
 unfoldable pub svccfg : Session → List ℕ → Effect

@@ -4,7 +4,7 @@ ghost use Rattle.smf_model.specs.declared.command.Command.TheVariants as command
 ghost use Rattle.smf_model.specs.Setting.{startd as the_startd};
 ghost use Rattle.smf_node.specs.Faults.{IsUndone};
 ghost use Rattle.smf_repo.specs.Refusals.{refusal};
-ghost use Rattle.smf_script.specs.Session.{IsDeed, IsEffect, asked, asked_all, done, effect, effect_of, given, given_selected, listing_of, settle, settled_text, svcadm, svccfg, svcs, told_text};
+ghost use Rattle.smf_script.specs.Session.{IsDeed, IsEffect, asked, asked_all, done, effect, effect_of, given, listing_of, settle, settled_text, svcadm, svccfg, svcs, told_text};
 ghost use Rattle.smf_script.specs.Text.{trail_text};
 ghost use Rattle.smf_world.specs.Reached.{IsLater};
 
@@ -61,27 +61,6 @@ fn give<J: Journal>(
     Ok(fine)
 }
 
-/// Gives an edit of svccfg. What is selected behind it is selected where it is accepted.
-fn give_selected<J: Journal>(
-    alloc: Global,
-    node: &mut Node<J>,
-    selection: &mut Selection,
-    edit: Edit,
-    after: Selection,
-    out: &mut String,
-) -> Result<bool, NodeFault>
-    ensures exact { IfOk result (λ fine. IsEffect (given_selected (record { progress = node.old; selection = selection.old }) edit after) node.new selection.new (string_bytes out.old) (string_bytes out.new) fine) }
-    ensures later { IsLater node.old.world node.new.world }
-    ensures fault { IfErr result (λ e. IsUndone J.write_fails node.new.world.now (commands.Launch the_startd) e) }
-{
-    if give(alloc, node, edit, "svccfg: ", out)? {
-        *selection = after;
-        Ok(true)
-    } else {
-        Ok(false)
-    }
-}
-
 #[tactic(auto, unfolding(crate::specs::Session::svccfg))]
 fn svccfg<J: Journal>(
     alloc: Global,
@@ -100,15 +79,7 @@ fn svccfg<J: Journal>(
             *selection = found;
             Ok(true)
         }
-        Ok(Judged::Edit(edit, after)) => give_selected(alloc, node, selection, edit, after, out),
-        Ok(Judged::Print(text)) => {
-            out.push_str(text.as_str())?;
-            Ok(true)
-        }
-        Ok(Judged::End) => {
-            *selection = Selection::Nothing;
-            Ok(true)
-        }
+        Ok(Judged::Edit(edit)) => give(alloc, node, edit, "svccfg: ", out),
         Err(CfgFault::Memory) => Err(NodeFault::Memory),
         Err(fault) => {
             let words = fault_text(alloc, fault)?;

@@ -7,8 +7,14 @@ mod creating;
 mod fault;
 mod fields;
 mod making;
+mod opening;
+mod reading;
 mod rows;
 mod store;
 mod writing;
 
+pub use opening::{OpenFault, StoreTable, open};
 pub use store::Store;
+
+#[cfg(test)]
+mod trial;

@@ -1,10 +1,5 @@
 pub mod Blanks
 pub mod Parts
-pub mod Above
-pub mod Reading
-pub mod Closing
-pub mod Escapes
-pub mod Spelled
 pub mod Written
-pub mod Fitting
-pub mod Children
+pub mod Coming
+pub mod Above

@@ -1,13 +1,12 @@
 -- A line that is written is read again.
-use Rattle.std.proofs.Common.{◌≡◌, ℕ, ◌+◌, List, [], ◌∷◌, ◌++◌, length, length-append, take, drop, Bool, true, false, nat_lt, lt-ltb, Option, Some, None, Result, Ok, refl, ◌∙◌, ap, subst, arith, codes}
+use Rattle.std.proofs.Common.{◌≡◌, ℕ, ◌+◌, List, [], ◌∷◌, ◌++◌, length, length-append, take, drop, Bool, true, false, ◌||◌, nat_lt, lt-ltb, Some, Result, Ok, refl, ◌∙◌, ap, subst, arith, codes}
 use Rattle.std.proofs.Math.Seq.{drop-append-add, take-append_seam}
 use Rattle.std.proofs.lemmas.Bool.Decides.{nat_tests}
+use Rattle.std.proofs.lemmas.List.Folds.{list_any-append}
 use Rattle.std.specs.Char.{is_ascii_alphanumeric}
 use Rattle.std.specs.List.{AllByRecursion, list_any, position_or_len}
 use Rattle.smf_fmri.specs.Name.{is_word_byte}
 use Rattle.smf_fmri.specs.Spelling.{AllWord, IsComponent}
-use Rattle.smf_model.specs.declared.command.PropertyChange.{PropertyChange}
-use Rattle.smf_model.specs.declared.command.PropertyChange.TheVariants as properties
 use Rattle.smf_value.specs.declared.kind.Kind.{Kind}
 use Rattle.smf_value.specs.declared.kind.Kind.TheVariants.{Boolean, Count, Integer, Time, Astring, Ustring, Fmri}
 use Rattle.smf_value.specs.Kinds.{kind_text}
@@ -16,37 +15,108 @@ use Rattle.smf_value.proofs.Names.{name_reads}
 use Rattle.smf_svccfg.specs.declared.fault.LineFault.{LineFault}
 use Rattle.smf_svccfg.specs.declared.line.Line.{Line}
 use Rattle.smf_svccfg.specs.declared.line.Line.TheVariants as lines
-use Rattle.smf_svccfg.specs.declared.token.Token.{Token}
-use Rattle.smf_svccfg.specs.declared.token.Token.TheVariants as tokens
-use Rattle.smf_svccfg.specs.Lines.{IsChange, IsWritable, change_tokens, flag_tokens, is_comment, is_slash, kind_and_values, kind_tokens, line_in, line_of, line_text, name_in, parts_at_slash, quoted_all, target_in, tokens_for, word_tokens, words_before_close}
-use Rattle.smf_svccfg.specs.Tokens.{AreTokens, Gives, IsBare, is_special, tokens_of, written}
-use Rattle.smf_svccfg.specs.Words.{is_word}
-use Rattle.smf_svccfg.proofs.Spelled.{tokens_again}
+use Rattle.smf_svccfg.specs.Lines.{Gives, IsBare, IsWritable, is_comment, is_quoting, is_slash, kind_in, line_by, line_of, name_in, parts_at_slash, target_in, words_for, written}
+use Rattle.smf_svccfg.specs.Words.{AreWords, is_blank, is_word, spaced, spaced_behind, words}
+use Rattle.smf_svccfg.proofs.Parts.{words_again}
 
--- ---- names have no slash
+-- ---- bare words
+
+or_parts : (a b : Bool) → (a || b) ≡ false → (a ≡ false) × (b ≡ false)
+or_parts true b h = absurd cc
+or_parts false b h = (refl, h)
+
+no_blanks : (word : List ℕ) → list_any is_blank word ≡ false → AllByRecursion (λ b. is_blank b ≡ false) word
+no_blanks [] h = tt
+no_blanks (b ∷ bs) h = let p = or_parts (is_blank b) (list_any is_blank bs) h in (p.0, no_blanks bs p.1)
+
+bare : (word : List ℕ) → is_word word ≡ true → list_any is_blank word ≡ false → list_any is_quoting word ≡ false → IsBare word
+bare word some blank quoting = record { one = record { some = some; bare = no_blanks word blank }; plain = quoting }
+
+are_words : (ws : List (List ℕ)) → AllByRecursion IsBare ws → AreWords ws
+are_words [] h = tt
+are_words (w ∷ ws) h = (h.0.one, are_words ws h.1)
+
+plain_behind : (word : List ℕ) (ws : List (List ℕ)) → IsBare word → AllByRecursion IsBare ws → list_any is_quoting (spaced_behind word ws) ≡ false
+plain_behind word [] h k = h.plain
+plain_behind word (w ∷ ws) h k = rw (list_any-append is_quoting word (32 ∷ spaced_behind w ws), h.plain) (plain_behind w ws k.0 k.1)
+
+plain_spaced : (ws : List (List ℕ)) → AllByRecursion IsBare ws → list_any is_quoting (spaced ws) ≡ false
+plain_spaced [] h = refl
+plain_spaced (w ∷ ws) h = plain_behind w ws h.0 h.1
+
+-- ---- names are bare words without a slash
 
 record IsFree (b : ℕ) : Type 0 where
+  blank : is_blank b ≡ false
+  quoting : is_quoting b ≡ false
   slash : is_slash b ≡ false
+
+letter_blank : (b : ℕ) → is_ascii_alphanumeric b ≡ true → is_blank b ≡ false
+letter_blank b h = grind (arith, nat_tests)
+
+letter_quoting : (b : ℕ) → is_ascii_alphanumeric b ≡ true → is_quoting b ≡ false
+letter_quoting b h = grind (arith, nat_tests)
 
 letter_slash : (b : ℕ) → is_ascii_alphanumeric b ≡ true → is_slash b ≡ false
 letter_slash b h = grind (arith, nat_tests)
+
+word_blank : (b : ℕ) → is_word_byte b ≡ true → is_blank b ≡ false
+word_blank b h = grind (arith, nat_tests)
+
+word_quoting : (b : ℕ) → is_word_byte b ≡ true → is_quoting b ≡ false
+word_quoting b h = grind (arith, nat_tests)
 
 word_slash : (b : ℕ) → is_word_byte b ≡ true → is_slash b ≡ false
 word_slash b h = grind (arith, nat_tests)
 
 words_free : (bs : List ℕ) → AllWord bs → AllByRecursion IsFree bs
 words_free [] h = tt
-words_free (b ∷ bs) h = (record { slash = word_slash b h.0 }, words_free bs h.1)
+words_free (b ∷ bs) h = (record { blank = word_blank b h.0; quoting = word_quoting b h.0; slash = word_slash b h.0 }, words_free bs h.1)
 
 component_free : (name : List ℕ) → IsComponent name → AllByRecursion IsFree name
 component_free [] h = absurd h
-component_free (b ∷ bs) h = (record { slash = letter_slash b h.0 }, words_free bs h.1)
+component_free (b ∷ bs) h = (record { blank = letter_blank b h.0; quoting = letter_quoting b h.0; slash = letter_slash b h.0 }, words_free bs h.1)
+
+free_blank : (bs : List ℕ) → AllByRecursion IsFree bs → AllByRecursion (λ b. is_blank b ≡ false) bs
+free_blank [] h = tt
+free_blank (b ∷ bs) h = (h.0.blank, free_blank bs h.1)
+
+free_plain : (bs : List ℕ) → AllByRecursion IsFree bs → list_any is_quoting bs ≡ false
+free_plain [] h = refl
+free_plain (b ∷ bs) h = rw h.0.quoting (free_plain bs h.1)
+
+component_some : (name : List ℕ) → IsComponent name → is_word name ≡ true
+component_some [] h = absurd h
+component_some (b ∷ bs) h = refl
+
+name_bare : (name : List ℕ) → IsNameText name → IsBare name
+name_bare name h =
+    let free = component_free name h.component in
+    record { one = record { some = component_some name h.component; bare = free_blank name free }; plain = free_plain name free }
 
 name_again : (name : List ℕ) → IsNameText name → name_in name ≡ Some name
 unfolding read_name
 name_again name h = rw (name_reads name h) refl
 
 -- ---- a group and a property
+
+slashed_blank : (group property : List ℕ) → AllByRecursion IsFree group → AllByRecursion IsFree property → AllByRecursion (λ b. is_blank b ≡ false) (group ++ 47 ∷ property)
+slashed_blank [] property h k = (refl, free_blank property k)
+slashed_blank (b ∷ bs) property h k = (h.0.blank, slashed_blank bs property h.1 k)
+
+slashed_plain : (group property : List ℕ) → AllByRecursion IsFree group → AllByRecursion IsFree property → list_any is_quoting (group ++ 47 ∷ property) ≡ false
+slashed_plain [] property h k = free_plain property k
+slashed_plain (b ∷ bs) property h k = rw h.0.quoting (slashed_plain bs property h.1 k)
+
+slashed_some : (group property : List ℕ) → is_word (group ++ 47 ∷ property) ≡ true
+slashed_some [] property = refl
+slashed_some (b ∷ bs) property = refl
+
+slashed_bare : (group property : List ℕ) → IsNameText group → IsNameText property → IsBare (group ++ 47 ∷ property)
+slashed_bare group property h k =
+    let g = component_free group h.component in
+    let p = component_free property k.component in
+    record { one = record { some = slashed_some group property; bare = slashed_blank group property g p }; plain = slashed_plain group property g p }
 
 slash_at : (group property : List ℕ) → AllByRecursion IsFree group → position_or_len is_slash (group ++ 47 ∷ property) ≡ length group
 slash_at [] property h = refl
@@ -70,143 +140,64 @@ target_again : (group property : List ℕ) → IsNameText group → IsNameText p
 target_again group property h k =
     target_by (group ++ 47 ∷ property) group property (parts_again group property (component_free group h.component)) (name_again group h) (name_again property k)
 
--- ---- kinds and values
-
-bare : (word : List ℕ) → is_word word ≡ true → list_any is_special word ≡ false → IsBare word
-bare word some plain = record { some = some; plain = plain }
+-- ---- kinds
 
 kind_bare : (kind : Kind) → IsBare (kind_text kind ++ 58 ∷ [])
-kind_bare Boolean = bare (codes "boolean:") refl refl
-kind_bare Count = bare (codes "count:") refl refl
-kind_bare Integer = bare (codes "integer:") refl refl
-kind_bare Time = bare (codes "time:") refl refl
-kind_bare Astring = bare (codes "astring:") refl refl
-kind_bare Ustring = bare (codes "ustring:") refl refl
-kind_bare Fmri = bare (codes "fmri:") refl refl
+kind_bare Boolean = bare (codes "boolean:") refl refl refl
+kind_bare Count = bare (codes "count:") refl refl refl
+kind_bare Integer = bare (codes "integer:") refl refl refl
+kind_bare Time = bare (codes "time:") refl refl refl
+kind_bare Astring = bare (codes "astring:") refl refl refl
+kind_bare Ustring = bare (codes "ustring:") refl refl refl
+kind_bare Fmri = bare (codes "fmri:") refl refl refl
 
-kind_read : (kind : Kind) (t : Token) (ts : List Token) → kind_and_values (tokens.Bare (kind_text kind ++ 58 ∷ []) ∷ t ∷ ts) ≡ Some (Some kind, t ∷ ts)
-kind_read Boolean t ts = refl
-kind_read Count t ts = refl
-kind_read Integer t ts = refl
-kind_read Time t ts = refl
-kind_read Astring t ts = refl
-kind_read Ustring t ts = refl
-kind_read Fmri t ts = refl
-
-kind_behind : (kind : Option Kind) (ts rest : List Token) → AreTokens ts → AreTokens rest → AreTokens (kind_tokens kind ++ rest)
-kind_behind None ts rest h k = k
-kind_behind (Some kind) ts rest h k = (kind_bare kind, k)
-
-listed_tokens : (values : List (List ℕ)) (rest : List Token) → AreTokens rest → AreTokens (quoted_all values ++ rest)
-listed_tokens [] rest h = h
-listed_tokens (value ∷ values) rest h = (tt, listed_tokens values rest h)
-
-listed_again : (values : List (List ℕ)) → words_before_close (quoted_all values ++ tokens.Close ∷ []) ≡ Some values
-listed_again [] = refl
-listed_again (value ∷ values) = rw (listed_again values) refl
+kind_again : (kind : Kind) → kind_in (kind_text kind ++ 58 ∷ []) ≡ Some kind
+kind_again Boolean = refl
+kind_again Count = refl
+kind_again Integer = refl
+kind_again Time = refl
+kind_again Astring = refl
+kind_again Ustring = refl
+kind_again Fmri = refl
 
 -- ---- lines
 
-change_are : (group : List ℕ) (change : PropertyChange) → AreTokens (change_tokens group change)
-change_are group (properties.Set name kind values) =
-    (bare (codes "setprop") refl refl, (tt, (bare (codes "=") refl refl, kind_behind kind [] (tokens.Open ∷ (quoted_all values ++ tokens.Close ∷ [])) tt (tt, listed_tokens values (tokens.Close ∷ []) (tt, tt)))))
-change_are group (properties.AddValue name kind value) = (bare (codes "addpropvalue") refl refl, (tt, kind_behind kind [] (tokens.Quoted value ∷ []) tt (tt, tt)))
-change_are group (properties.DeleteValue name value) = (bare (codes "delpropvalue") refl refl, (tt, (tt, tt)))
-change_are group (properties.Delete name) = (bare (codes "delprop") refl refl, (tt, tt))
+all_bare : (l : Line) → IsWritable l → AllByRecursion IsBare (words_for l)
+all_bare lines.Nothing h = tt
+all_bare (lines.Select word) h = (bare (codes "select") refl refl refl, (h, tt))
+all_bare lines.Unselect h = (bare (codes "unselect") refl refl refl, tt)
+all_bare (lines.Add word) h = (bare (codes "add") refl refl refl, (h, tt))
+all_bare (lines.AddGroup name group_type) h = (bare (codes "addpg") refl refl refl, (name_bare name h.0, (name_bare group_type h.1, tt)))
+all_bare (lines.Set group property kind value) h =
+    (bare (codes "setprop") refl refl refl, (slashed_bare group property h.0 h.1, (bare (codes "=") refl refl refl, (kind_bare kind, (h.2, tt)))))
+all_bare lines.End h = (bare (codes "end") refl refl refl, tt)
 
-flag_are : (p : Bool) → AreTokens (flag_tokens p)
-flag_are true = (bare (codes "P") refl refl, tt)
-flag_are false = tt
-
-word_are : (word : Option (List ℕ)) → AreTokens (word_tokens word)
-word_are None = tt
-word_are (Some word) = (tt, tt)
-
-all_are : (l : Line) → AreTokens (tokens_for l)
-all_are lines.Nothing = tt
-all_are (lines.Select word) = (bare (codes "select") refl refl, (tt, tt))
-all_are (lines.Delete word) = (bare (codes "delete") refl refl, (tt, tt))
-all_are lines.Unselect = (bare (codes "unselect") refl refl, tt)
-all_are lines.List = (bare (codes "list") refl refl, tt)
-all_are lines.ListGroups = (bare (codes "listpg") refl refl, tt)
-all_are lines.ListProperties = (bare (codes "listprop") refl refl, tt)
-all_are lines.ListSnapshots = (bare (codes "listsnap") refl refl, tt)
-all_are (lines.Add word) = (bare (codes "add") refl refl, (tt, tt))
-all_are (lines.AddGroup name group_type p) = (bare (codes "addpg") refl refl, (tt, (tt, flag_are p)))
-all_are (lines.DeleteGroup name) = (bare (codes "delpg") refl refl, (tt, tt))
-all_are (lines.Property group change) = change_are group change
-all_are (lines.SelectSnapshot word) = (bare (codes "selectsnap") refl refl, word_are word)
-all_are (lines.Revert word) = (bare (codes "revert") refl refl, word_are word)
-all_are lines.End = (bare (codes "end") refl refl, tt)
-
-no_comment_change : (group : List ℕ) (change : PropertyChange) → is_comment (written (change_tokens group change)) ≡ false
-unfolding written
-no_comment_change group (properties.Set name kind values) = refl
-no_comment_change group (properties.AddValue name kind value) = refl
-no_comment_change group (properties.DeleteValue name value) = refl
-no_comment_change group (properties.Delete name) = refl
-
-no_comment : (l : Line) → is_comment (line_text l) ≡ false
-unfolding written
+no_comment : (l : Line) → is_comment (written l) ≡ false
 no_comment lines.Nothing = refl
 no_comment (lines.Select word) = refl
-no_comment (lines.Delete word) = refl
 no_comment lines.Unselect = refl
-no_comment lines.List = refl
-no_comment lines.ListGroups = refl
-no_comment lines.ListProperties = refl
-no_comment lines.ListSnapshots = refl
 no_comment (lines.Add word) = refl
-no_comment (lines.AddGroup name group_type p) = refl
-no_comment (lines.DeleteGroup name) = refl
-no_comment (lines.Property group change) = no_comment_change group change
-no_comment (lines.SelectSnapshot word) = refl
-no_comment (lines.Revert word) = refl
+no_comment (lines.AddGroup name group_type) = refl
+no_comment (lines.Set group property kind value) = refl
 no_comment lines.End = refl
 
-change_again : (group : List ℕ) (change : PropertyChange) → IsNameText group → IsChange change → line_in (change_tokens group change) ≡ Ok (lines.Property group change)
-change_again group (properties.Set name None values) h k = rw (target_again group name h k, listed_again values) refl
-change_again group (properties.Set name (Some kind) values) h k = rw (kind_read kind tokens.Open (quoted_all values ++ tokens.Close ∷ []), target_again group name h k, listed_again values) refl
-change_again group (properties.AddValue name None value) h k = rw (target_again group name h k) refl
-change_again group (properties.AddValue name (Some kind) value) h k = rw (kind_read kind (tokens.Quoted value) [], target_again group name h k) refl
-change_again group (properties.DeleteValue name value) h k = rw (target_again group name h k) refl
-change_again group (properties.Delete name) h k = rw (target_again group name h k) refl
+words_give : (l : Line) → IsWritable l → line_by (words_for l) ≡ Ok l
+words_give lines.Nothing h = refl
+words_give (lines.Select word) h = refl
+words_give lines.Unselect h = refl
+words_give (lines.Add word) h = refl
+words_give (lines.AddGroup name group_type) h = rw (name_again name h.0, name_again group_type h.1) refl
+words_give (lines.Set group property kind value) h = rw (target_again group property h.0 h.1, kind_again kind) refl
+words_give lines.End h = refl
 
-group_again : (name group_type : List ℕ) (p : Bool) → IsNameText name → IsNameText group_type → line_in (tokens_for (lines.AddGroup name group_type p)) ≡ Ok (lines.AddGroup name group_type p)
-group_again name group_type true h k = rw (name_again name h, name_again group_type k) refl
-group_again name group_type false h k = rw (name_again name h, name_again group_type k) refl
-
-snapshot_again : (word : Option (List ℕ)) → line_in (tokens_for (lines.SelectSnapshot word)) ≡ Ok (lines.SelectSnapshot word)
-snapshot_again None = refl
-snapshot_again (Some word) = refl
-
-revert_again : (word : Option (List ℕ)) → line_in (tokens_for (lines.Revert word)) ≡ Ok (lines.Revert word)
-revert_again None = refl
-revert_again (Some word) = refl
-
-tokens_give : (l : Line) → IsWritable l → line_in (tokens_for l) ≡ Ok l
-tokens_give lines.Nothing h = refl
-tokens_give (lines.Select word) h = refl
-tokens_give (lines.Delete word) h = refl
-tokens_give lines.Unselect h = refl
-tokens_give lines.List h = refl
-tokens_give lines.ListGroups h = refl
-tokens_give lines.ListProperties h = refl
-tokens_give lines.ListSnapshots h = refl
-tokens_give (lines.Add word) h = rw h refl
-tokens_give (lines.AddGroup name group_type p) h = group_again name group_type p h.0 h.1
-tokens_give (lines.DeleteGroup name) h = rw (name_again name h) refl
-tokens_give (lines.Property group change) h = change_again group change h.0 h.1
-tokens_give (lines.SelectSnapshot word) h = snapshot_again word
-tokens_give (lines.Revert word) h = revert_again word
-tokens_give lines.End h = refl
-
-line_by_parts : (text : List ℕ) (ts : List Token) (l : Result Line LineFault) → is_comment text ≡ false → tokens_of text ≡ Ok ts → line_in ts ≡ l → line_of text ≡ l
+line_by_parts : (text : List ℕ) (ws : List (List ℕ)) (l : Result Line LineFault) → is_comment text ≡ false → list_any is_quoting text ≡ false → words text ≡ ws → line_by ws ≡ l → line_of text ≡ l
 unfolding line_of
-line_by_parts text ts l comment read gives = rw (comment, read) gives
+line_by_parts text ws l comment quoting read gives = rw (comment, quoting, read) gives
 
-line_again : (l : Line) → IsWritable l → line_of (line_text l) ≡ Ok l
-line_again l h = line_by_parts (line_text l) (tokens_for l) (Ok l) (no_comment l) (tokens_again (tokens_for l) (all_are l)) (tokens_give l h)
+line_again : (l : Line) → IsWritable l → line_of (written l) ≡ Ok l
+line_again l h =
+    let all = all_bare l h in
+    line_by_parts (written l) (words_for l) (Ok l) (no_comment l) (plain_spaced (words_for l) all) (words_again (words_for l) (are_words (words_for l) all)) (words_give l h)
 
-pub read_again : (r : Result Line LineFault) (text : List ℕ) → Gives r (line_of text) → (l : Line) → IsWritable l → text ≡ line_text l → Gives r (Ok l)
+pub read_again : (r : Result Line LineFault) (text : List ℕ) → Gives r (line_of text) → (l : Line) → IsWritable l → text ≡ written l → Gives r (Ok l)
 read_again r text given l h e = let P : Result Line LineFault → Type 0 = λ x. Gives r x in subst P (ap line_of e ∙ line_again l h) given

@@ -7,21 +7,10 @@ use std::fmt;
 #[derive(Clone, Copy, Debug, PartialEq, Eq)]
 pub enum CfgCommand {
     Select,
-    Delete,
     Unselect,
-    List,
-    ListGroups,
-    ListProperties,
-    ListSnapshots,
     Add,
     AddGroup,
-    DeleteGroup,
-    DeleteProperty,
     SetProperty,
-    AddValue,
-    DeleteValue,
-    SelectSnapshot,
-    Revert,
     End,
     Exit,
     Quit,
@@ -33,21 +22,10 @@ impl CfgCommand {
     {
         match self {
             CfgCommand::Select => "select",
-            CfgCommand::Delete => "delete",
             CfgCommand::Unselect => "unselect",
-            CfgCommand::List => "list",
-            CfgCommand::ListGroups => "listpg",
-            CfgCommand::ListProperties => "listprop",
-            CfgCommand::ListSnapshots => "listsnap",
             CfgCommand::Add => "add",
             CfgCommand::AddGroup => "addpg",
-            CfgCommand::DeleteGroup => "delpg",
-            CfgCommand::DeleteProperty => "delprop",
             CfgCommand::SetProperty => "setprop",
-            CfgCommand::AddValue => "addpropvalue",
-            CfgCommand::DeleteValue => "delpropvalue",
-            CfgCommand::SelectSnapshot => "selectsnap",
-            CfgCommand::Revert => "revert",
             CfgCommand::End => "end",
             CfgCommand::Exit => "exit",
             CfgCommand::Quit => "quit",
@@ -58,27 +36,24 @@ impl CfgCommand {
     pub fn read(word: &str) -> Option<CfgCommand>
         ensures { result ≡ command_from word.now }
     {
-        match word {
-            "select" => Some(CfgCommand::Select),
-            "delete" => Some(CfgCommand::Delete),
-            "unselect" => Some(CfgCommand::Unselect),
-            "list" => Some(CfgCommand::List),
-            "listpg" => Some(CfgCommand::ListGroups),
-            "listprop" => Some(CfgCommand::ListProperties),
-            "listsnap" => Some(CfgCommand::ListSnapshots),
-            "add" => Some(CfgCommand::Add),
-            "addpg" => Some(CfgCommand::AddGroup),
-            "delpg" => Some(CfgCommand::DeleteGroup),
-            "delprop" => Some(CfgCommand::DeleteProperty),
-            "setprop" => Some(CfgCommand::SetProperty),
-            "addpropvalue" => Some(CfgCommand::AddValue),
-            "delpropvalue" => Some(CfgCommand::DeleteValue),
-            "selectsnap" => Some(CfgCommand::SelectSnapshot),
-            "revert" => Some(CfgCommand::Revert),
-            "end" => Some(CfgCommand::End),
-            "exit" => Some(CfgCommand::Exit),
-            "quit" => Some(CfgCommand::Quit),
-            _ => None,
+        if word == "select" {
+            Some(CfgCommand::Select)
+        } else if word == "unselect" {
+            Some(CfgCommand::Unselect)
+        } else if word == "add" {
+            Some(CfgCommand::Add)
+        } else if word == "addpg" {
+            Some(CfgCommand::AddGroup)
+        } else if word == "setprop" {
+            Some(CfgCommand::SetProperty)
+        } else if word == "end" {
+            Some(CfgCommand::End)
+        } else if word == "exit" {
+            Some(CfgCommand::Exit)
+        } else if word == "quit" {
+            Some(CfgCommand::Quit)
+        } else {
+            None
         }
     }
 }

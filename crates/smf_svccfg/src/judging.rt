@@ -1,28 +1,109 @@
-ghost use Rattle.std.specs.Prelude.{◌≡◌, IfOk, Ok, option_map};
-ghost use Rattle.smf_model.specs.declared.command.Edit.TheVariants as edits;
-ghost use Rattle.smf_svccfg.specs.declared.selection.Judged.TheVariants as judgements;
-ghost use Rattle.smf_svccfg.specs.Lines.{name_in};
-ghost use Rattle.smf_svccfg.specs.Judged.{Fits, Gives, added_instance, after_delete, deleted_by_name, deleting, is_owner, is_snapshot, judged, judged_add, judged_add_group, judged_delete, judged_delete_group, judged_line, judged_property, judged_revert, judged_select, judged_snapshot, judged_unselect, named_by, owner_of, printed, reverting, reverting_to, snapshot_in, snapshot_named};
-ghost use Rattle.smf_svccfg.specs.Listed.{children_text, groups_in, groups_text, properties_text, snapshots_in, snapshots_text};
+ghost use Rattle.std.specs.Prelude.{◌≡◌, [], ◌++◌, ◌∷◌, IfOk};
+ghost use Rattle.smf_fmri.specs.Name.{short};
+ghost use Rattle.smf_model.specs.Look.{instance};
+ghost use Rattle.smf_svccfg.specs.Judged.{Fits, Gives, above_instance, child, entity, judged, judged_add, judged_add_group, judged_select, judged_set, judged_unselect, owner_of, present_instance, present_service, read_service};
 
 use crate::command::CfgCommand;
 use crate::fault::CfgFault;
-use crate::line::{Line, parse_line};
-use crate::listing::{
-    children_text, groups_in, groups_text, properties_text, snapshots_in, snapshots_text,
-};
-use crate::naming::{
-    above, above_instance, instance_in, named_by, owner_of, selection_of, service_of_word,
-};
-use crate::parsing::name_in;
+use crate::line::{Line, name_in, parse_line};
 use crate::selection::{Judged, Selection};
-use smf_fmri::{ServiceFmri, Text};
+use smf_fmri::{Fmri, FmriFault, InstanceFmri, Items, ServiceFmri, Text};
 use smf_model::{Edit, Journal, Owner, Plain, PropertyChange};
-use smf_snap::SnapshotName;
-use smf_value::Name;
+use smf_value::{Kind, Name};
 use std::alloc::{AllocError, Global};
 
-// ---- lines that select
+/// The service that a text names in the short form, or none where it does not.
+fn read_service(alloc: Global, text: &str) -> Result<Option<ServiceFmri>, AllocError>
+    ensures { IfOk result (λ name. name ≡ read_service text.now) }
+{
+    let name = match Fmri::parse(alloc, text) {
+        Ok(name) => name,
+        Err(FmriFault::Memory) => return Err(AllocError),
+        Err(_) => return Ok(None),
+    };
+    if name.print() == text {
+        Ok(ServiceFmri::of(name))
+    } else {
+        Ok(None)
+    }
+}
+
+fn service_of_word(alloc: Global, word: &str) -> Result<Option<ServiceFmri>, AllocError>
+    ensures { IfOk result (λ name. name ≡ read_service (short ++ word.now)) }
+{
+    let mut text = String::from_str(alloc, "svc:/")?;
+    text.push_str(word)?;
+    read_service(alloc, text.as_str())
+}
+
+fn present_service<J: Journal>(
+    repository: &Plain<J>,
+    name: Option<ServiceFmri>,
+) -> Option<Selection>
+    ensures { result ≡ present_service repository.now.held name }
+{
+    let name = name?;
+    if repository.has_service(&name) {
+        Some(Selection::Service(name))
+    } else {
+        None
+    }
+}
+
+fn present_instance<J: Journal>(
+    repository: &Plain<J>,
+    name: Option<InstanceFmri>,
+) -> Option<Selection>
+    ensures { result ≡ present_instance repository.now.held name }
+{
+    let number = repository.number_of(&name?)?;
+    Some(Selection::Instance(number))
+}
+
+/// The child of a name of what is selected.
+fn child<J: Journal>(
+    alloc: Global,
+    repository: &Plain<J>,
+    selection: &Selection,
+    word: &str,
+) -> Result<Option<Selection>, AllocError>
+    ensures { IfOk result (λ found. found ≡ child repository.now.held selection.now word.now) }
+{
+    match selection {
+        Selection::Nothing => {
+            let name = service_of_word(alloc, word)?;
+            Ok(present_service(repository, name))
+        }
+        Selection::Service(service) => {
+            let mut text = String::from_str(alloc, service.print())?;
+            text.push(':')?;
+            text.push_str(word)?;
+            let name = InstanceFmri::read_short(alloc, text.as_str())?;
+            Ok(present_instance(repository, name))
+        }
+        Selection::Instance(_) => Ok(None),
+    }
+}
+
+/// The service or the instance that a word names in full.
+fn entity<J: Journal>(
+    alloc: Global,
+    repository: &Plain<J>,
+    word: &str,
+) -> Result<Option<Selection>, AllocError>
+    ensures { IfOk result (λ found. found ≡ entity repository.now.held word.now) }
+{
+    let name = match Fmri::parse(alloc, word) {
+        Ok(name) => name,
+        Err(FmriFault::Memory) => return Err(AllocError),
+        Err(_) => return Ok(None),
+    };
+    if name.instance().is_some() {
+        Ok(present_instance(repository, InstanceFmri::of(name)))
+    } else {
+        Ok(present_service(repository, ServiceFmri::of(name)))
+    }
+}
 
 fn select<J: Journal>(
     alloc: Global,
@@ -30,11 +111,31 @@ fn select<J: Journal>(
     selection: &Selection,
     word: &str,
 ) -> Result<Judged, CfgFault>
-    ensures { Gives result (judged_select (named_by repository.now.held selection.now word.now)) }
+    ensures { Gives result (judged_select (child repository.now.held selection.now word.now) (entity repository.now.held word.now)) }
 {
-    match named_by(alloc, repository, selection, word)? {
+    if let Some(found) = child(alloc, repository, selection, word)? {
+        return Ok(Judged::Select(found));
+    }
+    match entity(alloc, repository, word)? {
+        Some(found) => Ok(Judged::Select(found)),
         None => Err(CfgFault::NoSuch),
-        Some(owner) => Ok(Judged::Select(selection_of(owner))),
+    }
+}
+
+/// What stands above an instance: its service, or nothing where it is not there any more.
+fn above_instance<J: Journal>(
+    alloc: Global,
+    repository: &Plain<J>,
+    number: u64,
+) -> Result<Selection, AllocError>
+    ensures { IfOk result (λ found. found ≡ above_instance (instance repository.now.held number)) }
+{
+    match repository.instance(number)? {
+        None => Ok(Selection::Nothing),
+        Some(instance) => {
+            let service = instance.name.as_fmri().service_fmri(alloc)?;
+            Ok(Selection::Service(service))
+        }
     }
 }
 
@@ -52,70 +153,7 @@ fn unselect<J: Journal>(
             let above = above_instance(alloc, repository, *number)?;
             Ok(Judged::Select(above))
         }
-        Selection::Snapshot { instance, .. } => {
-            let above = above_instance(alloc, repository, *instance)?;
-            Ok(Judged::Select(above))
-        }
     }
-}
-
-fn snapshot_named<J: Journal>(
-    repository: &Plain<J>,
-    instance: u64,
-    name: Option<SnapshotName>,
-) -> Result<Judged, CfgFault>
-    ensures { result ≡ snapshot_named repository.now.held instance name }
-{
-    match name {
-        None => Err(CfgFault::NoSuch),
-        Some(name) => {
-            if repository.snapshot_number(instance, name).is_some() {
-                Ok(Judged::Select(Selection::Snapshot { instance, name }))
-            } else {
-                Err(CfgFault::NoSuch)
-            }
-        }
-    }
-}
-
-/// A snapshot of an instance by its name, or the instance again.
-fn snapshot_in<J: Journal>(
-    repository: &Plain<J>,
-    instance: u64,
-    word: &Option<Text>,
-) -> Result<Judged, CfgFault>
-    ensures { result ≡ snapshot_in repository.now.held instance word.now }
-{
-    match word {
-        None => Ok(Judged::Select(Selection::Instance(instance))),
-        Some(word) => snapshot_named(repository, instance, SnapshotName::parse(word.as_str())),
-    }
-}
-
-fn select_snapshot<J: Journal>(
-    repository: &Plain<J>,
-    instance: Option<u64>,
-    word: &Option<Text>,
-) -> Result<Judged, CfgFault>
-    ensures { result ≡ judged_snapshot repository.now.held instance word.now }
-{
-    match instance {
-        None => Err(CfgFault::NotSelected),
-        Some(instance) => snapshot_in(repository, instance, word),
-    }
-}
-
-// ---- edits
-
-fn add_instance(alloc: Global, service: &ServiceFmri, word: &str) -> Result<Judged, CfgFault>
-    ensures { Gives result (added_instance service.now (name_in word.now)) }
-{
-    let Some(name) = name_in(alloc, word)? else {
-        return Err(CfgFault::Usage(CfgCommand::Add));
-    };
-    let service = service.clone()?;
-    let after = Selection::Service(service.clone()?);
-    Ok(Judged::Edit(Edit::AddInstance { service, name }, after))
 }
 
 fn add(alloc: Global, selection: &Selection, word: &str) -> Result<Judged, CfgFault>
@@ -123,238 +161,77 @@ fn add(alloc: Global, selection: &Selection, word: &str) -> Result<Judged, CfgFa
 {
     match selection {
         Selection::Nothing => match service_of_word(alloc, word)? {
-            Some(name) => Ok(Judged::Edit(Edit::AddService(name), Selection::Nothing)),
-            None => Err(CfgFault::Limit),
+            Some(name) => Ok(Judged::Edit(Edit::AddService(name))),
+            None => Err(CfgFault::Usage(CfgCommand::Add)),
         },
-        Selection::Service(service) => add_instance(alloc, service, word),
+        Selection::Service(service) => match name_in(alloc, word)? {
+            Some(name) => Ok(Judged::Edit(Edit::AddInstance {
+                service: service.clone()?,
+                name,
+            })),
+            None => Err(CfgFault::Usage(CfgCommand::Add)),
+        },
         Selection::Instance(_) => Err(CfgFault::Usage(CfgCommand::Add)),
-        Selection::Snapshot { .. } => Err(CfgFault::Usage(CfgCommand::Add)),
     }
 }
 
-fn is_snapshot(selection: &Selection) -> bool
-    ensures { result ≡ is_snapshot selection.now }
+/// The owner of the groups that a line changes.
+fn owner_of(selection: &Selection) -> Result<Option<Owner>, AllocError>
+    ensures { IfOk result (λ owner. owner ≡ owner_of selection.now) }
 {
     match selection {
-        Selection::Snapshot { .. } => true,
-        _ => false,
+        Selection::Nothing => Ok(None),
+        Selection::Service(service) => Ok(Some(Owner::Service(service.clone()?))),
+        Selection::Instance(number) => Ok(Some(Owner::Instance(*number))),
     }
 }
 
-/// Whether what is selected is a service or an instance.
-fn is_owner(selection: &Selection, owner: &Owner) -> bool
-    ensures { result ≡ is_owner selection.now owner.now }
+fn add_group(selection: &Selection, name: Name, group_type: Name) -> Result<Judged, CfgFault>
+    ensures { Gives result (judged_add_group (owner_of selection.now) name group_type) }
 {
-    match (selection, owner) {
-        (Selection::Service(a), Owner::Service(b)) => *a == *b,
-        (Selection::Instance(a), Owner::Instance(b)) => *a == *b,
-        _ => false,
-    }
-}
-
-/// What is selected behind a delete.
-fn after_delete<J: Journal>(
-    alloc: Global,
-    repository: &Plain<J>,
-    selection: &Selection,
-    owner: &Owner,
-) -> Result<Selection, AllocError>
-    ensures { IfOk result (λ after. after ≡ after_delete repository.now.held selection.now owner.now) }
-{
-    if is_owner(selection, owner) {
-        above(alloc, repository, owner)
-    } else {
-        selection.clone()
-    }
-}
-
-fn deleting(owner: Owner) -> Edit
-    ensures { result ≡ deleting owner }
-{
-    match owner {
-        Owner::Service(name) => Edit::DeleteService(name),
-        Owner::Instance(number) => Edit::DeleteInstance(number),
-    }
-}
-
-fn deleted<J: Journal>(
-    alloc: Global,
-    repository: &Plain<J>,
-    selection: &Selection,
-    word: &str,
-) -> Result<Judged, CfgFault>
-    ensures { Gives result (deleted_by_name repository.now.held selection.now word.now) }
-{
-    let Some(owner) = named_by(alloc, repository, selection, word)? else {
-        return Err(CfgFault::NoSuch);
+    let Some(owner) = owner_of(selection)? else {
+        return Err(CfgFault::NotSelected);
     };
-    let after = after_delete(alloc, repository, selection, &owner)?;
-    Ok(Judged::Edit(deleting(owner), after))
-}
-
-fn delete<J: Journal>(
-    alloc: Global,
-    repository: &Plain<J>,
-    selection: &Selection,
-    word: &str,
-) -> Result<Judged, CfgFault>
-    ensures { Gives result (judged_delete repository.now.held selection.now word.now) }
-{
-    if is_snapshot(selection) {
-        return Err(CfgFault::ReadOnly);
-    }
-    deleted(alloc, repository, selection, word)
-}
-
-fn add_group(
-    selection: &Selection,
-    name: Name,
-    group_type: Name,
-    non_persistent: bool,
-) -> Result<Judged, CfgFault>
-    ensures { Gives result (judged_add_group selection.now (owner_of selection.now) name group_type non_persistent) }
-{
-    let owner = owner_of(selection)?;
-    let after = selection.clone()?;
-    let edit = Edit::AddGroup {
+    Ok(Judged::Edit(Edit::AddGroup {
         owner,
         name,
         group_type,
-        non_persistent,
-    };
-    Ok(Judged::Edit(edit, after))
+        non_persistent: false,
+    }))
 }
 
-fn delete_group(selection: &Selection, name: Name) -> Result<Judged, CfgFault>
-    ensures { Gives result (judged_delete_group selection.now (owner_of selection.now) name) }
+fn one_value(alloc: Global, value: Text) -> Result<Items<Text>, AllocError>
+    ensures { IfOk result (λ values. values ≡ value ∷ []) }
 {
-    let owner = owner_of(selection)?;
-    let after = selection.clone()?;
-    Ok(Judged::Edit(Edit::DeleteGroup { owner, name }, after))
+    let mut values = Items::new(alloc);
+    values.push(value)?;
+    Ok(values)
 }
 
-fn change_property(
+fn set(
+    alloc: Global,
     selection: &Selection,
     group: Name,
-    change: PropertyChange,
+    name: Name,
+    kind: Kind,
+    value: Text,
 ) -> Result<Judged, CfgFault>
-    ensures { Gives result (judged_property selection.now (owner_of selection.now) group change) }
+    ensures { Gives result (judged_set (owner_of selection.now) group name kind value) }
 {
-    let owner = owner_of(selection)?;
-    let after = selection.clone()?;
-    let edit = Edit::Property {
+    let Some(owner) = owner_of(selection)? else {
+        return Err(CfgFault::NotSelected);
+    };
+    let values = one_value(alloc, value)?;
+    Ok(Judged::Edit(Edit::Property {
         owner,
         group,
-        change,
-    };
-    Ok(Judged::Edit(edit, after))
+        change: PropertyChange::Set {
+            name,
+            kind: Some(kind),
+            values,
+        },
+    }))
 }
-
-/// Back to the selected snapshot, else to the running one.
-fn reverting(selection: &Selection) -> Result<Judged, CfgFault>
-    ensures { result ≡ reverting selection.now }
-{
-    match selection {
-        Selection::Nothing => Err(CfgFault::NotSelected),
-        Selection::Service(_) => Err(CfgFault::NotSelected),
-        Selection::Instance(number) => Ok(revert_edit(
-            *number,
-            SnapshotName::Running,
-            Selection::Instance(*number),
-        )),
-        Selection::Snapshot { instance, name } => Ok(revert_edit(
-            *instance,
-            *name,
-            Selection::Instance(*instance),
-        )),
-    }
-}
-
-fn revert_edit(instance: u64, snapshot: SnapshotName, after: Selection) -> Judged
-    ensures { result ≡ judgements.Edit (edits.Revert instance snapshot) after }
-{
-    Judged::Edit(Edit::Revert { instance, snapshot }, after)
-}
-
-fn reverting_to(
-    selection: &Selection,
-    instance: u64,
-    name: Option<SnapshotName>,
-) -> Result<Judged, CfgFault>
-    ensures { Gives result (reverting_to selection.now instance name) }
-{
-    let Some(name) = name else {
-        return Err(CfgFault::NoSuch);
-    };
-    let after = selection.clone()?;
-    Ok(revert_edit(instance, name, after))
-}
-
-fn revert(selection: &Selection, word: &Option<Text>) -> Result<Judged, CfgFault>
-    ensures { Gives result (judged_revert selection.now word.now) }
-{
-    let Some(word) = word else {
-        return reverting(selection);
-    };
-    match instance_in(selection) {
-        None => Err(CfgFault::NotSelected),
-        Some(instance) => { reverting_to(selection, instance, SnapshotName::parse(word.as_str())) }
-    }
-}
-
-// ---- listings
-
-fn list_groups<J: Journal>(
-    alloc: Global,
-    repository: &Plain<J>,
-    selection: &Selection,
-) -> Result<Judged, CfgFault>
-    ensures { Gives result (printed (option_map groups_text (groups_in repository.now.held selection.now))) }
-{
-    match groups_in(alloc, repository, selection)? {
-        None => Err(CfgFault::NotSelected),
-        Some(groups) => Ok(Judged::Print(groups_text(alloc, groups.as_slice())?)),
-    }
-}
-
-fn list_properties<J: Journal>(
-    alloc: Global,
-    repository: &Plain<J>,
-    selection: &Selection,
-) -> Result<Judged, CfgFault>
-    ensures { Gives result (printed (option_map properties_text (groups_in repository.now.held selection.now))) }
-{
-    match groups_in(alloc, repository, selection)? {
-        None => Err(CfgFault::NotSelected),
-        Some(groups) => Ok(Judged::Print(properties_text(alloc, groups.as_slice())?)),
-    }
-}
-
-fn list_snapshots<J: Journal>(
-    alloc: Global,
-    repository: &Plain<J>,
-    instance: Option<u64>,
-) -> Result<Judged, CfgFault>
-    ensures { Gives result (printed (option_map snapshots_text (snapshots_in repository.now.held instance))) }
-{
-    match snapshots_in(repository, instance)? {
-        None => Err(CfgFault::NotSelected),
-        Some(names) => Ok(Judged::Print(snapshots_text(alloc, names.as_slice())?)),
-    }
-}
-
-fn list<J: Journal>(
-    alloc: Global,
-    repository: &Plain<J>,
-    selection: &Selection,
-) -> Result<Judged, CfgFault>
-    ensures { Gives result (Ok (judgements.Print (children_text repository.now.held selection.now))) }
-{
-    let text = children_text(alloc, repository, selection)?;
-    Ok(Judged::Print(text))
-}
-
-// ---- the whole
 
 /// Judges a line, which stands without its end. The repository may still refuse the edit.
 pub fn judge<J: Journal>(
@@ -363,16 +240,15 @@ pub fn judge<J: Journal>(
     selection: &Selection,
     line: &str,
 ) -> Result<Judged, CfgFault>
-    // What is selected anew is present, or stands above what is left; an edit is of what is selected or is there, and
-    // under a selected snapshot it is a revert.
-    ensures fits { IfOk result (λ j. Fits repository.now.held selection.now j) }
+    // What is selected anew is present, or stands above what is left; an edit is of what is selected.
+    ensures fits { IfOk result (λ j. Fits repository.now.held selection.now line.now j) }
     ensures exact { Gives result (judged repository.now.held selection.now line.now) }
 {
-    judge_exact(alloc, repository, selection, line)
+    come(alloc, repository, selection, line)
 }
 
 #[tactic(auto, unfolding(crate::specs::Judged::judged))]
-fn judge_exact<J: Journal>(
+fn come<J: Journal>(
     alloc: Global,
     repository: &Plain<J>,
     selection: &Selection,
@@ -380,37 +256,18 @@ fn judge_exact<J: Journal>(
 ) -> Result<Judged, CfgFault>
     ensures { Gives result (judged repository.now.held selection.now line.now) }
 {
-    let line = parse_line(alloc, line)?;
-    judge_line(alloc, repository, selection, line)
-}
-
-fn judge_line<J: Journal>(
-    alloc: Global,
-    repository: &Plain<J>,
-    selection: &Selection,
-    line: Line,
-) -> Result<Judged, CfgFault>
-    ensures { Gives result (judged_line repository.now.held selection.now line) }
-{
-    match line {
+    match parse_line(alloc, line)? {
         Line::Nothing => Ok(Judged::Nothing),
         Line::Select(word) => select(alloc, repository, selection, word.as_str()),
-        Line::Delete(word) => delete(alloc, repository, selection, word.as_str()),
         Line::Unselect => unselect(alloc, repository, selection),
-        Line::List => list(alloc, repository, selection),
-        Line::ListGroups => list_groups(alloc, repository, selection),
-        Line::ListProperties => list_properties(alloc, repository, selection),
-        Line::ListSnapshots => list_snapshots(alloc, repository, instance_in(selection)),
         Line::Add(word) => add(alloc, selection, word.as_str()),
-        Line::AddGroup {
-            name,
-            group_type,
-            non_persistent,
-        } => add_group(selection, name, group_type, non_persistent),
-        Line::DeleteGroup(name) => delete_group(selection, name),
-        Line::Property { group, change } => change_property(selection, group, change),
-        Line::SelectSnapshot(word) => select_snapshot(repository, instance_in(selection), &word),
-        Line::Revert(word) => revert(selection, &word),
-        Line::End => Ok(Judged::End),
+        Line::AddGroup { name, group_type } => add_group(selection, name, group_type),
+        Line::Set {
+            group,
+            property,
+            kind,
+            value,
+        } => set(alloc, selection, group, property, kind, value),
+        Line::End => Ok(Judged::Select(Selection::Nothing)),
     }
 }

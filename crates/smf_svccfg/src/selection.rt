@@ -1,19 +1,13 @@
-ghost use Rattle.std.specs.Prelude.{◌≡◌};
-
-use smf_fmri::{ServiceFmri, Text};
+use smf_fmri::ServiceFmri;
 use smf_model::Edit;
-use smf_snap::SnapshotName;
-use std::alloc::AllocError;
 
-/// What lines speak of. Nothing tells a selection that its service or instance was deleted by another.
+/// What lines speak of. Nothing tells a selection that its service or instance was deleted.
 #[derive(Debug, Drop)]
 pub enum Selection {
     Nothing,
     Service(ServiceFmri),
     /// An instance, by its number. It has no children.
     Instance(u64),
-    /// A snapshot of an instance, by its name.
-    Snapshot { instance: u64, name: SnapshotName },
 }
 
 /// What a line comes to.
@@ -22,26 +16,6 @@ pub enum Judged {
     Nothing,
     /// This is selected from now on.
     Select(Selection),
-    /// To be given to the repository, and what is selected behind it where it is accepted.
-    Edit(Edit, Selection),
-    /// To be printed.
-    Print(Text),
-    /// svccfg ends. Nothing is selected where it begins again.
-    End,
-}
-
-impl Clone for Selection {
-    ghost is_clone = { λ s copy. copy ≡ s };
-
-    fn clone(&self) -> Result<Selection, AllocError> {
-        match self {
-            Selection::Nothing => Ok(Selection::Nothing),
-            Selection::Service(name) => Ok(Selection::Service(name.clone()?)),
-            Selection::Instance(number) => Ok(Selection::Instance(*number)),
-            Selection::Snapshot { instance, name } => Ok(Selection::Snapshot {
-                instance: *instance,
-                name: *name,
-            }),
-        }
-    }
+    /// To be given to the repository. What is selected stays.
+    Edit(Edit),
 }

@@ -5,7 +5,7 @@ ghost use Rattle.smf_svccfg.specs.Words.{AreWords, is_blank, is_word, spaced, wo
 use smf_fmri::{Items, Text};
 use std::alloc::{AllocError, Global};
 
-pub(crate) fn is_blank(b: u8) -> bool
+fn is_blank(b: u8) -> bool
     ensures { result ≡ is_blank b }
 {
     b == b' ' || b == b'\t'

@@ -1,6 +1,6 @@
 use Rattle.std.proofs.Common.{rules}
 use Rattle.smf_svccfg.proofs.Above.{above_found}
-use Rattle.smf_svccfg.proofs.naming.above_instance.Goals as goal
+use Rattle.smf_svccfg.proofs.judging.above_instance.Goals as goal
 
 pub returns-in_ok-service-in-Some : goal.returns-in_ok-service-in-Some
 returns-in_ok-service-in-Some g c =
