@@ -6,6 +6,9 @@ pub mod Partly
 pub mod Giving
 pub mod Looking
 pub mod Doing
+pub mod Later
 pub mod Selecting
+pub mod May
+pub mod Failures
 pub mod Why
 pub mod Heard

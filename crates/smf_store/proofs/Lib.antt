@@ -10,3 +10,7 @@ pub mod Splits
 pub mod Commits
 pub mod Journal
 pub mod Begins
+pub mod Gathers
+pub mod Groups
+pub mod Counts
+pub mod Stands

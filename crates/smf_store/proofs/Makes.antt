@@ -41,21 +41,21 @@ use Rattle.smf_store.proofs.Tables.{IsOf, becomes}
 use Rattle.smf_store.proofs.Tests.{text_apart}
 use Rattle.std.proofs.lemmas.Bool.Decides.{nat_tests}
 
-some_is : {X : Type 0} (x y : X) → Some x ≡ Some y → x ≡ y
+pub some_is : {X : Type 0} (x y : X) → Some x ≡ Some y → x ≡ y
 some_is x y h = cc
 
-none_some : {X : Type 0} (x : X) (o : Option X) → o ≡ None → o ≡ Some x → ⊥
+pub none_some : {X : Type 0} (x : X) (o : Option X) → o ≡ None → o ≡ Some x → ⊥
 none_some x o e f = cc
 
 pub shows_then : (a b c : State) → Shows a b b.now a.committed true → Shows b c c.now b.committed true → Shows a c c.now a.committed true
 shows_then a b c p q = record { was_open = p.was_open; is_open = q.is_open; now_is = refl; committed_is = q.committed_is ∙ p.committed_is; mode = q.mode }
 
 -- groups belong to services and instances, and to nothing else
-same_groups : (h k : Holdings) → h.services ≡ k.services → h.instances ≡ k.instances → (x : OwnedGroup) → HasGroup h x → HasGroup k x
+pub same_groups : (h k : Holdings) → h.services ≡ k.services → h.instances ≡ k.instances → (x : OwnedGroup) → HasGroup h x → HasGroup k x
 same_groups h k s i x (of_service nought t e m) = of_service nought t (ap (λ (z : List Service). lookup by_service z x.service) (sym s) ∙ e) m
 same_groups h k s i x (of_instance above e f d m) = of_instance above e (ap (λ (z : List InstanceEntry). lookup by_entry z x.number) (sym i) ∙ f) d m
 
-same_counts : (h k : Holdings) → h.revision ≡ k.revision → h.next_instance ≡ k.next_instance → h.next_snapshot ≡ k.next_snapshot → (x : Count) → HasCount h x → HasCount k x
+pub same_counts : (h k : Holdings) → h.revision ≡ k.revision → h.next_instance ≡ k.next_instance → h.next_snapshot ≡ k.next_snapshot → (x : Count) → HasCount h x → HasCount k x
 same_counts h k r i s x m = by x.counter ∙ m
   where
     by : (c : Counter) → count_of k c ≡ count_of h c
@@ -79,27 +79,27 @@ count_forth h new key n is others x (inr old) = others x.counter old.1 ∙ old.0
 
 -- ---- a service and its groups
 
-abbrev with_service : Holdings → Service → Holdings
+abbrev pub with_service : Holdings → Service → Holdings
 with_service h s = record h { services = put by_service s h.services }
 
-service_forth : (h : Holdings) (s : Service) (x : List ℕ) → (x ≡ s.name) ⊎ (HasService h x × (x ≡ s.name → ⊥)) → HasService (with_service h s) x
+pub service_forth : (h : Holdings) (s : Service) (x : List ℕ) → (x ≡ s.name) ⊎ (HasService h x × (x ≡ s.name → ⊥)) → HasService (with_service h s) x
 service_forth h s x (inl same) = (s, ap (lookup by_service (put by_service s h.services)) same ∙ put_here by_service s h.services)
 service_forth h s x (inr old) = (old.0.0, put_other by_service s h.services x (λ e. old.1 (sym e)) ∙ old.0.1)
 
-service_back : (h : Holdings) (s : Service) (x : List ℕ) → HasService (with_service h s) x → (x ≡ s.name) ⊎ (HasService h x × (x ≡ s.name → ⊥))
+pub service_back : (h : Holdings) (s : Service) (x : List ℕ) → HasService (with_service h s) x → (x ≡ s.name) ⊎ (HasService h x × (x ≡ s.name → ⊥))
 service_back h s x m = elim (put_cases by_service s h.services x m.0 m.1) [
   | inl here ↦ inl (sym here.0)
   | inr other ↦ inr ((m.0, other.1), λ e. other.0 (sym e))
 ]
 
-service_groups_forth : (h : Holdings) (s : Service) → Rises by_group s.groups → (x : OwnedGroup)
+pub service_groups_forth : (h : Holdings) (s : Service) → Rises by_group s.groups → (x : OwnedGroup)
     → IsOf s.name 0 s.groups x ⊎ (HasGroup h x × ((x.service ≡ s.name) × (x.number ≡ 0) → ⊥)) → HasGroup (with_service h s) x
 service_groups_forth h s rises x (inl new) =
     subst (HasGroup (with_service h s)) (sym new.2) (of_service refl s (put_here by_service s h.services) (has_found by_group s.groups new.0 rises new.1))
 service_groups_forth h s rises x (inr (of_service nought t e m, diff)) = of_service nought t (put_other by_service s h.services x.service (λ same. diff (sym same, nought)) ∙ e) m
 service_groups_forth h s rises x (inr (of_instance above e f d m, diff)) = of_instance above e f d m
 
-service_groups_back : (h : Holdings) (s : Service) (x : OwnedGroup) → HasGroup (with_service h s) x
+pub service_groups_back : (h : Holdings) (s : Service) (x : OwnedGroup) → HasGroup (with_service h s) x
     → IsOf s.name 0 s.groups x ⊎ (HasGroup h x × ((x.service ≡ s.name) × (x.number ≡ 0) → ⊥))
 service_groups_back h s x (of_service nought t e m) = elim (put_cases by_service s h.services x.service t e) [
   | inl here ↦ inl (x.group, found_has by_group s.groups x.group.name x.group (ap (λ (z : Service). group_in z.groups x.group.name) here.1 ∙ m), λ j. record { service = (sym here.0) j; number = nought j; group = x.group })
@@ -107,7 +107,7 @@ service_groups_back h s x (of_service nought t e m) = elim (put_cases by_service
 ]
 service_groups_back h s x (of_instance above e f d m) = inr (of_instance above e f d m, λ both. absurd (let nought = both.1 in omega (arith, above, nought)))
 
-arranged_service : (h : Holdings) (s : Service) → Rises by_group s.groups → IsArranged h → IsArranged (with_service h s)
+pub arranged_service : (h : Holdings) (s : Service) → Rises by_group s.groups → IsArranged h → IsArranged (with_service h s)
 arranged_service h s rises a = record {
   ordered = ordered_change h (AddService s) a.ordered;
   service_groups = λ name t e. elim (put_cases by_service s h.services name t e) [ inl here ↦ subst (λ (z : Service). Rises by_group z.groups) here.1 rises | inr other ↦ a.service_groups name t other.1 ];
@@ -182,27 +182,27 @@ makes_no_service a b c name one two = record {
 
 -- ---- an instance and its groups
 
-abbrev with_entry : Holdings → InstanceEntry → Holdings
+abbrev pub with_entry : Holdings → InstanceEntry → Holdings
 with_entry h e = record h { instances = put by_entry e h.instances }
 
-entry_forth : (h : Holdings) (e : InstanceEntry) (i : Instance) → (i ≡ e.instance) ⊎ (HasInstance h i × (i.number ≡ e.instance.number → ⊥)) → HasInstance (with_entry h e) i
+pub entry_forth : (h : Holdings) (e : InstanceEntry) (i : Instance) → (i ≡ e.instance) ⊎ (HasInstance h i × (i.number ≡ e.instance.number → ⊥)) → HasInstance (with_entry h e) i
 entry_forth h e i (inl same) = (e, ap (λ (z : Instance). lookup by_entry (put by_entry e h.instances) z.number) same ∙ put_here by_entry e h.instances, sym same)
 entry_forth h e i (inr old) = (old.0.0, put_other by_entry e h.instances i.number (λ s. old.1 (sym s)) ∙ old.0.1, old.0.2)
 
-entry_back : (h : Holdings) (e : InstanceEntry) (i : Instance) → HasInstance (with_entry h e) i → (i ≡ e.instance) ⊎ (HasInstance h i × (i.number ≡ e.instance.number → ⊥))
+pub entry_back : (h : Holdings) (e : InstanceEntry) (i : Instance) → HasInstance (with_entry h e) i → (i ≡ e.instance) ⊎ (HasInstance h i × (i.number ≡ e.instance.number → ⊥))
 entry_back h e i m = elim (put_cases by_entry e h.instances i.number m.0 m.1) [
   | inl here ↦ inl (sym m.2 ∙ ap (λ (z : InstanceEntry). z.instance) (sym here.1))
   | inr other ↦ inr ((m.0, other.1, m.2), λ s. other.0 (sym s))
 ]
 
-entry_groups_forth : (h : Holdings) (e : InstanceEntry) (front : List ℕ) → front ≡ short ++ service_of e.instance.name → 0 < e.instance.number → Rises by_group e.groups → (x : OwnedGroup)
+pub entry_groups_forth : (h : Holdings) (e : InstanceEntry) (front : List ℕ) → front ≡ short ++ service_of e.instance.name → 0 < e.instance.number → Rises by_group e.groups → (x : OwnedGroup)
     → IsOf front e.instance.number e.groups x ⊎ (HasGroup h x × (x.number ≡ e.instance.number → ⊥)) → HasGroup (with_entry h e) x
 entry_groups_forth h e front named above rises x (inl new) =
     subst (HasGroup (with_entry h e)) (sym new.2) (of_instance above e (put_here by_entry e h.instances) named (has_found by_group e.groups new.0 rises new.1))
 entry_groups_forth h e front named above rises x (inr (of_service nought t f m, diff)) = of_service nought t f m
 entry_groups_forth h e front named above rises x (inr (of_instance some d f s m, diff)) = of_instance some d (put_other by_entry e h.instances x.number (λ same. diff (sym same)) ∙ f) s m
 
-entry_groups_back : (h : Holdings) (e : InstanceEntry) (front : List ℕ) → front ≡ short ++ service_of e.instance.name → 0 < e.instance.number → (x : OwnedGroup)
+pub entry_groups_back : (h : Holdings) (e : InstanceEntry) (front : List ℕ) → front ≡ short ++ service_of e.instance.name → 0 < e.instance.number → (x : OwnedGroup)
     → HasGroup (with_entry h e) x → IsOf front e.instance.number e.groups x ⊎ (HasGroup h x × (x.number ≡ e.instance.number → ⊥))
 entry_groups_back h e front named above x (of_service nought t f m) = inr (of_service nought t f m, λ same. absurd (omega (arith, above, nought, same)))
 entry_groups_back h e front named above x (of_instance some d f s m) = elim (put_cases by_entry e h.instances x.number d f) [
@@ -212,7 +212,7 @@ entry_groups_back h e front named above x (of_instance some d f s m) = elim (put
   | inr other ↦ inr (of_instance some d other.1 s m, λ same. other.0 (sym same))
 ]
 
-apart_from_zero : (n : ℕ) → 0 < n → n ≡ 0 → ⊥
+pub apart_from_zero : (n : ℕ) → 0 < n → n ≡ 0 → ⊥
 apart_from_zero n above e = omega (arith, above, e)
 
 pub makes_entry : (a b c d f : State) (e : InstanceEntry) (front behind : List ℕ) → IsSplit e.instance.name front behind → 0 < e.instance.number → Rises by_group e.groups
@@ -303,9 +303,9 @@ found_entry : (db : Database) (h : Holdings) (n : ℕ) (it : NameColumns) → Ho
     → IsFound h n (string_bytes it.service) (string_bytes it.name)
 found_entry db h n it p f =
     let i = p.show.instances.only f.row f.there in
-    let number : i.0.number ≡ n = step.id_found f.row i.0.number n _ i.2.is f.picked in
-    let front : string_bytes it.service ≡ i.2.service = text_is (string_bytes it.service) i.2.service (sym f.shows.0 ∙ ap (λ (r : Row). column r 2) i.2.is) in
-    let behind : string_bytes it.name ≡ i.2.name = text_is (string_bytes it.name) i.2.name (sym f.shows.1 ∙ ap (λ (r : Row). column r 3) i.2.is) in
+    let number : i.0.number ≡ n = step.id_found f.row i.0.number n i.2.number_is f.picked in
+    let front : string_bytes it.service ≡ i.2.service = text_is (string_bytes it.service) i.2.service (sym f.shows.0 ∙ i.2.service_is) in
+    let behind : string_bytes it.name ≡ i.2.name = text_is (string_bytes it.name) i.2.name (sym f.shows.1 ∙ i.2.name_is) in
     let same : i.1.0.instance ≡ i.0 = i.1.2 in
     record {
       entry = i.1.0;
@@ -317,7 +317,7 @@ found_entry db h n it p f =
 found_service : (db : Database) (h : Holdings) (name : List ℕ) → Holds db h → HasRow (db.trees 2) (equal 1 0 ∷ []) (Text name ∷ []) (λ r. Unit {0}) → HasService h name
 found_service db h name p f =
     let x = p.show.services.only f.row f.there in
-    subst (HasService h) (step.text_found f.row x.2.0 x.0 name [] x.2.1 f.picked) x.1
+    subst (HasService h) (step.text_found f.row x.0 name x.2 f.picked) x.1
 
 looked : (a b : State) (h : Holdings) {Seen : Trees → Type 0} → Sees Seen a b → Holds a.now h → Holds b.now h
 looked a b h sees p = subst (λ (db : Database). Holds db h) (sym (sees.same p.schema)) p
@@ -368,7 +368,7 @@ over_groups_back h i e f named x (of_instance above d g s m) = elim (amend_cases
   | inr other ↦ of_instance above d other.1 s m
 ]
 
-amended_zero : (h : Holdings) (n : ℕ) (f : InstanceEntry → InstanceEntry) → ((e : InstanceEntry) → (f e).instance.number ≡ e.instance.number) → 0 < n → lookup by_entry h.instances 0 ≡ None → lookup by_entry (amend by_entry n f h.instances) 0 ≡ None
+pub amended_zero : (h : Holdings) (n : ℕ) (f : InstanceEntry → InstanceEntry) → ((e : InstanceEntry) → (f e).instance.number ≡ e.instance.number) → 0 < n → lookup by_entry h.instances 0 ≡ None → lookup by_entry (amend by_entry n f h.instances) 0 ≡ None
 amended_zero h n f same above none = amend_other by_entry n f h.instances 0 same (apart_from_zero n above) ∙ none
 
 pub makes_instance : (a b c d : State) (i : Instance) (it : NameColumns) → 0 < i.number → i.name ≡ string_bytes it.service ++ 58 ∷ string_bytes it.name → ReadsName (pos i.number) a b (Some it)
@@ -402,28 +402,28 @@ makes_instance a b c d i it above whole look one two = record {
 
 -- ---- other groups
 
-abbrev give_service : List GroupRecord → Service → Service
+abbrev pub give_service : List GroupRecord → Service → Service
 give_service gs s = record s { groups = gs }
 
-abbrev regroup_service : Holdings → List ℕ → List GroupRecord → Holdings
+abbrev pub regroup_service : Holdings → List ℕ → List GroupRecord → Holdings
 regroup_service h name gs = record h { services = amend by_service name (give_service gs) h.services }
 
-service_keeps : (gs : List GroupRecord) (s : Service) → (give_service gs s).name ≡ s.name
+pub service_keeps : (gs : List GroupRecord) (s : Service) → (give_service gs s).name ≡ s.name
 service_keeps gs s = refl
 
-regroup_forth : (h : Holdings) (name : List ℕ) (gs : List GroupRecord) (x : List ℕ) → HasService h x → HasService (regroup_service h name gs) x
+pub regroup_forth : (h : Holdings) (name : List ℕ) (gs : List GroupRecord) (x : List ℕ) → HasService h x → HasService (regroup_service h name gs) x
 regroup_forth h name gs x m = elim (one_or_other by_service name x) [
   | inl same ↦ (give_service gs m.0, ap (lookup by_service (amend by_service name (give_service gs) h.services)) (sym same) ∙ amend_here by_service name (give_service gs) h.services m.0 (service_keeps gs) (ap (lookup by_service h.services) same ∙ m.1))
   | inr other ↦ (m.0, amend_other by_service name (give_service gs) h.services x (service_keeps gs) other ∙ m.1)
 ]
 
-regroup_back : (h : Holdings) (name : List ℕ) (gs : List GroupRecord) (x : List ℕ) → HasService (regroup_service h name gs) x → HasService h x
+pub regroup_back : (h : Holdings) (name : List ℕ) (gs : List GroupRecord) (x : List ℕ) → HasService (regroup_service h name gs) x → HasService h x
 regroup_back h name gs x m = elim (amend_cases by_service name (give_service gs) h.services x m.0 (service_keeps gs) m.1) [
   | inl here ↦ (here.1, here.2)
   | inr other ↦ (m.0, other.1)
 ]
 
-regroup_groups_forth : (h : Holdings) (name : List ℕ) (gs : List GroupRecord) → Rises by_group gs → HasService h name → (x : OwnedGroup)
+pub regroup_groups_forth : (h : Holdings) (name : List ℕ) (gs : List GroupRecord) → Rises by_group gs → HasService h name → (x : OwnedGroup)
     → IsOf name 0 gs x ⊎ (HasGroup h x × ((x.service ≡ name) × (x.number ≡ 0) → ⊥)) → HasGroup (regroup_service h name gs) x
 regroup_groups_forth h name gs rises s x (inl new) =
     subst (HasGroup (regroup_service h name gs)) (sym new.2) (of_service refl (give_service gs s.0) (amend_here by_service name (give_service gs) h.services s.0 (service_keeps gs) s.1) (has_found by_group gs new.0 rises new.1))
@@ -431,7 +431,7 @@ regroup_groups_forth h name gs rises s x (inr (of_service nought t e m, diff)) =
     of_service nought t (amend_other by_service name (give_service gs) h.services x.service (service_keeps gs) (λ same. diff (sym same, nought)) ∙ e) m
 regroup_groups_forth h name gs rises s x (inr (of_instance above e f d m, diff)) = of_instance above e f d m
 
-regroup_groups_back : (h : Holdings) (name : List ℕ) (gs : List GroupRecord) (x : OwnedGroup) → HasGroup (regroup_service h name gs) x
+pub regroup_groups_back : (h : Holdings) (name : List ℕ) (gs : List GroupRecord) (x : OwnedGroup) → HasGroup (regroup_service h name gs) x
     → IsOf name 0 gs x ⊎ (HasGroup h x × ((x.service ≡ name) × (x.number ≡ 0) → ⊥))
 regroup_groups_back h name gs x (of_service nought t e m) = elim (amend_cases by_service name (give_service gs) h.services x.service t (service_keeps gs) e) [
   | inl here ↦ inl (x.group, found_has by_group gs x.group.name x.group (ap (λ (z : Service). group_in z.groups x.group.name) here.3 ∙ m), λ j. record { service = (sym here.0) j; number = nought j; group = x.group })
@@ -467,28 +467,28 @@ makes_service_groups a b c d name gs rises look one two = record {
       });
 }
 
-abbrev give_entry : List GroupRecord → InstanceEntry → InstanceEntry
+abbrev pub give_entry : List GroupRecord → InstanceEntry → InstanceEntry
 give_entry gs e = record e { groups = gs }
 
-abbrev regroup_entry : Holdings → ℕ → List GroupRecord → Holdings
+abbrev pub regroup_entry : Holdings → ℕ → List GroupRecord → Holdings
 regroup_entry h n gs = record h { instances = amend by_entry n (give_entry gs) h.instances }
 
-entry_keeps : (gs : List GroupRecord) (e : InstanceEntry) → (give_entry gs e).instance.number ≡ e.instance.number
+pub entry_keeps : (gs : List GroupRecord) (e : InstanceEntry) → (give_entry gs e).instance.number ≡ e.instance.number
 entry_keeps gs e = refl
 
-members_forth : (h : Holdings) (n : ℕ) (gs : List GroupRecord) (i : Instance) → HasInstance h i → HasInstance (regroup_entry h n gs) i
+pub members_forth : (h : Holdings) (n : ℕ) (gs : List GroupRecord) (i : Instance) → HasInstance h i → HasInstance (regroup_entry h n gs) i
 members_forth h n gs i m = elim (one_or_other by_entry n i.number) [
   | inl same ↦ (give_entry gs m.0, ap (lookup by_entry (amend by_entry n (give_entry gs) h.instances)) (sym same) ∙ amend_here by_entry n (give_entry gs) h.instances m.0 (entry_keeps gs) (ap (lookup by_entry h.instances) same ∙ m.1), m.2)
   | inr other ↦ (m.0, amend_other by_entry n (give_entry gs) h.instances i.number (entry_keeps gs) other ∙ m.1, m.2)
 ]
 
-members_back : (h : Holdings) (n : ℕ) (gs : List GroupRecord) (i : Instance) → HasInstance (regroup_entry h n gs) i → HasInstance h i
+pub members_back : (h : Holdings) (n : ℕ) (gs : List GroupRecord) (i : Instance) → HasInstance (regroup_entry h n gs) i → HasInstance h i
 members_back h n gs i m = elim (amend_cases by_entry n (give_entry gs) h.instances i.number m.0 (entry_keeps gs) m.1) [
   | inl here ↦ (here.1, here.2, ap (λ (z : InstanceEntry). z.instance) here.3 ∙ m.2)
   | inr other ↦ (m.0, other.1, m.2)
 ]
 
-member_groups_forth : (h : Holdings) (n : ℕ) (gs : List GroupRecord) (front behind : List ℕ) → 0 < n → Rises by_group gs → IsFound h n front behind → (x : OwnedGroup)
+pub member_groups_forth : (h : Holdings) (n : ℕ) (gs : List GroupRecord) (front behind : List ℕ) → 0 < n → Rises by_group gs → IsFound h n front behind → (x : OwnedGroup)
     → IsOf front n gs x ⊎ (HasGroup h x × (x.number ≡ n → ⊥)) → HasGroup (regroup_entry h n gs) x
 member_groups_forth h n gs front behind above rises f x (inl new) =
     subst (HasGroup (regroup_entry h n gs)) (sym new.2)
@@ -497,7 +497,7 @@ member_groups_forth h n gs front behind above rises f x (inr (of_service nought 
 member_groups_forth h n gs front behind above rises f x (inr (of_instance some e g s m, diff)) =
     of_instance some e (amend_other by_entry n (give_entry gs) h.instances x.number (entry_keeps gs) (λ same. diff (sym same)) ∙ g) s m
 
-member_groups_back : (h : Holdings) (n : ℕ) (gs : List GroupRecord) (front behind : List ℕ) → 0 < n → IsFound h n front behind → (x : OwnedGroup)
+pub member_groups_back : (h : Holdings) (n : ℕ) (gs : List GroupRecord) (front behind : List ℕ) → 0 < n → IsFound h n front behind → (x : OwnedGroup)
     → HasGroup (regroup_entry h n gs) x → IsOf front n gs x ⊎ (HasGroup h x × (x.number ≡ n → ⊥))
 member_groups_back h n gs front behind above f x (of_service nought t e m) = inr (of_service nought t e m, λ same. absurd (omega (arith, above, nought, same)))
 member_groups_back h n gs front behind above f x (of_instance some e g s m) = elim (amend_cases by_entry n (give_entry gs) h.instances x.number e (entry_keeps gs) g) [
@@ -540,20 +540,20 @@ makes_instance_groups a b c d n gs it above rises look one two = record {
 
 -- ---- snapshots
 
-abbrev with_snapshot : Holdings → Snapshot → Holdings
+abbrev pub with_snapshot : Holdings → Snapshot → Holdings
 with_snapshot h s = record h { snapshots = put_new by_snapshot s h.snapshots }
 
-new_is_put : (h : Holdings) (s : Snapshot) → snapshot h s.number ≡ None → put_new by_snapshot s h.snapshots ≡ put by_snapshot s h.snapshots
+pub new_is_put : (h : Holdings) (s : Snapshot) → snapshot h s.number ≡ None → put_new by_snapshot s h.snapshots ≡ put by_snapshot s h.snapshots
 new_is_put h s none = ap (put_by_lookup by_snapshot s h.snapshots) none
 
-snapshot_forth : (h : Holdings) (s : Snapshot) → snapshot h s.number ≡ None → (t : Snapshot) → (t ≡ s) ⊎ HasSnapshot h t → HasSnapshot (with_snapshot h s) t
+pub snapshot_forth : (h : Holdings) (s : Snapshot) → snapshot h s.number ≡ None → (t : Snapshot) → (t ≡ s) ⊎ HasSnapshot h t → HasSnapshot (with_snapshot h s) t
 snapshot_forth h s none t (inl same) =
     ap (λ (z : List Snapshot). lookup by_snapshot z t.number) (new_is_put h s none) ∙ ap (λ (z : Snapshot). lookup by_snapshot (put by_snapshot s h.snapshots) z.number) same ∙ put_here by_snapshot s h.snapshots ∙ ap Some (sym same)
 snapshot_forth h s none t (inr old) =
     ap (λ (z : List Snapshot). lookup by_snapshot z t.number) (new_is_put h s none)
     ∙ put_other by_snapshot s h.snapshots t.number (λ same. none_some t (snapshot h s.number) none (ap (lookup by_snapshot h.snapshots) same ∙ old)) ∙ old
 
-snapshot_back : (h : Holdings) (s : Snapshot) → snapshot h s.number ≡ None → (t : Snapshot) → HasSnapshot (with_snapshot h s) t → (t ≡ s) ⊎ HasSnapshot h t
+pub snapshot_back : (h : Holdings) (s : Snapshot) → snapshot h s.number ≡ None → (t : Snapshot) → HasSnapshot (with_snapshot h s) t → (t ≡ s) ⊎ HasSnapshot h t
 snapshot_back h s none t m =
     elim (put_cases by_snapshot s h.snapshots t.number t (ap (λ (z : List Snapshot). lookup by_snapshot z t.number) (sym (new_is_put h s none)) ∙ m)) [ inl here ↦ inl (sym here.1) | inr other ↦ inr other.1 ]
 
@@ -623,14 +623,14 @@ makes_no_snapshots a b n one = record {
 
 -- ---- launches
 
-abbrev with_launch : Holdings → Launch → Holdings
+abbrev pub with_launch : Holdings → Launch → Holdings
 with_launch h l = record h { launches = put by_launch l h.launches }
 
-launch_forth : (h : Holdings) (l k : Launch) → (k ≡ l) ⊎ (HasLaunch h k × (k.restarter ≡ l.restarter → ⊥)) → HasLaunch (with_launch h l) k
+pub launch_forth : (h : Holdings) (l k : Launch) → (k ≡ l) ⊎ (HasLaunch h k × (k.restarter ≡ l.restarter → ⊥)) → HasLaunch (with_launch h l) k
 launch_forth h l k (inl same) = ap (λ (z : Launch). lookup by_launch (put by_launch l h.launches) z.restarter) same ∙ put_here by_launch l h.launches ∙ ap Some (sym same)
 launch_forth h l k (inr old) = put_other by_launch l h.launches k.restarter (λ e. old.1 (sym e)) ∙ old.0
 
-launch_back : (h : Holdings) (l k : Launch) → HasLaunch (with_launch h l) k → (k ≡ l) ⊎ (HasLaunch h k × (k.restarter ≡ l.restarter → ⊥))
+pub launch_back : (h : Holdings) (l k : Launch) → HasLaunch (with_launch h l) k → (k ≡ l) ⊎ (HasLaunch h k × (k.restarter ≡ l.restarter → ⊥))
 launch_back h l k m = elim (put_cases by_launch l h.launches k.restarter k m) [ inl here ↦ inl (sym here.1) | inr other ↦ inr (other.1, λ e. other.0 (sym e)) ]
 
 pub makes_launch : (a b c : State) (l : Launch) → DropsLaunch l.restarter a b → AddsLaunch l.restarter (pos l.count) b c → Makes (PutLaunch l) a c

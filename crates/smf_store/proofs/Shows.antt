@@ -1,5 +1,5 @@
 -- Rows that are put in show what they are made of.
-use Rattle.std.proofs.Common.{◌≡◌, inl, inr, ℕ, ℤ, pos, List, [], ◌∷◌, ◌++◌, Option, option_map, Ok, IsTrue, refl, sym, subst, ◌∙◌}
+use Rattle.std.proofs.Common.{◌≡◌, inl, inr, ℕ, ℤ, pos, List, [], ◌∷◌, ◌++◌, Option, option_map, Ok, IsTrue, refl, sym, ap, subst, ◌∙◌}
 use Rattle.sqlite.specs.declared.types.Value.TheVariants.{Null, Int, Text, Blob}
 use Rattle.sqlite.specs.Edit.{next_rowid}
 use Rattle.sqlite.specs.Order.{Row}
@@ -35,21 +35,26 @@ adds_instance i id front behind text start previous old new again split number r
       service = front;
       name = behind;
       split = split;
-      is = λ j. Int (number j) ∷ Null ∷ Text front ∷ Text behind ∷ Text (row j) ∷ or_null Int (first j) ∷ or_null Int (last j) ∷ [];
+      number_is = ap Int number;
+      service_is = refl;
+      name_is = refl;
+      row_is = ap Text row;
+      start_is = ap (or_null Int) first;
+      previous_is = ap (or_null Int) last;
     }) a
 
 pub adds_snapshot : (s : Snapshot) (id owner : ℤ) (body : List ℕ) (old new : State) → AreGroups s.service_groups → AreGroups s.instance_groups → id ≡ pos s.number → owner ≡ pos s.instance
     → body ≡ spelled_both s.service_groups s.instance_groups → AddsSnapshot id owner body old new → AddsRow (ShowsSnapshot s) snap old new
 adds_snapshot s id owner body old new service its number of is a =
     adds_row (ShowsSnapshot s) snap (Int id ∷ Null ∷ Int owner ∷ Blob body ∷ []) old new
-    (record { service = service; instance = its; is = λ j. Int (number j) ∷ Null ∷ Int (of j) ∷ Blob (is j) ∷ [] }) a
+    (record { service = service; instance = its; number_is = ap Int number; instance_is = ap Int of; body_is = ap Blob is }) a
 
 pub adds_group : (service : List ℕ) (number : ℕ) (g : GroupRecord) (id : ℤ) (body : List ℕ) (old new : State) → AreGroups (g ∷ []) → id ≡ pos number → body ≡ spelled (g ∷ [])
     → AddsGroup service id g.name body old new → AddsRow (ShowsGroup (owned_by service number g)) grp old new
 adds_group service number g id body old new formed is bytes a =
     let rowid = next_rowid (old.now.trees 6) in
     adds_row (ShowsGroup (owned_by service number g)) grp (Int rowid ∷ Text service ∷ Int id ∷ Text g.name ∷ Blob body ∷ []) old new
-    (record { formed = formed; id = rowid; is = λ j. Int rowid ∷ Text service ∷ Int (is j) ∷ Text g.name ∷ Blob (bytes j) ∷ [] }) a
+    (record { formed = formed; service_is = refl; number_is = ap Int is; name_is = refl; body_is = ap Blob bytes }) a
 
 -- ---- the groups of a list, one after another
 

@@ -5,3 +5,9 @@ pub mod Steps
 pub mod Ends
 pub mod Unique
 pub mod Creating
+pub mod Gathered
+pub mod Cells
+pub mod Counting
+pub mod Begun
+pub mod Stages
+pub mod Opens

@@ -1,9 +1,9 @@
--- How what is held is shown by the rows of the tables.
-use Rattle.std.specs.Prelude.{◌≡◌, ℕ, ◌<◌, ℤ, pos, List, [], ◌∷◌, ◌++◌, codes, Option, Some, option_map, Ok}
+-- How what is held is shown by the rows of the tables: a row shows by its columns, of which the first is its rowid.
+use Rattle.std.specs.Prelude.{◌≡◌, ℕ, ◌<◌, pos, List, [], ◌∷◌, ◌++◌, codes, Option, Some, option_map, Ok}
 use Rattle.sqlite.specs.declared.types.Value.{Value}
-use Rattle.sqlite.specs.declared.types.Value.TheVariants.{Null, Int, Text, Blob}
+use Rattle.sqlite.specs.declared.types.Value.TheVariants.{Int, Text, Blob}
 use Rattle.sqlite.specs.Values.{or_null}
-use Rattle.sqlite.specs.Order.{Row}
+use Rattle.sqlite.specs.Order.{Row, column}
 use Rattle.smf_fmri.specs.ByKey.{lookup}
 use Rattle.smf_fmri.specs.Matching.{service_of}
 use Rattle.smf_fmri.specs.Name.{short}
@@ -50,8 +50,9 @@ pub record Count : Type 0 where
 abbrev pub HasCount : Holdings → Count → Type 0
 HasCount h c = count_of h c.counter ≡ c.value
 
-abbrev pub ShowsCount : Count → Row → Type 0
-ShowsCount c r = (id : ℤ) × (r ≡ Int id ∷ Text (counter_text c.counter) ∷ Int (pos c.value) ∷ [])
+pub record ShowsCount (c : Count) (r : Row) : Type 0 where
+  pub counter_is : column r 1 ≡ Text (counter_text c.counter)
+  pub value_is : column r 2 ≡ Int (pos c.value)
 
 -- ---- the table of services
 
@@ -59,7 +60,7 @@ abbrev pub HasService : Holdings → List ℕ → Type 0
 HasService h name = (s : Service) × (service h name ≡ Some s)
 
 abbrev pub ShowsService : List ℕ → Row → Type 0
-ShowsService name r = (id : ℤ) × (r ≡ Int id ∷ Text name ∷ [])
+ShowsService name r = column r 1 ≡ Text name
 
 -- ---- the table of instances
 
@@ -79,8 +80,12 @@ pub record ShowsInstance (i : Instance) (r : Row) : Type 0 where
   pub service : List ℕ
   pub name : List ℕ
   pub split : IsSplit i.name service name
-  pub is : r ≡ Int (pos i.number) ∷ Null ∷ Text service ∷ Text name ∷ Text (row_text i.row)
-      ∷ optional_value i.start ∷ optional_value i.previous ∷ []
+  pub number_is : column r 0 ≡ Int (pos i.number)
+  pub service_is : column r 2 ≡ Text service
+  pub name_is : column r 3 ≡ Text name
+  pub row_is : column r 4 ≡ Text (row_text i.row)
+  pub start_is : column r 5 ≡ optional_value i.start
+  pub previous_is : column r 6 ≡ optional_value i.previous
 
 -- ---- the table of groups
 
@@ -99,8 +104,10 @@ pub data HasGroup (h : Holdings) (x : OwnedGroup) : Type 0 where
 
 pub record ShowsGroup (x : OwnedGroup) (r : Row) : Type 0 where
   pub formed : AreGroups (x.group ∷ [])
-  pub id : ℤ
-  pub is : r ≡ Int id ∷ Text x.service ∷ Int (pos x.number) ∷ Text x.group.name ∷ Blob (spelled (x.group ∷ [])) ∷ []
+  pub service_is : column r 1 ≡ Text x.service
+  pub number_is : column r 2 ≡ Int (pos x.number)
+  pub name_is : column r 3 ≡ Text x.group.name
+  pub body_is : column r 4 ≡ Blob (spelled (x.group ∷ []))
 
 -- ---- the table of snapshots
 
@@ -110,13 +117,15 @@ HasSnapshot h s = snapshot h s.number ≡ Some s
 pub record ShowsSnapshot (s : Snapshot) (r : Row) : Type 0 where
   pub service : AreGroups s.service_groups
   pub instance : AreGroups s.instance_groups
-  pub is : r ≡ Int (pos s.number) ∷ Null ∷ Int (pos s.instance)
-      ∷ Blob (spelled_both s.service_groups s.instance_groups) ∷ []
+  pub number_is : column r 0 ≡ Int (pos s.number)
+  pub instance_is : column r 2 ≡ Int (pos s.instance)
+  pub body_is : column r 3 ≡ Blob (spelled_both s.service_groups s.instance_groups)
 
 -- ---- the table of restarters
 
 abbrev pub HasLaunch : Holdings → Launch → Type 0
 HasLaunch h l = lookup by_launch h.launches l.restarter ≡ Some l
 
-abbrev pub ShowsLaunch : Launch → Row → Type 0
-ShowsLaunch l r = (id : ℤ) × (r ≡ Int id ∷ Text l.restarter ∷ Int (pos l.count) ∷ [])
+pub record ShowsLaunch (l : Launch) (r : Row) : Type 0 where
+  pub restarter_is : column r 1 ≡ Text l.restarter
+  pub count_is : column r 2 ≡ Int (pos l.count)

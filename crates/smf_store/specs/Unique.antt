@@ -2,7 +2,7 @@
 use Rattle.std.proofs.Common.{◌≡◌, ◌<◌, ℕ, suc, zero, pos, List, [], ◌∷◌, ◌++◌, get_or, Option, Some, None, Result, Ok, IsTrue, refl, sym, ap, ap₂, subst, ◌∙◌, arith}
 use Rattle.sqlite.specs.declared.types.Value.{Value}
 use Rattle.sqlite.specs.declared.types.Value.TheVariants.{Int, Text, Blob}
-use Rattle.sqlite.specs.Order.{Row, column}
+use Rattle.sqlite.specs.Order.{Row}
 use Rattle.sqlite.specs.Tree.{Trees}
 use Rattle.sqlite.specs.Effect.{Database}
 use Rattle.sqlite.specs.State.{State}
@@ -112,22 +112,20 @@ one_list o xs ys r s f g = same_lists o xs ys r s (λ k. lookups_by (lookup o xs
 
 one_instance : (i j : Instance) (r : Row) → ShowsInstance i r → ShowsInstance j r → i ≡ j
 one_instance i j r p q =
-    let same = sym p.is ∙ q.is in
-    let service : p.service ≡ q.service = text_is p.service q.service (ap (λ x. column x 2) same) in
-    let name : p.name ≡ q.name = text_is p.name q.name (ap (λ x. column x 3) same) in
+    let service : p.service ≡ q.service = text_is p.service q.service (sym p.service_is ∙ q.service_is) in
+    let name : p.name ≡ q.name = text_is p.name q.name (sym p.name_is ∙ q.name_is) in
     let whole : i.name ≡ j.name = p.split.joined ∙ ap₂ (λ a b. a ++ 58 ∷ b) service name ∙ sym q.split.joined in
-    let number : i.number ≡ j.number = int_is i.number j.number (ap (λ x. column x 0) same) in
-    let row : i.row ≡ j.row = row_is i.row j.row p.again q.again (text_is (row_text i.row) (row_text j.row) (ap (λ x. column x 4) same)) in
-    let start : i.start ≡ j.start = optional_is i.start j.start (ap (λ x. column x 5) same) in
-    let previous : i.previous ≡ j.previous = optional_is i.previous j.previous (ap (λ x. column x 6) same) in
+    let number : i.number ≡ j.number = int_is i.number j.number (sym p.number_is ∙ q.number_is) in
+    let row : i.row ≡ j.row = row_is i.row j.row p.again q.again (text_is (row_text i.row) (row_text j.row) (sym p.row_is ∙ q.row_is)) in
+    let start : i.start ≡ j.start = optional_is i.start j.start (sym p.start_is ∙ q.start_is) in
+    let previous : i.previous ≡ j.previous = optional_is i.previous j.previous (sym p.previous_is ∙ q.previous_is) in
     λ z. record { number = number z; name = whole z; row = row z; start = start z; previous = previous z }
 
 one_group : (x y : OwnedGroup) (r : Row) → ShowsGroup x r → ShowsGroup y r → x ≡ y
 one_group x y r p q =
-    let same = sym p.is ∙ q.is in
-    let service : x.service ≡ y.service = text_is x.service y.service (ap (λ z. column z 1) same) in
-    let number : x.number ≡ y.number = int_is x.number y.number (ap (λ z. column z 2) same) in
-    let group : x.group ≡ y.group = head_is x.group y.group (groups_are (x.group ∷ []) (y.group ∷ []) p.formed q.formed (blob_is (spelled (x.group ∷ [])) (spelled (y.group ∷ [])) (ap (λ z. column z 4) same))) in
+    let service : x.service ≡ y.service = text_is x.service y.service (sym p.service_is ∙ q.service_is) in
+    let number : x.number ≡ y.number = int_is x.number y.number (sym p.number_is ∙ q.number_is) in
+    let group : x.group ≡ y.group = head_is x.group y.group (groups_are (x.group ∷ []) (y.group ∷ []) p.formed q.formed (blob_is (spelled (x.group ∷ [])) (spelled (y.group ∷ [])) (sym p.body_is ∙ q.body_is))) in
     λ z. record { service = service z; number = number z; group = group z }
 
 abbrev kept_in : Snapshot → Kept
@@ -135,26 +133,23 @@ kept_in s = record { service = s.service_groups; instance = s.instance_groups }
 
 one_snapshot : (s t : Snapshot) (r : Row) → ShowsSnapshot s r → ShowsSnapshot t r → s ≡ t
 one_snapshot s t r p q =
-    let same = sym p.is ∙ q.is in
-    let number : s.number ≡ t.number = int_is s.number t.number (ap (λ z. column z 0) same) in
-    let owner : s.instance ≡ t.instance = int_is s.instance t.instance (ap (λ z. column z 2) same) in
+    let number : s.number ≡ t.number = int_is s.number t.number (sym p.number_is ∙ q.number_is) in
+    let owner : s.instance ≡ t.instance = int_is s.instance t.instance (sym p.instance_is ∙ q.instance_is) in
     let both : kept_in s ≡ kept_in t =
     kept_is (kept_in s) (kept_in t) (record { service = p.service; instance = p.instance }) (record { service = q.service; instance = q.instance })
-    (blob_is (spelled_both s.service_groups s.instance_groups) (spelled_both t.service_groups t.instance_groups) (ap (λ z. column z 3) same)) in
+    (blob_is (spelled_both s.service_groups s.instance_groups) (spelled_both t.service_groups t.instance_groups) (sym p.body_is ∙ q.body_is)) in
     λ z. record { number = number z; instance = owner z; service_groups = (both z).service; instance_groups = (both z).instance }
 
 one_launch : (l m : Launch) (r : Row) → ShowsLaunch l r → ShowsLaunch m r → l ≡ m
 one_launch l m r p q =
-    let same = sym p.1 ∙ q.1 in
-    let name : l.restarter ≡ m.restarter = text_is l.restarter m.restarter (ap (λ z. column z 1) same) in
-    let count : l.count ≡ m.count = int_is l.count m.count (ap (λ z. column z 2) same) in
+    let name : l.restarter ≡ m.restarter = text_is l.restarter m.restarter (sym p.restarter_is ∙ q.restarter_is) in
+    let count : l.count ≡ m.count = int_is l.count m.count (sym p.count_is ∙ q.count_is) in
     λ z. record { restarter = name z; count = count z }
 
 one_count : (c d : Count) (r : Row) → ShowsCount c r → ShowsCount d r → c ≡ d
 one_count c d r p q =
-    let same = sym p.1 ∙ q.1 in
-    let counter : c.counter ≡ d.counter = counter_is c.counter d.counter (text_is (counter_text c.counter) (counter_text d.counter) (ap (λ z. column z 1) same)) in
-    let value : c.value ≡ d.value = int_is c.value d.value (ap (λ z. column z 2) same) in
+    let counter : c.counter ≡ d.counter = counter_is c.counter d.counter (text_is (counter_text c.counter) (counter_text d.counter) (sym p.counter_is ∙ q.counter_is)) in
+    let value : c.value ≡ d.value = int_is c.value d.value (sym p.value_is ∙ q.value_is) in
     λ z. record { counter = counter z; value = value z }
 
 -- what one value has, another that the same rows show has too
@@ -177,7 +172,7 @@ module _ (trees : Trees) (h k : Holdings) (p : Show trees h) (q : Show trees k) 
   service_there name s e =
       let r = p.services.there name (s, e) in
       let y = q.services.only r.0 r.1 in
-      let same : name ≡ y.0 = text_is name y.0 (ap (λ z. column z 1) (sym r.2.1 ∙ y.2.1)) in
+      let same : name ≡ y.0 = text_is name y.0 (sym r.2 ∙ y.2) in
       subst (HasService k) (sym same) y.1
 
   service_group_by : (name : List ℕ) (t : Service) (key : List ℕ) (g : GroupRecord) → service k name ≡ Some t → g.name ≡ key

@@ -1,9 +1,10 @@
 ghost use Rattle.std.specs.Prelude.{◌≡◌};
-ghost use Rattle.smf_tables.specs.Calls.{Does, IsInside, LeavesAsBefore};
+ghost use Rattle.smf_tables.specs.Calls.{CommitsNone, Does, IsInside, LeavesAsBefore};
 ghost use Rattle.smf_tables.specs.Schema.{five_tables, four_tables, no_schema, one_table};
 ghost use Rattle.smf_tables.specs.Schema.{store_schema, three_tables, two_tables};
 ghost use Rattle.smf_store.specs.Creating.{Counts, Creates, Made, MayMake};
-ghost use Rattle.smf_store.specs.Ends.{LeavesOr};
+ghost use Rattle.smf_store.specs.Ends.{Fails, LeavesOr};
+ghost use Rattle.smf_store.specs.Steps.{Kept};
 
 use crate::fault::WriteFault;
 use smf_tables::add_meta;
@@ -14,6 +15,7 @@ fn create_meta<S: Alter>(tx: &mut Transaction<'_, S>) -> Result<(), WriteFault>
     requires { IsInside S.Store tx.old.conn.now }
     ensures same_reference { tx.new.conn.ghost_name ≡ tx.old.conn.ghost_name }
     ensures ok { Does (Creates no_schema one_table) S.Store tx.old.conn.now tx.new.conn.now result }
+    ensures err { CommitsNone S.Store tx.old.conn.now tx.new.conn.now result }
     ensures crash { LeavesAsBefore S.Store tx.old.conn.now tx.new.conn.now }
 {
     tx.execute(
@@ -28,6 +30,7 @@ fn create_service<S: Alter>(tx: &mut Transaction<'_, S>) -> Result<(), WriteFaul
     requires { IsInside S.Store tx.old.conn.now }
     ensures same_reference { tx.new.conn.ghost_name ≡ tx.old.conn.ghost_name }
     ensures ok { Does (Creates one_table two_tables) S.Store tx.old.conn.now tx.new.conn.now result }
+    ensures err { CommitsNone S.Store tx.old.conn.now tx.new.conn.now result }
     ensures crash { LeavesAsBefore S.Store tx.old.conn.now tx.new.conn.now }
 {
     tx.execute("CREATE TABLE service (name TEXT PRIMARY KEY) STRICT", &[])?;
@@ -39,6 +42,7 @@ fn create_instance<S: Alter>(tx: &mut Transaction<'_, S>) -> Result<(), WriteFau
     requires { IsInside S.Store tx.old.conn.now }
     ensures same_reference { tx.new.conn.ghost_name ≡ tx.old.conn.ghost_name }
     ensures ok { Does (Creates two_tables three_tables) S.Store tx.old.conn.now tx.new.conn.now result }
+    ensures err { CommitsNone S.Store tx.old.conn.now tx.new.conn.now result }
     ensures crash { LeavesAsBefore S.Store tx.old.conn.now tx.new.conn.now }
 {
     tx.execute(
@@ -53,6 +57,7 @@ fn create_grp<S: Alter>(tx: &mut Transaction<'_, S>) -> Result<(), WriteFault>
     requires { IsInside S.Store tx.old.conn.now }
     ensures same_reference { tx.new.conn.ghost_name ≡ tx.old.conn.ghost_name }
     ensures ok { Does (Creates three_tables four_tables) S.Store tx.old.conn.now tx.new.conn.now result }
+    ensures err { CommitsNone S.Store tx.old.conn.now tx.new.conn.now result }
     ensures crash { LeavesAsBefore S.Store tx.old.conn.now tx.new.conn.now }
 {
     tx.execute(
@@ -67,6 +72,7 @@ fn create_snap<S: Alter>(tx: &mut Transaction<'_, S>) -> Result<(), WriteFault>
     requires { IsInside S.Store tx.old.conn.now }
     ensures same_reference { tx.new.conn.ghost_name ≡ tx.old.conn.ghost_name }
     ensures ok { Does (Creates four_tables five_tables) S.Store tx.old.conn.now tx.new.conn.now result }
+    ensures err { CommitsNone S.Store tx.old.conn.now tx.new.conn.now result }
     ensures crash { LeavesAsBefore S.Store tx.old.conn.now tx.new.conn.now }
 {
     tx.execute(
@@ -81,6 +87,7 @@ fn create_restarter<S: Alter>(tx: &mut Transaction<'_, S>) -> Result<(), WriteFa
     requires { IsInside S.Store tx.old.conn.now }
     ensures same_reference { tx.new.conn.ghost_name ≡ tx.old.conn.ghost_name }
     ensures ok { Does (Creates five_tables store_schema) S.Store tx.old.conn.now tx.new.conn.now result }
+    ensures err { CommitsNone S.Store tx.old.conn.now tx.new.conn.now result }
     ensures crash { LeavesAsBefore S.Store tx.old.conn.now tx.new.conn.now }
 {
     tx.execute(
@@ -95,6 +102,7 @@ fn create_tables<S: Alter>(tx: &mut Transaction<'_, S>) -> Result<(), WriteFault
     requires { IsInside S.Store tx.old.conn.now }
     ensures same_reference { tx.new.conn.ghost_name ≡ tx.old.conn.ghost_name }
     ensures ok { Does (Creates no_schema store_schema) S.Store tx.old.conn.now tx.new.conn.now result }
+    ensures err { CommitsNone S.Store tx.old.conn.now tx.new.conn.now result }
     ensures crash { LeavesAsBefore S.Store tx.old.conn.now tx.new.conn.now }
 {
     create_meta(tx)?;
@@ -111,6 +119,7 @@ fn add_counters<S: Alter>(tx: &mut Transaction<'_, S>) -> Result<(), WriteFault>
     requires { IsInside S.Store tx.old.conn.now }
     ensures same_reference { tx.new.conn.ghost_name ≡ tx.old.conn.ghost_name }
     ensures ok { Does (Counts) S.Store tx.old.conn.now tx.new.conn.now result }
+    ensures err { CommitsNone S.Store tx.old.conn.now tx.new.conn.now result }
     ensures crash { LeavesAsBefore S.Store tx.old.conn.now tx.new.conn.now }
 {
     add_meta(tx, "version", 2)?;
@@ -124,6 +133,7 @@ fn add_counters<S: Alter>(tx: &mut Transaction<'_, S>) -> Result<(), WriteFault>
 /// Makes an empty database a store in which nothing is held, in one transaction.
 pub(crate) fn make_store<S: Alter>(conn: &mut Connection<S>) -> Result<(), WriteFault>
     ensures ok { Does Made S.Store conn.old conn.new result }
+    ensures err { Fails Kept S.Store conn.old conn.new result }
     ensures crash { LeavesOr MayMake S.Store conn.old conn.new }
 {
     if !conn.is_autocommit() {

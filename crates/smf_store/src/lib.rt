@@ -1,14 +1,23 @@
 //! The repository in the tables of a database.
 //! Modules: `creating` (the six tables of a new store), `fault` (why a write fails), `fields` (what rows hold),
-//! `rows` (rows put in), `making` (one change), `writing` (all changes of a command), `store` (the journal).
+//! `rows` (rows put in), `making` (one change), `writing` (all changes of a command), `cells` (values of a row that is
+//! read), `counting` (the counters), `gathering` (rows made what is held), `reading` (table by table), `opening` (all of
+//! a store), `refusal` (why a store is not opened), `store` (the journal).
 #![tactic(auto)]
 
+mod cells;
+mod counting;
 mod creating;
 mod fault;
 mod fields;
+mod gathering;
 mod making;
+mod opening;
+mod reading;
+mod refusal;
 mod rows;
 mod store;
 mod writing;
 
+pub use refusal::{OpenFault, StoreTable};
 pub use store::Store;

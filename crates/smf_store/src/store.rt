@@ -1,17 +1,21 @@
-ghost use Rattle.std.specs.Prelude.{◌≡◌, IfErr, IfOk, IsTrue};
+ghost use Rattle.std.specs.Prelude.{◌≡◌, ◌↔◌, IfErr, IfOk, IsTrue};
 ghost use Rattle.sqlite.specs.Held.{state};
 ghost use Rattle.sqlite.specs.State.{HasCleanDisk};
 ghost use Rattle.smf_model.specs.Look.{empty};
 ghost use Rattle.smf_tables.specs.Schema.{no_schema};
 ghost use Rattle.smf_store.specs.Creating.{MayMake};
 ghost use Rattle.smf_store.specs.Ends.{LeavesOr};
+ghost use Rattle.smf_store.specs.Opens.{IsFoundIn, MayOpen};
+ghost use Rattle.smf_store.specs.Steps.{Kept};
 ghost use Rattle.smf_store.specs.Holds.{Could, IsSound, Keeps};
 ghost use Rattle.smf_store.specs.Unique.{stays_settled};
 
 use crate::creating::make_store;
 use crate::fault::repo_fault;
+use crate::opening::read_store;
+use crate::refusal::OpenFault;
 use crate::writing::write_all;
-use smf_model::{Change, Journal, RepoFault};
+use smf_model::{Change, Journal, RepoFault, Tables};
 use sqlite::{Alter, Connection};
 use sqlite_schema::schema::Schema;
 use std::alloc::Global;
@@ -51,6 +55,31 @@ impl<S: Alter> Store<S> {
         }
     }
 
+    /// The journal over a database, and the value that its tables hold, which is the only one that stands in them. An
+    /// empty database is made new. A database that is not opened is handed back.
+    pub fn open(
+        alloc: Global,
+        mut conn: Connection<S>,
+    ) -> Result<(Store<S>, Tables), (OpenFault, Connection<S>)>
+        ensures stands { IfOk result (λ p. IsSound (state S.Store p.0.conn) → Keeps (state S.Store p.0.conn) p.1) }
+        ensures sound { IfOk result (λ p. HasCleanDisk (state S.Store p.0.conn) → IsSound (state S.Store p.0.conn)) }
+        ensures found { IfOk result (λ p. HasCleanDisk (state S.Store p.0.conn) → IsFoundIn (state S.Store conn) (state S.Store p.0.conn) p.1) }
+        ensures crash { IfOk result (λ p. LeavesOr MayOpen S.Store conn p.0.conn) }
+        ensures crash_err { IfErr result (λ e. LeavesOr MayOpen S.Store conn e.1) }
+        ensures kept { IfErr result (λ e. HasCleanDisk (state S.Store e.1) → Kept (state S.Store conn) (state S.Store e.1)) }
+    {
+        if is_bare(conn.schema()) {
+            match make_store(&mut conn) {
+                Ok(()) => return Ok((Store { alloc, conn }, Tables::new(alloc))),
+                Err(fault) => return Err((OpenFault::from(fault), conn)),
+            }
+        }
+        match read_store(alloc, &mut conn) {
+            Ok(tables) => Ok((Store { alloc, conn }, tables)),
+            Err(fault) => Err((fault, conn)),
+        }
+    }
+
     /// The database.
     pub fn release(self) -> Connection<S>
         ensures { result ≡ self.conn }
@@ -62,7 +91,7 @@ impl<S: Alter> Store<S> {
 
 /// Whether a database has no tables, indexes and views.
 fn is_bare(schema: &Schema) -> bool
-    ensures { IsTrue result → schema.now ≡ no_schema }
+    ensures { IsTrue result ↔ (schema.now ≡ no_schema) }
 {
     if !schema.tables.is_empty() || !schema.indexes.is_empty() {
         return false;

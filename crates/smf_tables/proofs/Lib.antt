@@ -6,3 +6,7 @@ pub mod Creates
 pub mod Statements
 pub mod Steps
 pub mod Looks
+pub mod Wholes
+pub mod Wide
+pub mod Rowed
+pub mod Sizes

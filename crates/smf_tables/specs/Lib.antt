@@ -2,3 +2,5 @@ pub mod Schema
 pub mod Rows
 pub mod Calls
 pub mod Statements
+pub mod Reading
+pub mod Layout

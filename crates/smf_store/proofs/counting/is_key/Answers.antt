@@ -1,0 +1,1 @@
+use Rattle.smf_store.proofs.counting.is_key.Goals as goal

@@ -1,0 +1,6 @@
+use Rattle.std.proofs.Common.{take}
+use Rattle.smf_store.specs.Gathered.{GathersGroups}
+use Rattle.smf_store.proofs.gathering.gather_groups.Given as goal
+
+abbrev pub invariant-loop-row : goal.invariant-loop-row
+invariant-loop-row l = GathersGroups (take l.row-index l.rows) l.fn.tables l.tables

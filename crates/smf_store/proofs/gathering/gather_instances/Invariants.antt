@@ -1,0 +1,6 @@
+use Rattle.std.proofs.Common.{take}
+use Rattle.smf_store.specs.Gathered.{GathersInstances}
+use Rattle.smf_store.proofs.gathering.gather_instances.Given as goal
+
+abbrev pub invariant-loop-row : goal.invariant-loop-row
+invariant-loop-row l = GathersInstances (take l.row-index l.rows) l.fn.tables l.tables

@@ -1,0 +1,15 @@
+use Rattle.std.proofs.Common.{◌≡◌, ◌∙◌, ◌+◌, ◌++◌, ◌∷◌, [], sym, ap, subst, take, take_all}
+use Rattle.std.proofs.lemmas.List.{take_more}
+use Rattle.smf_store.specs.Gathered.{Rows, AreRead, GathersServices}
+use Rattle.smf_store.proofs.gathering.gather_services.Goals as goal
+
+pub loop-row-preserved : goal.loop-row-preserved
+loop-row-preserved c rows none a =
+    let all = c.args.rows.now in
+    let at = c.loop-row.row-index in
+    let one = c.in_ok-add_service.ensures (record rows { services = take at all }) (c.loop-row.invariant rows none a) in
+    let is = take_more all at c.row-item.result c.loop-row-test.true ∙ ap (λ r. take at all ++ r ∷ []) (sym c.row-item.is) in
+    subst (λ l. AreRead (record rows { services = l }) c.add_service.new.tables) (sym is) one
+
+pub returns : goal.returns
+returns c = subst (λ l. GathersServices l c.args.tables.now c.loop-row.tables) (take_all _ _ c.loop-row-test.false) c.loop-row.invariant

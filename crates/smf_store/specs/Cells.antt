@@ -1,0 +1,50 @@
+-- How parts of what is held are shown by the columns of a row.
+use Rattle.std.specs.Prelude.{◌≡◌, ℕ, List, [], ◌∷◌, ◌++◌, Ok, Some, None}
+use Rattle.sqlite.specs.declared.types.Value.TheVariants.{Text, Blob}
+use Rattle.sqlite.specs.Order.{Row, column}
+use Rattle.smf_state.specs.declared.row.Row.{Row as StateRow}
+use Rattle.smf_state.specs.Texts.{read_row, row_text}
+use Rattle.smf_value.specs.Body.{AreGroups, spelled}
+use Rattle.smf_value.specs.Groups.{GroupRecord}
+use Rattle.smf_fmri.specs.ByKey.{put}
+use Rattle.smf_fmri.specs.Matching.{service_of}
+use Rattle.smf_fmri.specs.Name.{short}
+use Rattle.smf_value.specs.Groups.{by_group}
+use Rattle.smf_model.specs.declared.change.Change.TheVariants.{PutGroups}
+use Rattle.smf_model.specs.declared.held.Instance.{Instance}
+use Rattle.smf_model.specs.declared.held.Owner.{Owner}
+use Rattle.smf_model.specs.Holdings.{Holdings}
+use Rattle.smf_model.specs.Look.{changed, group_in, instance, owned}
+use Rattle.smf_store.specs.Shown.{IsSplit}
+
+-- the name of an instance, in two columns
+pub record ShowsWhole (whole : List ℕ) (r : Row) : Type 0 where
+  pub front : List ℕ
+  pub behind : List ℕ
+  pub split : IsSplit whole front behind
+  pub service_is : column r 2 ≡ Text front
+  pub name_is : column r 3 ≡ Text behind
+
+-- the row of an instance, in its text
+pub record ShowsState (row : StateRow) (r : Row) : Type 0 where
+  pub again : read_row (row_text row) ≡ Ok row
+  pub row_is : column r 4 ≡ Text (row_text row)
+
+-- a group, by its name and in its body
+pub record ShowsBody (g : GroupRecord) (r : Row) : Type 0 where
+  pub formed : AreGroups (g ∷ [])
+  pub name_is : column r 3 ≡ Text g.name
+  pub body_is : column r 4 ≡ Blob (spelled (g ∷ []))
+
+-- an owner that is there got a group, of whose name it had none
+pub record PutsGroup (owner : Owner) (g : GroupRecord) (old new : Holdings) : Type 0 where
+  pub groups : List GroupRecord
+  pub there : owned old owner ≡ Some groups
+  pub none : group_in groups g.name ≡ None
+  pub made : new ≡ changed old (PutGroups owner (put by_group g groups))
+
+-- an instance is there, and the service is that of its name
+pub record IsOfService (h : Holdings) (n : ℕ) (service : List ℕ) : Type 0 where
+  pub found : Instance
+  pub there : instance h n ≡ Some found
+  pub service_is : service ≡ short ++ service_of found.name

@@ -1,0 +1,43 @@
+-- How the counters are read.
+use Rattle.std.specs.Prelude.{◌≡◌, ◌≤◌, ℕ, ℤ, pos, List, [], ◌∷◌, codes, Option, Some, None}
+use Rattle.sqlite.specs.declared.types.Value.TheVariants.{Int, Text}
+use Rattle.sqlite.specs.Order.{Row, column}
+use Rattle.sqlite_rules.specs.Lists.{Has}
+use Rattle.smf_store.specs.declared.counting.Counters.{Counters}
+use Rattle.smf_store.specs.Shown.{Counter, counter_text}
+
+-- one row has the key, and this value, and no other row has the key with another
+pub record Finds (key : List ℕ) (v : ℤ) (rows : List Row) : Type 0 where
+  pub row : Row
+  pub there : Has rows row
+  pub key_is : column row 1 ≡ Text key
+  pub value_is : column row 2 ≡ Int v
+  pub only : (r : Row) → Has rows r → column r 1 ≡ Text key → column r 2 ≡ Int v
+
+-- what was found of the key in these rows
+abbrev pub SoFar : List ℕ → Option ℤ → List Row → Type 0
+SoFar key None rows = (r : Row) → Has rows r → column r 1 ≡ Text key → ⊥
+SoFar key (Some v) rows = Finds key v rows
+
+-- what one row more has of it
+pub data LooksAt (key : List ℕ) (row : Row) (old new : Option ℤ) : Type 0 where
+  other : (column row 1 ≡ Text key → ⊥) → new ≡ old → LooksAt key row old new
+  has : (v : ℤ) → column row 1 ≡ Text key → column row 2 ≡ Int v → new ≡ Some v → old ≡ None → LooksAt key row old new
+
+-- a text is the key of a counter
+pub record IsKey (text : List ℕ) : Type 0 where
+  pub counter : Counter
+  pub is : text ≡ counter_text counter
+
+abbrev pub IsKnown : Row → Type 0
+IsKnown r = (c : Counter) × (column r 1 ≡ Text (counter_text c))
+
+-- the rows are those of the counters of a store, with these values
+pub record AreCounters (c : Counters) (rows : List Row) : Type 0 where
+  pub version : Finds (codes "version") (pos 2) rows
+  pub layout : Finds (codes "layout") (pos 2) rows
+  pub revision : Finds (codes "revision") (pos c.revision) rows
+  pub next_instance : Finds (codes "next_instance") (pos c.next_instance) rows
+  pub next_snapshot : Finds (codes "next_snapshot") (pos c.next_snapshot) rows
+  pub first : 1 ≤ c.next_instance
+  pub known : (r : Row) → Has rows r → IsKnown r

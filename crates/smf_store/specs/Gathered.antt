@@ -1,0 +1,64 @@
+-- What is read of the rows of the six tables, one after another.
+use Rattle.std.specs.Prelude.{◌≡◌, ℕ, List, [], ◌∷◌, ◌++◌}
+use Rattle.sqlite.specs.Order.{Row}
+use Rattle.sqlite_rules.specs.Lists.{Has}
+use Rattle.smf_model.specs.Holdings.{Holdings}
+use Rattle.smf_model.specs.Laws.{IsNumbered}
+use Rattle.smf_store.specs.Shown.{HasCount, ShowsCount, HasService, ShowsService, HasInstance, ShowsInstance, HasGroup, ShowsGroup, HasSnapshot, ShowsSnapshot, HasLaunch, ShowsLaunch}
+use Rattle.smf_store.specs.Holds.{IsArranged}
+
+-- each member has a row, and each row shows a member
+pub record Matches {X : Type 0} (Member : X → Type 0) (Shows : X → Row → Type 0) (rows : List Row) : Type 0 where
+  pub there : (x : X) → Member x → (r : Row) × Has rows r × Shows x r
+  pub only : (r : Row) → Has rows r → (x : X) × Member x × Shows x r
+
+-- the rows of each table that were read
+pub record Rows : Type 0 where
+  pub counts : List Row
+  pub services : List Row
+  pub instances : List Row
+  pub groups : List Row
+  pub snapshots : List Row
+  pub launches : List Row
+
+-- these rows show a value, and numbers were given once in it
+pub record AreRead (rows : Rows) (h : Holdings) : Type 0 where
+  pub counts : Matches (HasCount h) ShowsCount rows.counts
+  pub services : Matches (HasService h) ShowsService rows.services
+  pub instances : Matches (HasInstance h) ShowsInstance rows.instances
+  pub groups : Matches (HasGroup h) ShowsGroup rows.groups
+  pub snapshots : Matches (HasSnapshot h) ShowsSnapshot rows.snapshots
+  pub launches : Matches (HasLaunch h) ShowsLaunch rows.launches
+  pub arranged : IsArranged h
+  pub numbered : IsNumbered h
+
+-- one row more was read, and all rows of a table
+abbrev pub AddsServiceRow : Row → Holdings → Holdings → Type 0
+AddsServiceRow r k h = (rows : Rows) → AreRead rows k → AreRead (record rows { services = rows.services ++ r ∷ [] }) h
+
+abbrev pub GathersServices : List Row → Holdings → Holdings → Type 0
+GathersServices all k h = (rows : Rows) → rows.services ≡ [] → AreRead rows k → AreRead (record rows { services = all }) h
+
+abbrev pub AddsInstanceRow : Row → Holdings → Holdings → Type 0
+AddsInstanceRow r k h = (rows : Rows) → AreRead rows k → AreRead (record rows { instances = rows.instances ++ r ∷ [] }) h
+
+abbrev pub GathersInstances : List Row → Holdings → Holdings → Type 0
+GathersInstances all k h = (rows : Rows) → rows.instances ≡ [] → AreRead rows k → AreRead (record rows { instances = all }) h
+
+abbrev pub AddsGroupOf : Row → Holdings → Holdings → Type 0
+AddsGroupOf r k h = (rows : Rows) → AreRead rows k → AreRead (record rows { groups = rows.groups ++ r ∷ [] }) h
+
+abbrev pub GathersGroups : List Row → Holdings → Holdings → Type 0
+GathersGroups all k h = (rows : Rows) → rows.groups ≡ [] → AreRead rows k → AreRead (record rows { groups = all }) h
+
+abbrev pub AddsSnapshotRow : Row → Holdings → Holdings → Type 0
+AddsSnapshotRow r k h = (rows : Rows) → AreRead rows k → AreRead (record rows { snapshots = rows.snapshots ++ r ∷ [] }) h
+
+abbrev pub GathersSnapshots : List Row → Holdings → Holdings → Type 0
+GathersSnapshots all k h = (rows : Rows) → rows.snapshots ≡ [] → AreRead rows k → AreRead (record rows { snapshots = all }) h
+
+abbrev pub AddsLaunchRow : Row → Holdings → Holdings → Type 0
+AddsLaunchRow r k h = (rows : Rows) → AreRead rows k → AreRead (record rows { launches = rows.launches ++ r ∷ [] }) h
+
+abbrev pub GathersLaunches : List Row → Holdings → Holdings → Type 0
+GathersLaunches all k h = (rows : Rows) → rows.launches ≡ [] → AreRead rows k → AreRead (record rows { launches = all }) h

@@ -1,0 +1,36 @@
+-- When a table of a schema is one of the six.
+use Rattle.std.specs.Prelude.{◌≡◌, ℕ, List, [], ◌∷◌, codes, Option, Some, false, true}
+use Rattle.sqlite_value.specs.Keys.{plain}
+use Rattle.sqlite_schema.specs.declared.schema.Index.{Index}
+use Rattle.sqlite_schema.specs.declared.schema.Action.TheVariants.{NoAction}
+use Rattle.sqlite_schema.specs.declared.schema.Reference.{Reference}
+use Rattle.sqlite.specs.Table.{Table}
+
+-- the table has no rule beside its columns and keys
+pub record HasNoMore (table : Table) (name : List ℕ) (tree : ℕ) : Type 0 where
+  pub name_is : table.name ≡ name
+  pub tree_is : table.tree ≡ tree
+  pub checks : table.checks ≡ []
+  pub computed : table.computed ≡ []
+  pub stamps : table.stamps ≡ record { places = []; terms = []; formats = [] }
+  pub uncounted : table.is_counted ≡ false
+
+-- its keys: the column that the rowid stands for, the primary key, and one that is unique
+pub record HasKeys (table : Table) (key : Option ℕ) (primary unique : List ℕ) : Type 0 where
+  pub key_is : table.key ≡ key
+  pub primary_is : table.primary ≡ primary
+  pub uniques_is : table.uniques ≡ unique ∷ []
+  pub orders_is : table.orders ≡ plain ∷ []
+
+abbrev pub index : List ℕ → ℕ → ℕ → List ℕ → Index
+index name tree table columns = record { name = name; tree = tree; table = table; columns = columns; order = plain; is_unique = true }
+
+-- the rowid alone
+pub record HasRowKey (table : Table) : Type 0 where
+  pub key_is : table.key ≡ Some 0
+  pub primary_is : table.primary ≡ 0 ∷ []
+  pub uniques_is : table.uniques ≡ []
+  pub orders_is : table.orders ≡ []
+
+abbrev pub to_service : Reference
+to_service = record { columns = 2 ∷ []; parent = codes "service"; parent_columns = codes "name" ∷ []; on_delete = NoAction; on_update = NoAction; is_deferred = false }

@@ -1,0 +1,44 @@
+-- What the query of a whole table shows.
+use Rattle.std.specs.Prelude.{◌≡◌, ℕ, true, List, [], ◌∷◌, map}
+use Rattle.sqlite.specs.Order.{Row, column}
+use Rattle.sqlite.specs.Effect.{IsDatabase}
+use Rattle.sqlite.specs.State.{State, Shows}
+use Rattle.sqlite_rules.specs.Lists.{Has}
+use Rattle.smf_tables.specs.Rows.{IsKeyed}
+use Rattle.smf_tables.specs.Schema.{store_schema}
+
+-- the columns at these places
+abbrev pub shown : List ℕ → Row → Row
+shown places r = map (column r) places
+
+-- each row is shown by these columns, and nothing else is
+pub record AreShown (places : List ℕ) (all rows : List Row) : Type 0 where
+  pub sound : (x : Row) → Has rows x → (r : Row) × Has all r × (x ≡ shown places r)
+  pub complete : (r : Row) → Has all r → Has rows (shown places r)
+  -- where no rowid is shown twice, none stands twice
+  pub keyed : IsKeyed rows → IsKeyed all
+
+-- a look at all of a table, where the six tables are there
+pub record Looks (tree : ℕ) (places : List ℕ) (old new : State) (rows : List Row) : Type 0 where
+  pub shows : Shows old new new.now old.committed true
+  pub same : old.now.schema ≡ store_schema → new.now ≡ old.now
+  pub seen : old.now.schema ≡ store_schema → IsDatabase old.now → AreShown places (old.now.trees tree) rows
+
+abbrev pub LooksAtMeta : State → State → List Row → Type 0
+LooksAtMeta = Looks 0 (0 ∷ 1 ∷ 2 ∷ [])
+
+abbrev pub LooksAtServices : State → State → List Row → Type 0
+LooksAtServices = Looks 2 (0 ∷ 1 ∷ [])
+
+-- the number stands twice, so that each other column has its own place
+abbrev pub LooksAtInstances : State → State → List Row → Type 0
+LooksAtInstances = Looks 4 (0 ∷ 0 ∷ 2 ∷ 3 ∷ 4 ∷ 5 ∷ 6 ∷ [])
+
+abbrev pub LooksAtGroups : State → State → List Row → Type 0
+LooksAtGroups = Looks 6 (0 ∷ 1 ∷ 2 ∷ 3 ∷ 4 ∷ [])
+
+abbrev pub LooksAtSnapshots : State → State → List Row → Type 0
+LooksAtSnapshots = Looks 8 (0 ∷ 0 ∷ 2 ∷ 3 ∷ [])
+
+abbrev pub LooksAtLaunches : State → State → List Row → Type 0
+LooksAtLaunches = Looks 9 (0 ∷ 1 ∷ 2 ∷ [])

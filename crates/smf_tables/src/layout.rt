@@ -1,0 +1,386 @@
+ghost use Rattle.std.specs.Prelude.{◌≡◌, [], ◌∷◌, IsTrue};
+ghost use Rattle.sqlite_value.specs.Keys.{plain};
+ghost use Rattle.smf_tables.specs.Layout.{HasKeys, HasNoMore, HasRowKey, index, to_service};
+ghost use Rattle.smf_tables.specs.Schema.{column, grp, meta, restarter, service, snap, store_schema};
+ghost use Rattle.smf_tables.specs.Schema.{instance as instance_table};
+
+use sqlite_items::Items;
+use sqlite_schema::schema::{Action, Column, Index, Kind, Reference, Schema, Table};
+use sqlite_value::keys::{Collation, Order};
+use sqlite_value::value::{Bytes, Value};
+
+/// Whether a column of a STRICT table has this name and type.
+fn is_column(it: &Column, name: &str, kind: Kind, not_null: bool) -> bool
+    ensures { IsTrue result → it.now ≡ column name.now kind not_null }
+{
+    if it.name.as_slice() != name.as_bytes() || it.kind != kind {
+        return false;
+    }
+    if !it.is_strict || it.not_null != not_null {
+        return false;
+    }
+    if !matches!(it.default, Value::Null) {
+        return false;
+    }
+    it.collation == Collation::Binary
+}
+
+/// Whether a table has this name and this tree, and no rules beside its columns and keys.
+fn has_no_more(table: &Table, name: &str, tree: u32) -> bool
+    ensures { IsTrue result → HasNoMore table.now name.now tree }
+{
+    if table.name.as_slice() != name.as_bytes() || table.tree != tree || table.is_counted {
+        return false;
+    }
+    if !table.checks.roots.is_empty() || !table.computed.is_empty() {
+        return false;
+    }
+    if !table.stamps.places.is_empty() || !table.stamps.terms.roots.is_empty() {
+        return false;
+    }
+    table.stamps.formats.is_empty()
+}
+
+/// Whether there is one unique key, of these columns.
+fn is_only(uniques: &[Items<usize>], unique: &[usize]) -> bool
+    ensures { IsTrue result → uniques.now ≡ unique.now ∷ [] }
+{
+    let [only] = uniques else {
+        return false;
+    };
+    if only.as_slice() != unique {
+        return false;
+    }
+    true
+}
+
+/// Whether there is one order, and it is the plain one.
+fn is_plain(orders: &[Order]) -> bool
+    ensures { IsTrue result → orders.now ≡ plain ∷ [] }
+{
+    let [order] = orders else {
+        return false;
+    };
+    if order.digits != 0 {
+        return false;
+    }
+    true
+}
+
+/// Whether a table has these keys.
+fn has_keys(table: &Table, key: Option<usize>, primary: &[usize], unique: &[usize]) -> bool
+    ensures { IsTrue result → HasKeys table.now key primary.now unique.now }
+{
+    if table.key != key || table.primary.as_slice() != primary {
+        return false;
+    }
+    if !is_only(table.uniques.as_slice(), unique) {
+        return false;
+    }
+    is_plain(table.orders.as_slice())
+}
+
+/// Whether a table has a row key alone.
+fn has_row_key(table: &Table) -> bool
+    ensures { IsTrue result → HasRowKey table.now }
+{
+    if table.key != Some(0) || table.primary.as_slice() != [0].as_slice() {
+        return false;
+    }
+    table.uniques.is_empty() && table.orders.is_empty()
+}
+
+/// Whether the names of a reference's columns are this one alone.
+fn is_name(names: &[Bytes], name: &str) -> bool
+    ensures { IsTrue result → names.now ≡ name.now ∷ [] }
+{
+    let [only] = names else {
+        return false;
+    };
+    if only.as_slice() != name.as_bytes() {
+        return false;
+    }
+    true
+}
+
+/// Whether this is the reference of an instance to its service.
+fn is_reference(it: &Reference) -> bool
+    ensures { IsTrue result → it.now ≡ to_service }
+{
+    if it.columns.as_slice() != [2].as_slice() || it.parent.as_slice() != "service".as_bytes() {
+        return false;
+    }
+    if !is_name(it.parent_columns.as_slice(), "name") || it.is_deferred {
+        return false;
+    }
+    it.on_delete == Action::NoAction && it.on_update == Action::NoAction
+}
+
+/// Whether there is no other reference.
+fn has_reference(table: &Table) -> bool
+    ensures { IsTrue result → table.now.references ≡ to_service ∷ [] }
+{
+    let [only] = table.references.as_slice() else {
+        return false;
+    };
+    if !is_reference(only) {
+        return false;
+    }
+    true
+}
+
+/// Whether these are the columns of the table of counters.
+fn are_meta_columns(columns: &[Column]) -> bool
+    ensures { IsTrue result → columns.now ≡ meta.columns }
+{
+    let [a, b] = columns else {
+        return false;
+    };
+    if !is_column(a, "k", Kind::Text, true) {
+        return false;
+    }
+    if !is_column(b, "v", Kind::Integer, true) {
+        return false;
+    }
+    true
+}
+
+/// Whether this is the table of counters.
+fn is_meta(table: &Table) -> bool
+    ensures { IsTrue result → table.now ≡ meta }
+{
+    if !has_no_more(table, "meta", 0) || !has_keys(table, None, &[1], &[1]) {
+        return false;
+    }
+    if !are_meta_columns(table.columns.as_slice()) {
+        return false;
+    }
+    table.references.is_empty()
+}
+
+/// Whether these are the columns of the table of services.
+fn are_service_columns(columns: &[Column]) -> bool
+    ensures { IsTrue result → columns.now ≡ service.columns }
+{
+    let [a] = columns else {
+        return false;
+    };
+    if !is_column(a, "name", Kind::Text, true) {
+        return false;
+    }
+    true
+}
+
+/// Whether this is the table of services.
+fn is_service(table: &Table) -> bool
+    ensures { IsTrue result → table.now ≡ service }
+{
+    if !has_no_more(table, "service", 2) || !has_keys(table, None, &[1], &[1]) {
+        return false;
+    }
+    if !are_service_columns(table.columns.as_slice()) {
+        return false;
+    }
+    table.references.is_empty()
+}
+
+/// Whether these are the columns of the table of instances.
+fn are_instance_columns(columns: &[Column]) -> bool
+    ensures { IsTrue result → columns.now ≡ instance_table.columns }
+{
+    let [a, b, c, d, e, f] = columns else {
+        return false;
+    };
+    if !is_column(a, "id", Kind::Integer, false) {
+        return false;
+    }
+    if !is_column(b, "service", Kind::Text, true) {
+        return false;
+    }
+    if !is_column(c, "name", Kind::Text, true) {
+        return false;
+    }
+    if !is_column(d, "rowtext", Kind::Text, true) {
+        return false;
+    }
+    if !is_column(e, "start_snap", Kind::Integer, false) {
+        return false;
+    }
+    if !is_column(f, "previous_snap", Kind::Integer, false) {
+        return false;
+    }
+    true
+}
+
+/// Whether this is the table of instances.
+fn is_instance(table: &Table) -> bool
+    ensures { IsTrue result → table.now ≡ instance_table }
+{
+    if !has_no_more(table, "instance", 4) || !has_keys(table, Some(0), &[0], &[2, 3]) {
+        return false;
+    }
+    if !are_instance_columns(table.columns.as_slice()) {
+        return false;
+    }
+    has_reference(table)
+}
+
+/// Whether these are the columns of the table of groups.
+fn are_grp_columns(columns: &[Column]) -> bool
+    ensures { IsTrue result → columns.now ≡ grp.columns }
+{
+    let [a, b, c, d] = columns else {
+        return false;
+    };
+    if !is_column(a, "service", Kind::Text, true) {
+        return false;
+    }
+    if !is_column(b, "instance", Kind::Integer, true) {
+        return false;
+    }
+    if !is_column(c, "name", Kind::Text, true) {
+        return false;
+    }
+    if !is_column(d, "body", Kind::Blob, true) {
+        return false;
+    }
+    true
+}
+
+/// Whether this is the table of groups.
+fn is_grp(table: &Table) -> bool
+    ensures { IsTrue result → table.now ≡ grp }
+{
+    if !has_no_more(table, "grp", 6) || !has_keys(table, None, &[1, 2, 3], &[1, 2, 3]) {
+        return false;
+    }
+    if !are_grp_columns(table.columns.as_slice()) {
+        return false;
+    }
+    table.references.is_empty()
+}
+
+/// Whether these are the columns of the table of snapshots.
+fn are_snap_columns(columns: &[Column]) -> bool
+    ensures { IsTrue result → columns.now ≡ snap.columns }
+{
+    let [a, b, c] = columns else {
+        return false;
+    };
+    if !is_column(a, "id", Kind::Integer, false) {
+        return false;
+    }
+    if !is_column(b, "instance", Kind::Integer, true) {
+        return false;
+    }
+    if !is_column(c, "body", Kind::Blob, true) {
+        return false;
+    }
+    true
+}
+
+/// Whether this is the table of snapshots.
+fn is_snap(table: &Table) -> bool
+    ensures { IsTrue result → table.now ≡ snap }
+{
+    if !has_no_more(table, "snap", 8) || !has_row_key(table) {
+        return false;
+    }
+    if !are_snap_columns(table.columns.as_slice()) {
+        return false;
+    }
+    table.references.is_empty()
+}
+
+/// Whether these are the columns of the table of restarters.
+fn are_restarter_columns(columns: &[Column]) -> bool
+    ensures { IsTrue result → columns.now ≡ restarter.columns }
+{
+    let [a, b] = columns else {
+        return false;
+    };
+    if !is_column(a, "name", Kind::Text, true) {
+        return false;
+    }
+    if !is_column(b, "launch", Kind::Integer, true) {
+        return false;
+    }
+    true
+}
+
+/// Whether this is the table of restarters.
+fn is_restarter(table: &Table) -> bool
+    ensures { IsTrue result → table.now ≡ restarter }
+{
+    if !has_no_more(table, "restarter", 9) || !has_keys(table, None, &[1], &[1]) {
+        return false;
+    }
+    if !are_restarter_columns(table.columns.as_slice()) {
+        return false;
+    }
+    table.references.is_empty()
+}
+
+/// Whether these are the six tables.
+fn are_tables(tables: &[Table]) -> bool
+    ensures { IsTrue result → tables.now ≡ store_schema.tables }
+{
+    let [a, b, c, d, e, f] = tables else {
+        return false;
+    };
+    if !is_meta(a) || !is_service(b) || !is_instance(c) {
+        return false;
+    }
+    if !is_grp(d) || !is_snap(e) || !is_restarter(f) {
+        return false;
+    }
+    true
+}
+
+/// Whether this is the index of a unique key.
+fn is_index(it: &Index, name: &str, tree: u32, table: u32, columns: &[usize]) -> bool
+    ensures { IsTrue result → it.now ≡ index name.now tree table columns.now }
+{
+    if it.name.as_slice() != name.as_bytes() || it.tree != tree || it.table != table {
+        return false;
+    }
+    if it.columns.as_slice() != columns || it.order.digits != 0 {
+        return false;
+    }
+    it.is_unique
+}
+
+/// Whether these are the indexes of their unique keys.
+fn are_indexes(indexes: &[Index]) -> bool
+    ensures { IsTrue result → indexes.now ≡ store_schema.indexes }
+{
+    let [a, b, c, d, e] = indexes else {
+        return false;
+    };
+    if !is_index(a, "sqlite_autoindex_meta_1", 1, 0, &[1]) {
+        return false;
+    }
+    if !is_index(b, "sqlite_autoindex_service_1", 3, 2, &[1]) {
+        return false;
+    }
+    if !is_index(c, "sqlite_autoindex_instance_1", 5, 4, &[2, 3]) {
+        return false;
+    }
+    if !is_index(d, "sqlite_autoindex_grp_1", 7, 6, &[1, 2, 3]) {
+        return false;
+    }
+    if !is_index(e, "sqlite_autoindex_restarter_1", 10, 9, &[1]) {
+        return false;
+    }
+    true
+}
+
+/// Whether a database has the six tables and nothing else.
+pub fn is_store(schema: &Schema) -> bool
+    ensures { IsTrue result → schema.now ≡ store_schema }
+{
+    if !are_tables(schema.tables.as_slice()) || !are_indexes(schema.indexes.as_slice()) {
+        return false;
+    }
+    schema.views.is_empty()
+}
