@@ -1,0 +1,10 @@
+pub mod Firsts
+pub mod Members
+pub mod Growing
+pub mod Calling
+pub mod Lasting
+pub mod Sounds
+pub mod Spawning
+pub mod Telling
+pub mod Killing
+pub mod Listing

@@ -1,0 +1,261 @@
+ghost use Rattle.std.specs.Prelude.{◌≡◌, ◌≢◌, ◌<◌, ◌⊎◌, [], ◌∷◌, Some, None, true, IfErr, IfOk, IfSome, IfNone, OnErr, OnOk, filter, length, option_to_list, vec_len, vec_capacity};
+ghost use Rattle.smf_contract.specs.Calls.{next_contract};
+ghost use Rattle.smf_contract.specs.Entries.{empty, home, processes};
+ghost use Rattle.smf_edge.specs.Books.{IsTold, ledger_of};
+ghost use Rattle.smf_edge.specs.Ledgers.{contracts_of, left, lives};
+ghost use Rattle.smf_edge.specs.Sound.{IsSound};
+ghost use Rattle.smf_edge.specs.Steps.{IsFound, IsGiven, IsKilled, IsPolled, IsSpawned, happened, listed, restarted};
+ghost use Rattle.smf_edge.specs.declared.fault.KidsFault.TheVariants.{Memory, NoChild, Refused};
+
+use crate::counting::{count_left, processes_of};
+use crate::deed::{Deed, Happening};
+use crate::edits::{behind, drop_deeds, drop_events, first_deed, note_all, take_deed, take_first};
+use crate::fault::KidsFault;
+use crate::note::{Kill, Note, Run};
+use smf_contract::{Event, Table};
+use smf_fmri::{Items, Number};
+use std::alloc::{AllocError, Global};
+
+/// Whom the table says to hold the contracts.
+const HOLDER: u64 = 0;
+
+/// What children keep of themselves.
+#[derive(Drop)]
+pub(crate) struct Book {
+    alloc: Global,
+    table: Table,
+    notes: Vec<Note>,
+    due: Vec<Event>,
+    pending: Vec<Deed>,
+}
+
+impl Book {
+    pub(crate) fn new(alloc: Global) -> Book
+        ensures { ledger_of result ≡ record { notes = []; table = empty; due = []; pending = [] } }
+    {
+        Book {
+            alloc,
+            table: Table::new(alloc),
+            notes: Vec::new(alloc),
+            due: Vec::new(alloc),
+            pending: Vec::new(alloc),
+        }
+    }
+
+    pub(crate) fn notes(&self) -> &[Note]
+        ensures { result.now ≡ (ledger_of self.now).notes }
+    {
+        &self.notes
+    }
+
+    /// How many members a contract has once all that happened is told.
+    pub(crate) fn left(&self, id: Number) -> usize
+        ensures { result ≡ left (ledger_of self.now) id }
+    {
+        let contract = self.table.contract(id);
+        count_left(&contract, self.table.members(), &self.pending, id)
+    }
+
+    /// Makes room for a run in the next contract, which is this one.
+    pub(crate) fn prepare(&mut self, id: Number) -> Result<(), KidsFault>
+        ensures same { ledger_of self.new ≡ ledger_of self.old }
+        ensures next { OnOk result (next_contract self.new.table.table ≡ Some id) }
+        ensures table { OnOk result (self.new.table.room ≡ true) }
+        ensures note { OnOk result (vec_len self.new.notes < vec_capacity self.new.notes) }
+        ensures fault { IfErr result (λ e. (e ≡ Memory) ⊎ ((e ≡ Refused) × (next_contract self.old.table.table ≢ Some id))) }
+    {
+        if self.table.next_contract() != Some(id) {
+            return Err(KidsFault::Refused);
+        }
+        self.notes.reserve(1)?;
+        self.table.reserve()?;
+        Ok(())
+    }
+
+    /// Makes a run, for which room was made.
+    pub(crate) fn make(&mut self, run: Run)
+        requires sound { IsSound (ledger_of self.old) }
+        requires next { next_contract self.old.table.table ≡ Some run.contract }
+        requires table { self.old.table.room ≡ true }
+        requires note { vec_len self.old.notes < vec_capacity self.old.notes }
+        ensures made { IsSpawned run (ledger_of self.old) (ledger_of self.new) }
+        ensures sound { IsSound (ledger_of self.new) }
+    {
+        let _ = self.table.spawn(HOLDER, run.cookie, run.terms);
+        self.notes.push(Note::Made(run)).unwrap();
+    }
+
+    /// The next event that is due.
+    pub(crate) fn give(&mut self) -> Option<Event>
+        requires { IsSound (ledger_of self.old) }
+        ensures given { IfSome result (λ e. IsGiven e (ledger_of self.old) (ledger_of self.new)) }
+        ensures none { IfNone result ((ledger_of self.new ≡ ledger_of self.old) × (self.old.due.items ≡ [])) }
+        ensures sound { IsSound (ledger_of self.new) }
+    {
+        if self.due.is_empty() {
+            return None;
+        }
+        Some(take_first(&mut self.due))
+    }
+
+    /// Tells that something happens to a process: the first event that it brings. The others are due.
+    fn tell(
+        &mut self,
+        id: Number,
+        process: Number,
+        happening: Happening,
+    ) -> Result<Event, AllocError>
+        requires sound { IsSound (ledger_of self.old) }
+        requires member { home self.old.table.table.members process ≡ Some id }
+        requires none_due { self.old.due.items ≡ [] }
+        ensures told { IfOk result (λ e. IsTold id process happening e (ledger_of self.old) (ledger_of self.new)) }
+        ensures room { OnOk result (length self.old.notes.items < 0x7fff_ffff_ffff_ffff) }
+        ensures err { OnErr result (ledger_of self.new ≡ ledger_of self.old) }
+    {
+        self.table.reserve()?;
+        let room = self.table.members().len() + 3;
+        self.notes.reserve(room)?;
+        self.due.reserve(room)?;
+        let before = self.table.events().len();
+        self.table.call(happening.call(process));
+        let events = behind(self.table.events(), before);
+        note_all(events, &mut self.notes);
+        self.due.extend_from_slice(events).unwrap();
+        Ok(take_first(&mut self.due))
+    }
+
+    /// Finds that something happens to the lowest member of a contract, where nothing is pending: the first event that
+    /// it brings, and none where there is no member.
+    pub(crate) fn find(
+        &mut self,
+        id: Number,
+        happening: Happening,
+    ) -> Result<Option<Event>, AllocError>
+        requires sound { IsSound (ledger_of self.old) }
+        requires none_due { self.old.due.items ≡ [] }
+        requires none_pending { self.old.pending.items ≡ [] }
+        ensures found { IfOk result (λ event. IsPolled event (ledger_of self.old) (ledger_of self.new)) }
+        ensures sound { IsSound (ledger_of self.new) }
+        ensures err { OnErr result (ledger_of self.new ≡ ledger_of self.old) }
+    {
+        let Some(process) = self.table.first_member(id) else {
+            return Ok(None);
+        };
+        let event = self.tell(id, process, happening)?;
+        Ok(Some(event))
+    }
+
+    /// Takes what is pending: the first event that it brings, and none where nothing is pending.
+    pub(crate) fn take(&mut self) -> Result<Option<Event>, AllocError>
+        requires sound { IsSound (ledger_of self.old) }
+        requires none_due { self.old.due.items ≡ [] }
+        ensures taken { IfOk result (λ event. IsPolled event (ledger_of self.old) (ledger_of self.new)) }
+        ensures none { IfOk result (λ event. IfNone event (self.new.pending.items ≡ [])) }
+        ensures sound { IsSound (ledger_of self.new) }
+        ensures err { OnErr result (ledger_of self.new ≡ ledger_of self.old) }
+    {
+        let Some(deed) = first_deed(&self.pending) else {
+            return Ok(None);
+        };
+        let process = self.table.first_member(deed.contract).unwrap();
+        let event = self.tell(deed.contract, process, deed.happening)?;
+        take_deed(&mut self.pending);
+        Ok(Some(event))
+    }
+
+    /// Lets something happen to the lowest member of a contract, if one is left.
+    pub(crate) fn happen(&mut self, id: Number, happening: Happening) -> Result<(), KidsFault>
+        requires { IsSound (ledger_of self.old) }
+        ensures happened { OnOk result (ledger_of self.new ≡ happened (ledger_of self.old) id happening) }
+        ensures sound { IsSound (ledger_of self.new) }
+        ensures err { OnErr result (ledger_of self.new ≡ ledger_of self.old) }
+        ensures fault { IfErr result (λ e. (e ≡ Memory) ⊎ ((e ≡ NoChild) × (left (ledger_of self.old) id ≡ 0))) }
+    {
+        if self.left(id) == 0 {
+            return Err(KidsFault::NoChild);
+        }
+        self.pending.push(Deed {
+            contract: id,
+            happening,
+        })?;
+        Ok(())
+    }
+
+    /// Makes room for a kill, with the processes that it ends.
+    pub(crate) fn prepare_kill(&mut self, id: Number) -> Result<Kill, KidsFault>
+        ensures same { ledger_of self.new ≡ ledger_of self.old }
+        ensures kill { IfOk result (λ kill. (kill.contract ≡ id) × (kill.ends ≡ processes id self.old.table.table.members)) }
+        ensures some { OnOk result (0 < left (ledger_of self.new) id) }
+        ensures table { OnOk result (self.new.table.room ≡ true) }
+        ensures note { OnOk result (vec_len self.new.notes < vec_capacity self.new.notes) }
+        ensures fault { IfErr result (λ e. (e ≡ Memory) ⊎ ((e ≡ NoChild) × (left (ledger_of self.old) id ≡ 0))) }
+    {
+        if self.left(id) == 0 {
+            return Err(KidsFault::NoChild);
+        }
+        let ends = processes_of(self.alloc, self.table.members(), id)?;
+        self.notes.reserve(1)?;
+        self.table.reserve()?;
+        Ok(Kill {
+            contract: id,
+            ends: Items::from_vec(ends),
+        })
+    }
+
+    /// Kills the members of a contract, for which room was made.
+    pub(crate) fn kill(&mut self, kill: Kill)
+        requires sound { IsSound (ledger_of self.old) }
+        requires some { 0 < left (ledger_of self.old) kill.contract }
+        requires ends { kill.ends ≡ processes kill.contract self.old.table.table.members }
+        requires table { self.old.table.room ≡ true }
+        requires note { vec_len self.old.notes < vec_capacity self.old.notes }
+        ensures killed { IsKilled kill.contract (ledger_of self.old) (ledger_of self.new) }
+        ensures sound { IsSound (ledger_of self.new) }
+    {
+        let id = kill.contract;
+        let _ = self.table.kill(HOLDER, id);
+        drop_events(&mut self.due, id);
+        drop_deeds(&mut self.pending, id);
+        self.notes.push(Note::Killed(kill)).unwrap();
+    }
+
+    /// Drops all members and contracts.
+    pub(crate) fn restart(&mut self)
+        requires { IsSound (ledger_of self.old) }
+        ensures restarted { ledger_of self.new ≡ restarted (ledger_of self.old) }
+        ensures sound { IsSound (ledger_of self.new) }
+    {
+        self.table.reboot();
+        self.due.clear();
+        self.pending.clear();
+    }
+
+    /// The contract of a run that was made, if it has members.
+    fn living(&self, note: &Note) -> Option<Number>
+        ensures { option_to_list result ≡ filter (lives (ledger_of self.now)) (contracts_of note.now) }
+    {
+        match note {
+            Note::Made(run) => {
+                if self.left(run.contract) > 0 {
+                    return Some(run.contract);
+                }
+                None
+            }
+            Note::Found(_) => None,
+            Note::Killed(_) => None,
+        }
+    }
+
+    /// The runs that were made and have members.
+    pub(crate) fn list(&self) -> Result<Items<Number>, AllocError>
+        ensures { IfOk result (λ ids. ids ≡ listed (ledger_of self.now)) }
+    {
+        let mut ids = Items::new(self.alloc);
+        for note in &self.notes {
+            if let Some(id) = self.living(note) {
+                ids.push(id)?;
+            }
+        }
+        Ok(ids)
+    }
+}

@@ -1,0 +1,22 @@
+//! The children of services: processes in contracts, simulated by a contract table or real.
+//! Modules: `kids` (what is asked of them), `deed` (what happens to a process), `note` (what is kept), `fault`.
+#![tactic(auto)]
+
+mod book;
+mod child;
+mod counting;
+mod deed;
+mod edits;
+mod fault;
+mod kids;
+mod note;
+mod os_kids;
+mod shell;
+mod table_kids;
+
+pub use deed::{Deed, Happening};
+pub use fault::KidsFault;
+pub use kids::Kids;
+pub use note::{Kill, Note, Run};
+pub use os_kids::OsKids;
+pub use table_kids::TableKids;

@@ -1,0 +1,96 @@
+// How a command is run.
+ghost use Rattle.std.specs.Prelude.{◌≡◌, ◌≢◌, IfOk, OnOk, ℕ, List, Some, None, true, codes, [], ◌∷◌};
+ghost use Rattle.std.specs.Process.{SameEnv, SameOtherVars, SameProgramAndArgs, clears_env, command_args, command_program, command_var};
+ghost use Rattle.smf_method.specs.Tokens.{method_text};
+ghost use Rattle.smf_edge.specs.Shell.{IsOther, follows};
+
+use smf_contract::{Exit, Method};
+use smf_fmri::InstanceFmri;
+use smf_method::{Command, method_text};
+use smf_state::Duration;
+use std::alloc::{AllocError, Global};
+use std::io::Stderr;
+use std::process::{Command as Program, ExitStatus, Stdio};
+
+/// A command by the shell, with no variables.
+fn bare(alloc: Global, command: &Command) -> Result<Program, AllocError>
+    ensures clears { IfOk result (λ c. clears_env c ≡ true) }
+    ensures program { IfOk result (λ c. command_program c ≡ codes "/bin/sh") }
+    ensures args { IfOk result (λ c. command_args c ≡ codes "-c" ∷ command.now ∷ []) }
+    ensures vars { IfOk result (λ c. (name : List ℕ) → command_var c name ≡ None) }
+{
+    let mut program = Program::new(alloc, "/bin/sh")?;
+    program.arg("-c")?;
+    program.arg(command.as_str())?;
+    program.env_clear();
+    Ok(program)
+}
+
+fn set(program: &mut Program, name: &str, value: &str) -> Result<(), AllocError>
+    ensures set { OnOk result (command_var program.new name.now ≡ Some (Some value.now)) }
+    ensures others { OnOk result (SameOtherVars program.old program.new name.now) }
+    ensures call { OnOk result (SameProgramAndArgs program.old program.new) }
+    ensures clears { OnOk result (clears_env program.new ≡ clears_env program.old) }
+{
+    program.env(name, value)?;
+    Ok(())
+}
+
+/// An empty standard input, and one stream for what is written.
+fn wire(program: &mut Program, output: Stderr)
+    ensures call { SameProgramAndArgs program.old program.new }
+    ensures env { SameEnv program.old program.new }
+{
+    program.stdin(Stdio::null());
+    program.stdout(output);
+    program.stderr(output);
+}
+
+/// A command by the shell, with these variables alone and an empty standard input. What it writes goes to one stream.
+pub(crate) fn shell(
+    alloc: Global,
+    command: &Command,
+    restarter: &InstanceFmri,
+    method: Method,
+    instance: &InstanceFmri,
+    output: Stderr,
+) -> Result<Program, AllocError>
+    ensures clears { IfOk result (λ c. clears_env c ≡ true) }
+    ensures program { IfOk result (λ c. command_program c ≡ codes "/bin/sh") }
+    ensures args { IfOk result (λ c. command_args c ≡ codes "-c" ∷ command.now ∷ []) }
+    ensures path { IfOk result (λ c. command_var c (codes "PATH") ≡ Some (Some (codes "/usr/sbin:/usr/bin:/sbin:/bin"))) }
+    ensures fmri { IfOk result (λ c. command_var c (codes "SMF_FMRI") ≡ Some (Some instance.now)) }
+    ensures method { IfOk result (λ c. command_var c (codes "SMF_METHOD") ≡ Some (Some (method_text method))) }
+    ensures restarter { IfOk result (λ c. command_var c (codes "SMF_RESTARTER") ≡ Some (Some restarter.now)) }
+    ensures alone { IfOk result (λ c. (name : List ℕ) → IsOther name → command_var c name ≡ None) }
+{
+    let mut program = bare(alloc, command)?;
+    set(&mut program, "PATH", "/usr/sbin:/usr/bin:/sbin:/bin")?;
+    set(&mut program, "SMF_FMRI", instance.print())?;
+    set(&mut program, "SMF_METHOD", method_text(method))?;
+    set(&mut program, "SMF_RESTARTER", restarter.print())?;
+    wire(&mut program, output);
+    Ok(program)
+}
+
+/// A code where the process ended by itself.
+pub(crate) fn exit_of(status: ExitStatus) -> Exit {
+    match status.code() {
+        Some(code) => match u8::try_from(code) {
+            Ok(code) => Exit::Code(code),
+            Err(_) => Exit::Killed,
+        },
+        None => Exit::Killed,
+    }
+}
+
+/// Whether services of a duration can be followed.
+pub(crate) fn follows(style: Duration) -> bool
+    ensures { result ≡ follows style }
+{
+    match style {
+        Duration::Contract => false,
+        Duration::Transient => true,
+        Duration::Child => true,
+    }
+}
