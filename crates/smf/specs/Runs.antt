@@ -1,20 +1,20 @@
 -- What a run of the program prints, and how it ends.
-use Rattle.std.specs.Prelude.{◌≡◌, ◌⊎◌, ℕ, List, [], ◌∷◌, ◌++◌, codes, Option}
+use Rattle.std.specs.Prelude.{◌≡◌, ◌⊎◌, ℕ, List, [], ◌∷◌, ◌++◌, codes, Option, IfSome}
 use Rattle.std.specs.Io.KnownBytes.{Appends}
 use Rattle.std_io.specs.declared.io.error.Error.{Error}
-use Rattle.smf_model.specs.declared.command.Command.TheVariants as commands
+use Rattle.smf_model.specs.declared.journal.RepoFault.{RepoFault}
 use Rattle.smf_model.specs.Look.{empty}
 use Rattle.smf_node.specs.declared.fault.NodeFault.{NodeFault}
 use Rattle.smf_node.specs.declared.fault.NodeFault.TheVariants.{Memory, Database, Limit, NoSuchMessage, NoSuchActor}
-use Rattle.smf_node.specs.Faults.{IsUndone}
 use Rattle.smf_script.specs.Faults.{IsWhy}
-use Rattle.smf_script.specs.Script.{begun, script, status_of}
+use Rattle.smf_script.specs.Reading.{lines_of}
+use Rattle.smf_script.specs.Script.{Stops, begun, script, status_of}
 use Rattle.smf_script.specs.Session.{Effect}
 use Rattle.smf_script.specs.declared.fault.ScriptFault.{ScriptFault}
 use Rattle.smf_script.specs.declared.fault.ScriptFault.TheVariants.{Node, Input, Output, TooManyLines}
 use Rattle.smf_world.specs.declared.event.Event.TheVariants as events
 use Rattle.smf_world.specs.Happens.{happens}
-use Rattle.smf_world.specs.Schedule.{Progress}
+use Rattle.smf_world.specs.Schedule.{Progress, begun_at}
 use Rattle.smf_world.specs.World.{found}
 
 abbrev pub node_text : NodeFault → List ℕ
@@ -33,7 +33,7 @@ fault_text (TooManyLines interrupted) = codes "smf: too many lines"
 
 -- the node over a repository that holds nothing, behind its boot
 abbrev pub first : Progress
-first = record { world = happens (found empty) events.Boot; delivered = 0 }
+first = begun_at (happens (found empty) events.Boot)
 
 -- what lines give, from there
 unfoldable pub served : List (List ℕ) → Effect
@@ -46,19 +46,17 @@ pub record Prints (e : Effect) (old new : Option (List ℕ)) (status : ℕ) : Ty
 
 -- ---- a run that a fault ended
 
--- with this fault a run may end: its boot was undone, or its script ended so, where nothing can fail to be written in a
--- journal
-abbrev pub IsEnded : (Error → Type 0) → (Error → Type 0) → ScriptFault → Type 0
-IsEnded reads writes fault =
-    ((e : NodeFault) × (fault ≡ Node e) × IsUndone (λ _. ⊥) empty commands.Boot e)
-    ⊎ ((after : Progress) × IsWhy (λ _. ⊥) reads writes fault after)
-
 -- this line was written, or a write of it failed
 abbrev pub IsTold : (Error → Type 0) → Option (List ℕ) → Option (List ℕ) → List ℕ → Type 0
 IsTold fails old new text = Appends old new (text ++ 10 ∷ []) ⊎ ((e : Error) × fails e)
 
--- a fault ended the run, and was told
-pub record IsFaulted (reads writes tells : Error → Type 0) (old new : Option (List ℕ)) : Type 0 where
+-- nothing can fail to be written in a journal
+abbrev pub NoneFails : RepoFault → Type 0
+NoneFails fault = ⊥
+
+-- a fault ended the run, and was told: some of the lines were done, and their text was written
+pub record IsFaulted (reads writes tells : Error → Type 0) (input old new told_old told_new : Option (List ℕ)) : Type 0 where
   pub fault : ScriptFault
-  pub ended : IsEnded reads writes fault
-  pub told : IsTold tells old new (fault_text fault)
+  pub ended : IsWhy NoneFails reads writes fault
+  pub stops : IfSome input (λ bytes. (after : Progress) × Stops NoneFails fault (begun first) (lines_of bytes) after old new)
+  pub told : IsTold tells told_old told_new (fault_text fault)

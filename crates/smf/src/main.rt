@@ -7,6 +7,7 @@ mod words;
 
 use crate::serving::{serve, tell};
 use crate::words::matches;
+use clap::Error;
 use smf_script::NotedReader;
 use std::io::BufReader;
 use std::process::ExitCode;
@@ -15,13 +16,23 @@ use std::{env, io};
 /// The status for words that are not taken.
 const BAD_USAGE: u8 = 2;
 
+/// Shows help that was asked for, or says why words are not taken.
+fn refuse(rt: &HostRuntime, e: &Error) -> u8 {
+    if e.use_stderr() {
+        let _ = eprint!(rt; "smf: bad usage\n{e}");
+        BAD_USAGE
+    } else {
+        let _ = print!(rt; "{e}");
+        0
+    }
+}
+
 /// Reads the words, and runs what they ask for.
 fn run(rt: &HostRuntime) -> io::Result<u8> {
     let alloc = rt.alloc();
     let words: Vec<String> = env::args(rt)?.collect(alloc)?;
     if let Err(e) = matches(alloc, words.as_slice()) {
-        let _ = eprint!(rt; "{e}");
-        return Ok(BAD_USAGE);
+        return Ok(refuse(rt, &e));
     }
     let mut reader = NotedReader::new(BufReader::new(alloc, rt.reader())?);
     Ok(serve(alloc, &mut reader, &mut io::writer(rt), &mut rt.stderr()))

@@ -1,7 +1,10 @@
 ghost use Rattle.std.specs.Prelude.{◌≡◌, ◌≢◌, ◌≤◌, ◌++◌, ◌∷◌, [], IfErr, IfOk, IfSome, OnOk};
 ghost use Rattle.std.specs.Io.KnownBytes.{Appends};
 ghost use Rattle.smf_script.specs.Reading.{lines_of};
-ghost use Rattle.smf.specs.Runs.{IsEnded, IsFaulted, IsTold, Prints, fault_text, node_text, served};
+ghost use Rattle.smf_script.specs.Faults.{IsWhy};
+ghost use Rattle.smf_script.specs.Script.{Stops, begun};
+ghost use Rattle.smf_world.specs.Schedule.{Progress as AnyProgress};
+ghost use Rattle.smf.specs.Runs.{IsFaulted, IsTold, NoneFails, Prints, fault_text, first, node_text, served};
 
 use smf_model::{NoJournal, Plain};
 use smf_node::{Node, NodeFault};
@@ -65,7 +68,9 @@ fn run_in_memory<R: ScriptReader, W: ScriptWriter>(
     ensures ok { IfOk result (λ status. IfSome (R.remaining reader.old) (λ input.
         Prints (served (lines_of input)) (W.contents writer.old) (W.contents writer.new) status)) }
     ensures exit { IfOk result (λ status. status ≤ 1) }
-    ensures fault { IfErr result (λ fault. IsEnded R.read_fails W.write_fails fault) }
+    ensures fault { IfErr result (λ fault. IsWhy NoneFails R.read_fails W.write_fails fault) }
+    ensures stops { IfErr result (λ fault. IfSome (R.remaining reader.old) (λ input. (after : AnyProgress)
+        × Stops NoneFails fault (begun first) (lines_of input) after (W.contents writer.old) (W.contents writer.new))) }
 {
     let repository = Plain::new(alloc, NoJournal {});
     let mut node = match Node::new(alloc, repository) {
@@ -90,7 +95,8 @@ pub(crate) fn serve<R: ScriptReader, W: ScriptWriter, E: ScriptWriter>(
     // Where no fault ended it and the bytes are known: what is written and the status are those of all lines.
     ensures ok { result ≢ 3 → IfSome (R.remaining reader.old) (λ input.
         Prints (served (lines_of input)) (W.contents writer.old) (W.contents writer.new) result) }
-    ensures fault { result ≡ 3 → IsFaulted R.read_fails W.write_fails E.write_fails (E.contents errors.old) (E.contents errors.new) }
+    ensures fault { result ≡ 3 → IsFaulted R.read_fails W.write_fails E.write_fails
+        (R.remaining reader.old) (W.contents writer.old) (W.contents writer.new) (E.contents errors.old) (E.contents errors.new) }
 {
     match run_in_memory(alloc, reader, writer) {
         Ok(status) => status,

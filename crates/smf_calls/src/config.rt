@@ -97,7 +97,11 @@ fn kind_text(alloc: Global, kind: Option<Kind>) -> Result<String, AllocError> {
     }
 }
 
-fn change_text(alloc: Global, group: &Name, change: &PropertyChange) -> Result<String, AllocError> {
+fn change_text(
+    alloc: Global,
+    group: &Name,
+    change: &PropertyChange,
+) -> Result<String, AllocError> {
     match change {
         PropertyChange::Set { name, kind, values } => {
             set_text(alloc, group, name, *kind, values.as_slice())

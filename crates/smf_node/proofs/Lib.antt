@@ -1,8 +1,7 @@
-pub mod Lists
-pub mod Worlds
-pub mod Replying
-pub mod Begun
-pub mod Turning
-pub mod Faulting
-pub mod Stepping
-pub mod Foreseen
+mod Faulting
+mod Found
+mod Marking
+mod Places
+mod Running
+mod Settling
+mod UpTo

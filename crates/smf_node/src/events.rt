@@ -1,147 +1,239 @@
-ghost use Rattle.std.specs.Prelude.{◌≡◌, ◌∷◌, [], ◌+◌, ◌++◌, ◌≤◌, filter, map, not, vec_capacity, vec_len, IfErr, IfOk, OnErr, OnOk};
+ghost use Rattle.smf_machine.specs.Done.{IsDone};
 ghost use Rattle.smf_model.specs.declared.command.Command.TheVariants as commands;
-ghost use Rattle.smf_model.specs.declared.command.Reply.TheVariants.{Done, Limit};
-ghost use Rattle.smf_model.specs.Next.{next};
-ghost use Rattle.smf_node.specs.declared.fault.NodeFault.TheVariants.{Memory};
-ghost use Rattle.smf_node.specs.Faults.{EndsWith, IsUndone};
-ghost use Rattle.smf_node.specs.Parts.{is_done, launch_in, world_of};
-ghost use Rattle.smf_node.specs.Steps.{is_proposal};
-ghost use Rattle.smf_restarter.specs.Replies.{at_first};
-ghost use Rattle.smf_wire.specs.declared.message.Message.TheVariants as messages;
+ghost use Rattle.smf_node.specs.declared.fault.NodeFault.TheVariants.{Memory, NoSuchActor, NoSuchMessage};
+ghost use Rattle.smf_node.specs.Faults.{IsFault, IsLack, is_against_launch, is_past_limit, is_unsent, lacks_number, refused};
+ghost use Rattle.smf_node.specs.Marks.{progress_of};
+ghost use Rattle.smf_node.specs.Runs.{IsStep, RunsAll, RunsUntilFault, reply_of};
 ghost use Rattle.smf_world.specs.declared.event.Event.TheVariants as events;
-ghost use Rattle.smf_world.specs.Happens.{delivered, happens, is_named};
+ghost use Rattle.smf_world.specs.Safe.{IsRecorded};
+ghost use Rattle.smf_world.specs.Schedule.{on};
+ghost use Rattle.smf_world.specs.Worked.{worked};
+ghost use Rattle.std.specs.Prelude.{◌≡◌, ◌∷◌, ◌<◌, ◌^◌, [], length, slice_get, None, IfErr, IfOk, OnErr, OnOk};
 
 use crate::fault::NodeFault;
-use crate::machine::Machine;
-use smf_engine::Engine;
-use smf_fmri::InstanceFmri;
-use smf_model::{Command, Journal, Reply};
-use smf_restarter::Restarter;
-use smf_wire::{Message, Order};
-use std::alloc::{AllocError, Global};
+use crate::node::{Node, is_past_limit};
+use smf_fmri::{InstanceFmri, Items};
+use smf_machine::Machine;
+use smf_model::{Command, Edit, Journal, Reply};
+use smf_world::Event;
+use std::alloc::AllocError;
 
-fn order_messages(alloc: Global, orders: Vec<Order>) -> Result<Vec<Message>, AllocError>
-    ensures { IfOk result (λ all. all.items ≡ map (λ o. messages.Order o) orders.items) }
+/// The reply to a client's command; nobody asks for another.
+fn reply_of(event: &Event, replies: Items<Reply>) -> Option<Reply>
+    ensures { result ≡ reply_of event.now replies }
 {
-    let mut all = Vec::new(alloc);
-    for order in orders {
-        all.push(Message::Order(order))?;
-    }
-    Ok(all)
-}
-
-/// The number of a launch that was accepted.
-fn launch_in(reply: Reply) -> Option<u64>
-    ensures { result ≡ launch_in reply }
-{
-    match reply {
-        Reply::Made(launch) => Some(launch),
+    match event {
+        Event::Client(_) => first(replies),
         _ => None,
     }
 }
 
-fn is_done(reply: Reply) -> bool
-    ensures { result ≡ is_done reply }
+fn first(replies: Items<Reply>) -> Option<Reply>
+    ensures { result ≡ slice_get replies 0 }
 {
-    matches!(reply, Reply::Done)
+    let mut all = replies.into_vec().into_iter();
+    all.next()
 }
 
-/// A restarter of this name begins as this launch.
-fn begin(alloc: Global, restarters: &mut Vec<Restarter>, name: InstanceFmri, launch: u64)
-    requires { vec_len restarters.old + 1 ≤ vec_capacity restarters.old }
-    ensures { restarters.new.items ≡ restarters.old.items ++ at_first name launch ∷ [] }
+fn revision<J: Journal>(machine: &Machine<J>) -> u64
+    ensures { result ≡ machine.now.now.revision }
 {
-    restarters
-        .push(Restarter::new(alloc, name, launch))
-        .unwrap();
+    machine.repository().revision().get()
 }
 
-/// The restarters of a name are gone.
-fn remove(restarters: &mut Vec<Restarter>, name: &InstanceFmri)
-    ensures { restarters.new.items ≡ filter (λ k. not (is_named name.now k)) restarters.old.items }
+/// An event happens to the machine.
+fn happen_in<J: Journal>(machine: &mut Machine<J>, event: &Event) -> Result<Items<Reply>, NodeFault>
+    ensures ok { IfOk result (λ r. IsDone machine.old event.now machine.new r) }
+    ensures err { OnErr result (machine.new ≡ machine.old) }
+    ensures fault { IfErr result (λ e. IsLack J.write_fails machine.old event.now e) }
 {
-    restarters.retain(|restarter| *restarter.name() != *name);
+    match machine.happen(event) {
+        Ok(replies) => Ok(replies),
+        Err(fault) => Err(NodeFault::from(fault)),
+    }
 }
 
-impl<J: Journal> Machine<J> {
-    /// A message is delivered.
-    pub(crate) fn deliver(&mut self, message: &Message) -> Result<(), NodeFault>
-        ensures ok { OnOk result (world_of self.new.repository.held self.new.parts ≡
-            delivered (world_of self.old.repository.held self.old.parts) message.now) }
-        ensures err { OnErr result (world_of self.new.repository.held self.new.parts ≡
-            world_of self.old.repository.held self.old.parts) }
-        ensures fault { IfErr result (λ e. EndsWith (is_proposal message.now) J.write_fails e) }
+impl<J: Journal> Node<J> {
+    /// How many messages were ever sent.
+    #[tactic(auto, unfolding(crate::specs::Marks::progress_of))]
+    pub(crate) fn sent_count(&self) -> u64
+        ensures count { result ≡ length self.now.world.sent }
+        ensures bound { result < 2 ^ 63 }
     {
-        match message {
-            Message::Join { name, launch } => self.join(name, *launch),
-            Message::Rows { name, .. } => self.tell(name, message),
-            Message::Ack { name, .. } => self.tell(name, message),
-            Message::Nack { name, .. } => self.tell(name, message),
-            Message::Order(order) => self.tell(&order.restarter, message),
-            Message::Propose(proposal) => self.propose(proposal),
-            Message::AskView => self.show(),
-            Message::View(view) => self.take_view(view),
+        self.machine.messages().len() as u64
+    }
+
+    fn is_unsent(&self, event: &Event) -> bool
+        ensures { result ≡ is_unsent self.now.world event.now }
+    {
+        match event {
+            Event::Deliver(place) => {
+                let is_sent = *place < self.sent_count();
+                !is_sent
+            }
+            _ => false,
         }
     }
 
-    /// The graph sends the orders of the view that it holds.
-    pub(crate) fn order(&mut self) -> Result<(), NodeFault>
-        ensures ok { OnOk result (world_of self.new.repository.held self.new.parts ≡
-            happens (world_of self.old.repository.held self.old.parts) events.Orders) }
-        ensures err { OnErr result (world_of self.new.repository.held self.new.parts ≡
-            world_of self.old.repository.held self.old.parts) }
-        ensures fault { IfErr result (λ e. e ≡ Memory) }
+    fn is_against_launch(&self, event: &Event) -> bool
+        ensures { result ≡ is_against_launch self.now.world event.now }
     {
-        let orders = self.parts.engine.decide_all(self.alloc)?;
-        let mut messages = order_messages(self.alloc, orders.into_vec())?;
-        self.parts.messages.append(&mut messages)?;
-        Ok(())
+        match event {
+            Event::Launch(name) => self.is_launched(name),
+            Event::OwnTick(name) => !self.is_launched(name),
+            Event::Tick { restarter, .. } => !self.is_launched(restarter),
+            Event::Timeout { restarter, .. } => !self.is_launched(restarter),
+            Event::Crash(name) => !self.is_launched(name),
+            _ => false,
+        }
     }
 
-    /// A restarter begins. A launch number at its limit has no next one.
-    pub(crate) fn launch(&mut self, name: &InstanceFmri) -> Result<(), NodeFault>
-        ensures ok { OnOk result (world_of self.new.repository.held self.new.parts ≡
-            happens (world_of self.old.repository.held self.old.parts) (events.Launch name.now)) }
-        ensures err { OnErr result (world_of self.new.repository.held self.new.parts ≡
-            world_of self.old.repository.held self.old.parts) }
-        ensures within { OnOk result ((next self.old.repository.held (commands.Launch name.now)).1 ≡ Limit → ⊥) }
-        ensures fault { IfErr result (λ e.
-            IsUndone J.write_fails self.old.repository.held (commands.Launch name.now) e) }
+    /// Whether the repository refuses a command, since a number that it needs has no next one.
+    fn is_past_limit(&self, command: &Command) -> Result<bool, AllocError>
+        ensures { IfOk result (λ b. b ≡ is_past_limit self.now.world.now command.now) }
     {
-        self.parts.restarters.reserve(1)?;
-        let own = name.clone()?;
-        let named = name.clone()?;
-        let reply = self.commit(Command::Launch(named))?;
-        let Some(launch) = launch_in(reply) else {
-            return Err(NodeFault::Limit);
-        };
-        begin(self.alloc, &mut self.parts.restarters, own, launch);
-        Ok(())
+        is_past_limit(self.repository(), command)
     }
 
-    /// The restarters of a name are gone.
-    pub(crate) fn crash(&mut self, name: &InstanceFmri)
-        ensures { world_of self.new.repository.held self.new.parts ≡
-            happens (world_of self.old.repository.held self.old.parts) (events.Crash name.now) }
+    /// Whether a restarter cannot be launched, since a number has no next one.
+    pub(crate) fn may_not_launch(&self, name: &InstanceFmri) -> Result<bool, AllocError>
+        ensures { IfOk result (λ b. b ≡ is_past_limit self.now.world.now (commands.Launch name.now)) }
     {
-        remove(&mut self.parts.restarters, name);
+        let command = Command::Launch(name.clone()?);
+        self.is_past_limit(&command)
     }
 
-    /// What the actors knew is gone, and the repository boots.
-    pub(crate) fn boot(&mut self) -> Result<(), NodeFault>
-        ensures ok { OnOk result (world_of self.new.repository.held self.new.parts ≡
-            happens (world_of self.old.repository.held self.old.parts) events.Boot) }
-        ensures accepted { OnOk result ((next self.old.repository.held commands.Boot).1 ≡ Done) }
-        ensures err { OnErr result (world_of self.new.repository.held self.new.parts ≡
-            world_of self.old.repository.held self.old.parts) }
-        ensures fault { IfErr result (λ e. IsUndone J.write_fails self.old.repository.held commands.Boot e) }
+    fn lacks_number(&self, event: &Event) -> Result<bool, AllocError>
+        ensures { IfOk result (λ b. b ≡ lacks_number self.now.world event.now) }
     {
-        let reply = self.commit(Command::Boot)?;
-        if !is_done(reply) {
+        match event {
+            Event::Launch(name) => self.may_not_launch(name),
+            Event::Boot => self.is_past_limit(&Command::Boot),
+            _ => Ok(false),
+        }
+    }
+
+    /// Whether an event can happen.
+    fn expect(&self, event: &Event) -> Result<(), NodeFault>
+        ensures ok { OnOk result (refused self.now.world event.now ≡ None) }
+        ensures err { IfErr result (λ e. IsFault J.write_fails self.now.world event.now e) }
+    {
+        if self.is_unsent(event) {
+            return Err(NodeFault::NoSuchMessage);
+        }
+        if self.is_against_launch(event) {
+            return Err(NodeFault::NoSuchActor);
+        }
+        if self.lacks_number(event)? {
             return Err(NodeFault::Limit);
         }
-        self.parts.restarters.clear();
-        self.parts.engine = Engine::new();
         Ok(())
+    }
+
+    /// An event happens, and is marked.
+    pub(crate) fn happen(&mut self, event: &Event) -> Result<Items<Reply>, NodeFault>
+        ensures ok { OnOk result (self.new ≡ on self.old event.now) }
+        ensures reply { IfOk result (λ rs. rs ≡ (worked self.old.world event.now).reply) }
+        ensures err { OnErr result (self.new ≡ self.old) }
+        ensures fault { IfErr result (λ e. IsLack J.write_fails self.old.world event.now e) }
+    {
+        self.marks.reserve()?;
+        let before = revision(&self.machine);
+        let replies = happen_in(&mut self.machine, event)?;
+        let after = revision(&self.machine);
+        self.marks.mark(event, before < after);
+        Ok(replies)
+    }
+
+    /// An event happens, whose reply nobody asks for.
+    pub(crate) fn goes(&mut self, event: Event) -> Result<(), NodeFault>
+        ensures ok { OnOk result (self.new ≡ on self.old event) }
+        ensures err { OnErr result (self.new ≡ self.old) }
+        ensures fault { IfErr result (λ e. IsLack J.write_fails self.old.world event e) }
+    {
+        self.happen(&event)?;
+        Ok(())
+    }
+
+    fn admit(&mut self, event: Event) -> Result<Option<Reply>, NodeFault>
+        ensures ok { IfOk result (λ reply. IsStep self.old event self.new reply) }
+        ensures err { OnErr result (self.new ≡ self.old) }
+        ensures fault { IfErr result (λ e. IsFault J.write_fails self.old.world event e) }
+    {
+        self.expect(&event)?;
+        let replies = self.happen(&event)?;
+        Ok(reply_of(&event, replies))
+    }
+
+    /// An event happens, and gives the reply to a client's command. `NoSuchMessage` where no message was sent with that
+    /// number; `NoSuchActor` for an actor to be launched that is, or to act or to crash that is not; `Limit` where a
+    /// launch or a boot needs a number that has no next one.
+    pub fn step(&mut self, event: Event) -> Result<Option<Reply>, NodeFault>
+        ensures ok { IfOk result (λ reply. IsStep self.old event self.new reply) }
+        ensures recorded { IsRecorded self.new.world }
+        ensures err { OnErr result (self.new ≡ self.old) }
+        ensures fault { IfErr result (λ e. IsFault J.write_fails self.old.world event e) }
+    {
+        let reply = self.admit(event);
+        let _shown = self.trail();
+        reply
+    }
+
+    fn edit(&mut self, edit: Edit) -> Result<Reply, NodeFault>
+        ensures ok { OnOk result (self.new ≡ on self.old (events.Client edit)) }
+        ensures reply { IfOk result (λ r. (worked self.old.world (events.Client edit)).reply ≡ r ∷ []) }
+        ensures err { OnErr result (self.new ≡ self.old) }
+        ensures fault { IfErr result (λ e. IsLack J.write_fails self.old.world (events.Client edit) e) }
+    {
+        let event = Event::Client(edit);
+        let replies = self.happen(&event)?;
+        match first(replies) {
+            Some(reply) => Ok(reply),
+            None => unreachable!(),
+        }
+    }
+
+    /// A client gives a command.
+    pub fn apply(&mut self, edit: Edit) -> Result<Reply, NodeFault>
+        ensures ok { OnOk result (self.new ≡ on self.old (events.Client edit)) }
+        ensures reply { IfOk result (λ r. (worked self.old.world (events.Client edit)).reply ≡ r ∷ []) }
+        ensures recorded { IsRecorded self.new.world }
+        ensures err { OnErr result (self.new ≡ self.old) }
+        ensures fault { IfErr result (λ e. IsLack J.write_fails self.old.world (events.Client edit) e) }
+    {
+        let reply = self.edit(edit);
+        let _shown = self.trail();
+        reply
+    }
+
+    fn take(&mut self, event: Event) -> Result<(), NodeFault>
+        ensures taken { OnOk result (refused self.old.world event ≡ None) }
+        ensures ok { OnOk result (self.new ≡ on self.old event) }
+        ensures err { OnErr result (self.new ≡ self.old) }
+        ensures fault { IfErr result (λ e. IsFault J.write_fails self.old.world event e) }
+    {
+        self.admit(event)?;
+        Ok(())
+    }
+
+    fn take_all(&mut self, events: Vec<Event>) -> Result<(), NodeFault>
+        ensures ok { OnOk result (RunsAll self.old events.items self.new) }
+        ensures err { IfErr result (λ e. RunsUntilFault J.write_fails self.old events.items self.new e) }
+    {
+        for event in events {
+            self.take(event)?;
+        }
+        Ok(())
+    }
+
+    /// Events happen in turn. A fault ends it: those before the event that cannot happen have happened.
+    pub fn run(&mut self, events: Vec<Event>) -> Result<(), NodeFault>
+        ensures ok { OnOk result (RunsAll self.old events.items self.new) }
+        ensures recorded { IsRecorded self.new.world }
+        ensures err { IfErr result (λ e. RunsUntilFault J.write_fails self.old events.items self.new e) }
+    {
+        let result = self.take_all(events);
+        let _shown = self.trail();
+        result
     }
 }

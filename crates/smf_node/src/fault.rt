@@ -1,8 +1,8 @@
-ghost use Rattle.std.specs.Prelude.{◌≡◌};
 ghost use Rattle.smf_node.specs.declared.fault.NodeFault.TheVariants.{Memory};
-ghost use Rattle.smf_node.specs.Faults.{told};
+ghost use Rattle.smf_node.specs.Faults.{fault_of};
+ghost use Rattle.std.specs.Prelude.{◌≡◌};
 
-use smf_model::RepoFault;
+use smf_machine::MachineFault;
 use std::alloc::{AllocError, AllocFailed};
 
 /// Why an event did not happen. The world is as it was before it.
@@ -13,7 +13,7 @@ pub enum NodeFault {
     Database,
     /// A number that the event needs has no next one.
     Limit,
-    /// Not the oldest message that was not delivered yet.
+    /// No message was sent with this number.
     NoSuchMessage,
     /// To be launched, and launched already; or to act or to crash, and not launched.
     NoSuchActor,
@@ -35,13 +35,14 @@ impl<T: Drop> From<AllocFailed<T>> for NodeFault {
     }
 }
 
-impl From<RepoFault> for NodeFault {
-    ghost from_gives = { λ e f. f ≡ told e };
+impl From<MachineFault> for NodeFault {
+    ghost from_gives = { λ e f. f ≡ fault_of e };
 
-    fn from(e: RepoFault) -> NodeFault {
+    fn from(e: MachineFault) -> NodeFault {
         match e {
-            RepoFault::Memory => NodeFault::Memory,
-            RepoFault::Database => NodeFault::Database,
+            MachineFault::Memory => NodeFault::Memory,
+            MachineFault::Database => NodeFault::Database,
+            MachineFault::Limit => NodeFault::Limit,
         }
     }
 }

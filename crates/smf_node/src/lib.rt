@@ -1,15 +1,19 @@
-//! The node: the actors side by side, the messages between them, and the trail of what they did.
-//! Modules: `fault`, `machine` (the parts, and commands), `repository` (what the repository answers), `acting` (what the
-//! restarters do), `events` (what happens to a machine), `schedule` (in which order), `node`.
+//! The node: the machine, and the schedule by which its actors act. It takes events one by one, or lets them happen in
+//! rounds until nothing is left to do.
+//! Modules: `fault`, `marks` (the marks and counts of a schedule), `naming` (restarters in order), `node` (the node and
+//! what it shows), `events` (what may happen, and happens), `deeds` (what a schedule does one at a time), `turns` (what
+//! the deeds of a turn are), `rounds` (turns and rounds), `asking` (what is asked of a schedule).
 #![tactic(auto)]
 
-mod acting;
+mod asking;
+mod deeds;
 mod events;
 mod fault;
-mod machine;
+mod marks;
+mod naming;
 mod node;
-mod repository;
-mod schedule;
+mod rounds;
+mod turns;
 
 pub use fault::NodeFault;
 pub use node::Node;

@@ -1,155 +1,134 @@
-ghost use Rattle.std.specs.Prelude.{◌≡◌, IfErr, IfOk, OnErr, OnOk, reverse};
 ghost use Rattle.smf_model.specs.declared.command.Command.TheVariants as commands;
-ghost use Rattle.smf_model.specs.Holdings.{Holdings};
-ghost use Rattle.smf_model.specs.Setting.{startd as the_startd};
-ghost use Rattle.smf_node.specs.Faults.{HasNoReply, IsUndone};
-ghost use Rattle.smf_node.specs.Parts.{world_of};
-ghost use Rattle.smf_node.specs.Steps.{Goes, IsFault, IsStep, Stops};
+ghost use Rattle.smf_node.specs.declared.fault.NodeFault.TheVariants.{Limit};
+ghost use Rattle.smf_node.specs.Faults.{IsUnbooted, is_limit, is_past_limit};
+ghost use Rattle.smf_node.specs.Marks.{progress_of};
 ghost use Rattle.smf_world.specs.declared.event.Event.TheVariants as events;
-ghost use Rattle.smf_world.specs.Happens.{IsCommitted, happens};
-ghost use Rattle.smf_world.specs.Reached.{IsLater};
-ghost use Rattle.smf_world.specs.Runs.{run};
-ghost use Rattle.smf_world.specs.Safe.{IsSafe};
-ghost use Rattle.smf_world.specs.Schedule.{IsSettled};
+ghost use Rattle.smf_world.specs.Happens.{happens};
+ghost use Rattle.smf_world.specs.Safe.{IsRecorded};
+ghost use Rattle.smf_world.specs.Schedule.{begun_at};
+ghost use Rattle.smf_world.specs.Worked.{is_launched};
 ghost use Rattle.smf_world.specs.World.{found};
+ghost use Rattle.std.specs.Prelude.{◌≡◌, reverse, false, IfErr, IfOk};
 
 use crate::fault::NodeFault;
-use crate::machine::{Machine, Parts};
-use crate::schedule::Schedule;
-use smf_engine::Engine;
-use smf_model::{Command, Edit, Journal, Plain, Reply, Tables};
-use smf_world::{Event, Item, Settled};
-use std::alloc::Global;
+use crate::marks::Marks;
+use smf_contract::Table;
+use smf_fmri::InstanceFmri;
+use smf_machine::Machine;
+use smf_model::{Command, Journal, Plain, Reply};
+use smf_wire::Message;
+use smf_world::Item;
+use std::alloc::{AllocError, Global};
 use std::marker::Model;
 
-/// The repository, svc.startd's graph, the restarters, their messages and the trail. Contracts see the world, and how
-/// many of its messages were delivered. A node's world is always one that some events behind an accepted boot make.
+/// The repository, svc.startd's graph, the restarters, their messages, the contracts and the trail, and a schedule by
+/// which they act. Contracts see the world with the marks of the schedule. A node's world is always one that some events
+/// behind an accepted boot make.
 #[derive(Drop)]
 pub struct Node<J: Journal> {
-    schedule: Schedule<J>,
+    pub(crate) alloc: Global,
+    pub(crate) machine: Machine<J>,
+    pub(crate) marks: Marks,
 }
 
 impl<J: Journal> Model for Node<J> {
-    ghost use Rattle.smf_world.specs.Reached.{IsReached};
+    ghost use Rattle.smf_node.specs.Marks.{progress_of};
     ghost use Rattle.smf_world.specs.Schedule.{Progress};
 
     ghost Value = { Progress };
 
-    ghost view = { λ n. n.schedule };
-
-    ghost invariant = { λ n. IsReached n.schedule.world };
+    ghost view = { λ n. progress_of n.machine n.marks };
 }
 
-/// Nothing was said or seen yet.
-fn parts_of(alloc: Global, first: Tables) -> Parts
-    ensures { (h : Holdings) → first ≡ h → world_of h result ≡ found h }
+/// Whether a reply says that a number has no next one.
+pub(crate) fn is_limit(reply: &Reply) -> bool
+    ensures { result ≡ is_limit reply.now }
 {
-    Parts {
-        first,
-        commands: Vec::new(alloc),
-        restarters: Vec::new(alloc),
-        engine: Engine::new(),
-        messages: Vec::new(alloc),
-        trail: Vec::new(alloc),
-    }
+    matches!(reply, Reply::Limit)
+}
+
+/// Whether a command is refused, since a number that it needs has no next one.
+pub(crate) fn is_past_limit<J: Journal>(
+    repository: &Plain<J>,
+    command: &Command,
+) -> Result<bool, AllocError>
+    ensures { IfOk result (λ b. b ≡ is_past_limit repository.now.held command.now) }
+{
+    let outcome = repository.asked(command)?;
+    Ok(is_limit(&outcome.reply))
 }
 
 impl<J: Journal> Node<J> {
     /// Boots what was found. A fault hands the repository back, as it was; `Limit` where a row or a launch has no next
     /// number.
     pub fn new(alloc: Global, repository: Plain<J>) -> Result<Node<J>, (NodeFault, Plain<J>)>
-        ensures ok { IfOk result (λ node. node ≡
-            record { world = happens (found repository.held) events.Boot; delivered = 0 }) }
-        ensures safe { IfOk result (λ node. IsSafe node.world) }
+        ensures ok { IfOk result (λ node. node ≡ begun_at (happens (found repository.held) events.Boot)) }
+        ensures recorded { IfOk result (λ node. IsRecorded node.world) }
         ensures err { IfErr result (λ e. e.1.held ≡ repository.held) }
-        ensures fault { IfErr result (λ e. IsUndone J.write_fails repository.held commands.Boot e.0) }
+        ensures accepted { IfOk result (λ node. is_past_limit repository.held commands.Boot ≡ false) }
+        ensures fault { IfErr result (λ e. IsUnbooted J.write_fails repository.held e.0) }
     {
-        let first = match repository.stored() {
-            Ok(first) => first,
+        match is_past_limit(&repository, &Command::Boot) {
+            Ok(false) => {}
+            Ok(true) => return Err((NodeFault::Limit, repository)),
             Err(_) => return Err((NodeFault::Memory, repository)),
-        };
-        let mut machine = Machine {
-            alloc,
-            repository,
-            parts: parts_of(alloc, first),
-        };
-        match machine.boot() {
-            Ok(()) => Ok(Node {
-                schedule: Schedule {
-                    alloc,
-                    machine,
-                    delivered: 0,
-                },
+        }
+        match Machine::new(alloc, repository) {
+            Ok(machine) => Ok(Node {
+                alloc,
+                machine,
+                marks: Marks::new(alloc),
             }),
-            Err(fault) => Err((fault, machine.repository)),
+            Err((fault, repository)) => Err((NodeFault::from(fault), repository)),
         }
     }
 
-    /// A client gives a command.
-    pub fn apply(&mut self, edit: Edit) -> Result<Reply, NodeFault>
-        ensures exact { IfOk result (λ reply. IsCommitted self.old.world (commands.Edit edit) self.new.world reply) }
-        ensures delivered { self.new.delivered ≡ self.old.delivered }
-        ensures later { IsLater self.old.world self.new.world }
-        ensures safe { IsSafe self.new.world }
-        ensures fault { IfErr result (λ e. HasNoReply J.write_fails e) }
-        ensures err { OnErr result (self.new ≡ self.old) }
-    {
-        self.schedule.apply(edit)
-    }
-
-    /// An event happens, and gives the reply to a client's command. `NoSuchMessage` for a message that is not the oldest of
-    /// those not delivered yet; `NoSuchActor` for an actor to be launched that is, or to act or to crash that is not;
-    /// `Limit` where a launch or a boot needs a number that has no next one.
-    pub fn step(&mut self, event: Event) -> Result<Option<Reply>, NodeFault>
-        ensures exact { IfOk result (λ reply. IsStep self.old event self.new reply) }
-        ensures later { IsLater self.old.world self.new.world }
-        ensures safe { IsSafe self.new.world }
-        ensures fault { IfErr result (λ e. IsFault J.write_fails self.old event e) }
-        ensures err { OnErr result (self.new ≡ self.old) }
-    {
-        self.schedule.step(event)
-    }
-
-    /// Events happen in turn. A fault ends it: those before the event that cannot happen have happened.
-    pub fn run(&mut self, events: Vec<Event>) -> Result<(), NodeFault>
-        ensures ok { OnOk result (Goes self.old events.items self.new) }
-        ensures world { OnOk result (self.new.world ≡ run events.items self.old.world) }
-        ensures later { IsLater self.old.world self.new.world }
-        ensures safe { IsSafe self.new.world }
-        ensures err { IfErr result (λ e. Stops J.write_fails self.old events.items self.new e) }
-    {
-        self.schedule.run(events)
-    }
-
     /// What is held now.
+    #[tactic(auto, unfolding(crate::specs::Marks::progress_of))]
     pub fn repository(&self) -> &Plain<J>
         ensures { result.now.held ≡ self.now.world.now }
     {
-        self.schedule.repository()
+        self.machine.repository()
     }
 
     /// Ends the actors, and hands back the repository as it is.
+    #[tactic(auto, unfolding(crate::specs::Marks::progress_of))]
     pub fn into_repository(self) -> Plain<J>
         ensures { result.held ≡ self.world.now }
     {
-        self.schedule.into_repository()
+        self.machine.into_repository()
     }
 
     /// What happened, the first first.
+    #[tactic(auto, unfolding(crate::specs::Marks::progress_of))]
     pub fn trail(&self) -> &[Item]
-        ensures { reverse result.now ≡ self.now.world.trail }
+        ensures shown { result.now ≡ reverse self.now.world.trail }
+        ensures recorded { IsRecorded self.now.world }
     {
-        self.schedule.trail()
+        self.machine.trail()
     }
 
-    /// Lets at most so many rounds happen, up to the first that leaves nothing to do. `Limit` where svc.startd's restarter
-    /// has to be launched and cannot be.
-    pub fn settle(&mut self, rounds: u64) -> Result<Settled, NodeFault>
-        ensures exact { IfOk result (λ how. IsSettled rounds self.old self.new how) }
-        ensures later { IsLater self.old.world self.new.world }
-        ensures safe { IsSafe self.new.world }
-        ensures fault { IfErr result (λ e. IsUndone J.write_fails self.new.world.now (commands.Launch the_startd) e) }
+    /// All messages that were ever sent, the first first.
+    #[tactic(auto, unfolding(crate::specs::Marks::progress_of))]
+    pub fn messages(&self) -> &[Message]
+        ensures { result.now ≡ reverse self.now.world.sent }
     {
-        self.schedule.settle(rounds)
+        self.machine.messages()
+    }
+
+    /// The contracts.
+    #[tactic(auto, unfolding(crate::specs::Marks::progress_of))]
+    pub fn table(&self) -> &Table
+        ensures { result.now.table ≡ self.now.world.table }
+    {
+        self.machine.table()
+    }
+
+    /// Whether a restarter is launched.
+    #[tactic(auto, unfolding(crate::specs::Marks::progress_of))]
+    pub fn is_launched(&self, name: &InstanceFmri) -> bool
+        ensures { result ≡ is_launched self.now.world name.now }
+    {
+        self.machine.restarter(name).is_some()
     }
 }

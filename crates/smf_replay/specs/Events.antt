@@ -1,10 +1,11 @@
 -- The event that the words of a line name.
-use Rattle.std.specs.Prelude.{ℕ, nat_eq, nat_lt, List, [], ◌∷◌, codes, Bool, if◌then◌else◌, Option, Some, None, option_map}
+use Rattle.std.specs.Prelude.{ℕ, ◌==◌, nat_eq, nat_le, nat_lt, List, [], ◌∷◌, codes, Bool, if◌then◌else◌, Option, Some, None, option_map}
 use Rattle.std.specs.Cmp.Lexicographic.{pointwise}
 use Rattle.smf_fmri.specs.Counts.{read_count}
 use Rattle.smf_fmri.specs.Matching.{read_short}
 use Rattle.smf_contract.specs.declared.event.Exit.{Exit}
 use Rattle.smf_contract.specs.declared.event.Exit.TheVariants.{Code, Killed}
+use Rattle.smf_contract.specs.declared.event.Failure.TheVariants.{Core, Signal, Hwerr}
 use Rattle.smf_world.specs.declared.event.Event.{Event}
 use Rattle.smf_world.specs.declared.event.Event.TheVariants as events
 use Rattle.smf_world.specs.declared.event.ProcessEvent.{ProcessEvent}
@@ -45,8 +46,12 @@ spawn_answer_of word =
     else if is word (codes "notfollowed") then Some NotFollowed
     else None
 
+-- 0 stands for the restarter itself
+abbrev pub tick_event : List ℕ → ℕ → SpawnAnswer → Event
+tick_event name n spawn = if n == 0 then events.OwnTick name else events.Tick name n spawn
+
 abbrev pub tick_of : Option (List ℕ) → Option ℕ → Option SpawnAnswer → Option Event
-tick_of (Some name) (Some n) (Some spawn) = Some (events.Tick name n spawn)
+tick_of (Some name) (Some n) (Some spawn) = Some (tick_event name n spawn)
 tick_of _ _ _ = None
 
 -- a spawn is made where the line does not say
@@ -65,6 +70,15 @@ abbrev pub timeout_by : List (List ℕ) → Option Event
 timeout_by (name ∷ n ∷ []) = timeout_of (read_short name) (read_count n)
 timeout_by _ = None
 
+-- ---- numbers of processes, contracts and events: up to 2^63 - 1
+
+abbrev pub number_of : Option ℕ → Option ℕ
+number_of (Some n) = if nat_le n 0x7fff_ffff_ffff_ffff then Some n else None
+number_of None = None
+
+abbrev pub number_in : List ℕ → Option ℕ
+number_in word = number_of (read_count word)
+
 -- ---- process P fork|core|signal|hwerr, process P exit CODE|killed
 
 abbrev pub code_of : Option ℕ → Option ProcessEvent
@@ -77,9 +91,9 @@ exit_of word = if is word (codes "killed") then Some (processes.Exit Killed) els
 abbrev pub simple_process_event : List ℕ → Option ProcessEvent
 simple_process_event word =
     if is word (codes "fork") then Some processes.Fork
-    else if is word (codes "core") then Some processes.Core
-    else if is word (codes "signal") then Some processes.Signal
-    else if is word (codes "hwerr") then Some processes.Hwerr
+    else if is word (codes "core") then Some (processes.Fail Core)
+    else if is word (codes "signal") then Some (processes.Fail Signal)
+    else if is word (codes "hwerr") then Some (processes.Fail Hwerr)
     else None
 
 abbrev pub process_event_of : List (List ℕ) → Option ProcessEvent
@@ -92,7 +106,7 @@ process_of (Some n) (Some what) = Some (events.Process n what)
 process_of _ _ = None
 
 abbrev pub process_by : List (List ℕ) → Option Event
-process_by (process ∷ what) = process_of (read_count process) (process_event_of what)
+process_by (process ∷ what) = process_of (number_in process) (process_event_of what)
 process_by [] = None
 
 -- ---- report CONTRACT EVENT
@@ -102,7 +116,7 @@ report_of (Some contract) (Some number) = Some (events.Report contract number)
 report_of _ _ = None
 
 abbrev pub report_by : List (List ℕ) → Option Event
-report_by (contract ∷ number ∷ []) = report_of (read_count contract) (read_count number)
+report_by (contract ∷ number ∷ []) = report_of (number_in contract) (number_in number)
 report_by _ = None
 
 -- ---- the line

@@ -1,11 +1,26 @@
 ghost use Rattle.std.specs.Prelude.{◌≡◌, ◌<◌, IfOk};
 ghost use Rattle.smf_world.specs.declared.event.Event.TheVariants as events;
-ghost use Rattle.smf_replay.specs.Events.{bare, code_of, crash_by, delivery_by, event_named, event_of, exit_of, launch_by, process_by, process_event_of, process_of, report_by, report_of, simple_process_event, spawn_answer_of, tick_by, tick_of, timeout_by, timeout_of};
+ghost use Rattle.smf_replay.specs.Events.{bare, code_of, crash_by, delivery_by, event_named, event_of, exit_of, launch_by, number_in, number_of, process_by, process_event_of, process_of, report_by, report_of, simple_process_event, spawn_answer_of, tick_by, tick_event, tick_of, timeout_by, timeout_of};
 
-use smf_contract::Exit;
-use smf_fmri::{InstanceFmri, Text, read_count};
+use smf_contract::{Exit, Failure};
+use smf_fmri::{InstanceFmri, Number, Text, read_count};
 use smf_world::{Event, ProcessEvent, SpawnAnswer};
 use std::alloc::{AllocError, Global};
+
+fn number_of(count: Option<u64>) -> Option<Number>
+    ensures { result ≡ number_of count }
+{
+    match count {
+        Some(count) => Number::new(count),
+        None => None,
+    }
+}
+
+fn number_in(word: &str) -> Option<Number>
+    ensures { result ≡ number_in word.now }
+{
+    number_of(read_count(word))
+}
 
 fn delivery_by(arguments: &[Text]) -> Option<Event>
     ensures { result ≡ delivery_by arguments.now }
@@ -84,6 +99,21 @@ fn spawn_answer_of(word: &str) -> Option<SpawnAnswer>
     }
 }
 
+/// 0 stands for the restarter itself.
+fn tick_event(restarter: InstanceFmri, instance: u64, spawn: SpawnAnswer) -> Event
+    ensures { result ≡ tick_event restarter instance spawn }
+{
+    if instance == 0 {
+        Event::OwnTick(restarter)
+    } else {
+        Event::Tick {
+            restarter,
+            instance,
+            spawn,
+        }
+    }
+}
+
 fn tick_of(
     restarter: Option<InstanceFmri>,
     instance: Option<u64>,
@@ -91,11 +121,7 @@ fn tick_of(
 ) -> Option<Event>
     ensures { result ≡ tick_of restarter instance spawn }
 {
-    Some(Event::Tick {
-        restarter: restarter?,
-        instance: instance?,
-        spawn: spawn?,
-    })
+    Some(tick_event(restarter?, instance?, spawn?))
 }
 
 fn tick_by(alloc: Global, arguments: &[Text]) -> Result<Option<Event>, AllocError>
@@ -164,11 +190,11 @@ fn simple_process_event(word: &str) -> Option<ProcessEvent>
     if word == "fork" {
         Some(ProcessEvent::Fork)
     } else if word == "core" {
-        Some(ProcessEvent::Core)
+        Some(ProcessEvent::Fail(Failure::Core))
     } else if word == "signal" {
-        Some(ProcessEvent::Signal)
+        Some(ProcessEvent::Fail(Failure::Signal))
     } else if word == "hwerr" {
-        Some(ProcessEvent::Hwerr)
+        Some(ProcessEvent::Fail(Failure::Hwerr))
     } else {
         None
     }
@@ -190,7 +216,7 @@ fn process_event_of(words: &[Text]) -> Option<ProcessEvent>
     }
 }
 
-fn process_of(process: Option<u64>, what: Option<ProcessEvent>) -> Option<Event>
+fn process_of(process: Option<Number>, what: Option<ProcessEvent>) -> Option<Event>
     ensures { result ≡ process_of process what }
 {
     Some(Event::Process {
@@ -203,12 +229,12 @@ fn process_by(arguments: &[Text]) -> Option<Event>
     ensures { result ≡ process_by arguments.now }
 {
     match arguments {
-        [process, what @ ..] => process_of(read_count(process.as_str()), process_event_of(what)),
+        [process, what @ ..] => process_of(number_in(process.as_str()), process_event_of(what)),
         [] => None,
     }
 }
 
-fn report_of(contract: Option<u64>, number: Option<u64>) -> Option<Event>
+fn report_of(contract: Option<Number>, number: Option<Number>) -> Option<Event>
     ensures { result ≡ report_of contract number }
 {
     Some(Event::Report {
@@ -222,7 +248,7 @@ fn report_by(arguments: &[Text]) -> Option<Event>
 {
     match arguments {
         [contract, number] => {
-            report_of(read_count(contract.as_str()), read_count(number.as_str()))
+            report_of(number_in(contract.as_str()), number_in(number.as_str()))
         }
         _ => None,
     }

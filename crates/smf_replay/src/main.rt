@@ -1,7 +1,8 @@
 //! `smf_replay`: replays a text of events, one a line, on a node over a repository in memory, and prints what each refuses or
-//! shows. Modules: `event` (the event that a line names), `replay` (what a line does), `fault`.
+//! shows. Modules: `event` (the event that a line names), `checking` (what is safe about a trail), `replay` (what a line does), `fault`.
 #![tactic(auto)]
 
+mod checking;
 mod event;
 mod fault;
 mod replay;

@@ -1,10 +1,12 @@
+use crate::checking::first_broken;
 use crate::event::event_of;
 use crate::fault::fault_text;
 use smf_fmri::Text;
 use smf_model::{NoJournal, Plain};
 use smf_node::{Node, NodeFault};
-use smf_script::run_line;
+use smf_script::{run_line, trail_text};
 use smf_svccfg::{Selection, words};
+use smf_wire::encode;
 use smf_world::Event;
 use std::alloc::{AllocError, Global};
 use std::fmt::Write;
@@ -70,6 +72,30 @@ impl Replay {
         Ok(())
     }
 
+    /// The messages that were ever sent: the place of each and its line.
+    fn put_messages(&self, alloc: Global, out: &mut String) -> Result<(), AllocError> {
+        let mut place = 0usize;
+        for message in self.node.messages() {
+            let line = encode(alloc, message)?;
+            let line = line.as_str();
+            writeln!(out, "{place} {line}")?;
+            place += 1;
+        }
+        Ok(())
+    }
+
+    /// What is safe about the trail: `ok`, or the first item that is not, behind what it breaks.
+    fn put_check(&self, alloc: Global, out: &mut String) -> Result<(), AllocError> {
+        let trail = self.node.trail();
+        let Some((place, broken)) = first_broken(trail) else {
+            return out.push_str("ok\n");
+        };
+        out.push_str(broken.text())?;
+        out.push_str(": ")?;
+        let item = trail_text(alloc, &trail[place..place + 1])?;
+        out.push_str(item.as_str())
+    }
+
     /// An event happens, or is refused.
     fn put_step(&mut self, event: Event, out: &mut String) -> Result<(), NodeFault> {
         match self.node.step(event) {
@@ -114,6 +140,14 @@ impl Replay {
             }
             [first] if first.as_str() == "rows" => {
                 self.put_rows(out)?;
+                Ok(())
+            }
+            [first] if first.as_str() == "messages" => {
+                self.put_messages(alloc, out)?;
+                Ok(())
+            }
+            [first] if first.as_str() == "check" => {
+                self.put_check(alloc, out)?;
                 Ok(())
             }
             _ => self.put_event(alloc, words, out),

@@ -1,25 +1,20 @@
-ghost use Rattle.std.specs.Option.{option_copied};
-ghost use Rattle.std.specs.Prelude.{◌≡◌, ◌==◌, ◌∷◌, [], map, nat_lt, IfOk};
-ghost use Rattle.smf_restarter.specs.Replies.{acked, anew, awaited, heard, heard_order, heard_rows, idle, is_answer, nacked, ordered, ordered_idle, ordered_in, phase_after, refused_by, taken_row, taking, told};
+//! What a restarter does on a message.
 
-use crate::known::{After, KnownInstance, Phase, Stage};
-use crate::places::{known, with};
-use crate::reply::{Action, Change, Reply};
+ghost use Rattle.std.specs.Option.{option_copied};
+ghost use Rattle.std.specs.Prelude.{◌≡◌, map, IfOk};
+ghost use Rattle.smf_restarter.specs.Replies.{acked, acked_by, awaited, heard, heard_order, heard_rows, idle, is_answer, nacked, nacked_by, ordered_anew, ordered_first, ordered_idle, ordered_in, phase_after, refused_by, taken_row, taking_row, told, unmarked};
+
+use crate::changing::{forgetting, nothing, one, putting, taking, unchanged};
+use crate::known::{After, KnownInstance, KnownRun, Phase, Stage};
+use crate::orders::{ordered, with};
+use crate::reply::Reply;
 use crate::restarter::Restarter;
-use crate::steps::{nothing, ordered};
+use crate::running::known_run;
 use smf_fmri::Items;
 use smf_model::Why;
-use smf_state::{Proposal, Row};
+use smf_state::{Proposal, Row, Step};
 use smf_wire::{Known, Message, Order};
 use std::alloc::{AllocError, Global};
-
-fn one(alloc: Global, known: Known) -> Result<Items<Known>, AllocError>
-    ensures { IfOk result (λ xs. xs ≡ known ∷ []) }
-{
-    let mut all = Vec::new(alloc);
-    all.push(known)?;
-    Ok(Items::from_vec(all))
-}
 
 /// The instance of an order, as the order tells it.
 fn told(order: &Order) -> Result<Known, AllocError>
@@ -52,21 +47,21 @@ fn ordered_anew(
     known: &KnownInstance,
     order: &Order,
 ) -> Result<Reply, AllocError>
-    ensures { IfOk result (λ r. r ≡ ordered restarter.now (anew known.now order.now) order.now (told order.now ∷ [])) }
+    ensures { IfOk result (λ r. r ≡ ordered_anew restarter.now.known known.now order.now) }
 {
     let taken = one(alloc, told(order)?)?;
     let known = with(known, &order.row, Phase::Idle)?;
     ordered(alloc, restarter, &known, order, taken)
 }
 
-/// An order for an instance in which nothing is done.
+/// An order for an instance with which nothing is being done.
 fn ordered_idle(
     alloc: Global,
     restarter: &Restarter,
     known: &KnownInstance,
     order: &Order,
 ) -> Result<Reply, AllocError>
-    ensures { IfOk result (λ r. r ≡ ordered_idle (order.now.row.number == known.now.row.number) (nat_lt known.now.row.number order.now.row.number) restarter.now known.now order.now) }
+    ensures { IfOk result (λ r. r ≡ ordered_idle restarter.now.known known.now order.now) }
 {
     if order.row.number == known.row.number {
         ordered(alloc, restarter, known, order, Items::new(alloc))
@@ -84,7 +79,7 @@ fn ordered_in(
     order: &Order,
     phase: &Phase,
 ) -> Result<Reply, AllocError>
-    ensures { IfOk result (λ r. r ≡ ordered_in restarter.now known.now order.now phase.now) }
+    ensures { IfOk result (λ r. r ≡ ordered_in restarter.now.known known.now order.now phase.now) }
 {
     match phase {
         Phase::Idle => ordered_idle(alloc, restarter, known, order),
@@ -92,23 +87,28 @@ fn ordered_in(
     }
 }
 
+/// An order for an instance that is not known: its row is taken first.
+fn ordered_first(alloc: Global, restarter: &Restarter, order: &Order) -> Result<Reply, AllocError>
+    ensures { IfOk result (λ r. r ≡ ordered_first restarter.now.known order.now) }
+{
+    let taken = one(alloc, told(order)?)?;
+    let known = idle(told(order)?);
+    ordered(alloc, restarter, &known, order, taken)
+}
+
 fn heard_order(alloc: Global, restarter: &Restarter, order: &Order) -> Result<Reply, AllocError>
-    ensures { IfOk result (λ r. r ≡ heard_order restarter.now order.now restarter.now.stage) }
+    ensures { IfOk result (λ r. r ≡ heard_order restarter.now.known order.now restarter.now.known.stage) }
 {
     if restarter.stage != Stage::Up {
         return Ok(nothing(alloc));
     }
-    match known(&restarter.instances, order.instance) {
-        None => {
-            let taken = one(alloc, told(order)?)?;
-            let known = idle(told(order)?);
-            ordered(alloc, restarter, &known, order, taken)
-        }
+    match restarter.known(order.instance) {
+        None => ordered_first(alloc, restarter, order),
         Some(known) => ordered_in(alloc, restarter, known, order, &known.phase),
     }
 }
 
-/// The rows that were told, none of which anything is done about yet.
+/// The rows that were told, of instances with which nothing is done yet.
 fn all_idle(alloc: Global, rows: &[Known]) -> Result<Items<KnownInstance>, AllocError>
     ensures { IfOk result (λ is. is ≡ map idle rows.now) }
 {
@@ -132,18 +132,15 @@ fn heard_rows(
     launch: u64,
     rows: &Items<Known>,
 ) -> Result<Reply, AllocError>
-    ensures { IfOk result (λ r. r ≡ heard_rows restarter.now launch rows.now restarter.now.stage) }
+    ensures { IfOk result (λ r. r ≡ heard_rows restarter.now.known launch rows.now restarter.now.known.stage) }
 {
     if restarter.stage != Stage::Joining || launch != restarter.launch {
         return Ok(nothing(alloc));
     }
-    let instances = all_idle(alloc, rows.as_slice())?;
-    let taken = copy_of(rows)?;
-    Ok(Reply {
-        change: Change::Rows(instances),
-        action: Action::Nothing,
-        taken,
-    })
+    let mut change = unchanged(alloc);
+    change.stage = Some(Stage::Listing);
+    change.put = all_idle(alloc, rows.as_slice())?;
+    Ok(taking(alloc, copy_of(rows)?, change))
 }
 
 fn phase_after(after: &After) -> Result<Phase, AllocError>
@@ -156,76 +153,95 @@ fn phase_after(after: &After) -> Result<Phase, AllocError>
     }
 }
 
-/// An instance with the row that is taken.
-fn taken_rows(alloc: Global, known: &KnownInstance, row: &Row) -> Result<Items<Known>, AllocError>
-    ensures { IfOk result (λ rows. rows ≡ taken_row known.now row.now ∷ []) }
+/// The row of an instance, as it is taken.
+fn taken_row(known: &KnownInstance, row: &Row) -> Result<Known, AllocError>
+    ensures { IfOk result (λ x. x ≡ taken_row known.now row.now) }
 {
-    let taken = Known {
+    let name = known.name.clone()?;
+    let row = row.clone()?;
+    Ok(Known {
         instance: known.instance,
-        name: known.name.clone()?,
-        row: row.clone()?,
-    };
-    one(alloc, taken)
+        name,
+        row,
+    })
 }
 
-/// The row is taken, and the instance goes on to a phase.
-fn taking(
+/// The row is taken, and the instance goes on to a phase. A run may become known otherwise by it.
+fn taking_row(
     alloc: Global,
     known: &KnownInstance,
     row: &Row,
     phase: Phase,
+    run: Option<KnownRun>,
 ) -> Result<Reply, AllocError>
-    ensures { IfOk result (λ r. r ≡ taking known.now row.now phase) }
+    ensures { IfOk result (λ r. r ≡ taking_row known.now row.now phase run) }
 {
-    let taken = taken_rows(alloc, known, row)?;
-    let known = with(known, row, phase)?;
-    Ok(Reply {
-        change: Change::Put(known),
-        action: Action::Nothing,
-        taken,
-    })
+    let mut change = putting(alloc, with(known, row, phase)?)?;
+    change.run = run;
+    let taken = one(alloc, taken_row(known, row)?)?;
+    Ok(taking(alloc, taken, change))
 }
 
+/// Whether an answer is that to a proposal.
 fn is_answer(launch: u64, serial: u64, proposal: &Proposal) -> bool
     ensures { result ≡ is_answer launch serial proposal.now }
 {
     proposal.launch == launch && proposal.serial == serial
 }
 
-/// What follows the answer to a proposal, where it is awaited.
-fn awaited(launch: u64, serial: u64, phase: &Phase) -> Option<&After>
-    ensures { option_copied result ≡ awaited launch serial phase.now }
+/// The run that a granted step marks no more: the live one, where the step is the note of its failure.
+fn unmarked(restarter: &Restarter, known: &KnownInstance, step: &Step) -> Option<KnownRun>
+    ensures { result ≡ unmarked restarter.now.known known.now step.now }
 {
-    match phase {
-        Phase::Waiting { proposal, after } => {
-            if is_answer(launch, serial, proposal) {
-                Some(after)
-            } else {
-                None
-            }
-        }
-        _ => None,
-    }
+    let Step::Note { .. } = step else {
+        return None;
+    };
+    let run = known_run(restarter, known.instance, known.row.live)?;
+    Some(KnownRun {
+        failed: false,
+        ..*run
+    })
 }
 
+fn acked_in(
+    alloc: Global,
+    restarter: &Restarter,
+    known: &KnownInstance,
+    launch: u64,
+    serial: u64,
+    row: &Row,
+    phase: &Phase,
+) -> Result<Reply, AllocError>
+    ensures { IfOk result (λ r. r ≡ acked_by restarter.now.known row.now known.now (awaited launch serial phase.now)) }
+{
+    let Phase::Waiting { proposal, after } = phase else {
+        return Ok(nothing(alloc));
+    };
+    if !is_answer(launch, serial, proposal) {
+        return Ok(nothing(alloc));
+    }
+    let run = unmarked(restarter, known, &proposal.step);
+    taking_row(alloc, known, row, phase_after(after)?, run)
+}
+
+/// A proposal was granted.
 fn acked(
     alloc: Global,
+    restarter: &Restarter,
     launch: u64,
     serial: u64,
     row: &Row,
     known: Option<&KnownInstance>,
 ) -> Result<Reply, AllocError>
-    ensures { IfOk result (λ r. r ≡ acked launch serial row.now (option_copied known.entry)) }
+    ensures { IfOk result (λ r. r ≡ acked restarter.now.known launch serial row.now (option_copied known.entry)) }
 {
-    let Some(known) = known else {
-        return Ok(nothing(alloc));
-    };
-    match awaited(launch, serial, &known.phase) {
+    match known {
         None => Ok(nothing(alloc)),
-        Some(after) => taking(alloc, known, row, phase_after(after)?),
+        Some(known) => acked_in(alloc, restarter, known, launch, serial, row, &known.phase),
     }
 }
 
+/// An instance that is gone, or that another restarter owns, is forgotten.
 fn refused_by(
     alloc: Global,
     known: &KnownInstance,
@@ -235,15 +251,36 @@ fn refused_by(
     ensures { IfOk result (λ r. r ≡ refused_by known.now why row.now) }
 {
     match row {
-        Some(row) if why != Why::Owner => taking(alloc, known, row, Phase::Idle),
-        _ => Ok(Reply {
-            change: Change::Forget(known.instance),
-            action: Action::Nothing,
-            taken: Items::new(alloc),
-        }),
+        Some(row) if why != Why::Owner => taking_row(alloc, known, row, Phase::Idle, None),
+        _ => {
+            let mut reply = nothing(alloc);
+            reply.change = forgetting(alloc, known.instance);
+            Ok(reply)
+        }
     }
 }
 
+fn nacked_in(
+    alloc: Global,
+    known: &KnownInstance,
+    launch: u64,
+    serial: u64,
+    why: Why,
+    row: &Option<Row>,
+    phase: &Phase,
+) -> Result<Reply, AllocError>
+    ensures { IfOk result (λ r. r ≡ nacked_by why row.now known.now (awaited launch serial phase.now)) }
+{
+    let Phase::Waiting { proposal, .. } = phase else {
+        return Ok(nothing(alloc));
+    };
+    if !is_answer(launch, serial, proposal) {
+        return Ok(nothing(alloc));
+    }
+    refused_by(alloc, known, why, row)
+}
+
+/// A proposal was refused.
 fn nacked(
     alloc: Global,
     launch: u64,
@@ -254,12 +291,9 @@ fn nacked(
 ) -> Result<Reply, AllocError>
     ensures { IfOk result (λ r. r ≡ nacked launch serial why row.now (option_copied known.entry)) }
 {
-    let Some(known) = known else {
-        return Ok(nothing(alloc));
-    };
-    match awaited(launch, serial, &known.phase) {
+    match known {
         None => Ok(nothing(alloc)),
-        Some(_) => refused_by(alloc, known, why, row),
+        Some(known) => nacked_in(alloc, known, launch, serial, why, row, &known.phase),
     }
 }
 
@@ -270,7 +304,7 @@ pub(crate) fn heard(
     restarter: &Restarter,
     message: &Message,
 ) -> Result<Reply, AllocError>
-    ensures { IfOk result (λ r. r ≡ heard restarter.now message.now) }
+    ensures { IfOk result (λ r. r ≡ heard restarter.now.known message.now) }
 {
     match message {
         Message::Rows { launch, rows, .. } => heard_rows(alloc, restarter, *launch, rows),
@@ -282,8 +316,8 @@ pub(crate) fn heard(
             row,
             ..
         } => {
-            let known = known(&restarter.instances, *instance);
-            acked(alloc, *launch, *serial, row, known)
+            let known = restarter.known(*instance);
+            acked(alloc, restarter, *launch, *serial, row, known)
         }
         Message::Nack {
             launch,
@@ -293,7 +327,7 @@ pub(crate) fn heard(
             row,
             ..
         } => {
-            let known = known(&restarter.instances, *instance);
+            let known = restarter.known(*instance);
             nacked(alloc, *launch, *serial, *why, row, known)
         }
         _ => Ok(nothing(alloc)),

@@ -1,7 +1,7 @@
-ghost use Rattle.std.specs.Prelude.{◌≡◌};
+ghost use Rattle.std.specs.Prelude.{◌≡◌, refl};
 
 use smf_contract::Method;
-use smf_fmri::InstanceFmri;
+use smf_fmri::{HasPart, InstanceFmri, Keyed, Number};
 use smf_method::MethodCall;
 use smf_state::{Cause, Proposal, Row, State};
 use std::alloc::AllocError;
@@ -35,10 +35,20 @@ pub struct Owed {
     pub call: MethodCall,
 }
 
+/// A method that runs in a contract.
+#[derive(Clone, Copy, Debug)]
+pub struct RunningMethod {
+    pub method: Method,
+    pub run: u64,
+    /// Whether it fails when it takes too long.
+    pub timed: bool,
+}
+
 /// An end that is to be proposed.
 #[derive(Clone, Copy, Debug)]
 pub struct Ending {
     pub to: State,
+    /// Starts that failed in a row; 0 unless it leads to offline.
     pub failed: u64,
     pub cause: Cause,
     pub drain: Drain,
@@ -59,8 +69,7 @@ pub enum Phase {
     /// It waits for the answer to a proposal.
     Waiting { proposal: Proposal, after: After },
     Owes(Owed),
-    /// A method runs.
-    Running(Owed),
+    Running(RunningMethod),
     Ending(Ending),
 }
 
@@ -73,13 +82,18 @@ pub struct KnownInstance {
     pub phase: Phase,
 }
 
+/// A run of an instance.
+#[derive(Clone, Copy, Debug, PartialEq, Eq, PartialOrd, Ord)]
+pub struct RunKey {
+    pub instance: u64,
+    pub run: u64,
+}
+
 /// A run that has a contract.
 #[derive(Clone, Copy, Debug)]
 pub struct KnownRun {
-    pub instance: u64,
-    pub run: u64,
-    pub method: Method,
-    pub contract: u64,
+    pub key: RunKey,
+    pub contract: Number,
     pub held: bool,
     pub empty: bool,
     /// A failure was reported that is not left out of account.
@@ -88,23 +102,56 @@ pub struct KnownRun {
     pub ended: bool,
 }
 
+impl Keyed for KnownInstance {
+    ghost use Rattle.smf_restarter.specs.Knowledge.{by_instance};
+
+    type Key = u64;
+
+    ghost by = { by_instance };
+
+    fn key(&self) -> &u64 {
+        &self.instance
+    }
+
+    ghost same = { refl };
+}
+
+impl HasPart for KnownInstance {
+    type Part = Phase;
+
+    ghost with_part = { λ i phase. record i { phase = phase } };
+
+    fn set_part(&mut self, part: Phase) {
+        self.phase = part;
+    }
+
+    ghost keeps_key = { λ i phase. refl };
+}
+
+impl Keyed for KnownRun {
+    ghost use Rattle.smf_restarter.specs.Knowledge.{by_run};
+
+    type Key = RunKey;
+
+    ghost by = { by_run };
+
+    fn key(&self) -> &RunKey {
+        &self.key
+    }
+
+    ghost same = { refl };
+}
+
 impl Clone for Owed {
     ghost is_clone = { λ s copy. copy ≡ s };
 
     fn clone(&self) -> Result<Owed, AllocError> {
         let call = self.call.clone()?;
-        Ok(Owed { call, ..*self })
-    }
-}
-
-impl Clone for After {
-    ghost is_clone = { λ s copy. copy ≡ s };
-
-    fn clone(&self) -> Result<After, AllocError> {
-        match self {
-            After::Idle => Ok(After::Idle),
-            After::Owes(owed) => Ok(After::Owes(owed.clone()?)),
-            After::Ending(ending) => Ok(After::Ending(*ending)),
-        }
+        Ok(Owed {
+            method: self.method,
+            run: self.run,
+            revision: self.revision,
+            call,
+        })
     }
 }

@@ -1,17 +1,23 @@
-//! A restarter: what it knows of its instances, and what it does on a message or a tick.
-//! Modules: `known` (what it knows), `places` (the list of instances), `reply` (what a step is, and what it changes), `steps` (proposals), `hearing`
-//! (messages), `ticking` (ticks), `restarter`.
+//! A restarter: what it knows of its instances and of their runs, and what it does on a message, a tick, an answer or
+//! a report.
+//! Modules: `known` (what it knows), `reply` (what a step is, and what it changes), `changing` (changes and replies by
+//! what they do), `running` (runs and their contracts), `ending` (ends that follow on methods), `orders` (proposals),
+//! `hearing` (messages), `ticking` (ticks), `answering` (answers and reports), `restarter`.
 #![tactic(auto)]
 
+mod answering;
+mod changing;
 mod ending;
 mod hearing;
 mod known;
-mod places;
+mod orders;
 mod reply;
 mod restarter;
-mod steps;
+mod running;
 mod ticking;
 
-pub use known::{After, Drain, Ending, KnownInstance, KnownRun, Owed, Phase, Stage};
-pub use reply::{Action, Begun, Change, Reply};
+pub use known::{
+    After, Drain, Ending, KnownInstance, KnownRun, Owed, Phase, RunKey, RunningMethod, Stage,
+};
+pub use reply::{Answer, Begun, Call, Change, Course, Reply, Turn};
 pub use restarter::Restarter;

@@ -1,5 +1,5 @@
-use crate::known::KnownInstance;
-use smf_contract::Method;
+use crate::known::{Ending, KnownInstance, KnownRun, RunningMethod, Stage};
+use smf_contract::{Method, Terms};
 use smf_fmri::{Items, Number};
 use smf_method::Command;
 use smf_wire::{Known, Message};
@@ -15,35 +15,69 @@ pub struct Begun {
     pub command: Command,
 }
 
-/// What a restarter asks for.
-#[derive(Debug, Drop)]
-pub enum Action {
+/// What a restarter asks of the contracts.
+#[derive(Clone, Copy, Debug, PartialEq, Eq)]
+pub enum Call {
     Nothing,
-    Send(Message),
     /// The list of all contracts.
     List,
-    /// The built-in `:true` is begun, and has succeeded.
-    BuiltIn(Begun),
+    Adopt(Number),
+    /// A contract for the method that is begun.
+    Spawn { cookie: u64, terms: Terms },
+    Kill(Number),
+}
+
+/// What becomes of a call. That of a kill says nothing: that the contract is empty is an event of it.
+#[derive(Clone, Copy, Debug)]
+pub enum Answer {
+    Nothing,
+    Adopted(Number),
+    /// The contract that was made.
+    Spawned(Number),
+    /// No contract was made, and no process was begun.
+    Refused,
+    /// The children of the service could not be followed.
+    NotFollowed,
+}
+
+/// What is done about an instance from now on, where that needs no row.
+#[derive(Clone, Copy, Debug)]
+pub enum Course {
+    Running(RunningMethod),
+    Ending(Ending),
+}
+
+/// An instance that takes another course.
+#[derive(Clone, Copy, Debug)]
+pub struct Turn {
+    pub instance: u64,
+    pub course: Course,
 }
 
 /// What a step makes of what a restarter knows.
 #[derive(Debug, Drop)]
-pub enum Change {
-    Nothing,
-    /// The rows were told: these are its instances, and the contracts are listed next.
-    Rows(Items<KnownInstance>),
-    /// The contracts were listed: what is done about each instance is known.
-    Listed(Items<KnownInstance>),
-    Put(KnownInstance),
-    /// A proposal of this serial is sent.
-    Propose(Number, KnownInstance),
-    Forget(u64),
+pub struct Change {
+    pub stage: Option<Stage>,
+    /// The serial of the last proposal.
+    pub serial: Option<Number>,
+    /// Instances that are known, or known otherwise, from now on.
+    pub put: Items<KnownInstance>,
+    pub turn: Option<Turn>,
+    pub forget: Option<u64>,
+    /// Runs that the list of contracts names.
+    pub listed: Items<KnownRun>,
+    pub run: Option<KnownRun>,
 }
 
-/// What a restarter does on an input: what changes, what it asks for, and the rows that it takes.
+/// What a restarter does on an input: what changes, what it says, the rows that it takes, the method that it begins,
+/// and what it asks of the contracts. A method whose call is a spawn begins if that is made; any other is built in.
 #[derive(Debug, Drop)]
 pub struct Reply {
     pub change: Change,
-    pub action: Action,
+    /// None or one.
+    pub messages: Items<Message>,
     pub taken: Items<Known>,
+    /// None or one.
+    pub begun: Items<Begun>,
+    pub call: Call,
 }

@@ -1,154 +1,249 @@
-ghost use Rattle.std.specs.List.{list_all};
-ghost use Rattle.std.specs.Prelude.{◌≡◌, map, IfOk, OnErr, OnOk};
-ghost use Rattle.smf_restarter.specs.Replies.{at_first, at_rest, changed, heard, listed, own_tick, rests, ticked};
+ghost use Rattle.std.specs.Option.{option_copied};
+ghost use Rattle.std.specs.Prelude.{◌≡◌, ◌+◌, ◌≤◌, length, option_to_list, IfOk, OnOk};
+ghost use Rattle.smf_fmri.specs.ByKey.{put_all};
+ghost use Rattle.smf_restarter.specs.Answers.{answered, listed, reported, timed_out};
+ghost use Rattle.smf_restarter.specs.Changes.{changed, forgotten, phase_on, turned};
+ghost use Rattle.smf_restarter.specs.Knowledge.{at_first, by_run, known};
+ghost use Rattle.smf_restarter.specs.Replies.{heard};
+ghost use Rattle.smf_restarter.specs.Ticks.{at_rest, own_tick, ticked};
 
+use crate::answering::{answered, listed, reported, timed_out};
 use crate::hearing::heard;
 use crate::known::{KnownInstance, KnownRun, Phase, Stage};
-use crate::places::{forget, put_known};
-use crate::reply::{Change, Reply};
-use crate::ticking::{listed, own_tick, ticked};
-use smf_fmri::{InstanceFmri, Items, Number};
+use crate::reply::{Answer, Change, Course, Reply, Turn};
+use crate::ticking::{is_at_rest, own_tick, ticked};
+use smf_contract::{Report, Status};
+use smf_fmri::{InstanceFmri, Items, Keyed, Number, Table};
 use smf_wire::Message;
 use std::alloc::{AllocError, Global};
 use std::marker::Model;
 
-/// A restarter from one launch on, svc.startd's own or a delegated one, which contracts see as what it knows.
+/// A restarter from one launch on, svc.startd's own or a delegated one. Contracts see what it knows, and how much room
+/// it has for more.
 #[derive(Debug, Drop)]
 pub struct Restarter {
     alloc: Global,
     pub(crate) name: InstanceFmri,
+    actor: u64,
     pub(crate) launch: u64,
     pub(crate) serial: Number,
     pub(crate) stage: Stage,
-    pub(crate) instances: Vec<KnownInstance>,
-    pub(crate) runs: Vec<KnownRun>,
+    instances: Table<KnownInstance>,
+    pub(crate) runs: Table<KnownRun>,
 }
 
 impl Model for Restarter {
-    ghost use Rattle.smf_restarter.specs.Knowledge.{Knowledge};
+    ghost use Rattle.smf_restarter.specs.Knowledge.{Kept, kept};
 
-    ghost Value = { Knowledge };
+    ghost Value = { Kept };
 
-    ghost view = { λ r. record { name = r.name; launch = r.launch; serial = r.serial; stage = r.stage; instances = r.instances.items; runs = r.runs.items } };
+    ghost view = { λ r.
+        kept (record {
+          name = r.name;
+          actor = r.actor;
+          launch = r.launch;
+          serial = r.serial;
+          stage = r.stage;
+          instances = r.instances.items;
+          runs = r.runs.items;
+        }) r.instances.room r.runs.room };
 }
 
 impl Restarter {
-    /// A restarter that begins with a launch: it knows nothing.
-    pub fn new(alloc: Global, name: InstanceFmri, launch: u64) -> Restarter
-        ensures { result ≡ at_first name launch }
+    /// A restarter that begins with a launch: it knows nothing. It holds contracts as the actor of that number.
+    pub fn new(alloc: Global, name: InstanceFmri, actor: u64, launch: u64) -> Restarter
+        ensures { result.known ≡ at_first name actor launch }
     {
         Restarter {
             alloc,
             name,
+            actor,
             launch,
             serial: Number::zero(),
             stage: Stage::Joining,
-            instances: Vec::new(alloc),
-            runs: Vec::new(alloc),
+            instances: Table::new(alloc),
+            runs: Table::new(alloc),
         }
     }
 
     pub fn name(&self) -> &InstanceFmri
-        ensures { result.now ≡ self.now.name }
+        ensures { result.now ≡ self.now.known.name }
     {
         &self.name
     }
 
+    pub fn actor(&self) -> u64
+        ensures { result ≡ self.now.known.actor }
+    {
+        self.actor
+    }
+
     pub fn launch(&self) -> u64
-        ensures { result ≡ self.now.launch }
+        ensures { result ≡ self.now.known.launch }
     {
         self.launch
     }
 
     pub fn stage(&self) -> Stage
-        ensures { result ≡ self.now.stage }
+        ensures { result ≡ self.now.known.stage }
     {
         self.stage
     }
 
     /// The instances that it knows, in number order.
     pub fn instances(&self) -> &[KnownInstance]
-        ensures { result.now ≡ self.now.instances }
+        ensures { result.now ≡ self.now.known.instances }
     {
-        &self.instances
+        self.instances.as_slice()
+    }
+
+    pub(crate) fn runs(&self) -> &[KnownRun]
+        ensures { result.now ≡ self.now.known.runs }
+    {
+        self.runs.as_slice()
+    }
+
+    /// The instance of a number.
+    pub(crate) fn known(&self, instance: u64) -> Option<&KnownInstance>
+        ensures { option_copied result ≡ known self.now.known instance }
+    {
+        self.instances.get(&instance)
     }
 
     /// What it does on a message that names it.
     pub fn heard(&self, message: &Message) -> Result<Reply, AllocError>
-        ensures { IfOk result (λ r. r ≡ heard self.now message.now) }
+        ensures { IfOk result (λ r. r ≡ heard self.now.known message.now) }
     {
         heard(self.alloc, self, message)
     }
 
     /// What it does on a tick of its own.
     pub fn own_tick(&self) -> Result<Reply, AllocError>
-        ensures { IfOk result (λ r. r ≡ own_tick self.now self.now.stage) }
+        ensures { IfOk result (λ r. r ≡ own_tick self.now.known self.now.known.stage) }
     {
         own_tick(self.alloc, self)
     }
 
     /// What it does on a tick of an instance.
     pub fn ticked(&self, instance: u64) -> Result<Reply, AllocError>
-        ensures { IfOk result (λ r. r ≡ ticked self.now instance) }
+        ensures { IfOk result (λ r. r ≡ ticked self.now.known instance) }
     {
         ticked(self.alloc, self, instance)
     }
 
-    /// What it does when it is told that there are no contracts.
-    pub fn listed(&self) -> Result<Reply, AllocError>
-        ensures { IfOk result (λ r. r ≡ listed self.now self.now.stage) }
+    /// What becomes of it when it is told which contracts there are.
+    pub fn listed(&self, statuses: &[Status]) -> Result<Change, AllocError>
+        ensures { IfOk result (λ c. c ≡ listed self.now.known statuses.now) }
     {
-        listed(self.alloc, self)
+        listed(self.alloc, self, statuses)
     }
 
-    /// Makes the change of a reply. Where memory runs out it is as it was.
-    #[tactic(auto, unfolding(crate::specs::Replies::changed))]
-    pub fn change(&mut self, change: Change) -> Result<(), AllocError>
-        ensures ok { OnOk result (self.new ≡ changed self.old change) }
-        ensures err { OnErr result (self.new ≡ self.old) }
+    /// What becomes of it on the answer to what the tick of an instance asked for.
+    pub fn answered(&self, instance: u64, answer: Answer) -> Change
+        ensures { result ≡ answered self.now.known instance answer }
     {
-        match change {
-            Change::Nothing => Ok(()),
-            Change::Rows(instances) => {
-                self.instances = instances.into_vec();
-                self.stage = Stage::Listing;
-                Ok(())
-            }
-            Change::Listed(instances) => {
-                self.instances = instances.into_vec();
-                self.stage = Stage::Up;
-                Ok(())
-            }
-            Change::Put(known) => put_known(&mut self.instances, known),
-            Change::Propose(serial, known) => {
-                put_known(&mut self.instances, known)?;
-                self.serial = serial;
-                Ok(())
-            }
-            Change::Forget(instance) => {
-                forget(&mut self.instances, instance);
-                Ok(())
-            }
-        }
+        answered(self.alloc, self, instance, &answer)
+    }
+
+    /// What becomes of it when an event of a contract is reported.
+    pub fn reported(&self, report: &Report) -> Change
+        ensures { result ≡ reported self.now.known report.now }
+    {
+        reported(self.alloc, self, report)
+    }
+
+    /// What becomes of it when the method that runs for an instance has taken too long.
+    pub fn timed_out(&self, instance: u64) -> Change
+        ensures { result ≡ timed_out self.now.known instance }
+    {
+        timed_out(self.alloc, self, instance)
+    }
+
+    /// Makes room for so many more instances and runs. Where memory runs out it knows what it knew.
+    pub fn reserve(&mut self, instances: usize, runs: usize) -> Result<(), AllocError>
+        ensures known { self.new.known ≡ self.old.known }
+        ensures instances_room { OnOk result (instances ≤ self.new.instances_room) }
+        ensures runs_room { OnOk result (runs ≤ self.new.runs_room) }
+    {
+        self.instances.reserve(instances)?;
+        self.runs.reserve(runs)?;
+        Ok(())
+    }
+
+    /// Makes a change, for which there is room.
+    #[tactic(auto, unfolding(crate::specs::Changes::changed))]
+    pub fn change(&mut self, change: Change)
+        requires instances_room { length change.put ≤ self.old.instances_room }
+        requires runs_room { length change.listed + 1 ≤ self.old.runs_room }
+        ensures { self.new.known ≡ changed self.old.known change }
+    {
+        let Change {
+            stage,
+            serial,
+            put,
+            turn,
+            forget,
+            listed,
+            run,
+        } = change;
+        self.stage = stage.unwrap_or(self.stage);
+        self.serial = serial.unwrap_or(self.serial);
+        put_all(&mut self.instances, put);
+        turn_in(&mut self.instances, turn);
+        forget_in(&mut self.instances, forget);
+        put_all(&mut self.runs, listed);
+        put_run(&mut self.runs, run);
     }
 
     /// Whether it is up, and awaits and owes nothing.
-    #[tactic(auto, unfolding(crate::specs::Replies::at_rest))]
     pub fn is_at_rest(&self) -> bool
-        ensures { result ≡ at_rest self.now }
+        ensures { result ≡ at_rest self.now.known }
     {
-        self.stage == Stage::Up && all_rest(&self.instances)
+        is_at_rest(self)
     }
 }
 
-fn rests(known: &KnownInstance) -> bool
-    ensures { result ≡ rests known.now }
+/// Puts items in their places, one after another. There is room for all.
+fn put_all<T: Keyed + Drop>(table: &mut Table<T>, items: Items<T>)
+    requires { length items ≤ table.old.room }
+    ensures items { table.new.items ≡ put_all T.by items table.old.items }
+    ensures room { table.old.room ≤ table.new.room + length items }
 {
-    matches!(known.phase, Phase::Idle | Phase::Running(_))
+    for item in items.into_vec() {
+        table.put(item);
+    }
 }
 
-fn all_rest(instances: &[KnownInstance]) -> bool
-    ensures { result ≡ list_all rests instances.now }
+fn phase_on(course: Course) -> Phase
+    ensures { result ≡ phase_on course }
 {
-    instances.iter().all(|known| rests(known))
+    match course {
+        Course::Running(method) => Phase::Running(method),
+        Course::Ending(end) => Phase::Ending(end),
+    }
+}
+
+fn turn_in(instances: &mut Table<KnownInstance>, turn: Option<Turn>)
+    ensures { instances.new.items ≡ turned turn instances.old.items }
+{
+    if let Some(turn) = turn {
+        instances.amend(&turn.instance, phase_on(turn.course));
+    }
+}
+
+fn forget_in(instances: &mut Table<KnownInstance>, forget: Option<u64>)
+    ensures { instances.new.items ≡ forgotten forget instances.old.items }
+{
+    if let Some(instance) = forget {
+        instances.remove(&instance);
+    }
+}
+
+fn put_run(runs: &mut Table<KnownRun>, run: Option<KnownRun>)
+    requires { 1 ≤ runs.old.room }
+    ensures { runs.new.items ≡ put_all by_run (option_to_list run) runs.old.items }
+{
+    if let Some(run) = run {
+        runs.put(run);
+    }
 }

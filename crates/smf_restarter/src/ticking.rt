@@ -1,96 +1,261 @@
-ghost use Rattle.std.specs.Option.{option_copied};
-ghost use Rattle.std.specs.Prelude.{◌≡◌, map, IfOk};
-ghost use Rattle.smf_restarter.specs.Replies.{began_if, end_step, is_built_in, keeps, listed, own_tick, phase_under, phased, ticked, ticked_in};
+//! What a restarter does in its turn, for itself and for an instance, and whether it has anything left to do.
 
-use crate::ending::{ended_refresh, ended_start, ended_stop, succeeded};
-use crate::known::{After, Ending, KnownInstance, Owed, Phase, Stage};
-use crate::places::{known, with};
-use crate::reply::{Action, Begun, Change, Reply};
+ghost use Rattle.std.specs.List.{list_all};
+ghost use Rattle.std.specs.Option.{option_copied};
+ghost use Rattle.std.specs.Prelude.{◌≡◌, IfOk};
+ghost use Rattle.smf_method.specs.Commands.{builtin};
+ghost use Rattle.smf_restarter.specs.Ticks.{at_rest, begun_by, begun_of, built_in, drain_call, end_step, ending, fatal_bits, fatal_if, fatal_of, first_call, is_ended, is_failed, is_refresh_end, keeps, keeps_run, kill_of, leads_to, note, note_bits, note_due, own_tick, rests, rests_idle, rests_in, spawning, terms_of, ticked, ticked_in};
+
+use crate::changing::{beginning, calling, nothing, sending, turning, unchanged};
+use crate::ending::succeeded;
+use crate::known::{After, Drain, Ending, KnownInstance, KnownRun, Owed, Phase, Stage};
+use crate::orders::proposing;
+use crate::reply::{Begun, Call, Course, Reply};
 use crate::restarter::Restarter;
-use crate::steps::{nothing, proposing, sending};
+use crate::running::{ignores_core, ignores_signal, is_empty, known_run, orphan};
+use bitflags::Flags;
+use smf_contract::{Cookie, EventSet, Method, Terms};
 use smf_fmri::Items;
-use smf_state::{Row, State, Step};
+use smf_method::Builtin;
+use smf_state::{Asks, Duration, Ignore, Row, State, Step};
 use smf_wire::Message;
 use std::alloc::{AllocError, Global};
 
 /// A tick of the restarter itself: it asks for its rows, and then for the contracts.
-#[tactic(auto, unfolding(crate::specs::Replies::own_tick))]
+#[tactic(auto, unfolding(crate::specs::Ticks::own_tick))]
 pub(crate) fn own_tick(alloc: Global, restarter: &Restarter) -> Result<Reply, AllocError>
-    ensures { IfOk result (λ r. r ≡ own_tick restarter.now restarter.now.stage) }
+    ensures { IfOk result (λ r. r ≡ own_tick restarter.now.known restarter.now.known.stage) }
 {
     match restarter.stage {
-        Stage::Joining => Ok(sending(
-            alloc,
-            Message::Join {
-                name: restarter.name.clone()?,
-                launch: restarter.launch,
-            },
-        )),
-        Stage::Listing => Ok(Reply {
-            change: Change::Nothing,
-            action: Action::List,
-            taken: Items::new(alloc),
-        }),
+        Stage::Joining => {
+            let name = restarter.name.clone()?;
+            let launch = restarter.launch;
+            sending(alloc, Message::Join { name, launch })
+        }
+        Stage::Listing => Ok(calling(alloc, Call::List)),
         Stage::Up => Ok(nothing(alloc)),
     }
 }
 
-/// Begins a method that is owed, where it is built in.
-fn began(alloc: Global, known: &KnownInstance, owed: &Owed) -> Result<Reply, AllocError>
-    ensures { IfOk result (λ r. r ≡ began_if (is_built_in owed.now.call.command) known.now owed.now) }
+/// The kinds of failure that are not left out of account.
+fn fatal_set(ignore: Ignore) -> EventSet
+    ensures { result.0 ≡ fatal_bits ignore }
 {
-    if owed.call.command.builtin().is_none() {
-        return Ok(nothing(alloc));
+    if ignores_core(ignore) {
+        if ignores_signal(ignore) {
+            EventSet::HWERR
+        } else {
+            EventSet::SIGNAL.union(EventSet::HWERR)
+        }
+    } else if ignores_signal(ignore) {
+        EventSet::CORE.union(EventSet::HWERR)
+    } else {
+        EventSet::FAILURES
     }
-    let phase = Phase::Ending(succeeded(&known.row, owed.method));
-    Ok(Reply {
-        change: Change::Put(with(known, &known.row, phase)?),
-        action: Action::BuiltIn(Begun {
-            instance: known.instance,
-            run: owed.run,
-            method: owed.method,
-            revision: owed.revision,
-            command: owed.call.command.clone()?,
-        }),
-        taken: Items::new(alloc),
+}
+
+fn fatal_if(duration: Duration, ignore: Ignore) -> EventSet
+    ensures { result.0 ≡ fatal_if duration ignore }
+{
+    match duration {
+        Duration::Contract => fatal_set(ignore),
+        Duration::Transient => EventSet::NONE,
+        Duration::Child => EventSet::NONE,
+    }
+}
+
+/// The kinds of failure of one member that end them all: of the start of a contract service, and of no other method.
+fn fatal_of(method: Method, row: &Row) -> EventSet
+    ensures { result.0 ≡ fatal_of method row.now }
+{
+    match method {
+        Method::Start => fatal_if(row.duration, row.ignore),
+        Method::Stop => EventSet::NONE,
+        Method::Refresh => EventSet::NONE,
+    }
+}
+
+/// The terms of a method's contract: it waits to be adopted where its holder is gone.
+fn terms_of(method: Method, row: &Row) -> Terms
+    ensures { result ≡ terms_of method row.now }
+{
+    Terms {
+        informative: EventSet::NONE,
+        critical: EventSet::EMPTY.union(EventSet::FAILURES),
+        fatal: fatal_of(method, row),
+        inherit: true,
+        noorphan: false,
+    }
+}
+
+fn begun_of(known: &KnownInstance, owed: &Owed) -> Result<Begun, AllocError>
+    ensures { IfOk result (λ b. b ≡ begun_of known.now owed.now) }
+{
+    let command = owed.call.command.clone()?;
+    Ok(Begun {
+        instance: known.instance,
+        run: owed.run,
+        method: owed.method,
+        revision: owed.revision,
+        command,
     })
 }
 
-fn keeps(state: State, next: Option<State>) -> bool
-    ensures { result ≡ keeps state next }
+/// Begins a method in a contract. A run whose cookie has no form begins nothing.
+fn spawning(alloc: Global, known: &KnownInstance, owed: &Owed) -> Result<Reply, AllocError>
+    ensures { IfOk result (λ r. r ≡ spawning known.now owed.now) }
 {
-    match next {
-        None => false,
-        Some(next) => state == next,
+    let cookie = Cookie {
+        instance: known.instance,
+        run: owed.run,
+        method: owed.method,
+    };
+    let Ok(cookie) = cookie.pack() else {
+        return Ok(nothing(alloc));
+    };
+    let terms = terms_of(owed.method, &known.row);
+    let begun = begun_of(known, owed)?;
+    let call = Call::Spawn { cookie, terms };
+    beginning(alloc, begun, call, unchanged(alloc))
+}
+
+/// The contract of a run is killed, where it is known and not known empty.
+fn kill_of(run: Option<&KnownRun>) -> Call
+    ensures { result ≡ kill_of (option_copied run.entry) }
+{
+    match run {
+        None => Call::Nothing,
+        Some(run) => {
+            if run.empty {
+                Call::Nothing
+            } else {
+                Call::Kill(run.contract)
+            }
+        }
     }
 }
 
-fn end_step(row: &Row, ending: Ending) -> Step
-    ensures { result ≡ end_step row.now ending }
+/// Begins a method that is built in, which succeeds at once.
+fn built_in(
+    alloc: Global,
+    known: &KnownInstance,
+    owed: &Owed,
+    call: Call,
+) -> Result<Reply, AllocError>
+    ensures { IfOk result (λ r. r ≡ built_in known.now owed.now call) }
+{
+    let begun = begun_of(known, owed)?;
+    let course = Course::Ending(succeeded(&known.row, owed.method));
+    beginning(alloc, begun, call, turning(alloc, known.instance, course))
+}
+
+/// Begins a method that is owed.
+fn begun_by(
+    alloc: Global,
+    restarter: &Restarter,
+    known: &KnownInstance,
+    owed: &Owed,
+) -> Result<Reply, AllocError>
+    ensures { IfOk result (λ r. r ≡ begun_by restarter.now.known known.now owed.now (builtin owed.now.call.command)) }
+{
+    match owed.call.command.builtin() {
+        None => spawning(alloc, known, owed),
+        Some(Builtin::True) => built_in(alloc, known, owed, Call::Nothing),
+        Some(Builtin::Kill) => {
+            let live = known_run(restarter, known.instance, known.row.live);
+            built_in(alloc, known, owed, kill_of(live))
+        }
+    }
+}
+
+fn first_call(first: Call, second: Call) -> Call
+    ensures { result ≡ first_call first second }
+{
+    match first {
+        Call::Nothing => second,
+        _ => first,
+    }
+}
+
+/// What is asked of the runs that have to be drained, of the live one first.
+fn drain_call(restarter: &Restarter, known: &KnownInstance, drain: Drain) -> Call
+    ensures { result ≡ drain_call restarter.now.known known.now drain }
+{
+    let live = kill_of(known_run(restarter, known.instance, known.row.live));
+    let side = kill_of(known_run(restarter, known.instance, known.row.side));
+    match drain {
+        Drain::Nothing => Call::Nothing,
+        Drain::Live => live,
+        Drain::Side => side,
+        Drain::Both => first_call(live, side),
+    }
+}
+
+/// Whether a start that ends online keeps its run: where the contract is known and, for a transient service, not empty.
+fn keeps_run(duration: Duration, live: Option<&KnownRun>) -> bool
+    ensures { result ≡ keeps_run duration (option_copied live.entry) }
+{
+    match live {
+        None => false,
+        Some(run) => match duration {
+            Duration::Transient => !run.empty,
+            Duration::Contract => true,
+            Duration::Child => true,
+        },
+    }
+}
+
+fn leads_to(next: Option<State>, to: State) -> bool
+    ensures { result ≡ leads_to next to }
+{
+    match next {
+        None => false,
+        Some(next) => next == to,
+    }
+}
+
+/// Whether a refresh is under way, and this is its end.
+fn is_refresh_end(row: &Row, to: State) -> bool
+    ensures { result ≡ is_refresh_end row.now to }
+{
+    row.state.runs() && to == row.state && leads_to(row.next, row.state)
+}
+
+/// Whether an end keeps the live run.
+fn keeps(row: &Row, to: State, live: Option<&KnownRun>) -> bool
+    ensures { result ≡ keeps row.now to (option_copied live.entry) }
+{
+    if row.state == State::Offline {
+        to == State::Online && keeps_run(row.duration, live)
+    } else {
+        is_refresh_end(row, to)
+    }
+}
+
+fn end_step(row: &Row, ending: &Ending, live: Option<&KnownRun>) -> Step
+    ensures { result ≡ end_step row.now ending.now (option_copied live.entry) }
 {
     Step::End {
         to: ending.to,
-        keep: keeps(row.state, row.next),
+        keep: keeps(row, ending.to, live),
         failed: ending.failed,
         cause: ending.cause,
     }
 }
 
-fn ticked_in(
+/// Proposes an end, once nothing is left to be drained.
+fn ending(
     alloc: Global,
     restarter: &Restarter,
     known: &KnownInstance,
-    phase: &Phase,
+    end: &Ending,
 ) -> Result<Reply, AllocError>
-    ensures { IfOk result (λ r. r ≡ ticked_in restarter.now known.now phase.now) }
+    ensures { IfOk result (λ r. r ≡ ending restarter.now.known known.now end.now) }
 {
-    match phase {
-        Phase::Waiting { proposal, .. } => {
-            Ok(sending(alloc, Message::Propose(proposal.clone()?)))
-        }
-        Phase::Owes(owed) => began(alloc, known, owed),
-        Phase::Ending(ending) => {
-            let step = end_step(&known.row, *ending);
+    match drain_call(restarter, known, end.drain) {
+        Call::Nothing => {
+            let live = known_run(restarter, known.instance, known.row.live);
+            let step = end_step(&known.row, end, live);
             proposing(
                 alloc,
                 restarter,
@@ -100,69 +265,169 @@ fn ticked_in(
                 Items::new(alloc),
             )
         }
-        _ => Ok(nothing(alloc)),
+        call => Ok(calling(alloc, call)),
+    }
+}
+
+fn is_failed(run: Option<&KnownRun>) -> bool
+    ensures { result ≡ is_failed (option_copied run.entry) }
+{
+    match run {
+        None => false,
+        Some(run) => run.failed,
+    }
+}
+
+fn is_ended(run: Option<&KnownRun>) -> bool
+    ensures { result ≡ is_ended (option_copied run.entry) }
+{
+    match run {
+        None => false,
+        Some(run) => run.ended,
+    }
+}
+
+/// What the end of a live run, or of its first process, is noted as, by the duration of the service.
+fn note_bits(duration: Duration, live: Option<&KnownRun>) -> Option<u8>
+    ensures { result ≡ note_bits duration (option_copied live.entry) }
+{
+    match duration {
+        Duration::Contract => {
+            if is_empty(live) || is_failed(live) {
+                Some(Asks::FAILED.number())
+            } else {
+                None
+            }
+        }
+        Duration::Child => {
+            if is_empty(live) || is_ended(live) {
+                Some(Asks::EXITED.number())
+            } else {
+                None
+            }
+        }
+        Duration::Transient => { if is_empty(live) { Some(0) } else { None } }
+    }
+}
+
+/// A note is due where the instance runs with a live run, and nothing is under way.
+fn note_due(row: &Row, live: Option<&KnownRun>) -> Option<u8>
+    ensures { result ≡ note_due row.now (option_copied live.entry) }
+{
+    if row.next.is_none() && row.state.runs() && row.live.is_some() {
+        note_bits(row.duration, live)
+    } else {
+        None
+    }
+}
+
+/// Proposes the note that is due.
+fn note(
+    alloc: Global,
+    restarter: &Restarter,
+    known: &KnownInstance,
+    live: Option<&KnownRun>,
+) -> Result<Reply, AllocError>
+    ensures { IfOk result (λ r. r ≡ note restarter.now.known known.now (option_copied live.entry)) }
+{
+    let Some(bits) = note_due(&known.row, live) else {
+        return Ok(nothing(alloc));
+    };
+    let step = Step::Note {
+        bits: Asks::from_number(bits),
+        keep: !is_empty(live),
+    };
+    proposing(
+        alloc,
+        restarter,
+        known,
+        step,
+        After::Idle,
+        Items::new(alloc),
+    )
+}
+
+/// Before all else an orphan is adopted, unless a method runs or an answer is awaited.
+fn ticked_in(
+    alloc: Global,
+    restarter: &Restarter,
+    known: &KnownInstance,
+    phase: &Phase,
+) -> Result<Reply, AllocError>
+    ensures { IfOk result (λ r. r ≡ ticked_in restarter.now.known known.now phase.now) }
+{
+    match phase {
+        Phase::Waiting { proposal, .. } => sending(alloc, Message::Propose(proposal.clone()?)),
+        Phase::Running(_) => Ok(nothing(alloc)),
+        Phase::Owes(owed) => match orphan(restarter, known.instance) {
+            Some(run) => Ok(calling(alloc, Call::Adopt(run.contract))),
+            None => begun_by(alloc, restarter, known, owed),
+        },
+        Phase::Ending(end) => match orphan(restarter, known.instance) {
+            Some(run) => Ok(calling(alloc, Call::Adopt(run.contract))),
+            None => ending(alloc, restarter, known, end),
+        },
+        Phase::Idle => match orphan(restarter, known.instance) {
+            Some(run) => Ok(calling(alloc, Call::Adopt(run.contract))),
+            None => {
+                let live = known_run(restarter, known.instance, known.row.live);
+                note(alloc, restarter, known, live)
+            }
+        },
     }
 }
 
 /// A tick of one instance.
-#[tactic(auto, unfolding(crate::specs::Replies::ticked))]
+#[tactic(auto, unfolding(crate::specs::Ticks::ticked))]
 pub(crate) fn ticked(
     alloc: Global,
     restarter: &Restarter,
     instance: u64,
 ) -> Result<Reply, AllocError>
-    ensures { IfOk result (λ r. r ≡ ticked restarter.now instance) }
+    ensures { IfOk result (λ r. r ≡ ticked restarter.now.known instance) }
 {
     if restarter.stage != Stage::Up {
         return Ok(nothing(alloc));
     }
-    match known(&restarter.instances, instance) {
+    match restarter.known(instance) {
         None => Ok(nothing(alloc)),
         Some(known) => ticked_in(alloc, restarter, known, &known.phase),
     }
 }
 
-/// What was under way when the restarter was launched is ended.
-fn phase_under(row: &Row) -> Phase
-    ensures { result ≡ phase_under row.now row.now.next }
+fn rests_idle(restarter: &Restarter, known: &KnownInstance) -> bool
+    ensures { result ≡ rests_idle restarter.now.known known.now }
 {
-    let Some(next) = row.next else {
-        return Phase::Idle;
-    };
-    if next == row.state {
-        Phase::Ending(ended_refresh(row))
-    } else if row.state == State::Offline && next == State::Online {
-        Phase::Ending(ended_start(row))
-    } else {
-        Phase::Ending(ended_stop(row, next))
+    let live = known_run(restarter, known.instance, known.row.live);
+    orphan(restarter, known.instance).is_none() && note_due(&known.row, live).is_none()
+}
+
+fn rests_in(restarter: &Restarter, known: &KnownInstance, phase: &Phase) -> bool
+    ensures { result ≡ rests_in restarter.now.known known.now phase.now }
+{
+    match phase {
+        Phase::Idle => rests_idle(restarter, known),
+        Phase::Running(_) => true,
+        _ => false,
     }
 }
 
-fn all_phased(
-    alloc: Global,
-    instances: &[KnownInstance],
-) -> Result<Items<KnownInstance>, AllocError>
-    ensures { IfOk result (λ is. is ≡ map phased instances.now) }
+fn rests(restarter: &Restarter, known: &KnownInstance) -> bool
+    ensures { result ≡ rests restarter.now.known known.now }
 {
-    let mut all = Vec::new(alloc);
-    for known in instances {
-        all.push(with(known, &known.row, phase_under(&known.row))?)?;
-    }
-    Ok(Items::from_vec(all))
+    rests_in(restarter, known, &known.phase)
 }
 
-/// The answer to the list of contracts, of which there are none.
-#[tactic(auto, unfolding(crate::specs::Replies::listed))]
-pub(crate) fn listed(alloc: Global, restarter: &Restarter) -> Result<Reply, AllocError>
-    ensures { IfOk result (λ r. r ≡ listed restarter.now restarter.now.stage) }
+fn all_rest(restarter: &Restarter, instances: &[KnownInstance]) -> bool
+    ensures { result ≡ list_all (rests restarter.now.known) instances.now }
 {
-    if restarter.stage != Stage::Listing {
-        return Ok(nothing(alloc));
-    }
-    let instances = all_phased(alloc, &restarter.instances)?;
-    Ok(Reply {
-        change: Change::Listed(instances),
-        action: Action::Nothing,
-        taken: Items::new(alloc),
-    })
+    instances.iter().all(|known| rests(restarter, known))
+}
+
+/// Whether a restarter is up, and nothing is awaited or owed.
+#[tactic(auto, unfolding(crate::specs::Ticks::at_rest))]
+pub(crate) fn is_at_rest(restarter: &Restarter) -> bool
+    ensures { result ≡ at_rest restarter.now.known }
+{
+    restarter.stage == Stage::Up && all_rest(restarter, restarter.instances())
 }

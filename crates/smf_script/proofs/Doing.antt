@@ -1,8 +1,13 @@
 -- How a script goes on, line by line.
-use Rattle.std.proofs.Common.{◌≡◌, ◌≤◌, ◌<◌, ℕ, suc, ◌+◌, ◌&&◌, List, [], ◌∷◌, ◌++◌, length, length-take-le, take, take_all, Bool, true, false, Option, Some, None, IfSome, refl, sym, ap, subst, ◌∙◌, arith, append_assoc, append-nil, lt-ltb, ltb-true, ltb-false}
+use Rattle.std.proofs.Common.{◌≡◌, ◌≤◌, ◌<◌, ℕ, suc, ◌+◌, ◌&&◌, List, [], ◌∷◌, ◌++◌, length, length-take-le, take, take_all, Bool, true, false, Option, Some, None, IfSome, inl, inr, refl, sym, ap, subst, ◌∙◌, arith, append_assoc, append-nil, lt-ltb, ltb-true, ltb-false}
 use Rattle.std.proofs.KnownBytes.{Appends-nil, Appends-trans}
 use Rattle.std.specs.Io.KnownBytes.{Appends}
-use Rattle.smf_script.specs.Faults.{IsPast, counted}
+use Rattle.std_io.specs.declared.io.error.Error.{Error}
+use Rattle.smf_model.specs.declared.journal.RepoFault.{RepoFault}
+use Rattle.smf_node.specs.declared.fault.NodeFault.{NodeFault}
+use Rattle.smf_script.specs.Failing.{RequestFails}
+use Rattle.smf_script.specs.Faults.{IsPast, IsUnread, counted}
+use Rattle.smf_script.specs.declared.request.Request.{Request}
 use Rattle.smf_script.specs.Reading.{IsLine, counts_of, kept, lines_of}
 use Rattle.smf_script.specs.Request.{is_too_long, request_of}
 use Rattle.smf_script.specs.Script.{Ends, IsCut, IsWithin, IsWritten, Leaves, Stops, Wrote, begun, joined, line_on, max_lines, script, script_on, silent, status_of}
@@ -12,7 +17,6 @@ use Rattle.smf_script.specs.declared.fault.ScriptFault.TheVariants.{Node, Input,
 use Rattle.smf_svccfg.specs.declared.selection.Selection.{Selection}
 use Rattle.smf_svccfg.specs.declared.selection.Selection.TheVariants.{Nothing}
 use Rattle.smf_world.specs.Schedule.{Progress}
-use Rattle.smf_world.proofs.Reaching.{later_same}
 use Rattle.smf_script.proofs.Counting.{counts_both}
 
 -- ---- what is kept of a line asks for what the line asks for
@@ -121,11 +125,16 @@ few_lines start input old now selection left new fine turns left_turns interrupt
 
 -- ---- faults
 
-left_by : (fault : ScriptFault) (e : Effect) (after : Progress) → after ≡ e.session.progress → Leaves fault e after
-left_by (Node f) e after is = later_same _ _ (ap (λ p. p.world) is)
-left_by (Input f) e after is = is
-left_by (Output f) e after is = is
-left_by (TooManyLines n) e after is = is
+left_by : (stores : RepoFault → Type 0) (fails : Error → Type 0) (fault : ScriptFault) (s : Session) (behind : List (List ℕ)) (after : Progress) → after ≡ s.progress → IsUnread fails fault → Leaves stores fault s behind after
+left_by stores fails (Node f) s behind after is unread = inl (unread, is)
+left_by stores fails (Input f) s behind after is unread = is
+left_by stores fails (Output f) s behind after is unread = is
+left_by stores fails (TooManyLines n) s behind after is unread = is
+
+-- what is left of a line, at what it asks for and in another session that is the same
+fails_at : (stores : RepoFault → Type 0) (s s' : Session) (request request' : Request) (after : Progress) (f : NodeFault) → s' ≡ s → request ≡ request' → RequestFails stores s request after f → RequestFails stores s' request' after f
+fails_at stores s s' request request' after f same asked h =
+    subst (λ r. RequestFails stores s' r after f) asked (subst (λ t. RequestFails stores t request after f) (sym same) h)
 
 wrote_by : (fault : ScriptFault) (e : Effect) (old new : Option (List ℕ)) → Appends old new e.text → Wrote fault e old new
 wrote_by (Node f) e old new w = w
@@ -140,33 +149,35 @@ past_by (Output f) most turns before first all e a p = tt
 past_by (TooManyLines n) most turns before first all e a p = omega arith
 
 -- no line could be read
-pub stops_reading : (fault : ScriptFault) (start : Session) (input : List ℕ) (old : Option (List ℕ)) (now : Progress) (selection : Selection) (left new : Option (List ℕ)) (fine : Bool) (turns : ℕ)
-    → (g : Goes start input old now selection left new fine turns) → IsPast fault turns (counts_of (take 1 (lines_of g.rest))) → Stops fault start (lines_of input) now old new
-stops_reading fault start input old now selection left new fine turns g past =
+pub stops_reading : (stores : RepoFault → Type 0) (fails : Error → Type 0) (fault : ScriptFault) (start : Session) (input : List ℕ) (old : Option (List ℕ)) (now : Progress) (selection : Selection) (left new : Option (List ℕ)) (fine : Bool) (turns : ℕ)
+    → (g : Goes start input old now selection left new fine turns) → IsPast fault turns (counts_of (take 1 (lines_of g.rest))) → IsUnread fails fault → Stops stores fault start (lines_of input) now old new
+stops_reading stores fails fault start input old now selection left new fine turns g past unread =
     record {
       before = g.before;
       behind = lines_of g.rest;
       whole = g.whole;
-      node = left_by fault _ now (ap (λ s. s.progress) (sym g.session));
+      node = left_by stores fails fault (script start g.before).session (lines_of g.rest) now (ap (λ s. s.progress) (sym g.session)) unread;
       text = wrote_by fault _ old new g.text;
       past = past_by fault max_lines turns (counts_of g.before) (counts_of (take 1 (lines_of g.rest))) (counts_of (g.before ++ take 1 (lines_of g.rest))) g.counted (counts_both g.before (take 1 (lines_of g.rest))) past;
     }
 
 -- a line could not be done, or not written
-pub stops_doing : (fault : ScriptFault) (start : Session) (input : List ℕ) (old : Option (List ℕ)) (now now' : Progress) (selection : Selection) (left left' new new' : Option (List ℕ)) (fine : Bool) (turns turns' : ℕ) (line : List ℕ)
+pub stops_doing : (stores : RepoFault → Type 0) (fault : ScriptFault) (start : Session) (input : List ℕ) (old : Option (List ℕ)) (now now' : Progress) (selection : Selection) (left left' new new' : Option (List ℕ)) (fine : Bool) (turns turns' : ℕ) (line : List ℕ)
     → (g : Goes start input old now selection left new fine turns) → IsLine (Some line) g.rest left' turns turns'
-    → IsCut fault (record { progress = now; selection = selection }) line now' new new'
-    → Stops fault start (lines_of input) now' old new'
-stops_doing (Node f) start input old now now' selection left left' new new' fine turns turns' line g l cut =
+    → IsCut stores fault (record { progress = now; selection = selection }) line now' new new'
+    → Stops stores fault start (lines_of input) now' old new'
+stops_doing stores (Node f) start input old now now' selection left left' new new' fine turns turns' line g (first, rest, is, keeps, is_left, counted) cut =
+    let asked : request_of line ≡ request_of first = ap request_of keeps ∙ request_by (is_too_long first) first refl in
+    let here : Session = record { progress = now; selection = selection } in
     record {
       before = g.before;
       behind = lines_of g.rest;
       whole = g.whole;
-      node = rw g.session cut.0;
+      node = inr (first, lines_of rest, is, fails_at stores here (script start g.before).session (request_of line) (request_of first) now' f g.session asked cut.0);
       text = rw cut.1 g.text;
       past = tt;
     }
-stops_doing (Output f) start input old now now' selection left left' new new' fine turns turns' line g (first, rest, is, keeps, is_left, counted) cut =
+stops_doing stores (Output f) start input old now now' selection left left' new new' fine turns turns' line g (first, rest, is, keeps, is_left, counted) cut =
     let here : Session = record { progress = now; selection = selection } in
     let same : effect here line ≡ effect here first = ap (effect here) keeps ∙ effect_kept here first in
     record {
@@ -177,5 +188,5 @@ stops_doing (Output f) start input old now now' selection left left' new new' fi
       text = tt;
       past = tt;
     }
-stops_doing (Input f) start input old now now' selection left left' new new' fine turns turns' line g l cut = absurd cut
-stops_doing (TooManyLines n) start input old now now' selection left left' new new' fine turns turns' line g l cut = absurd cut
+stops_doing stores (Input f) start input old now now' selection left left' new new' fine turns turns' line g l cut = absurd cut
+stops_doing stores (TooManyLines n) start input old now now' selection left left' new new' fine turns turns' line g l cut = absurd cut

@@ -1,6 +1,7 @@
 -- What is asked for is done one by one.
-use Rattle.std.proofs.Common.{◌≡◌, ℕ, List, [], ◌∷◌, ◌++◌, ◌&&◌, Bool, true, refl, sym, ap, ◌∙◌, append_assoc, append-nil}
+use Rattle.std.proofs.Common.{◌≡◌, ℕ, List, [], ◌∷◌, ◌++◌, ◌&&◌, ◌⊎◌, inl, inr, Bool, true, refl, sym, ap, ◌∙◌, append_assoc, append-nil}
 use Rattle.smf_admin.specs.declared.asking.Asked.{Asked}
+use Rattle.smf_script.specs.Failing.{AreDone}
 use Rattle.smf_script.specs.Session.{Deed, IsDeed, asked, asked_all, behind, done}
 use Rattle.smf_world.specs.Schedule.{Progress}
 
@@ -21,4 +22,17 @@ deed_more d xs x p p' old mid new fine did so_far more =
       node = more.node ∙ sym (ap (λ e. e.progress) same);
       texts = more.texts ∙ ap (λ l. l ++ (asked p x).text) so_far.texts ∙ append_assoc old (asked_all d xs).text (asked p x).text ∙ sym (ap (λ e. old ++ e.text) same);
       flag = rw (same, so_far.flag, more.flag) refl;
+    }
+
+-- those before the one that ended with a fault were done, or that one too
+pub some_done : (p now after : Progress) (before : List Asked) (x : Asked) (rest all : List Asked) (old mid : List ℕ) (fine : Bool) → all ≡ before ++ x ∷ rest → IsDeed (asked_all (done p []) before) now old mid fine
+    → (after ≡ now) ⊎ (after ≡ (asked now x).progress) → AreDone p all after
+some_done p now after before x rest all old mid fine is so_far (inl e) =
+    record { first = before; rest = x ∷ rest; whole = is; left = e ∙ so_far.node }
+some_done p now after before x rest all old mid fine is so_far (inr e) =
+    record {
+      first = before ++ x ∷ [];
+      rest = rest;
+      whole = is ∙ sym (append_assoc before (x ∷ []) rest);
+      left = e ∙ ap (λ q. (asked q x).progress) so_far.node ∙ sym (ap (λ d. d.progress) (asked_more (done p []) before x));
     }

@@ -6,6 +6,7 @@ pub mod Partly
 pub mod Giving
 pub mod Looking
 pub mod Doing
-pub mod Selecting
+pub mod Later
+pub mod May
 pub mod Why
 pub mod Heard

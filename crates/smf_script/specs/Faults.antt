@@ -3,16 +3,13 @@ use Rattle.std.specs.Prelude.{◌≡◌, ◌≢◌, ◌<◌, ℕ, ◌+◌, ◌-�
 use Rattle.std.specs.IoError.{error_kind}
 use Rattle.std_io.specs.declared.io.error.Error.{Error}
 use Rattle.std_io.specs.declared.io.kind.ErrorKind.TheVariants as kinds
-use Rattle.smf_model.specs.declared.command.Command.TheVariants as commands
 use Rattle.smf_model.specs.declared.journal.RepoFault.{RepoFault}
-use Rattle.smf_model.specs.Setting.{startd}
 use Rattle.smf_node.specs.declared.fault.NodeFault.TheVariants.{Memory}
-use Rattle.smf_node.specs.Faults.{IsUndone}
+use Rattle.smf_script.specs.Failing.{MayEnd}
 use Rattle.smf_script.specs.declared.fault.ScriptFault.{ScriptFault}
 use Rattle.smf_script.specs.declared.fault.ScriptFault.TheVariants.{Node, Input, Output, TooManyLines}
 use Rattle.smf_script.specs.declared.reading.Part.{Part}
 use Rattle.smf_script.specs.declared.reading.Part.TheVariants.{Interrupted, End, Line, Bytes}
-use Rattle.smf_world.specs.Schedule.{Progress}
 
 -- ---- too many lines
 
@@ -76,10 +73,9 @@ IsUnread fails (Output e) = ⊥
 
 -- ---- why a script ended
 
--- the node: memory ran out, its journal could not be written, or svc.startd's restarter has no next launch; the reader or
--- the writer: with an error that it may have
-abbrev pub IsWhy : (RepoFault → Type 0) → (Error → Type 0) → (Error → Type 0) → ScriptFault → Progress → Type 0
-IsWhy stores reads writes (Node fault) after = IsUndone stores after.world.now (commands.Launch startd) fault
-IsWhy stores reads writes (Input e) after = reads e × (error_kind e ≢ kinds.Interrupted)
-IsWhy stores reads writes (Output e) after = writes e
-IsWhy stores reads writes (TooManyLines interrupted) after = Unit {0}
+-- the node, as a line may end; the reader or the writer, with an error that it may have
+abbrev pub IsWhy : (RepoFault → Type 0) → (Error → Type 0) → (Error → Type 0) → ScriptFault → Type 0
+IsWhy stores reads writes (Node fault) = MayEnd stores fault
+IsWhy stores reads writes (Input e) = reads e × (error_kind e ≢ kinds.Interrupted)
+IsWhy stores reads writes (Output e) = writes e
+IsWhy stores reads writes (TooManyLines interrupted) = Unit {0}

@@ -1,6 +1,10 @@
 -- What a script of lines gives.
-use Rattle.std.specs.Prelude.{◌≡◌, ◌≤◌, ℕ, ◌+◌, List, [], ◌∷◌, ◌++◌, ◌&&◌, take, Bool, true, false, Option}
+use Rattle.std.specs.Prelude.{◌≡◌, ◌⊎◌, ◌≤◌, ℕ, ◌+◌, List, [], ◌∷◌, ◌++◌, ◌&&◌, take, Bool, true, false, Option}
 use Rattle.std.specs.Io.KnownBytes.{Appends}
+use Rattle.smf_model.specs.declared.journal.RepoFault.{RepoFault}
+use Rattle.smf_node.specs.declared.fault.NodeFault.{NodeFault}
+use Rattle.smf_node.specs.declared.fault.NodeFault.TheVariants.{Memory}
+use Rattle.smf_script.specs.Failing.{LineFails}
 use Rattle.smf_script.specs.Faults.{IsPast, counted}
 use Rattle.smf_script.specs.Reading.{counts_of}
 use Rattle.smf_script.specs.Session.{Effect, Session, effect}
@@ -8,7 +12,6 @@ use Rattle.smf_script.specs.declared.fault.ScriptFault.{ScriptFault}
 use Rattle.smf_script.specs.declared.fault.ScriptFault.TheVariants.{Node, Input, Output, TooManyLines}
 use Rattle.smf_svccfg.specs.declared.selection.Selection.TheVariants.{Nothing}
 use Rattle.smf_svccfg.specs.declared.selection.Selection.{Selection}
-use Rattle.smf_world.specs.Reached.{IsLater}
 use Rattle.smf_world.specs.Schedule.{Progress}
 
 -- where a script begins, nothing is selected
@@ -58,12 +61,18 @@ pub record IsWithin (lines : List (List ℕ)) (before after : ℕ) : Type 0 wher
 
 -- ---- what a fault leaves
 
--- the line at which the node failed may have been done in part; else the node is as the lines before left it
-abbrev pub Leaves : ScriptFault → Effect → Progress → Type 0
-Leaves (Node fault) e after = IsLater e.session.progress.world after.world
-Leaves (Input fault) e after = after ≡ e.session.progress
-Leaves (Output fault) e after = after ≡ e.session.progress
-Leaves (TooManyLines interrupted) e after = after ≡ e.session.progress
+-- the node failed at a line, or memory ran out before one was read
+abbrev pub NodeLeaves : (RepoFault → Type 0) → NodeFault → Session → List (List ℕ) → Progress → Type 0
+NodeLeaves stores fault s behind after =
+    ((fault ≡ Memory) × (after ≡ s.progress))
+    ⊎ ((line : List ℕ) × (rest : List (List ℕ)) × (behind ≡ line ∷ rest) × LineFails stores s line after fault)
+
+-- else the node is as the lines before left it
+abbrev pub Leaves : (RepoFault → Type 0) → ScriptFault → Session → List (List ℕ) → Progress → Type 0
+Leaves stores (Node fault) s behind after = NodeLeaves stores fault s behind after
+Leaves stores (Input fault) s behind after = after ≡ s.progress
+Leaves stores (Output fault) s behind after = after ≡ s.progress
+Leaves stores (TooManyLines interrupted) s behind after = after ≡ s.progress
 
 -- nothing is said of what a writer that failed has taken
 abbrev pub Wrote : ScriptFault → Effect → Option (List ℕ) → Option (List ℕ) → Type 0
@@ -73,11 +82,11 @@ Wrote (Output fault) e old new = Unit {0}
 Wrote (TooManyLines interrupted) e old new = Appends old new e.text
 
 -- a script was ended by a fault: some of its lines were done, and their text was written
-pub record Stops (fault : ScriptFault) (start : Session) (lines : List (List ℕ)) (after : Progress) (old new : Option (List ℕ)) : Type 0 where
+pub record Stops (stores : RepoFault → Type 0) (fault : ScriptFault) (start : Session) (lines : List (List ℕ)) (after : Progress) (old new : Option (List ℕ)) : Type 0 where
   pub before : List (List ℕ)
   pub behind : List (List ℕ)
   pub whole : lines ≡ before ++ behind
-  pub node : Leaves fault (script start before) after
+  pub node : Leaves stores fault (script start before).session behind after
   pub text : Wrote fault (script start before) old new
   pub past : IsPast fault max_lines (counts_of (before ++ take 1 behind))
 
@@ -90,9 +99,9 @@ pub record IsWritten (e : Effect) (after : Progress) (selection : Selection) (ol
   pub text : Appends old new e.text
   pub flag : no_fault ≡ e.fine
 
--- a line was ended by a fault: of the node, where it may have been done in part, or of the writer
-abbrev pub IsCut : ScriptFault → Session → List ℕ → Progress → Option (List ℕ) → Option (List ℕ) → Type 0
-IsCut (Node fault) s line after old new = IsLater s.progress.world after.world × (new ≡ old)
-IsCut (Output fault) s line after old new = after ≡ (effect s line).session.progress
-IsCut (Input fault) s line after old new = ⊥
-IsCut (TooManyLines interrupted) s line after old new = ⊥
+-- a line was ended by a fault, of the node or of the writer
+abbrev pub IsCut : (RepoFault → Type 0) → ScriptFault → Session → List ℕ → Progress → Option (List ℕ) → Option (List ℕ) → Type 0
+IsCut stores (Node fault) s line after old new = LineFails stores s line after fault × (new ≡ old)
+IsCut stores (Output fault) s line after old new = after ≡ (effect s line).session.progress
+IsCut stores (Input fault) s line after old new = ⊥
+IsCut stores (TooManyLines interrupted) s line after old new = ⊥

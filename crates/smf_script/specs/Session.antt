@@ -1,5 +1,6 @@
 -- What each line does.
-use Rattle.std.specs.Prelude.{◌≡◌, ℕ, List, [], ◌∷◌, ◌++◌, ◌&&◌, reverse, codes, Bool, true, false, if◌then◌else◌, is_none, Option, Some, None, Result, Ok, Err}
+use Rattle.std.specs.Prelude.{◌≡◌, ℕ, ◌==◌, List, [], ◌∷◌, ◌++◌, ◌&&◌, not, nat_lt, position, reverse, codes, Bool, true, false, if◌then◌else◌, is_none, is_some, Option, Some, None, Result, Ok, Err}
+use Rattle.std.specs.List.{list_any}
 use Rattle.smf_admin.specs.Asking.{commands_of}
 use Rattle.smf_admin.specs.Choosing.{needs_bodies, options_of}
 use Rattle.smf_admin.specs.Listing.{svcs_text}
@@ -10,7 +11,19 @@ use Rattle.smf_admin.specs.declared.asking.Asked.{Asked}
 use Rattle.smf_admin.specs.declared.asking.Asked.TheVariants as asks
 use Rattle.smf_model.specs.Holdings.{Holdings}
 use Rattle.smf_model.specs.Shown.{rows, view}
-use Rattle.smf_model.specs.declared.command.Command.TheVariants as commands
+use Rattle.smf_admin.specs.declared.finding.Found.{Found}
+use Rattle.smf_admin.specs.declared.finding.Found.TheVariants as finds
+use Rattle.smf_admin.specs.Finding.{found_of}
+use Rattle.smf_contract.specs.declared.contract.Contract.{Contract}
+use Rattle.smf_contract.specs.declared.cookie.Cookie.{Cookie}
+use Rattle.smf_contract.specs.Cookies.{unpacked}
+use Rattle.smf_contract.specs.Entries.{Contracts, first_member, found_at, has_members}
+use Rattle.smf_fmri.specs.declared.fault.FmriFault.{FmriFault}
+use Rattle.smf_fmri.specs.Matching.{named_instance}
+use Rattle.smf_fmri.specs.Name.{read}
+use Rattle.smf_model.specs.declared.held.Instance.{Instance}
+use Rattle.smf_model.specs.Next.{found as instance_found}
+use Rattle.smf_node.specs.Marks.{last_delivered}
 use Rattle.smf_model.specs.declared.command.Edit.{Edit}
 use Rattle.smf_model.specs.declared.command.Reply.{Reply}
 use Rattle.smf_repo.specs.Refusals.{refusal}
@@ -24,9 +37,10 @@ use Rattle.smf_svccfg.specs.declared.selection.Judged.{Judged}
 use Rattle.smf_svccfg.specs.declared.selection.Judged.TheVariants as judgements
 use Rattle.smf_svccfg.specs.declared.selection.Selection.{Selection}
 use Rattle.smf_svccfg.specs.declared.selection.Selection.TheVariants.{Nothing}
-use Rattle.smf_world.specs.Happens.{committed}
-use Rattle.smf_world.specs.Schedule.{Progress, settled}
-use Rattle.smf_world.specs.World.{World}
+use Rattle.smf_world.specs.Schedule.{Progress, delivered_again, losing, on, refusing, settled}
+use Rattle.smf_world.specs.Worked.{is_launched, worked}
+use Rattle.smf_world.specs.declared.event.Event.TheVariants as events
+use Rattle.smf_world.specs.declared.event.ProcessEvent.{ProcessEvent}
 use Rattle.smf_world.specs.declared.schedule.Settled.{Settled}
 use Rattle.smf_world.specs.declared.schedule.Settled.TheVariants.{Quiet, Busy}
 
@@ -51,17 +65,15 @@ abbrev pub told_text : List ℕ → Option (List ℕ) → List ℕ
 told_text program None = []
 told_text program (Some words) = program ++ words ++ line_end
 
-abbrev pub replied : List ℕ → Progress → World × Reply → Deed
-replied program p r =
-    record {
-      progress = record { world = r.0; delivered = p.delivered };
-      text = told_text program (refusal r.1);
-      fine = is_none (refusal r.1);
-    }
+-- what becomes of an edit, and the reply to it
+abbrev pub replied : List ℕ → Progress → List Reply → Deed
+replied program p [] = done p []
+replied program p (r ∷ rs) =
+    record { progress = p; text = told_text program (refusal r); fine = is_none (refusal r) }
 
 -- an edit is given to the repository
 unfoldable pub given : List ℕ → Progress → Edit → Deed
-given program p edit = replied program p (committed p.world (commands.Edit edit))
+given program p edit = replied program (on p (events.Client edit)) (worked p.world (events.Client edit)).reply
 
 -- ---- svcadm
 
@@ -118,6 +130,116 @@ settled_by r = done r.0 (settled_text r.1)
 unfoldable pub settle : Progress → ℕ → Deed
 settle p rounds = settled_by (settled rounds p)
 
+-- ---- what is asked of the schedule
+
+-- the last messages that were delivered are delivered again, in their order
+unfoldable pub repeated : ℕ → Progress → Progress
+repeated count p = delivered_again (last_delivered count p) p
+
+-- ---- processes
+
+abbrev pub script_name : List ℕ
+script_name = codes "smf"
+
+abbrev pub no_member : List ℕ
+no_member = codes "smf: no member" ++ line_end
+
+abbrev pub no_restarter : List ℕ
+no_restarter = codes "smf: no such restarter" ++ line_end
+
+abbrev pub not_here : List ℕ
+not_here = codes "smf: not here" ++ line_end
+
+-- the run of an instance that a cookie names
+abbrev pub run_of : ℕ → Option Cookie → Option ℕ
+run_of n None = None
+run_of n (Some c) = if c.instance == n then Some c.run else None
+
+-- the run of an instance that a contract with members is of
+abbrev pub run_in : Contracts → ℕ → Contract → Option ℕ
+run_in t n c = if has_members c.id t.members then run_of n (unpacked c.cookie) else None
+
+abbrev pub is_above : Option ℕ → Option ℕ → Bool
+is_above (Some a) (Some b) = nat_lt b a
+is_above _ _ = false
+
+abbrev pub is_later_run : Contracts → ℕ → Option ℕ → Contract → Bool
+is_later_run t n run c = is_above (run_in t n c) run
+
+-- whether it is of some run of the instance, and none is of a later one
+abbrev pub is_latest : Contracts → ℕ → Contract → Bool
+is_latest t n c = is_some (run_in t n c) && not (list_any (is_later_run t n (run_in t n c)) t.contracts)
+
+-- the contract of an instance that has members, of its latest run
+abbrev pub latest : Contracts → ℕ → Option Contract
+latest t n = found_at t.contracts (position (is_latest t n) t.contracts)
+
+abbrev pub member_in : Contracts → Option Contract → Option ℕ
+member_in t None = None
+member_in t (Some c) = first_member c.id t.members
+
+-- the lowest process of that contract
+unfoldable pub member_of : Contracts → ℕ → Option ℕ
+member_of t n = member_in t (latest t n)
+
+abbrev pub process_in : Progress → ProcessEvent → Option ℕ → Deed
+process_in p what None = failed p no_member
+process_in p what (Some process) = done (on p (events.Process process what)) []
+
+abbrev pub process_on : Progress → ProcessEvent → Found → Deed
+process_on p what (finds.One n) = process_in p what (member_of p.world.table n)
+process_on p what (finds.NoMatch word) = failed p (no_match_text script_name word)
+process_on p what (finds.Several word count) = failed p (several_text script_name word count)
+
+-- something happens to a process of the instance that a word stands for
+unfoldable pub processed : Progress → List ℕ → ProcessEvent → Deed
+processed p word what = process_on p what (found_of p.world.now.names word)
+
+-- ---- restarters
+
+abbrev pub timeout_if : Bool → Progress → ℕ → List ℕ → Deed
+timeout_if true p n restarter = done (on p (events.Timeout restarter n)) []
+timeout_if false p n restarter = failed p no_restarter
+
+abbrev pub timeout_in : Progress → Option Instance → Deed
+timeout_in p None = failed p no_restarter
+timeout_in p (Some i) = timeout_if (is_launched p.world i.row.owner) p i.number i.row.owner
+
+abbrev pub timeout_on : Progress → Found → Deed
+timeout_on p (finds.One n) = timeout_in p (instance_found p.world.now n)
+timeout_on p (finds.NoMatch word) = failed p (no_match_text script_name word)
+timeout_on p (finds.Several word count) = failed p (several_text script_name word count)
+
+-- the method that runs for the instance that a word stands for takes too long
+unfoldable pub timed_out : Progress → List ℕ → Deed
+timed_out p word = timeout_on p (found_of p.world.now.names word)
+
+abbrev pub join_on : Progress → Found → Deed
+join_on p (finds.One n) = failed p not_here
+join_on p (finds.NoMatch word) = failed p (no_match_text script_name word)
+join_on p (finds.Several word count) = failed p (several_text script_name word count)
+
+-- only processes of the system can be waited for
+unfoldable pub joined_by : Progress → List ℕ → Deed
+joined_by p word = join_on p (found_of p.world.now.names word)
+
+-- the name of a restarter that a word is, in any form of a name
+abbrev pub restarter_in : Result (List ℕ) FmriFault → Option (List ℕ)
+restarter_in (Ok name) = named_instance name
+restarter_in (Err fault) = None
+
+abbrev pub crash_if : Bool → Progress → List ℕ → Deed
+crash_if true p name = done (on p (events.Crash name)) []
+crash_if false p name = failed p no_restarter
+
+abbrev pub crash_in : Progress → Option (List ℕ) → Deed
+crash_in p None = failed p no_restarter
+crash_in p (Some name) = crash_if (is_launched p.world name) p name
+
+-- a restarter crashes
+unfoldable pub crashed : Progress → List ℕ → Deed
+crashed p word = crash_in p (restarter_in (read word))
+
 -- ---- sessions
 
 -- the node, and what svccfg has selected
@@ -173,6 +295,14 @@ effect_of s (requests.Svccfg line) = svccfg s line
 effect_of s (requests.Svcadm words) = with_selection s.selection (svcadm s.progress words)
 effect_of s (requests.Svcs words) = with_selection s.selection (svcs s.progress words)
 effect_of s (requests.Settle rounds) = with_selection s.selection (settle s.progress rounds)
+effect_of s (requests.Refuse count) = with_selection s.selection (done (refusing count s.progress) [])
+effect_of s (requests.Lose count) = with_selection s.selection (done (losing count s.progress) [])
+effect_of s (requests.Again count) = with_selection s.selection (done (repeated count s.progress) [])
+effect_of s (requests.Process word what) = with_selection s.selection (processed s.progress word what)
+effect_of s (requests.Timeout word) = with_selection s.selection (timed_out s.progress word)
+effect_of s (requests.Join word) = with_selection s.selection (joined_by s.progress word)
+effect_of s (requests.Crash word) = with_selection s.selection (crashed s.progress word)
+effect_of s requests.Boot = with_selection s.selection (done (on s.progress events.Boot) [])
 effect_of s requests.Trail = with_selection s.selection (done s.progress (trail_text (reverse s.progress.world.trail)))
 effect_of s requests.Bad = with_selection s.selection (failed s.progress bad_line)
 

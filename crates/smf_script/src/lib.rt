@@ -1,9 +1,10 @@
 //! Scripts: each line is read, done on what the lines before it left, and its text is written.
 //! Modules: `fault`, `turns` (how many lines may still be read), `reader` and `writer` (what a script is read from and written
 //! to), `reading` (lines), `request` (what a line asks for),
-//! `text` (the trail), `session` (what a line does), `script`.
+//! `text` (the trail), `acting` (what happens to processes and restarters), `session` (what a line does), `script`.
 #![tactic(auto)]
 
+mod acting;
 mod fault;
 mod reader;
 mod reading;

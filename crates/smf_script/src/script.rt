@@ -25,9 +25,9 @@ fn do_line<W: ScriptWriter, J: Journal>(
     line: &[u8],
 ) -> Result<bool, ScriptFault>
     ensures exact { IfOk result (λ fine. IsWritten (effect (record { progress = node.old; selection = selection.old }) line.now) node.new selection.new (W.contents writer.old) (W.contents writer.new) fine) }
-    ensures err { IfErr result (λ e. IsCut e (record { progress = node.old; selection = selection.old }) line.now node.new (W.contents writer.old) (W.contents writer.new)) }
+    ensures err { IfErr result (λ e. IsCut J.write_fails e (record { progress = node.old; selection = selection.old }) line.now node.new (W.contents writer.old) (W.contents writer.new)) }
     ensures later { IsLater node.old.world node.new.world }
-    ensures fault { IfErr result (λ e. IsWhy J.write_fails (λ _. ⊥) W.write_fails e node.new) }
+    ensures fault { IfErr result (λ e. IsWhy J.write_fails (λ _. ⊥) W.write_fails e) }
 {
     let mut text = String::new(alloc);
     let fine = run_line(alloc, node, selection, line, &mut text)?;
@@ -57,9 +57,9 @@ pub fn run_script<R: ScriptReader, W: ScriptWriter, J: Journal>(
     ensures few { IfOk result (λ status. IfSome (R.remaining reader.old) (λ input. IsWithin (lines_of input) (R.interrupted reader.old) (R.interrupted reader.new))) }
     // Where they are known: some of the lines were done, and their text was written.
     ensures err { IfErr result (λ fault. IfSome (R.remaining reader.old) (λ input.
-        Stops fault (begun node.old) (lines_of input) node.new (W.contents writer.old) (W.contents writer.new))) }
+        Stops J.write_fails fault (begun node.old) (lines_of input) node.new (W.contents writer.old) (W.contents writer.new))) }
     ensures later { IsLater node.old.world node.new.world }
-    ensures fault { IfErr result (λ e. IsWhy J.write_fails R.read_fails W.write_fails e node.new) }
+    ensures fault { IfErr result (λ e. IsWhy J.write_fails R.read_fails W.write_fails e) }
     // A read that failed ends it, and no other read does; an interrupted one counts as a line.
     ensures failed { R.has_failed reader.new ≡ failed_in result (R.has_failed reader.old) }
     ensures told { IfErr result (λ e. Tells e (R.interrupted reader.old) (R.interrupted reader.new)) }

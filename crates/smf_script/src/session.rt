@@ -1,13 +1,14 @@
-ghost use Rattle.std.specs.Prelude.{◌≡◌, [], ◌++◌, ◌∷◌, IfErr, IfOk, OnOk, is_none, reverse, string_bytes};
+ghost use Rattle.std.specs.Prelude.{◌≡◌, ◌⊎◌, [], ◌++◌, ◌∷◌, IfErr, IfOk, OnOk, is_none, reverse, string_bytes};
 ghost use Rattle.smf_admin.specs.Asking.{commands_of};
-ghost use Rattle.smf_model.specs.declared.command.Command.TheVariants as commands;
-ghost use Rattle.smf_model.specs.Setting.{startd as the_startd};
-ghost use Rattle.smf_node.specs.Faults.{IsUndone};
+ghost use Rattle.smf_node.specs.Partly.{SettleFails};
 ghost use Rattle.smf_repo.specs.Refusals.{refusal};
-ghost use Rattle.smf_script.specs.Session.{IsDeed, IsEffect, asked, asked_all, done, effect, effect_of, given, given_selected, listing_of, settle, settled_text, svcadm, svccfg, svcs, told_text};
+ghost use Rattle.smf_script.specs.declared.request.Request.TheVariants as requests;
+ghost use Rattle.smf_script.specs.Session.{IsDeed, IsEffect, asked, asked_all, done, effect, effect_of, given, given_selected, listing_of, settle, settled_text, svcadm, svccfg, svccfg_name, svcs, told_text};
+ghost use Rattle.smf_script.specs.Failing.{AreDone, DeedFails, LineFails, MayEnd, RequestFails, SvcadmLeaves};
 ghost use Rattle.smf_script.specs.Text.{trail_text};
 ghost use Rattle.smf_world.specs.Reached.{IsLater};
 
+use crate::acting::{crash, happen, join, process, time_out};
 use crate::request::{Request, request_of};
 use crate::text::trail_text;
 use smf_admin::{
@@ -19,7 +20,7 @@ use smf_model::{Edit, Journal, Reply};
 use smf_node::{Node, NodeFault};
 use smf_repo::refusal_text;
 use smf_svccfg::{CfgFault, Judged, Selection, fault_text, judge};
-use smf_world::Settled;
+use smf_world::{Event, Settled};
 use std::alloc::{AllocError, Global};
 
 /// Puts the name of a program, words, and the end of a line.
@@ -54,7 +55,7 @@ fn give<J: Journal>(
 ) -> Result<bool, NodeFault>
     ensures exact { IfOk result (λ fine. IsDeed (given program.now node.old edit) node.new (string_bytes out.old) (string_bytes out.new) fine) }
     ensures later { IsLater node.old.world node.new.world }
-    ensures fault { IfErr result (λ e. IsUndone J.write_fails node.new.world.now (commands.Launch the_startd) e) }
+    ensures err { IfErr result (λ e. DeedFails J.write_fails node.old (given program.now node.old edit) node.new e) }
 {
     let reply = node.apply(edit)?;
     let fine = report(alloc, &reply, program, out)?;
@@ -72,7 +73,7 @@ fn give_selected<J: Journal>(
 ) -> Result<bool, NodeFault>
     ensures exact { IfOk result (λ fine. IsEffect (given_selected (record { progress = node.old; selection = selection.old }) edit after) node.new selection.new (string_bytes out.old) (string_bytes out.new) fine) }
     ensures later { IsLater node.old.world node.new.world }
-    ensures fault { IfErr result (λ e. IsUndone J.write_fails node.new.world.now (commands.Launch the_startd) e) }
+    ensures err { IfErr result (λ e. DeedFails J.write_fails node.old (given svccfg_name node.old edit) node.new e) }
 {
     if give(alloc, node, edit, "svccfg: ", out)? {
         *selection = after;
@@ -92,7 +93,7 @@ fn svccfg<J: Journal>(
 ) -> Result<bool, NodeFault>
     ensures exact { IfOk result (λ fine. IsEffect (svccfg (record { progress = node.old; selection = selection.old }) line.now) node.new selection.new (string_bytes out.old) (string_bytes out.new) fine) }
     ensures later { IsLater node.old.world node.new.world }
-    ensures fault { IfErr result (λ e. IsUndone J.write_fails node.new.world.now (commands.Launch the_startd) e) }
+    ensures err { IfErr result (λ e. RequestFails J.write_fails (record { progress = node.old; selection = selection.old }) (requests.Svccfg line.now) node.new e) }
 {
     match judge(alloc, node.repository(), selection, line) {
         Ok(Judged::Nothing) => Ok(true),
@@ -127,7 +128,7 @@ fn asked<J: Journal>(
 ) -> Result<bool, NodeFault>
     ensures exact { IfOk result (λ fine. IsDeed (asked node.old one) node.new (string_bytes out.old) (string_bytes out.new) fine) }
     ensures later { IsLater node.old.world node.new.world }
-    ensures fault { IfErr result (λ e. IsUndone J.write_fails node.new.world.now (commands.Launch the_startd) e) }
+    ensures err { IfErr result (λ e. DeedFails J.write_fails node.old (asked node.old one) node.new e) }
 {
     match one {
         Asked::Edit(edit) => give(alloc, node, edit, "svcadm: ", out),
@@ -151,7 +152,7 @@ fn asked_all<J: Journal>(
 ) -> Result<bool, NodeFault>
     ensures exact { IfOk result (λ fine. IsDeed (asked_all (done node.old []) all) node.new (string_bytes out.old) (string_bytes out.new) fine) }
     ensures later { IsLater node.old.world node.new.world }
-    ensures fault { IfErr result (λ e. IsUndone J.write_fails node.new.world.now (commands.Launch the_startd) e) }
+    ensures err { IfErr result (λ e. MayEnd J.write_fails e × AreDone node.old all node.new) }
 {
     let mut fine = true;
     for one in all.into_vec() {
@@ -181,7 +182,7 @@ fn svcadm<J: Journal>(
 ) -> Result<bool, NodeFault>
     ensures exact { IfOk result (λ fine. IsDeed (svcadm node.old words.now) node.new (string_bytes out.old) (string_bytes out.new) fine) }
     ensures later { IsLater node.old.world node.new.world }
-    ensures fault { IfErr result (λ e. IsUndone J.write_fails node.new.world.now (commands.Launch the_startd) e) }
+    ensures err { IfErr result (λ e. MayEnd J.write_fails e × ((node.new ≡ node.old) ⊎ (node.new ≡ (svcadm node.old words.now).progress) ⊎ SvcadmLeaves node.old words.now node.new)) }
 {
     match commands_on(alloc, node, words)? {
         Some(all) => asked_all(alloc, node, all, out),
@@ -240,7 +241,7 @@ fn settled_text(how: Settled) -> &'static str
 fn settle<J: Journal>(node: &mut Node<J>, rounds: u64, out: &mut String) -> Result<bool, NodeFault>
     ensures exact { IfOk result (λ fine. IsDeed (settle node.old rounds) node.new (string_bytes out.old) (string_bytes out.new) fine) }
     ensures later { IsLater node.old.world node.new.world }
-    ensures fault { IfErr result (λ e. IsUndone J.write_fails node.new.world.now (commands.Launch the_startd) e) }
+    ensures err { IfErr result (λ e. MayEnd J.write_fails e × ((node.new ≡ node.old) ⊎ (node.new ≡ (settle node.old rounds).progress) ⊎ SettleFails J.write_fails rounds node.old node.new e)) }
 {
     let how = node.settle(rounds)?;
     out.push_str(settled_text(how))?;
@@ -265,7 +266,7 @@ fn run_request<J: Journal>(
 ) -> Result<bool, NodeFault>
     ensures exact { IfOk result (λ fine. IsEffect (effect_of (record { progress = node.old; selection = selection.old }) request.now) node.new selection.new (string_bytes out.old) (string_bytes out.new) fine) }
     ensures later { IsLater node.old.world node.new.world }
-    ensures fault { IfErr result (λ e. IsUndone J.write_fails node.new.world.now (commands.Launch the_startd) e) }
+    ensures err { IfErr result (λ e. RequestFails J.write_fails (record { progress = node.old; selection = selection.old }) request.now node.new e) }
 {
     match request {
         Request::Nothing => Ok(true),
@@ -276,6 +277,23 @@ fn run_request<J: Journal>(
             Ok(fine)
         }
         Request::Settle(rounds) => settle(node, *rounds, out),
+        Request::Refuse(count) => {
+            node.refuse(*count);
+            Ok(true)
+        }
+        Request::Lose(count) => {
+            node.lose(*count)?;
+            Ok(true)
+        }
+        Request::Again(count) => {
+            node.again(*count)?;
+            Ok(true)
+        }
+        Request::Process { word, what } => process(alloc, node, word, *what, out),
+        Request::Timeout(word) => time_out(alloc, node, word, out),
+        Request::Join(word) => join(alloc, node, word, out),
+        Request::Crash(word) => crash(alloc, node, word, out),
+        Request::Boot => happen(node, Event::Boot),
         Request::Trail => {
             put_trail(alloc, node, out)?;
             Ok(true)
@@ -298,7 +316,7 @@ pub fn run_line<J: Journal>(
 ) -> Result<bool, NodeFault>
     ensures exact { IfOk result (λ fine. IsEffect (effect (record { progress = node.old; selection = selection.old }) line.now) node.new selection.new (string_bytes out.old) (string_bytes out.new) fine) }
     ensures later { IsLater node.old.world node.new.world }
-    ensures fault { IfErr result (λ e. IsUndone J.write_fails node.new.world.now (commands.Launch the_startd) e) }
+    ensures err { IfErr result (λ e. LineFails J.write_fails (record { progress = node.old; selection = selection.old }) line.now node.new e) }
 {
     let request = request_of(alloc, line)?;
     run_request(alloc, node, selection, &request, out)

@@ -7,20 +7,14 @@ use Rattle.std.specs.declared.cmp.Ordering.TheVariants.{Less, Equal, Greater}
 use Rattle.std.proofs.lemmas.Bool.Decides.{nat_tests}
 use Rattle.smf_fmri.specs.ByKey.{put, put_by}
 use Rattle.smf_fmri.proofs.Lookups.{both_ways, equal_from_test, same_key}
-use Rattle.smf_state.specs.declared.row.Row.{Row}
 use Rattle.smf_model.specs.declared.held.Instance.{Instance}
 use Rattle.smf_model.specs.Holdings.{Holdings}
 use Rattle.smf_model.specs.Laws.{AreApart}
-use Rattle.smf_model.specs.Look.{by_instance, groups_of, has_number, in_place, instance, instances, put_over}
+use Rattle.smf_model.specs.Look.{by_instance, has_number, in_place, instance, instances, put_over}
 use Rattle.smf_model.specs.Next.{booted}
 use Rattle.smf_model.specs.Setting.{Groups}
-use Rattle.smf_model.specs.Shown.{view_item}
-use Rattle.smf_model.proofs.LawOutcomes.{put_each, current_row}
-use Rattle.smf_world.specs.Happens.{booted_item}
-use Rattle.smf_world.specs.declared.item.Item.{Item}
-use Rattle.smf_world.specs.declared.item.Item.TheVariants.{Committed}
-use Rattle.smf_state.specs.declared.state.State.TheVariants.{Uninitialized}
-use Rattle.smf_world.specs.Safe.{is_other_number, is_committed, row_item}
+use Rattle.smf_model.proofs.LawOutcomes.{put_each}
+use Rattle.smf_world.specs.Safe.{is_other_number, is_committed}
 
 pub no_such : {X : Type 0} {x : X} → None ≡ Some x → ⊥
 no_such e = cc
@@ -210,9 +204,3 @@ booted_pass h gs (i ∷ is) a = rw (at_next (instance h i.number) i (booted gs i
 
 pub all_booted : (h : Holdings) (gs : Groups) → AreApart (instances h) → filter (is_committed h) (map (booted gs) (instances h)) ≡ map (booted gs) (instances h)
 all_booted h gs a = booted_pass h gs (instances h) (found_all (instances h) a)
-
-pub booted_items : (h : Holdings) (gs : Groups) (xs : List Instance) → map booted_item (map (view_item h) xs) ≡ map row_item (map (booted gs) xs)
-booted_items h gs [] = refl
-booted_items h gs (i ∷ is) =
-    let number = ap (λ (r : Row). r.number) (current_row (groups_of h) i).row.same in
-    rw number (ap (λ (zs : List Item). Committed i.number (i.row.number + 1) Uninitialized None ∷ zs) (booted_items h gs is))

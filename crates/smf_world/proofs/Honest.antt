@@ -1,45 +1,57 @@
 -- Each row that a restarter took was committed before.
-use Rattle.std.proofs.Common.{◌≡◌, ◌==◌, ℕ, Bool, true, false, List, [], ◌∷◌, ◌++◌, map, reverse, Option, Some, None, refl, sym, subst}
+use Rattle.std.proofs.Common.{◌≡◌, ◌==◌, ℕ, Bool, true, false, List, [], ◌∷◌, ◌++◌, map, Option, Some, None, refl, sym, subst}
+use Rattle.std.specs.List.{cons_option, filter_map}
+use Rattle.smf_contract.specs.declared.call.ContractCall.{ContractCall}
+use Rattle.smf_contract.specs.declared.contract.Report.{Report}
+use Rattle.smf_contract.specs.Called.{emptied_by}
+use Rattle.smf_contract.specs.Entries.{Contracts, reported as report_at}
 use Rattle.smf_state.specs.declared.row.Row.{Row}
 use Rattle.smf_state.specs.declared.step.Proposal.{Proposal}
+use Rattle.smf_model.specs.declared.change.Change.{Change}
+use Rattle.smf_model.specs.declared.change.Change.TheVariants as changes
 use Rattle.smf_model.specs.declared.command.Command.{Command}
 use Rattle.smf_model.specs.declared.command.Command.TheVariants as commands
-use Rattle.smf_model.specs.declared.command.Reply.{Reply as Answer}
-use Rattle.smf_model.specs.declared.command.Reply.TheVariants as answers
+use Rattle.smf_model.specs.declared.command.Reply.{Reply as CommandReply}
+use Rattle.smf_model.specs.declared.command.Reply.TheVariants as replies
 use Rattle.smf_model.specs.declared.held.Instance.{Instance}
 use Rattle.smf_model.specs.declared.held.View.{View}
-use Rattle.smf_model.specs.History.{is_revised}
 use Rattle.smf_model.specs.Holdings.{Holdings}
 use Rattle.smf_model.specs.Laws.{IsNumbered}
 use Rattle.smf_model.specs.Look.{instance, instances, launch_of}
-use Rattle.smf_model.specs.Next.{next}
+use Rattle.smf_model.specs.Next.{asked, next}
 use Rattle.smf_model.specs.Shown.{view}
 use Rattle.smf_wire.specs.declared.message.Known.{Known}
 use Rattle.smf_wire.specs.declared.message.Message.{Message}
 use Rattle.smf_wire.specs.declared.message.Message.TheVariants as messages
 use Rattle.smf_wire.specs.declared.order.Order.{Order}
-use Rattle.smf_restarter.specs.declared.reply.Action.{Action}
-use Rattle.smf_restarter.specs.declared.reply.Action.TheVariants as actions
+use Rattle.smf_restarter.specs.declared.reply.Answer.{Answer}
+use Rattle.smf_restarter.specs.declared.reply.Begun.{Begun}
 use Rattle.smf_restarter.specs.declared.reply.Reply.{Reply}
 use Rattle.smf_restarter.specs.Knowledge.{Knowledge}
 use Rattle.smf_restarter.specs.Replies.{heard}
+use Rattle.smf_restarter.specs.Ticks.{own_tick, ticked}
 use Rattle.smf_engine.specs.Orders.{orders_seen}
 use Rattle.smf_world.specs.declared.event.Event.{Event}
 use Rattle.smf_world.specs.declared.event.Event.TheVariants as events
+use Rattle.smf_world.specs.declared.event.SpawnAnswer.{SpawnAnswer}
+use Rattle.smf_world.specs.declared.event.SpawnAnswer.TheVariants as spawns
 use Rattle.smf_world.specs.declared.item.Item.{Item}
-use Rattle.smf_world.specs.Happens.{answer, begun_by, booted_as, committed, delivered, delivered_if, happens, held_item, joined, launched_as, noted, replied, restarter, revised, said, said_if, sent_at, sent_by, tick_reply, ticked_at, told}
+use Rattle.smf_world.specs.declared.item.Item.TheVariants.{Boot, Committed, Held, Spawned, Emptied}
+use Rattle.smf_world.specs.declared.work.Work.{Work}
+use Rattle.smf_world.specs.Happens.{done, happens, seen_after}
+use Rattle.smf_world.specs.Items.{boot_items, change_item, items_of, row_if, row_over}
 use Rattle.smf_world.specs.Runs.{run}
-use Rattle.smf_world.specs.Safe.{HeldWereCommitted, IsSafe, commits, made_items}
+use Rattle.smf_world.specs.Safe.{HeldWereCommitted, IsRecorded, commits, is_commit}
+use Rattle.smf_world.specs.Worked.{acted, answer_of, answer_to, begun_in, begun_items, booted_as, call_of, calling, commanded, crashed, delivered, delivered_if, emptied_items, heard_by, held_item, held_items, holder, is_launched, joined, launched_if, own_ticked, process_call, proposed, reported_by, reported_to, restarter, sent_at, ticked_for, timed, told, worked}
 use Rattle.smf_world.specs.World.{World, found}
 use Rattle.smf_world.proofs.Answered.{Answers, IsRowIn, IsRowOf, answered}
-use Rattle.smf_world.proofs.Heard.{ActionTold, ReplyTold, heard_told, tick_told}
-use Rattle.smf_world.proofs.ItemsMade.{shown}
-use Rattle.smf_world.proofs.Lasting.{of_reply}
-use Rattle.smf_world.proofs.Noting.{made_commit, noted_more}
+use Rattle.smf_world.proofs.Heard.{ReplyTold, heard_told, own_told, tick_told}
+use Rattle.smf_world.proofs.Lasting.{of_command, of_event}
+use Rattle.smf_world.proofs.Noting.{AllCommit, both_commit, noted, noted_both, noted_more}
 use Rattle.smf_world.proofs.Pushed.{last_held, tracked_at}
-use Rattle.smf_world.proofs.Told.{Grows, InstancesTold, MessageTold, MessagesTold, OneTold, OptionTold, RowTold, RowsTold, ViewTold, all_reversed, grows, held_commits, last_was, messages_later, newer_told, orders_told, rows_told, sent_told, tracked_told, view_later, view_told, was_in}
+use Rattle.smf_world.proofs.Told.{InstancesTold, MessageTold, MessagesTold, OneTold, OptionTold, RowTold, RowsTold, ViewTold, ViewsTold, all_reversed, grows, held_commits, last_was, messages_later, newest_told, orders_told, rows_told, sent_told, tracked_told, view_later, view_told, views_later, was_in}
 use Rattle.smf_world.proofs.Once.{once}
-use Rattle.smf_world.proofs.Tracked.{IsTracked, Tracked, tracked_kept, first_boot, accepted_boot, run_along}
+use Rattle.smf_world.proofs.Tracked.{IsTracked, Tracked, first_tracked, run_along, tracked_kept}
 use Rattle.smf_world.proofs.Logged.{run_follows}
 
 pub record IsHonest (h : Holdings) (v : Option View) (ms : List Message) (t : List Item) : Type 0 where
@@ -51,164 +63,267 @@ pub record IsHonest (h : Holdings) (v : Option View) (ms : List Message) (t : Li
 abbrev pub Honest : World → Type 0
 Honest w = IsHonest w.now w.seen w.sent w.trail
 
+-- what work says tells rows that were committed by then, what it shows was seen, and what it notes as held was committed
+record IsTold (t items : List Item) (ms : List Message) (vs : List View) : Type 0 where
+  sent : MessagesTold (noted items t) ms
+  seen : ViewsTold t vs
+  held : HeldWereCommitted t → HeldWereCommitted (noted items t)
+
+abbrev WorkTold : World → Work → Type 0
+WorkTold w k = IsTold w.trail k.items k.messages k.seen
+
+nothing_told : (t : List Item) → IsTold t [] [] []
+nothing_told t = record { sent = tt; seen = tt; held = λ x. x }
+
+-- ---- rows that are told
+
 told_now : (h : Holdings) (t : List Item) → IsTracked h (commits t) → InstancesTold t (instances h)
 told_now h t k = tracked_told t (instances h) k.rows
 
 found_told : (n : ℕ) (h : Holdings) (t : List Item) (i : Instance) → IsTracked h (commits t) → instance h n ≡ Some i → RowTold t n i.row
 found_told n h t i k e = was_in n i.row.number i.row.state t (last_was n (commits t) (last_held i) (tracked_at (commits t) n (instances h) i k.rows e))
 
+row_told : (h : Holdings) (t : List Item) (n : ℕ) (row : Row) → IsTracked h (commits t) → IsRowOf h n row → RowTold t n row
+row_told h t n row k r =
+    let i : Instance = r.of in
+    let at : RowTold t n i.row = found_told n h t i k r.is_there in
+    rw (r.number, r.state) at
+
 -- ---- a command
 
--- a trail that shows more commits, and no more rows that were held
-record IsLater (t u : List Item) : Type 0 where
-  grows : Grows t u
-  held : HeldWereCommitted t → HeldWereCommitted u
+-- an item that is a commit, if there is one
+abbrev MayCommit : Option Item → Type 0
+MayCommit None = Unit {0}
+MayCommit (Some x) = is_commit x ≡ true
 
-later_by : (w : World) (c : Command) (b : Bool) → is_revised w.now (next w.now c).0 ≡ b → IsNumbered w.now → IsLater w.trail (revised w c (next w.now c) b).trail
-later_by w c true e n =
-    let xs : List Item = made_items c w.now (next w.now c).0 in
-    let more : IsLater w.trail (noted xs w.trail) = record { grows = grows xs w.trail; held = held_commits xs w.trail (made_commit c w.now (next w.now c).0) } in
-    subst (λ (ys : List Item). IsLater w.trail (noted ys w.trail)) (sym (shown w.now c n e)) more
-later_by w c false e n = record { grows = λ i number state x. x; held = λ x. x }
+row_commits : (o : Option Instance) (i : Instance) → MayCommit (row_over o i)
+row_commits None i = refl
+row_commits (Some before) i = by (i.row.number == before.row.number)
+  where
+    by : (b : Bool) → MayCommit (row_if b i)
+    by true = tt
+    by false = refl
 
-seen_by : (w : World) (c : Command) (b : Bool) → (revised w c (next w.now c) b).seen ≡ w.seen
-seen_by w c true = refl
-seen_by w c false = refl
+change_commits : (h : Holdings) (c : Change) → MayCommit (change_item h c)
+change_commits h (changes.AddInstance e) = refl
+change_commits h (changes.PutInstance i) = row_commits (instance h i.number) i
+change_commits h _ = tt
 
-sent_by_all : (w : World) (c : Command) (b : Bool) → (revised w c (next w.now c) b).sent ≡ w.sent
-sent_by_all w c true = refl
-sent_by_all w c false = refl
+cons_commits : (o : Option Item) (xs : List Item) → MayCommit o → AllCommit true xs → AllCommit true (cons_option o xs)
+cons_commits None xs a b = b
+cons_commits (Some x) xs a b = (a, b)
 
-honest_committed : (w : World) (c : Command) → Honest w → Honest (committed w c).0
-unfolding committed
-honest_committed w c k =
-    let b : Bool = is_revised w.now (next w.now c).0 in
-    let v : World = revised w c (next w.now c) b in
-    let l : IsLater w.trail v.trail = later_by w c b refl k.tracked.numbered in
+all_commit : (h : Holdings) (cs : List Change) → AllCommit true (filter_map (change_item h) cs)
+all_commit h [] = tt
+all_commit h (c ∷ cs) = cons_commits (change_item h c) (filter_map (change_item h) cs) (change_commits h c) (all_commit h cs)
+
+boot_commits : (c : Command) (cs : List Change) → AllCommit true (boot_items c cs)
+boot_commits (commands.Edit e) cs = tt
+boot_commits (commands.Propose p) cs = tt
+boot_commits (commands.Launch name) cs = tt
+boot_commits commands.Boot [] = tt
+boot_commits commands.Boot (x ∷ xs) = (refl, tt)
+
+items_commit : (h : Holdings) (c : Command) (cs : List Change) → AllCommit true (items_of h c cs)
+unfolding items_of
+items_commit h c cs = both_commit true (boot_items c cs) (filter_map (change_item h) cs) (boot_commits c cs) (all_commit h cs)
+
+command_told : (w : World) (c : Command) → WorkTold w (commanded w c)
+unfolding commanded
+command_told w c =
     record {
-      tracked = tracked_kept w c k.tracked;
-      seen = subst (ViewTold v.trail) (sym (seen_by w c b)) (view_later w.trail v.trail l.grows w.seen k.seen);
-      sent = subst (MessagesTold v.trail) (sym (sent_by_all w c b)) (messages_later w.trail v.trail l.grows w.sent k.sent);
-      held = l.held k.held;
+      sent = tt;
+      seen = tt;
+      held = held_commits (items_of w.now c (asked w.now c).changes) w.trail (items_commit w.now c (asked w.now c).changes);
     }
 
--- ---- a reply
+answer_told : (h : Holdings) (t : List Item) (p : Proposal) (a : CommandReply) → IsTracked h (commits t) → Answers h p.instance a → MessagesTold t (answer_to p a)
+answer_told h t p (replies.Granted row) k r = (row_told h t p.instance row k r, tt)
+answer_told h t p (replies.Stale why row) k r = (by row r, tt)
+  where
+    by : (o : Option Row) → IsRowIn h p.instance o → OptionTold t p.instance o
+    by None s = tt
+    by (Some x) s = row_told h t p.instance x k s
+answer_told h t p _ k r = tt
 
-held_spawned : (t : List Item) (a : Action) → HeldWereCommitted t → HeldWereCommitted (noted (begun_by a) t)
-held_spawned t (actions.BuiltIn b) h = h
-held_spawned t actions.Nothing h = h
-held_spawned t (actions.Send m) h = h
-held_spawned t actions.List h = h
+proposal_told : (w : World) (p : Proposal) → Honest w → WorkTold w (proposed p (commanded w (commands.Propose p)))
+unfolding commanded next
+proposal_told w p f =
+    let c : Command = commands.Propose p in
+    let u : List Item = noted (items_of w.now c (asked w.now c).changes) w.trail in
+    record {
+      sent = answer_told (next w.now c).0 u p (asked w.now c).reply (of_command Tracked tracked_kept w c f.tracked) (answered w.now p);
+      seen = tt;
+      held = held_commits (items_of w.now c (asked w.now c).changes) w.trail (items_commit w.now c (asked w.now c).changes);
+    }
 
-held_taken : (k : Knowledge) (a : Action) (xs : List Known) (t : List Item) → RowsTold t xs → HeldWereCommitted t → HeldWereCommitted (noted (map (held_item k) xs ++ begun_by a) t)
-held_taken k a [] t r h = held_spawned t a h
-held_taken k a (x ∷ xs) t r h =
-    subst HeldWereCommitted (sym (noted_more (held_item k x) (map (held_item k) xs ++ begun_by a) t))
-    (held_taken k a xs (held_item k x ∷ t) (still xs r.1) (r.0, h))
+-- ---- items of a restarter
+
+held_taken : (k : Knowledge) (xs : List Known) (t : List Item) → RowsTold t xs → HeldWereCommitted t → HeldWereCommitted (noted (held_items k xs) t)
+held_taken k [] t r h = h
+held_taken k (x ∷ xs) t r h =
+    subst HeldWereCommitted (sym (noted_more (held_item k x) (held_items k xs) t))
+    (held_taken k xs (held_item k x ∷ t) (still xs r.1) (r.0, h))
   where
     still : (ys : List Known) → RowsTold t ys → RowsTold (held_item k x ∷ t) ys
     still [] s = tt
     still (y ∷ ys) s = (s.0, still ys s.1)
 
-sent_on : (t : List Item) (a : Action) (ms : List Message) → ActionTold t a → MessagesTold t ms → MessagesTold t (reverse (sent_by a) ++ ms)
-sent_on t (actions.Send m) ms a b = (a, b)
-sent_on t actions.Nothing ms a b = b
-sent_on t actions.List ms a b = b
-sent_on t (actions.BuiltIn x) ms a b = b
+-- none of these is a row that was taken
+abbrev NoneHeld : List Item → Type 0
+NoneHeld [] = Unit {0}
+NoneHeld (Held name launch i number state ∷ xs) = ⊥
+NoneHeld (x ∷ xs) = NoneHeld xs
 
-honest_replied : (w : World) (k : Knowledge) (r : Reply) → ReplyTold w.trail r → Honest w → Honest (replied w k r)
-unfolding replied
-honest_replied w k r a f =
-    let xs : List Item = map (held_item k) r.taken ++ begun_by r.action in
-    let u : List Item = noted xs w.trail in
+held_past : (xs t : List Item) → NoneHeld xs → HeldWereCommitted t → HeldWereCommitted (noted xs t)
+held_past [] t a h = h
+held_past (Held name launch i number state ∷ xs) t a h = absurd a
+held_past (Committed j n s next ∷ xs) t a h = subst HeldWereCommitted (sym (noted_more (Committed j n s next) xs t)) (held_past xs (Committed j n s next ∷ t) a h)
+held_past (Spawned c j r method revision command ∷ xs) t a h = subst HeldWereCommitted (sym (noted_more (Spawned c j r method revision command) xs t)) (held_past xs (Spawned c j r method revision command ∷ t) a h)
+held_past (Emptied c ∷ xs) t a h = subst HeldWereCommitted (sym (noted_more (Emptied c) xs t)) (held_past xs (Emptied c ∷ t) a h)
+held_past (Boot ∷ xs) t a h = subst HeldWereCommitted (sym (noted_more Boot xs t)) (held_past xs (Boot ∷ t) a h)
+
+begun_none : (o : Option ℕ) (bs : List Begun) → NoneHeld (begun_items o bs)
+begun_none None bs = tt
+begun_none (Some c) [] = tt
+begun_none (Some c) (b ∷ bs) = begun_none (Some c) bs
+
+each_none : (cs : List ℕ) → NoneHeld (map (λ (c : ℕ). Emptied c) cs)
+each_none [] = tt
+each_none (c ∷ cs) = each_none cs
+
+held_emptied : (t : List Item) (table : Contracts) (call : ContractCall) → HeldWereCommitted t → HeldWereCommitted (noted (emptied_items table call) t)
+held_emptied t table call h = held_past (emptied_items table call) t (each_none (emptied_by table call)) h
+
+heard_told_by : (w : World) (k : Knowledge) (r : Reply) → ReplyTold w.trail r → WorkTold w (heard_by k r)
+unfolding heard_by
+heard_told_by w k r a =
     record {
-      tracked = of_reply Tracked w k r f.tracked;
-      seen = view_later w.trail u (grows xs w.trail) w.seen f.seen;
-      sent = messages_later w.trail u (grows xs w.trail) (reverse (sent_by r.action) ++ w.sent) (sent_on w.trail r.action w.sent a.1 f.sent);
-      held = held_taken k r.action r.taken w.trail a.0 f.held;
+      sent = messages_later w.trail (noted (held_items k r.taken) w.trail) (grows (held_items k r.taken) w.trail) r.messages a.1;
+      seen = tt;
+      held = held_taken k r.taken w.trail a.0;
     }
 
-honest_told : (w : World) (m : Message) (o : Option Knowledge) → MessageTold w.trail m → Honest w → Honest (told m w o)
-honest_told w m None a f = f
-honest_told w m (Some k) a f = honest_replied w k (heard k m) (heard_told w.trail k m a) f
+acted_told : (w : World) (k : Knowledge) (n : ℕ) (spawn : SpawnAnswer) (r : Reply) → ReplyTold w.trail r → WorkTold w (acted w k n spawn r)
+unfolding acted
+acted_told w k n spawn r a =
+    let answer : Answer = answer_of w.table k.actor spawn r.call in
+    let call : ContractCall = call_of k.actor r.call answer in
+    let taken : List Item = held_items k r.taken in
+    let begun : List Item = begun_items (begun_in r.call answer) r.begun in
+    let emptied : List Item = emptied_items w.table call in
+    record {
+      sent = messages_later w.trail (noted (taken ++ begun ++ emptied) w.trail) (grows (taken ++ begun ++ emptied) w.trail) r.messages a.1;
+      seen = tt;
+      held = λ h.
+          subst HeldWereCommitted (sym (noted_both (taken ++ begun) emptied w.trail))
+          (held_emptied (noted (taken ++ begun) w.trail) w.table call
+          (subst HeldWereCommitted (sym (noted_both taken begun w.trail))
+          (held_past begun (noted taken w.trail) (begun_none (begun_in r.call answer) r.begun) (held_taken k r.taken w.trail a.0 h))));
+    }
 
-honest_ticked : (n : ℕ) (w : World) (o : Option Knowledge) → Honest w → Honest (ticked_at n w o)
-honest_ticked n w None f = f
-honest_ticked n w (Some k) f = honest_replied w k (tick_reply k n) (tick_told w.trail k n) f
+calling_told : (w : World) (call : ContractCall) → WorkTold w (calling w.table call)
+unfolding calling
+calling_told w call = record { sent = tt; seen = tt; held = held_emptied w.trail w.table call }
 
--- ---- a message
+-- ---- messages
 
-honest_said : (w : World) (m : Message) → MessageTold w.trail m → Honest w → Honest (said w m)
-honest_said w m a f = record { tracked = f.tracked; seen = f.seen; sent = (a, f.sent); held = f.held }
+message_told : (w : World) (m : Message) (o : Option Knowledge) → MessageTold w.trail m → WorkTold w (told m o)
+message_told w m None a = nothing_told w.trail
+message_told w m (Some k) a = heard_told_by w k (heard k m) (heard_told w.trail k m a)
 
-honest_joined : (w : World) (name : List ℕ) (launch : ℕ) (b : Bool) → Honest w → Honest (joined w name launch b)
-honest_joined w name launch true f = honest_said w _ (rows_told w.trail w.now name (told_now w.now w.trail f.tracked)) f
-honest_joined w name launch false f = f
+said_told : (t : List Item) (ms : List Message) → MessagesTold t ms → IsTold t [] ms []
+said_told t ms a = record { sent = a; seen = tt; held = λ x. x }
 
-row_told : (w : World) (n : ℕ) (row : Row) → Honest w → IsRowOf w.now n row → RowTold w.trail n row
-row_told w n row f r =
-    let i : Instance = r.of in
-    let at : RowTold w.trail n i.row = found_told n w.now w.trail i f.tracked r.is_there in
-    rw (r.number, r.state) at
+joined_told : (w : World) (name : List ℕ) (launch : ℕ) (b : Bool) → Honest w → WorkTold w (joined w name launch b)
+joined_told w name launch true f = said_told w.trail _ (rows_told w.trail w.now name (told_now w.now w.trail f.tracked), tt)
+joined_told w name launch false f = nothing_told w.trail
 
-honest_answer : (w : World) (p : Proposal) (a : Answer) → Honest w → Answers w.now p.instance a → Honest (said_if w (answer p a))
-honest_answer w p (answers.Granted row) f r = honest_said w _ (row_told w p.instance row f r) f
-honest_answer w p (answers.Stale why row) f r = honest_said w _ (by row r) f
-  where
-    by : (o : Option Row) → IsRowIn w.now p.instance o → OptionTold w.trail p.instance o
-    by None s = tt
-    by (Some x) s = row_told w p.instance x f s
-honest_answer w p _ f r = f
-
-now_by : (w : World) (c : Command) (b : Bool) → (revised w c (next w.now c) b).now ≡ (next w.now c).0
-now_by w c true = refl
-now_by w c false = refl
-
-answered_now : (w : World) (p : Proposal) → Answers (committed w (commands.Propose p)).0.now p.instance (committed w (commands.Propose p)).1
-unfolding committed
-answered_now w p = subst (λ (h : Holdings). Answers h p.instance (next w.now (commands.Propose p)).1) (sym (now_by w (commands.Propose p) (is_revised w.now (next w.now (commands.Propose p)).0))) (answered w.now p)
-
-honest_delivered : (w : World) (m : Message) → MessageTold w.trail m → Honest w → Honest (delivered w m)
+delivered_told : (w : World) (m : Message) → MessageTold w.trail m → Honest w → WorkTold w (delivered w m)
 unfolding delivered
-honest_delivered w (messages.Join name launch) a f = honest_joined w name launch (launch == launch_of w.now name) f
-honest_delivered w (messages.Rows name launch rows) a f = honest_told w (messages.Rows name launch rows) (restarter w name) a f
-honest_delivered w (messages.Propose p) a f = honest_answer (committed w (commands.Propose p)).0 p (committed w (commands.Propose p)).1 (honest_committed w (commands.Propose p) f) (answered_now w p)
-honest_delivered w (messages.Ack name launch serial i row) a f = honest_told w (messages.Ack name launch serial i row) (restarter w name) a f
-honest_delivered w (messages.Nack name launch serial i why row) a f = honest_told w (messages.Nack name launch serial i why row) (restarter w name) a f
-honest_delivered w messages.AskView a f = honest_said w (messages.View (view w.now)) (view_told w.trail w.now (told_now w.now w.trail f.tracked)) f
-honest_delivered w (messages.View v) a f = record { tracked = f.tracked; seen = newer_told w.trail w.seen v f.seen a; sent = f.sent; held = f.held }
-honest_delivered w (messages.Order o) a f = honest_told w (messages.Order o) (restarter w o.restarter) a f
+delivered_told w (messages.Join name launch) a f = joined_told w name launch (launch == launch_of w.now name) f
+delivered_told w (messages.Rows name launch rows) a f = message_told w (messages.Rows name launch rows) (restarter w name) a
+delivered_told w (messages.Propose p) a f = proposal_told w p f
+delivered_told w (messages.Ack name launch serial i row) a f = message_told w (messages.Ack name launch serial i row) (restarter w name) a
+delivered_told w (messages.Nack name launch serial i why row) a f = message_told w (messages.Nack name launch serial i why row) (restarter w name) a
+delivered_told w messages.AskView a f = said_told w.trail (messages.View (view w.now) ∷ []) (view_told w.trail w.now (told_now w.now w.trail f.tracked), tt)
+delivered_told w (messages.View v) a f = record { sent = tt; seen = (a, tt); held = λ x. x }
+delivered_told w (messages.Order o) a f = message_told w (messages.Order o) (restarter w o.restarter) a
 
-honest_sent : (w : World) (o : Option Message) → OneTold w.trail o → Honest w → Honest (delivered_if w o)
-honest_sent w None a f = f
-honest_sent w (Some m) a f = honest_delivered w m a f
+any_told : (w : World) (o : Option Message) → OneTold w.trail o → Honest w → WorkTold w (delivered_if w o)
+any_told w None a f = nothing_told w.trail
+any_told w (Some m) a f = delivered_told w m a f
+
+-- ---- the other events
+
+own_ticked_told : (w : World) (o : Option Knowledge) → WorkTold w (own_ticked w o)
+own_ticked_told w None = nothing_told w.trail
+own_ticked_told w (Some k) = acted_told w k 0 spawns.Made (own_tick k k.stage) (own_told w.trail k k.stage)
+
+ticked_told : (w : World) (n : ℕ) (spawn : SpawnAnswer) (o : Option Knowledge) → WorkTold w (ticked_for w n spawn o)
+ticked_told w n spawn None = nothing_told w.trail
+ticked_told w n spawn (Some k) = acted_told w k n spawn (ticked k n) (tick_told w.trail k n)
+
+reported_by_told : (w : World) (r : Report) (o : Option Knowledge) → WorkTold w (reported_by r o)
+reported_by_told w r None = nothing_told w.trail
+reported_by_told w r (Some k) = nothing_told w.trail
+
+reported_told : (w : World) (o : Option Report) → WorkTold w (reported_to w o)
+reported_told w None = nothing_told w.trail
+reported_told w (Some r) = reported_by_told w r (holder w r.contract.holder)
+
+timed_told : (w : World) (n : ℕ) (o : Option Knowledge) → WorkTold w (timed n o)
+timed_told w n None = nothing_told w.trail
+timed_told w n (Some k) = nothing_told w.trail
+
+crashed_told : (w : World) (o : Option Knowledge) → WorkTold w (crashed w o)
+crashed_told w None = nothing_told w.trail
+crashed_told w (Some k) = calling_told w _
+
+launched_told : (w : World) (name : List ℕ) (b : Bool) → WorkTold w (launched_if w name b)
+launched_told w name true = nothing_told w.trail
+launched_told w name false = command_told w (commands.Launch name)
+
+booted_told : (w : World) (k : Work) (rs : List CommandReply) → WorkTold w k → WorkTold w (booted_as k rs)
+booted_told w k [] a = a
+booted_told w k (replies.Done ∷ rs) a = a
+booted_told w k (r ∷ rs) a = a
+
+work_told : (w : World) (e : Event) → Honest w → WorkTold w (worked w e)
+unfolding worked
+work_told w (events.Deliver place) f = any_told w (sent_at w place) (sent_told w.trail w.sent place f.sent) f
+work_told w (events.Client edit) f = command_told w (commands.Edit edit)
+work_told w events.Ask f = said_told w.trail (messages.AskView ∷ []) (tt, tt)
+work_told w events.Orders f = said_told w.trail (map (λ (o : Order). messages.Order o) (orders_seen w.seen)) (orders_told w.trail w.seen f.seen)
+work_told w (events.OwnTick name) f = own_ticked_told w (restarter w name)
+work_told w (events.Tick name n spawn) f = ticked_told w n spawn (restarter w name)
+work_told w (events.Process process what) f = calling_told w (process_call process what)
+work_told w (events.Report contract number) f = reported_told w (report_at w.table contract number)
+work_told w (events.Timeout name n) f = timed_told w n (restarter w name)
+work_told w (events.Crash name) f = crashed_told w (restarter w name)
+work_told w (events.Launch name) f = launched_told w name (is_launched w name)
+work_told w events.Boot f = booted_told w (commanded w commands.Boot) (commanded w commands.Boot).reply (command_told w commands.Boot)
 
 -- ---- events
 
-honest_launched : (name : List ℕ) (w : World) (a : Answer) → Honest w → Honest (launched_as name w a)
-honest_launched name w (answers.Made launch) f = f
-honest_launched name w _ f = f
+seen_told : (t : List Item) (forgets : Bool) (o : Option View) (vs : List View) → ViewTold t o → ViewsTold t vs → ViewTold t (seen_after forgets o vs)
+seen_told t true o vs a b = tt
+seen_told t false o vs a b = newest_told t o vs a b
 
-honest_booted : (w : World) (a : Answer) → Honest w → Honest (booted_as w a)
-honest_booted w answers.Done f = record { tracked = f.tracked; seen = tt; sent = f.sent; held = f.held }
-honest_booted w _ f = f
-
-honest_orders : (w : World) → Honest w → Honest (record w { sent = reverse (map (λ (o : Order). messages.Order o) (orders_seen w.seen)) ++ w.sent })
-honest_orders w f = record { tracked = f.tracked; seen = f.seen; sent = all_reversed w.trail (map (λ (o : Order). messages.Order o) (orders_seen w.seen)) w.sent (orders_told w.trail w.seen f.seen) f.sent; held = f.held }
+honest_by : (w : World) (e : Event) → IsTracked (happens w e).now (commits (happens w e).trail) → ViewTold w.trail w.seen → MessagesTold w.trail w.sent → HeldWereCommitted w.trail → WorkTold w (worked w e) → Honest (happens w e)
+unfolding happens done
+honest_by w e tracked seen sent held a =
+    let k : Work = worked w e in
+    let u : List Item = noted k.items w.trail in
+    record {
+      tracked = tracked;
+      seen = seen_told u k.forgets w.seen k.seen (view_later w.trail u (grows k.items w.trail) w.seen seen) (views_later w.trail u (grows k.items w.trail) k.seen a.seen);
+      sent = all_reversed u k.messages w.sent a.sent (messages_later w.trail u (grows k.items w.trail) w.sent sent);
+      held = a.held held;
+    }
 
 honest_event : (w : World) (e : Event) → Honest w → Honest (happens w e)
-unfolding happens
-honest_event w (events.Deliver place) f = honest_sent w (sent_at w place) (sent_told w.trail w.sent place f.sent) f
-honest_event w (events.Client edit) f = honest_committed w (commands.Edit edit) f
-honest_event w events.Ask f = honest_said w messages.AskView tt f
-honest_event w events.Orders f = honest_orders w f
-honest_event w (events.Tick name n spawn) f = honest_ticked n w (restarter w name) f
-honest_event w (events.Process process what) f = f
-honest_event w (events.Report contract number) f = f
-honest_event w (events.Timeout name n) f = f
-honest_event w (events.Crash name) f = f
-honest_event w (events.Launch name) f = honest_launched name (committed w (commands.Launch name)).0 (committed w (commands.Launch name)).1 (honest_committed w (commands.Launch name) f)
-honest_event w events.Boot f = honest_booted (committed w commands.Boot).0 (committed w commands.Boot).1 (honest_committed w commands.Boot f)
+honest_event w e f = honest_by w e (of_event Tracked tracked_kept w e f.tracked) f.seen f.sent f.held (work_told w e f)
 
 honest_run : (es : List Event) (w : World) → Honest w → Honest (run es w)
 honest_run [] w f = f
@@ -216,25 +331,21 @@ honest_run (e ∷ es) w f = honest_run es (happens w e) (honest_event w e f)
 
 -- ---- from a boot of what was found
 
-first_committed : (h : Holdings) → (next h commands.Boot).1 ≡ answers.Done → IsNumbered h → Honest (committed (found h) commands.Boot).0
-unfolding committed
-first_committed h done n =
-    let b : Bool = is_revised h (next h commands.Boot).0 in
-    let v : World = revised (found h) commands.Boot (next h commands.Boot) b in
-    let l : IsLater [] v.trail = later_by (found h) commands.Boot b refl n in
+boot_told : (h : Holdings) → WorkTold (found h) (worked (found h) events.Boot)
+unfolding worked
+boot_told h = booted_told (found h) (commanded (found h) commands.Boot) (commanded (found h) commands.Boot).reply (command_told (found h) commands.Boot)
+
+first_honest : (h : Holdings) → IsNumbered h → (next h commands.Boot).1 ≡ replies.Done → Honest (happens (found h) events.Boot)
+first_honest h n done = honest_by (found h) events.Boot (first_tracked h n done) tt tt tt (boot_told h)
+
+pub run_honest : (h : Holdings) (es : List Event) → IsNumbered h → (next h commands.Boot).1 ≡ replies.Done → HeldWereCommitted (run es (happens (found h) events.Boot)).trail
+run_honest h es n done = (honest_run es (happens (found h) events.Boot) (first_honest h n done)).held
+
+pub run_recorded : (h : Holdings) (es : List Event) → IsNumbered h → (next h commands.Boot).1 ≡ replies.Done → IsRecorded (run es (happens (found h) events.Boot))
+run_recorded h es n done =
     record {
-      tracked = first_boot h (accepted_boot h done) n;
-      seen = subst (ViewTold v.trail) (sym (seen_by (found h) commands.Boot b)) tt;
-      sent = subst (MessagesTold v.trail) (sym (sent_by_all (found h) commands.Boot b)) tt;
-      held = l.held tt;
+      history = run_follows h (events.Boot ∷ es) n;
+      diagram = run_along h es n done;
+      once = once (run es (happens (found h) events.Boot)).trail (run_along h es n done);
+      held = run_honest h es n done;
     }
-
-first_honest : (h : Holdings) → (next h commands.Boot).1 ≡ answers.Done → IsNumbered h → Honest (happens (found h) events.Boot)
-unfolding happens
-first_honest h done n = honest_booted (committed (found h) commands.Boot).0 (committed (found h) commands.Boot).1 (first_committed h done n)
-
-pub run_honest : (h : Holdings) (es : List Event) → IsNumbered h → (next h commands.Boot).1 ≡ answers.Done → HeldWereCommitted (run es (happens (found h) events.Boot)).trail
-run_honest h es n done = (honest_run es (happens (found h) events.Boot) (first_honest h done n)).held
-
-pub run_safe : (h : Holdings) (es : List Event) → IsNumbered h → (next h commands.Boot).1 ≡ answers.Done → IsSafe (run es (happens (found h) events.Boot))
-run_safe h es n done = record { history = run_follows h (events.Boot ∷ es) n; diagram = run_along h es n done; once = once (run es (happens (found h) events.Boot)).trail (run_along h es n done); held = run_honest h es n done }

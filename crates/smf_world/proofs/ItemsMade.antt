@@ -1,17 +1,16 @@
--- What the trail shows of a command that makes a revision is what is new after it, or has another number.
-use Rattle.std.proofs.Common.{◌≡◌, ℕ, ◌+◌, ◌==◌, ◌&&◌, ◌||◌, nat_lt, nat_le, not, Bool, true, false, if◌then◌else◌, List, [], ◌∷◌, ◌++◌, map, filter, Option, Some, None, is_none, option_map, Result, Ok, Err, refl, sym, ap, ◌∙◌, subst, arith, append-nil}
-use Rattle.std.proofs.lemmas.Bool.Decides.{nat_tests}
-use Rattle.smf_fmri.specs.ByKey.{lookup, put}
+-- What the trail shows of a command that is accepted is what is new after it, or has another number.
+use Rattle.std.proofs.Common.{◌≡◌, ℕ, ◌+◌, nat_lt, nat_le, not, Bool, true, false, if◌then◌else◌, List, [], ◌∷◌, ◌++◌, map, filter, Option, Some, None, option_map, Result, Ok, Err, refl, sym, ap, ◌∙◌, arith}
+use Rattle.std.specs.List.{cons_option, filter_map}
+use Rattle.smf_fmri.specs.ByKey.{put}
 use Rattle.smf_fmri.specs.Matching.{read_short}
 use Rattle.smf_state.proofs.Steps.{accepted_goes_on}
-use Rattle.smf_state.specs.Rows.{GoesOn, applied, same_state, greatest_number}
+use Rattle.smf_state.specs.Rows.{GoesOn, applied, greatest_number}
 use Rattle.smf_state.specs.States.{runs}
 use Rattle.smf_state.specs.declared.fault.StepFault.{StepFault}
 use Rattle.smf_state.specs.declared.row.Row.{Row}
-use Rattle.smf_state.specs.declared.state.State.TheVariants.{Uninitialized, Disabled}
 use Rattle.smf_state.specs.declared.step.Proposal.{Proposal}
 use Rattle.smf_model.specs.declared.change.Change.{Change}
-use Rattle.smf_model.specs.declared.change.Change.TheVariants.{PutInstance, AddSnapshot, NextSnapshot, SetRevision}
+use Rattle.smf_model.specs.declared.change.Change.TheVariants.{AddService, DropService, PutGroups, PutInstance, AddSnapshot, NextSnapshot, PutLaunch, SetRevision}
 use Rattle.smf_model.specs.declared.command.Command.{Command}
 use Rattle.smf_model.specs.declared.command.Command.TheVariants as commands
 use Rattle.smf_model.specs.declared.command.Edit.TheVariants as asked_for
@@ -22,204 +21,168 @@ use Rattle.smf_model.specs.declared.command.Why.TheVariants as whys
 use Rattle.smf_model.specs.declared.held.Instance.{Instance}
 use Rattle.smf_model.specs.declared.held.Service.{Service}
 use Rattle.smf_model.specs.Holdings.{Holdings}
-use Rattle.smf_model.specs.History.{is_revised}
 use Rattle.smf_model.specs.Laws.{AreApart, IsNumbered}
 use Rattle.smf_model.specs.Look.{bare, by_instance, groups_of, installed, instance, instances, named, put_over, service}
 use Rattle.smf_model.specs.Setting.{Groups, current, setting}
-use Rattle.smf_model.specs.Shown.{view}
 use Rattle.smf_model.specs.Next.{Asked, greatest, greatest_instance, greatest_snapshot, refused, accepted, found, new_entry, new_instance, joining, added_at, added_named, asked_add_instance, with_snapshot, snapshot_of, target_by, may_be_moved, refreshed_row, moved_instance, moved, refreshed_instance, refreshed, asked_refresh, asked_edit, is_again, stale, with_row, with_running, takes_running, granted, step_answer, fresh_answer, answer_at, answer, relaunched, persistent, kept_of_services, kept_of_instances, booted, booting, may_not_boot, asked_boot, asked, next}
 use Rattle.smf_model.proofs.Entries.{bare_instance, bare_put}
-use Rattle.smf_model.proofs.LawLists.{at_put}
 use Rattle.smf_model.proofs.LawOutcomes.{put_each, apart, installed_append, installed_closed, Elsewhere, elsewhere, each_put, Found, is_found, relaunches, services_keep, instances_keep}
-use Rattle.smf_world.specs.Happens.{items_of, moved_item, number_at}
-use Rattle.smf_world.specs.Safe.{is_committed, row_item, made_items}
+use Rattle.smf_world.specs.Items.{boot_items, change_item, items_of, row_item}
+use Rattle.smf_world.specs.Safe.{boot_alone, is_committed, made_items}
 use Rattle.smf_world.specs.declared.item.Item.{Item}
-use Rattle.smf_world.specs.declared.item.Item.TheVariants.{Committed}
-use Rattle.smf_world.specs.declared.item.Item.TheVariants as items
-use Rattle.smf_world.proofs.CommitLists.{has_same, none_kept, still_same, one_moved, one_new, put_all, all_booted, booted_items}
-use Rattle.smf_world.proofs.PlainCommands.{is_plain, none_committed}
+use Rattle.smf_world.proofs.CommitLists.{AreFound, found_all, none_kept, all_same, still_same, one_moved, one_new, put_all, all_booted}
+use Rattle.smf_world.proofs.PlainCommands.{is_plain, none_committed, says_nothing}
+use Rattle.smf_world.proofs.Showing.{next_over, not_shown, same_over}
 
-abbrev Shows : Holdings → Command → Holdings → Reply → Type 0
-Shows h c k r = items_of h c (k, r) ≡ made_items c h k
+-- the rows that changes show
+abbrev pub shown_of : Holdings → List Change → List Item
+shown_of h cs = filter_map (change_item h) cs
 
-abbrev ShowsOf : Holdings → Command → Asked → Type 0
-ShowsOf h c a = is_revised h (installed h a.changes) ≡ true → Shows h c (installed h a.changes) a.reply
+-- those that are new in a value, or have another number
+abbrev pub new_rows : Holdings → Holdings → List Item
+new_rows h k = map row_item (filter (is_committed h) (instances k))
 
--- after these changes, under another revision
-abbrev after : Holdings → List Change → ℕ → Holdings
-after h cs n = record (installed h cs) { revision = n }
+abbrev Shows : Holdings → List Change → Holdings → Type 0
+Shows h cs k = shown_of h cs ≡ new_rows h k
 
-same_revision : (n : ℕ) → not (n == n) ≡ true → ⊥
-same_revision n e = grind (arith, nat_tests)
+abbrev ShowsOf : Holdings → Asked → Type 0
+ShowsOf h a = Shows h a.changes (installed h a.changes)
 
-refuses : (h : Holdings) (c : Command) (r : Reply) → ShowsOf h c (refused r)
+-- after these changes
+abbrev after : Holdings → List Change → Holdings
+after h cs = installed h cs
+
+none_new : (h : Holdings) → AreApart (instances h) → [] ≡ new_rows h h
+none_new h a = sym (ap (map row_item) (none_kept (is_committed h) (instances h) (all_same h a)))
+
+refuses : (h : Holdings) (r : Reply) → AreApart (instances h) → ShowsOf h (refused r)
 unfolding installed
-refuses h c r e = absurd (same_revision h.revision e)
+refuses h r a = none_new h a
 
-accepts : (h : Holdings) (c : Command) (cs : List Change) (r : Reply) → ((n : ℕ) → Shows h c (after h cs n) r) → ShowsOf h c (accepted h cs r)
-accepts h c cs r s = by (nat_lt h.revision greatest)
+accepts : (h : Holdings) (cs : List Change) (r : Reply) → AreApart (instances h) → Shows h cs (after h cs) → ShowsOf h (accepted h cs r)
+accepts h cs r a s = by (nat_lt h.revision greatest)
   where
-    by : (b : Bool) → ShowsOf h c (if b then (record { changes = cs ++ SetRevision (h.revision + 1) ∷ []; reply = r }) else refused Limit)
-    by true e = subst (λ (k : Holdings). Shows h c k r) (sym (installed_closed h cs (h.revision + 1))) (s (h.revision + 1))
-    by false e = refuses h c Limit e
+    by : (b : Bool) → ShowsOf h (if b then (record { changes = cs ++ SetRevision (h.revision + 1) ∷ []; reply = r }) else refused Limit)
+    by true =
+        not_shown (change_item h) cs (SetRevision (h.revision + 1)) refl
+        ∙ (s ∙ ap (λ (k : Holdings). new_rows h k) (sym (installed_closed h cs (h.revision + 1))))
+    by false = refuses h Limit a
 
-either : (h : Holdings) (c : Command) (b : Bool) (x y : Asked) → ShowsOf h c x → ShowsOf h c y → ShowsOf h c (if b then x else y)
-either h c true x y p q = p
-either h c false x y p q = q
+either : (h : Holdings) (b : Bool) (x y : Asked) → ShowsOf h x → ShowsOf h y → ShowsOf h (if b then x else y)
+either h true x y p q = p
+either h false x y p q = q
 
 -- what a snapshot is taken with
 abbrev with_taken : Holdings → Instance → List Change → List Change
 with_taken h i cs = AddSnapshot (snapshot_of h i) ∷ NextSnapshot (h.next_snapshot + 1) ∷ cs
 
-snaps : (h : Holdings) (c : Command) (i : Instance) (cs : List Change) (r : Reply) → ((n : ℕ) → Shows h c (after h (with_taken h i cs) n) r) → ShowsOf h c (with_snapshot h i cs r)
-snaps h c i cs r s = either h c (nat_le h.next_snapshot greatest_snapshot) _ _ (accepts h c (with_taken h i cs) r s) (refuses h c Limit)
+snaps : (h : Holdings) (i : Instance) (cs : List Change) (r : Reply) → AreApart (instances h) → Shows h (with_taken h i cs) (after h (with_taken h i cs)) → ShowsOf h (with_snapshot h i cs r)
+snaps h i cs r a s = either h (nat_le h.next_snapshot greatest_snapshot) _ _ (accepts h (with_taken h i cs) r a s) (refuses h Limit a)
 
-by_found : (h : Holdings) (c : Command) (n : ℕ) (ask : Option Instance → Asked) → ShowsOf h c (ask None) → ((before i : Instance) → Found h n before i → ShowsOf h c (ask (Some i))) → ShowsOf h c (ask (found h n))
-by_found h c n ask none some = by (instance h n) refl
+by_found : (h : Holdings) (n : ℕ) (ask : Option Instance → Asked) → ShowsOf h (ask None) → ((before i : Instance) → Found h n before i → ShowsOf h (ask (Some i))) → ShowsOf h (ask (found h n))
+by_found h n ask none some = by (instance h n) refl
   where
-    by : (o : Option Instance) → instance h n ≡ o → ShowsOf h c (ask (option_map (current (groups_of h)) o))
+    by : (o : Option Instance) → instance h n ≡ o → ShowsOf h (ask (option_map (current (groups_of h)) o))
     by None e = none
     by (Some i) e = some i (current (groups_of h) i) (is_found h n i e)
 
 -- ---- one that is added
 
-shows_added : (h : Holdings) (s name full : List ℕ) (k : Holdings) → IsNumbered h → instances k ≡ put by_instance (new_instance h full) (instances h) → Shows h (commands.Edit (asked_for.AddInstance s name)) k (Made h.next_instance)
-shows_added h s name full k numbered e =
+shows_added : (h : Holdings) (full : List ℕ) (k : Holdings) → IsNumbered h → instances k ≡ put by_instance (new_instance h full) (instances h) → Shows h (joining h full) k
+shows_added h full k numbered e =
     let none : instance h h.next_instance ≡ None = numbered.instances h.next_instance (omega arith) in
     sym (ap (λ (xs : List Instance). map row_item (filter (is_committed h) xs)) e ∙ ap (map row_item) (one_new h (new_instance h full) (apart h numbered) none))
 
-add_at : (h : Holdings) (s name full : List ℕ) (o : Option Instance) → IsNumbered h → ShowsOf h (commands.Edit (asked_for.AddInstance s name)) (added_at h full o)
+add_at : (h : Holdings) (full : List ℕ) (o : Option Instance) → IsNumbered h → ShowsOf h (added_at h full o)
 unfolding installed
-add_at h s name full (Some i) numbered = refuses h (commands.Edit (asked_for.AddInstance s name)) Exists
-add_at h s name full None numbered =
-    let c : Command = commands.Edit (asked_for.AddInstance s name) in
-    either h c (nat_le h.next_instance greatest_instance) _ _
-    (accepts h c (joining h full) (Made h.next_instance) (λ n. shows_added h s name full (after h (joining h full) n) numbered (bare_put (new_entry h full) h.instances)))
-    (refuses h c Limit)
+add_at h full (Some i) numbered = refuses h Exists (apart h numbered)
+add_at h full None numbered =
+    either h (nat_le h.next_instance greatest_instance) _ _
+    (accepts h (joining h full) (Made h.next_instance) (apart h numbered) (shows_added h full (after h (joining h full)) numbered (bare_put (new_entry h full) h.instances)))
+    (refuses h Limit (apart h numbered))
 
-add_named : (h : Holdings) (s name : List ℕ) (o : Option (List ℕ)) → IsNumbered h → ShowsOf h (commands.Edit (asked_for.AddInstance s name)) (added_named h o)
-add_named h s name None numbered = refuses h (commands.Edit (asked_for.AddInstance s name)) Limit
-add_named h s name (Some full) numbered = add_at h s name full (named h full) numbered
+add_named : (h : Holdings) (o : Option (List ℕ)) → IsNumbered h → ShowsOf h (added_named h o)
+add_named h None numbered = refuses h Limit (apart h numbered)
+add_named h (Some full) numbered = add_at h full (named h full) numbered
 
-add_instance : (h : Holdings) (s name : List ℕ) (o : Option Service) → IsNumbered h → ShowsOf h (commands.Edit (asked_for.AddInstance s name)) (asked_add_instance h name o)
-add_instance h s name None numbered = refuses h (commands.Edit (asked_for.AddInstance s name)) NoSuch
-add_instance h s name (Some t) numbered = add_named h s name (read_short (t.name ++ 58 ∷ name)) numbered
+add_instance : (h : Holdings) (name : List ℕ) (o : Option Service) → IsNumbered h → ShowsOf h (asked_add_instance h name o)
+add_instance h name None numbered = refuses h NoSuch (apart h numbered)
+add_instance h name (Some t) numbered = add_named h (read_short (t.name ++ 58 ∷ name)) numbered
+
+-- ---- one that is put in its place
+
+there_at : (h : Holdings) (n : ℕ) (before x : Instance) → instance h n ≡ Some before → x.number ≡ n → instance h x.number ≡ Some before
+there_at h n before x there number = ap (instance h) number ∙ there
+
+-- one with the next number is shown
+shows_next : (h : Holdings) (n : ℕ) (before x : Instance) (k : Holdings) → AreApart (instances h) → instance h n ≡ Some before → x.number ≡ n → x.row.number ≡ before.row.number + 1 → instances k ≡ put_over x (instances h)
+    → Shows h (PutInstance x ∷ []) k
+shows_next h n before x k a there number f e =
+    ap (λ (o : Option Item). cons_option o []) (next_over (instance h x.number) before x (there_at h n before x there number) f)
+    ∙ sym (ap (λ (xs : List Instance). map row_item (filter (is_committed h) xs)) e ∙ ap (map row_item) (one_moved h n before x a there number f))
+
+-- one with the same number is not
+shows_same : (h : Holdings) (n : ℕ) (before x : Instance) (k : Holdings) → AreApart (instances h) → instance h n ≡ Some before → x.number ≡ n → x.row.number ≡ before.row.number → instances k ≡ put_over x (instances h)
+    → Shows h (PutInstance x ∷ []) k
+shows_same h n before x k a there number f e =
+    ap (λ (o : Option Item). cons_option o []) (same_over (instance h x.number) before x (there_at h n before x there number) f)
+    ∙ sym (ap (λ (xs : List Instance). map row_item (filter (is_committed h) xs)) e ∙ ap (map row_item) (none_kept (is_committed h) (put_over x (instances h)) (still_same h n before x a there number f)))
 
 -- ---- one that a proposal moves
 
-shows_granted : (h : Holdings) (p : Proposal) (before x : Instance) (k : Holdings) → AreApart (instances h) → instance h p.instance ≡ Some before → x.number ≡ p.instance → x.row.number ≡ before.row.number + 1 → instances k ≡ put_over x (instances h)
-    → Shows h (commands.Propose p) k (Granted x.row)
-shows_granted h p before x k a there number f e =
-    ap (λ (n : ℕ). Committed n x.row.number x.row.state x.row.next ∷ []) (sym number)
-    ∙ sym (ap (λ (xs : List Instance). map row_item (filter (is_committed h) xs)) e ∙ ap (map row_item) (one_moved h p.instance before x a there number f))
-
-grants : (h : Holdings) (p : Proposal) (before i : Instance) (row : Row) (b : Bool) → AreApart (instances h) → Found h p.instance before i → GoesOn i.row row → ShowsOf h (commands.Propose p) (granted h i row b)
+grants : (h : Holdings) (p : Proposal) (before i : Instance) (row : Row) (b : Bool) → AreApart (instances h) → Found h p.instance before i → GoesOn i.row row → ShowsOf h (granted h i row b)
 unfolding installed
 grants h p before i row b a f g = by b
   where
     number : row.number ≡ before.row.number + 1
     number = g.counted ∙ ap (λ (r : Row). r.number + 1) f.reads.same
 
-    by : (b : Bool) → ShowsOf h (commands.Propose p) (granted h i row b)
+    by : (b : Bool) → ShowsOf h (granted h i row b)
     by true =
         let x : Instance = with_row i (with_running h row) in
-        snaps h (commands.Propose p) i (PutInstance x ∷ []) (Granted x.row) (λ n. shows_granted h p before x (after h (with_taken h i (PutInstance x ∷ [])) n) a f.is_there f.is_number number (bare_instance x h.instances))
+        snaps h i (PutInstance x ∷ []) (Granted x.row) a (shows_next h p.instance before x (after h (with_taken h i (PutInstance x ∷ []))) a f.is_there f.is_number number (bare_instance x h.instances))
     by false =
         let x : Instance = with_row i row in
-        accepts h (commands.Propose p) (PutInstance x ∷ []) (Granted x.row) (λ n. shows_granted h p before x (after h (PutInstance x ∷ []) n) a f.is_there f.is_number number (bare_instance x h.instances))
+        accepts h (PutInstance x ∷ []) (Granted x.row) a (shows_next h p.instance before x (after h (PutInstance x ∷ [])) a f.is_there f.is_number number (bare_instance x h.instances))
 
-answers_step : (h : Holdings) (p : Proposal) (before i : Instance) (r : Result Row StepFault) → AreApart (instances h) → Found h p.instance before i → applied i.row p (h.revision + 1) ≡ r → ShowsOf h (commands.Propose p) (step_answer h i r)
-answers_step h p before i (Err fault) a f e = refuses h (commands.Propose p) (Stale (whys.Step fault) (Some i.row))
+answers_step : (h : Holdings) (p : Proposal) (before i : Instance) (r : Result Row StepFault) → AreApart (instances h) → Found h p.instance before i → applied i.row p (h.revision + 1) ≡ r → ShowsOf h (step_answer h i r)
+answers_step h p before i (Err fault) a f e = refuses h (Stale (whys.Step fault) (Some i.row)) a
 answers_step h p before i (Ok row) a f e = grants h p before i row (takes_running i.row row) a f (accepted_goes_on i.row row p (h.revision + 1) e)
 
-answers_fresh : (h : Holdings) (p : Proposal) (before i : Instance) (o : Option Why) → AreApart (instances h) → Found h p.instance before i → ShowsOf h (commands.Propose p) (fresh_answer h i p o)
-answers_fresh h p before i (Some why) a f = refuses h (commands.Propose p) (Stale why (Some i.row))
+answers_fresh : (h : Holdings) (p : Proposal) (before i : Instance) (o : Option Why) → AreApart (instances h) → Found h p.instance before i → ShowsOf h (fresh_answer h i p o)
+answers_fresh h p before i (Some why) a f = refuses h (Stale why (Some i.row)) a
 answers_fresh h p before i None a f = answers_step h p before i (applied i.row p (h.revision + 1)) a f refl
 
-answers_at : (h : Holdings) (p : Proposal) (before i : Instance) → AreApart (instances h) → Found h p.instance before i → ShowsOf h (commands.Propose p) (answer_at h p (Some i))
-answers_at h p before i a f = either h (commands.Propose p) (is_again i.row p) _ _ (refuses h (commands.Propose p) (Granted i.row)) (answers_fresh h p before i (stale h i.row p) a f)
+answers_at : (h : Holdings) (p : Proposal) (before i : Instance) → AreApart (instances h) → Found h p.instance before i → ShowsOf h (answer_at h p (Some i))
+answers_at h p before i a f = either h (is_again i.row p) _ _ (refuses h (Granted i.row) a) (answers_fresh h p before i (stale h i.row p) a f)
 
-answers : (h : Holdings) (p : Proposal) → AreApart (instances h) → ShowsOf h (commands.Propose p) (answer h p)
+answers : (h : Holdings) (p : Proposal) → AreApart (instances h) → ShowsOf h (answer h p)
 unfolding answer
-answers h p a = by_found h (commands.Propose p) p.instance (answer_at h p) (refuses h (commands.Propose p) (Stale whys.NoSuch None)) (λ before i f. answers_at h p before i a f)
+answers h p a = by_found h p.instance (answer_at h p) (refuses h (Stale whys.NoSuch None) a) (λ before i f. answers_at h p before i a f)
 
 -- ---- one that is refreshed, or moves to another restarter
 
-is_it : (m n : ℕ) → m ≡ n → (m == n) ≡ true
-is_it m n e = grind (arith, nat_tests)
-
-is_next : (m n : ℕ) → m ≡ n + 1 → (m == n) ≡ false
-is_next m n e = grind (arith, nat_tests)
-
-abbrev number_in : Option Instance → Option ℕ
-number_in o = option_map (λ i. i.row.number) o
-
-put_there : (h : Holdings) (n : ℕ) (before x : Instance) (k : Holdings) → instance h n ≡ Some before → x.number ≡ n → instances k ≡ put_over x (instances h) → number_at k n ≡ Some x.row.number
-put_there h n before x k there number e =
-    ap (λ (xs : List Instance). number_in (lookup by_instance xs n)) e
-    ∙ (ap number_in (at_put n x (instances h)) ∙ rw (has_same x.number n number, there) refl)
-
-moved_same : (n : ℕ) (o q : Option ℕ) (a b : ℕ) → o ≡ Some a → q ≡ Some b → b ≡ a → moved_item n o q ≡ None
-moved_same n o q a b e f g = rw (e, f, is_it b a g) refl
-
-moved_next : (n : ℕ) (o q : Option ℕ) (a b : ℕ) → o ≡ Some a → q ≡ Some b → b ≡ a + 1 → moved_item n o q ≡ Some (Committed n b Uninitialized None)
-moved_next n o q a b e f g = rw (e, f, is_next b a g) refl
-
-abbrev listed : Option Item → List Item
-listed None = []
-listed (Some i) = i ∷ []
-
-shows_same : (h : Holdings) (n : ℕ) (before x : Instance) (k : Holdings) (r : Reply) → AreApart (instances h) → instance h n ≡ Some before → x.number ≡ n → x.row.number ≡ before.row.number → instances k ≡ put_over x (instances h)
-    → Shows h (commands.Edit (asked_for.Refresh n)) k r
-shows_same h n before x k r a there number f e =
-    ap listed (moved_same n (number_at h n) (number_at k n) before.row.number x.row.number (ap number_in there) (put_there h n before x k there number e) f)
-    ∙ sym (ap (λ (xs : List Instance). map row_item (filter (is_committed h) xs)) e ∙ ap (map row_item) (none_kept (is_committed h) (put_over x (instances h)) (still_same h n before x a there number f)))
-
-shows_moved : (h : Holdings) (n : ℕ) (before x : Instance) (k : Holdings) (r : Reply) → AreApart (instances h) → instance h n ≡ Some before → x.number ≡ n → x.row.number ≡ before.row.number + 1 → x.row.state ≡ Uninitialized → x.row.next ≡ None → instances k ≡ put_over x (instances h)
-    → Shows h (commands.Edit (asked_for.Refresh n)) k r
-shows_moved h n before x k r a there number f state next_state e =
-    let item : Committed n x.row.number Uninitialized None ≡ row_item x = rw (number, state, next_state) refl in
-    ap listed (moved_next n (number_at h n) (number_at k n) before.row.number x.row.number (ap number_in there) (put_there h n before x k there number e) f)
-    ∙ (ap (λ (i : Item). i ∷ []) item
-    ∙ sym (ap (λ (xs : List Instance). map row_item (filter (is_committed h) xs)) e ∙ ap (map row_item) (one_moved h n before x a there number f)))
-
-second : (w a b d : Bool) → (w && a && b && d) ≡ true → a ≡ true
-second w true b d e = refl
-second true false b d e = absurd cc
-second false false b d e = absurd cc
-
-no_next : {X : Type 0} (o : Option X) → is_none o ≡ true → o ≡ None
-no_next None e = refl
-no_next (Some x) e = absurd cc
-
-moving : (h : Holdings) (n : ℕ) (before i : Instance) (owner : List ℕ) → AreApart (instances h) → Found h n before i → ShowsOf h (commands.Edit (asked_for.Refresh n)) (moved h i owner)
+moving : (h : Holdings) (n : ℕ) (before i : Instance) (owner : List ℕ) → AreApart (instances h) → Found h n before i → ShowsOf h (moved h i owner)
 unfolding installed
-moving h n before i owner a f = by (may_be_moved i.row) refl
-  where
-    by : (b : Bool) → may_be_moved i.row ≡ b
-        → ShowsOf h (commands.Edit (asked_for.Refresh n)) (if not b then refused InUse else if not (nat_lt i.row.number greatest_number) then refused Limit else with_snapshot h i (PutInstance (moved_instance h i owner) ∷ []) Done)
-    by false e = refuses h (commands.Edit (asked_for.Refresh n)) InUse
-    by true e =
-        let c : Command = commands.Edit (asked_for.Refresh n) in
-        let x : Instance = moved_instance h i owner in
-        let next_state : x.row.next ≡ None = no_next i.row.next (second (same_state i.row.state Uninitialized || same_state i.row.state Disabled) (is_none i.row.next) (is_none i.row.live) (is_none i.row.side) e) in
-        either h c (not (nat_lt i.row.number greatest_number)) _ _ (refuses h c Limit)
-        (snaps h c i (PutInstance x ∷ []) Done (λ m. shows_moved h n before x (after h (with_taken h i (PutInstance x ∷ [])) m) Done a f.is_there f.is_number (ap (λ (r : Row). r.number + 1) f.reads.same) refl next_state (bare_instance x h.instances)))
+moving h n before i owner a f =
+    let x : Instance = moved_instance h i owner in
+    either h (not (may_be_moved i.row)) _ _ (refuses h InUse a)
+    (either h (not (nat_lt i.row.number greatest_number)) _ _ (refuses h Limit a)
+    (snaps h i (PutInstance x ∷ []) Done a (shows_next h n before x (after h (with_taken h i (PutInstance x ∷ []))) a f.is_there f.is_number (ap (λ (r : Row). r.number + 1) f.reads.same) (bare_instance x h.instances))))
 
 same_number : (r : Row) (running revision : ℕ) (b : Bool) → (refreshed_row r running revision b).number ≡ r.number
 same_number r running revision true = refl
 same_number r running revision false = refl
 
-refreshing : (h : Holdings) (n : ℕ) (before i : Instance) (o : Option (List ℕ)) → AreApart (instances h) → Found h n before i → ShowsOf h (commands.Edit (asked_for.Refresh n)) (refreshed h i o)
+refreshing : (h : Holdings) (n : ℕ) (before i : Instance) (o : Option (List ℕ)) → AreApart (instances h) → Found h n before i → ShowsOf h (refreshed h i o)
 unfolding installed
 refreshing h n before i (Some owner) a f = moving h n before i owner a f
 refreshing h n before i None a f =
-    let c : Command = commands.Edit (asked_for.Refresh n) in
     let x : Instance = refreshed_instance h i in
-    snaps h c i (PutInstance x ∷ []) Done (λ m. shows_same h n before x (after h (with_taken h i (PutInstance x ∷ [])) m) Done a f.is_there f.is_number (same_number i.row h.next_snapshot (h.revision + 1) (runs i.row.state) ∙ ap (λ (r : Row). r.number) f.reads.same) (bare_instance x h.instances))
+    snaps h i (PutInstance x ∷ []) Done a (shows_same h n before x (after h (with_taken h i (PutInstance x ∷ []))) a f.is_there f.is_number (same_number i.row h.next_snapshot (h.revision + 1) (runs i.row.state) ∙ ap (λ (r : Row). r.number) f.reads.same) (bare_instance x h.instances))
 
-refresh : (h : Holdings) (n : ℕ) → AreApart (instances h) → ShowsOf h (commands.Edit (asked_for.Refresh n)) (asked_refresh h (found h n))
-refresh h n a = by_found h (commands.Edit (asked_for.Refresh n)) n (asked_refresh h) (refuses h (commands.Edit (asked_for.Refresh n)) NoSuch) (λ before i f. refreshing h n before i (target_by (setting (groups_of h) i) i.row.owner) a f)
+refresh : (h : Holdings) (n : ℕ) → AreApart (instances h) → ShowsOf h (asked_refresh h (found h n))
+refresh h n a = by_found h n (asked_refresh h) (refuses h NoSuch a) (λ before i f. refreshing h n before i (target_by (setting (groups_of h) i) i.row.owner) a f)
 
 -- ---- boots
 
@@ -236,62 +199,122 @@ lasting h = persistent (groups_of h)
 abbrev pub all_after_boot : Holdings → List Instance
 all_after_boot h = map (booted (lasting h)) (instances h)
 
-abbrev BootOf : Holdings → Asked → Type 0
-BootOf h a = is_revised h (installed h a.changes) ≡ true → instances (installed h a.changes) ≡ all_after_boot h
+abbrev front : Holdings → List Change
+front h = map relaunched h.launches ++ (kept_of_services h.services ++ kept_of_instances h.instances)
 
-no_boot : (h : Holdings) → BootOf h (refused Limit)
-unfolding installed
-no_boot h e = absurd (same_revision h.revision e)
+front_elsewhere : (h : Holdings) → Elsewhere (front h)
+front_elsewhere h = relaunches h.launches _ (services_keep h.services _ (instances_keep h.instances))
 
-boots : (h : Holdings) → AreApart (instances h) → BootOf h (asked_boot h)
+booting_leaves : (h : Holdings) → AreApart (instances h) → instances (installed h (booting h)) ≡ all_after_boot h
+booting_leaves h a = put_all_behind (booted (lasting h)) h (front h) (instances h) (front_elsewhere h) ∙ put_all (lasting h) (instances h) a
+
+silent_elsewhere : (h : Holdings) (cs ds : List Change) → Elsewhere cs → shown_of h (cs ++ ds) ≡ shown_of h ds
+silent_elsewhere h [] ds out = refl
+silent_elsewhere h (AddService s ∷ cs) ds out = silent_elsewhere h cs ds out
+silent_elsewhere h (DropService s ∷ cs) ds out = silent_elsewhere h cs ds out
+silent_elsewhere h (PutGroups o gs ∷ cs) ds out = silent_elsewhere h cs ds out
+silent_elsewhere h (PutLaunch l ∷ cs) ds out = silent_elsewhere h cs ds out
+silent_elsewhere h (c ∷ cs) ds out = absurd out
+
+shows_each : (h : Holdings) (gs : Groups) (is : List Instance) → AreFound (instances h) is → shown_of h (map (λ (i : Instance). PutInstance (booted gs i)) is) ≡ map row_item (map (booted gs) is)
+shows_each h gs [] a = refl
+shows_each h gs (i ∷ is) a =
+    ap (λ (o : Option Item). cons_option o (shown_of h (map (λ (j : Instance). PutInstance (booted gs j)) is))) (next_over (instance h i.number) i (booted gs i) a.0 refl)
+    ∙ ap (λ (xs : List Item). row_item (booted gs i) ∷ xs) (shows_each h gs is a.1)
+
+shows_booting : (h : Holdings) → AreApart (instances h) → Shows h (booting h) (after h (booting h))
+shows_booting h a =
+    silent_elsewhere h (front h) (map (λ (i : Instance). PutInstance (booted (lasting h) i)) (instances h)) (front_elsewhere h)
+    ∙ (shows_each h (lasting h) (instances h) (found_all (instances h) a)
+    ∙ sym (ap (λ (xs : List Instance). map row_item (filter (is_committed h) xs)) (booting_leaves h a) ∙ ap (map row_item) (all_booted h (lasting h) a)))
+
+boots : (h : Holdings) → AreApart (instances h) → ShowsOf h (asked_boot h)
 unfolding asked_boot
-boots h a = by (may_not_boot h)
-  where
-    front : List Change
-    front = map relaunched h.launches ++ (kept_of_services h.services ++ kept_of_instances h.instances)
-
-    within : (b : Bool) → BootOf h (if b then (record { changes = booting h ++ SetRevision (h.revision + 1) ∷ []; reply = Done }) else refused Limit)
-    within true e =
-        ap (λ (k : Holdings). bare k.instances) (installed_closed h (booting h) (h.revision + 1))
-        ∙ (put_all_behind (booted (lasting h)) h front (instances h) (relaunches h.launches _ (services_keep h.services _ (instances_keep h.instances)))
-        ∙ put_all (lasting h) (instances h) a)
-    within false e = no_boot h e
-
-    by : (b : Bool) → BootOf h (if b then refused Limit else accepted h (booting h) Done)
-    by true = no_boot h
-    by false = within (nat_lt h.revision greatest)
-
-pub boot_leaves : (h : Holdings) → AreApart (instances h) → is_revised h (next h commands.Boot).0 ≡ true → instances (next h commands.Boot).0 ≡ all_after_boot h
-unfolding next asked
-boot_leaves h a e = boots h a e
-
-shows_boot : (h k : Holdings) (r : Reply) → AreApart (instances h) → instances k ≡ all_after_boot h → Shows h commands.Boot k r
-unfolding view
-shows_boot h k r a e =
-    append-nil _
-    ∙ (ap (λ (xs : List Item). items.Boot ∷ xs) (booted_items h (lasting h) (instances h))
-    ∙ sym (ap (λ (xs : List Instance). items.Boot ∷ map row_item (filter (is_committed h) xs)) e ∙ ap (λ (xs : List Instance). items.Boot ∷ map row_item xs) (all_booted h (lasting h) a)))
+boots h a = either h (may_not_boot h) _ _ (refuses h Limit a) (accepts h (booting h) Done a (shows_booting h a))
 
 -- ---- the whole
 
-plain : (h : Holdings) (c : Command) → is_plain c ≡ true → IsNumbered h → [] ≡ map row_item (filter (is_committed h) (instances (next h c).0))
-plain h c p numbered = sym (ap (map row_item) (none_committed h c p (apart h numbered)))
+plain : (h : Holdings) (c : Command) → is_plain c ≡ true → IsNumbered h → ShowsOf h (asked h c)
+unfolding next
+plain h c p numbered = (says_nothing h c p).shown ∙ sym (ap (map row_item) (none_committed h c p (apart h numbered)))
 
-pub shown : (h : Holdings) (c : Command) → IsNumbered h → is_revised h (next h c).0 ≡ true → items_of h c (next h c) ≡ made_items c h (next h c).0
-unfolding next asked asked_edit
-shown h (commands.Edit (asked_for.AddInstance s name)) numbered e = add_instance h s name (service h s) numbered e
-shown h (commands.Edit (asked_for.Refresh n)) numbered e = refresh h n (apart h numbered) e
-shown h (commands.Edit (asked_for.AddService name)) numbered e = plain h (commands.Edit (asked_for.AddService name)) refl numbered
-shown h (commands.Edit (asked_for.DeleteService name)) numbered e = plain h (commands.Edit (asked_for.DeleteService name)) refl numbered
-shown h (commands.Edit (asked_for.DeleteInstance n)) numbered e = plain h (commands.Edit (asked_for.DeleteInstance n)) refl numbered
-shown h (commands.Edit (asked_for.AddGroup owner name group_type p)) numbered e = plain h (commands.Edit (asked_for.AddGroup owner name group_type p)) refl numbered
-shown h (commands.Edit (asked_for.DeleteGroup owner name)) numbered e = plain h (commands.Edit (asked_for.DeleteGroup owner name)) refl numbered
-shown h (commands.Edit (asked_for.Property owner name change)) numbered e = plain h (commands.Edit (asked_for.Property owner name change)) refl numbered
-shown h (commands.Edit (asked_for.Enable n b temporary)) numbered e = plain h (commands.Edit (asked_for.Enable n b temporary)) refl numbered
-shown h (commands.Edit (asked_for.Restart n)) numbered e = plain h (commands.Edit (asked_for.Restart n)) refl numbered
-shown h (commands.Edit (asked_for.Clear n)) numbered e = plain h (commands.Edit (asked_for.Clear n)) refl numbered
-shown h (commands.Edit (asked_for.Mark n mark)) numbered e = plain h (commands.Edit (asked_for.Mark n mark)) refl numbered
-shown h (commands.Edit (asked_for.Revert n name)) numbered e = plain h (commands.Edit (asked_for.Revert n name)) refl numbered
-shown h (commands.Propose p) numbered e = answers h p (apart h numbered) e
-shown h (commands.Launch name) numbered e = plain h (commands.Launch name) refl numbered
-shown h commands.Boot numbered e = shows_boot h (next h commands.Boot).0 (next h commands.Boot).1 (apart h numbered) (boot_leaves h (apart h numbered) e)
+-- what the changes of a command show is what is new after them, or has another number
+pub shown : (h : Holdings) (c : Command) → IsNumbered h → shown_of h (asked h c).changes ≡ new_rows h (installed h (asked h c).changes)
+unfolding asked asked_edit
+shown h (commands.Edit (asked_for.AddInstance s name)) numbered = add_instance h name (service h s) numbered
+shown h (commands.Edit (asked_for.Refresh n)) numbered = refresh h n (apart h numbered)
+shown h (commands.Edit (asked_for.AddService name)) numbered = plain h (commands.Edit (asked_for.AddService name)) refl numbered
+shown h (commands.Edit (asked_for.DeleteService name)) numbered = plain h (commands.Edit (asked_for.DeleteService name)) refl numbered
+shown h (commands.Edit (asked_for.DeleteInstance n)) numbered = plain h (commands.Edit (asked_for.DeleteInstance n)) refl numbered
+shown h (commands.Edit (asked_for.AddGroup owner name group_type p)) numbered = plain h (commands.Edit (asked_for.AddGroup owner name group_type p)) refl numbered
+shown h (commands.Edit (asked_for.DeleteGroup owner name)) numbered = plain h (commands.Edit (asked_for.DeleteGroup owner name)) refl numbered
+shown h (commands.Edit (asked_for.Property owner name change)) numbered = plain h (commands.Edit (asked_for.Property owner name change)) refl numbered
+shown h (commands.Edit (asked_for.Enable n b temporary)) numbered = plain h (commands.Edit (asked_for.Enable n b temporary)) refl numbered
+shown h (commands.Edit (asked_for.Restart n)) numbered = plain h (commands.Edit (asked_for.Restart n)) refl numbered
+shown h (commands.Edit (asked_for.Clear n)) numbered = plain h (commands.Edit (asked_for.Clear n)) refl numbered
+shown h (commands.Edit (asked_for.Mark n mark)) numbered = plain h (commands.Edit (asked_for.Mark n mark)) refl numbered
+shown h (commands.Edit (asked_for.Revert n name)) numbered = plain h (commands.Edit (asked_for.Revert n name)) refl numbered
+shown h (commands.Propose p) numbered = answers h p (apart h numbered)
+shown h (commands.Launch name) numbered = plain h (commands.Launch name) refl numbered
+shown h commands.Boot numbered = boots h (apart h numbered)
+
+-- ---- a command that makes changes
+
+abbrev pub AreMade : List Change → Type 0
+AreMade [] = ⊥
+AreMade (x ∷ xs) = Unit {0}
+
+boots_once : (c : Command) (cs : List Change) → AreMade cs → boot_items c cs ≡ boot_alone c
+boots_once (commands.Edit e) (x ∷ xs) m = refl
+boots_once (commands.Propose p) (x ∷ xs) m = refl
+boots_once (commands.Launch name) (x ∷ xs) m = refl
+boots_once commands.Boot (x ∷ xs) m = refl
+boots_once c [] m = absurd m
+
+pub items_made : (h : Holdings) (c : Command) → IsNumbered h → AreMade (asked h c).changes → items_of h c (asked h c).changes ≡ made_items c h (next h c).0
+unfolding items_of next
+items_made h c numbered m =
+    ap (λ (xs : List Item). xs ++ shown_of h (asked h c).changes) (boots_once c (asked h c).changes m)
+    ∙ ap (λ (xs : List Item). boot_alone c ++ xs) (shown h c numbered)
+
+pub no_items : (h : Holdings) (c : Command) → items_of h c [] ≡ []
+unfolding items_of
+no_items h (commands.Edit e) = refl
+no_items h (commands.Propose p) = refl
+no_items h (commands.Launch name) = refl
+no_items h commands.Boot = refl
+
+abbrev BootOf : Holdings → Asked → Type 0
+BootOf h a = AreMade a.changes → instances (installed h a.changes) ≡ all_after_boot h
+
+boot_of : (h : Holdings) → AreApart (instances h) → BootOf h (asked_boot h)
+unfolding asked_boot
+boot_of h a = by (may_not_boot h)
+  where
+    within : (b : Bool) → BootOf h (if b then (record { changes = booting h ++ SetRevision (h.revision + 1) ∷ []; reply = Done }) else refused Limit)
+    within true m = ap (λ (k : Holdings). bare k.instances) (installed_closed h (booting h) (h.revision + 1)) ∙ booting_leaves h a
+    within false m = absurd m
+
+    by : (b : Bool) → BootOf h (if b then refused Limit else accepted h (booting h) Done)
+    by true = λ m. absurd m
+    by false = within (nat_lt h.revision greatest)
+
+pub boot_leaves : (h : Holdings) → AreApart (instances h) → AreMade (asked h commands.Boot).changes → instances (next h commands.Boot).0 ≡ all_after_boot h
+unfolding next asked
+boot_leaves h a m = boot_of h a m
+
+-- what raises the revision makes changes
+unmade : (h : Holdings) (cs : List Change) → cs ≡ [] → (installed h cs).revision ≡ h.revision
+unfolding installed
+unmade h cs e = ap (λ (ds : List Change). (installed h ds).revision) e
+
+pub made_something : (h : Holdings) (c : Command) → (next h c).0.revision ≡ h.revision + 1 → AreMade (asked h c).changes
+unfolding next
+made_something h c e = by (asked h c).changes refl
+  where
+    more : (n : ℕ) → n ≡ n + 1 → ⊥
+    more n e = omega arith
+
+    by : (cs : List Change) → (asked h c).changes ≡ cs → AreMade cs
+    by [] f = absurd (more h.revision (sym (unmade h (asked h c).changes f) ∙ e))
+    by (x ∷ xs) f = tt

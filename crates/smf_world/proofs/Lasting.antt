@@ -1,25 +1,28 @@
--- What each command keeps, each event keeps.
-use Rattle.std.proofs.Common.{◌==◌, Bool, true, false, List, [], ◌∷◌, ℕ, Option, Some, None, sym, subst}
+-- What each command that is accepted keeps, each event keeps.
+use Rattle.std.proofs.Common.{◌≡◌, List, [], ◌∷◌, ◌++◌, refl, sym, ap, ◌∙◌, subst}
+use Rattle.smf_model.specs.declared.change.Change.{Change}
 use Rattle.smf_model.specs.declared.command.Command.{Command}
 use Rattle.smf_model.specs.declared.command.Command.TheVariants as commands
-use Rattle.smf_model.specs.declared.command.Reply.{Reply as Answer}
-use Rattle.smf_model.specs.declared.command.Reply.TheVariants as answers
+use Rattle.smf_model.specs.declared.command.Reply.{Reply as CommandReply}
+use Rattle.smf_model.specs.declared.command.Reply.TheVariants as replies
 use Rattle.smf_model.specs.History.{History}
 use Rattle.smf_model.specs.Holdings.{Holdings}
-use Rattle.smf_model.specs.Look.{launch_of}
-use Rattle.smf_wire.specs.declared.message.Message.{Message}
-use Rattle.smf_wire.specs.declared.message.Message.TheVariants as messages
-use Rattle.smf_restarter.specs.declared.reply.Reply.{Reply}
-use Rattle.smf_restarter.specs.Knowledge.{Knowledge}
-use Rattle.smf_restarter.specs.Replies.{heard}
+use Rattle.smf_model.specs.Laws.{IsNumbered}
+use Rattle.smf_model.specs.Look.{installed}
+use Rattle.smf_model.specs.Next.{asked, next}
 use Rattle.smf_world.specs.declared.event.Event.{Event}
 use Rattle.smf_world.specs.declared.event.Event.TheVariants as events
 use Rattle.smf_world.specs.declared.item.Item.{Item}
-use Rattle.smf_world.specs.Happens.{answer, begun_by, booted_as, committed, delivered, delivered_if, happens, joined, launched_as, replied, restarter, said_if, sent_at, tick_reply, ticked_at, told}
+use Rattle.smf_world.specs.declared.work.Work.{Work}
+use Rattle.smf_world.specs.Happens.{done, happens}
+use Rattle.smf_world.specs.Items.{items_of}
 use Rattle.smf_world.specs.Runs.{run}
-use Rattle.smf_world.specs.Safe.{commits}
+use Rattle.smf_world.specs.Safe.{commits, made_items}
+use Rattle.smf_world.specs.Worked.{accepted, booted_as, commanded, worked}
 use Rattle.smf_world.specs.World.{World}
-use Rattle.smf_world.proofs.Noting.{begun_others, others_noted, taken_others}
+use Rattle.smf_world.proofs.ItemsMade.{AreMade, items_made, no_items}
+use Rattle.smf_world.proofs.Noting.{commits_noted, made_commit, noted, others_noted}
+use Rattle.smf_world.proofs.Walked.{IsWalked, gives, still, walked}
 
 -- a fact of the history, of what is held, and of the commits of the trail
 abbrev pub Fact : Type 1
@@ -28,66 +31,75 @@ Fact = History → Holdings → List Item → Type 0
 abbrev pub Of : Fact → World → Type 0
 Of P w = P w.history w.now (commits w.trail)
 
-abbrev pub IsKept : Fact → Type 0
-IsKept P = (w : World) (c : Command) → Of P w → Of P (committed w c).0
+-- behind one command more, which made a revision
+abbrev pub Behind : Fact → History → Holdings → Command → List Item → Type 0
+Behind P y h c t = P (record y { past = c ∷ y.past }) (next h c).0 (noted (made_items c h (next h c).0) t)
 
-pub of_reply : (P : Fact) (w : World) (k : Knowledge) (r : Reply) → Of P w → Of P (replied w k r)
-unfolding replied
-of_reply P w k r f = subst (P w.history w.now) (sym (others_noted _ w.trail (taken_others k r.taken (begun_by r.action) (begun_others r.action)))) f
+-- it speaks of values that are numbered, and each command that makes changes keeps it
+pub record IsKept (P : Fact) : Type 0 where
+  pub numbered : (y : History) (h : Holdings) (t : List Item) → P y h t → IsNumbered h
+  pub kept : (y : History) (h : Holdings) (c : Command) (t : List Item) → AreMade (asked h c).changes → P y h t → Behind P y h c t
 
-of_told : (P : Fact) (m : Message) (w : World) (o : Option Knowledge) → Of P w → Of P (told m w o)
-of_told P m w None f = f
-of_told P m w (Some k) f = of_reply P w k (heard k m) f
+-- behind these changes, commands and items
+abbrev pub After : Fact → World → List Change → List Command → List Item → Type 0
+After P w cs past items = P (record w.history { past = past ++ w.history.past }) (installed w.now cs) (commits (noted items w.trail))
 
-of_ticked : (P : Fact) (n : ℕ) (w : World) (o : Option Knowledge) → Of P w → Of P (ticked_at n w o)
-of_ticked P n w None f = f
-of_ticked P n w (Some k) f = of_reply P w k (tick_reply k n) f
+of_still : (P : Fact) (w : World) (items : List Item) → commits (noted items w.trail) ≡ commits w.trail → Of P w → After P w [] [] items
+unfolding installed
+of_still P w items e f = subst (P w.history w.now) (sym e) f
 
-of_joined : (P : Fact) (w : World) (name : List ℕ) (launch : ℕ) (b : Bool) → Of P w → Of P (joined w name launch b)
-of_joined P w name launch true f = f
-of_joined P w name launch false f = f
+-- a command that is accepted
+pub of_made : (P : Fact) (w : World) (c : Command) → IsNumbered w.now → AreMade (asked w.now c).changes → Behind P w.history w.now c (commits w.trail)
+    → After P w (asked w.now c).changes (accepted c (asked w.now c).changes) (items_of w.now c (asked w.now c).changes)
+unfolding next
+of_made P w c numbered m f =
+    let cs : List Change = (asked w.now c).changes in
+    let shows : commits (noted (items_of w.now c cs) w.trail) ≡ noted (made_items c w.now (next w.now c).0) (commits w.trail) =
+    ap (λ (xs : List Item). commits (noted xs w.trail)) (items_made w.now c numbered m)
+    ∙ commits_noted (made_items c w.now (next w.now c).0) w.trail (made_commit c w.now (next w.now c).0) in
+    subst (λ (past : List Command). P (record w.history { past = past ++ w.history.past }) (installed w.now cs) (commits (noted (items_of w.now c cs) w.trail))) (sym (taken cs m))
+    (subst (P (record w.history { past = c ∷ w.history.past }) (installed w.now cs)) (sym shows) f)
+  where
+    taken : (cs : List Change) → AreMade cs → accepted c cs ≡ c ∷ []
+    taken [] m = absurd m
+    taken (x ∷ xs) m = refl
 
-of_said : (P : Fact) (w : World) (o : Option Message) → Of P w → Of P (said_if w o)
-of_said P w None f = f
-of_said P w (Some m) f = f
+-- a command
+pub of_command : (P : Fact) → IsKept P → (w : World) (c : Command) → Of P w → After P w (asked w.now c).changes (accepted c (asked w.now c).changes) (items_of w.now c (asked w.now c).changes)
+of_command P k w c f = by (asked w.now c).changes refl
+  where
+    made : AreMade (asked w.now c).changes → After P w (asked w.now c).changes (accepted c (asked w.now c).changes) (items_of w.now c (asked w.now c).changes)
+    made m = of_made P w c (k.numbered w.history w.now (commits w.trail) f) m (k.kept w.history w.now c (commits w.trail) m f)
 
-of_delivered : (P : Fact) → IsKept P → (w : World) (m : Message) → Of P w → Of P (delivered w m)
-unfolding delivered
-of_delivered P kept w (messages.Join name launch) f = of_joined P w name launch (launch == launch_of w.now name) f
-of_delivered P kept w (messages.Rows name launch rows) f = of_told P _ w (restarter w name) f
-of_delivered P kept w (messages.Propose p) f = of_said P (committed w (commands.Propose p)).0 (answer p (committed w (commands.Propose p)).1) (kept w (commands.Propose p) f)
-of_delivered P kept w (messages.Ack name launch serial i row) f = of_told P _ w (restarter w name) f
-of_delivered P kept w (messages.Nack name launch serial i why row) f = of_told P _ w (restarter w name) f
-of_delivered P kept w messages.AskView f = f
-of_delivered P kept w (messages.View v) f = f
-of_delivered P kept w (messages.Order o) f = of_told P _ w (restarter w o.restarter) f
+    by : (cs : List Change) → (asked w.now c).changes ≡ cs → After P w cs (accepted c cs) (items_of w.now c cs)
+    by [] e = of_still P w (items_of w.now c []) (ap (λ (xs : List Item). commits (noted xs w.trail)) (no_items w.now c)) f
+    by (x ∷ xs) e = subst (λ (cs : List Change). After P w cs (accepted c cs) (items_of w.now c cs)) e (made (subst AreMade (sym e) tt))
 
-of_sent : (P : Fact) → IsKept P → (w : World) (o : Option Message) → Of P w → Of P (delivered_if w o)
-of_sent P kept w None f = f
-of_sent P kept w (Some m) f = of_delivered P kept w m f
-
-of_launched : (P : Fact) (name : List ℕ) (w : World) (a : Answer) → Of P w → Of P (launched_as name w a)
-of_launched P name w (answers.Made launch) f = f
-of_launched P name w _ f = f
-
-pub of_booted : (P : Fact) (w : World) (a : Answer) → Of P w → Of P (booted_as w a)
-of_booted P w answers.Done f = f
-of_booted P w _ f = f
+of_walk : (P : Fact) → IsKept P → (w : World) (cs : List Change) (past : List Command) (items : List Item) → IsWalked w.now cs past items → Of P w → After P w cs past items
+of_walk P k w cs past items (still e d a) f =
+    subst (λ (xs : List Change). After P w xs past items) (sym e)
+    (subst (λ (xs : List Command). After P w [] xs items) (sym d) (of_still P w items (others_noted items w.trail a) f))
+of_walk P k w cs past items (gives c e d a) f =
+    subst (λ (xs : List Change). After P w xs past items) (sym e)
+    (subst (λ (xs : List Command). After P w (asked w.now c).changes xs items) (sym d)
+    (subst (λ (xs : List Item). After P w (asked w.now c).changes (accepted c (asked w.now c).changes) xs) (sym a) (of_command P k w c f)))
 
 pub of_event : (P : Fact) → IsKept P → (w : World) (e : Event) → Of P w → Of P (happens w e)
-unfolding happens
-of_event P kept w (events.Deliver place) f = of_sent P kept w (sent_at w place) f
-of_event P kept w (events.Client edit) f = kept w (commands.Edit edit) f
-of_event P kept w events.Ask f = f
-of_event P kept w events.Orders f = f
-of_event P kept w (events.Tick name n spawn) f = of_ticked P n w (restarter w name) f
-of_event P kept w (events.Process process what) f = f
-of_event P kept w (events.Report contract number) f = f
-of_event P kept w (events.Timeout name n) f = f
-of_event P kept w (events.Crash name) f = f
-of_event P kept w (events.Launch name) f = of_launched P name (committed w (commands.Launch name)).0 (committed w (commands.Launch name)).1 (kept w (commands.Launch name) f)
-of_event P kept w events.Boot f = of_booted P (committed w commands.Boot).0 (committed w commands.Boot).1 (kept w commands.Boot f)
+unfolding happens done
+of_event P k w e f = of_walk P k w (worked w e).changes (worked w e).command (worked w e).items (walked w e) f
 
 pub of_run : (P : Fact) → IsKept P → (es : List Event) (w : World) → Of P w → Of P (run es w)
-of_run P kept [] w f = f
-of_run P kept (e ∷ es) w f = of_run P kept es (happens w e) (of_event P kept w e f)
+of_run P k [] w f = f
+of_run P k (e ∷ es) w f = of_run P k es (happens w e) (of_event P k w e f)
+
+-- ---- a boot that is accepted
+
+of_booted : (P : Fact) (w : World) (k : Work) (rs : List CommandReply) → After P w k.changes k.command k.items → Of P (done w (booted_as k rs))
+unfolding done
+of_booted P w k [] f = f
+of_booted P w k (replies.Done ∷ rs) f = f
+of_booted P w k (r ∷ rs) f = f
+
+pub of_boot : (P : Fact) (w : World) → IsNumbered w.now → AreMade (asked w.now commands.Boot).changes → Behind P w.history w.now commands.Boot (commits w.trail) → Of P (happens w events.Boot)
+unfolding happens worked commanded
+of_boot P w numbered m f = of_booted P w (commanded w commands.Boot) (commanded w commands.Boot).reply (of_made P w commands.Boot numbered m f)

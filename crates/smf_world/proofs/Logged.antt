@@ -1,76 +1,65 @@
--- What the trail shows as committed is what the history is.
-use Rattle.std.proofs.Common.{◌≡◌, ◌⊎◌, ℕ, ◌+◌, ◌==◌, not, Bool, true, false, List, refl, ap, ◌∙◌, inl, inr, arith}
-use Rattle.std.proofs.lemmas.Bool.Decides.{nat_tests}
+-- What the trail shows as committed is what the history is, and what an event changes is what its work says.
+use Rattle.std.proofs.Common.{◌≡◌, List, [], refl, sym, ap, ◌∙◌, subst}
+use Rattle.smf_model.specs.declared.change.Change.{Change}
 use Rattle.smf_model.specs.declared.command.Command.{Command}
-use Rattle.smf_model.specs.History.{is_revised, made}
+use Rattle.smf_model.specs.History.{made}
 use Rattle.smf_model.specs.Holdings.{Holdings}
 use Rattle.smf_model.specs.Laws.{IsNumbered}
-use Rattle.smf_model.specs.Next.{next}
+use Rattle.smf_model.specs.Look.{installed}
+use Rattle.smf_model.specs.Next.{asked, next}
 use Rattle.smf_model.proofs.LawNumbers.{stays_numbered}
-use Rattle.smf_model.proofs.LawOutcomes.{one_revision}
 use Rattle.smf_world.specs.declared.event.Event.{Event}
 use Rattle.smf_world.specs.declared.item.Item.{Item}
-use Rattle.smf_world.specs.Happens.{committed, happens, items_of, noted, revised}
+use Rattle.smf_world.specs.Happens.{done, happens}
 use Rattle.smf_world.specs.Runs.{run}
-use Rattle.smf_world.specs.Safe.{CommitsFollowHistory, commits, commits_of, made_items}
+use Rattle.smf_world.specs.Safe.{CommitsFollowHistory, commits_of, made_items}
+use Rattle.smf_world.specs.Worked.{worked}
 use Rattle.smf_world.specs.World.{World, found}
-use Rattle.smf_world.proofs.ItemsMade.{shown}
 use Rattle.smf_world.proofs.Lasting.{Fact, IsKept, Of, of_event, of_run}
-use Rattle.smf_world.proofs.Noting.{commits_noted, made_commit}
-
-differ : (m n : ℕ) → m ≡ n + 1 → not (m == n) ≡ false → ⊥
-differ m n e f = grind (arith, nat_tests)
-
-stays_by : (h k : Holdings) → (k ≡ h) ⊎ (k.revision ≡ h.revision + 1) → is_revised h k ≡ false → k ≡ h
-stays_by h k (inl e) f = e
-stays_by h k (inr e) f = absurd (differ k.revision h.revision e f)
-
--- a command that makes no revision leaves what is held
-pub stays : (h : Holdings) (c : Command) → is_revised h (next h c).0 ≡ false → (next h c).0 ≡ h
-stays h c e = stays_by h (next h c).0 (one_revision h c) e
-
--- the commits of a trail after a command that makes a revision
-pub commits_shown : (w : World) (c : Command) → IsNumbered w.now → is_revised w.now (next w.now c).0 ≡ true → commits (noted (items_of w.now c (next w.now c)) w.trail) ≡ noted (made_items c w.now (next w.now c).0) (commits w.trail)
-commits_shown w c numbered e =
-    ap (λ (xs : List Item). commits (noted xs w.trail)) (shown w.now c numbered e)
-    ∙ commits_noted (made_items c w.now (next w.now c).0) w.trail (made_commit c w.now (next w.now c).0)
+use Rattle.smf_world.proofs.Noting.{noted}
+use Rattle.smf_world.proofs.Walked.{IsWalked, gives, still, walked}
 
 -- ---- numbers
 
-abbrev Numbered : Fact
-Numbered y h t = IsNumbered h
+numbered_none : (h : Holdings) → IsNumbered h → IsNumbered (installed h [])
+unfolding installed
+numbered_none h n = n
 
-numbered_by : (w : World) (c : Command) (b : Bool) → IsNumbered w.now → IsNumbered (revised w c (next w.now c) b).now
-numbered_by w c true n = stays_numbered w.now c n
-numbered_by w c false n = stays_numbered w.now c n
+numbered_next : (h : Holdings) (c : Command) → IsNumbered h → IsNumbered (installed h (asked h c).changes)
+unfolding next
+numbered_next h c n = stays_numbered h c n
 
-numbered_kept : IsKept Numbered
-unfolding committed
-numbered_kept w c n = numbered_by w c (is_revised w.now (next w.now c).0) n
+numbered_by : (h : Holdings) (cs : List Change) (past : List Command) (items : List Item) → IsWalked h cs past items → IsNumbered h → IsNumbered (installed h cs)
+numbered_by h cs past items (still e d a) n = subst (λ (xs : List Change). IsNumbered (installed h xs)) (sym e) (numbered_none h n)
+numbered_by h cs past items (gives c e d a) n = subst (λ (xs : List Change). IsNumbered (installed h xs)) (sym e) (numbered_next h c n)
+
+pub changes_numbered : (w : World) (e : Event) → IsNumbered w.now → IsNumbered (installed w.now (worked w e).changes)
+changes_numbered w e n = numbered_by w.now (worked w e).changes (worked w e).command (worked w e).items (walked w e) n
+
+pub changes_made : (w : World) (e : Event) → (happens w e).now ≡ installed w.now (worked w e).changes
+unfolding happens done
+changes_made w e = refl
 
 pub numbered : (w : World) (e : Event) → IsNumbered w.now → IsNumbered (happens w e).now
-numbered w e n = of_event Numbered numbered_kept w e n
+unfolding happens done
+numbered w e n = changes_numbered w e n
 
 -- ---- commits
 
 abbrev Logged : Fact
 Logged y h t = IsNumbered h × (h ≡ made y.first y.past) × (t ≡ commits_of y.first y.past)
 
-logged_by : (w : World) (c : Command) (b : Bool) → is_revised w.now (next w.now c).0 ≡ b → Of Logged w → Of Logged (revised w c (next w.now c) b)
-logged_by w c true e l =
-    let first = w.history.first in
-    let past = w.history.past in (
-      stays_numbered w.now c l.0,
-      ap (λ (h : Holdings). (next h c).0) l.1,
-      commits_shown w c l.0 e
-          ∙ (ap (noted (made_items c w.now (next w.now c).0)) l.2
-          ∙ ap (λ (h : Holdings). noted (made_items c h (next h c).0) (commits_of first past)) l.1),
-    )
-logged_by w c false e l = (stays_numbered w.now c l.0, stays w.now c e ∙ l.1, l.2)
-
 logged_kept : IsKept Logged
-unfolding committed
-logged_kept w c l = logged_by w c (is_revised w.now (next w.now c).0) refl l
+logged_kept =
+    record {
+      numbered = λ y h t l. l.0;
+      kept = λ y h c t m l. (
+        stays_numbered h c l.0,
+        ap (λ (k : Holdings). (next k c).0) l.1,
+        ap (noted (made_items c h (next h c).0)) l.2
+            ∙ ap (λ (k : Holdings). noted (made_items c k (next k c).0) (commits_of y.first y.past)) l.1,
+      );
+    }
 
 follows : (w : World) → Of Logged w → CommitsFollowHistory w
 follows w l = record { newest = l.1; commits = l.2 }

@@ -7,21 +7,30 @@ use Rattle.smf_model.specs.declared.command.Command.TheVariants as commands
 use Rattle.smf_model.specs.declared.held.Instance.{Instance}
 use Rattle.smf_model.specs.Holdings.{Holdings}
 use Rattle.smf_model.specs.Look.{instances}
-use Rattle.smf_wire.specs.declared.message.Known.{Known}
-use Rattle.smf_restarter.specs.declared.reply.Action.{Action}
-use Rattle.smf_restarter.specs.declared.reply.Action.TheVariants as actions
-use Rattle.smf_restarter.specs.Knowledge.{Knowledge}
 use Rattle.smf_world.specs.declared.item.Item.{Item}
-use Rattle.smf_world.specs.Happens.{begun_by, held_item, noted}
-use Rattle.smf_world.specs.Safe.{commits, is_commit, is_committed, made_items, row_item}
+use Rattle.smf_world.specs.Items.{row_item}
+use Rattle.smf_world.specs.Safe.{commits, is_commit, is_committed, made_items}
+
+-- these items, in order, put on a trail
+abbrev pub noted : List Item → List Item → List Item
+noted items trail = reverse items ++ trail
 
 pub noted_more : (x : Item) (xs trail : List Item) → noted (x ∷ xs) trail ≡ noted xs (x ∷ trail)
 noted_more x xs trail = ap (λ (ys : List Item). ys ++ trail) (reverse_onto xs x []) ∙ append_assoc (reverse xs) (x ∷ []) trail
+
+pub noted_both : (xs ys trail : List Item) → noted (xs ++ ys) trail ≡ noted ys (noted xs trail)
+noted_both [] ys trail = refl
+noted_both (x ∷ xs) ys trail =
+    noted_more x (xs ++ ys) trail ∙ (noted_both xs ys (x ∷ trail) ∙ ap (noted ys) (sym (noted_more x xs trail)))
 
 -- each of these is a commit, or none is
 abbrev pub AllCommit : Bool → List Item → Type 0
 AllCommit b [] = Unit {0}
 AllCommit b (x ∷ xs) = (is_commit x ≡ b) × AllCommit b xs
+
+pub both_commit : (b : Bool) (xs ys : List Item) → AllCommit b xs → AllCommit b ys → AllCommit b (xs ++ ys)
+both_commit b [] ys a d = d
+both_commit b (x ∷ xs) ys a d = (a.0, both_commit b xs ys a.1 d)
 
 pub commits_noted : (xs trail : List Item) → AllCommit true xs → commits (noted xs trail) ≡ noted xs (commits trail)
 commits_noted [] trail a = refl
@@ -47,11 +56,3 @@ made_commit (commands.Edit e) h k = rows_commit (filter (is_committed h) (instan
 made_commit (commands.Propose p) h k = rows_commit (filter (is_committed h) (instances k))
 made_commit (commands.Launch name) h k = rows_commit (filter (is_committed h) (instances k))
 made_commit commands.Boot h k = (refl, rows_commit (filter (is_committed h) (instances k)))
-
-pub begun_others : (a : Action) → AllCommit false (begun_by a)
-begun_others (actions.BuiltIn b) = (refl, tt)
-begun_others _ = tt
-
-pub taken_others : (k : Knowledge) (xs : List Known) (ys : List Item) → AllCommit false ys → AllCommit false (map (held_item k) xs ++ ys)
-taken_others k [] ys a = a
-taken_others k (x ∷ xs) ys a = (refl, taken_others k xs ys a)

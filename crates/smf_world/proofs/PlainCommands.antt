@@ -1,12 +1,12 @@
--- Commands that commit no row: no instance joins, and none changes its number.
-use Rattle.std.proofs.Common.{◌≡◌, ℕ, ◌+◌, ◌||◌, nat_lt, nat_le, not, Bool, true, false, if◌then◌else◌, List, [], ◌∷◌, ◌++◌, filter, Option, Some, None, Ok, Err, refl, sym, ap, ◌∙◌, subst, arith}
-use Rattle.std.specs.List.{list_any}
+-- Commands that commit no row: no instance joins, none changes its number, and the trail shows nothing.
+use Rattle.std.proofs.Common.{◌≡◌, ℕ, ◌+◌, ◌||◌, nat_lt, nat_le, not, Bool, true, false, if◌then◌else◌, List, [], ◌∷◌, ◌++◌, filter, Option, Some, None, option_map, Ok, Err, refl, sym, ap, ◌∙◌, subst, arith}
+use Rattle.std.specs.List.{cons_option, filter_map, list_any}
 use Rattle.smf_state.specs.declared.row.Row.{Row}
 use Rattle.smf_state.specs.Rows.{same_state}
 use Rattle.smf_state.specs.States.{runs}
 use Rattle.smf_state.specs.declared.state.State.TheVariants.{Online, Degraded, Maintenance}
 use Rattle.smf_model.specs.declared.change.Change.{Change}
-use Rattle.smf_model.specs.declared.change.Change.TheVariants.{AddService, DropService, PutInstance, PutGroups, AddSnapshot, PutLaunch, NextInstance, NextSnapshot, SetRevision}
+use Rattle.smf_model.specs.declared.change.Change.TheVariants.{AddService, DropService, AddInstance, PutInstance, PutGroups, AddSnapshot, PutLaunch, NextInstance, NextSnapshot, SetRevision}
 use Rattle.smf_model.specs.declared.command.Command.{Command}
 use Rattle.smf_model.specs.declared.command.Command.TheVariants as commands
 use Rattle.smf_model.specs.declared.command.Edit.{Edit}
@@ -24,10 +24,14 @@ use Rattle.smf_model.specs.declared.held.Snapshot.{Snapshot}
 use Rattle.smf_model.specs.Holdings.{Holdings}
 use Rattle.smf_model.specs.Laws.{AreApart, RowFollows, stays, steps, boots, moves}
 use Rattle.smf_fmri.specs.ByKey.{has_key}
-use Rattle.smf_model.specs.Look.{by_instance, changed, group, installed, instances, launch_of, service}
+use Rattle.smf_model.specs.Look.{by_instance, changed, group, groups_of, installed, instance, instances, launch_of, service}
+use Rattle.smf_model.specs.Setting.{current}
 use Rattle.smf_model.specs.Next.{Asked, greatest, greatest_snapshot, refused, accepted, found, asked_add_service, is_instance_of, asked_delete_service, is_in_use, leaving, asked_delete_instance, is_there, is_made, group_put, group_dropped, guarded, added_group, deleted_group, property_changed, put_or_denied, changed_group, enabling_of, enabled_for_good, enabled_for_now, asked_enable, asking, asked_if, asked_where, asked_restart, asked_clear, marked, asked_mark, with_snapshot, snapshot_of, number_of, named_snapshot, reverting, reverted_to, reverted, asked_revert, asked_edit, next_launch, asked_launch, asked, next}
-use Rattle.smf_model.proofs.LawOutcomes.{Outcome, nothing, goes, OfInstances, alike, joined, left, put, each, installed_closed, outcome}
+use Rattle.smf_model.proofs.LawOutcomes.{Found, Outcome, nothing, goes, OfInstances, alike, is_found, joined, left, put, each, installed_closed, outcome}
+use Rattle.smf_world.specs.declared.item.Item.{Item}
+use Rattle.smf_world.specs.Items.{change_item, row_over}
 use Rattle.smf_world.specs.Safe.{is_committed}
+use Rattle.smf_world.proofs.Showing.{not_shown, same_over}
 use Rattle.smf_world.proofs.CommitLists.{NonePass, none_kept, none_pass_filter, all_same, still_same}
 
 abbrev pub is_plain : Command → Bool
@@ -37,127 +41,159 @@ is_plain (commands.Edit e) = true
 is_plain (commands.Launch name) = true
 is_plain _ = false
 
--- ---- the number that comes next stays
+-- ---- the number that comes next stays, and no change shows an item
 
-abbrev Others : List Change → Type 0
-Others [] = Unit {0}
-Others (NextInstance n ∷ cs) = ⊥
-Others (c ∷ cs) = Others cs
+abbrev Others : Holdings → List Change → Type 0
+Others h [] = Unit {0}
+Others h (NextInstance n ∷ cs) = ⊥
+Others h (AddInstance e ∷ cs) = ⊥
+Others h (PutInstance i ∷ cs) = (row_over (instance h i.number) i ≡ None) × Others h cs
+Others h (c ∷ cs) = Others h cs
 
-keeps : (h : Holdings) (cs : List Change) → Others cs → (installed h cs).next_instance ≡ h.next_instance
+keeps : (g h : Holdings) (cs : List Change) → Others g cs → (installed h cs).next_instance ≡ h.next_instance
 unfolding installed
-keeps h [] o = refl
-keeps h (NextInstance n ∷ cs) o = absurd o
-keeps h (PutGroups (owners.Service s) gs ∷ cs) o = keeps (changed h (PutGroups (owners.Service s) gs)) cs o
-keeps h (PutGroups (owners.Instance n) gs ∷ cs) o = keeps (changed h (PutGroups (owners.Instance n) gs)) cs o
-keeps h (c ∷ cs) o = keeps (changed h c) cs o
+keeps g h [] o = refl
+keeps g h (NextInstance n ∷ cs) o = absurd o
+keeps g h (AddInstance e ∷ cs) o = absurd o
+keeps g h (PutInstance i ∷ cs) o = keeps g (changed h (PutInstance i)) cs o.1
+keeps g h (PutGroups (owners.Service s) gs ∷ cs) o = keeps g (changed h (PutGroups (owners.Service s) gs)) cs o
+keeps g h (PutGroups (owners.Instance n) gs ∷ cs) o = keeps g (changed h (PutGroups (owners.Instance n) gs)) cs o
+keeps g h (c ∷ cs) o = keeps g (changed h c) cs o
 
-abbrev pub KeepsNext : Holdings → Asked → Type 0
-KeepsNext h a = (installed h a.changes).next_instance ≡ h.next_instance
+silent : (h : Holdings) (cs : List Change) → Others h cs → filter_map (change_item h) cs ≡ []
+silent h [] o = refl
+silent h (NextInstance n ∷ cs) o = absurd o
+silent h (AddInstance e ∷ cs) o = absurd o
+silent h (PutInstance i ∷ cs) o = ap (λ (x : Option Item). cons_option x (filter_map (change_item h) cs)) o.0 ∙ silent h cs o.1
+silent h (c ∷ cs) o = silent h cs o
 
-refuses : (h : Holdings) (r : Reply) → KeepsNext h (refused r)
+pub record IsSilent (h : Holdings) (cs : List Change) : Type 0 where
+  pub next_one : (installed h cs).next_instance ≡ h.next_instance
+  pub shown : filter_map (change_item h) cs ≡ []
+
+abbrev pub Silent : Holdings → Asked → Type 0
+Silent h a = IsSilent h a.changes
+
+refuses : (h : Holdings) (r : Reply) → Silent h (refused r)
 unfolding installed
-refuses h r = refl
+refuses h r = record { next_one = refl; shown = refl }
 
-accepts : (h : Holdings) (cs : List Change) (r : Reply) → Others cs → KeepsNext h (accepted h cs r)
+accepts : (h : Holdings) (cs : List Change) (r : Reply) → Others h cs → Silent h (accepted h cs r)
 accepts h cs r o = by (nat_lt h.revision greatest)
   where
-    by : (b : Bool) → KeepsNext h (if b then (record { changes = cs ++ SetRevision (h.revision + 1) ∷ []; reply = r }) else refused Limit)
-    by true = ap (λ (k : Holdings). k.next_instance) (installed_closed h cs (h.revision + 1)) ∙ keeps h cs o
+    by : (b : Bool) → Silent h (if b then (record { changes = cs ++ SetRevision (h.revision + 1) ∷ []; reply = r }) else refused Limit)
+    by true =
+        record {
+          next_one = ap (λ (k : Holdings). k.next_instance) (installed_closed h cs (h.revision + 1)) ∙ keeps h h cs o;
+          shown = not_shown (change_item h) cs (SetRevision (h.revision + 1)) refl ∙ silent h cs o;
+        }
     by false = refuses h Limit
 
-either : (h : Holdings) (b : Bool) (x y : Asked) → KeepsNext h x → KeepsNext h y → KeepsNext h (if b then x else y)
+either : (h : Holdings) (b : Bool) (x y : Asked) → Silent h x → Silent h y → Silent h (if b then x else y)
 either h true x y p q = p
 either h false x y p q = q
 
-snaps : (h : Holdings) (i : Instance) (cs : List Change) (r : Reply) → Others cs → KeepsNext h (with_snapshot h i cs r)
+snaps : (h : Holdings) (i : Instance) (cs : List Change) (r : Reply) → Others h cs → Silent h (with_snapshot h i cs r)
 snaps h i cs r o = either h (nat_le h.next_snapshot greatest_snapshot) _ _ (accepts h (AddSnapshot (snapshot_of h i) ∷ NextSnapshot (h.next_snapshot + 1) ∷ cs) r o) (refuses h Limit)
 
-add_service : (h : Holdings) (name : List ℕ) (o : Option Service) → KeepsNext h (asked_add_service h name o)
+by_found : (h : Holdings) (n : ℕ) (ask : Option Instance → Asked) → Silent h (ask None) → ((before i : Instance) → Found h n before i → Silent h (ask (Some i))) → Silent h (ask (found h n))
+by_found h n ask none some = by (instance h n) refl
+  where
+    by : (o : Option Instance) → instance h n ≡ o → Silent h (ask (option_map (current (groups_of h)) o))
+    by None e = none
+    by (Some i) e = some i (current (groups_of h) i) (is_found h n i e)
+
+-- an instance put in its place with the number of its row shows nothing
+unchanged : (h : Holdings) (n : ℕ) (before i x : Instance) → Found h n before i → x.number ≡ i.number → x.row.number ≡ i.row.number → row_over (instance h x.number) x ≡ None
+unchanged h n before i x f e d =
+    let there : instance h x.number ≡ Some before = ap (instance h) (e ∙ f.is_number) ∙ f.is_there in
+    same_over (instance h x.number) before x there (d ∙ ap (λ (r : Row). r.number) f.reads.same)
+
+add_service : (h : Holdings) (name : List ℕ) (o : Option Service) → Silent h (asked_add_service h name o)
 add_service h name (Some s) = refuses h Exists
 add_service h name None = accepts h (AddService (record { name = name; groups = [] }) ∷ []) Done tt
 
-delete_service : (h : Holdings) (o : Option Service) → KeepsNext h (asked_delete_service h o)
+delete_service : (h : Holdings) (o : Option Service) → Silent h (asked_delete_service h o)
 delete_service h None = refuses h NoSuch
 delete_service h (Some s) = either h (list_any (is_instance_of s.name) (instances h)) _ _ (refuses h InUse) (accepts h (DropService s.name ∷ []) Done tt)
 
-delete_instance : (h : Holdings) (o : Option Instance) → KeepsNext h (asked_delete_instance h o)
+delete_instance : (h : Holdings) (o : Option Instance) → Silent h (asked_delete_instance h o)
 delete_instance h None = refuses h NoSuch
 delete_instance h (Some i) = either h (is_in_use i.row) _ _ (refuses h InUse) (accepts h (leaving i) Done tt)
 
-guards : (h : Holdings) (owner : Owner) (name : List ℕ) (a : Asked) → KeepsNext h a → KeepsNext h (guarded h owner name a)
+guards : (h : Holdings) (owner : Owner) (name : List ℕ) (a : Asked) → Silent h a → Silent h (guarded h owner name a)
 guards h owner name a o = either h (not (is_there h owner)) _ _ (refuses h NoSuch) (either h (is_made owner name) _ _ (refuses h InUse) o)
 
-add_group : (h : Holdings) (owner : Owner) (g : _) (o : _) → KeepsNext h (added_group h owner g o)
+add_group : (h : Holdings) (owner : Owner) (g : _) (o : _) → Silent h (added_group h owner g o)
 add_group h owner g (Some there) = refuses h Exists
 add_group h owner g None = either h _ _ _ (accepts h (group_put h owner g ∷ []) Done tt) (refuses h Limit)
 
-delete_group : (h : Holdings) (owner : Owner) (name : List ℕ) (o : _) → KeepsNext h (deleted_group h owner name o)
+delete_group : (h : Holdings) (owner : Owner) (name : List ℕ) (o : _) → Silent h (deleted_group h owner name o)
 delete_group h owner name None = refuses h NoSuch
 delete_group h owner name (Some g) = accepts h (group_dropped h owner name ∷ []) Done tt
 
-put_denied : (h : Holdings) (owner : Owner) (r : _) → KeepsNext h (put_or_denied h owner r)
+put_denied : (h : Holdings) (owner : Owner) (r : _) → Silent h (put_or_denied h owner r)
 put_denied h owner (Err fault) = refuses h (Denied fault)
 put_denied h owner (Ok g) = accepts h (group_put h owner g ∷ []) Done tt
 
-change_group : (h : Holdings) (owner : Owner) (change : PropertyChange) (o : _) → KeepsNext h (changed_group h owner change o)
+change_group : (h : Holdings) (owner : Owner) (change : PropertyChange) (o : _) → Silent h (changed_group h owner change o)
 change_group h owner change None = refuses h NoSuch
 change_group h owner change (Some g) = put_denied h owner (property_changed change g)
 
-enable_for_good : (h : Holdings) (n : ℕ) (r : _) → KeepsNext h (enabled_for_good h n r)
+enable_for_good : (h : Holdings) (n : ℕ) (r : _) → Silent h (enabled_for_good h n r)
 enable_for_good h n (Err fault) = refuses h (Denied fault)
 enable_for_good h n (Ok g) = either h _ _ _ (accepts h (enabling_of h (owners.Instance n) g ∷ []) Done tt) (refuses h Limit)
 
-enable_for_now : (h : Holdings) (n : ℕ) (r : _) → KeepsNext h (enabled_for_now h n r)
+enable_for_now : (h : Holdings) (n : ℕ) (r : _) → Silent h (enabled_for_now h n r)
 enable_for_now h n (Err fault) = refuses h (Denied fault)
 enable_for_now h n (Ok g) = either h _ _ _ (accepts h (group_put h (owners.Instance n) g ∷ []) Done tt) (refuses h Limit)
 
-enable : (h : Holdings) (n : ℕ) (b temporary : Bool) (o : Option Instance) → KeepsNext h (asked_enable h n b temporary o)
+enable : (h : Holdings) (n : ℕ) (b temporary : Bool) (o : Option Instance) → Silent h (asked_enable h n b temporary o)
 enable h n b temporary None = refuses h NoSuch
 enable h n b false (Some i) = enable_for_good h n _
 enable h n b true (Some i) = enable_for_now h n _
 
-asks_if : (h : Holdings) (b : Bool) (i : Instance) (bit : ℕ) → KeepsNext h (asked_if h b i bit)
-asks_if h true i bit = accepts h (PutInstance (asking i bit) ∷ []) Done tt
-asks_if h false i bit = accepts h [] Done tt
+asks_if : (h : Holdings) (n : ℕ) (b : Bool) (before i : Instance) (bit : ℕ) → Found h n before i → Silent h (asked_if h b i bit)
+asks_if h n true before i bit f = accepts h (PutInstance (asking i bit) ∷ []) Done (unchanged h n before i (asking i bit) f refl refl, tt)
+asks_if h n false before i bit f = accepts h [] Done tt
 
-asks_where : (h : Holdings) (b : Bool) (i : Instance) (bit : ℕ) → KeepsNext h (asked_where h b i bit)
-asks_where h true i bit = accepts h (PutInstance (asking i bit) ∷ []) Done tt
-asks_where h false i bit = refuses h NotInState
+asks_where : (h : Holdings) (n : ℕ) (b : Bool) (before i : Instance) (bit : ℕ) → Found h n before i → Silent h (asked_where h b i bit)
+asks_where h n true before i bit f = accepts h (PutInstance (asking i bit) ∷ []) Done (unchanged h n before i (asking i bit) f refl refl, tt)
+asks_where h n false before i bit f = refuses h NotInState
 
-restart : (h : Holdings) (o : Option Instance) → KeepsNext h (asked_restart h o)
-restart h None = refuses h NoSuch
-restart h (Some i) = asks_if h (runs i.row.state) i 16
+restart : (h : Holdings) (n : ℕ) → Silent h (asked_restart h (found h n))
+restart h n = by_found h n (asked_restart h) (refuses h NoSuch) (λ before i f. asks_if h n (runs i.row.state) before i 16 f)
 
-clear : (h : Holdings) (o : Option Instance) → KeepsNext h (asked_clear h o)
-clear h None = refuses h NoSuch
-clear h (Some i) = asks_where h (same_state i.row.state Maintenance || same_state i.row.state Degraded) i 32
+clear : (h : Holdings) (n : ℕ) → Silent h (asked_clear h (found h n))
+clear h n =
+    by_found h n (asked_clear h) (refuses h NoSuch)
+    (λ before i f. asks_where h n (same_state i.row.state Maintenance || same_state i.row.state Degraded) before i 32 f)
 
-marks_one : (h : Holdings) (mark : Mark) (i : Instance) → KeepsNext h (marked h mark i)
-marks_one h marks.Degraded i = asks_where h (same_state i.row.state Online) i 64
-marks_one h marks.Maintenance i = asks_if h (not (same_state i.row.state Maintenance)) i 2
-marks_one h marks.MaintenanceNow i = asks_if h (not (same_state i.row.state Maintenance)) i 1
+marks_one : (h : Holdings) (n : ℕ) (mark : Mark) (before i : Instance) → Found h n before i → Silent h (marked h mark i)
+marks_one h n marks.Degraded before i f = asks_where h n (same_state i.row.state Online) before i 64 f
+marks_one h n marks.Maintenance before i f = asks_if h n (not (same_state i.row.state Maintenance)) before i 2 f
+marks_one h n marks.MaintenanceNow before i f = asks_if h n (not (same_state i.row.state Maintenance)) before i 1 f
 
-mark_at : (h : Holdings) (mark : Mark) (o : Option Instance) → KeepsNext h (asked_mark h mark o)
-mark_at h mark None = refuses h NoSuch
-mark_at h mark (Some i) = marks_one h mark i
+mark_at : (h : Holdings) (n : ℕ) (mark : Mark) → Silent h (asked_mark h mark (found h n))
+mark_at h n mark = by_found h n (asked_mark h mark) (refuses h NoSuch) (λ before i f. marks_one h n mark before i f)
 
-revert_to : (h : Holdings) (i : Instance) (ss gs : _) → KeepsNext h (reverted_to h i ss gs)
-revert_to h i ss gs = either h _ _ _ (refuses h Limit) (snaps h i (reverting h i ss gs) Done tt)
+revert_to : (h : Holdings) (n : ℕ) (before i : Instance) (ss gs : _) → Found h n before i → Silent h (reverted_to h i ss gs)
+revert_to h n before i ss gs f =
+    either h _ _ _ (refuses h Limit)
+    (snaps h i (reverting h i ss gs) Done (unchanged h n before i (record i { previous = Some h.next_snapshot }) f refl refl, tt))
 
-revert_by : (h : Holdings) (i : Instance) (o : Option Snapshot) → KeepsNext h (reverted h i o)
-revert_by h i None = refuses h NoSuch
-revert_by h i (Some s) = search (revert_to)
+revert_by : (h : Holdings) (n : ℕ) (before i : Instance) (o : Option Snapshot) → Found h n before i → Silent h (reverted h i o)
+revert_by h n before i None f = refuses h NoSuch
+revert_by h n before i (Some s) f = search (revert_to)
 
-revert : (h : Holdings) (name : _) (o : Option Instance) → KeepsNext h (asked_revert h name o)
-revert h name None = refuses h NoSuch
-revert h name (Some i) = revert_by h i (named_snapshot h (number_of i name))
+revert : (h : Holdings) (n : ℕ) (name : _) → Silent h (asked_revert h name (found h n))
+revert h n name = by_found h n (asked_revert h name) (refuses h NoSuch) (λ before i f. revert_by h n before i (named_snapshot h (number_of i name)) f)
 
-launch : (h : Holdings) (name : List ℕ) → KeepsNext h (asked_launch h name)
+launch : (h : Holdings) (name : List ℕ) → Silent h (asked_launch h name)
 unfolding asked_launch
 launch h name = either h (nat_lt (launch_of h name) greatest) _ _ (accepts h (PutLaunch (next_launch h name) ∷ []) (Made (launch_of h name + 1)) tt) (refuses h Limit)
 
-edit : (h : Holdings) (e : Edit) → is_plain (commands.Edit e) ≡ true → KeepsNext h (asked_edit h e)
+edit : (h : Holdings) (e : Edit) → is_plain (commands.Edit e) ≡ true → Silent h (asked_edit h e)
 unfolding asked_edit
 edit h (asked_for.AddInstance s name) e = absurd cc
 edit h (asked_for.Refresh n) e = absurd cc
@@ -168,17 +204,21 @@ edit h (asked_for.AddGroup owner name group_type p) e = guards h owner name _ (a
 edit h (asked_for.DeleteGroup owner name) e = guards h owner name _ (delete_group h owner name (group h owner name))
 edit h (asked_for.Property owner name change) e = guards h owner name _ (change_group h owner change (group h owner name))
 edit h (asked_for.Enable n b temporary) e = enable h n b temporary (found h n)
-edit h (asked_for.Restart n) e = restart h (found h n)
-edit h (asked_for.Clear n) e = clear h (found h n)
-edit h (asked_for.Mark n mark) e = mark_at h mark (found h n)
-edit h (asked_for.Revert n name) e = revert h name (found h n)
+edit h (asked_for.Restart n) e = restart h n
+edit h (asked_for.Clear n) e = clear h n
+edit h (asked_for.Mark n mark) e = mark_at h n mark
+edit h (asked_for.Revert n name) e = revert h n name
+
+pub says_nothing : (h : Holdings) (c : Command) → is_plain c ≡ true → Silent h (asked h c)
+unfolding asked
+says_nothing h (commands.Edit e) p = edit h e p
+says_nothing h (commands.Launch name) p = launch h name
+says_nothing h (commands.Propose q) p = absurd cc
+says_nothing h commands.Boot p = absurd cc
 
 keeps_next : (h : Holdings) (c : Command) → is_plain c ≡ true → (next h c).0.next_instance ≡ h.next_instance
-unfolding next asked
-keeps_next h (commands.Edit e) p = edit h e p
-keeps_next h (commands.Launch name) p = launch h name
-keeps_next h (commands.Propose q) p = absurd cc
-keeps_next h commands.Boot p = absurd cc
+unfolding next
+keeps_next h c p = (says_nothing h c p).next_one
 
 -- ---- no row is committed
 

@@ -6,10 +6,10 @@ use Rattle.smf_model.specs.Laws.{AreApart}
 use Rattle.smf_model.specs.Look.{has_number}
 use Rattle.smf_world.specs.declared.item.Item.{Item}
 use Rattle.smf_world.specs.declared.item.Item.TheVariants.{Boot, Committed}
-use Rattle.smf_world.specs.Happens.{noted}
-use Rattle.smf_world.specs.Safe.{AlongTheDiagram, Last, RowFollows, behind_boot, commits, last_of, row_item}
+use Rattle.smf_world.specs.Items.{row_item}
+use Rattle.smf_world.specs.Safe.{AlongTheDiagram, Last, RowFollows, behind_boot, commits, last_of}
 use Rattle.smf_world.proofs.CommitLists.{has_other, none_first, number_is, same, turned}
-use Rattle.smf_world.proofs.Noting.{noted_more}
+use Rattle.smf_world.proofs.Noting.{noted, noted_more}
 
 -- ---- the commits alone
 

@@ -1,22 +1,18 @@
 -- What is reached, and what comes later.
-use Rattle.std.proofs.Common.{◌≡◌, ◌++◌, List, [], ◌∷◌, Bool, true, false, refl, sym, ap, ◌∙◌, subst}
-use Rattle.smf_model.specs.declared.command.Command.{Command}
+use Rattle.std.proofs.Common.{◌≡◌, ◌++◌, List, [], ◌∷◌, refl, sym, ap, ◌∙◌, subst}
 use Rattle.smf_model.specs.declared.command.Command.TheVariants as commands
 use Rattle.smf_model.specs.declared.command.Reply.TheVariants as answers
-use Rattle.smf_model.specs.declared.command.Reply.{Reply as Answer}
-use Rattle.smf_model.specs.History.{is_revised}
 use Rattle.smf_model.specs.Holdings.{Holdings}
 use Rattle.smf_model.specs.Laws.{IsNumbered}
 use Rattle.smf_model.specs.Next.{next}
 use Rattle.smf_world.specs.declared.event.Event.{Event}
 use Rattle.smf_world.specs.declared.event.Event.TheVariants as events
-use Rattle.smf_world.specs.Happens.{committed, happens, revised}
+use Rattle.smf_world.specs.Happens.{done, happens}
 use Rattle.smf_world.specs.Reached.{IsLater, IsReached}
 use Rattle.smf_world.specs.Runs.{run}
-use Rattle.smf_world.specs.Safe.{IsSafe}
+use Rattle.smf_world.specs.Safe.{IsRecorded}
 use Rattle.smf_world.specs.World.{World, found}
-use Rattle.smf_world.proofs.Honest.{run_safe}
-use Rattle.smf_world.proofs.Lasting.{Fact, IsKept, of_run}
+use Rattle.smf_world.proofs.Honest.{run_recorded}
 
 run_both : (es fs : List Event) (w : World) → run (es ++ fs) w ≡ run fs (run es w)
 run_both [] fs w = refl
@@ -37,19 +33,13 @@ pub later_then : (u v w : World) → IsLater u v → IsLater v w → IsLater u w
 later_then u v w a b = (a.0 ++ b.0, run_both a.0 b.0 u ∙ ap (run b.0) a.1 ∙ b.1)
 
 -- what was found stays known
-abbrev BeganAs : Holdings → Fact
-BeganAs h = λ history now commits. history.first ≡ h
-
-first_by : (h : Holdings) (w : World) (c : Command) (r : (_ : Holdings) × Answer) (b : Bool) → w.history.first ≡ h → (revised w c r b).history.first ≡ h
-first_by h w c r true e = e
-first_by h w c r false e = e
-
-first_kept : (h : Holdings) → IsKept (BeganAs h)
-unfolding committed
-first_kept h w c e = first_by h w c (next w.now c) (is_revised w.now (next w.now c).0) e
+happens_first : (w : World) (e : Event) → (happens w e).history.first ≡ w.history.first
+unfolding happens done
+happens_first w e = refl
 
 pub run_first : (es : List Event) (w : World) → (run es w).history.first ≡ w.history.first
-run_first es w = of_run (BeganAs w.history.first) (first_kept w.history.first) es w refl
+run_first [] w = refl
+run_first (e ∷ es) w = run_first es (happens w e) ∙ happens_first w e
 
 pub later_first : (w v : World) → IsLater w v → v.history.first ≡ w.history.first
 later_first w v l = ap (λ x. x.history.first) (sym l.1) ∙ run_first l.0 w
@@ -71,5 +61,5 @@ reached_first h w numbered done e =
     let l : IsLater (happens (found h) events.Boot) w = later_same _ w e in
     reached_as w h (later_first (found h) w (later_by (found h) w events.Boot e)) (numbered, done, l)
 
-pub reached_safe : (w : World) → IsReached w → IsSafe w
-reached_safe w r = subst IsSafe r.since.1 (run_safe w.history.first r.since.0 r.numbered r.accepted)
+pub reached_recorded : (w : World) → IsReached w → IsRecorded w
+reached_recorded w r = subst IsRecorded r.since.1 (run_recorded w.history.first r.since.0 r.numbered r.accepted)

@@ -16,16 +16,21 @@ use Rattle.smf_model.proofs.LawDates.{fresh_date}
 use Rattle.smf_model.proofs.LawLists.{no_such, some_same}
 use Rattle.smf_model.proofs.LawNumbers.{first_numbers}
 use Rattle.smf_model.proofs.Names.{index_added}
+use Rattle.smf_contract.specs.Called.{called, emptied_by}
 use Rattle.smf_engine.specs.Orders.{order}
-use Rattle.smf_restarter.specs.Replies.{changed, heard, listed, own_tick, ticked}
+use Rattle.smf_restarter.specs.Answers.{listed}
+use Rattle.smf_restarter.specs.Changes.{changed}
+use Rattle.smf_restarter.specs.Replies.{heard}
+use Rattle.smf_restarter.specs.Ticks.{own_tick}
 use Rattle.smf_world.specs.declared.event.Event.{Event}
 use Rattle.smf_world.specs.declared.event.Event.TheVariants as events
-use Rattle.smf_world.specs.declared.event.SpawnAnswer.TheVariants as spawns
 use Rattle.smf_world.specs.declared.item.Item.{Item}
 use Rattle.smf_world.specs.declared.item.Item.TheVariants.{Boot, Committed}
-use Rattle.smf_world.specs.Happens.{committed, delivered, happens, replied}
+use Rattle.smf_world.specs.Happens.{done, happens}
+use Rattle.smf_world.specs.Items.{items_of}
 use Rattle.smf_world.specs.Runs.{run}
 use Rattle.smf_world.specs.Safe.{AlongTheDiagram, Last, RowFollows, commits}
+use Rattle.smf_world.specs.Worked.{acted, answer_of, call_of, calling, commanded, delivered, heard_by, worked}
 use Rattle.smf_world.specs.World.{found}
 use Rattle.smf_world.proofs.CommitLists.{has_not}
 use Rattle.smf_world.proofs.Pushed.{last_commits}
@@ -49,11 +54,11 @@ limited = record {
 -- svc.startd's restarter is launched and learns its row, and then an order
 abbrev pub schedule : List Event
 schedule =
-    events.Launch startd ∷ events.Tick startd 0 spawns.Made ∷ events.Deliver 0 ∷ events.Deliver 1 ∷ events.Tick startd 0 spawns.Made
+    events.Launch startd ∷ events.OwnTick startd ∷ events.Deliver 0 ∷ events.Deliver 1 ∷ events.OwnTick startd
     ∷ events.Ask ∷ events.Deliver 2 ∷ events.Deliver 3 ∷ events.Orders ∷ events.Deliver 4 ∷ events.Deliver 5 ∷ []
 
 shows : commits (run schedule (happens (found limited) events.Boot)).trail ≡ Committed 1 1 Disabled None ∷ []
-unfolding next asked asked_boot asked_launch asked_edit answer applied installed current enabled setting view rows_of groups_of order changed heard listed own_tick ticked committed delivered happens replied
+unfolding next asked asked_boot asked_launch asked_edit answer applied installed current enabled setting view rows_of groups_of order changed heard listed own_tick called emptied_by items_of commanded delivered heard_by acted answer_of call_of calling worked done happens
 shows = refl
 
 is_other : (n : ℕ) → 2 ≤ n → (1 == n) ≡ false

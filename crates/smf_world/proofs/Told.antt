@@ -22,9 +22,10 @@ use Rattle.smf_wire.specs.declared.message.Message.TheVariants as messages
 use Rattle.smf_wire.specs.declared.order.Order.{Order}
 use Rattle.smf_world.specs.declared.item.Item.{Item}
 use Rattle.smf_world.specs.declared.item.Item.TheVariants.{Boot, Committed, Held, Spawned, Emptied}
-use Rattle.smf_world.specs.Happens.{known_of, noted}
+use Rattle.smf_world.specs.Happens.{newest}
+use Rattle.smf_world.specs.Worked.{known_of}
 use Rattle.smf_world.specs.Safe.{HeldWereCommitted, Last, WasCommitted, behind_boot, commits, is_commit, last_of}
-use Rattle.smf_world.proofs.Noting.{AllCommit, noted_more}
+use Rattle.smf_world.proofs.Noting.{AllCommit, noted, noted_more}
 use Rattle.smf_world.proofs.Pushed.{AreTracked, last_held}
 
 -- ---- a longer trail
@@ -90,6 +91,10 @@ abbrev pub ViewTold : List Item → Option View → Type 0
 ViewTold t None = Unit {0}
 ViewTold t (Some v) = ItemsTold t v.items
 
+abbrev pub ViewsTold : List Item → List View → Type 0
+ViewsTold t [] = Unit {0}
+ViewsTold t (v ∷ vs) = ItemsTold t v.items × ViewsTold t vs
+
 rows_later : (t u : List Item) → Grows t u → (xs : List Known) → RowsTold t xs → RowsTold u xs
 rows_later t u g [] a = tt
 rows_later t u g (x ∷ xs) a = (g x.instance x.row.number x.row.state a.0, rows_later t u g xs a.1)
@@ -115,6 +120,10 @@ message_later t u g messages.AskView a = tt
 pub messages_later : (t u : List Item) → Grows t u → (ms : List Message) → MessagesTold t ms → MessagesTold u ms
 messages_later t u g [] a = tt
 messages_later t u g (m ∷ ms) a = (message_later t u g m a.0, messages_later t u g ms a.1)
+
+pub views_later : (t u : List Item) → Grows t u → (vs : List View) → ViewsTold t vs → ViewsTold u vs
+views_later t u g [] a = tt
+views_later t u g (v ∷ vs) a = (items_later t u g v.items a.0, views_later t u g vs a.1)
 
 pub view_later : (t u : List Item) → Grows t u → (o : Option View) → ViewTold t o → ViewTold u o
 view_later t u g None a = tt
@@ -227,6 +236,10 @@ newer_told t (Some held) v a b = by (nat_lt held.revision v.revision)
     by : (c : Bool) → ViewTold t (if c then Some v else Some held)
     by true = b
     by false = a
+
+pub newest_told : (t : List Item) (o : Option View) (vs : List View) → ViewTold t o → ViewsTold t vs → ViewTold t (newest o vs)
+newest_told t o [] a b = a
+newest_told t o (v ∷ vs) a b = newest_told t (newer o v) vs (newer_told t o v a b.0) b.1
 
 abbrev OrderTold : List Item → Option Order → Type 0
 OrderTold t None = Unit {0}

@@ -1,5 +1,5 @@
 -- What was committed last of an instance is its row, and each row follows the one before it.
-use Rattle.std.proofs.Common.{◌≡◌, ◌⊎◌, ◌<◌, ◌≤◌, ℕ, ◌+◌, ◌==◌, nat_lt, not, Bool, true, false, List, [], ◌∷◌, map, filter, Option, Some, None, option_map, refl, sym, ap, ◌∙◌, subst, inl, inr, arith}
+use Rattle.std.proofs.Common.{◌≡◌, ◌⊎◌, ◌<◌, ◌≤◌, ℕ, ◌+◌, nat_lt, Bool, true, false, List, [], ◌∷◌, map, filter, Option, Some, None, option_map, refl, sym, ap, ◌∙◌, subst, inl, inr, arith}
 use Rattle.std.proofs.lemmas.Bool.Decides.{nat_tests}
 use Rattle.smf_state.specs.declared.row.Row.{Row}
 use Rattle.smf_state.specs.declared.state.State.{State}
@@ -9,11 +9,10 @@ use Rattle.smf_model.specs.declared.command.Command.{Command}
 use Rattle.smf_model.specs.declared.command.Command.TheVariants as commands
 use Rattle.smf_model.specs.declared.command.Reply.TheVariants as answers
 use Rattle.smf_model.specs.declared.held.Instance.{Instance}
-use Rattle.smf_model.specs.History.{is_revised}
 use Rattle.smf_model.specs.Holdings.{Holdings}
 use Rattle.smf_model.specs.Laws.{Follows, IsNumbered, RowFollows as GoesOnBy, boots, moves, stays, steps}
 use Rattle.smf_model.specs.Look.{instance, instances}
-use Rattle.smf_model.specs.Next.{booted, next}
+use Rattle.smf_model.specs.Next.{asked, booted, next}
 use Rattle.smf_model.specs.Setting.{Groups}
 use Rattle.smf_model.proofs.LawNumbers.{instance_gone, instances_rise, stays_numbered}
 use Rattle.smf_model.proofs.LawOutcomes.{apart, next_revision}
@@ -22,15 +21,15 @@ use Rattle.smf_world.specs.declared.event.Event.{Event}
 use Rattle.smf_world.specs.declared.event.Event.TheVariants as events
 use Rattle.smf_world.specs.declared.item.Item.{Item}
 use Rattle.smf_world.specs.declared.item.Item.TheVariants as items
-use Rattle.smf_world.specs.Happens.{committed, happens, noted, revised}
+use Rattle.smf_world.specs.Happens.{happens}
+use Rattle.smf_world.specs.Items.{row_item}
 use Rattle.smf_world.specs.Runs.{run}
-use Rattle.smf_world.specs.Safe.{AlongTheDiagram, Last, RowFollows, behind_boot, commits, is_committed, is_other_number, last_of, made_items, row_item}
+use Rattle.smf_world.specs.Safe.{AlongTheDiagram, Last, RowFollows, behind_boot, commits, is_committed, is_other_number, last_of, made_items}
 use Rattle.smf_world.specs.World.{World, found}
 use Rattle.smf_world.proofs.CommitLists.{AreFound, at_next, at_same, found_all, no_such}
-use Rattle.smf_world.proofs.ItemsMade.{boot_leaves, lasting}
-use Rattle.smf_world.proofs.Lasting.{Fact, IsKept, Of, of_booted, of_run}
-use Rattle.smf_world.proofs.Logged.{commits_shown, stays as unrevised}
-use Rattle.smf_world.proofs.Noting.{noted_more}
+use Rattle.smf_world.proofs.ItemsMade.{AreMade, boot_leaves, lasting, made_something}
+use Rattle.smf_world.proofs.Lasting.{Fact, IsKept, Of, of_boot, of_run}
+use Rattle.smf_world.proofs.Noting.{noted, noted_more}
 use Rattle.smf_world.proofs.Pushed.{ArePushed, AreReady, AreTracked, IsReady, along_commits, last_held, pushed, tracked_at}
 
 pub record IsTracked (h : Holdings) (t : List Item) : Type 0 where
@@ -128,7 +127,7 @@ boots_ready : (h : Holdings) (gs : Groups) (t : List Item) (is : List Instance) 
 boots_ready h gs t [] a b = tt
 boots_ready h gs t (i ∷ is) a b = (stepped _ (instance h i.number) i (booted gs i) a.0 refl (boots_from (last_of i.number t) i b.0), boots_ready h gs t is a.1 b.1)
 
-boot_tracked : (h : Holdings) (t : List Item) → IsNumbered h → is_revised h (next h commands.Boot).0 ≡ true → AreBefore t (instances h) → ((n : ℕ) → h.next_instance ≤ n → last_of n t ≡ None) → AlongTheDiagram t → IsTracked (next h commands.Boot).0 (after h commands.Boot t)
+boot_tracked : (h : Holdings) (t : List Item) → IsNumbered h → AreMade (asked h commands.Boot).changes → AreBefore t (instances h) → ((n : ℕ) → h.next_instance ≤ n → last_of n t ≡ None) → AlongTheDiagram t → IsTracked (next h commands.Boot).0 (after h commands.Boot t)
 boot_tracked h t numbered e before fresh along =
     let k : Holdings = (next h commands.Boot).0 in
     let is_k : IsNumbered k = stays_numbered h commands.Boot numbered in
@@ -144,22 +143,17 @@ are_before t (i ∷ is) a = (inr a.0, are_before t is a.1)
 
 -- ---- each command
 
-revised_tracked : (h : Holdings) (c : Command) (t : List Item) → is_revised h (next h c).0 ≡ true → IsTracked h t → IsTracked (next h c).0 (after h c t)
-revised_tracked h (commands.Edit e) t is k = quiet_tracked h (commands.Edit e) t refl k
-revised_tracked h (commands.Propose p) t is k = quiet_tracked h (commands.Propose p) t refl k
-revised_tracked h (commands.Launch name) t is k = quiet_tracked h (commands.Launch name) t refl k
-revised_tracked h commands.Boot t is k = boot_tracked h t k.numbered is (are_before t (instances h) k.rows) k.fresh k.along
+made_tracked : (h : Holdings) (c : Command) (t : List Item) → AreMade (asked h c).changes → IsTracked h t → IsTracked (next h c).0 (after h c t)
+made_tracked h (commands.Edit e) t is k = quiet_tracked h (commands.Edit e) t refl k
+made_tracked h (commands.Propose p) t is k = quiet_tracked h (commands.Propose p) t refl k
+made_tracked h (commands.Launch name) t is k = quiet_tracked h (commands.Launch name) t refl k
+made_tracked h commands.Boot t is k = boot_tracked h t k.numbered is (are_before t (instances h) k.rows) k.fresh k.along
 
 abbrev pub Tracked : Fact
 Tracked y h t = IsTracked h t
 
-tracked_by : (w : World) (c : Command) (b : Bool) → is_revised w.now (next w.now c).0 ≡ b → Of Tracked w → Of Tracked (revised w c (next w.now c) b)
-tracked_by w c true e k = subst (IsTracked (next w.now c).0) (sym (commits_shown w c k.numbered e)) (revised_tracked w.now c (commits w.trail) e k)
-tracked_by w c false e k = subst (λ (h : Holdings). IsTracked h (commits w.trail)) (sym (unrevised w.now c e)) k
-
 pub tracked_kept : IsKept Tracked
-unfolding committed
-tracked_kept w c k = tracked_by w c (is_revised w.now (next w.now c).0) refl k
+tracked_kept = record { numbered = λ y h t k. k.numbered; kept = λ y h c t m k. made_tracked h c t m k }
 
 -- ---- from a boot of what was found
 
@@ -167,27 +161,17 @@ none_before : (is : List Instance) → AreBefore [] is
 none_before [] = tt
 none_before (i ∷ is) = (inl refl, none_before is)
 
-raised : (m n : ℕ) → m ≡ n + 1 → not (m == n) ≡ true
-raised m n e = grind (arith, nat_tests)
+-- an accepted boot makes changes
+accepted_boot : (h : Holdings) → (next h commands.Boot).1 ≡ answers.Done → AreMade (asked h commands.Boot).changes
+accepted_boot h done = made_something h commands.Boot (next_revision h commands.Boot (rw done refl))
 
-first_by : (h : Holdings) (b : Bool) → is_revised h (next h commands.Boot).0 ≡ b → b ≡ true → IsNumbered h → Of Tracked (revised (found h) commands.Boot (next h commands.Boot) b)
-first_by h false e f n = absurd cc
-first_by h true e f n = subst (IsTracked (next h commands.Boot).0) (sym (commits_shown (found h) commands.Boot n e)) (boot_tracked h [] n e (none_before (instances h)) (λ m le. refl) tt)
-
-pub first_boot : (h : Holdings) → is_revised h (next h commands.Boot).0 ≡ true → IsNumbered h → Of Tracked (committed (found h) commands.Boot).0
-unfolding committed
-first_boot h e n = first_by h (is_revised h (next h commands.Boot).0) refl e n
-
-after_boot : (h : Holdings) → is_revised h (next h commands.Boot).0 ≡ true → IsNumbered h → Of Tracked (happens (found h) events.Boot)
-unfolding happens
-after_boot h e n = of_booted Tracked (committed (found h) commands.Boot).0 (committed (found h) commands.Boot).1 (first_boot h e n)
-
--- an accepted boot makes a revision
-pub accepted_boot : (h : Holdings) → (next h commands.Boot).1 ≡ answers.Done → is_revised h (next h commands.Boot).0 ≡ true
-accepted_boot h done = raised (next h commands.Boot).0.revision h.revision (next_revision h commands.Boot (rw done refl))
+pub first_tracked : (h : Holdings) → IsNumbered h → (next h commands.Boot).1 ≡ answers.Done → Of Tracked (happens (found h) events.Boot)
+first_tracked h n done =
+    let m : AreMade (asked h commands.Boot).changes = accepted_boot h done in
+    of_boot Tracked (found h) n m (boot_tracked h [] n m (none_before (instances h)) (λ k le. refl) tt)
 
 pub run_along : (h : Holdings) (es : List Event) → IsNumbered h → (next h commands.Boot).1 ≡ answers.Done → AlongTheDiagram (run es (happens (found h) events.Boot)).trail
 run_along h es n done =
     let w : World = run es (happens (found h) events.Boot) in
-    let k : IsTracked w.now (commits w.trail) = of_run Tracked tracked_kept es (happens (found h) events.Boot) (after_boot h (accepted_boot h done) n) in
+    let k : IsTracked w.now (commits w.trail) = of_run Tracked tracked_kept es (happens (found h) events.Boot) (first_tracked h n done) in
     along_commits w.trail k.along

@@ -1,4 +1,6 @@
 pub mod World
+pub mod Items
+pub mod Worked
 pub mod Happens
 pub mod Runs
 pub mod Reached

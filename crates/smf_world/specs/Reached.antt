@@ -2,6 +2,7 @@
 use Rattle.std.specs.Prelude.{◌≡◌, List}
 use Rattle.smf_model.specs.declared.command.Command.TheVariants as commands
 use Rattle.smf_model.specs.declared.command.Reply.TheVariants as answers
+use Rattle.smf_model.specs.Holdings.{Holdings}
 use Rattle.smf_model.specs.Laws.{IsNumbered}
 use Rattle.smf_model.specs.Next.{next}
 use Rattle.smf_world.specs.declared.event.Event.{Event}
@@ -13,6 +14,19 @@ use Rattle.smf_world.specs.World.{World, found}
 -- a list of events makes the second world of the first
 abbrev pub IsLater : World → World → Type 0
 IsLater w v = (es : List Event) × (run es w ≡ v)
+
+-- it holds of each world that a list of events makes behind an accepted boot of what was found, numbers having been
+-- given once
+abbrev pub IsAlways : (World → Type 0) → Type 0
+IsAlways P =
+    (h : Holdings) (es : List Event)
+    → IsNumbered h
+    → (next h commands.Boot).1 ≡ answers.Done
+    → P (run es (happens (found h) events.Boot))
+
+-- behind a boot that may have been refused there is a world of which it does not hold
+abbrev pub CanFail : (World → Type 0) → Type 0
+CanFail P = (h : Holdings) × (es : List Event) × IsNumbered h × (P (run es (happens (found h) events.Boot)) → ⊥)
 
 -- numbers were given once in what was found, a boot of it was accepted, and a list of events behind it makes this world
 pub record IsReached (w : World) : Type 0 where

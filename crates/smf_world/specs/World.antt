@@ -1,5 +1,7 @@
--- The world: what the repository holds and held, what the actors know, what they said, and what was seen of it.
+-- The world: what the repository holds and held, what the actors know, what they said, the contracts, and what was seen
+-- of it all.
 use Rattle.std.specs.Prelude.{List, [], Option, None}
+use Rattle.smf_contract.specs.Entries.{Contracts, empty}
 use Rattle.smf_model.specs.declared.held.View.{View}
 use Rattle.smf_model.specs.History.{History}
 use Rattle.smf_model.specs.Holdings.{Holdings}
@@ -8,7 +10,7 @@ use Rattle.smf_wire.specs.declared.message.Message.{Message}
 use Rattle.smf_world.specs.declared.item.Item.{Item}
 
 -- the history and its newest value; the launched restarters, in the order of their launches; the view that the graph
--- holds; all messages ever sent and the trail, both newest first
+-- holds; all messages ever sent and the trail, both newest first; the contract table
 pub record World : Type 0 where
   pub history : History
   pub now : Holdings
@@ -16,7 +18,17 @@ pub record World : Type 0 where
   pub seen : Option View
   pub sent : List Message
   pub trail : List Item
+  pub table : Contracts
 
 -- the world round a value that was found, before anything happens
 abbrev pub found : Holdings → World
-found h = record { history = record { first = h; past = [] }; now = h; restarters = []; seen = None; sent = []; trail = [] }
+found h =
+    record {
+      history = record { first = h; past = [] };
+      now = h;
+      restarters = [];
+      seen = None;
+      sent = [];
+      trail = [];
+      table = empty;
+    }

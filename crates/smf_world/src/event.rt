@@ -1,5 +1,5 @@
-use smf_contract::Exit;
-use smf_fmri::InstanceFmri;
+use smf_contract::{Exit, Failure};
+use smf_fmri::{InstanceFmri, Number};
 use smf_model::Edit;
 
 /// What becomes of a spawn that a tick asks for.
@@ -11,17 +11,16 @@ pub enum SpawnAnswer {
     NotFollowed,
 }
 
-/// What happens to a process.
+/// What happens to a process, as in process(4).
 #[derive(Clone, Copy, Debug, PartialEq, Eq)]
 pub enum ProcessEvent {
     Fork,
     Exit(Exit),
-    Core,
-    Signal,
-    Hwerr,
+    Fail(Failure),
 }
 
-/// What can happen to the world.
+/// What can happen to the world. A launch of what is launched, an event of a restarter that is not, of a process that
+/// is in no contract, and of a contract that nobody holds do nothing.
 #[derive(Debug, Drop)]
 pub enum Event {
     /// The message at a place of all that were ever sent is delivered, for the first time or again.
@@ -32,20 +31,22 @@ pub enum Event {
     Ask,
     /// The graph sends the orders of the view that it holds.
     Orders,
-    /// A launched restarter has its turn for an instance, or for itself (0).
+    /// A launched restarter has its turn for itself.
+    OwnTick(InstanceFmri),
+    /// A launched restarter has its turn for an instance.
     Tick {
         restarter: InstanceFmri,
         instance: u64,
         spawn: SpawnAnswer,
     },
     Process {
-        process: u64,
+        process: Number,
         what: ProcessEvent,
     },
-    /// An event of a contract is reported to its holder.
+    /// An event of a contract is reported to its holder, in time, late or again.
     Report {
-        contract: u64,
-        number: u64,
+        contract: Number,
+        number: Number,
     },
     /// The method that runs for an instance has taken too long.
     Timeout {

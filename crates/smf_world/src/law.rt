@@ -1,43 +1,63 @@
-ghost use Rattle.std.specs.Prelude.{◌≡◌, List};
-ghost use Rattle.smf_model.specs.declared.command.Command.TheVariants as commands;
-ghost use Rattle.smf_model.specs.declared.command.Reply.TheVariants as answers;
+ghost use Rattle.std.specs.Prelude.{◌≡◌, ℕ, List};
 ghost use Rattle.smf_model.specs.Holdings.{Holdings};
 ghost use Rattle.smf_model.specs.Laws.{IsNumbered};
-ghost use Rattle.smf_model.specs.Next.{next};
+ghost use Rattle.smf_model.specs.Look.{installed};
 ghost use Rattle.smf_world.specs.declared.event.Event.{Event as AnyEvent};
-ghost use Rattle.smf_world.specs.declared.event.Event.TheVariants as events;
 ghost use Rattle.smf_world.specs.Happens.{happens};
-ghost use Rattle.smf_world.specs.Reached.{IsLater, IsReached};
+ghost use Rattle.smf_world.specs.Reached.{CanFail, IsAlways, IsLater, IsReached};
 ghost use Rattle.smf_world.specs.Runs.{run};
-ghost use Rattle.smf_world.specs.Safe.{AlongTheDiagram, CommitsFollowHistory, CommittedOnce, HeldWereCommitted, IsSafe};
+ghost use Rattle.smf_world.specs.Safe.{AlongTheDiagram, CommitsFollowHistory as FollowsHistory, CommittedOnce, HeldWereCommitted};
+ghost use Rattle.smf_world.specs.Safe.{IsRecorded};
+ghost use Rattle.smf_world.specs.Schedule.{Progress, all_turned, all_went, delivered_again, round};
+ghost use Rattle.smf_world.specs.Schedule.{settled, turned, went};
+ghost use Rattle.smf_world.specs.Worked.{worked};
 ghost use Rattle.smf_world.specs.World.{World, found};
+ghost use Rattle.smf_world.specs.declared.schedule.Deed.{Deed as AnyDeed};
+ghost use Rattle.smf_world.specs.declared.schedule.Turn.{Turn as AnyTurn};
 
 /// What the trail shows as committed is the history of the repository, whatever happens: the boots, and the rows that
 /// are new or have another number, in number order.
 pub fn commits_follow_history()
     ensures numbered { (w : World) (e : AnyEvent) → IsNumbered w.now → IsNumbered (happens w e).now }
-    ensures kept { (w : World) (e : AnyEvent) → IsNumbered w.now → CommitsFollowHistory w → CommitsFollowHistory (happens w e) }
-    ensures always { (h : Holdings) (es : List AnyEvent) → IsNumbered h → CommitsFollowHistory (run es (found h)) }
+    ensures kept { (w : World) (e : AnyEvent) → IsNumbered w.now → FollowsHistory w → FollowsHistory (happens w e) }
+    ensures always { (h : Holdings) (es : List AnyEvent) → IsNumbered h → FollowsHistory (run es (found h)) }
 {}
 
 /// Behind a boot of what was found, whatever happens: an instance is first uninitialized, and then goes along the
 /// diagram, one number at a time. A boot that is refused at a limit leaves the rows as they were found, so that the
 /// trail does not show where they began.
 pub fn states_go_along_the_diagram()
-    ensures along { (h : Holdings) (es : List AnyEvent) → IsNumbered h → (next h commands.Boot).1 ≡ answers.Done → AlongTheDiagram (run es (happens (found h) events.Boot)).trail }
-    ensures once { (h : Holdings) (es : List AnyEvent) → IsNumbered h → (next h commands.Boot).1 ≡ answers.Done → CommittedOnce (run es (happens (found h) events.Boot)).trail }
-    ensures boot_needed { (h : Holdings) × (es : List AnyEvent) × IsNumbered h × (AlongTheDiagram (run es (happens (found h) events.Boot)).trail → ⊥) }
+    ensures along { IsAlways (λ w. AlongTheDiagram w.trail) }
+    ensures once { IsAlways (λ w. CommittedOnce w.trail) }
+    ensures boot_needed { CanFail (λ w. AlongTheDiagram w.trail) }
 {}
 
 /// Behind a boot of what was found, whatever happens, crashes and messages that come late or twice among it: a
 /// restarter takes no row that the repository did not commit before.
 pub fn held_rows_were_committed()
-    ensures { (h : Holdings) (es : List AnyEvent) → IsNumbered h → (next h commands.Boot).1 ≡ answers.Done → HeldWereCommitted (run es (happens (found h) events.Boot)).trail }
+    ensures { IsAlways (λ w. HeldWereCommitted w.trail) }
 {}
 
 /// The laws of the trail together, also of each world that is reached.
-pub fn whatever_happens_is_safe()
-    ensures always { (h : Holdings) (es : List AnyEvent) → IsNumbered h → (next h commands.Boot).1 ≡ answers.Done → IsSafe (run es (happens (found h) events.Boot)) }
-    ensures reached { (w : World) → IsReached w → IsSafe w }
+pub fn whatever_happens_is_recorded()
+    ensures always { IsAlways IsRecorded }
+    ensures reached { (w : World) → IsReached w → IsRecorded w }
     ensures later { (w v : World) → IsReached w → IsLater w v → IsReached v }
+{}
+
+/// What an event makes of the repository are the changes of its work, and these leave what is held numbered.
+pub fn changes_keep_numbers()
+    ensures kept { (w : World) (e : AnyEvent) → IsNumbered w.now → IsNumbered (installed w.now (worked w e).changes) }
+    ensures made { (w : World) (e : AnyEvent) → (happens w e).now ≡ installed w.now (worked w e).changes }
+{}
+
+/// What a schedule makes of the world is what some list of events makes of it.
+pub fn a_schedule_is_a_run()
+    ensures deed { (d : AnyDeed) (p : Progress) → IsLater p.world (went d p).world }
+    ensures deeds { (ds : List AnyDeed) (p : Progress) → IsLater p.world (all_went ds p).world }
+    ensures turn { (t : AnyTurn) (p : Progress) → IsLater p.world (turned t p).world }
+    ensures turns { (ts : List AnyTurn) (p : Progress) → IsLater p.world (all_turned ts p).world }
+    ensures round { (p : Progress) → IsLater p.world (round p).world }
+    ensures settled { (n : ℕ) (p : Progress) → IsLater p.world (settled n p).0.world }
+    ensures again { (places : List ℕ) (p : Progress) → IsLater p.world (delivered_again places p).world }
 {}

@@ -1,3 +1,6 @@
+use smf_contract::Event as ContractEvent;
+use smf_fmri::InstanceFmri;
+
 /// How a number of rounds ended.
 #[derive(Clone, Copy, Debug, PartialEq, Eq)]
 pub enum Settled {
@@ -5,4 +8,40 @@ pub enum Settled {
     Quiet,
     /// The rounds were used up.
     Busy,
+}
+
+/// One thing that a schedule does: at most one event.
+#[derive(Debug, Drop)]
+pub enum Deed {
+    Launch(InstanceFmri),
+    /// The next message in the order of sending is delivered, unless it is lost.
+    DeliverNext,
+    /// The graph asks for the view.
+    Ask,
+    /// The graph sends its orders.
+    Orders,
+    /// An event of a contract is reported, where its holder is launched; else it is kept for later.
+    Report(ContractEvent),
+    OwnTick(InstanceFmri),
+    /// The turn of a restarter for an instance. A spawn that it asks for is refused where some are still to be.
+    Tick {
+        restarter: InstanceFmri,
+        instance: u64,
+    },
+}
+
+/// A part of a round, whose deeds are known when it begins.
+#[derive(Debug, Drop)]
+pub enum Turn {
+    /// Each owner of a row is launched that is not.
+    Launches,
+    /// The messages that wait are delivered.
+    Messages,
+    Ask,
+    Orders,
+    /// What happened to contracts is reported.
+    Reports,
+    OwnTick(InstanceFmri),
+    /// The turns of a restarter for all instances that it knows.
+    Ticks(InstanceFmri),
 }

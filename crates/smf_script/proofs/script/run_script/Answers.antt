@@ -20,13 +20,13 @@ pub returns-in_err-read_line-clause-err : goal.returns-in_err-read_line-clause-e
 returns-in_err-read_line-clause-err g c =
     let p = err_from_is_err_and c.from_residual.result c.from_residual.ensures.1 in
     rw (p.1, p.2) (IfSome_then (g.R.ScriptReader.remaining c.args.reader.now) c.loop-selection.invariant.known
-    (λ input so_far. stops_reading _ _ _ _ _ _ _ _ _ _ so_far (at_known _ _ _ so_far.is_left c.in_err-read_line.ensures.err)))
+    (λ input so_far. stops_reading g.J.Journal.write_fails g.R.ScriptReader.read_fails _ _ _ _ _ _ _ _ _ _ so_far (at_known _ _ _ so_far.is_left c.in_err-read_line.ensures.err) c.in_err-read_line.ensures.fault))
 
 pub returns-in_err-did-in-Some-clause-err : goal.returns-in_err-did-in-Some-clause-err
 returns-in_err-did-in-Some-clause-err g c =
     let p = err_from_is_err_and c.from_residual-in_err-did-in-Some.result c.from_residual-in_err-did-in-Some.ensures.1 in
     rw (p.1, p.2) (IfSome_then (g.R.ScriptReader.remaining c.args.reader.now) c.loop-selection.invariant.known
-    (λ input so_far. stops_doing _ _ _ _ _ _ _ _ _ _ _ _ _ _ _ so_far
+    (λ input so_far. stops_doing g.J.Journal.write_fails _ _ _ _ _ _ _ _ _ _ _ _ _ _ _ so_far
     (at_known _ _ _ so_far.is_left (rw c.in-Some.is at c.in_ok-read_line.ensures.exact)) (rw c.deref.ensures.value at c.in_err-did-in-Some.ensures.err)))
 
 pub returns-in_err-did-in-Some-clause-later : goal.returns-in_err-did-in-Some-clause-later
@@ -60,9 +60,9 @@ returns-in-None-clause-few g c =
 pub returns-in_err-read_line-clause-fault : goal.returns-in_err-read_line-clause-fault
 returns-in_err-read_line-clause-fault g c =
     let p = err_from_is_err_and c.from_residual.result c.from_residual.ensures.1 in
-    rw (p.1, p.2) (why_unread g.J.Journal.write_fails g.R.ScriptReader.read_fails g.W.ScriptWriter.write_fails _ _ c.in_err-read_line.ensures.fault)
+    rw (p.1, p.2) (why_unread g.J.Journal.write_fails g.R.ScriptReader.read_fails g.W.ScriptWriter.write_fails _ c.in_err-read_line.ensures.fault)
 
 pub returns-in_err-did-in-Some-clause-fault : goal.returns-in_err-did-in-Some-clause-fault
 returns-in_err-did-in-Some-clause-fault g c =
     let p = err_from_is_err_and c.from_residual-in_err-did-in-Some.result c.from_residual-in_err-did-in-Some.ensures.1 in
-    rw (p.1, p.2) (why_undone g.J.Journal.write_fails g.R.ScriptReader.read_fails g.W.ScriptWriter.write_fails _ _ c.in_err-did-in-Some.ensures.fault)
+    rw (p.1, p.2) (why_undone g.J.Journal.write_fails g.R.ScriptReader.read_fails g.W.ScriptWriter.write_fails _ c.in_err-did-in-Some.ensures.fault)

@@ -18,7 +18,7 @@ loop-one-preserved g c =
 pub returns : goal.returns
 returns g c =
     let whole : c.args.all ≡ c.loop-one.yielded = c.loop-one.invariant.split ∙ grind (arith, common_steps) in
-    record { exact = rw whole c.loop-one.invariant.so_far; later = c.loop-one.invariant.later; fault = tt }
+    record { exact = rw whole c.loop-one.invariant.so_far; later = c.loop-one.invariant.later; err = tt }
 
 pub returns-in_err-did-clause-later : goal.returns-in_err-did-clause-later
 returns-in_err-did-clause-later g c = later_then _ _ _ c.loop-one.invariant.later c.in_err-did.ensures.later

@@ -1,0 +1,183 @@
+-- What an event makes can be installed: what is changed is what a command asks for, there is one command at most, and
+-- one thing that becomes of the restarters.
+use Rattle.std.proofs.Common.{◌≡◌, ◌⊎◌, inl, inr, ℕ, ◌==◌, List, [], ◌∷◌, Bool, true, false, Option, Some, None, refl, subst, sym, ap}
+use Rattle.std.specs.Prelude.{find, is_some}
+use Rattle.smf_contract.specs.declared.call.ContractCall.{ContractCall}
+use Rattle.smf_contract.specs.declared.contract.Holder.{Holder}
+use Rattle.smf_contract.specs.declared.contract.Report.{Report}
+use Rattle.smf_contract.specs.Entries.{Contracts, reported as report_at}
+use Rattle.smf_model.proofs.LawNumbers.{asked_numbered}
+use Rattle.smf_model.specs.declared.change.Change.{Change}
+use Rattle.smf_model.specs.declared.command.Command.{Command}
+use Rattle.smf_model.specs.declared.command.Command.TheVariants as commands
+use Rattle.smf_model.specs.declared.command.Reply.{Reply as CommandReply}
+use Rattle.smf_model.specs.declared.command.Reply.TheVariants as replies
+use Rattle.smf_model.specs.Holdings.{Holdings}
+use Rattle.smf_model.specs.Laws.{IsNumbered}
+use Rattle.smf_model.specs.Look.{installed, launch_of}
+use Rattle.smf_model.specs.Next.{asked}
+use Rattle.smf_restarter.specs.declared.reply.Reply.{Reply}
+use Rattle.smf_restarter.specs.Knowledge.{Knowledge}
+use Rattle.smf_restarter.specs.Replies.{heard}
+use Rattle.smf_restarter.specs.Ticks.{own_tick, ticked}
+use Rattle.smf_wire.specs.declared.message.Message.{Message}
+use Rattle.smf_wire.specs.declared.message.Message.TheVariants as messages
+use Rattle.smf_world.specs.declared.event.Event.{Event}
+use Rattle.smf_world.specs.declared.event.Event.TheVariants as events
+use Rattle.smf_world.specs.declared.event.SpawnAnswer.{SpawnAnswer}
+use Rattle.smf_world.specs.declared.event.SpawnAnswer.TheVariants as spawns
+use Rattle.smf_world.specs.declared.work.Becomes.{Becomes}
+use Rattle.smf_world.specs.declared.work.Work.{Work}
+use Rattle.smf_world.specs.Worked.{accepted, acted, booted, booted_as, calling, commanded, crashed, delivered, delivered_if, heard_by, holder, is_launched, is_named, joined, knowing, launched, launched_as, launched_if, no_work, own_ticked, process_call, proposed, reported_by, reported_to, restarter, sent_at, ticked_for, timed, told, worked}
+use Rattle.smf_world.specs.World.{World}
+use Rattle.smf_machine.specs.Install.{CanInstall}
+use Rattle.smf_machine.specs.Lists.{AllFresh, AtMostOne, NoTwins}
+
+record IsOrderly (w : World) (k : Work) : Type 0 where
+  asked : (k.changes ≡ []) ⊎ ((c : Command) × (k.changes ≡ (asked w.now c).changes))
+  command : AtMostOne k.command
+  becomes : AtMostOne k.becomes
+  fresh : AllFresh w.restarters k.becomes
+
+one_accepted : (c : Command) (xs : List Change) → AtMostOne (accepted c xs)
+one_accepted c [] = tt
+one_accepted c (x ∷ xs) = tt
+
+by_command : (w : World) (c : Command) → IsOrderly w (commanded w c)
+unfolding commanded
+by_command w c = record { asked = inr (c, refl); command = one_accepted c (asked w.now c).changes; becomes = tt; fresh = tt }
+
+by_told : (w : World) (m : Message) (k : Option Knowledge) → IsOrderly w (told m k)
+unfolding heard_by
+by_told w m None = record { asked = inl refl; command = tt; becomes = tt; fresh = tt }
+by_told w m (Some k) = record { asked = inl refl; command = tt; becomes = tt; fresh = (tt, tt) }
+
+by_joined : (w : World) (name : List ℕ) (launch : ℕ) (last : Bool) → IsOrderly w (joined w name launch last)
+by_joined w name launch true = record { asked = inl refl; command = tt; becomes = tt; fresh = tt }
+by_joined w name launch false = record { asked = inl refl; command = tt; becomes = tt; fresh = tt }
+
+by_delivered : (w : World) (m : Message) → IsOrderly w (delivered w m)
+unfolding delivered
+by_delivered w (messages.Join name launch) = by_joined w name launch (launch == launch_of w.now name)
+by_delivered w (messages.Rows name launch rows) = by_told w (messages.Rows name launch rows) (restarter w name)
+by_delivered w (messages.Propose p) = let k = by_command w (commands.Propose p) in record { asked = k.asked; command = k.command; becomes = k.becomes; fresh = k.fresh }
+by_delivered w (messages.Ack name launch serial i row) = by_told w (messages.Ack name launch serial i row) (restarter w name)
+by_delivered w (messages.Nack name launch serial i why row) = by_told w (messages.Nack name launch serial i why row) (restarter w name)
+by_delivered w messages.AskView = record { asked = inl refl; command = tt; becomes = tt; fresh = tt }
+by_delivered w (messages.View v) = record { asked = inl refl; command = tt; becomes = tt; fresh = tt }
+by_delivered w (messages.Order o) = by_told w (messages.Order o) (restarter w o.restarter)
+
+by_delivered_if : (w : World) (m : Option Message) → IsOrderly w (delivered_if w m)
+by_delivered_if w None = record { asked = inl refl; command = tt; becomes = tt; fresh = tt }
+by_delivered_if w (Some m) = by_delivered w m
+
+by_acted : (w : World) (k : Knowledge) (n : ℕ) (spawn : SpawnAnswer) (r : Reply) → IsOrderly w (acted w k n spawn r)
+unfolding acted
+by_acted w k n spawn r = record { asked = inl refl; command = tt; becomes = tt; fresh = (tt, tt) }
+
+by_own_tick : (w : World) (k : Option Knowledge) → IsOrderly w (own_ticked w k)
+by_own_tick w None = record { asked = inl refl; command = tt; becomes = tt; fresh = tt }
+by_own_tick w (Some k) = by_acted w k 0 spawns.Made (own_tick k k.stage)
+
+by_tick : (w : World) (n : ℕ) (spawn : SpawnAnswer) (k : Option Knowledge) → IsOrderly w (ticked_for w n spawn k)
+by_tick w n spawn None = record { asked = inl refl; command = tt; becomes = tt; fresh = tt }
+by_tick w n spawn (Some k) = by_acted w k n spawn (ticked k n)
+
+by_calling : (w : World) (t : Contracts) (call : ContractCall) → IsOrderly w (calling t call)
+unfolding calling
+by_calling w t call = record { asked = inl refl; command = tt; becomes = tt; fresh = tt }
+
+by_report : (w : World) (r : Report) (k : Option Knowledge) → IsOrderly w (reported_by r k)
+by_report w r None = record { asked = inl refl; command = tt; becomes = tt; fresh = tt }
+by_report w r (Some k) = record { asked = inl refl; command = tt; becomes = tt; fresh = (tt, tt) }
+
+by_reported : (w : World) (r : Option Report) → IsOrderly w (reported_to w r)
+by_reported w None = record { asked = inl refl; command = tt; becomes = tt; fresh = tt }
+by_reported w (Some r) = by_report w r (holder w r.contract.holder)
+
+by_timeout : (w : World) (n : ℕ) (k : Option Knowledge) → IsOrderly w (timed n k)
+by_timeout w n None = record { asked = inl refl; command = tt; becomes = tt; fresh = tt }
+by_timeout w n (Some k) = record { asked = inl refl; command = tt; becomes = tt; fresh = (tt, tt) }
+
+by_crash : (w : World) (k : Option Knowledge) → IsOrderly w (crashed w k)
+unfolding calling
+by_crash w None = record { asked = inl refl; command = tt; becomes = tt; fresh = tt }
+by_crash w (Some k) = record { asked = inl refl; command = tt; becomes = tt; fresh = (tt, tt) }
+
+one_launched : (w : World) (name : List ℕ) (rs : List CommandReply) → AtMostOne (launched_as w name rs)
+one_launched w name [] = tt
+one_launched w name (replies.Made launch ∷ rs) = tt
+one_launched w name (replies.Granted row ∷ rs) = tt
+one_launched w name (replies.Done ∷ rs) = tt
+one_launched w name (replies.NoSuch ∷ rs) = tt
+one_launched w name (replies.InUse ∷ rs) = tt
+one_launched w name (replies.NotInState ∷ rs) = tt
+one_launched w name (replies.Exists ∷ rs) = tt
+one_launched w name (replies.Denied fault ∷ rs) = tt
+one_launched w name (replies.Limit ∷ rs) = tt
+one_launched w name (replies.Stale why row ∷ rs) = tt
+
+fresh_launched : (w : World) (name : List ℕ) (rs : List CommandReply) → is_launched w name ≡ false → AllFresh w.restarters (launched_as w name rs)
+fresh_launched w name [] e = tt
+fresh_launched w name (replies.Made launch ∷ rs) e = (e, tt)
+fresh_launched w name (replies.Granted row ∷ rs) e = tt
+fresh_launched w name (replies.Done ∷ rs) e = tt
+fresh_launched w name (replies.NoSuch ∷ rs) e = tt
+fresh_launched w name (replies.InUse ∷ rs) e = tt
+fresh_launched w name (replies.NotInState ∷ rs) e = tt
+fresh_launched w name (replies.Exists ∷ rs) e = tt
+fresh_launched w name (replies.Denied fault ∷ rs) e = tt
+fresh_launched w name (replies.Limit ∷ rs) e = tt
+fresh_launched w name (replies.Stale why row ∷ rs) e = tt
+
+by_launch : (w : World) (name : List ℕ) (b : Bool) → is_launched w name ≡ b → IsOrderly w (launched_if w name b)
+by_launch w name true e = record { asked = inl refl; command = tt; becomes = tt; fresh = tt }
+by_launch w name false e =
+    let k = by_command w (commands.Launch name) in
+    let rs = (commanded w (commands.Launch name)).reply in
+    record { asked = k.asked; command = k.command; becomes = one_launched w name rs; fresh = fresh_launched w name rs e }
+
+by_boot : (w : World) (k : Work) (rs : List CommandReply) → IsOrderly w k → IsOrderly w (booted_as k rs)
+by_boot w k [] o = o
+by_boot w k (replies.Made launch ∷ rs) o = o
+by_boot w k (replies.Granted row ∷ rs) o = o
+by_boot w k (replies.Done ∷ rs) o = record { asked = o.asked; command = o.command; becomes = tt; fresh = (tt, tt) }
+by_boot w k (replies.NoSuch ∷ rs) o = o
+by_boot w k (replies.InUse ∷ rs) o = o
+by_boot w k (replies.NotInState ∷ rs) o = o
+by_boot w k (replies.Exists ∷ rs) o = o
+by_boot w k (replies.Denied fault ∷ rs) o = o
+by_boot w k (replies.Limit ∷ rs) o = o
+by_boot w k (replies.Stale why row ∷ rs) o = o
+
+orderly : (w : World) (e : Event) → IsOrderly w (worked w e)
+unfolding worked
+orderly w (events.Deliver place) = by_delivered_if w (sent_at w place)
+orderly w (events.Client edit) = by_command w (commands.Edit edit)
+orderly w events.Ask = record { asked = inl refl; command = tt; becomes = tt; fresh = tt }
+orderly w events.Orders = record { asked = inl refl; command = tt; becomes = tt; fresh = tt }
+orderly w (events.OwnTick name) = by_own_tick w (restarter w name)
+orderly w (events.Tick name n spawn) = by_tick w n spawn (restarter w name)
+orderly w (events.Process process what) = by_calling w w.table (process_call process what)
+orderly w (events.Report contract number) = by_reported w (report_at w.table contract number)
+orderly w (events.Timeout name n) = by_timeout w n (restarter w name)
+orderly w (events.Crash name) = by_crash w (restarter w name)
+orderly w (events.Launch name) = by_launch w name (is_launched w name) refl
+orderly w events.Boot = by_boot w (commanded w commands.Boot) (commanded w commands.Boot).reply (by_command w commands.Boot)
+
+-- ---- what it makes
+
+numbered_by : (h : Holdings) (xs : List Change) → IsNumbered h → (xs ≡ []) ⊎ ((c : Command) × (xs ≡ (asked h c).changes)) → IsNumbered (installed h xs)
+unfolding installed
+numbered_by h xs n (inl none) = subst (λ ys. IsNumbered (installed h ys)) (sym none) n
+numbered_by h xs n (inr by) = subst (λ ys. IsNumbered (installed h ys)) (sym by.1) (asked_numbered h by.0 n)
+
+pub numbered_worked : (w : World) (e : Event) → IsNumbered w.now → IsNumbered (installed w.now (worked w e).changes)
+numbered_worked w e n = numbered_by w.now (worked w e).changes n (orderly w e).asked
+
+pub fresh_worked : (w : World) (e : Event) → AllFresh w.restarters (worked w e).becomes
+fresh_worked w e = (orderly w e).fresh
+
+pub can_install : (w : World) (e : Event) → IsNumbered w.now → NoTwins w.restarters → CanInstall w.now w.restarters (worked w e)
+can_install w e n apart =
+    let o = orderly w e in record { numbered = numbered_worked w e n; apart = apart; command = o.command; becomes = o.becomes }

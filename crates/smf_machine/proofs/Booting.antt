@@ -1,0 +1,92 @@
+-- A boot of what was found, and what an event of a world that is reached installs.
+use Rattle.std.proofs.Common.{◌≡◌, ◌⊎◌, inl, inr, List, [], ◌∷◌, Bool, true, false, refl, subst, sym, ap, ◌∙◌, Result, Ok, Err, IfOk, OnErr}
+use Rattle.std.specs.Prelude.{nat_lt, ◌+◌, ◌++◌, if◌then◌else◌, IfErr}
+use Rattle.smf_model.specs.declared.change.Outcome.{Outcome}
+use Rattle.smf_model.specs.declared.change.Change.TheVariants.{SetRevision}
+use Rattle.smf_model.specs.declared.command.Command.TheVariants as commands
+use Rattle.smf_model.specs.declared.command.Reply.{Reply}
+use Rattle.smf_model.specs.declared.command.Reply.TheVariants.{Made, Granted, Done, NoSuch, InUse, NotInState, Exists, Denied, Limit, Stale}
+use Rattle.smf_model.specs.declared.journal.RepoFault.{RepoFault}
+use Rattle.smf_model.specs.Holdings.{Holdings}
+use Rattle.smf_model.specs.Laws.{IsNumbered}
+use Rattle.smf_model.specs.Next.{accepted, asked, asked_boot, booting, greatest, may_not_boot, next, refused}
+use Rattle.smf_world.specs.declared.event.Event.{Event}
+use Rattle.smf_world.specs.declared.event.Event.TheVariants as events
+use Rattle.smf_world.specs.declared.work.Work.{Work}
+use Rattle.smf_world.specs.Reached.{IsReached}
+use Rattle.smf_world.specs.Worked.{booted, booted_as, commanded, worked}
+use Rattle.smf_world.specs.World.{World}
+use Rattle.smf_machine.proofs.Asking.{can_install}
+use Rattle.smf_machine.proofs.Reaching.{reached_installs}
+use Rattle.smf_machine.specs.declared.fault.MachineFault.{MachineFault}
+use Rattle.smf_machine.specs.declared.fault.MachineFault.TheVariants as faults
+use Rattle.smf_machine.specs.Faults.{IsUnbooted, IsUndone}
+use Rattle.smf_machine.specs.Given.{is_done}
+use Rattle.smf_machine.specs.Install.{CanInstall}
+use Rattle.smf_machine.specs.Lists.{NoTwins}
+use Rattle.std.specs.Result.{IsErrAnd}
+
+pub installs_worked : (w : World) (e : Event) (k : Work) → IsReached w → k ≡ worked w e → CanInstall w.now w.restarters k
+installs_worked w e k r is = subst (λ x. CanInstall w.now w.restarters x) (sym is) (reached_installs w e r)
+
+pub installs_boot : (w : World) (k : Work) → IsNumbered w.now → NoTwins w.restarters → k ≡ worked w events.Boot → CanInstall w.now w.restarters k
+installs_boot w k n apart is = subst (λ x. CanInstall w.now w.restarters x) (sym is) (can_install w events.Boot n apart)
+
+-- a boot changes and replies what the repository does
+kept : (k : Work) (rs : List Reply) → ((booted_as k rs).changes ≡ k.changes) × ((booted_as k rs).reply ≡ k.reply)
+kept k [] = (refl, refl)
+kept k (Made n ∷ rs) = (refl, refl)
+kept k (Granted row ∷ rs) = (refl, refl)
+kept k (Done ∷ rs) = (refl, refl)
+kept k (NoSuch ∷ rs) = (refl, refl)
+kept k (InUse ∷ rs) = (refl, refl)
+kept k (NotInState ∷ rs) = (refl, refl)
+kept k (Exists ∷ rs) = (refl, refl)
+kept k (Denied fault ∷ rs) = (refl, refl)
+kept k (Limit ∷ rs) = (refl, refl)
+kept k (Stale why row ∷ rs) = (refl, refl)
+
+pub boot_changes : (w : World) (k : Work) → k ≡ worked w events.Boot → k.changes ≡ (asked w.now commands.Boot).changes
+unfolding worked commanded
+boot_changes w k is = ap (λ x. x.changes) is ∙ (kept (commanded w commands.Boot) (commanded w commands.Boot).reply).0
+
+pub boot_reply : (w : World) (k : Work) → k ≡ worked w events.Boot → k.reply ≡ (asked w.now commands.Boot).reply ∷ []
+unfolding worked commanded
+boot_reply w k is = ap (λ x. x.reply) is ∙ (kept (commanded w commands.Boot) (commanded w commands.Boot).reply).1
+
+done_one : (r : Reply) → is_done (r ∷ []) ≡ true → r ≡ Done
+done_one (Made n) e = absurd cc
+done_one (Granted row) e = absurd cc
+done_one Done e = refl
+done_one NoSuch e = absurd cc
+done_one InUse e = absurd cc
+done_one NotInState e = absurd cc
+done_one Exists e = absurd cc
+done_one (Denied fault) e = absurd cc
+done_one Limit e = absurd cc
+done_one (Stale why row) e = absurd cc
+
+pub boot_accepted : (w : World) (k : Work) → k ≡ worked w events.Boot → is_done k.reply ≡ true → (next w.now commands.Boot).1 ≡ Done
+unfolding next
+boot_accepted w k is e = done_one (asked w.now commands.Boot).reply (ap is_done (sym (boot_reply w k is)) ∙ e)
+
+limit_by : (h : Holdings) (last left : Bool) → is_done ((if last then refused Limit else if left then (record { changes = booting h ++ SetRevision (h.revision + 1) ∷ []; reply = Done }) else refused Limit).reply ∷ []) ≡ false
+    → (if last then refused Limit else if left then (record { changes = booting h ++ SetRevision (h.revision + 1) ∷ []; reply = Done }) else refused Limit).reply ≡ Limit
+limit_by h true left e = refl
+limit_by h false true e = absurd cc
+limit_by h false false e = refl
+
+boot_limit : (h : Holdings) → is_done ((asked h commands.Boot).reply ∷ []) ≡ false → (asked h commands.Boot).reply ≡ Limit
+unfolding asked asked_boot
+boot_limit h e = limit_by h (may_not_boot h) (nat_lt h.revision greatest) e
+
+pub boot_refused : (w : World) (k : Work) (fails : RepoFault → Type 0) → k ≡ worked w events.Boot → is_done k.reply ≡ false → IsUnbooted fails w.now faults.Limit
+boot_refused w k fails is e = inr (refl, boot_limit w.now (ap is_done (sym (boot_reply w k is)) ∙ e))
+
+pub boot_undone : (w : World) (k : Work) (fails : RepoFault → Type 0) (e : MachineFault) → k ≡ worked w events.Boot → IsUndone fails k.changes e → IsUnbooted fails w.now e
+boot_undone w k fails e is h = inl (subst (λ xs. IsUndone fails xs e) (boot_changes w k is) h)
+
+-- what the exit of a `?` gives
+pub passed_on : {X : Type 0} (r : Result X MachineFault) (e : MachineFault) (P : MachineFault → Type 0) → IsErrAnd r (λ y. y ≡ e) → P e → IfErr r P
+passed_on (Ok x) e P q p = tt
+passed_on (Err y) e P q p = subst P (sym q) p

@@ -1,0 +1,9 @@
+pub mod Given
+pub mod Find
+pub mod Places
+pub mod Known
+pub mod Worlds
+pub mod Asking
+pub mod Reaching
+pub mod Booting
+pub mod Keeping

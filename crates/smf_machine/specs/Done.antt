@@ -1,0 +1,12 @@
+-- That an event happened.
+use Rattle.std.specs.Prelude.{◌≡◌, List}
+use Rattle.smf_model.specs.declared.command.Reply.{Reply}
+use Rattle.smf_world.specs.declared.event.Event.{Event}
+use Rattle.smf_world.specs.Happens.{happens}
+use Rattle.smf_world.specs.Worked.{worked}
+use Rattle.smf_world.specs.World.{World}
+
+-- an event happened, and its command had this reply, where it is one
+pub record IsDone (before : World) (event : Event) (after : World) (reply : List Reply) : Type 0 where
+  pub made : after ≡ happens before event
+  pub said : reply ≡ (worked before event).reply

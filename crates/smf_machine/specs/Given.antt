@@ -1,0 +1,40 @@
+-- Words beside those of the world, by what the code has at hand.
+use Rattle.std.specs.Prelude.{ℕ, ◌==◌, List, [], ◌∷◌, Bool, true, false, Option, Some, None}
+use Rattle.std.specs.Cmp.Lexicographic.{pointwise}
+use Rattle.std.specs.Prelude.{nat_eq}
+use Rattle.smf_contract.specs.Entries.{statuses}
+use Rattle.smf_model.specs.declared.command.Reply.{Reply as CommandReply}
+use Rattle.smf_model.specs.declared.command.Reply.TheVariants as replies
+use Rattle.smf_model.specs.declared.held.Instance.{Instance}
+use Rattle.smf_restarter.specs.declared.reply.Answer.{Answer}
+use Rattle.smf_restarter.specs.declared.reply.Call.{Call}
+use Rattle.smf_restarter.specs.declared.reply.Call.TheVariants as asks
+use Rattle.smf_restarter.specs.declared.reply.Change.{Change as KnowledgeChange}
+use Rattle.smf_restarter.specs.Answers.{answered, listed}
+use Rattle.smf_restarter.specs.Knowledge.{Kept, Knowledge}
+use Rattle.smf_world.specs.declared.item.Item.{Item}
+use Rattle.smf_world.specs.Items.{row_if, row_item}
+use Rattle.smf_world.specs.World.{World}
+
+-- a row in place of one of this number
+abbrev pub row_beside : Option ℕ → Instance → Option Item
+row_beside None i = Some (row_item i)
+row_beside (Some number) i = row_if (i.row.number == number) i
+
+abbrev pub is_done : List CommandReply → Bool
+is_done (replies.Done ∷ rs) = true
+is_done _ = false
+
+-- what a restarter knows behind its call, by what its reply changes
+abbrev pub change_behind : World → Knowledge → ℕ → KnowledgeChange → Call → Answer → KnowledgeChange
+change_behind w k n change asks.Nothing a = change
+change_behind w k n change asks.List a = listed k (statuses w.table)
+change_behind w k n change (asks.Adopt c) a = answered k n a
+change_behind w k n change (asks.Spawn cookie terms) a = answered k n a
+change_behind w k n change (asks.Kill c) a = change
+
+abbrev pub is_named_kept : List ℕ → Kept → Bool
+is_named_kept name r = pointwise nat_eq r.known.name name
+
+abbrev pub is_actor_kept : ℕ → Kept → Bool
+is_actor_kept actor r = r.known.actor == actor

@@ -1,0 +1,93 @@
+-- Room for what an event makes, and what is made of it.
+use Rattle.std.specs.Prelude.{◌≡◌, ℕ, ◌+◌, ◌<◌, ◌≤◌, List, [], ◌∷◌, ◌++◌, length, map, position, reverse, slice_get, vec_capacity, vec_len, true, Option, Some}
+use Rattle.smf_contract.specs.Called.{called}
+use Rattle.smf_model.specs.Holdings.{Holdings}
+use Rattle.smf_model.specs.Laws.{IsNumbered}
+use Rattle.smf_model.specs.Look.{installed}
+use Rattle.smf_restarter.specs.declared.reply.Change.{Change}
+use Rattle.smf_restarter.specs.Knowledge.{Kept, Knowledge}
+use Rattle.smf_world.specs.declared.work.Becomes.{Becomes}
+use Rattle.smf_world.specs.declared.work.Becomes.TheVariants.{Knows, Launched, Gone, NoneLeft}
+use Rattle.smf_world.specs.declared.work.Work.{Work}
+use Rattle.smf_world.specs.Happens.{all_becoming, seen_after}
+use Rattle.smf_world.specs.Worked.{is_named}
+use Rattle.smf_machine.specs.declared.installing.Rest.{Rest}
+use Rattle.smf_machine.specs.declared.parts.Parts.{Parts}
+use Rattle.smf_machine.specs.Lists.{AtMostOne, NoTwins}
+use Rattle.smf_machine.specs.Parts.{knowledge}
+
+-- ---- room
+
+-- a restarter has room for a change
+pub record FitsIn (c : Change) (r : Kept) : Type 0 where
+  pub instances : length c.put ≤ r.instances_room
+  pub runs : length c.listed + 1 ≤ r.runs_room
+
+-- the restarter of a name has
+abbrev pub RoomOf : List ℕ → Change → List Kept → Type 0
+RoomOf name c rs = (k : ℕ) (r : Kept) → position (is_named name) (map knowledge rs) ≡ Some k → slice_get rs k ≡ Some r → FitsIn c r
+
+abbrev pub RoomFor : Becomes → List Kept → Type 0
+RoomFor (Knows name c) rs = RoomOf name c rs
+RoomFor (Launched name actor launch) rs = Unit {0}
+RoomFor (Gone name) rs = Unit {0}
+RoomFor NoneLeft rs = Unit {0}
+
+abbrev pub RoomForAll : List Becomes → List Kept → Type 0
+RoomForAll [] rs = Unit {0}
+RoomForAll (b ∷ bs) rs = RoomFor b rs
+
+-- nothing that the world shows has changed
+pub record IsSame (p q : Parts) : Type 0 where
+  pub first : q.first ≡ p.first
+  pub commands : q.commands.items ≡ p.commands.items
+  pub restarters : map knowledge q.restarters.items ≡ map knowledge p.restarters.items
+  pub seen : q.engine ≡ p.engine
+  pub messages : q.messages.items ≡ p.messages.items
+  pub trail : q.trail.items ≡ p.trail.items
+  pub table : q.table.table ≡ p.table.table
+
+-- there is room for all that a work makes, the repository aside
+pub record HasRoom (p : Parts) (k : Work) : Type 0 where
+  pub commands : vec_len p.commands + length k.command ≤ vec_capacity p.commands
+  pub items : vec_len p.trail + length k.items ≤ vec_capacity p.trail
+  pub messages : vec_len p.messages + length k.messages ≤ vec_capacity p.messages
+  pub one : vec_len p.restarters < vec_capacity p.restarters
+  pub becomes : RoomForAll k.becomes p.restarters.items
+  pub call : p.table.room ≡ true
+
+-- the same for what is left when the repository has committed
+pub record HasRoomLeft (p : Parts) (k : Rest) : Type 0 where
+  pub commands : vec_len p.commands + length k.command ≤ vec_capacity p.commands
+  pub items : vec_len p.trail + length k.items ≤ vec_capacity p.trail
+  pub messages : vec_len p.messages + length k.messages ≤ vec_capacity p.messages
+  pub one : vec_len p.restarters < vec_capacity p.restarters
+  pub becomes : RoomForAll k.becomes p.restarters.items
+  pub call : p.table.room ≡ true
+
+-- ---- what can be installed
+
+-- names are apart, and there is one command at most, and one thing that becomes of the restarters
+pub record IsSingle (ks : List Knowledge) (k : Rest) : Type 0 where
+  pub apart : NoTwins ks
+  pub becomes : AtMostOne k.becomes
+
+-- numbers stay given once, names are apart, and there is one command at most, and one thing that becomes of the
+-- restarters
+pub record CanInstall (h : Holdings) (ks : List Knowledge) (k : Work) : Type 0 where
+  pub numbered : IsNumbered (installed h k.changes)
+  pub apart : NoTwins ks
+  pub command : AtMostOne k.command
+  pub becomes : AtMostOne k.becomes
+
+-- ---- what is installed
+
+-- all of a work was made, the repository aside
+pub record IsInstalled (p q : Parts) (k : Rest) : Type 0 where
+  pub first : q.first ≡ p.first
+  pub commands : q.commands.items ≡ p.commands.items ++ k.command
+  pub restarters : map knowledge q.restarters.items ≡ all_becoming k.becomes (map knowledge p.restarters.items)
+  pub seen : q.engine ≡ seen_after k.forgets p.engine k.seen
+  pub messages : q.messages.items ≡ p.messages.items ++ k.messages
+  pub trail : q.trail.items ≡ p.trail.items ++ k.items
+  pub table : q.table.table ≡ called p.table.table k.call

@@ -1,0 +1,6 @@
+pub mod Parts
+pub mod Given
+pub mod Lists
+pub mod Faults
+pub mod Install
+pub mod Done

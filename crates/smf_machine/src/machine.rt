@@ -1,0 +1,168 @@
+ghost use Rattle.std.specs.Prelude.{◌≡◌, map, option_map, reverse, IfErr, IfOk, OnErr, OnOk};
+ghost use Rattle.std.specs.Option.{option_copied};
+ghost use Rattle.smf_machine.specs.Faults.{IsUnbooted, IsUndone};
+ghost use Rattle.smf_machine.specs.Done.{IsDone};
+ghost use Rattle.smf_machine.specs.Lists.{NoTwins};
+ghost use Rattle.smf_machine.specs.Parts.{knowledge};
+ghost use Rattle.smf_model.specs.declared.command.Command.TheVariants as commands;
+ghost use Rattle.smf_model.specs.declared.command.Reply.TheVariants.{Done};
+ghost use Rattle.smf_model.specs.Laws.{IsNumbered};
+ghost use Rattle.smf_model.specs.Next.{next};
+ghost use Rattle.smf_world.specs.declared.event.Event.TheVariants as events;
+ghost use Rattle.smf_world.specs.Happens.{happens};
+ghost use Rattle.smf_world.specs.Reached.{IsReached};
+ghost use Rattle.smf_world.specs.Safe.{IsRecorded};
+ghost use Rattle.smf_world.specs.Worked.{restarter, worked};
+ghost use Rattle.smf_world.specs.World.{found};
+
+use crate::commanding::is_done;
+use crate::fault::MachineFault;
+use crate::parts::{System, parts_of};
+use smf_contract::Table;
+use smf_fmri::{InstanceFmri, Items};
+use smf_model::{Journal, Plain, Reply};
+use smf_restarter::Restarter;
+use smf_wire::Message;
+use smf_world::{Event, Item};
+use std::alloc::Global;
+use std::marker::Model;
+
+/// The repository, svc.startd's graph, the restarters, their messages, the contracts and the trail. Contracts see the
+/// world. A machine's world is always one that some events behind an accepted boot make.
+#[derive(Drop)]
+pub struct Machine<J: Journal> {
+    system: System<J>,
+}
+
+impl<J: Journal> Model for Machine<J> {
+    ghost use Rattle.smf_world.specs.Reached.{IsReached};
+    ghost use Rattle.smf_world.specs.World.{World};
+
+    ghost Value = { World };
+
+    ghost view = { λ m. m.system };
+
+    ghost invariant = { λ m. IsReached m.system };
+}
+
+impl<J: Journal> System<J> {
+    /// What was found boots. `Limit` where a row or a launch has no next number.
+    fn boot(&mut self) -> Result<(), MachineFault>
+        requires numbered { IsNumbered self.old.now }
+        requires apart { NoTwins self.old.restarters }
+        ensures ok { OnOk result (self.new ≡ happens self.old events.Boot) }
+        ensures accepted { OnOk result ((next self.old.now commands.Boot).1 ≡ Done) }
+        ensures err { OnErr result (self.new ≡ self.old) }
+        ensures fault { IfErr result (λ e. IsUnbooted J.write_fails self.old.now e) }
+    {
+        let work = self.worked(&Event::Boot)?;
+        if !is_done(work.reply.as_slice()) {
+            return Err(MachineFault::Limit);
+        }
+        self.take(work)?;
+        Ok(())
+    }
+
+    /// An event happens.
+    #[tactic(auto, unfolding(smf_world::specs::Happens::happens))]
+    fn happen(&mut self, event: &Event) -> Result<Items<Reply>, MachineFault>
+        requires { IsReached self.old }
+        ensures ok { IfOk result (λ r. IsDone self.old event.now self.new r) }
+        ensures err { OnErr result (self.new ≡ self.old) }
+        ensures fault { IfErr result (λ e. IsUndone J.write_fails (worked self.old event.now).changes e) }
+    {
+        let work = self.worked(event)?;
+        self.take(work)
+    }
+}
+
+impl<J: Journal> Machine<J> {
+    /// Boots what was found. A fault hands the repository back, as it was; `Limit` where a row or a launch has no next
+    /// number.
+    pub fn new(alloc: Global, repository: Plain<J>) -> Result<Machine<J>, (MachineFault, Plain<J>)>
+        ensures ok { IfOk result (λ m. m ≡ happens (found repository.held) events.Boot) }
+        ensures recorded { IfOk result (λ m. IsRecorded m) }
+        ensures err { IfErr result (λ e. e.1.held ≡ repository.held) }
+        ensures fault { IfErr result (λ e. IsUnbooted J.write_fails repository.held e.0) }
+    {
+        let first = match repository.stored() {
+            Ok(first) => first,
+            Err(_) => return Err((MachineFault::Memory, repository)),
+        };
+        let mut system = System {
+            alloc,
+            repository,
+            parts: parts_of(alloc, first),
+        };
+        match system.boot() {
+            Ok(()) => Ok(Machine { system }),
+            Err(fault) => Err((fault, system.repository)),
+        }
+    }
+
+    /// An event happens: all that it makes is made, or nothing. What is given back is the reply to its command, where
+    /// it is one.
+    pub fn happen(&mut self, event: &Event) -> Result<Items<Reply>, MachineFault>
+        ensures ok { IfOk result (λ r. IsDone self.old event.now self.new r) }
+        ensures err { OnErr result (self.new ≡ self.old) }
+        ensures recorded { IsRecorded self.new }
+        ensures fault { IfErr result (λ e. IsUndone J.write_fails (worked self.old event.now).changes e) }
+    {
+        self.system.happen(event)
+    }
+
+    /// The repository.
+    #[tactic(auto, unfolding(crate::specs::Parts::world_of))]
+    pub fn repository(&self) -> &Plain<J>
+        ensures { result.now.held ≡ self.now.now }
+    {
+        &self.system.repository
+    }
+
+    /// The launched restarter of a name.
+    pub fn restarter(&self, name: &InstanceFmri) -> Option<&Restarter>
+        ensures { option_map knowledge (option_copied result) ≡ restarter self.now name.now }
+    {
+        self.system.restarter(name)
+    }
+
+    /// The launched restarters, in the order of their launches.
+    #[tactic(auto, unfolding(crate::specs::Parts::world_of))]
+    pub fn restarters(&self) -> &[Restarter]
+        ensures { map knowledge result.now ≡ self.now.restarters }
+    {
+        &self.system.parts.restarters
+    }
+
+    /// The contracts.
+    pub fn table(&self) -> &Table
+        ensures { result.now.table ≡ self.now.table }
+    {
+        self.system.table()
+    }
+
+    /// All messages ever sent, the oldest first.
+    #[tactic(auto, unfolding(crate::specs::Parts::world_of))]
+    pub fn messages(&self) -> &[Message]
+        ensures { result.now ≡ reverse self.now.sent }
+    {
+        &self.system.parts.messages
+    }
+
+    /// The trail, the oldest first.
+    #[tactic(auto, unfolding(crate::specs::Parts::world_of))]
+    pub fn trail(&self) -> &[Item]
+        ensures shown { result.now ≡ reverse self.now.trail }
+        ensures recorded { IsRecorded self.now }
+    {
+        &self.system.parts.trail
+    }
+
+    /// The repository alone.
+    #[tactic(auto, unfolding(crate::specs::Parts::world_of))]
+    pub fn into_repository(self) -> Plain<J>
+        ensures { result.held ≡ self.now }
+    {
+        self.system.repository
+    }
+}

@@ -1,0 +1,181 @@
+ghost use Rattle.std.specs.Option.{option_copied};
+ghost use Rattle.std.specs.Prelude.{◌≡◌, ◌+◌, ◌<◌, find, length, map, option_map, position, IfOk, IfSome};
+ghost use Rattle.smf_contract.specs.Entries.{statuses};
+ghost use Rattle.smf_engine.specs.Orders.{orders_seen};
+ghost use Rattle.smf_machine.specs.Given.{is_actor_kept, is_named_kept};
+ghost use Rattle.smf_machine.specs.Parts.{knowledge, world_of};
+ghost use Rattle.smf_model.specs.Look.{instance, launch_of};
+ghost use Rattle.smf_model.specs.Next.{asked};
+ghost use Rattle.smf_model.specs.Shown.{rows_of, view};
+ghost use Rattle.smf_world.specs.Worked.{is_actor, is_launched, is_named, restarter, sent_at};
+ghost use Rattle.smf_world.specs.World.{found};
+ghost use Rattle.smf_model.specs.Holdings.{Holdings as AnyHoldings};
+
+use smf_contract::{Status, Table};
+use smf_engine::Engine;
+use smf_fmri::{InstanceFmri, Items};
+use smf_model::{Command, Instance, Journal, Outcome, Plain, Tables, View};
+use smf_restarter::Restarter;
+use smf_wire::{Message, Order};
+use smf_world::Item;
+use std::alloc::{AllocError, Global};
+use std::marker::Model;
+
+/// All actors but the repository, and what was seen of them.
+#[derive(Drop)]
+pub struct Parts {
+    /// What the repository held when it was found.
+    pub(crate) first: Tables,
+    /// The accepted commands since.
+    pub(crate) commands: Vec<Command>,
+    pub(crate) restarters: Vec<Restarter>,
+    pub(crate) engine: Engine,
+    /// All that were ever sent.
+    pub(crate) messages: Vec<Message>,
+    pub(crate) trail: Vec<Item>,
+    pub(crate) table: Table,
+}
+
+/// Nothing was said or seen yet.
+#[tactic(auto, unfolding(crate::specs::Parts::world_of))]
+pub(crate) fn parts_of(alloc: Global, first: Tables) -> Parts
+    ensures { (h : AnyHoldings) → first ≡ h → world_of h result ≡ found h }
+{
+    Parts {
+        first,
+        commands: Vec::new(alloc),
+        restarters: Vec::new(alloc),
+        engine: Engine::new(),
+        messages: Vec::new(alloc),
+        trail: Vec::new(alloc),
+        table: Table::new(alloc),
+    }
+}
+
+/// The repository and the other actors, which contracts see as the world.
+#[derive(Drop)]
+pub(crate) struct System<J: Journal> {
+    pub(crate) alloc: Global,
+    pub(crate) repository: Plain<J>,
+    pub(crate) parts: Parts,
+}
+
+impl<J: Journal> Model for System<J> {
+    ghost use Rattle.smf_machine.specs.Parts.{world_of};
+    ghost use Rattle.smf_world.specs.World.{World};
+
+    ghost Value = { World };
+
+    ghost view = { λ s. world_of s.repository.held s.parts };
+}
+
+fn named_in<'a>(restarters: &'a [Restarter], name: &InstanceFmri) -> Option<&'a Restarter>
+    ensures { option_copied result ≡ find (is_named_kept name.now) restarters.now }
+{
+    restarters.iter().find(|r| *r.name() == *name)
+}
+
+/// The restarter of a name.
+#[tactic(auto, using(crate::proofs::Find::find_named))]
+fn restarter_in<'a>(restarters: &'a [Restarter], name: &InstanceFmri) -> Option<&'a Restarter>
+    ensures { option_map knowledge (option_copied result) ≡ find (is_named name.now) (map knowledge restarters.now) }
+{
+    named_in(restarters, name)
+}
+
+fn holding_in(restarters: &[Restarter], actor: u64) -> Option<&Restarter>
+    ensures { option_copied result ≡ find (is_actor_kept actor) restarters.now }
+{
+    restarters.iter().find(|r| r.actor() == actor)
+}
+
+/// The restarter that holds contracts as this actor.
+#[tactic(auto, using(crate::proofs::Find::find_actor))]
+fn actor_in(restarters: &[Restarter], actor: u64) -> Option<&Restarter>
+    ensures { option_map knowledge (option_copied result) ≡ find (is_actor actor) (map knowledge restarters.now) }
+{
+    holding_in(restarters, actor)
+}
+
+#[tactic(auto, unfolding(crate::specs::Parts::world_of))]
+impl<J: Journal> System<J> {
+    /// What a command asks to change, and its reply.
+    pub(crate) fn asked(&self, command: &Command) -> Result<Outcome, AllocError>
+        ensures { IfOk result (λ r. r ≡ asked self.now.now command.now) }
+    {
+        self.repository.asked(command)
+    }
+
+    /// The number of the row of an instance, where it is there.
+    pub(crate) fn row_number(&self, number: u64) -> Option<u64>
+        ensures { result ≡ option_map (λ i. i.row.number) (instance self.now.now number) }
+    {
+        self.repository.row_number(number)
+    }
+
+    /// The revision of the next command that is accepted.
+    pub(crate) fn next_revision(&self) -> u64
+        ensures { result ≡ self.now.now.revision + 1 }
+    {
+        self.repository.revision().get() + 1
+    }
+
+    pub(crate) fn launch_of(&self, name: &InstanceFmri) -> u64
+        ensures { result ≡ launch_of self.now.now name.now }
+    {
+        self.repository.launch_of(name)
+    }
+
+    pub(crate) fn rows_of(&self, name: &InstanceFmri) -> Result<Items<Instance>, AllocError>
+        ensures { IfOk result (λ all. all ≡ rows_of self.now.now name.now) }
+    {
+        self.repository.rows_of(name)
+    }
+
+    pub(crate) fn view(&self) -> Result<View, AllocError>
+        ensures { IfOk result (λ v. v ≡ view self.now.now) }
+    {
+        self.repository.view()
+    }
+
+    /// The orders of the view that the graph holds.
+    pub(crate) fn orders(&self) -> Result<Items<Order>, AllocError>
+        ensures { IfOk result (λ all. all ≡ orders_seen self.now.seen) }
+    {
+        self.parts.engine.decide_all(self.alloc)
+    }
+
+    /// The launched restarter of a name.
+    pub(crate) fn restarter(&self, name: &InstanceFmri) -> Option<&Restarter>
+        ensures { option_map knowledge (option_copied result) ≡ restarter self.now name.now }
+    {
+        restarter_in(&self.parts.restarters, name)
+    }
+
+    /// The launched restarter that holds contracts as this actor.
+    pub(crate) fn actor(&self, actor: u64) -> Option<&Restarter>
+        ensures { option_map knowledge (option_copied result) ≡ find (is_actor actor) self.now.restarters }
+    {
+        actor_in(&self.parts.restarters, actor)
+    }
+
+    /// The message at a place, counted from the oldest.
+    pub(crate) fn message_at(&self, place: u64) -> Option<&Message>
+        ensures { option_copied result ≡ sent_at self.now place }
+    {
+        self.parts.messages.get(place as usize)
+    }
+
+    pub(crate) fn table(&self) -> &Table
+        ensures { result.now.table ≡ self.now.table }
+    {
+        &self.parts.table
+    }
+
+    /// All contracts, in the order of their ids.
+    pub(crate) fn statuses(&self) -> Result<Items<Status>, AllocError>
+        ensures { IfOk result (λ all. all ≡ statuses self.now.table) }
+    {
+        self.parts.table.list()
+    }
+}

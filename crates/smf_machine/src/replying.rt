@@ -1,0 +1,363 @@
+ghost use Rattle.std.specs.Prelude.{◌≡◌, ◌∷◌, ◌++◌, [], map, option_map, IfOk};
+ghost use Rattle.std.specs.Option.{option_copied};
+ghost use Rattle.smf_contract.specs.Calls.{adopted, is_inherited};
+ghost use Rattle.smf_contract.specs.Called.{emptied_by};
+ghost use Rattle.smf_machine.specs.Given.{change_behind};
+ghost use Rattle.smf_restarter.specs.declared.reply.Reply.{Reply as AnyReply};
+ghost use Rattle.smf_world.specs.declared.item.Item.TheVariants.{Emptied as EmptiedItem};
+ghost use Rattle.smf_world.specs.Worked.{acted, adopt_answer, answer_of, begun_in, begun_item, begun_items, call_of, calling, change_after, emptied_items, heard_by, held_item, held_items, is_spawned, knowing, knows, own_ticked, restarter, spawn_answer, ticked_for, told};
+
+use crate::commanding::{no_work, one};
+use crate::parts::System;
+use smf_contract::{ContractCall, Holder, Table};
+use smf_fmri::{InstanceFmri, Items, Number};
+use smf_model::Journal;
+use smf_restarter::{Answer, Begun, Call, Change, Reply, Restarter};
+use smf_wire::{Known, Message};
+use smf_world::{Becomes, Item, SpawnAnswer, Work};
+use std::alloc::{AllocError, Global};
+
+// ---- what a restarter knows, takes and begins
+
+fn knows(alloc: Global, restarter: &Restarter, change: Change) -> Result<Items<Becomes>, AllocError>
+    ensures { IfOk result (λ all. all ≡ knows restarter.now.known change) }
+{
+    let name = restarter.name().clone()?;
+    one(alloc, Becomes::Knows { name, change })
+}
+
+/// A restarter knows more, and that is all.
+pub(crate) fn knowing(
+    alloc: Global,
+    restarter: &Restarter,
+    change: Change,
+) -> Result<Work, AllocError>
+    ensures { IfOk result (λ k. k ≡ knowing restarter.now.known change) }
+{
+    let mut work = no_work(alloc);
+    work.becomes = knows(alloc, restarter, change)?;
+    Ok(work)
+}
+
+/// What the trail shows of the rows that a restarter takes.
+fn held_items(
+    alloc: Global,
+    restarter: &Restarter,
+    taken: &[Known],
+) -> Result<Items<Item>, AllocError>
+    ensures { IfOk result (λ all. all ≡ held_items restarter.now.known taken.now) }
+{
+    let mut all = Items::new(alloc);
+    for known in taken {
+        all.push(Item::Held {
+            name: restarter.name().clone()?,
+            launch: restarter.launch(),
+            instance: known.instance,
+            number: known.row.number,
+            state: known.row.state,
+        })?;
+    }
+    Ok(all)
+}
+
+fn begun_item(contract: u64, begun: &Begun) -> Result<Item, AllocError>
+    ensures { IfOk result (λ item. item ≡ begun_item contract begun.now) }
+{
+    let command = begun.command.clone()?;
+    Ok(Item::Spawned {
+        contract,
+        instance: begun.instance,
+        run: begun.run,
+        method: begun.method,
+        revision: begun.revision,
+        command,
+    })
+}
+
+/// The methods that are begun in a contract, behind what the trail shows already.
+fn push_begun(
+    mut items: Items<Item>,
+    contract: u64,
+    begun: &[Begun],
+) -> Result<Items<Item>, AllocError>
+    ensures { IfOk result (λ all. all ≡ items ++ map (begun_item contract) begun.now) }
+{
+    for method in begun {
+        items.push(begun_item(contract, method)?)?;
+    }
+    Ok(items)
+}
+
+fn begun_items(
+    items: Items<Item>,
+    contract: Option<u64>,
+    begun: &[Begun],
+) -> Result<Items<Item>, AllocError>
+    ensures { IfOk result (λ all. all ≡ items ++ begun_items contract begun.now) }
+{
+    match contract {
+        None => Ok(items),
+        Some(contract) => push_begun(items, contract, begun),
+    }
+}
+
+/// Contracts that were emptied, behind what the trail shows already.
+fn push_emptied(mut items: Items<Item>, ids: &[Number]) -> Result<Items<Item>, AllocError>
+    ensures { IfOk result (λ all. all ≡ items ++ map (λ c. EmptiedItem c) ids.now) }
+{
+    for id in ids {
+        items.push(Item::Emptied(id.get()))?;
+    }
+    Ok(items)
+}
+
+/// What a call empties, behind what the trail shows already.
+fn emptied_items(
+    items: Items<Item>,
+    table: &Table,
+    call: &ContractCall,
+) -> Result<Items<Item>, AllocError>
+    ensures { IfOk result (λ all. all ≡ items ++ emptied_items table.now.table call.now) }
+{
+    let ids = table.emptied_by(*call)?;
+    push_emptied(items, ids.as_slice())
+}
+
+/// A call is made on the table alone.
+#[tactic(auto, unfolding(smf_world::specs::Worked::calling))]
+pub(crate) fn calling(alloc: Global, table: &Table, call: &ContractCall) -> Result<Work, AllocError>
+    ensures { IfOk result (λ k. k ≡ calling table.now.table call.now) }
+{
+    let items = emptied_items(Items::new(alloc), table, call)?;
+    let mut work = no_work(alloc);
+    work.items = items;
+    work.call = *call;
+    Ok(work)
+}
+
+// ---- calls
+
+fn is_inherited(holder: Holder) -> bool
+    ensures { result ≡ is_inherited holder }
+{
+    match holder {
+        Holder::Inherited => true,
+        Holder::Held(_) => false,
+        Holder::Abandoned => false,
+    }
+}
+
+/// Whether a contract would be adopted.
+#[tactic(auto, unfolding(smf_contract::specs::Calls::adopted))]
+fn adopt_answer(table: &Table, actor: u64, contract: Number) -> Answer
+    ensures { result ≡ adopt_answer contract (adopted table.now.table actor contract) }
+{
+    let Some(found) = table.contract(contract) else {
+        return Answer::Nothing;
+    };
+    if is_inherited(found.holder) {
+        Answer::Adopted(contract)
+    } else {
+        Answer::Nothing
+    }
+}
+
+fn spawn_answer(spawn: SpawnAnswer, next: Option<Number>) -> Answer
+    ensures { result ≡ spawn_answer spawn next }
+{
+    match spawn {
+        SpawnAnswer::Made => match next {
+            Some(contract) => Answer::Spawned(contract),
+            None => Answer::Refused,
+        },
+        SpawnAnswer::Refused => Answer::Refused,
+        SpawnAnswer::NotFollowed => Answer::NotFollowed,
+    }
+}
+
+/// What becomes of what a restarter asks for.
+#[tactic(auto, unfolding(smf_world::specs::Worked::answer_of))]
+fn answer_of(table: &Table, actor: u64, spawn: SpawnAnswer, call: &Call) -> Answer
+    ensures { result ≡ answer_of table.now.table actor spawn call.now }
+{
+    match call {
+        Call::Nothing => Answer::Nothing,
+        Call::List => Answer::Nothing,
+        Call::Adopt(contract) => adopt_answer(table, actor, *contract),
+        Call::Spawn { .. } => spawn_answer(spawn, table.next_contract()),
+        Call::Kill(_) => Answer::Nothing,
+    }
+}
+
+fn is_spawned(answer: &Answer) -> bool
+    ensures { result ≡ is_spawned answer.now }
+{
+    matches!(answer, Answer::Spawned(_))
+}
+
+/// The call that is made on the table.
+#[tactic(auto, unfolding(smf_world::specs::Worked::call_of))]
+fn call_of(actor: u64, call: &Call, answer: &Answer) -> ContractCall
+    ensures { result ≡ call_of actor call.now answer.now }
+{
+    match call {
+        Call::Nothing => ContractCall::Nothing,
+        Call::List => ContractCall::Nothing,
+        Call::Adopt(contract) => ContractCall::Adopt {
+            actor,
+            contract: *contract,
+        },
+        Call::Spawn { cookie, terms } => {
+            if is_spawned(answer) {
+                ContractCall::Spawn {
+                    actor,
+                    cookie: *cookie,
+                    terms: *terms,
+                }
+            } else {
+                ContractCall::Nothing
+            }
+        }
+        Call::Kill(contract) => ContractCall::Kill {
+            actor,
+            contract: *contract,
+        },
+    }
+}
+
+/// The contract of a method that is begun: 0 for a built-in, which has none.
+fn begun_in(call: &Call, answer: &Answer) -> Option<u64>
+    ensures { result ≡ begun_in call.now answer.now }
+{
+    match call {
+        Call::Spawn { .. } => match answer {
+            Answer::Spawned(contract) => Some(contract.get()),
+            _ => None,
+        },
+        _ => Some(0),
+    }
+}
+
+// ---- replies
+
+/// What a restarter makes of a message.
+#[tactic(auto, unfolding(smf_world::specs::Worked::heard_by))]
+fn heard_by(alloc: Global, restarter: &Restarter, reply: Reply) -> Result<Work, AllocError>
+    ensures { IfOk result (λ k. k ≡ heard_by restarter.now.known reply) }
+{
+    let Reply {
+        change,
+        messages,
+        taken,
+        ..
+    } = reply;
+    let items = held_items(alloc, restarter, taken.as_slice())?;
+    let becomes = knows(alloc, restarter, change)?;
+    let mut work = no_work(alloc);
+    work.items = items;
+    work.messages = messages;
+    work.becomes = becomes;
+    Ok(work)
+}
+
+impl<J: Journal> System<J> {
+    /// A message comes to the restarter of a name.
+    pub(crate) fn told(&self, name: &InstanceFmri, message: &Message) -> Result<Work, AllocError>
+        ensures { IfOk result (λ k. k ≡ told message.now (restarter self.now name.now)) }
+    {
+        let Some(restarter) = self.restarter(name) else {
+            return Ok(no_work(self.alloc));
+        };
+        let reply = restarter.heard(message)?;
+        heard_by(self.alloc, restarter, reply)
+    }
+
+    /// What a restarter knows behind its call.
+    fn change_behind(
+        &self,
+        restarter: &Restarter,
+        instance: u64,
+        change: Change,
+        call: &Call,
+        answer: &Answer,
+    ) -> Result<Change, AllocError>
+        ensures { IfOk result (λ c.
+            c ≡ change_behind self.now restarter.now.known instance change call.now answer.now) }
+    {
+        match call {
+            Call::Nothing => Ok(change),
+            Call::List => {
+                let all = self.statuses()?;
+                restarter.listed(all.as_slice())
+            }
+            Call::Adopt(_) => Ok(restarter.answered(instance, *answer)),
+            Call::Spawn { .. } => Ok(restarter.answered(instance, *answer)),
+            Call::Kill(_) => Ok(change),
+        }
+    }
+
+    /// What a restarter makes of its turn, for itself (0) or for an instance.
+    #[tactic(auto, unfolding(smf_world::specs::Worked::acted))]
+    fn acted(
+        &self,
+        restarter: &Restarter,
+        instance: u64,
+        spawn: SpawnAnswer,
+        reply: Reply,
+    ) -> Result<Work, AllocError>
+        ensures { IfOk result (λ k. k ≡ acted self.now restarter.now.known instance spawn reply) }
+    {
+        let Reply {
+            change,
+            messages,
+            taken,
+            begun,
+            call,
+        } = reply;
+        let answer = answer_of(self.table(), restarter.actor(), spawn, &call);
+        let made = call_of(restarter.actor(), &call, &answer);
+        let change = self.change_behind(restarter, instance, change, &call, &answer)?;
+        let becomes = knows(self.alloc, restarter, change)?;
+        let items = held_items(self.alloc, restarter, taken.as_slice())?;
+        let items = begun_items(items, begun_in(&call, &answer), begun.as_slice())?;
+        let items = emptied_items(items, self.table(), &made)?;
+        Ok(Work {
+            changes: Items::new(self.alloc),
+            command: Items::new(self.alloc),
+            reply: Items::new(self.alloc),
+            items,
+            messages,
+            becomes,
+            seen: Items::new(self.alloc),
+            forgets: false,
+            call: made,
+        })
+    }
+
+    /// The restarter of a name has its turn for itself.
+    pub(crate) fn own_ticked(&self, name: &InstanceFmri) -> Result<Work, AllocError>
+        ensures { IfOk result (λ k. k ≡ own_ticked self.now (restarter self.now name.now)) }
+    {
+        let Some(restarter) = self.restarter(name) else {
+            return Ok(no_work(self.alloc));
+        };
+        let reply = restarter.own_tick()?;
+        self.acted(restarter, 0, SpawnAnswer::Made, reply)
+    }
+
+    /// The restarter of a name has its turn for an instance.
+    pub(crate) fn ticked(
+        &self,
+        name: &InstanceFmri,
+        instance: u64,
+        spawn: SpawnAnswer,
+    ) -> Result<Work, AllocError>
+        ensures { IfOk result (λ k. k ≡ ticked_for self.now instance spawn (restarter self.now name.now)) }
+    {
+        let Some(restarter) = self.restarter(name) else {
+            return Ok(no_work(self.alloc));
+        };
+        let reply = restarter.ticked(instance)?;
+        self.acted(restarter, instance, spawn, reply)
+    }
+}

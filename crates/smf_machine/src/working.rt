@@ -1,0 +1,186 @@
+ghost use Rattle.std.specs.Prelude.{◌≡◌, ◌∷◌, [], map, option_map, IfOk};
+ghost use Rattle.std.specs.Option.{option_copied};
+ghost use Rattle.smf_engine.specs.Orders.{orders_seen};
+ghost use Rattle.smf_contract.specs.Entries.{reported as report_at};
+ghost use Rattle.smf_machine.specs.Parts.{knowledge};
+ghost use Rattle.smf_model.specs.declared.command.Command.TheVariants as commands;
+ghost use Rattle.smf_wire.specs.declared.message.Message.TheVariants as messages;
+ghost use Rattle.smf_world.specs.Worked.{booted, calling, commanded, crashed, holder, is_launched, launched, launched_if, process_call, reported_by, reported_to, restarter, saying, timed, worked};
+
+use crate::commanding::{booted, no_work, one, saying};
+use crate::parts::System;
+use crate::replying::{calling, knowing};
+use smf_contract::{ContractCall, Holder, Report};
+use smf_fmri::{InstanceFmri, Items, Number};
+use smf_model::{Command, Edit, Journal};
+use smf_restarter::Restarter;
+use smf_wire::{Message, Order};
+use smf_world::{Becomes, Event, ProcessEvent, Work};
+use std::alloc::{AllocError, Global};
+
+fn asking(alloc: Global) -> Result<Work, AllocError>
+    ensures { IfOk result (λ k. k ≡ saying (messages.AskView ∷ [])) }
+{
+    let messages = one(alloc, Message::AskView)?;
+    Ok(saying(alloc, messages))
+}
+
+fn order_messages(alloc: Global, orders: Items<Order>) -> Result<Items<Message>, AllocError>
+    ensures { IfOk result (λ all. all ≡ map (λ o. messages.Order o) orders) }
+{
+    let mut all = Items::new(alloc);
+    for order in orders.into_vec() {
+        all.push(Message::Order(order))?;
+    }
+    Ok(all)
+}
+
+fn process_call(process: Number, what: ProcessEvent) -> ContractCall
+    ensures { result ≡ process_call process what }
+{
+    match what {
+        ProcessEvent::Fork => ContractCall::Fork(process),
+        ProcessEvent::Exit(exit) => ContractCall::Exit(process, exit),
+        ProcessEvent::Fail(failure) => ContractCall::Fail(process, failure),
+    }
+}
+
+fn reported_by(
+    alloc: Global,
+    report: &Report,
+    restarter: Option<&Restarter>,
+) -> Result<Work, AllocError>
+    ensures { IfOk result (λ k. k ≡ reported_by report.now (option_map knowledge (option_copied restarter.entry))) }
+{
+    match restarter {
+        None => Ok(no_work(alloc)),
+        Some(restarter) => knowing(alloc, restarter, restarter.reported(report)),
+    }
+}
+
+impl<J: Journal> System<J> {
+    fn client(&self, edit: &Edit) -> Result<Work, AllocError>
+        ensures { IfOk result (λ k. k ≡ commanded self.now (commands.Edit edit.now)) }
+    {
+        let command = Command::Edit(edit.clone()?);
+        self.commanded(&command)
+    }
+
+    /// The graph sends the orders of the view that it holds.
+    fn ordering(&self) -> Result<Work, AllocError>
+        ensures { IfOk result (λ k. k ≡ saying (map (λ o. messages.Order o) (orders_seen self.now.seen))) }
+    {
+        let orders = self.orders()?;
+        let messages = order_messages(self.alloc, orders)?;
+        Ok(saying(self.alloc, messages))
+    }
+
+    fn processed(&self, process: Number, what: ProcessEvent) -> Result<Work, AllocError>
+        ensures { IfOk result (λ k. k ≡ calling self.now.table (process_call process what)) }
+    {
+        let call = process_call(process, what);
+        calling(self.alloc, self.table(), &call)
+    }
+
+    /// The launched restarter that holds a contract.
+    fn holder(&self, who: Holder) -> Option<&Restarter>
+        ensures { option_map knowledge (option_copied result) ≡ holder self.now who }
+    {
+        match who {
+            Holder::Held(actor) => self.actor(actor),
+            Holder::Inherited => None,
+            Holder::Abandoned => None,
+        }
+    }
+
+    /// An event of a contract is reported to its holder.
+    fn reported(&self, contract: Number, number: Number) -> Result<Work, AllocError>
+        ensures { IfOk result (λ k. k ≡ reported_to self.now (report_at self.now.table contract number)) }
+    {
+        let Some(report) = self.table().report(contract.get(), number.get()) else {
+            return Ok(no_work(self.alloc));
+        };
+        reported_by(self.alloc, &report, self.holder(report.contract.holder))
+    }
+
+    fn timed(&self, name: &InstanceFmri, instance: u64) -> Result<Work, AllocError>
+        ensures { IfOk result (λ k. k ≡ timed instance (restarter self.now name.now)) }
+    {
+        let Some(restarter) = self.restarter(name) else {
+            return Ok(no_work(self.alloc));
+        };
+        knowing(self.alloc, restarter, restarter.timed_out(instance))
+    }
+
+    /// A restarter is gone, and with it the holder of its contracts.
+    fn crashed(&self, name: &InstanceFmri) -> Result<Work, AllocError>
+        ensures { IfOk result (λ k. k ≡ crashed self.now (restarter self.now name.now)) }
+    {
+        let Some(restarter) = self.restarter(name) else {
+            return Ok(no_work(self.alloc));
+        };
+        let call = ContractCall::Gone {
+            actor: restarter.actor(),
+        };
+        let mut work = calling(self.alloc, self.table(), &call)?;
+        let gone = Becomes::Gone(restarter.name().clone()?);
+        work.becomes = one(self.alloc, gone)?;
+        Ok(work)
+    }
+
+    fn is_launched(&self, name: &InstanceFmri) -> bool
+        ensures { result ≡ is_launched self.now name.now }
+    {
+        match self.restarter(name) {
+            None => false,
+            Some(_) => true,
+        }
+    }
+
+    /// A restarter is launched, unless it is.
+    fn launching(&self, name: &InstanceFmri) -> Result<Work, AllocError>
+        ensures { IfOk result (λ k. k ≡ launched_if self.now name.now (is_launched self.now name.now)) }
+    {
+        if self.is_launched(name) {
+            return Ok(no_work(self.alloc));
+        }
+        let command = Command::Launch(name.clone()?);
+        let work = self.commanded(&command)?;
+        self.launched(name, work)
+    }
+
+    fn booting(&self) -> Result<Work, AllocError>
+        ensures { IfOk result (λ k. k ≡ booted (commanded self.now commands.Boot)) }
+    {
+        let work = self.commanded(&Command::Boot)?;
+        booted(self.alloc, work)
+    }
+
+    /// What an event makes, worked out before anything changes.
+    #[tactic(auto, unfolding(smf_world::specs::Worked::worked))]
+    pub(crate) fn worked(&self, event: &Event) -> Result<Work, AllocError>
+        ensures { IfOk result (λ k. k ≡ worked self.now event.now) }
+    {
+        match event {
+            Event::Deliver(place) => self.delivered_at(*place),
+            Event::Client(edit) => self.client(edit),
+            Event::Ask => asking(self.alloc),
+            Event::Orders => self.ordering(),
+            Event::OwnTick(name) => self.own_ticked(name),
+            Event::Tick {
+                restarter,
+                instance,
+                spawn,
+            } => self.ticked(restarter, *instance, *spawn),
+            Event::Process { process, what } => self.processed(*process, *what),
+            Event::Report { contract, number } => self.reported(*contract, *number),
+            Event::Timeout {
+                restarter,
+                instance,
+            } => self.timed(restarter, *instance),
+            Event::Crash(name) => self.crashed(name),
+            Event::Launch(name) => self.launching(name),
+            Event::Boot => self.booting(),
+        }
+    }
+}

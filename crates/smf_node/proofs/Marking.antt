@@ -1,0 +1,84 @@
+-- What an event leaves of the marks, and its reply.
+use Rattle.std.proofs.Common.{◌≡◌, ◌==◌, ℕ, Bool, List, [], ◌∷◌, Option, Some, None, is_some, find, map, slice_get, nat_lt, refl, sym, ap, ◌∙◌, subst}
+use Rattle.std.specs.List.{list_any}
+use Rattle.smf_model.specs.declared.command.Command.TheVariants as commands
+use Rattle.smf_model.specs.declared.command.Edit.{Edit}
+use Rattle.smf_model.specs.declared.command.Reply.{Reply}
+use Rattle.smf_model.specs.declared.journal.RepoFault.{RepoFault}
+use Rattle.smf_model.specs.Next.{asked}
+use Rattle.smf_node.proofs.Found.{any_found}
+use Rattle.smf_node.specs.declared.fault.NodeFault.{NodeFault}
+use Rattle.smf_node.specs.declared.marks.Marks.{Marks}
+use Rattle.smf_node.specs.Faults.{IsLack}
+use Rattle.smf_node.specs.Marks.{progress_of}
+use Rattle.smf_restarter.specs.Knowledge.{Kept}
+use Rattle.smf_world.specs.declared.event.Event.{Event}
+use Rattle.smf_world.specs.declared.event.Event.TheVariants as events
+use Rattle.smf_world.specs.Happens.{happens}
+use Rattle.smf_world.specs.Schedule.{Progress, is_revision, marked, on}
+use Rattle.smf_world.specs.Worked.{commanded, is_actor, worked}
+use Rattle.smf_world.specs.World.{World}
+
+happened : (w : World) (m : Marks) (e : Event) (b : Bool) → b ≡ is_revision w (happens w e) → marked e b (progress_of (happens w e) m) ≡ on (progress_of w m) e
+unfolding progress_of
+happened w m e b is = ap (λ (x : Bool). marked e x (progress_of (happens w e) m)) is
+
+abbrev IsOn : Progress → Event → Progress → Type 0
+IsOn q e p = q ≡ on p e
+
+-- an event happened to the machine, and was marked
+pub marked_on : (w v : World) (m n k : Marks) (p : Progress) (e : Event) (i j : ℕ) → progress_of w m ≡ p → progress_of w n ≡ progress_of w m → v ≡ happens w e
+    → i ≡ w.now.revision → j ≡ v.now.revision → progress_of v k ≡ marked e (nat_lt i j) (progress_of v n) → progress_of v k ≡ on p e
+marked_on w v m n k p e i j before room made old new after =
+    subst (IsOn (progress_of v k) e) before
+    (after
+    ∙ ap (λ (x : World). marked e (nat_lt i j) (progress_of x n)) made
+    ∙ happened w n e (nat_lt i j) (ap (λ (x : ℕ). nat_lt x j) old ∙ ap (nat_lt w.now.revision) (new ∙ ap (λ (x : World). x.now.revision) made))
+    ∙ ap (λ (x : Progress). on x e) room)
+
+abbrev IsReplyOf : Event → List Reply → Progress → Type 0
+IsReplyOf e rs p = rs ≡ (worked p.world e).reply
+
+pub replied : (w : World) (m : Marks) (p : Progress) (e : Event) (rs : List Reply) → progress_of w m ≡ p → rs ≡ (worked w e).reply → rs ≡ (worked p.world e).reply
+unfolding progress_of
+replied w m p e rs before said = subst (IsReplyOf e rs) before said
+
+abbrev LacksIn : (RepoFault → Type 0) → Event → NodeFault → Progress → Type 0
+LacksIn fails e f p = IsLack fails p.world e f
+
+pub lacks : (fails : RepoFault → Type 0) (w : World) (m : Marks) (p : Progress) (e : Event) (f : NodeFault) → progress_of w m ≡ p → IsLack fails w e f → IsLack fails p.world e f
+unfolding progress_of
+lacks fails w m p e f before lack = subst (LacksIn fails e f) before lack
+
+-- ---- the reply to an edit
+
+one_reply : (w : World) (edit : Edit) → (worked w (events.Client edit)).reply ≡ (asked w.now (commands.Edit edit)).reply ∷ []
+unfolding worked commanded
+one_reply w edit = refl
+
+abbrev reply_or : Reply → Option Reply → Reply
+reply_or r None = r
+reply_or r (Some x) = x
+
+none_is : (r : Reply) → Some r ≡ None → ⊥
+none_is r e = absurd cc
+
+pub no_reply : (w : World) (edit : Edit) (rs : List Reply) (o : Option Reply) → rs ≡ (worked w (events.Client edit)).reply → o ≡ slice_get rs 0 → o ≡ None → ⊥
+no_reply w edit rs o said first none =
+    none_is (asked w.now (commands.Edit edit)).reply (sym (first ∙ ap (λ (xs : List Reply). slice_get xs 0) (said ∙ one_reply w edit)) ∙ none)
+
+pub the_reply : (w : World) (edit : Edit) (rs : List Reply) (o : Option Reply) (r : Reply) → rs ≡ (worked w (events.Client edit)).reply → o ≡ slice_get rs 0 → o ≡ Some r → (worked w (events.Client edit)).reply ≡ r ∷ []
+the_reply w edit rs o r said first some =
+    one_reply w edit
+    ∙ ap (λ (x : Reply). x ∷ []) (ap (reply_or r) (sym (first ∙ ap (λ (xs : List Reply). slice_get xs 0) (said ∙ one_reply w edit)) ∙ some))
+
+-- ---- actors
+
+abbrev IsLaunchedActor : ℕ → Bool → Progress → Type 0
+IsLaunchedActor actor b p = b ≡ is_some (find (is_actor actor) p.world.restarters)
+
+pub actor_is : (w : World) (m : Marks) (p : Progress) (actor : ℕ) (ks : List Kept) (b : Bool) → progress_of w m ≡ p → map (λ k. k.known) ks ≡ w.restarters → b ≡ list_any (λ k. k.known.actor == actor) ks
+    → b ≡ is_some (find (is_actor actor) p.world.restarters)
+unfolding progress_of
+actor_is w m p actor ks b before same e =
+    subst (IsLaunchedActor actor b) before (e ∙ any_found actor ks ∙ ap (λ rs. is_some (find (is_actor actor) rs)) same)

@@ -1,8 +1,0 @@
-use Rattle.smf_node.proofs.Turning.{ask_ok, on_later, on_ok}
-use Rattle.smf_node.proofs.schedule.Schedule.ask.Goals as goal
-
-pub returns-clause-ok : goal.returns-clause-ok
-returns-clause-ok g c = on_ok _ _ _ _ _ _ _ _ c.self.view_is (ask_ok _ _ _ c.say.ensures.ok)
-
-pub returns-clause-later : goal.returns-clause-later
-returns-clause-later g c = on_later _ _ _ _ _ _ _ _ c.self.view_is (ask_ok _ _ _ c.say.ensures.ok) c.say.ensures.err

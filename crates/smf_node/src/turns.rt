@@ -1,0 +1,192 @@
+ghost use Rattle.smf_node.specs.Marks.{progress_of};
+ghost use Rattle.smf_world.specs.declared.schedule.Deed.TheVariants as deeds;
+ghost use Rattle.smf_world.specs.Schedule.{deeds_of, in_order, launch_deeds, launched_names, numbers_known, owners, unreported, waiting_count};
+ghost use Rattle.smf_world.specs.Worked.{is_launched, restarter};
+ghost use Rattle.std.specs.Prelude.{◌≡◌, ◌∷◌, ◌++◌, [], drop, filter, map, not, replicate, IfOk, OnOk};
+
+use crate::naming::{names_in_order, owners_in_order};
+use crate::node::Node;
+use smf_contract::Event as ContractEvent;
+use smf_fmri::InstanceFmri;
+use smf_model::Journal;
+use smf_restarter::KnownInstance;
+use smf_world::{Deed, Turn};
+use std::alloc::{AllocError, Global};
+
+fn one(alloc: Global, deed: Deed) -> Result<Vec<Deed>, AllocError>
+    ensures { IfOk result (λ ds. ds.items ≡ deed ∷ []) }
+{
+    let mut all = Vec::new(alloc);
+    all.push(deed)?;
+    Ok(all)
+}
+
+fn deliveries(alloc: Global, count: usize) -> Result<Vec<Deed>, AllocError>
+    ensures { IfOk result (λ ds. ds.items ≡ replicate count deeds.DeliverNext) }
+{
+    let mut all = Vec::new(alloc);
+    for _ in 0..count {
+        all.push(Deed::DeliverNext)?;
+    }
+    Ok(all)
+}
+
+fn launches(alloc: Global, names: &[InstanceFmri]) -> Result<Vec<Deed>, AllocError>
+    ensures { IfOk result (λ ds. ds.items ≡ map (λ name. deeds.Launch name) names.now) }
+{
+    let mut all = Vec::new(alloc);
+    for name in names {
+        all.push(Deed::Launch(name.clone()?))?;
+    }
+    Ok(all)
+}
+
+fn push_report(all: &mut Vec<Deed>, event: &ContractEvent) -> Result<(), AllocError>
+    ensures { OnOk result (all.new.items ≡ all.old.items ++ deeds.Report event.now ∷ []) }
+{
+    all.push(Deed::Report(*event))?;
+    Ok(())
+}
+
+/// Reports behind other deeds.
+fn push_reports(all: &mut Vec<Deed>, events: &[ContractEvent]) -> Result<(), AllocError>
+    ensures { OnOk result (all.new.items ≡ all.old.items ++ map (λ e. deeds.Report e) events.now) }
+{
+    for event in events {
+        push_report(all, event)?;
+    }
+    Ok(())
+}
+
+/// The events behind the first so many.
+fn behind(events: &[ContractEvent], looked: usize) -> &[ContractEvent]
+    ensures { result.now ≡ drop looked events.now }
+{
+    if looked <= events.len() {
+        &events[looked..]
+    } else {
+        &[]
+    }
+}
+
+fn ticks(
+    alloc: Global,
+    name: &InstanceFmri,
+    instances: &[KnownInstance],
+) -> Result<Vec<Deed>, AllocError>
+    ensures { IfOk result (λ ds. ds.items ≡ map (λ n. deeds.Tick name.now n) (map (λ i. i.instance) instances.now)) }
+{
+    let mut all = Vec::new(alloc);
+    for known in instances {
+        all.push(Deed::Tick {
+            restarter: name.clone()?,
+            instance: known.instance,
+        })?;
+    }
+    Ok(all)
+}
+
+impl<J: Journal> Node<J> {
+    /// Those of the names whose restarters are launched.
+    fn launched(&self, names: &[InstanceFmri]) -> Result<Vec<InstanceFmri>, AllocError>
+        ensures { IfOk result (λ all. all.items ≡ filter (is_launched self.now.world) names.now) }
+    {
+        let mut all = Vec::new(self.alloc);
+        for name in names {
+            if self.is_launched(name) {
+                all.push(name.clone()?)?;
+            }
+        }
+        Ok(all)
+    }
+
+    /// Those of the names whose restarters are not.
+    fn not_launched(&self, names: &[InstanceFmri]) -> Result<Vec<InstanceFmri>, AllocError>
+        ensures { IfOk result (λ all. all.items ≡ filter (λ name. not (is_launched self.now.world name)) names.now) }
+    {
+        let mut all = Vec::new(self.alloc);
+        for name in names {
+            if !self.is_launched(name) {
+                all.push(name.clone()?)?;
+            }
+        }
+        Ok(all)
+    }
+
+    /// The owners of rows: svc.startd's own first, and then the others in byte order.
+    #[tactic(auto, unfolding(crate::specs::Marks::progress_of))]
+    fn owners(&self) -> Result<Vec<InstanceFmri>, AllocError>
+        ensures { IfOk result (λ all. all.items ≡ in_order (owners self.now.world)) }
+    {
+        let instances = self.machine.repository().instances()?;
+        owners_in_order(self.alloc, instances.as_slice())
+    }
+
+    /// The launched restarters in that order.
+    pub(crate) fn launched_names(&self) -> Result<Vec<InstanceFmri>, AllocError>
+        ensures { IfOk result (λ all. all.items ≡ launched_names self.now.world) }
+    {
+        let names = self.names()?;
+        self.launched(&names)
+    }
+
+    #[tactic(auto, unfolding(crate::specs::Marks::progress_of))]
+    fn names(&self) -> Result<Vec<InstanceFmri>, AllocError>
+        ensures { IfOk result (λ all. all.items ≡ in_order (map (λ k. k.name) self.now.world.restarters)) }
+    {
+        names_in_order(self.alloc, self.machine.restarters())
+    }
+
+    fn launch_deeds(&self) -> Result<Vec<Deed>, AllocError>
+        ensures { IfOk result (λ ds. ds.items ≡ launch_deeds self.now.world (in_order (owners self.now.world))) }
+    {
+        let owners = self.owners()?;
+        let names = self.not_launched(&owners)?;
+        launches(self.alloc, &names)
+    }
+
+    /// How many messages wait.
+    fn waiting_count(&self) -> usize
+        ensures { result ≡ waiting_count self.now }
+    {
+        self.sent_count().saturating_sub(self.next()) as usize
+    }
+
+    /// What was kept for later, and what happened since.
+    #[tactic(auto, unfolding(crate::specs::Marks::progress_of))]
+    fn report_deeds(&self) -> Result<Vec<Deed>, AllocError>
+        ensures { IfOk result (λ ds. ds.items ≡ map (λ e. deeds.Report e) (unreported self.now)) }
+    {
+        let mut all = Vec::new(self.alloc);
+        push_reports(&mut all, &self.marks.unheard)?;
+        let events = self.machine.table().events();
+        push_reports(&mut all, behind(events, self.marks.looked))?;
+        Ok(all)
+    }
+
+    #[tactic(auto, unfolding(crate::specs::Marks::progress_of))]
+    fn tick_deeds(&self, name: &InstanceFmri) -> Result<Vec<Deed>, AllocError>
+        ensures { IfOk result (λ ds. ds.items ≡ map (λ n. deeds.Tick name.now n) (numbers_known (restarter self.now.world name.now))) }
+    {
+        match self.machine.restarter(name) {
+            None => Ok(Vec::new(self.alloc)),
+            Some(restarter) => ticks(self.alloc, name, restarter.instances()),
+        }
+    }
+
+    /// The deeds of a turn.
+    #[tactic(auto, unfolding(smf_world::specs::Schedule::deeds_of))]
+    pub(crate) fn deeds_of(&self, turn: &Turn) -> Result<Vec<Deed>, AllocError>
+        ensures { IfOk result (λ ds. ds.items ≡ deeds_of self.now turn.now) }
+    {
+        match turn {
+            Turn::Launches => self.launch_deeds(),
+            Turn::Messages => deliveries(self.alloc, self.waiting_count()),
+            Turn::Ask => one(self.alloc, Deed::Ask),
+            Turn::Orders => one(self.alloc, Deed::Orders),
+            Turn::Reports => self.report_deeds(),
+            Turn::OwnTick(name) => one(self.alloc, Deed::OwnTick(name.clone()?)),
+            Turn::Ticks(name) => self.tick_deeds(name),
+        }
+    }
+}

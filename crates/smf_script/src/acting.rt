@@ -1,0 +1,289 @@
+ghost use Rattle.std.specs.Prelude.{◌≡◌, ◌<◌, ◌++◌, IfErr, IfOk, IfSome, OnErr, OnOk, false, length, position, string_bytes, true};
+ghost use Rattle.smf_admin.specs.Finding.{found_of};
+ghost use Rattle.smf_admin.specs.Telling.{no_match_text, several_text};
+ghost use Rattle.smf_node.specs.declared.fault.NodeFault.TheVariants.{Memory};
+ghost use Rattle.smf_node.specs.Faults.{is_against_launch, is_unsent};
+ghost use Rattle.smf_script.specs.Failing.{DeedFails, MayEnd};
+ghost use Rattle.smf_world.specs.Reached.{IsLater};
+ghost use Rattle.smf_world.specs.Schedule.{on};
+ghost use Rattle.smf_script.specs.Session.{IsDeed, crashed, is_above, is_later_run, is_latest, joined_by, latest, member_of, process_in, processed, restarter_in, run_in, run_of, script_name, timed_out, timeout_in};
+ghost use Rattle.std.specs.List.{list_any};
+ghost use Rattle.smf_fmri.specs.Name.{read};
+
+use smf_admin::{Found, found_of, no_match_text, several_text};
+use smf_contract::{Contract, Cookie, Table};
+use smf_fmri::{Fmri, FmriFault, InstanceFmri, Number, Text};
+use smf_model::{Instance, Journal};
+use smf_node::{Node, NodeFault};
+use smf_world::{Event, ProcessEvent};
+use std::alloc::{AllocError, Global};
+
+/// The run of an instance that a cookie names.
+fn run_of(instance: u64, cookie: Option<Cookie>) -> Option<u64>
+    ensures { result ≡ run_of instance cookie }
+{
+    let cookie = cookie?;
+    if cookie.instance == instance {
+        Some(cookie.run)
+    } else {
+        None
+    }
+}
+
+/// The run of an instance that a contract with members is of.
+fn run_in(table: &Table, instance: u64, contract: &Contract) -> Option<u64>
+    ensures { result ≡ run_in table.now.table instance contract.now }
+{
+    if table.has_members(contract.id) {
+        run_of(instance, Cookie::unpack(contract.cookie))
+    } else {
+        None
+    }
+}
+
+fn is_above(run: Option<u64>, other: Option<u64>) -> bool
+    ensures { result ≡ is_above run other }
+{
+    match (run, other) {
+        (Some(run), Some(other)) => other < run,
+        _ => false,
+    }
+}
+
+fn is_later_run(table: &Table, instance: u64, run: Option<u64>, contract: &Contract) -> bool
+    ensures { result ≡ is_later_run table.now.table instance run contract.now }
+{
+    is_above(run_in(table, instance, contract), run)
+}
+
+fn has_later_run(table: &Table, instance: u64, run: Option<u64>) -> bool
+    ensures { result ≡ list_any (is_later_run table.now.table instance run) table.now.table.contracts }
+{
+    table
+        .contracts()
+        .iter()
+        .any(|contract| is_later_run(table, instance, run, contract))
+}
+
+/// Whether a contract is of some run of an instance, and none is of a later one.
+fn is_latest(table: &Table, instance: u64, contract: &Contract) -> bool
+    ensures { result ≡ is_latest table.now.table instance contract.now }
+{
+    let run = run_in(table, instance, contract);
+    run.is_some() && !has_later_run(table, instance, run)
+}
+
+/// Where the contract of an instance that has members stands, of its latest run.
+fn latest_place(table: &Table, instance: u64) -> Option<usize>
+    ensures exact { result ≡ position (is_latest table.now.table instance) table.now.table.contracts }
+    ensures in_range { IfSome result (λ k. k < length table.now.table.contracts) }
+{
+    table
+        .contracts()
+        .iter()
+        .position(|contract| is_latest(table, instance, contract))
+}
+
+fn latest(table: &Table, instance: u64) -> Option<Contract>
+    ensures { result ≡ latest table.now.table instance }
+{
+    latest_place(table, instance).map(|k| table.contracts()[k])
+}
+
+/// The lowest process of that contract.
+#[tactic(auto, unfolding(crate::specs::Session::member_of))]
+fn member_of(table: &Table, instance: u64) -> Option<Number>
+    ensures { result ≡ member_of table.now.table instance }
+{
+    let contract = latest(table, instance)?;
+    table.first_member(contract.id)
+}
+
+/// An event happens, which nothing is said of.
+pub(crate) fn happen<J: Journal>(node: &mut Node<J>, event: Event) -> Result<bool, NodeFault>
+    requires sent { is_unsent node.old.world event ≡ false }
+    requires launched { is_against_launch node.old.world event ≡ false }
+    ensures flag { IfOk result (λ fine. fine ≡ true) }
+    ensures ok { OnOk result (node.new ≡ on node.old event) }
+    ensures later { IsLater node.old.world node.new.world }
+    ensures err { OnErr result (node.new ≡ node.old) }
+    ensures may { IfErr result (λ e. MayEnd J.write_fails e) }
+{
+    node.step(event)?;
+    Ok(true)
+}
+
+/// Says why a line is refused.
+fn refuse(out: &mut String, text: &str) -> Result<bool, NodeFault>
+    ensures flag { IfOk result (λ fine. fine ≡ false) }
+    ensures put { OnOk result (string_bytes out.new ≡ string_bytes out.old ++ text.now) }
+    ensures fault { IfErr result (λ e. e ≡ Memory) }
+{
+    out.push_str(text)?;
+    Ok(false)
+}
+
+fn refuse_word(alloc: Global, out: &mut String, word: &Text) -> Result<bool, NodeFault>
+    ensures flag { IfOk result (λ fine. fine ≡ false) }
+    ensures put { OnOk result (string_bytes out.new ≡ string_bytes out.old ++ no_match_text script_name word.now) }
+    ensures fault { IfErr result (λ e. e ≡ Memory) }
+{
+    let text = no_match_text(alloc, "smf", word.as_str())?;
+    refuse(out, text.as_str())
+}
+
+fn refuse_several(
+    alloc: Global,
+    out: &mut String,
+    word: &Text,
+    count: usize,
+) -> Result<bool, NodeFault>
+    ensures flag { IfOk result (λ fine. fine ≡ false) }
+    ensures put { OnOk result (string_bytes out.new ≡ string_bytes out.old ++ several_text script_name word.now count) }
+    ensures fault { IfErr result (λ e. e ≡ Memory) }
+{
+    let text = several_text(alloc, "smf", word.as_str(), count)?;
+    refuse(out, text.as_str())
+}
+
+/// Which instance a word stands for, over what a node holds.
+fn found_on<J: Journal>(alloc: Global, node: &Node<J>, word: &Text) -> Result<Found, AllocError>
+    ensures { IfOk result (λ found. found ≡ found_of node.now.world.now.names word.now) }
+{
+    found_of(alloc, node.repository().names(), word)
+}
+
+fn process_in<J: Journal>(
+    node: &mut Node<J>,
+    what: ProcessEvent,
+    process: Option<Number>,
+    out: &mut String,
+) -> Result<bool, NodeFault>
+    ensures exact { IfOk result (λ fine. IsDeed (process_in node.old what process) node.new (string_bytes out.old) (string_bytes out.new) fine) }
+    ensures later { IsLater node.old.world node.new.world }
+    ensures err { IfErr result (λ e. DeedFails J.write_fails node.old (process_in node.old what process) node.new e) }
+{
+    match process {
+        Some(process) => happen(node, Event::Process { process, what }),
+        None => refuse(out, "smf: no member\n"),
+    }
+}
+
+/// Something happens to a process of the instance that a word stands for.
+#[tactic(auto, unfolding(crate::specs::Session::processed))]
+pub(crate) fn process<J: Journal>(
+    alloc: Global,
+    node: &mut Node<J>,
+    word: &Text,
+    what: ProcessEvent,
+    out: &mut String,
+) -> Result<bool, NodeFault>
+    ensures exact { IfOk result (λ fine. IsDeed (processed node.old word.now what) node.new (string_bytes out.old) (string_bytes out.new) fine) }
+    ensures later { IsLater node.old.world node.new.world }
+    ensures err { IfErr result (λ e. DeedFails J.write_fails node.old (processed node.old word.now what) node.new e) }
+{
+    match found_on(alloc, node, word)? {
+        Found::One(instance) => {
+            let process = member_of(node.table(), instance);
+            process_in(node, what, process, out)
+        }
+        Found::NoMatch(word) => refuse_word(alloc, out, &word),
+        Found::Several(word, count) => refuse_several(alloc, out, &word, count),
+    }
+}
+
+fn timeout_in<J: Journal>(
+    node: &mut Node<J>,
+    instance: Option<Instance>,
+    out: &mut String,
+) -> Result<bool, NodeFault>
+    ensures exact { IfOk result (λ fine. IsDeed (timeout_in node.old instance) node.new (string_bytes out.old) (string_bytes out.new) fine) }
+    ensures later { IsLater node.old.world node.new.world }
+    ensures err { IfErr result (λ e. DeedFails J.write_fails node.old (timeout_in node.old instance) node.new e) }
+{
+    let Some(Instance { number, row, .. }) = instance else {
+        return refuse(out, "smf: no such restarter\n");
+    };
+    let restarter = row.owner;
+    if node.is_launched(&restarter) {
+        let instance = number;
+        happen(
+            node,
+            Event::Timeout {
+                restarter,
+                instance,
+            },
+        )
+    } else {
+        refuse(out, "smf: no such restarter\n")
+    }
+}
+
+/// The method that runs for the instance that a word stands for takes too long.
+#[tactic(auto, unfolding(crate::specs::Session::timed_out))]
+pub(crate) fn time_out<J: Journal>(
+    alloc: Global,
+    node: &mut Node<J>,
+    word: &Text,
+    out: &mut String,
+) -> Result<bool, NodeFault>
+    ensures exact { IfOk result (λ fine. IsDeed (timed_out node.old word.now) node.new (string_bytes out.old) (string_bytes out.new) fine) }
+    ensures later { IsLater node.old.world node.new.world }
+    ensures err { IfErr result (λ e. DeedFails J.write_fails node.old (timed_out node.old word.now) node.new e) }
+{
+    match found_on(alloc, node, word)? {
+        Found::One(instance) => {
+            let instance = node.repository().instance(instance)?;
+            timeout_in(node, instance, out)
+        }
+        Found::NoMatch(word) => refuse_word(alloc, out, &word),
+        Found::Several(word, count) => refuse_several(alloc, out, &word, count),
+    }
+}
+
+/// Only processes of the system can be waited for.
+#[tactic(auto, unfolding(crate::specs::Session::joined_by))]
+pub(crate) fn join<J: Journal>(
+    alloc: Global,
+    node: &Node<J>,
+    word: &Text,
+    out: &mut String,
+) -> Result<bool, NodeFault>
+    ensures exact { IfOk result (λ fine. IsDeed (joined_by node.now word.now) node.now (string_bytes out.old) (string_bytes out.new) fine) }
+    ensures fault { IfErr result (λ e. e ≡ Memory) }
+{
+    match found_on(alloc, node, word)? {
+        Found::One(_) => refuse(out, "smf: not here\n"),
+        Found::NoMatch(word) => refuse_word(alloc, out, &word),
+        Found::Several(word, count) => refuse_several(alloc, out, &word, count),
+    }
+}
+
+/// The name of a restarter that a word is, in any form of a name.
+fn restarter_in(alloc: Global, word: &Text) -> Result<Option<InstanceFmri>, AllocError>
+    ensures { IfOk result (λ name. name ≡ restarter_in (read word.now)) }
+{
+    match Fmri::parse(alloc, word.as_str()) {
+        Ok(name) => Ok(InstanceFmri::of(name)),
+        Err(FmriFault::Memory) => Err(AllocError),
+        Err(_) => Ok(None),
+    }
+}
+
+/// The restarter of a name crashes.
+#[tactic(auto, unfolding(crate::specs::Session::crashed))]
+pub(crate) fn crash<J: Journal>(
+    alloc: Global,
+    node: &mut Node<J>,
+    word: &Text,
+    out: &mut String,
+) -> Result<bool, NodeFault>
+    ensures exact { IfOk result (λ fine. IsDeed (crashed node.old word.now) node.new (string_bytes out.old) (string_bytes out.new) fine) }
+    ensures later { IsLater node.old.world node.new.world }
+    ensures err { IfErr result (λ e. DeedFails J.write_fails node.old (crashed node.old word.now) node.new e) }
+{
+    match restarter_in(alloc, word)? {
+        Some(name) if node.is_launched(&name) => happen(node, Event::Crash(name)),
+        _ => refuse(out, "smf: no such restarter\n"),
+    }
+}

@@ -1,0 +1,324 @@
+-- What each event makes, worked out before anything changes.
+use Rattle.std.specs.Prelude.{ℕ, ◌+◌, ◌==◌, nat_eq, List, [], ◌∷◌, ◌++◌, map, find, reverse, slice_get, Bool, true, false, if◌then◌else◌, Option, Some, None, is_some, Result, Ok, Err}
+use Rattle.std.specs.Cmp.Lexicographic.{pointwise}
+use Rattle.smf_contract.specs.declared.call.ContractCall.{ContractCall}
+use Rattle.smf_contract.specs.declared.call.ContractCall.TheVariants as calls
+use Rattle.smf_contract.specs.declared.contract.Holder.{Holder}
+use Rattle.smf_contract.specs.declared.contract.Holder.TheVariants.{Held, Inherited, Abandoned}
+use Rattle.smf_contract.specs.declared.contract.Report.{Report}
+use Rattle.smf_contract.specs.declared.fault.ContractFault.{ContractFault}
+use Rattle.smf_contract.specs.Called.{emptied_by}
+use Rattle.smf_contract.specs.Calls.{adopted, next_contract}
+use Rattle.smf_contract.specs.Entries.{Contracts, statuses, reported as report_at}
+use Rattle.smf_state.specs.declared.step.Proposal.{Proposal}
+use Rattle.smf_model.specs.declared.change.Change.{Change}
+use Rattle.smf_model.specs.declared.command.Command.{Command}
+use Rattle.smf_model.specs.declared.command.Command.TheVariants as commands
+use Rattle.smf_model.specs.declared.command.Reply.{Reply as CommandReply}
+use Rattle.smf_model.specs.declared.command.Reply.TheVariants as replies
+use Rattle.smf_model.specs.declared.change.Outcome.{Outcome}
+use Rattle.smf_model.specs.declared.held.Instance.{Instance}
+use Rattle.smf_model.specs.Holdings.{Holdings}
+use Rattle.smf_model.specs.Look.{launch_of}
+use Rattle.smf_model.specs.Next.{asked}
+use Rattle.smf_model.specs.Shown.{rows_of, view}
+use Rattle.smf_engine.specs.Orders.{orders_seen}
+use Rattle.smf_wire.specs.declared.message.Known.{Known}
+use Rattle.smf_wire.specs.declared.message.Message.{Message}
+use Rattle.smf_wire.specs.declared.message.Message.TheVariants as messages
+use Rattle.smf_restarter.specs.declared.reply.Answer.{Answer}
+use Rattle.smf_restarter.specs.declared.reply.Answer.TheVariants as answers
+use Rattle.smf_restarter.specs.declared.reply.Begun.{Begun}
+use Rattle.smf_restarter.specs.declared.reply.Call.{Call}
+use Rattle.smf_restarter.specs.declared.reply.Call.TheVariants as asks
+use Rattle.smf_restarter.specs.declared.reply.Change.{Change as KnowledgeChange}
+use Rattle.smf_restarter.specs.declared.reply.Reply.{Reply}
+use Rattle.smf_restarter.specs.Answers.{answered, listed, reported, timed_out}
+use Rattle.smf_restarter.specs.Knowledge.{Knowledge}
+use Rattle.smf_restarter.specs.Replies.{heard}
+use Rattle.smf_restarter.specs.Ticks.{own_tick, ticked}
+use Rattle.smf_world.specs.declared.event.Event.{Event}
+use Rattle.smf_world.specs.declared.event.Event.TheVariants as events
+use Rattle.smf_world.specs.declared.event.ProcessEvent.{ProcessEvent}
+use Rattle.smf_world.specs.declared.event.ProcessEvent.TheVariants as processes
+use Rattle.smf_world.specs.declared.event.SpawnAnswer.{SpawnAnswer}
+use Rattle.smf_world.specs.declared.event.SpawnAnswer.TheVariants as spawns
+use Rattle.smf_world.specs.declared.item.Item.{Item}
+use Rattle.smf_world.specs.declared.item.Item.TheVariants.{Held as HeldRow, Spawned, Emptied}
+use Rattle.smf_world.specs.declared.work.Becomes.{Becomes}
+use Rattle.smf_world.specs.declared.work.Becomes.TheVariants as becomes
+use Rattle.smf_world.specs.declared.work.Work.{Work}
+use Rattle.smf_world.specs.Items.{items_of}
+use Rattle.smf_world.specs.World.{World}
+
+abbrev pub no_work : Work
+no_work =
+    record {
+      changes = [];
+      command = [];
+      reply = [];
+      items = [];
+      messages = [];
+      becomes = [];
+      seen = [];
+      forgets = false;
+      call = calls.Nothing;
+    }
+
+abbrev pub saying : List Message → Work
+saying ms = record no_work { messages = ms }
+
+-- ---- commands
+
+-- a command that makes changes is accepted
+abbrev pub accepted : Command → List Change → List Command
+accepted c [] = []
+accepted c (x ∷ xs) = c ∷ []
+
+abbrev pub work_of : Holdings → Command → Outcome → Work
+work_of h c r =
+    record no_work {
+      changes = r.changes;
+      command = accepted c r.changes;
+      reply = r.reply ∷ [];
+      items = items_of h c r.changes;
+    }
+
+-- a command is given to the repository
+unfoldable pub commanded : World → Command → Work
+commanded w c = work_of w.now c (asked w.now c)
+
+-- ---- messages
+
+-- the message at a place, counted from the oldest
+abbrev pub sent_at : World → ℕ → Option Message
+sent_at w place = slice_get (reverse w.sent) place
+
+abbrev pub known_of : Instance → Known
+known_of i = record { instance = i.number; name = i.name; row = i.row }
+
+-- the rows of a restarter, where the launch is its last one
+abbrev pub joined : World → List ℕ → ℕ → Bool → Work
+joined w name launch true = saying (messages.Rows name launch (map known_of (rows_of w.now name)) ∷ [])
+joined w name launch false = no_work
+
+-- the answer to a proposal; a number at its limit has none
+abbrev pub answer_to : Proposal → CommandReply → List Message
+answer_to p (replies.Granted row) = messages.Ack p.proposer p.launch p.serial p.instance row ∷ []
+answer_to p (replies.Stale why row) = messages.Nack p.proposer p.launch p.serial p.instance why row ∷ []
+answer_to p _ = []
+
+abbrev pub answers_to : Proposal → List CommandReply → List Message
+answers_to p [] = []
+answers_to p (r ∷ rs) = answer_to p r
+
+abbrev pub proposed : Proposal → Work → Work
+proposed p k = record k { messages = answers_to p k.reply }
+
+-- ---- restarters
+
+abbrev pub is_named : List ℕ → Knowledge → Bool
+is_named name k = pointwise nat_eq k.name name
+
+-- the launched restarter of a name
+abbrev pub restarter : World → List ℕ → Option Knowledge
+restarter w name = find (is_named name) w.restarters
+
+abbrev pub is_actor : ℕ → Knowledge → Bool
+is_actor actor k = k.actor == actor
+
+abbrev pub knows : Knowledge → KnowledgeChange → List Becomes
+knows k c = becomes.Knows k.name c ∷ []
+
+abbrev pub knowing : Knowledge → KnowledgeChange → Work
+knowing k c = record no_work { becomes = knows k c }
+
+abbrev pub held_item : Knowledge → Known → Item
+held_item k x = HeldRow k.name k.launch x.instance x.row.number x.row.state
+
+abbrev pub held_items : Knowledge → List Known → List Item
+held_items k xs = map (held_item k) xs
+
+-- what a restarter makes of a message
+unfoldable pub heard_by : Knowledge → Reply → Work
+heard_by k r = record no_work { items = held_items k r.taken; messages = r.messages; becomes = knows k r.change }
+
+abbrev pub told : Message → Option Knowledge → Work
+told m None = no_work
+told m (Some k) = heard_by k (heard k m)
+
+-- a message is delivered; one to an actor that is not launched does nothing
+unfoldable pub delivered : World → Message → Work
+delivered w (messages.Join name launch) = joined w name launch (launch == launch_of w.now name)
+delivered w (messages.Rows name launch rows) = told (messages.Rows name launch rows) (restarter w name)
+delivered w (messages.Propose p) = proposed p (commanded w (commands.Propose p))
+delivered w (messages.Ack name launch serial i row) = told (messages.Ack name launch serial i row) (restarter w name)
+delivered w (messages.Nack name launch serial i why row) =
+    told (messages.Nack name launch serial i why row) (restarter w name)
+delivered w messages.AskView = saying (messages.View (view w.now) ∷ [])
+delivered w (messages.View v) = record no_work { seen = v ∷ [] }
+delivered w (messages.Order o) = told (messages.Order o) (restarter w o.restarter)
+
+abbrev pub delivered_if : World → Option Message → Work
+delivered_if w None = no_work
+delivered_if w (Some m) = delivered w m
+
+-- ---- calls
+
+-- an adoption that is refused says nothing, and is asked for again
+abbrev pub adopt_answer : ℕ → Result Contracts ContractFault → Answer
+adopt_answer c (Ok t) = answers.Adopted c
+adopt_answer c (Err e) = answers.Nothing
+
+-- a spawn is made where the children make it and the table has a number for it
+abbrev pub spawn_answer : SpawnAnswer → Option ℕ → Answer
+spawn_answer spawns.Made (Some c) = answers.Spawned c
+spawn_answer spawns.Made None = answers.Refused
+spawn_answer spawns.Refused next = answers.Refused
+spawn_answer spawns.NotFollowed next = answers.NotFollowed
+
+-- what becomes of what a restarter asks for
+unfoldable pub answer_of : Contracts → ℕ → SpawnAnswer → Call → Answer
+answer_of t actor spawn asks.Nothing = answers.Nothing
+answer_of t actor spawn asks.List = answers.Nothing
+answer_of t actor spawn (asks.Adopt c) = adopt_answer c (adopted t actor c)
+answer_of t actor spawn (asks.Spawn cookie terms) = spawn_answer spawn (next_contract t)
+answer_of t actor spawn (asks.Kill c) = answers.Nothing
+
+abbrev pub is_spawned : Answer → Bool
+is_spawned (answers.Spawned c) = true
+is_spawned _ = false
+
+-- the call that is made on the table
+unfoldable pub call_of : ℕ → Call → Answer → ContractCall
+call_of actor asks.Nothing answer = calls.Nothing
+call_of actor asks.List answer = calls.Nothing
+call_of actor (asks.Adopt c) answer = calls.Adopt actor c
+call_of actor (asks.Spawn cookie terms) answer =
+    if is_spawned answer then calls.Spawn actor cookie terms else calls.Nothing
+call_of actor (asks.Kill c) answer = calls.Kill actor c
+
+-- what a restarter knows behind its call
+abbrev pub change_after : World → Knowledge → ℕ → Reply → Call → Answer → KnowledgeChange
+change_after w k n r asks.Nothing a = r.change
+change_after w k n r asks.List a = listed k (statuses w.table)
+change_after w k n r (asks.Adopt c) a = answered k n a
+change_after w k n r (asks.Spawn cookie terms) a = answered k n a
+change_after w k n r (asks.Kill c) a = r.change
+
+abbrev pub begun_item : ℕ → Begun → Item
+begun_item c b = Spawned c b.instance b.run b.method b.revision b.command
+
+-- the contract of a method that is begun: 0 for a built-in, which has none
+abbrev pub begun_in : Call → Answer → Option ℕ
+begun_in (asks.Spawn cookie terms) (answers.Spawned c) = Some c
+begun_in (asks.Spawn cookie terms) _ = None
+begun_in _ a = Some 0
+
+abbrev pub begun_items : Option ℕ → List Begun → List Item
+begun_items None bs = []
+begun_items (Some c) bs = map (begun_item c) bs
+
+abbrev pub emptied_items : Contracts → ContractCall → List Item
+emptied_items t call = map (λ c. Emptied c) (emptied_by t call)
+
+-- a call is made on the table alone
+unfoldable pub calling : Contracts → ContractCall → Work
+calling t call = record no_work { items = emptied_items t call; call = call }
+
+-- ---- ticks
+
+abbrev pub acted_with : World → Knowledge → ℕ → Reply → Answer → ContractCall → Work
+acted_with w k n r a call =
+    record no_work {
+      items = held_items k r.taken ++ begun_items (begun_in r.call a) r.begun ++ emptied_items w.table call;
+      messages = r.messages;
+      becomes = knows k (change_after w k n r r.call a);
+      call = call;
+    }
+
+abbrev pub acted_by : World → Knowledge → ℕ → Reply → Answer → Work
+acted_by w k n r a = acted_with w k n r a (call_of k.actor r.call a)
+
+-- what a restarter makes of its turn, for itself (0) or for an instance
+unfoldable pub acted : World → Knowledge → ℕ → SpawnAnswer → Reply → Work
+acted w k n spawn r = acted_by w k n r (answer_of w.table k.actor spawn r.call)
+
+abbrev pub own_ticked : World → Option Knowledge → Work
+own_ticked w None = no_work
+own_ticked w (Some k) = acted w k 0 spawns.Made (own_tick k k.stage)
+
+abbrev pub ticked_for : World → ℕ → SpawnAnswer → Option Knowledge → Work
+ticked_for w n spawn None = no_work
+ticked_for w n spawn (Some k) = acted w k n spawn (ticked k n)
+
+-- ---- processes, reports, time-outs
+
+abbrev pub process_call : ℕ → ProcessEvent → ContractCall
+process_call p processes.Fork = calls.Fork p
+process_call p (processes.Exit exit) = calls.Exit p exit
+process_call p (processes.Fail failure) = calls.Fail p failure
+
+abbrev pub reported_by : Report → Option Knowledge → Work
+reported_by r None = no_work
+reported_by r (Some k) = knowing k (reported k r)
+
+-- the launched restarter that holds a contract
+abbrev pub holder : World → Holder → Option Knowledge
+holder w (Held actor) = find (is_actor actor) w.restarters
+holder w Inherited = None
+holder w Abandoned = None
+
+abbrev pub reported_to : World → Option Report → Work
+reported_to w None = no_work
+reported_to w (Some r) = reported_by r (holder w r.contract.holder)
+
+abbrev pub timed : ℕ → Option Knowledge → Work
+timed n None = no_work
+timed n (Some k) = knowing k (timed_out k n)
+
+-- ---- crashes, launches, boots
+
+abbrev pub crashed : World → Option Knowledge → Work
+crashed w None = no_work
+crashed w (Some k) = record (calling w.table (calls.Gone k.actor)) { becomes = becomes.Gone k.name ∷ [] }
+
+-- a restarter begins with its launch, and the revision that this makes is the actor that holds its contracts
+abbrev pub launched_as : World → List ℕ → List CommandReply → List Becomes
+launched_as w name (replies.Made launch ∷ rs) = becomes.Launched name (w.now.revision + 1) launch ∷ []
+launched_as w name _ = []
+
+abbrev pub launched : World → List ℕ → Work → Work
+launched w name k = record k { becomes = launched_as w name k.reply }
+
+-- a launch of what is launched is no event
+abbrev pub launched_if : World → List ℕ → Bool → Work
+launched_if w name true = no_work
+launched_if w name false = launched w name (commanded w (commands.Launch name))
+
+abbrev pub is_launched : World → List ℕ → Bool
+is_launched w name = is_some (restarter w name)
+
+-- no restarter is left, and no contract; the graph has seen nothing
+abbrev pub booted_as : Work → List CommandReply → Work
+booted_as k (replies.Done ∷ rs) = record k { becomes = becomes.NoneLeft ∷ []; forgets = true; call = calls.Reboot }
+booted_as k _ = k
+
+abbrev pub booted : Work → Work
+booted k = booted_as k k.reply
+
+-- ---- events
+
+unfoldable pub worked : World → Event → Work
+worked w (events.Deliver place) = delivered_if w (sent_at w place)
+worked w (events.Client edit) = commanded w (commands.Edit edit)
+worked w events.Ask = saying (messages.AskView ∷ [])
+worked w events.Orders = saying (map (λ o. messages.Order o) (orders_seen w.seen))
+worked w (events.OwnTick name) = own_ticked w (restarter w name)
+worked w (events.Tick name n spawn) = ticked_for w n spawn (restarter w name)
+worked w (events.Process process what) = calling w.table (process_call process what)
+worked w (events.Report contract number) = reported_to w (report_at w.table contract number)
+worked w (events.Timeout name n) = timed n (restarter w name)
+worked w (events.Crash name) = crashed w (restarter w name)
+worked w (events.Launch name) = launched_if w name (is_launched w name)
+worked w events.Boot = booted (commanded w commands.Boot)
