@@ -7,7 +7,7 @@ ghost use Rattle.smf_world.specs.Happens.{happens};
 ghost use Rattle.smf_world.specs.Reached.{CanFail, IsAlways, IsLater, IsReached};
 ghost use Rattle.smf_world.specs.Runs.{run};
 ghost use Rattle.smf_world.specs.Safe.{AlongTheDiagram, CommitsFollowHistory as FollowsHistory, CommittedOnce, HeldWereCommitted};
-ghost use Rattle.smf_world.specs.Safe.{IsRecorded};
+ghost use Rattle.smf_world.specs.Safe.{IsRecorded, StartsDecided};
 ghost use Rattle.smf_world.specs.Schedule.{Progress, all_turned, all_went, delivered_again, round};
 ghost use Rattle.smf_world.specs.Schedule.{settled, turned, went};
 ghost use Rattle.smf_world.specs.Worked.{worked};
@@ -36,6 +36,13 @@ pub fn states_go_along_the_diagram()
 /// restarter takes no row that the repository did not commit before.
 pub fn held_rows_were_committed()
     ensures { IsAlways (λ w. HeldWereCommitted w.trail) }
+{}
+
+/// Behind a boot of what was found, whatever happens: a start is begun only as one revision showed its instance,
+/// offline and at rest, enabled, without a fault and with each dependency group met, by the start method of its running
+/// snapshot; a later revision announced it, which is what was committed last; and no run of an instance begins twice.
+pub fn starts_are_well_decided()
+    ensures { IsAlways (λ w. StartsDecided w.history w.trail) }
 {}
 
 /// The laws of the trail together, also of each world that is reached.

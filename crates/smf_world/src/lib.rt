@@ -13,7 +13,7 @@ pub use event::{Event, ProcessEvent, SpawnAnswer};
 pub use item::Item;
 pub use law::{
     a_schedule_is_a_run, changes_keep_numbers, commits_follow_history, held_rows_were_committed,
-    states_go_along_the_diagram, whatever_happens_is_recorded,
+    starts_are_well_decided, states_go_along_the_diagram, whatever_happens_is_recorded,
 };
 pub use schedule::{Deed, Settled, Turn};
 pub use work::{Becomes, Work};
