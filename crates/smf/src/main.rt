@@ -8,7 +8,7 @@ mod words;
 use crate::serving::{serve, tell};
 use crate::words::matches;
 use clap::Error;
-use smf_script::NotedReader;
+use smf_lines::NotedReader;
 use std::io::BufReader;
 use std::process::ExitCode;
 use std::{env, io};
