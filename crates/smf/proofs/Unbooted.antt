@@ -1,6 +1,7 @@
 -- A run that never began.
 use Rattle.std.proofs.Common.{◌≡◌, ◌⊎◌, inl, inr, ℕ, List, [], true, false, Option, Some, None, IfSome, refl, sym, subst, ◌∙◌}
 use Rattle.std.proofs.KnownBytes.{Appends-nil}
+use Rattle.smf_lines.specs.Reading.{lines_of}
 use Rattle.smf_model.specs.declared.command.Command.TheVariants as commands
 use Rattle.smf_model.specs.Holdings.{Holdings}
 use Rattle.smf_model.specs.Look.{empty}
@@ -9,7 +10,6 @@ use Rattle.smf_node.specs.declared.fault.NodeFault.{NodeFault}
 use Rattle.smf_node.specs.declared.fault.NodeFault.TheVariants.{Memory}
 use Rattle.smf_node.specs.Faults.{IsUnbooted, is_past_limit}
 use Rattle.smf_script.specs.declared.fault.ScriptFault.TheVariants.{Node}
-use Rattle.smf_script.specs.Reading.{lines_of}
 use Rattle.smf_script.specs.Script.{Stops, begun, script, script_on}
 use Rattle.smf_world.specs.Schedule.{Progress}
 use Rattle.smf.specs.Runs.{NoneFails, first}

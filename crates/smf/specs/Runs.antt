@@ -2,16 +2,18 @@
 use Rattle.std.specs.Prelude.{◌≡◌, ◌⊎◌, ℕ, List, [], ◌∷◌, ◌++◌, codes, Option, IfSome}
 use Rattle.std.specs.Io.KnownBytes.{Appends}
 use Rattle.std_io.specs.declared.io.error.Error.{Error}
+use Rattle.smf_lines.specs.declared.fault.ReadFault.{ReadFault}
+use Rattle.smf_lines.specs.declared.fault.ReadFault.TheVariants as reads_faults
+use Rattle.smf_lines.specs.Reading.{lines_of}
 use Rattle.smf_model.specs.declared.journal.RepoFault.{RepoFault}
 use Rattle.smf_model.specs.Look.{empty}
 use Rattle.smf_node.specs.declared.fault.NodeFault.{NodeFault}
 use Rattle.smf_node.specs.declared.fault.NodeFault.TheVariants.{Memory, Database, Limit, NoSuchMessage, NoSuchActor}
 use Rattle.smf_script.specs.Faults.{IsWhy}
-use Rattle.smf_script.specs.Reading.{lines_of}
 use Rattle.smf_script.specs.Script.{Stops, begun, script, status_of}
 use Rattle.smf_script.specs.Session.{Effect}
 use Rattle.smf_script.specs.declared.fault.ScriptFault.{ScriptFault}
-use Rattle.smf_script.specs.declared.fault.ScriptFault.TheVariants.{Node, Input, Output, TooManyLines}
+use Rattle.smf_script.specs.declared.fault.ScriptFault.TheVariants.{Node, Lines, Output}
 use Rattle.smf_world.specs.declared.event.Event.TheVariants as events
 use Rattle.smf_world.specs.Happens.{happens}
 use Rattle.smf_world.specs.Schedule.{Progress, begun_at}
@@ -24,12 +26,16 @@ node_text Limit = codes "smf: limit"
 node_text NoSuchMessage = codes "smf: no such message"
 node_text NoSuchActor = codes "smf: no such restarter"
 
+abbrev pub read_text : ReadFault → List ℕ
+read_text reads_faults.Memory = codes "smf: no memory"
+read_text (reads_faults.Input fault) = codes "smf: input failed"
+read_text (reads_faults.TooManyLines interrupted) = codes "smf: too many lines"
+
 -- why a run was ended
 abbrev pub fault_text : ScriptFault → List ℕ
 fault_text (Node fault) = node_text fault
-fault_text (Input fault) = codes "smf: input failed"
+fault_text (Lines fault) = read_text fault
 fault_text (Output fault) = codes "smf: output failed"
-fault_text (TooManyLines interrupted) = codes "smf: too many lines"
 
 -- the node over a repository that holds nothing, behind its boot
 abbrev pub first : Progress

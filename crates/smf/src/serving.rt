@@ -1,21 +1,22 @@
 ghost use Rattle.std.specs.Prelude.{◌≡◌, ◌≢◌, ◌≤◌, ◌++◌, ◌∷◌, [], IfErr, IfOk, IfSome, OnOk};
 ghost use Rattle.std.specs.Io.KnownBytes.{Appends};
-ghost use Rattle.smf_script.specs.Reading.{lines_of};
+ghost use Rattle.smf_lines.specs.Reading.{lines_of};
 ghost use Rattle.smf_script.specs.Faults.{IsWhy};
 ghost use Rattle.smf_script.specs.Script.{Stops, begun};
 ghost use Rattle.smf_world.specs.Schedule.{Progress as AnyProgress};
-ghost use Rattle.smf.specs.Runs.{IsFaulted, IsTold, NoneFails, Prints, fault_text, first, node_text, served};
+ghost use Rattle.smf.specs.Runs.{IsFaulted, IsTold, NoneFails, Prints, fault_text, first, node_text, read_text, served};
 
+use smf_lines::{LineReader, ReadFault, TextWriter};
 use smf_model::{NoJournal, Plain};
 use smf_node::{Node, NodeFault};
-use smf_script::{ScriptFault, ScriptReader, ScriptWriter, run_script};
+use smf_script::{ScriptFault, run_script};
 use std::alloc::Global;
 use std::io;
 
 /// The status of a run that was ended by a fault.
 const FAULT: u8 = 3;
 
-fn node_text(fault: NodeFault) -> &'static str
+pub(crate) fn node_text(fault: NodeFault) -> &'static str
     ensures { result.now ≡ node_text fault }
 {
     match fault {
@@ -27,19 +28,28 @@ fn node_text(fault: NodeFault) -> &'static str
     }
 }
 
-fn fault_text(fault: &ScriptFault) -> &'static str
+fn read_text(fault: &ReadFault) -> &'static str
+    ensures { result.now ≡ read_text fault.now }
+{
+    match fault {
+        ReadFault::Memory => "smf: no memory",
+        ReadFault::Input(_) => "smf: input failed",
+        ReadFault::TooManyLines(_) => "smf: too many lines",
+    }
+}
+
+pub(crate) fn fault_text(fault: &ScriptFault) -> &'static str
     ensures { result.now ≡ fault_text fault.now }
 {
     match fault {
         ScriptFault::Node(fault) => node_text(*fault),
-        ScriptFault::Input(_) => "smf: input failed",
+        ScriptFault::Lines(fault) => read_text(fault),
         ScriptFault::Output(_) => "smf: output failed",
-        ScriptFault::TooManyLines(_) => "smf: too many lines",
     }
 }
 
 /// Writes a line.
-fn say<E: ScriptWriter>(errors: &mut E, text: &str) -> io::Result<()>
+fn say<E: TextWriter>(errors: &mut E, text: &str) -> io::Result<()>
     ensures ok { OnOk result (Appends (E.contents errors.old) (E.contents errors.new) (text.now ++ 10 ∷ [])) }
     ensures fault { IfErr result (λ e. E.write_fails e) }
 {
@@ -48,7 +58,7 @@ fn say<E: ScriptWriter>(errors: &mut E, text: &str) -> io::Result<()>
 }
 
 /// Says why a run was ended, as far as that can be written, and gives the status of such a run.
-pub(crate) fn tell<E: ScriptWriter>(errors: &mut E, text: &str) -> u8
+pub(crate) fn tell<E: TextWriter>(errors: &mut E, text: &str) -> u8
     ensures status { result ≡ 3 }
     ensures told { IsTold E.write_fails (E.contents errors.old) (E.contents errors.new) text.now }
 {
@@ -60,7 +70,7 @@ pub(crate) fn tell<E: ScriptWriter>(errors: &mut E, text: &str) -> u8
 
 /// Does a script over a repository in memory.
 #[tactic(auto, unfolding(crate::specs::Runs::served))]
-fn run_in_memory<R: ScriptReader, W: ScriptWriter>(
+fn run_in_memory<R: LineReader, W: TextWriter>(
     alloc: Global,
     reader: &mut R,
     writer: &mut W,
@@ -86,7 +96,7 @@ fn run_in_memory<R: ScriptReader, W: ScriptWriter>(
 }
 
 /// Does a script over a repository in memory, and gives the status of the run.
-pub(crate) fn serve<R: ScriptReader, W: ScriptWriter, E: ScriptWriter>(
+pub(crate) fn serve<R: LineReader, W: TextWriter, E: TextWriter>(
     alloc: Global,
     reader: &mut R,
     writer: &mut W,

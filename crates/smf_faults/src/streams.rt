@@ -1,13 +1,14 @@
+use smf_lines::{LineReader, NotedReader, ReadFault};
 use smf_model::{NoJournal, Plain};
 use smf_node::Node;
-use smf_script::{NotedReader, ScriptFault, ScriptReader, run_script};
+use smf_script::{ScriptFault, run_script};
 use std::alloc::Global;
 use std::io::{BufRead, BufReader, Read, Write};
 use std::test::Fail;
 use std::{io, str};
 
 /// Does a script over a repository in memory.
-fn run_in_memory<R: ScriptReader, W: Write>(
+fn run_in_memory<R: LineReader, W: Write>(
     alloc: Global,
     reader: &mut R,
     writer: &mut W,
@@ -29,9 +30,10 @@ fn told(end: &Result<u8, ScriptFault>) -> &'static str {
     match end {
         Ok(_) => "done",
         Err(ScriptFault::Node(_)) => "node",
-        Err(ScriptFault::Input(_)) => "input",
+        Err(ScriptFault::Lines(ReadFault::Memory)) => "no memory for a line",
+        Err(ScriptFault::Lines(ReadFault::Input(_))) => "input",
+        Err(ScriptFault::Lines(ReadFault::TooManyLines(_))) => "too many lines",
         Err(ScriptFault::Output(_)) => "output",
-        Err(ScriptFault::TooManyLines(_)) => "too many lines",
     }
 }
 

@@ -11,7 +11,7 @@ ghost use Rattle.smf_model.specs.Next.{next};
 ghost use Rattle.smf_world.specs.declared.event.Event.TheVariants as events;
 ghost use Rattle.smf_world.specs.Happens.{happens};
 ghost use Rattle.smf_world.specs.Reached.{IsReached};
-ghost use Rattle.smf_world.specs.Safe.{IsRecorded};
+ghost use Rattle.smf_world.specs.Safe.{IsSafe};
 ghost use Rattle.smf_world.specs.Worked.{restarter, worked};
 ghost use Rattle.smf_world.specs.World.{found};
 
@@ -81,7 +81,7 @@ impl<J: Journal> Machine<J> {
     /// number.
     pub fn new(alloc: Global, repository: Plain<J>) -> Result<Machine<J>, (MachineFault, Plain<J>)>
         ensures ok { IfOk result (λ m. m ≡ happens (found repository.held) events.Boot) }
-        ensures recorded { IfOk result (λ m. IsRecorded m) }
+        ensures safe { IfOk result (λ m. IsSafe m) }
         ensures err { IfErr result (λ e. e.1.held ≡ repository.held) }
         ensures fault { IfErr result (λ e. IsUnbooted J.write_fails repository.held e.0) }
     {
@@ -105,7 +105,7 @@ impl<J: Journal> Machine<J> {
     pub fn happen(&mut self, event: &Event) -> Result<Items<Reply>, MachineFault>
         ensures ok { IfOk result (λ r. IsDone self.old event.now self.new r) }
         ensures err { OnErr result (self.new ≡ self.old) }
-        ensures recorded { IsRecorded self.new }
+        ensures safe { IsSafe self.new }
         ensures fault { IfErr result (λ e. IsUndone J.write_fails (worked self.old event.now).changes e) }
     {
         self.system.happen(event)
@@ -153,7 +153,8 @@ impl<J: Journal> Machine<J> {
     #[tactic(auto, unfolding(crate::specs::Parts::world_of))]
     pub fn trail(&self) -> &[Item]
         ensures shown { result.now ≡ reverse self.now.trail }
-        ensures recorded { IsRecorded self.now }
+        ensures reached { IsReached self.now }
+        ensures safe { IsSafe self.now }
     {
         &self.system.parts.trail
     }

@@ -5,3 +5,4 @@ mod Places
 mod Running
 mod Settling
 mod UpTo
+mod Giving

@@ -185,7 +185,7 @@ impl<J: Journal> Node<J> {
     }
 
     /// Whether the turn of a restarter for an instance asks for a spawn that is to be refused.
-    fn refuses(&self, name: &InstanceFmri, instance: u64) -> Result<bool, AllocError>
+    pub fn refuses(&self, name: &InstanceFmri, instance: u64) -> Result<bool, AllocError>
         ensures { IfOk result (λ b. b ≡ refuses self.now name.now instance) }
     {
         if self.refused_count() == 0 {
@@ -218,9 +218,9 @@ impl<J: Journal> Node<J> {
         Ok(())
     }
 
-    /// A deed is done.
+    /// A deed is done. `Limit` where a restarter cannot be launched, since a number has no next one.
     #[tactic(auto, unfolding(smf_world::specs::Schedule::went))]
-    pub(crate) fn go(&mut self, deed: &Deed) -> Result<(), NodeFault>
+    pub fn go(&mut self, deed: &Deed) -> Result<(), NodeFault>
         ensures ok { OnOk result (self.new ≡ went deed.now self.old) }
         ensures err { OnErr result (self.new ≡ self.old) }
         ensures fault { IfErr result (λ e. IsDeedFault J.write_fails self.old deed.now e) }

@@ -2,10 +2,12 @@
 //! rounds until nothing is left to do.
 //! Modules: `fault`, `marks` (the marks and counts of a schedule), `naming` (restarters in order), `node` (the node and
 //! what it shows), `events` (what may happen, and happens), `deeds` (what a schedule does one at a time), `turns` (what
-//! the deeds of a turn are), `rounds` (turns and rounds), `asking` (what is asked of a schedule).
+//! the deeds of a turn are), `rounds` (turns and rounds), `asking` (what is asked of a schedule), `client` (a node as a
+//! client of the repository).
 #![tactic(auto)]
 
 mod asking;
+mod client;
 mod deeds;
 mod events;
 mod fault;
@@ -15,5 +17,6 @@ mod node;
 mod rounds;
 mod turns;
 
+pub use client::edits_are_events;
 pub use fault::NodeFault;
 pub use node::Node;

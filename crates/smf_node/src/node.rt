@@ -2,13 +2,16 @@ ghost use Rattle.smf_model.specs.declared.command.Command.TheVariants as command
 ghost use Rattle.smf_node.specs.declared.fault.NodeFault.TheVariants.{Limit};
 ghost use Rattle.smf_node.specs.Faults.{IsUnbooted, is_limit, is_past_limit};
 ghost use Rattle.smf_node.specs.Marks.{progress_of};
+ghost use Rattle.smf_machine.specs.Parts.{knowledge};
 ghost use Rattle.smf_world.specs.declared.event.Event.TheVariants as events;
 ghost use Rattle.smf_world.specs.Happens.{happens};
-ghost use Rattle.smf_world.specs.Safe.{IsRecorded};
+ghost use Rattle.smf_world.specs.Reached.{IsReached};
+ghost use Rattle.smf_world.specs.Safe.{IsSafe};
 ghost use Rattle.smf_world.specs.Schedule.{begun_at};
-ghost use Rattle.smf_world.specs.Worked.{is_launched};
+ghost use Rattle.smf_world.specs.Worked.{is_launched, restarter};
 ghost use Rattle.smf_world.specs.World.{found};
-ghost use Rattle.std.specs.Prelude.{◌≡◌, reverse, false, IfErr, IfOk};
+ghost use Rattle.std.specs.Option.{option_copied};
+ghost use Rattle.std.specs.Prelude.{◌≡◌, option_map, reverse, false, IfErr, IfOk};
 
 use crate::fault::NodeFault;
 use crate::marks::Marks;
@@ -16,6 +19,7 @@ use smf_contract::Table;
 use smf_fmri::InstanceFmri;
 use smf_machine::Machine;
 use smf_model::{Command, Journal, Plain, Reply};
+use smf_restarter::Restarter;
 use smf_wire::Message;
 use smf_world::Item;
 use std::alloc::{AllocError, Global};
@@ -63,7 +67,7 @@ impl<J: Journal> Node<J> {
     /// number.
     pub fn new(alloc: Global, repository: Plain<J>) -> Result<Node<J>, (NodeFault, Plain<J>)>
         ensures ok { IfOk result (λ node. node ≡ begun_at (happens (found repository.held) events.Boot)) }
-        ensures recorded { IfOk result (λ node. IsRecorded node.world) }
+        ensures safe { IfOk result (λ node. IsSafe node.world) }
         ensures err { IfErr result (λ e. e.1.held ≡ repository.held) }
         ensures accepted { IfOk result (λ node. is_past_limit repository.held commands.Boot ≡ false) }
         ensures fault { IfErr result (λ e. IsUnbooted J.write_fails repository.held e.0) }
@@ -103,7 +107,8 @@ impl<J: Journal> Node<J> {
     #[tactic(auto, unfolding(crate::specs::Marks::progress_of))]
     pub fn trail(&self) -> &[Item]
         ensures shown { result.now ≡ reverse self.now.world.trail }
-        ensures recorded { IsRecorded self.now.world }
+        ensures reached { IsReached self.now.world }
+        ensures safe { IsSafe self.now.world }
     {
         self.machine.trail()
     }
@@ -122,6 +127,14 @@ impl<J: Journal> Node<J> {
         ensures { result.now.table ≡ self.now.world.table }
     {
         self.machine.table()
+    }
+
+    /// What the launched restarter of a name knows.
+    #[tactic(auto, unfolding(crate::specs::Marks::progress_of))]
+    pub fn restarter(&self, name: &InstanceFmri) -> Option<&Restarter>
+        ensures { option_map knowledge (option_copied result) ≡ restarter self.now.world name.now }
+    {
+        self.machine.restarter(name)
     }
 
     /// Whether a restarter is launched.

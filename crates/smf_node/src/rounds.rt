@@ -3,7 +3,7 @@ ghost use Rattle.smf_node.specs.Partly.{DeedOfTurnFails, DeedsFail, RestartersFa
 ghost use Rattle.smf_restarter.specs.Ticks.{at_rest};
 ghost use Rattle.smf_model.specs.Shown.{view};
 ghost use Rattle.smf_world.specs.declared.schedule.Turn.TheVariants as turns;
-ghost use Rattle.smf_world.specs.Safe.{IsRecorded};
+ghost use Rattle.smf_world.specs.Safe.{IsSafe};
 ghost use Rattle.smf_world.specs.Schedule.{IsSettled, all_turned, all_went, deliveries, deeds_of, entering, first_turns, has_no_orders, is_quiet, launched_names, restarter_turns, round, turned, turns_of, turns_of_all};
 ghost use Rattle.std.specs.List.{list_all};
 ghost use Rattle.std.specs.Prelude.{◌≡◌, ◌++◌, IfErr, IfOk, OnOk};
@@ -148,9 +148,9 @@ impl<J: Journal> Node<J> {
         }
     }
 
-    /// A turn is taken.
+    /// A turn is taken. A fault leaves what was done before the deed that failed.
     #[tactic(auto, unfolding(smf_world::specs::Schedule::turned))]
-    fn turn(&mut self, turn: &Turn) -> Result<(), NodeFault>
+    pub fn turn(&mut self, turn: &Turn) -> Result<(), NodeFault>
         ensures ok { OnOk result (self.new ≡ turned turn.now self.old) }
         ensures err { IfErr result (λ e. TurnFails J.write_fails self.old turn.now self.new e) }
     {
@@ -220,8 +220,9 @@ impl<J: Journal> Node<J> {
         all_rest(self.machine.restarters())
     }
 
+    /// Whether nothing is left to do.
     #[tactic(auto, unfolding(smf_world::specs::Schedule::is_quiet))]
-    fn is_quiet(&self) -> Result<bool, AllocError>
+    pub fn is_quiet(&self) -> Result<bool, AllocError>
         ensures { IfOk result (λ b. b ≡ is_quiet self.now.world) }
     {
         let none = self.has_no_orders()?;
@@ -246,7 +247,7 @@ impl<J: Journal> Node<J> {
     /// launched and cannot be. A fault leaves what was done before the deed that failed.
     pub fn settle(&mut self, rounds: u64) -> Result<Settled, NodeFault>
         ensures ok { IfOk result (λ how. IsSettled rounds self.old self.new how) }
-        ensures recorded { IsRecorded self.new.world }
+        ensures safe { IsSafe self.new.world }
         ensures err { IfErr result (λ e. SettleFails J.write_fails rounds self.old self.new e) }
     {
         let how = self.settle_rounds(rounds);

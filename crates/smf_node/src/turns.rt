@@ -123,7 +123,7 @@ impl<J: Journal> Node<J> {
     }
 
     /// The launched restarters in that order.
-    pub(crate) fn launched_names(&self) -> Result<Vec<InstanceFmri>, AllocError>
+    pub fn launched_names(&self) -> Result<Vec<InstanceFmri>, AllocError>
         ensures { IfOk result (λ all. all.items ≡ launched_names self.now.world) }
     {
         let names = self.names()?;
@@ -174,9 +174,9 @@ impl<J: Journal> Node<J> {
         }
     }
 
-    /// The deeds of a turn.
+    /// The deeds of a turn that is about to be taken.
     #[tactic(auto, unfolding(smf_world::specs::Schedule::deeds_of))]
-    pub(crate) fn deeds_of(&self, turn: &Turn) -> Result<Vec<Deed>, AllocError>
+    pub fn deeds_of(&self, turn: &Turn) -> Result<Vec<Deed>, AllocError>
         ensures { IfOk result (λ ds. ds.items ≡ deeds_of self.now turn.now) }
     {
         match turn {

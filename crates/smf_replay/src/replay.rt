@@ -21,9 +21,10 @@ pub(crate) struct Replay {
     selection: Selection,
 }
 
-/// Whether a line is one of a script too, which shows or changes what the node holds.
+/// Whether a line is one of a script too, which shows or changes what the node holds, or lets the schedule run.
 fn is_of_a_script(first: &str) -> bool {
-    first == "svccfg" || first == "svcadm" || first == "svcs" || first == "trail"
+    let is_of_a_program = first == "svccfg" || first == "svcadm" || first == "svcs";
+    is_of_a_program || first == "trail" || first == "settle"
 }
 
 /// A line without the end that it was read with.

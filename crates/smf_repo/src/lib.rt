@@ -1,7 +1,11 @@
 //! The repository as its clients see it.
-//! Modules: `refusal` (the words of refusals).
+//! Modules: `client` (edits and reads), `law` (what a crash leaves behind edits), `refusal` (the words of refusals).
 #![tactic(auto)]
 
+mod client;
+mod law;
 mod refusal;
 
+pub use client::Client;
+pub use law::a_crash_leaves_the_first_edits;
 pub use refusal::refusal_text;

@@ -1,43 +1,36 @@
 -- How a script goes on, line by line.
-use Rattle.std.proofs.Common.{◌≡◌, ◌≤◌, ◌<◌, ℕ, suc, ◌+◌, ◌&&◌, List, [], ◌∷◌, ◌++◌, length, length-take-le, take, take_all, Bool, true, false, Option, Some, None, IfSome, inl, inr, refl, sym, ap, subst, ◌∙◌, arith, append_assoc, append-nil, lt-ltb, ltb-true, ltb-false}
+use Rattle.std.proofs.Common.{◌≡◌, ℕ, ◌+◌, ◌&&◌, List, [], ◌∷◌, ◌++◌, take, Bool, true, Option, Some, inr, refl, sym, ap, subst, ◌∙◌, arith, append_assoc, append-nil}
 use Rattle.std.proofs.KnownBytes.{Appends-nil, Appends-trans}
 use Rattle.std.specs.Io.KnownBytes.{Appends}
-use Rattle.std_io.specs.declared.io.error.Error.{Error}
+use Rattle.smf_lines.specs.declared.fault.ReadFault.{ReadFault}
+use Rattle.smf_lines.specs.Faults.{counted}
+use Rattle.smf_lines.specs.Faults as reads
+use Rattle.smf_lines.specs.Reading.{IsLine, counts_of, kept, lines_of}
+use Rattle.smf_lines.proofs.Counting.{counts_both}
+use Rattle.smf_lines.proofs.Kept.{text_kept}
+use Rattle.smf_lines.proofs.Loops.{past_behind}
 use Rattle.smf_model.specs.declared.journal.RepoFault.{RepoFault}
 use Rattle.smf_node.specs.declared.fault.NodeFault.{NodeFault}
 use Rattle.smf_script.specs.Failing.{RequestFails}
-use Rattle.smf_script.specs.Faults.{IsPast, IsUnread, counted}
 use Rattle.smf_script.specs.declared.request.Request.{Request}
-use Rattle.smf_script.specs.Reading.{IsLine, counts_of, kept, lines_of}
-use Rattle.smf_script.specs.Request.{is_too_long, request_of}
-use Rattle.smf_script.specs.Script.{Ends, IsCut, IsWithin, IsWritten, Leaves, Stops, Wrote, begun, joined, line_on, max_lines, script, script_on, silent, status_of}
+use Rattle.smf_script.specs.Request.{request_in, request_of}
+use Rattle.smf_script.specs.Script.{Ends, IsCut, IsWithin, IsWritten, Stops, begun, joined, line_on, max_lines, script, script_on, silent, status_of}
 use Rattle.smf_script.specs.Session.{Effect, Session, effect, effect_of}
 use Rattle.smf_script.specs.declared.fault.ScriptFault.{ScriptFault}
-use Rattle.smf_script.specs.declared.fault.ScriptFault.TheVariants.{Node, Input, Output, TooManyLines}
+use Rattle.smf_script.specs.declared.fault.ScriptFault.TheVariants.{Node, Lines, Output}
 use Rattle.smf_svccfg.specs.declared.selection.Selection.{Selection}
 use Rattle.smf_svccfg.specs.declared.selection.Selection.TheVariants.{Nothing}
 use Rattle.smf_world.specs.Schedule.{Progress}
-use Rattle.smf_script.proofs.Counting.{counts_both}
 
 -- ---- what is kept of a line asks for what the line asks for
 
-long_take : (n : ℕ) (line : List ℕ) → n < length line → length (take (suc n) line) ≡ suc n
-long_take n line h = length-take-le (suc n) line (omega arith)
-
-request_by : (v : Bool) (line : List ℕ) → is_too_long line ≡ v → request_of (kept line) ≡ request_of line
+request_kept : (line : List ℕ) → request_of (kept line) ≡ request_of line
 unfolding request_of
-request_by true line e =
-    let long : 65536 < length line = ltb-true _ _ e in
-    let size : length (kept line) ≡ 65537 = long_take 65536 line long in
-    let e' : is_too_long (kept line) ≡ true = lt-ltb 65536 (length (kept line)) (omega arith) in
-    rw (e, e') refl
-request_by false line e =
-    let short : length line ≤ 65536 = ltb-false _ _ e in
-    ap request_of (take_all 65537 line (omega arith))
+request_kept line = ap request_in (text_kept line)
 
 pub effect_kept : (s : Session) (line : List ℕ) → effect s (kept line) ≡ effect s line
 unfolding effect
-effect_kept s line = ap (effect_of s) (request_by (is_too_long line) line refl)
+effect_kept s line = ap (effect_of s) (request_kept line)
 
 -- ---- one line more
 
@@ -49,15 +42,6 @@ script_on_more e (m ∷ ms) l = script_on_more (line_on e m) ms l
 pub script_more : (s : Session) (ls : List (List ℕ)) (l : List ℕ) → script s (ls ++ l ∷ []) ≡ line_on (script s ls) l
 unfolding script
 script_more s ls l = script_on_more (silent s) ls l
-
--- what holds of known bytes, at those bytes
-pub at_known : (known : Option (List ℕ)) (xs : List ℕ) (P : List ℕ → Type 0) → known ≡ Some xs → IfSome known P → P xs
-at_known None xs P e h = cc
-at_known (Some ys) xs P e h = let same : ys ≡ xs = cc in subst P same h
-
-pub of_known : (known : Option (List ℕ)) (P : List ℕ → Type 0) → ((xs : List ℕ) → known ≡ Some xs → P xs) → IfSome known P
-of_known None P f = tt
-of_known (Some xs) P f = f xs refl
 
 -- so far: some of the lines were done
 pub record Goes (start : Session) (input : List ℕ) (old : Option (List ℕ)) (now : Progress) (selection : Selection) (left new : Option (List ℕ)) (fine : Bool) (turns : ℕ) : Type 0 where
@@ -125,40 +109,22 @@ few_lines start input old now selection left new fine turns left_turns interrupt
 
 -- ---- faults
 
-left_by : (stores : RepoFault → Type 0) (fails : Error → Type 0) (fault : ScriptFault) (s : Session) (behind : List (List ℕ)) (after : Progress) → after ≡ s.progress → IsUnread fails fault → Leaves stores fault s behind after
-left_by stores fails (Node f) s behind after is unread = inl (unread, is)
-left_by stores fails (Input f) s behind after is unread = is
-left_by stores fails (Output f) s behind after is unread = is
-left_by stores fails (TooManyLines n) s behind after is unread = is
-
 -- what is left of a line, at what it asks for and in another session that is the same
 fails_at : (stores : RepoFault → Type 0) (s s' : Session) (request request' : Request) (after : Progress) (f : NodeFault) → s' ≡ s → request ≡ request' → RequestFails stores s request after f → RequestFails stores s' request' after f
 fails_at stores s s' request request' after f same asked h =
     subst (λ r. RequestFails stores s' r after f) asked (subst (λ t. RequestFails stores t request after f) (sym same) h)
 
-wrote_by : (fault : ScriptFault) (e : Effect) (old new : Option (List ℕ)) → Appends old new e.text → Wrote fault e old new
-wrote_by (Node f) e old new w = w
-wrote_by (Input f) e old new w = w
-wrote_by (Output f) e old new w = tt
-wrote_by (TooManyLines n) e old new w = w
-
-past_by : (fault : ScriptFault) (most turns before first all : ℕ) → most ≡ turns + before → all ≡ before + first → IsPast fault turns first → IsPast fault most all
-past_by (Node f) most turns before first all e a p = tt
-past_by (Input f) most turns before first all e a p = tt
-past_by (Output f) most turns before first all e a p = tt
-past_by (TooManyLines n) most turns before first all e a p = omega arith
-
 -- no line could be read
-pub stops_reading : (stores : RepoFault → Type 0) (fails : Error → Type 0) (fault : ScriptFault) (start : Session) (input : List ℕ) (old : Option (List ℕ)) (now : Progress) (selection : Selection) (left new : Option (List ℕ)) (fine : Bool) (turns : ℕ)
-    → (g : Goes start input old now selection left new fine turns) → IsPast fault turns (counts_of (take 1 (lines_of g.rest))) → IsUnread fails fault → Stops stores fault start (lines_of input) now old new
-stops_reading stores fails fault start input old now selection left new fine turns g past unread =
+pub stops_reading : (stores : RepoFault → Type 0) (fault : ReadFault) (start : Session) (input : List ℕ) (old : Option (List ℕ)) (now : Progress) (selection : Selection) (left new : Option (List ℕ)) (fine : Bool) (turns : ℕ)
+    → (g : Goes start input old now selection left new fine turns) → reads.IsPast fault turns (counts_of (take 1 (lines_of g.rest))) → Stops stores (Lines fault) start (lines_of input) now old new
+stops_reading stores fault start input old now selection left new fine turns g past =
     record {
       before = g.before;
       behind = lines_of g.rest;
       whole = g.whole;
-      node = left_by stores fails fault (script start g.before).session (lines_of g.rest) now (ap (λ s. s.progress) (sym g.session)) unread;
-      text = wrote_by fault _ old new g.text;
-      past = past_by fault max_lines turns (counts_of g.before) (counts_of (take 1 (lines_of g.rest))) (counts_of (g.before ++ take 1 (lines_of g.rest))) g.counted (counts_both g.before (take 1 (lines_of g.rest))) past;
+      node = ap (λ s. s.progress) (sym g.session);
+      text = g.text;
+      past = past_behind fault max_lines turns (counts_of g.before) (counts_of (take 1 (lines_of g.rest))) (counts_of (g.before ++ take 1 (lines_of g.rest))) g.counted (counts_both g.before (take 1 (lines_of g.rest))) past;
     }
 
 -- a line could not be done, or not written
@@ -167,7 +133,7 @@ pub stops_doing : (stores : RepoFault → Type 0) (fault : ScriptFault) (start :
     → IsCut stores fault (record { progress = now; selection = selection }) line now' new new'
     → Stops stores fault start (lines_of input) now' old new'
 stops_doing stores (Node f) start input old now now' selection left left' new new' fine turns turns' line g (first, rest, is, keeps, is_left, counted) cut =
-    let asked : request_of line ≡ request_of first = ap request_of keeps ∙ request_by (is_too_long first) first refl in
+    let asked : request_of line ≡ request_of first = ap request_of keeps ∙ request_kept first in
     let here : Session = record { progress = now; selection = selection } in
     record {
       before = g.before;
@@ -188,5 +154,4 @@ stops_doing stores (Output f) start input old now now' selection left left' new 
       text = tt;
       past = tt;
     }
-stops_doing stores (Input f) start input old now now' selection left left' new new' fine turns turns' line g l cut = absurd cut
-stops_doing stores (TooManyLines n) start input old now now' selection left left' new new' fine turns turns' line g l cut = absurd cut
+stops_doing stores (Lines f) start input old now now' selection left left' new new' fine turns turns' line g l cut = absurd cut

@@ -1,14 +1,8 @@
 pub mod Fronts
-pub mod TextLines
-pub mod Ended
-pub mod Counting
-pub mod Partly
 pub mod Giving
-pub mod Looking
 pub mod Doing
 pub mod Later
 pub mod Selecting
 pub mod May
 pub mod Failures
 pub mod Why
-pub mod Heard

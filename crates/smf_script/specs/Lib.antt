@@ -2,6 +2,5 @@ pub mod Request
 pub mod Text
 pub mod Session
 pub mod Failing
-pub mod Reading
 pub mod Faults
 pub mod Script

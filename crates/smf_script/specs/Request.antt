@@ -1,10 +1,10 @@
 -- What a line asks for.
-use Rattle.std.specs.Prelude.{ℕ, ◌||◌, nat_eq, nat_lt, List, [], ◌∷◌, length, codes, Bool, not, if◌then◌else◌, Option, Some, None}
+use Rattle.std.specs.Prelude.{ℕ, nat_eq, nat_lt, List, [], ◌∷◌, codes, if◌then◌else◌, Option, Some, None}
 use Rattle.std.specs.Cmp.Lexicographic.{pointwise}
 use Rattle.std.specs.Option.{option_map_or}
-use Rattle.std.specs.Str.{is_utf8}
 use Rattle.smf_fmri.specs.Counts.{read_count}
 use Rattle.smf_fmri.specs.Name.{strip}
+use Rattle.smf_lines.specs.Reading.{text_in}
 use Rattle.smf_svccfg.specs.Lines.{is_comment}
 use Rattle.smf_svccfg.specs.Words.{is_blank, words}
 use Rattle.smf_contract.specs.declared.event.Exit.TheVariants.{Code}
@@ -144,10 +144,10 @@ asked_of text = if is_comment text then asks.Nothing else asked_by text (words t
 
 -- ---- the line
 
--- a line has at most 65,536 bytes
-abbrev pub is_too_long : List ℕ → Bool
-is_too_long line = nat_lt 65536 (length line)
+abbrev pub request_in : Option (List ℕ) → Request
+request_in None = asks.Bad
+request_in (Some text) = asked_of text
 
 -- what a line asks for, which stands without its end; one that is too long or no text is a bad one
 unfoldable pub request_of : List ℕ → Request
-request_of line = if is_too_long line || not (is_utf8 line) then asks.Bad else asked_of line
+request_of line = request_in (text_in line)

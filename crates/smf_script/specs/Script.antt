@@ -1,15 +1,16 @@
 -- What a script of lines gives.
 use Rattle.std.specs.Prelude.{◌≡◌, ◌⊎◌, ◌≤◌, ℕ, ◌+◌, List, [], ◌∷◌, ◌++◌, ◌&&◌, take, Bool, true, false, Option}
 use Rattle.std.specs.Io.KnownBytes.{Appends}
+use Rattle.smf_lines.specs.Faults.{counted}
+use Rattle.smf_lines.specs.Reading.{counts_of}
 use Rattle.smf_model.specs.declared.journal.RepoFault.{RepoFault}
 use Rattle.smf_node.specs.declared.fault.NodeFault.{NodeFault}
 use Rattle.smf_node.specs.declared.fault.NodeFault.TheVariants.{Memory}
 use Rattle.smf_script.specs.Failing.{LineFails}
-use Rattle.smf_script.specs.Faults.{IsPast, counted}
-use Rattle.smf_script.specs.Reading.{counts_of}
+use Rattle.smf_script.specs.Faults.{IsPast}
 use Rattle.smf_script.specs.Session.{Effect, Session, effect}
 use Rattle.smf_script.specs.declared.fault.ScriptFault.{ScriptFault}
-use Rattle.smf_script.specs.declared.fault.ScriptFault.TheVariants.{Node, Input, Output, TooManyLines}
+use Rattle.smf_script.specs.declared.fault.ScriptFault.TheVariants.{Node, Lines, Output}
 use Rattle.smf_svccfg.specs.declared.selection.Selection.TheVariants.{Nothing}
 use Rattle.smf_svccfg.specs.declared.selection.Selection.{Selection}
 use Rattle.smf_world.specs.Schedule.{Progress}
@@ -70,16 +71,14 @@ NodeLeaves stores fault s behind after =
 -- else the node is as the lines before left it
 abbrev pub Leaves : (RepoFault → Type 0) → ScriptFault → Session → List (List ℕ) → Progress → Type 0
 Leaves stores (Node fault) s behind after = NodeLeaves stores fault s behind after
-Leaves stores (Input fault) s behind after = after ≡ s.progress
+Leaves stores (Lines fault) s behind after = after ≡ s.progress
 Leaves stores (Output fault) s behind after = after ≡ s.progress
-Leaves stores (TooManyLines interrupted) s behind after = after ≡ s.progress
 
 -- nothing is said of what a writer that failed has taken
 abbrev pub Wrote : ScriptFault → Effect → Option (List ℕ) → Option (List ℕ) → Type 0
 Wrote (Node fault) e old new = Appends old new e.text
-Wrote (Input fault) e old new = Appends old new e.text
+Wrote (Lines fault) e old new = Appends old new e.text
 Wrote (Output fault) e old new = Unit {0}
-Wrote (TooManyLines interrupted) e old new = Appends old new e.text
 
 -- a script was ended by a fault: some of its lines were done, and their text was written
 pub record Stops (stores : RepoFault → Type 0) (fault : ScriptFault) (start : Session) (lines : List (List ℕ)) (after : Progress) (old new : Option (List ℕ)) : Type 0 where
@@ -103,5 +102,4 @@ pub record IsWritten (e : Effect) (after : Progress) (selection : Selection) (ol
 abbrev pub IsCut : (RepoFault → Type 0) → ScriptFault → Session → List ℕ → Progress → Option (List ℕ) → Option (List ℕ) → Type 0
 IsCut stores (Node fault) s line after old new = LineFails stores s line after fault × (new ≡ old)
 IsCut stores (Output fault) s line after old new = after ≡ (effect s line).session.progress
-IsCut stores (Input fault) s line after old new = ⊥
-IsCut stores (TooManyLines interrupted) s line after old new = ⊥
+IsCut stores (Lines fault) s line after old new = ⊥

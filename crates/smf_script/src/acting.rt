@@ -85,7 +85,8 @@ fn latest_place(table: &Table, instance: u64) -> Option<usize>
         .position(|contract| is_latest(table, instance, contract))
 }
 
-fn latest(table: &Table, instance: u64) -> Option<Contract>
+/// The contract of an instance that has members, of its latest run.
+pub fn latest(table: &Table, instance: u64) -> Option<Contract>
     ensures { result ≡ latest table.now.table instance }
 {
     latest_place(table, instance).map(|k| table.contracts()[k])
@@ -115,7 +116,7 @@ pub(crate) fn happen<J: Journal>(node: &mut Node<J>, event: Event) -> Result<boo
 }
 
 /// Says why a line is refused.
-pub(crate) fn refuse(out: &mut String, text: &str) -> Result<bool, NodeFault>
+pub fn refuse(out: &mut String, text: &str) -> Result<bool, NodeFault>
     ensures flag { IfOk result (λ fine. fine ≡ false) }
     ensures put { OnOk result (string_bytes out.new ≡ string_bytes out.old ++ text.now) }
     ensures fault { IfErr result (λ e. e ≡ Memory) }
@@ -124,7 +125,8 @@ pub(crate) fn refuse(out: &mut String, text: &str) -> Result<bool, NodeFault>
     Ok(false)
 }
 
-fn refuse_word(alloc: Global, out: &mut String, word: &Text) -> Result<bool, NodeFault>
+/// Says that a word matches no instance.
+pub fn refuse_word(alloc: Global, out: &mut String, word: &Text) -> Result<bool, NodeFault>
     ensures flag { IfOk result (λ fine. fine ≡ false) }
     ensures put { OnOk result (string_bytes out.new ≡ string_bytes out.old ++ no_match_text script_name word.now) }
     ensures fault { IfErr result (λ e. e ≡ Memory) }
@@ -133,7 +135,8 @@ fn refuse_word(alloc: Global, out: &mut String, word: &Text) -> Result<bool, Nod
     refuse(out, text.as_str())
 }
 
-fn refuse_several(
+/// Says that a word matches so many instances.
+pub fn refuse_several(
     alloc: Global,
     out: &mut String,
     word: &Text,
@@ -148,7 +151,7 @@ fn refuse_several(
 }
 
 /// Which instance a word stands for, over what a node holds.
-fn found_on<J: Journal>(alloc: Global, node: &Node<J>, word: &Text) -> Result<Found, AllocError>
+pub fn found_on<J: Journal>(alloc: Global, node: &Node<J>, word: &Text) -> Result<Found, AllocError>
     ensures { IfOk result (λ found. found ≡ found_of node.now.world.now.names word.now) }
 {
     found_of(alloc, node.repository().names(), word)

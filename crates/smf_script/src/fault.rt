@@ -1,19 +1,18 @@
 ghost use Rattle.std.specs.Prelude.{◌≡◌};
-ghost use Rattle.smf_node.specs.declared.fault.NodeFault.TheVariants.{Memory};
-ghost use Rattle.smf_script.specs.declared.fault.ScriptFault.TheVariants.{Node};
+ghost use Rattle.smf_script.specs.declared.fault.ScriptFault.TheVariants.{Lines, Node};
 
+use smf_lines::ReadFault;
 use smf_node::NodeFault;
-use std::alloc::{AllocError, AllocFailed};
 use std::io;
 
 /// Why a script ended before its last line.
 #[derive(Debug, Drop)]
 pub enum ScriptFault {
+    /// The node failed at a line.
     Node(NodeFault),
-    Input(io::Error),
+    /// No line could be read.
+    Lines(ReadFault),
     Output(io::Error),
-    /// The lines, and so many reads that were interrupted, which count as lines.
-    TooManyLines(u32),
 }
 
 impl From<NodeFault> for ScriptFault {
@@ -24,18 +23,10 @@ impl From<NodeFault> for ScriptFault {
     }
 }
 
-impl From<AllocError> for ScriptFault {
-    ghost from_gives = { λ _ f. f ≡ Node Memory };
+impl From<ReadFault> for ScriptFault {
+    ghost from_gives = { λ e f. f ≡ Lines e };
 
-    fn from(_e: AllocError) -> ScriptFault {
-        ScriptFault::Node(NodeFault::Memory)
-    }
-}
-
-impl<T: Drop> From<AllocFailed<T>> for ScriptFault {
-    ghost from_gives = { λ _ f. f ≡ Node Memory };
-
-    fn from(_e: AllocFailed<T>) -> ScriptFault {
-        ScriptFault::Node(NodeFault::Memory)
+    fn from(e: ReadFault) -> ScriptFault {
+        ScriptFault::Lines(e)
     }
 }

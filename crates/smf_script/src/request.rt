@@ -4,10 +4,10 @@ ghost use Rattle.smf_script.specs.Request.{again_by, asked_by, asked_of, behind_
 
 use smf_contract::{Exit, Failure};
 use smf_fmri::{Items, Text, read_count, strip};
+use smf_lines::text_in;
 use smf_svccfg::words;
 use smf_world::ProcessEvent;
 use std::alloc::{AllocError, Global};
-use std::str;
 
 /// What a line asks for.
 #[derive(Debug, Drop)]
@@ -323,19 +323,13 @@ fn asked_of(alloc: Global, text: &str) -> Result<Request, AllocError>
     asked_by(alloc, text, words.as_slice())
 }
 
-/// The most bytes of a line.
-pub(crate) const MAX_LINE: usize = 65_536;
-
 /// Reads a line, which stands without its end.
 #[tactic(auto, unfolding(crate::specs::Request::request_of))]
-pub(crate) fn request_of(alloc: Global, line: &[u8]) -> Result<Request, AllocError>
+pub fn request_of(alloc: Global, line: &[u8]) -> Result<Request, AllocError>
     ensures { IfOk result (λ request. request ≡ request_of line.now) }
 {
-    if line.len() > MAX_LINE {
-        return Ok(Request::Bad);
-    }
-    match str::from_utf8(line) {
-        Ok(text) => asked_of(alloc, text),
-        Err(_) => Ok(Request::Bad),
+    match text_in(line) {
+        Some(text) => asked_of(alloc, text),
+        None => Ok(Request::Bad),
     }
 }

@@ -1,23 +1,21 @@
 ghost use Rattle.std.specs.Prelude.{◌≡◌, ◌≤◌, IfErr, IfOk, IfSome};
+ghost use Rattle.smf_lines.specs.Reading.{lines_of};
 ghost use Rattle.smf_script.specs.Faults.{IsWhy, Tells, failed_in};
-ghost use Rattle.smf_script.specs.Reading.{lines_of};
 ghost use Rattle.smf_script.specs.Script.{Ends, IsCut, IsWithin, IsWritten, Stops, begun, script, status_of};
 ghost use Rattle.smf_script.specs.Session.{effect};
 ghost use Rattle.smf_world.specs.Reached.{IsLater};
+ghost use Rattle.smf_world.specs.Safe.{IsSafe};
 
 use crate::fault::ScriptFault;
-use crate::reader::ScriptReader;
-use crate::reading::read_line;
 use crate::session::run_line;
-use crate::turns::Turns;
-use crate::writer::ScriptWriter;
+use smf_lines::{LineReader, TextWriter, Turns, read_line};
 use smf_model::Journal;
 use smf_node::Node;
 use smf_svccfg::Selection;
 use std::alloc::Global;
 
 /// Does a line, and writes its text.
-fn do_line<W: ScriptWriter, J: Journal>(
+fn do_line<W: TextWriter, J: Journal>(
     alloc: Global,
     writer: &mut W,
     node: &mut Node<J>,
@@ -44,7 +42,7 @@ fn status_of(fine: bool) -> u8
 }
 
 /// Reads lines to the end, does each, and writes its text when it is done.
-pub fn run_script<R: ScriptReader, W: ScriptWriter, J: Journal>(
+pub fn run_script<R: LineReader, W: TextWriter, J: Journal>(
     alloc: Global,
     reader: &mut R,
     writer: &mut W,
@@ -59,11 +57,13 @@ pub fn run_script<R: ScriptReader, W: ScriptWriter, J: Journal>(
     ensures err { IfErr result (λ fault. IfSome (R.remaining reader.old) (λ input.
         Stops J.write_fails fault (begun node.old) (lines_of input) node.new (W.contents writer.old) (W.contents writer.new))) }
     ensures later { IsLater node.old.world node.new.world }
+    ensures safe { IsSafe node.new.world }
     ensures fault { IfErr result (λ e. IsWhy J.write_fails R.read_fails W.write_fails e) }
     // A read that failed ends it, and no other read does; an interrupted one counts as a line.
     ensures failed { R.has_failed reader.new ≡ failed_in result (R.has_failed reader.old) }
     ensures told { IfErr result (λ e. Tells e (R.interrupted reader.old) (R.interrupted reader.new)) }
 {
+    let _begun = node.trail();
     let mut fine = true;
     let mut selection = Selection::Nothing;
     let mut turns = Turns::new();

@@ -228,7 +228,8 @@ fn svcs<J: Journal>(
     Ok(listing.all_matched)
 }
 
-fn settled_text(how: Settled) -> &'static str
+/// What `settle` prints.
+pub fn settled_text(how: Settled) -> &'static str
     ensures { result.now ≡ settled_text how }
 {
     match how {
@@ -257,7 +258,8 @@ fn put_trail<J: Journal>(alloc: Global, node: &Node<J>, out: &mut String) -> Res
 }
 
 #[tactic(auto, unfolding(crate::specs::Session::effect_of, crate::specs::Session::repeated))]
-fn run_request<J: Journal>(
+/// Does what a line asks for, puts its text, and gives back whether it did not fail.
+pub fn run_request<J: Journal>(
     alloc: Global,
     node: &mut Node<J>,
     selection: &mut Selection,

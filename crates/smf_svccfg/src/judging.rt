@@ -17,20 +17,21 @@ use crate::naming::{
 use crate::parsing::name_in;
 use crate::selection::{Judged, Selection};
 use smf_fmri::{ServiceFmri, Text};
-use smf_model::{Edit, Journal, Owner, Plain, PropertyChange};
+use smf_model::{Edit, Owner, PropertyChange};
+use smf_repo::Client;
 use smf_snap::SnapshotName;
 use smf_value::Name;
 use std::alloc::{AllocError, Global};
 
 // ---- lines that select
 
-fn select<J: Journal>(
+fn select<C: Client>(
     alloc: Global,
-    repository: &Plain<J>,
+    repository: &C,
     selection: &Selection,
     word: &str,
 ) -> Result<Judged, CfgFault>
-    ensures { Gives result (judged_select (named_by repository.now.held selection.now word.now)) }
+    ensures { Gives result (judged_select (named_by (C.held repository.now) selection.now word.now)) }
 {
     match named_by(alloc, repository, selection, word)? {
         None => Err(CfgFault::NoSuch),
@@ -38,12 +39,12 @@ fn select<J: Journal>(
     }
 }
 
-fn unselect<J: Journal>(
+fn unselect<C: Client>(
     alloc: Global,
-    repository: &Plain<J>,
+    repository: &C,
     selection: &Selection,
 ) -> Result<Judged, CfgFault>
-    ensures { Gives result (judged_unselect repository.now.held selection.now) }
+    ensures { Gives result (judged_unselect (C.held repository.now) selection.now) }
 {
     match selection {
         Selection::Nothing => Err(CfgFault::NotSelected),
@@ -59,12 +60,12 @@ fn unselect<J: Journal>(
     }
 }
 
-fn snapshot_named<J: Journal>(
-    repository: &Plain<J>,
+fn snapshot_named<C: Client>(
+    repository: &C,
     instance: u64,
     name: Option<SnapshotName>,
 ) -> Result<Judged, CfgFault>
-    ensures { result ≡ snapshot_named repository.now.held instance name }
+    ensures { result ≡ snapshot_named (C.held repository.now) instance name }
 {
     match name {
         None => Err(CfgFault::NoSuch),
@@ -79,12 +80,12 @@ fn snapshot_named<J: Journal>(
 }
 
 /// A snapshot of an instance by its name, or the instance again.
-fn snapshot_in<J: Journal>(
-    repository: &Plain<J>,
+fn snapshot_in<C: Client>(
+    repository: &C,
     instance: u64,
     word: &Option<Text>,
 ) -> Result<Judged, CfgFault>
-    ensures { result ≡ snapshot_in repository.now.held instance word.now }
+    ensures { result ≡ snapshot_in (C.held repository.now) instance word.now }
 {
     match word {
         None => Ok(Judged::Select(Selection::Instance(instance))),
@@ -92,12 +93,12 @@ fn snapshot_in<J: Journal>(
     }
 }
 
-fn select_snapshot<J: Journal>(
-    repository: &Plain<J>,
+fn select_snapshot<C: Client>(
+    repository: &C,
     instance: Option<u64>,
     word: &Option<Text>,
 ) -> Result<Judged, CfgFault>
-    ensures { result ≡ judged_snapshot repository.now.held instance word.now }
+    ensures { result ≡ judged_snapshot (C.held repository.now) instance word.now }
 {
     match instance {
         None => Err(CfgFault::NotSelected),
@@ -153,13 +154,13 @@ fn is_owner(selection: &Selection, owner: &Owner) -> bool
 }
 
 /// What is selected behind a delete.
-fn after_delete<J: Journal>(
+fn after_delete<C: Client>(
     alloc: Global,
-    repository: &Plain<J>,
+    repository: &C,
     selection: &Selection,
     owner: &Owner,
 ) -> Result<Selection, AllocError>
-    ensures { IfOk result (λ after. after ≡ after_delete repository.now.held selection.now owner.now) }
+    ensures { IfOk result (λ after. after ≡ after_delete (C.held repository.now) selection.now owner.now) }
 {
     if is_owner(selection, owner) {
         above(alloc, repository, owner)
@@ -177,13 +178,13 @@ fn deleting(owner: Owner) -> Edit
     }
 }
 
-fn deleted<J: Journal>(
+fn deleted<C: Client>(
     alloc: Global,
-    repository: &Plain<J>,
+    repository: &C,
     selection: &Selection,
     word: &str,
 ) -> Result<Judged, CfgFault>
-    ensures { Gives result (deleted_by_name repository.now.held selection.now word.now) }
+    ensures { Gives result (deleted_by_name (C.held repository.now) selection.now word.now) }
 {
     let Some(owner) = named_by(alloc, repository, selection, word)? else {
         return Err(CfgFault::NoSuch);
@@ -192,13 +193,13 @@ fn deleted<J: Journal>(
     Ok(Judged::Edit(deleting(owner), after))
 }
 
-fn delete<J: Journal>(
+fn delete<C: Client>(
     alloc: Global,
-    repository: &Plain<J>,
+    repository: &C,
     selection: &Selection,
     word: &str,
 ) -> Result<Judged, CfgFault>
-    ensures { Gives result (judged_delete repository.now.held selection.now word.now) }
+    ensures { Gives result (judged_delete (C.held repository.now) selection.now word.now) }
 {
     if is_snapshot(selection) {
         return Err(CfgFault::ReadOnly);
@@ -304,12 +305,12 @@ fn revert(selection: &Selection, word: &Option<Text>) -> Result<Judged, CfgFault
 
 // ---- listings
 
-fn list_groups<J: Journal>(
+fn list_groups<C: Client>(
     alloc: Global,
-    repository: &Plain<J>,
+    repository: &C,
     selection: &Selection,
 ) -> Result<Judged, CfgFault>
-    ensures { Gives result (printed (option_map groups_text (groups_in repository.now.held selection.now))) }
+    ensures { Gives result (printed (option_map groups_text (groups_in (C.held repository.now) selection.now))) }
 {
     match groups_in(alloc, repository, selection)? {
         None => Err(CfgFault::NotSelected),
@@ -317,12 +318,12 @@ fn list_groups<J: Journal>(
     }
 }
 
-fn list_properties<J: Journal>(
+fn list_properties<C: Client>(
     alloc: Global,
-    repository: &Plain<J>,
+    repository: &C,
     selection: &Selection,
 ) -> Result<Judged, CfgFault>
-    ensures { Gives result (printed (option_map properties_text (groups_in repository.now.held selection.now))) }
+    ensures { Gives result (printed (option_map properties_text (groups_in (C.held repository.now) selection.now))) }
 {
     match groups_in(alloc, repository, selection)? {
         None => Err(CfgFault::NotSelected),
@@ -330,12 +331,12 @@ fn list_properties<J: Journal>(
     }
 }
 
-fn list_snapshots<J: Journal>(
+fn list_snapshots<C: Client>(
     alloc: Global,
-    repository: &Plain<J>,
+    repository: &C,
     instance: Option<u64>,
 ) -> Result<Judged, CfgFault>
-    ensures { Gives result (printed (option_map snapshots_text (snapshots_in repository.now.held instance))) }
+    ensures { Gives result (printed (option_map snapshots_text (snapshots_in (C.held repository.now) instance))) }
 {
     match snapshots_in(repository, instance)? {
         None => Err(CfgFault::NotSelected),
@@ -343,12 +344,8 @@ fn list_snapshots<J: Journal>(
     }
 }
 
-fn list<J: Journal>(
-    alloc: Global,
-    repository: &Plain<J>,
-    selection: &Selection,
-) -> Result<Judged, CfgFault>
-    ensures { Gives result (Ok (judgements.Print (children_text repository.now.held selection.now))) }
+fn list<C: Client>(alloc: Global, repository: &C, selection: &Selection) -> Result<Judged, CfgFault>
+    ensures { Gives result (Ok (judgements.Print (children_text (C.held repository.now) selection.now))) }
 {
     let text = children_text(alloc, repository, selection)?;
     Ok(Judged::Print(text))
@@ -357,40 +354,40 @@ fn list<J: Journal>(
 // ---- the whole
 
 /// Judges a line, which stands without its end. The repository may still refuse the edit.
-pub fn judge<J: Journal>(
+pub fn judge<C: Client>(
     alloc: Global,
-    repository: &Plain<J>,
+    repository: &C,
     selection: &Selection,
     line: &str,
 ) -> Result<Judged, CfgFault>
     // What is selected anew is present, or stands above what is left; an edit is of what is selected or is there, and
     // under a selected snapshot it is a revert.
-    ensures fits { IfOk result (λ j. Fits repository.now.held selection.now j) }
-    ensures exact { Gives result (judged repository.now.held selection.now line.now) }
+    ensures fits { IfOk result (λ j. Fits (C.held repository.now) selection.now j) }
+    ensures exact { Gives result (judged (C.held repository.now) selection.now line.now) }
 {
     judge_exact(alloc, repository, selection, line)
 }
 
 #[tactic(auto, unfolding(crate::specs::Judged::judged))]
-fn judge_exact<J: Journal>(
+fn judge_exact<C: Client>(
     alloc: Global,
-    repository: &Plain<J>,
+    repository: &C,
     selection: &Selection,
     line: &str,
 ) -> Result<Judged, CfgFault>
-    ensures { Gives result (judged repository.now.held selection.now line.now) }
+    ensures { Gives result (judged (C.held repository.now) selection.now line.now) }
 {
     let line = parse_line(alloc, line)?;
     judge_line(alloc, repository, selection, line)
 }
 
-fn judge_line<J: Journal>(
+fn judge_line<C: Client>(
     alloc: Global,
-    repository: &Plain<J>,
+    repository: &C,
     selection: &Selection,
     line: Line,
 ) -> Result<Judged, CfgFault>
-    ensures { Gives result (judged_line repository.now.held selection.now line) }
+    ensures { Gives result (judged_line (C.held repository.now) selection.now line) }
 {
     match line {
         Line::Nothing => Ok(Judged::Nothing),

@@ -12,7 +12,8 @@ ghost use Rattle.smf_svccfg.specs.Listed.{before_instances, children_text, compo
 use crate::quoting::quoted;
 use crate::selection::Selection;
 use smf_fmri::{Items, Ordered, ServiceFmri, Table, Text, strip};
-use smf_model::{InstanceName, Journal, Owner, Plain, Service, Snapshot};
+use smf_model::{InstanceName, Owner, Service, Snapshot};
+use smf_repo::Client;
 use smf_snap::SnapshotName;
 use smf_value::{Group, Property, Value};
 use std::alloc::{AllocError, Global};
@@ -115,12 +116,12 @@ fn instances_text(
 }
 
 /// The names of the services, or of the instances of the selected service, a line each.
-pub(crate) fn children_text<J: Journal>(
+pub(crate) fn children_text<C: Client>(
     alloc: Global,
-    repository: &Plain<J>,
+    repository: &C,
     selection: &Selection,
 ) -> Result<Text, AllocError>
-    ensures { IfOk result (λ text. text ≡ children_text repository.now.held selection.now) }
+    ensures { IfOk result (λ text. text ≡ children_text (C.held repository.now) selection.now) }
 {
     match selection {
         Selection::Nothing => services_text(alloc, repository.services()),
@@ -261,12 +262,8 @@ fn composed_in(alloc: Global, snapshot: Option<&Snapshot>) -> Result<Ordered<Gro
     }
 }
 
-fn snapshot_of<J: Journal>(
-    repository: &Plain<J>,
-    instance: u64,
-    name: SnapshotName,
-) -> Option<&Snapshot>
-    ensures { option_copied result ≡ snapshot_by_name repository.now.held instance name }
+fn snapshot_of<C: Client>(repository: &C, instance: u64, name: SnapshotName) -> Option<&Snapshot>
+    ensures { option_copied result ≡ snapshot_by_name (C.held repository.now) instance name }
 {
     match repository.snapshot_number(instance, name) {
         None => None,
@@ -275,12 +272,12 @@ fn snapshot_of<J: Journal>(
 }
 
 /// The groups of what is selected, by name; none where nothing is.
-pub(crate) fn groups_in<J: Journal>(
+pub(crate) fn groups_in<C: Client>(
     alloc: Global,
-    repository: &Plain<J>,
+    repository: &C,
     selection: &Selection,
 ) -> Result<Option<Ordered<Group>>, AllocError>
-    ensures { IfOk result (λ gs. gs ≡ groups_in repository.now.held selection.now) }
+    ensures { IfOk result (λ gs. gs ≡ groups_in (C.held repository.now) selection.now) }
 {
     match selection {
         Selection::Nothing => Ok(None),
@@ -316,11 +313,11 @@ pub(crate) fn snapshots_text(alloc: Global, names: &[SnapshotName]) -> Result<Te
 }
 
 /// The names of the snapshots of an instance, if one is selected.
-pub(crate) fn snapshots_in<J: Journal>(
-    repository: &Plain<J>,
+pub(crate) fn snapshots_in<C: Client>(
+    repository: &C,
     instance: Option<u64>,
 ) -> Result<Option<Items<SnapshotName>>, AllocError>
-    ensures { IfOk result (λ names. names ≡ snapshots_in repository.now.held instance) }
+    ensures { IfOk result (λ names. names ≡ snapshots_in (C.held repository.now) instance) }
 {
     match instance {
         None => Ok(None),

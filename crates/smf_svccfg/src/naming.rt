@@ -9,7 +9,8 @@ ghost use Rattle.smf_svccfg.specs.Judged.{Gives, above, above_instance, child, e
 use crate::fault::CfgFault;
 use crate::selection::Selection;
 use smf_fmri::{Fmri, FmriFault, InstanceFmri, ServiceFmri};
-use smf_model::{Journal, Owner, Plain};
+use smf_model::Owner;
+use smf_repo::Client;
 use std::alloc::{AllocError, Global};
 
 /// The service that a text names in the short form, or none where it does not.
@@ -37,8 +38,8 @@ pub(crate) fn service_of_word(alloc: Global, word: &str) -> Result<Option<Servic
     read_service(alloc, text.as_str())
 }
 
-fn present_service<J: Journal>(repository: &Plain<J>, name: Option<ServiceFmri>) -> Option<Owner>
-    ensures { result ≡ present_service repository.now.held name }
+fn present_service<C: Client>(repository: &C, name: Option<ServiceFmri>) -> Option<Owner>
+    ensures { result ≡ present_service (C.held repository.now) name }
 {
     let name = name?;
     if repository.has_service(&name) {
@@ -48,20 +49,20 @@ fn present_service<J: Journal>(repository: &Plain<J>, name: Option<ServiceFmri>)
     }
 }
 
-fn present_instance<J: Journal>(repository: &Plain<J>, name: Option<InstanceFmri>) -> Option<Owner>
-    ensures { result ≡ present_instance repository.now.held name }
+fn present_instance<C: Client>(repository: &C, name: Option<InstanceFmri>) -> Option<Owner>
+    ensures { result ≡ present_instance (C.held repository.now) name }
 {
     let number = repository.number_of(&name?)?;
     Some(Owner::Instance(number))
 }
 
-fn child_of_service<J: Journal>(
+fn child_of_service<C: Client>(
     alloc: Global,
-    repository: &Plain<J>,
+    repository: &C,
     service: &ServiceFmri,
     word: &str,
 ) -> Result<Option<Owner>, AllocError>
-    ensures { IfOk result (λ found. found ≡ child repository.now.held (selected.Service service.now) word.now) }
+    ensures { IfOk result (λ found. found ≡ child (C.held repository.now) (selected.Service service.now) word.now) }
 {
     let mut text = String::from_str(alloc, service.print())?;
     text.push(':')?;
@@ -71,13 +72,13 @@ fn child_of_service<J: Journal>(
 }
 
 /// The child of a name of what is selected.
-fn child<J: Journal>(
+fn child<C: Client>(
     alloc: Global,
-    repository: &Plain<J>,
+    repository: &C,
     selection: &Selection,
     word: &str,
 ) -> Result<Option<Owner>, AllocError>
-    ensures { IfOk result (λ found. found ≡ child repository.now.held selection.now word.now) }
+    ensures { IfOk result (λ found. found ≡ child (C.held repository.now) selection.now word.now) }
 {
     match selection {
         Selection::Nothing => {
@@ -91,12 +92,8 @@ fn child<J: Journal>(
 }
 
 /// The service or the instance that a word names in full.
-fn entity<J: Journal>(
-    alloc: Global,
-    repository: &Plain<J>,
-    word: &str,
-) -> Result<Option<Owner>, AllocError>
-    ensures { IfOk result (λ found. found ≡ entity repository.now.held word.now) }
+fn entity<C: Client>(alloc: Global, repository: &C, word: &str) -> Result<Option<Owner>, AllocError>
+    ensures { IfOk result (λ found. found ≡ entity (C.held repository.now) word.now) }
 {
     let name = match Fmri::parse(alloc, word) {
         Ok(name) => name,
@@ -111,13 +108,13 @@ fn entity<J: Journal>(
 }
 
 /// What a word names: a child of what is selected, else an entity in full.
-pub(crate) fn named_by<J: Journal>(
+pub(crate) fn named_by<C: Client>(
     alloc: Global,
-    repository: &Plain<J>,
+    repository: &C,
     selection: &Selection,
     word: &str,
 ) -> Result<Option<Owner>, AllocError>
-    ensures { IfOk result (λ found. found ≡ named_by repository.now.held selection.now word.now) }
+    ensures { IfOk result (λ found. found ≡ named_by (C.held repository.now) selection.now word.now) }
 {
     match child(alloc, repository, selection, word)? {
         Some(owner) => Ok(Some(owner)),
@@ -147,12 +144,12 @@ pub(crate) fn instance_in(selection: &Selection) -> Option<u64>
 }
 
 /// What stands above an instance: its service, or nothing where it is not there any more.
-pub(crate) fn above_instance<J: Journal>(
+pub(crate) fn above_instance<C: Client>(
     alloc: Global,
-    repository: &Plain<J>,
+    repository: &C,
     number: u64,
 ) -> Result<Selection, AllocError>
-    ensures { IfOk result (λ found. found ≡ above_instance (instance repository.now.held number)) }
+    ensures { IfOk result (λ found. found ≡ above_instance (instance (C.held repository.now) number)) }
 {
     match repository.instance(number)? {
         None => Ok(Selection::Nothing),
@@ -164,12 +161,12 @@ pub(crate) fn above_instance<J: Journal>(
 }
 
 /// What stands above a service or an instance.
-pub(crate) fn above<J: Journal>(
+pub(crate) fn above<C: Client>(
     alloc: Global,
-    repository: &Plain<J>,
+    repository: &C,
     owner: &Owner,
 ) -> Result<Selection, AllocError>
-    ensures { IfOk result (λ found. found ≡ above repository.now.held owner.now) }
+    ensures { IfOk result (λ found. found ≡ above (C.held repository.now) owner.now) }
 {
     match owner {
         Owner::Service(_) => Ok(Selection::Nothing),

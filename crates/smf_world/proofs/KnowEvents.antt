@@ -137,7 +137,7 @@ leaves_behind w name xs items a none f =
 -- ---- commands
 
 -- no command begins a run
-command_begins_none : (w : World) (c : Command) → AreRowsOf w → NoneBegun (items_of w.now c (asked w.now c).changes)
+pub command_begins_none : (w : World) (c : Command) → AreRowsOf w → NoneBegun (items_of w.now c (asked w.now c).changes)
 unfolding items_of
 command_begins_none w c r = by (asked w.now c).changes refl
   where

@@ -121,7 +121,7 @@ none_left k [] e = e
 none_left k (replies.Done ∷ rs) e = refl
 none_left k (x ∷ rs) e = e
 
-first_restarters : (h : Holdings) → (happens (found h) events.Boot).restarters ≡ []
+pub first_restarters : (h : Holdings) → (happens (found h) events.Boot).restarters ≡ []
 unfolding happens done worked commanded
 first_restarters h = none_left (commanded (found h) commands.Boot) (commanded (found h) commands.Boot).reply refl
 

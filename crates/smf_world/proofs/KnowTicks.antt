@@ -115,7 +115,7 @@ pub data IsKill (c : Call) : Type 0 where
   none : c ≡ calls.Nothing → IsKill c
   kill : (contract : ℕ) → c ≡ calls.Kill contract → IsKill c
 
-kill_of_kills : (o : Option KnownRun) → IsKill (kill_of o)
+pub kill_of_kills : (o : Option KnownRun) → IsKill (kill_of o)
 kill_of_kills None = none refl
 kill_of_kills (Some r) = by r.empty
   where
@@ -127,7 +127,7 @@ first_kills : (a b : Call) → IsKill a → IsKill b → IsKill (first_call a b)
 first_kills a b (none e) y = subst (λ (x : Call). IsKill (first_call x b)) (sym e) y
 first_kills a b (kill c e) y = subst (λ (x : Call). IsKill (first_call x b)) (sym e) (kill c refl)
 
-drain_kills : (k : Knowledge) (i : KnownInstance) (d : Drain) → IsKill (drain_call k i d)
+pub drain_kills : (k : Knowledge) (i : KnownInstance) (d : Drain) → IsKill (drain_call k i d)
 drain_kills k i drains.Nothing = none refl
 drain_kills k i drains.Live = kill_of_kills (known_run k i.instance i.row.live)
 drain_kills k i drains.Side = kill_of_kills (known_run k i.instance i.row.side)

@@ -10,9 +10,7 @@ use Rattle.smf_world.specs.declared.event.Event.TheVariants as events
 use Rattle.smf_world.specs.Happens.{done, happens}
 use Rattle.smf_world.specs.Reached.{IsLater, IsReached}
 use Rattle.smf_world.specs.Runs.{run}
-use Rattle.smf_world.specs.Safe.{IsRecorded}
 use Rattle.smf_world.specs.World.{World, found}
-use Rattle.smf_world.proofs.Honest.{run_recorded}
 
 run_both : (es fs : List Event) (w : World) → run (es ++ fs) w ≡ run fs (run es w)
 run_both [] fs w = refl
@@ -60,6 +58,3 @@ pub reached_first : (h : Holdings) (w : World) → IsNumbered h → (next h comm
 reached_first h w numbered done e =
     let l : IsLater (happens (found h) events.Boot) w = later_same _ w e in
     reached_as w h (later_first (found h) w (later_by (found h) w events.Boot e)) (numbered, done, l)
-
-pub reached_recorded : (w : World) → IsReached w → IsRecorded w
-reached_recorded w r = subst IsRecorded r.since.1 (run_recorded w.history.first r.since.0 r.numbered r.accepted)

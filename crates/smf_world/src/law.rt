@@ -7,7 +7,7 @@ ghost use Rattle.smf_world.specs.Happens.{happens};
 ghost use Rattle.smf_world.specs.Reached.{CanFail, IsAlways, IsLater, IsReached};
 ghost use Rattle.smf_world.specs.Runs.{run};
 ghost use Rattle.smf_world.specs.Safe.{AlongTheDiagram, CommitsFollowHistory as FollowsHistory, CommittedOnce, HeldWereCommitted};
-ghost use Rattle.smf_world.specs.Safe.{IsRecorded, StartsDecided};
+ghost use Rattle.smf_world.specs.Safe.{IsSafe, OneLive, StartsDecided};
 ghost use Rattle.smf_world.specs.Schedule.{Progress, all_turned, all_went, delivered_again, round};
 ghost use Rattle.smf_world.specs.Schedule.{settled, turned, went};
 ghost use Rattle.smf_world.specs.Worked.{worked};
@@ -45,10 +45,19 @@ pub fn starts_are_well_decided()
     ensures { IsAlways (λ w. StartsDecided w.history w.trail) }
 {}
 
+/// Behind a boot of what was found, whatever happens, crashes of restarters, spawns that are refused and messages that
+/// come late or twice among it: at no place of the trail does an instance have two starts that live. A start lives from
+/// the spawn of its contract until the contract has no process left, or the machine boots anew; so no start method is
+/// spawned while a process of an earlier start of the instance is left. A built-in method has no contract and does not
+/// count, nor do the methods that stop and refresh.
+pub fn at_most_one_start_lives()
+    ensures { IsAlways (λ w. OneLive w.trail) }
+{}
+
 /// The laws of the trail together, also of each world that is reached.
-pub fn whatever_happens_is_recorded()
-    ensures always { IsAlways IsRecorded }
-    ensures reached { (w : World) → IsReached w → IsRecorded w }
+pub fn whatever_happens_is_safe()
+    ensures always { IsAlways IsSafe }
+    ensures reached { (w : World) → IsReached w → IsSafe w }
     ensures later { (w v : World) → IsReached w → IsLater w v → IsReached v }
 {}
 

@@ -1,5 +1,5 @@
 use Rattle.std.proofs.Common.{◌∙◌}
-use Rattle.smf_world.proofs.Reaching.{reached_recorded}
+use Rattle.smf_world.proofs.Safely.{reached_safe}
 use Rattle.smf_machine.proofs.Keeping.{now_same, reached_new}
 use Rattle.smf_machine.proofs.machine.Machine.new.Goals as goal
 
@@ -7,9 +7,9 @@ pub invariant_of-result : goal.invariant_of-result
 invariant_of-result g c =
     reached_new c.args.repository.held _ c.boot.new.self (c.parts_of.ensures c.args.repository.held c.in-Ok.ensures.exact) c.in-Ok.ensures.numbered c.in-Ok-boot.ensures.accepted c.in-Ok-boot.ensures.ok
 
-pub returns-in-Ok-boot-clause-recorded : goal.returns-in-Ok-boot-clause-recorded
-returns-in-Ok-boot-clause-recorded g c =
-    reached_recorded c.boot.new.self
+pub returns-in-Ok-boot-clause-safe : goal.returns-in-Ok-boot-clause-safe
+returns-in-Ok-boot-clause-safe g c =
+    reached_safe c.boot.new.self
     (reached_new c.args.repository.held _ c.boot.new.self (c.parts_of.ensures c.args.repository.held c.in-Ok.ensures.exact) c.in-Ok.ensures.numbered c.in-Ok-boot.ensures.accepted c.in-Ok-boot.ensures.ok)
 
 pub returns-in-Err-boot-clause-err : goal.returns-in-Err-boot-clause-err

@@ -1,7 +1,11 @@
 use Rattle.std.proofs.Common.{subst}
-use Rattle.smf_world.proofs.Reaching.{reached_recorded}
-use Rattle.smf_world.specs.Safe.{IsRecorded}
+use Rattle.smf_world.proofs.Safely.{reached_safe}
+use Rattle.smf_world.specs.Reached.{IsReached}
+use Rattle.smf_world.specs.Safe.{IsSafe}
 use Rattle.smf_machine.proofs.machine.Machine.trail.Goals as goal
 
-pub returns-clause-recorded : goal.returns-clause-recorded
-returns-clause-recorded g c = subst IsRecorded c.self.view_is (reached_recorded _ c.self.invariant)
+pub returns-clause-reached : goal.returns-clause-reached
+returns-clause-reached g c = subst IsReached c.self.view_is c.self.invariant
+
+pub returns-clause-safe : goal.returns-clause-safe
+returns-clause-safe g c = subst IsSafe c.self.view_is (reached_safe _ c.self.invariant)

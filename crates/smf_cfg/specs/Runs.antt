@@ -1,0 +1,229 @@
+-- What lines of svccfg give, one behind another.
+use Rattle.std.specs.Prelude.{◌≡◌, ◌⊎◌, ◌≤◌, ℕ, ◌+◌, List, [], ◌∷◌, ◌++◌, ◌&&◌, take, codes, Bool, true, false, if◌then◌else◌, Option, Some, None, Result, Ok, Err}
+use Rattle.std.specs.Io.KnownBytes.{Appends}
+use Rattle.std_io.specs.declared.io.error.Error.{Error}
+use Rattle.smf_lines.specs.Faults.{counted}
+use Rattle.smf_lines.specs.Faults as reads
+use Rattle.smf_lines.specs.Reading.{counts_of, text_in}
+use Rattle.smf_model.specs.declared.journal.RepoFault.{RepoFault}
+use Rattle.smf_model.specs.declared.journal.RepoFault.TheVariants.{Memory}
+use Rattle.smf_model.specs.Holdings.{Holdings}
+use Rattle.smf_repo.specs.Refusals.{refusal}
+use Rattle.smf_svccfg.specs.declared.selection.Selection.{Selection}
+use Rattle.smf_svccfg.specs.declared.selection.Selection.TheVariants.{Nothing}
+use Rattle.smf_svccfg.specs.Judged.{fault_text}
+use Rattle.smf_cfg.specs.declared.fault.RunFault.{RunFault}
+use Rattle.smf_cfg.specs.declared.fault.RunFault.TheVariants.{Lines, Repo, Output, Errors}
+use Rattle.smf_cfg.specs.declared.fault.SessionFault.{SessionFault}
+use Rattle.smf_cfg.specs.declared.fault.SessionFault.TheVariants as line_faults
+use Rattle.smf_cfg.specs.declared.output.LineEnd.{LineEnd}
+use Rattle.smf_cfg.specs.declared.output.Output.{Output as AnyOutput}
+use Rattle.smf_cfg.specs.Sessions.{Done, Place, at, ran}
+
+-- what lines leave, their text, what is said of those that failed, whether none did, and whether the session ended
+pub record Effect : Type 0 where
+  pub left : Place
+  pub out : List ℕ
+  pub errors : List ℕ
+  pub end : LineEnd
+
+-- ---- a line
+
+abbrev pub fine : LineEnd
+fine = record { is_fine = true; has_ended = false }
+
+abbrev pub failed : LineEnd
+failed = record { is_fine = false; has_ended = false }
+
+abbrev pub printed : AnyOutput → LineEnd
+printed output = record { is_fine = true; has_ended = output.has_ended }
+
+-- the name of a program, words, and the end of a line
+abbrev pub line_of : List ℕ → List ℕ → List ℕ
+line_of program words = program ++ words ++ 10 ∷ []
+
+abbrev pub svccfg_name : List ℕ
+svccfg_name = codes "svccfg: "
+
+abbrev pub bad_line : List ℕ
+bad_line = line_of (codes "smf: ") (codes "bad line")
+
+abbrev pub fails_with : Place → List ℕ → Effect
+fails_with p text = record { left = p; out = []; errors = text; end = failed }
+
+abbrev pub told : Option (List ℕ) → List ℕ
+told None = []
+told (Some words) = line_of svccfg_name words
+
+-- what is said of a line that failed
+abbrev pub blamed : SessionFault → List ℕ
+blamed (line_faults.Line fault) = line_of svccfg_name (fault_text fault)
+blamed (line_faults.Refused reply) = told (refusal reply)
+blamed (line_faults.Repo fault) = []
+
+abbrev pub shown_by : Place → Result AnyOutput SessionFault → Effect
+shown_by p (Ok output) =
+    record { left = p; out = output.text; errors = []; end = printed output }
+shown_by p (Err fault) = fails_with p (blamed fault)
+
+abbrev pub shown : Done → Effect
+shown d = shown_by d.left d.given
+
+abbrev pub effect_of_text : Place → List ℕ → Effect
+effect_of_text p text = shown (ran p text)
+
+-- a line that is too long or no text is a bad one
+abbrev pub effect_of : Place → Option (List ℕ) → Effect
+effect_of p None = fails_with p bad_line
+effect_of p (Some text) = effect_of_text p text
+
+-- what a line does, which stands without its end
+unfoldable pub effect : Place → List ℕ → Effect
+effect p line = effect_of p (text_in line)
+
+-- ---- lines
+
+-- a run in which nothing was said yet
+abbrev pub silent : Place → Effect
+silent p = record { left = p; out = []; errors = []; end = fine }
+
+abbrev pub end_behind : LineEnd → LineEnd → LineEnd
+end_behind before after = record { is_fine = before.is_fine && after.is_fine; has_ended = after.has_ended }
+
+-- one effect, and another on what it left
+abbrev pub joined : Effect → Effect → Effect
+joined e f =
+    record { left = f.left; out = e.out ++ f.out; errors = e.errors ++ f.errors; end = end_behind e.end f.end }
+
+-- what a line does, behind what those before it did; behind the end of the session it does nothing
+abbrev pub line_on : Effect → List ℕ → Effect
+line_on e l = if e.end.has_ended then e else joined e (effect e.left l)
+
+-- what comes of more lines behind others, each on what those before it left
+unfoldable pub lines_on : Effect → List (List ℕ) → Effect
+lines_on e [] = e
+lines_on e (l ∷ ls) = lines_on (line_on e l) ls
+
+unfoldable pub run : Place → List (List ℕ) → Effect
+run p lines = lines_on (silent p) lines
+
+-- where a run begins, nothing is selected
+abbrev pub begun : Holdings → Place
+begun h = at h Nothing
+
+-- the status of a run: 1 where a line failed
+abbrev pub status_of : Bool → ℕ
+status_of true = 0
+status_of false = 1
+
+-- the most lines of a run
+abbrev pub max_lines : ℕ
+max_lines = 1000000
+
+-- a run came to its end: what is held and the status are what its lines give, and their texts and nothing else were
+-- written
+pub record Ends (e : Effect) (after : Holdings) (out_old out_new errors_old errors_new : Option (List ℕ)) (status : ℕ) : Type 0 where
+  pub held : after ≡ e.left.held
+  pub out : Appends out_old out_new e.out
+  pub errors : Appends errors_old errors_new e.errors
+  pub exit : status ≡ status_of e.end.is_fine
+
+-- the lines up to the end of the session, and the reads that were interrupted between these counts of them, are no more
+-- than there may be
+pub record IsWithin (start : Place) (lines : List (List ℕ)) (before after : ℕ) : Type 0 where
+  pub first : List (List ℕ)
+  pub behind : List (List ℕ)
+  pub whole : lines ≡ first ++ behind
+  pub all : (behind ≡ []) ⊎ ((run start first).end.has_ended ≡ true)
+  pub interrupted : ℕ
+  pub heard : after ≡ counted before interrupted
+  pub within : counts_of first + interrupted ≤ max_lines
+
+-- ---- faults
+
+-- too many lines are more than there may be
+abbrev pub IsPast : RunFault → ℕ → ℕ → Type 0
+IsPast (Lines fault) most counted = reads.IsPast fault most counted
+IsPast (Repo fault) most counted = Unit {0}
+IsPast (Output fault) most counted = Unit {0}
+IsPast (Errors fault) most counted = Unit {0}
+
+-- nothing is said of what a writer that failed has taken
+abbrev pub WroteOut : RunFault → Effect → Option (List ℕ) → Option (List ℕ) → Type 0
+WroteOut (Lines fault) e old new = Appends old new e.out
+WroteOut (Repo fault) e old new = Appends old new e.out
+WroteOut (Output fault) e old new = Unit {0}
+WroteOut (Errors fault) e old new = Appends old new e.out
+
+abbrev pub WroteErrors : RunFault → Effect → Option (List ℕ) → Option (List ℕ) → Type 0
+WroteErrors (Lines fault) e old new = Appends old new e.errors
+WroteErrors (Repo fault) e old new = Appends old new e.errors
+WroteErrors (Output fault) e old new = Appends old new e.errors
+WroteErrors (Errors fault) e old new = Unit {0}
+
+-- a run was ended by a fault: some of its lines were done, and their texts were written
+pub record Stops (fault : RunFault) (start : Place) (lines : List (List ℕ)) (after : Holdings) (out_old out_new errors_old errors_new : Option (List ℕ)) : Type 0 where
+  pub first : List (List ℕ)
+  pub behind : List (List ℕ)
+  pub whole : lines ≡ first ++ behind
+  pub held : after ≡ (run start first).left.held
+  pub out : WroteOut fault (run start first) out_old out_new
+  pub errors : WroteErrors fault (run start first) errors_old errors_new
+  pub past : IsPast fault max_lines (counts_of (first ++ take 1 behind))
+
+-- why a run ended: the reader, the repository or a writer, with a fault that it may have
+abbrev pub IsWhy : (Error → Type 0) → (RepoFault → Type 0) → (Error → Type 0) → (Error → Type 0) → RunFault → Type 0
+IsWhy reader stores writes tells (Lines fault) = reads.IsUnread reader fault
+IsWhy reader stores writes tells (Repo fault) = (fault ≡ Memory) ⊎ stores fault
+IsWhy reader stores writes tells (Output e) = writes e
+IsWhy reader stores writes tells (Errors e) = tells e
+
+-- whether a read has failed, behind this end
+abbrev pub failed_by : RunFault → Bool → Bool
+failed_by (Lines fault) before = reads.failed_by fault before
+failed_by (Repo fault) before = before
+failed_by (Output fault) before = before
+failed_by (Errors fault) before = before
+
+abbrev pub failed_in : {T : Type 0} → Result T RunFault → Bool → Bool
+failed_in (Ok v) before = before
+failed_in (Err e) before = failed_by e before
+
+-- as many reads as the fault says were interrupted, if it is of too many lines
+abbrev pub Tells : RunFault → ℕ → ℕ → Type 0
+Tells (Lines fault) before after = reads.Tells fault before after
+Tells (Repo fault) before after = Unit {0}
+Tells (Output fault) before after = Unit {0}
+Tells (Errors fault) before after = Unit {0}
+
+-- ---- how calls do it
+
+abbrev pub IsUnprinted : (Error → Type 0) → RunFault → Type 0
+IsUnprinted fails (Output e) = fails e
+IsUnprinted fails (Errors e) = ⊥
+IsUnprinted fails (Lines fault) = ⊥
+IsUnprinted fails (Repo fault) = ⊥
+
+-- a complaint could not be written, or memory ran out before that
+abbrev pub IsUnsaid : (Error → Type 0) → RunFault → Option (List ℕ) → Option (List ℕ) → Type 0
+IsUnsaid fails (Errors e) old new = fails e
+IsUnsaid fails (Repo fault) old new = (fault ≡ Memory) × (new ≡ old)
+IsUnsaid fails (Lines fault) old new = ⊥
+IsUnsaid fails (Output e) old new = ⊥
+
+-- a line was done, and its texts were written
+pub record IsWritten (e : Effect) (after : Holdings) (selection : Selection) (out_old out_new errors_old errors_new : Option (List ℕ)) (end : LineEnd) : Type 0 where
+  pub left : e.left ≡ at after selection
+  pub out : Appends out_old out_new e.out
+  pub errors : Appends errors_old errors_new e.errors
+  pub flag : end ≡ e.end
+
+-- a line was ended by a fault of the repository or of a writer
+abbrev pub IsCut : RunFault → Effect → Holdings → Holdings → Option (List ℕ) → Option (List ℕ) → Option (List ℕ) → Option (List ℕ) → Type 0
+IsCut (Repo fault) e before after out_old out_new errors_old errors_new =
+    (after ≡ before) × (out_new ≡ out_old) × (errors_new ≡ errors_old)
+IsCut (Output fault) e before after out_old out_new errors_old errors_new =
+    (after ≡ e.left.held) × Appends errors_old errors_new e.errors
+IsCut (Errors fault) e before after out_old out_new errors_old errors_new =
+    (after ≡ e.left.held) × Appends out_old out_new e.out
+IsCut (Lines fault) e before after out_old out_new errors_old errors_new = ⊥

@@ -1,0 +1,118 @@
+-- What a line does where something is selected.
+use Rattle.std.specs.Prelude.{◌≡◌, ◌⊎◌, ℕ, List, [], Bool, true, false, Result, Ok, Err}
+use Rattle.smf_model.specs.declared.command.Command.TheVariants as commands
+use Rattle.smf_model.specs.declared.command.Edit.{Edit}
+use Rattle.smf_model.specs.declared.command.Reply.{Reply}
+use Rattle.smf_model.specs.declared.journal.RepoFault.{RepoFault}
+use Rattle.smf_model.specs.declared.journal.RepoFault.TheVariants.{Memory}
+use Rattle.smf_model.specs.Holdings.{Holdings}
+use Rattle.smf_model.specs.Laws.{is_refusal}
+use Rattle.smf_model.specs.Next.{next}
+use Rattle.smf_svccfg.specs.declared.fault.CfgFault.{CfgFault}
+use Rattle.smf_svccfg.specs.declared.selection.Judged.{Judged}
+use Rattle.smf_svccfg.specs.declared.selection.Judged.TheVariants as judgements
+use Rattle.smf_svccfg.specs.declared.selection.Selection.{Selection}
+use Rattle.smf_svccfg.specs.declared.selection.Selection.TheVariants as selected
+use Rattle.smf_svccfg.specs.Judged.{judged}
+use Rattle.smf_cfg.specs.declared.output.Output.{Output}
+use Rattle.smf_cfg.specs.declared.fault.SessionFault.{SessionFault}
+use Rattle.smf_cfg.specs.declared.fault.SessionFault.TheVariants.{Line, Refused, Repo}
+
+-- what is held, and what is selected
+pub record Place : Type 0 where
+  pub held : Holdings
+  pub selection : Selection
+
+abbrev pub at : Holdings → Selection → Place
+at h s = record { held = h; selection = s }
+
+-- what a line leaves, and what it gives
+pub record Done : Type 0 where
+  pub left : Place
+  pub given : Result Output SessionFault
+
+-- a line that printed this, and after which the session goes on
+abbrev pub said : List ℕ → Output
+said text = record { text = text; has_ended = false }
+
+-- one after which it does not
+abbrev pub ended : Output
+ended = record { text = []; has_ended = true }
+
+abbrev pub done : Place → Output → Done
+done p output = record { left = p; given = Ok output }
+
+abbrev pub undone : Place → SessionFault → Done
+undone p fault = record { left = p; given = Err fault }
+
+-- ---- edits
+
+-- what is selected behind an edit is selected where it is accepted
+abbrev pub replied_by : Bool → Selection → Selection → Holdings → Reply → Done
+replied_by true before after h reply = undone (at h before) (Refused reply)
+replied_by false before after h reply = done (at h after) (said [])
+
+abbrev pub replied : Selection → Selection → Holdings × Reply → Done
+replied before after r = replied_by (is_refusal r.1) before after r.0 r.1
+
+-- an edit is given to the repository
+unfoldable pub edited : Place → Edit → Selection → Done
+edited p edit after = replied p.selection after (next p.held (commands.Edit edit))
+
+-- ---- lines
+
+-- what is done of what a line is judged to be
+unfoldable pub carried : Place → Result Judged CfgFault → Done
+carried p (Ok judgements.Nothing) = done p (said [])
+carried p (Ok (judgements.Select found)) = done (at p.held found) (said [])
+carried p (Ok (judgements.Edit edit after)) = edited p edit after
+carried p (Ok (judgements.Print text)) = done p (said text)
+carried p (Ok judgements.End) = done (at p.held selected.Nothing) ended
+carried p (Err fault) = undone p (Line fault)
+
+-- what a line does, which stands without its end
+unfoldable pub ran : Place → List ℕ → Done
+ran p line = carried p (judged p.held p.selection line)
+
+-- ---- how calls do it
+
+-- this is held and selected behind a line, and this it gave
+pub record IsDone (d : Done) (h : Holdings) (s : Selection) (given : Result Output SessionFault) : Type 0 where
+  pub left : d.left ≡ at h s
+  pub gives : d.given ≡ given
+
+-- a line failed for its reason; nothing is said of a line that had no reply
+abbrev pub IsUndone : Done → Holdings → Selection → SessionFault → Type 0
+IsUndone d h s (Line fault) = IsDone d h s (Err (Line fault))
+IsUndone d h s (Refused reply) = IsDone d h s (Err (Refused reply))
+IsUndone d h s (Repo fault) = Unit {0}
+
+-- ---- what becomes of the client
+
+-- what follows an edit that ended so
+abbrev pub HasFollowed : {C : Type 0} → (C → Edit → Result Reply RepoFault → C → Type 0) → C → Edit → C → Result Output SessionFault → Type 0
+HasFollowed follows before edit after (Ok output) = (reply : Reply) × follows before edit (Ok reply) after
+HasFollowed follows before edit after (Err (Refused reply)) = follows before edit (Ok reply) after
+HasFollowed follows before edit after (Err (Repo fault)) = follows before edit (Err fault) after
+HasFollowed follows before edit after (Err (Line fault)) = ⊥
+
+-- an edit was given to the client where the line is judged to be one, and else nothing was done to it
+abbrev pub IsGivenTo : {C : Type 0} → (C → Edit → Result Reply RepoFault → C → Type 0) → Result Judged CfgFault → C → C → Result Output SessionFault → Type 0
+IsGivenTo follows (Ok (judgements.Edit edit next)) before after given = HasFollowed follows before edit after given
+IsGivenTo follows (Ok judgements.Nothing) before after given = after ≡ before
+IsGivenTo follows (Ok (judgements.Select found)) before after given = after ≡ before
+IsGivenTo follows (Ok (judgements.Print text)) before after given = after ≡ before
+IsGivenTo follows (Ok judgements.End) before after given = after ≡ before
+IsGivenTo follows (Err fault) before after given = after ≡ before
+
+-- or memory ran out before anything was done
+abbrev pub IsGivenOr : {C : Type 0} → (C → Edit → Result Reply RepoFault → C → Type 0) → Result Judged CfgFault → C → C → Result Output SessionFault → Type 0
+IsGivenOr follows judged before after given = IsGivenTo follows judged before after given ⊎ ((given ≡ Err (Repo Memory)) × (after ≡ before))
+
+-- ---- faults
+
+-- why a line failed: what had no reply lacked memory, or ended with a fault that the client may have
+abbrev pub IsFault : (RepoFault → Type 0) → SessionFault → Type 0
+IsFault fails (Line fault) = Unit {0}
+IsFault fails (Refused reply) = is_refusal reply ≡ true
+IsFault fails (Repo fault) = (fault ≡ Memory) ⊎ fails fault

@@ -1,0 +1,15 @@
+//! Lines of svccfg(1M), done over any client of the repository.
+//! Modules: `output` (what a line gives), `fault`, `session` (one line), `run` (lines of a reader), `serving` (how a run ends).
+#![tactic(auto)]
+
+mod fault;
+mod output;
+mod run;
+mod serving;
+mod session;
+
+pub use fault::{RunFault, SessionFault};
+pub use output::{LineEnd, Output};
+pub use run::run_cfg;
+pub use serving::{serve_cfg, tell};
+pub use session::Session;

@@ -1,0 +1,17 @@
+use smf_fmri::Text;
+
+/// What a line gave that did not fail.
+#[derive(Debug, Drop)]
+pub struct Output {
+    pub text: Text,
+    /// svccfg ends with this line.
+    pub has_ended: bool,
+}
+
+/// How a line ended that was done, or that failed.
+#[derive(Clone, Copy, Debug, PartialEq, Eq)]
+pub struct LineEnd {
+    pub is_fine: bool,
+    /// svccfg ends with this line.
+    pub has_ended: bool,
+}

@@ -1,0 +1,168 @@
+ghost use Rattle.std.specs.Prelude.{◌≡◌, ◌⊎◌, [], IfErr, IfOk, OnErr, Ok};
+ghost use Rattle.smf_cfg.specs.Sessions.{IsDone, HasFollowed, IsFault, IsGivenOr, IsGivenTo, IsUndone, at, carried, edited, ended, ran, said};
+ghost use Rattle.smf_model.specs.declared.command.Command.TheVariants as commands;
+ghost use Rattle.smf_model.specs.declared.journal.RepoFault.TheVariants.{Memory};
+ghost use Rattle.smf_model.specs.Laws.{is_refusal};
+ghost use Rattle.smf_model.specs.Next.{next};
+ghost use Rattle.smf_repo.specs.Clients.{IsEditedAlone};
+ghost use Rattle.smf_svccfg.specs.Judged.{judged};
+ghost use Rattle.smf_svccfg.specs.declared.selection.Selection.TheVariants as selected;
+
+use crate::fault::SessionFault;
+use crate::output::Output;
+use smf_fmri::Text;
+use smf_model::{Edit, Reply, RepoFault};
+use smf_repo::Client;
+use smf_svccfg::{CfgFault, Judged, Selection, judge};
+use std::alloc::Global;
+use std::marker::Model;
+
+/// A session of svccfg: what is selected in it.
+#[derive(Debug, Drop)]
+pub struct Session {
+    selection: Selection,
+}
+
+impl Model for Session {
+    ghost use Rattle.smf_svccfg.specs.declared.selection.Selection.{Selection as AnySelection};
+
+    ghost Value = { AnySelection };
+
+    ghost view = { λ s. s.selection };
+}
+
+fn is_refusal(reply: &Reply) -> bool
+    ensures { result ≡ is_refusal reply.now }
+{
+    match reply {
+        Reply::Made(_) => false,
+        Reply::Granted(_) => false,
+        Reply::Done => false,
+        _ => true,
+    }
+}
+
+/// A line that printed this, and after which the session goes on.
+fn said(text: Text) -> Output
+    ensures { result ≡ said text }
+{
+    Output {
+        text,
+        has_ended: false,
+    }
+}
+
+/// The end of the session.
+fn ended(text: Text) -> Output
+    requires { text ≡ [] }
+    ensures { result ≡ ended }
+{
+    Output {
+        text,
+        has_ended: true,
+    }
+}
+
+/// Gives an edit to the client.
+fn apply<C: Client>(client: &mut C, edit: Edit) -> Result<Reply, RepoFault>
+    ensures exact { IfOk result (λ reply. next (C.held client.old) (commands.Edit edit) ≡ (C.held client.new, reply)) }
+    ensures err { OnErr result (C.held client.new ≡ C.held client.old) }
+    ensures follows { C.follows client.old edit result client.new }
+    ensures edits { IsEditedAlone C.held C.follows client.old client.new }
+    ensures fault { IfErr result (λ e. (e ≡ Memory) ⊎ C.edit_fails e) }
+{
+    client.apply(edit)
+}
+
+/// Gives an edit. What is selected behind it is selected where it is accepted.
+#[tactic(auto, unfolding(crate::specs::Sessions::edited))]
+fn give<C: Client>(
+    alloc: Global,
+    client: &mut C,
+    selection: &mut Selection,
+    edit: Edit,
+    after: Selection,
+) -> Result<Output, SessionFault>
+    ensures ok { IfOk result (λ output. IsDone (edited (at (C.held client.old) selection.old) edit after) (C.held client.new) selection.new (Ok output)) }
+    ensures err { IfErr result (λ e. IsUndone (edited (at (C.held client.old) selection.old) edit after) (C.held client.new) selection.new e) }
+    ensures kept { OnErr result (C.held client.new ≡ C.held client.old) }
+    ensures unselected { OnErr result (selection.new ≡ selection.old) }
+    ensures given { HasFollowed C.follows client.old edit client.new result }
+    ensures edits { IsEditedAlone C.held C.follows client.old client.new }
+    ensures fault { IfErr result (λ e. IsFault C.edit_fails e) }
+{
+    let reply = apply(client, edit)?;
+    if is_refusal(&reply) {
+        return Err(SessionFault::Refused(reply));
+    }
+    *selection = after;
+    Ok(said(Text::from_string(String::new(alloc))))
+}
+
+/// Carries out what a line was judged to be.
+#[tactic(auto, unfolding(crate::specs::Sessions::carried))]
+fn carry_out<C: Client>(
+    alloc: Global,
+    client: &mut C,
+    selection: &mut Selection,
+    judged: Judged,
+) -> Result<Output, SessionFault>
+    ensures ok { IfOk result (λ output. IsDone (carried (at (C.held client.old) selection.old) (Ok judged)) (C.held client.new) selection.new (Ok output)) }
+    ensures err { IfErr result (λ e. IsUndone (carried (at (C.held client.old) selection.old) (Ok judged)) (C.held client.new) selection.new e) }
+    ensures kept { OnErr result (C.held client.new ≡ C.held client.old) }
+    ensures unselected { OnErr result (selection.new ≡ selection.old) }
+    ensures given { IsGivenTo C.follows (Ok judged) client.old client.new result }
+    ensures edits { IsEditedAlone C.held C.follows client.old client.new }
+    ensures fault { IfErr result (λ e. IsFault C.edit_fails e) }
+{
+    match judged {
+        Judged::Nothing => Ok(said(Text::from_string(String::new(alloc)))),
+        Judged::Select(found) => {
+            *selection = found;
+            Ok(said(Text::from_string(String::new(alloc))))
+        }
+        Judged::Edit(edit, after) => give(alloc, client, selection, edit, after),
+        Judged::Print(text) => Ok(said(text)),
+        Judged::End => {
+            *selection = Selection::Nothing;
+            Ok(ended(Text::from_string(String::new(alloc))))
+        }
+    }
+}
+
+impl Session {
+    /// A session in which nothing is selected.
+    pub fn new() -> Session
+        ensures { result ≡ selected.Nothing }
+    {
+        Session {
+            selection: Selection::Nothing,
+        }
+    }
+
+    /// Does a line, which stands without its end.
+    #[tactic(auto, unfolding(crate::specs::Sessions::ran, crate::specs::Sessions::carried))]
+    pub fn run_line<C: Client>(
+        &mut self,
+        alloc: Global,
+        client: &mut C,
+        line: &str,
+    ) -> Result<Output, SessionFault>
+        // What is held and selected behind the line, and what it gave.
+        ensures ok { IfOk result (λ output. IsDone (ran (at (C.held client.old) self.old) line.now) (C.held client.new) self.new (Ok output)) }
+        // A line that failed did so for its reason, unless it had no reply, and changed nothing.
+        ensures err { IfErr result (λ e. IsUndone (ran (at (C.held client.old) self.old) line.now) (C.held client.new) self.new e) }
+        ensures kept { OnErr result (C.held client.new ≡ C.held client.old) }
+        ensures unselected { OnErr result (self.new ≡ self.old) }
+        // An edit went to the client where the line is judged to be one, and nothing else did.
+        ensures given { IsGivenOr C.follows (judged (C.held client.old) self.old line.now) client.old client.new result }
+        ensures edits { IsEditedAlone C.held C.follows client.old client.new }
+        ensures fault { IfErr result (λ e. IsFault C.edit_fails e) }
+    {
+        match judge(alloc, client, &self.selection, line) {
+            Ok(judged) => carry_out(alloc, client, &mut self.selection, judged),
+            Err(CfgFault::Memory) => Err(SessionFault::Repo(RepoFault::Memory)),
+            Err(fault) => Err(SessionFault::Line(fault)),
+        }
+    }
+}

@@ -1,0 +1,62 @@
+-- What edits leave of a client, and what an edit leaves of a repository over a journal.
+use Rattle.std.specs.Prelude.{◌≡◌, ◌⊎◌, ◌++◌, List, [], ◌∷◌, Option, Some, Result, Ok, Err}
+use Rattle.smf_model.specs.declared.command.Command.TheVariants as commands
+use Rattle.smf_model.specs.declared.command.Edit.{Edit}
+use Rattle.smf_model.specs.declared.command.Reply.{Reply}
+use Rattle.smf_model.specs.declared.journal.RepoFault.{RepoFault}
+use Rattle.smf_model.specs.Holdings.{Holdings}
+use Rattle.smf_model.specs.Journals.{LeavesOldOr, LeavesOnly}
+use Rattle.smf_model.specs.Next.{next}
+use Rattle.smf_model.specs.Whole.{Whole}
+
+-- what is held stands in the journal; a crash within the edit leaves what it could leave before, or what the edit makes,
+-- and one behind it, where the journal is sound, what is held
+pub record IsEdited {J : Type 0} (is_clean is_sound : J → Type 0) (stands : J → Holdings → Type 0) (could : J → Option Holdings → Type 0) (before : Whole J) (edit : Edit) (after : Whole J) : Type 0 where
+  pub trusted : is_clean after.journal → is_clean before.journal
+  pub kept : stands after.journal after.held
+  pub crash : LeavesOldOr could before.journal after.journal (next before.held (commands.Edit edit)).0
+  pub settled : is_sound after.journal → LeavesOnly could after.journal after.held
+
+-- ---- edits in turn
+
+-- an edit, and how it ended
+pub record Given : Type 0 where
+  pub edit : Edit
+  pub end : Result Reply RepoFault
+
+-- what is held behind an edit that ended so
+abbrev pub held_behind : Edit → Result Reply RepoFault → Holdings → Holdings
+held_behind edit (Ok reply) h = (next h (commands.Edit edit)).0
+held_behind edit (Err fault) h = h
+
+-- a client to which an edit was given
+pub record IsGiven {C : Type 0} (held : C → Holdings) (follows : C → Edit → Result Reply RepoFault → C → Type 0) (before : C) (g : Given) (after : C) : Type 0 where
+  pub left : held after ≡ held_behind g.edit g.end (held before)
+  pub behind : follows before g.edit g.end after
+
+-- a client to which edits were given in turn
+abbrev pub AreGiven : {C : Type 0} → (C → Holdings) → (C → Edit → Result Reply RepoFault → C → Type 0) → C → List Given → C → Type 0
+AreGiven held follows before [] after = after ≡ before
+AreGiven {C = C} held follows before (g ∷ gs) after = (then_on : C) × IsGiven held follows before g then_on × AreGiven held follows then_on gs after
+
+-- what was done to a client was edits alone
+abbrev pub IsEditedAlone : {C : Type 0} → (C → Holdings) → (C → Edit → Result Reply RepoFault → C → Type 0) → C → C → Type 0
+IsEditedAlone held follows before after = (all : List Given) × AreGiven held follows before all after
+
+-- what is held behind edits
+abbrev pub held_behind_all : List Given → Holdings → Holdings
+held_behind_all [] h = h
+held_behind_all (g ∷ gs) h = held_behind_all gs (held_behind g.edit g.end h)
+
+-- what some of the edits make, the first of them; the last of these is carried out also where it had no reply
+pub record IsMadeByFirst (all : List Given) (h value : Holdings) : Type 0 where
+  pub first : List Given
+  pub last : Given
+  pub behind : List Given
+  pub whole : all ≡ first ++ last ∷ behind
+  pub made : value ≡ (next (held_behind_all first h) (commands.Edit last.edit)).0
+
+-- a crash leaves what it could leave before the edits, or what the first of them make
+abbrev pub LeavesFirstOf : {J : Type 0} → (J → Option Holdings → Type 0) → Whole J → List Given → Whole J → Type 0
+LeavesFirstOf could before all after = (found : Option Holdings) → could after.journal found
+    → could before.journal found ⊎ ((value : Holdings) × (found ≡ Some value) × IsMadeByFirst all before.held value)
