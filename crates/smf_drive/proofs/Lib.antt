@@ -1,0 +1,5 @@
+pub mod Events
+pub mod Alone
+pub mod Fails
+pub mod Moving
+pub mod Steps

@@ -1,0 +1,49 @@
+use crate::telling::{fault_text, node_text, tell_open};
+use smf_cfg::tell;
+use smf_edge::Kids;
+use smf_lines::{LineReader, TextWriter};
+use smf_model::{Journal, Plain};
+use smf_node::Node;
+use smf_run::{end_all, run_script};
+use smf_script::ScriptFault;
+use smf_store::open_repository;
+use sqlite::{Alter, Connection};
+use std::alloc::Global;
+
+/// Does a script over a repository and the children of its services. At the end every child that is left is killed and
+/// waited for.
+fn run_over<J: Journal + Drop, R: LineReader, W: TextWriter, K: Kids>(
+    alloc: Global,
+    repository: Plain<J>,
+    reader: &mut R,
+    writer: &mut W,
+    kids: &mut K,
+) -> Result<u8, ScriptFault> {
+    let mut node = match Node::new(alloc, repository) {
+        Ok(node) => node,
+        Err((fault, _)) => return Err(ScriptFault::Node(fault)),
+    };
+    let end = run_script(alloc, reader, writer, &mut node, kids);
+    end_all(kids);
+    end
+}
+
+/// Does a script over a database and the children of its services, and gives the status of the run: 0, 1 where a line
+/// failed, or 3 for a fault. At the end every child that is left is killed and waited for.
+pub fn serve<S: Alter + Drop, R: LineReader, W: TextWriter, E: TextWriter, K: Kids>(
+    alloc: Global,
+    conn: Connection<S>,
+    reader: &mut R,
+    writer: &mut W,
+    errors: &mut E,
+    kids: &mut K,
+) -> u8 {
+    let repository = match open_repository(alloc, conn) {
+        Ok(repository) => repository,
+        Err((fault, _)) => return tell_open(alloc, errors, &fault),
+    };
+    match run_over(alloc, repository, reader, writer, kids) {
+        Ok(status) => status,
+        Err(fault) => tell(errors, fault_text(&fault)),
+    }
+}
