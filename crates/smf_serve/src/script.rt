@@ -1,4 +1,8 @@
-use crate::telling::{fault_text, node_text, tell_open};
+ghost use Rattle.std.specs.Prelude.{◌≡◌, ◌≢◌, ◌≤◌, IfErr, IfOk};
+ghost use Rattle.smf_run.specs.Asks.{seen};
+ghost use Rattle.smf_serve.specs.Runs.{HasRunOver, IsCutOff, IsDone, IsEnded};
+
+use crate::telling::{fault_text, tell_open};
 use smf_cfg::tell;
 use smf_edge::Kids;
 use smf_lines::{LineReader, TextWriter};
@@ -18,7 +22,13 @@ fn run_over<J: Journal + Drop, R: LineReader, W: TextWriter, K: Kids>(
     reader: &mut R,
     writer: &mut W,
     kids: &mut K,
-) -> Result<u8, ScriptFault> {
+) -> Result<u8, ScriptFault>
+    ensures ran { IfOk result (λ status.
+        HasRunOver K.skills repository.held (R.remaining reader.old) (seen (K.ledger kids.old) (K.failures kids.old)) (seen (K.ledger kids.new) (K.failures kids.new)) (W.contents writer.old) (W.contents writer.new) status) }
+    ensures exit { IfOk result (λ status. status ≤ 1) }
+    ensures cut { IfErr result (λ fault.
+        IsCutOff K.skills J.write_fails R.read_fails W.write_fails repository.held (R.remaining reader.old) (seen (K.ledger kids.old) (K.failures kids.old)) (seen (K.ledger kids.new) (K.failures kids.new)) (W.contents writer.old) (W.contents writer.new) fault) }
+{
     let mut node = match Node::new(alloc, repository) {
         Ok(node) => node,
         Err((fault, _)) => return Err(ScriptFault::Node(fault)),
@@ -37,7 +47,12 @@ pub fn serve<S: Alter + Drop, R: LineReader, W: TextWriter, E: TextWriter, K: Ki
     writer: &mut W,
     errors: &mut E,
     kids: &mut K,
-) -> u8 {
+) -> u8
+    ensures ok { result ≢ 3 → IsDone S.Store conn K.skills
+        (R.remaining reader.old) (seen (K.ledger kids.old) (K.failures kids.old)) (seen (K.ledger kids.new) (K.failures kids.new)) (W.contents writer.old) (W.contents writer.new) result }
+    ensures fault { result ≡ 3 → IsEnded S.Store conn K.skills (λ _. Unit {0}) R.read_fails W.write_fails E.write_fails
+        (R.remaining reader.old) (seen (K.ledger kids.old) (K.failures kids.old)) (seen (K.ledger kids.new) (K.failures kids.new)) (W.contents writer.old) (W.contents writer.new) (E.contents errors.old) (E.contents errors.new) }
+{
     let repository = match open_repository(alloc, conn) {
         Ok(repository) => repository,
         Err((fault, _)) => return tell_open(alloc, errors, &fault),

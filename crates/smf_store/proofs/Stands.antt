@@ -1,9 +1,10 @@
 -- What is read of the six tables stands in them.
-use Rattle.std.proofs.Common.{◌≡◌, ◌⊎◌, inl, inr, ℕ, pos, codes, Some, None, true, List, [], ◌∷◌, Ok, Err, IsTrue, refl, sym, ap, subst, ◌∙◌}
+use Rattle.std.proofs.Common.{◌≡◌, ◌⊎◌, inl, inr, ℕ, pos, codes, Some, None, true, false, List, [], ◌∷◌, Ok, Err, IsTrue, refl, sym, ap, subst, ◌∙◌}
 use Rattle.sqlite.specs.Order.{Row}
 use Rattle.sqlite.specs.Tree.{Trees}
 use Rattle.sqlite.specs.Effect.{Database, IsDatabase}
-use Rattle.sqlite.specs.State.{State, Shows}
+use Rattle.sqlite.specs.State.{State, Shows, IsLive, Survives}
+use Rattle.sqlite.proofs.StateLemmas.{survives_weaker}
 use Rattle.sqlite_rules.specs.Lists.{Has}
 use Rattle.smf_tables.specs.Reading.{AreShown, Looks, shown}
 use Rattle.smf_tables.specs.Rows.{IsKeyed}
@@ -16,13 +17,15 @@ use Rattle.smf_model.specs.Holdings.{Holdings}
 use Rattle.smf_store.specs.declared.counting.StoreVersion.{StoreVersion}
 use Rattle.smf_store.specs.declared.counting.StoreVersion.TheVariants as versions
 use Rattle.smf_store.specs.declared.judging.StoreRows.{StoreRows}
+use Rattle.smf_store.specs.Creating.{MayMake}
+use Rattle.smf_store.specs.Opens.{MayOpen}
 use Rattle.smf_store.specs.Gathered.{Matches, AreRead, rows_of}
 use Rattle.smf_store.specs.Holds.{Listed, Stands, StandsFirst}
 use Rattle.smf_store.specs.declared.refusal.OpenFault.{OpenFault}
 use Rattle.smf_store.specs.declared.refusal.OpenFault.TheVariants.{Memory, Database as Failed, Version as OtherVersion, Damaged, TooManyInstances}
 use Rattle.smf_store.specs.Judged.{IsJudged, judged}
 use Rattle.smf_store.specs.Shown.{Counter, Version, Layout, Revision, NextInstance, NextSnapshot, Count, count_of, counter_text, first_count_of, HasCount, HasCountIn, ShowsCount, ShowsInstance, OwnedGroup, ShowsGroup, ShowsSnapshot, ShowsLaunch}
-use Rattle.smf_store.specs.Stages.{AreAllKeyed, AreListed, IsFailure, IsRaised, IsSaid, Lists, Raises, RaisesFrom, Reads, raised, stayed}
+use Rattle.smf_store.specs.Stages.{AreAllKeyed, AreListed, IsFailure, IsRaised, IsSaid, Lists, MayRead, Opened, Raises, RaisesFrom, Reads, Says, raised, stayed}
 use Rattle.smf_store.proofs.Makes.{shows_then}
 use Rattle.smf_store.proofs.Six.{Six, Presents, holds, six_of}
 use Rattle.smf_store.proofs.Statements as step
@@ -225,3 +228,38 @@ judged_said trees rows Failed l j = tt
 judged_said trees rows (OtherVersion n) l j = record { rows = rows; listed = l; said = j }
 judged_said trees rows (Damaged table) l j = record { rows = rows; listed = l; said = j }
 judged_said trees rows TooManyInstances l j = record { rows = rows; listed = l; said = j }
+
+-- ---- the store behind its opening
+
+raised_stands : (old new : Database) (h : Holdings) → IsRaised old new h → Stands new h
+raised_stands old new h (stayed stands same) = subst (λ d. Stands d h) (sym same) stands
+raised_stands old new h (raised before stands) = stands
+
+module _ (old begun last : State) (h : Holdings) (now : begun.now ≡ old.now) (live : begun.is_open ≡ old.is_open) (has : old.now.schema ≡ store_schema) (sound : IsLive old) (r : Reads begun last h) where
+  has_six : begun.now.schema ≡ store_schema
+  has_six = ap (λ (d : Database). d.schema) now ∙ has
+
+  is_sound : IsDatabase begun.now
+  is_sound = subst IsDatabase (sym now) (sound (subst IsTrue live r.shows.was_open)).0
+
+  was_raised : IsRaised old.now last.now h
+  was_raised = subst (λ d. IsRaised d last.now h) now (r.raised has_six is_sound)
+
+  pub opened : (end : State) → Shows last end last.now last.now false → Opened old end h
+  opened end s =
+      let it = subst (λ d. IsRaised old.now d h) (sym s.now_is) was_raised in
+      record {
+        is_open = s.is_open;
+        says = subst (λ (d : Database). Says d.trees (Ok h)) now (r.says has_six is_sound);
+        raised = it;
+        keeps = record { stands = raised_stands old.now end.now h it; settled = s.committed_is ∙ sym s.now_is };
+      }
+
+  pub may_read : (db : Trees) → db ≡ last.now.trees → MayRead old db
+  may_read db is = (last.now, h, was_raised, is)
+
+pub leaves_made : (a b : State) → Survives a b (MayMake a) → Survives a b (MayOpen a)
+leaves_made a b s = survives_weaker a b (MayMake a) (MayOpen a) (λ clean db made. inl made) s
+
+pub leaves_read : (a b : State) → Survives a b (MayRead a) → Survives a b (MayOpen a)
+leaves_read a b s = survives_weaker a b (MayRead a) (MayOpen a) (λ clean db read. inr read) s

@@ -71,7 +71,7 @@ module _ (rows : StoreRows) where
       unfolding judged
       no_tables e t = rw (v, n, t) refl
 
-      pub of_tables : (e : OpenFault) (k new : Holdings) → k ≡ begun c → IsRead (Err e) new (tables_said rows k) → IsJudged (Err e) (judged rows)
+      pub of_tables : (e : OpenFault) (k new : Holdings) → k ≡ begun c → IsRead {X = Unit {0}} (Err e) new (tables_said rows k) → IsJudged (Err e) (judged rows)
       of_tables Memory k new is t = tt
       of_tables Database k new is t = no_tables Database (ap (tables_said rows) (sym is) ∙ t)
       of_tables (Version z) k new is t = no_tables (Version z) (ap (tables_said rows) (sym is) ∙ t)

@@ -1,4 +1,5 @@
-ghost use Rattle.std.specs.Prelude.{◌≡◌, IfOk, IsTrue, OnOk};
+ghost use Rattle.std.specs.Prelude.{◌≡◌, false, Err, IfOk, IsTrue, Ok, OnOk};
+ghost use Rattle.smf_model.specs.Laws.{IsNumbered};
 ghost use Rattle.smf_store.specs.Gathered.{AreRead, GathersAll, rows_of};
 ghost use Rattle.smf_store.specs.Judged.{IsJudged, IsRead, fitting, judged, tables_said};
 
@@ -73,7 +74,8 @@ fn read_tables(alloc: Global, rows: &StoreRows, tables: &mut Tables) -> Result<(
 
 /// Whether there are numbers for so many instances as a store of the first version may have.
 fn is_past(version: StoreVersion, tables: &Tables) -> bool
-    ensures { IsTrue result → fitting version tables.now ≡ Err OpenFault.TooManyInstances }
+    ensures past { IsTrue result → fitting version tables.now ≡ Err OpenFault.TooManyInstances }
+    ensures fits { result ≡ false → fitting version tables.now ≡ Ok tables.now }
 {
     match version {
         StoreVersion::First => tables.next_instance().get() > MAX_NEXT_INSTANCE,
@@ -86,6 +88,7 @@ fn is_past(version: StoreVersion, tables: &Tables) -> bool
 pub(crate) fn judge(alloc: Global, rows: &StoreRows) -> Result<Judgement, OpenFault>
     ensures exact { IsJudged result (judged rows.now) }
     ensures read { IfOk result (λ j. AreRead (rows_of j.version rows.now) j.tables) }
+    ensures numbered { IfOk result (λ j. IsNumbered j.tables) }
 {
     let version = match version_said(&rows.counts) {
         Ok(version) => version,

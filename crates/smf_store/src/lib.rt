@@ -3,7 +3,7 @@
 //! `rows` (rows put in), `making` (one change), `writing` (all changes of a command), `cells` (values of a row that is
 //! read), `counting` (the counters), `gathering` (rows made what is held), `judging` (the rows of all tables), `reading`
 //! (their queries), `opening` (all of a store, in either version), `refusal` (why a store is not opened), `store` (the
-//! journal).
+//! journal), `repository` (the repository over a store).
 #![tactic(auto)]
 
 mod cells;
@@ -17,9 +17,11 @@ mod making;
 mod opening;
 mod reading;
 mod refusal;
+mod repository;
 mod rows;
 mod store;
 mod writing;
 
 pub use refusal::{OpenFault, StoreTable};
-pub use store::{Store, open_repository};
+pub use repository::open_repository;
+pub use store::Store;

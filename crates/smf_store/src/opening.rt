@@ -1,7 +1,7 @@
 ghost use Rattle.std.specs.Prelude.{◌≡◌, IfErr, IfOk};
-ghost use Rattle.sqlite.specs.Effect.{IsDatabase};
 ghost use Rattle.sqlite.specs.Held.{state};
-ghost use Rattle.sqlite.specs.State.{HasCleanDisk};
+ghost use Rattle.sqlite.specs.State.{HasCleanDisk, IsLive};
+ghost use Rattle.smf_model.specs.Laws.{IsNumbered};
 ghost use Rattle.smf_tables.specs.Calls.{CommitsNone, Does, IsInside, LeavesAsBefore};
 ghost use Rattle.smf_tables.specs.Calls.{Finds as Gives};
 ghost use Rattle.smf_tables.specs.Schema.{store_schema};
@@ -57,8 +57,9 @@ fn read_raised<S: Alter>(alloc: Global, tx: &mut Transaction<'_, S>) -> Result<T
     ensures ok { Gives Reads S.Store tx.old.conn.now tx.new.conn.now result }
     ensures err { CommitsNone S.Store tx.old.conn.now tx.new.conn.now result }
     ensures crash { LeavesAsBefore S.Store tx.old.conn.now tx.new.conn.now }
-    ensures said { HasCleanDisk (state S.Store tx.new.conn.now) → (state S.Store tx.old.conn.now).now.schema ≡ store_schema → IsDatabase (state S.Store tx.old.conn.now).now
+    ensures said { HasCleanDisk (state S.Store tx.new.conn.now) → (state S.Store tx.old.conn.now).now.schema ≡ store_schema → IsLive (state S.Store tx.old.conn.now)
         → IfErr result (IsSaid (state S.Store tx.old.conn.now).now.trees) }
+    ensures numbered { IfOk result (λ h. IsNumbered h) }
 {
     let rows = match read_rows(tx) {
         Ok(rows) => rows,
@@ -82,6 +83,7 @@ pub(crate) fn read_store<S: Alter>(
     ensures err { Fails Kept S.Store conn.old conn.new result }
     ensures refused { HasCleanDisk (state S.Store conn.new) → IfErr result (IsRefused (state S.Store conn.old).now) }
     ensures crash { LeavesOr MayRead S.Store conn.old conn.new }
+    ensures numbered { IfOk result (λ h. IsNumbered h) }
 {
     if !conn.is_autocommit() {
         return Err(OpenFault::Database);

@@ -1,6 +1,7 @@
 ghost use Rattle.std.specs.Prelude.{◌≡◌, ◌↔◌, IfErr, IfOk, IsTrue};
 ghost use Rattle.sqlite.specs.Held.{state};
 ghost use Rattle.sqlite.specs.State.{HasCleanDisk};
+ghost use Rattle.smf_model.specs.Laws.{IsNumbered};
 ghost use Rattle.smf_model.specs.Look.{empty};
 ghost use Rattle.smf_tables.specs.Schema.{no_schema};
 ghost use Rattle.smf_store.specs.Creating.{MayMake};
@@ -16,7 +17,7 @@ use crate::fault::repo_fault;
 use crate::opening::read_store;
 use crate::refusal::OpenFault;
 use crate::writing::write_all;
-use smf_model::{Change, Journal, Plain, RepoFault, Tables};
+use smf_model::{Change, Journal, RepoFault, Tables};
 use sqlite::{Alter, Connection};
 use sqlite_schema::schema::Schema;
 use std::alloc::Global;
@@ -66,6 +67,8 @@ impl<S: Alter> Store<S> {
         ensures stands { IfOk result (λ p. IsSound (state S.Store p.0.conn) → Keeps (state S.Store p.0.conn) p.1) }
         ensures sound { IfOk result (λ p. HasCleanDisk (state S.Store p.0.conn) → IsSound (state S.Store p.0.conn)) }
         ensures found { IfOk result (λ p. HasCleanDisk (state S.Store p.0.conn) → IsFoundIn (state S.Store conn) (state S.Store p.0.conn) p.1) }
+        // Also where the disk is not clean.
+        ensures numbered { IfOk result (λ p. IsNumbered p.1) }
         ensures crash { IfOk result (λ p. LeavesOr MayOpen S.Store conn p.0.conn) }
         // A fault that names a version or a table says what the rows of the tables say.
         ensures refused { IfErr result (λ e. HasCleanDisk (state S.Store e.1) → IsRefused (state S.Store conn).now e.0) }
@@ -122,15 +125,4 @@ impl<S: Alter> Journal for Store<S> {
     }
 
     ghost settled = { λ j h sound stands found may. stays_settled _ h (λ db live left. S.Store.settled j.conn.store db live left) sound stands found may };
-}
-
-/// The repository over the store in a database.
-pub fn open_repository<S: Alter>(
-    alloc: Global,
-    conn: Connection<S>,
-) -> Result<Plain<Store<S>>, (OpenFault, Connection<S>)> {
-    match Store::open(alloc, conn) {
-        Ok((store, tables)) => Ok(Plain::over(alloc, tables, store)),
-        Err(e) => Err(e),
-    }
 }
