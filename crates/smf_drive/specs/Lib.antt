@@ -4,3 +4,4 @@ pub mod Answered
 pub mod Rounds
 pub mod Drives
 pub mod Moves
+pub mod Agrees

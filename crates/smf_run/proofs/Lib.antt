@@ -1,1 +1,3 @@
-mod Leading
+pub mod Answering
+pub mod Doing
+pub mod Going

@@ -1,5 +1,10 @@
-ghost use Rattle.std.specs.Prelude.{IfErr};
+ghost use Rattle.std.specs.Prelude.{◌≡◌, IfErr, IfOk, false, string_bytes};
+ghost use Rattle.smf_drive.specs.Moves.{Reaches};
+ghost use Rattle.smf_run.specs.Asks.{seen};
+ghost use Rattle.smf_run.specs.Failing.{LineFails};
+ghost use Rattle.smf_run.specs.Lines.{HasDone, HasPut, HasSettled, asks_children, deed, effect};
 ghost use Rattle.smf_script.specs.Failing.{MayEnd};
+ghost use Rattle.smf_script.specs.Request.{request_of};
 ghost use Rattle.smf_world.specs.Reached.{IsLater};
 
 use crate::acting::{boot, join, process};
@@ -18,26 +23,16 @@ fn settle<J: Journal, K: Kids>(
     rounds: u64,
     out: &mut String,
 ) -> Result<bool, NodeFault>
+    ensures exact { IfOk result (λ fine. HasPut (λ text.
+        HasSettled rounds node.old (K.ledger kids.old) (K.ledger kids.new) (deed node.new fine text))
+        (string_bytes out.old) (string_bytes out.new)) }
+    ensures reaches { Reaches node.old.world node.new.world (K.ledger kids.old) (K.ledger kids.new) }
     ensures later { IsLater node.old.world node.new.world }
     ensures fault { IfErr result (λ e. MayEnd J.write_fails e) }
 {
     let how = drive(node, kids, rounds)?;
     out.push_str(settled_text(how))?;
     Ok(true)
-}
-
-/// Does what a line asks for that children have no part in.
-fn do_other<J: Journal>(
-    alloc: Global,
-    node: &mut Node<J>,
-    selection: &mut Selection,
-    request: &Request,
-    out: &mut String,
-) -> Result<bool, NodeFault>
-    ensures later { IsLater node.old.world node.new.world }
-    ensures fault { IfErr result (λ e. MayEnd J.write_fails e) }
-{
-    run_request(alloc, node, selection, request, out)
 }
 
 fn do_request<J: Journal, K: Kids>(
@@ -48,6 +43,10 @@ fn do_request<J: Journal, K: Kids>(
     request: &Request,
     out: &mut String,
 ) -> Result<bool, NodeFault>
+    ensures exact { IfOk result (λ fine. HasPut (λ text.
+        HasDone K.skills request.now (record { progress = node.old; selection = selection.old }) (seen (K.ledger kids.old) (K.failures kids.old)) (seen (K.ledger kids.new) (K.failures kids.new)) (effect (record { progress = node.new; selection = selection.new }) fine text))
+        (string_bytes out.old) (string_bytes out.new)) }
+    ensures err { IfErr result (λ e. LineFails J.write_fails request.now (record { progress = node.old; selection = selection.old }) (seen (K.ledger kids.old) (K.failures kids.old)) (seen (K.ledger kids.new) (K.failures kids.new)) node.new e) }
     ensures later { IsLater node.old.world node.new.world }
     ensures fault { IfErr result (λ e. MayEnd J.write_fails e) }
 {
@@ -56,7 +55,7 @@ fn do_request<J: Journal, K: Kids>(
         Request::Process { word, what } => process(alloc, node, kids, word, *what, out),
         Request::Join(word) => join(alloc, node, kids, word, out),
         Request::Boot => boot(node, kids, out),
-        _ => do_other(alloc, node, selection, request, out),
+        _ => run_request(alloc, node, selection, request, out),
     }
 }
 
@@ -69,6 +68,10 @@ pub(crate) fn run_line<J: Journal, K: Kids>(
     line: &[u8],
     out: &mut String,
 ) -> Result<bool, NodeFault>
+    ensures exact { IfOk result (λ fine. HasPut (λ text.
+        HasDone K.skills (request_of line.now) (record { progress = node.old; selection = selection.old }) (seen (K.ledger kids.old) (K.failures kids.old)) (seen (K.ledger kids.new) (K.failures kids.new)) (effect (record { progress = node.new; selection = selection.new }) fine text))
+        (string_bytes out.old) (string_bytes out.new)) }
+    ensures err { IfErr result (λ e. LineFails J.write_fails (request_of line.now) (record { progress = node.old; selection = selection.old }) (seen (K.ledger kids.old) (K.failures kids.old)) (seen (K.ledger kids.new) (K.failures kids.new)) node.new e) }
     ensures later { IsLater node.old.world node.new.world }
     ensures fault { IfErr result (λ e. MayEnd J.write_fails e) }
 {
