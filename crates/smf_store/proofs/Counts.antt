@@ -9,10 +9,13 @@ use Rattle.smf_model.specs.Laws.{IsNumbered}
 use Rattle.smf_model.specs.Look.{empty}
 use Rattle.smf_model.proofs.LawNumbers.{first_numbers}
 use Rattle.smf_store.specs.declared.counting.Counters.{Counters}
+use Rattle.smf_store.specs.declared.counting.StoreVersion.{StoreVersion}
+use Rattle.smf_store.specs.declared.counting.StoreVersion.TheVariants as versions
 use Rattle.smf_store.specs.Begun.{begun}
-use Rattle.smf_store.specs.Counting.{AreCounters, Finds, IsKnown, LooksAt, other, has, SoFar}
+use Rattle.smf_store.specs.Counting.{AreCounters, Finds, IsCounterOf, LooksAt, other, has, SoFar}
 use Rattle.smf_store.specs.Gathered.{Matches, Rows, AreRead}
-use Rattle.smf_store.specs.Shown.{Counter, Version, Layout, Revision, NextInstance, NextSnapshot, Count, count_of, counter_text, HasCount, ShowsCount, HasGroup, of_service, of_instance, OwnedGroup}
+use Rattle.smf_store.proofs.Makes.{some_is}
+use Rattle.smf_store.specs.Shown.{Counter, Version, Layout, Revision, NextInstance, NextSnapshot, Count, count_of, counter_text, first_count_of, HasCountIn, ShowsCount, HasGroup, of_service, of_instance, OwnedGroup}
 
 pub so_far_more : (key : List ℕ) (row : Row) (old new : Option ℤ) (rows : List Row) → LooksAt key row old new → SoFar key old rows → SoFar key new (rows ++ row ∷ [])
 so_far_more key row old new rows (other apart same) before = subst (λ o. SoFar key o (rows ++ row ∷ [])) (sym same) (by old before)
@@ -50,16 +53,9 @@ so_far_more key row old new rows (has v key_is value_is same none) before =
 
 -- ---- the value with which reading begins
 
-module _ (c : Counters) (rows : List Row) (a : AreCounters c rows) where
+module _ (version : StoreVersion) (c : Counters) (rows : List Row) (a : AreCounters version c rows) where
   abbrev first_rows : Rows
-  first_rows = record { counts = rows; services = []; instances = []; groups = []; snapshots = []; launches = [] }
-
-  finds : (k : Counter) → Finds (counter_text k) (pos (count_of (begun c) k)) rows
-  finds Version = a.version
-  finds Layout = a.layout
-  finds Revision = a.revision
-  finds NextInstance = a.next_instance
-  finds NextSnapshot = a.next_snapshot
+  first_rows = record { version = version; counts = rows; services = []; instances = []; groups = []; snapshots = []; launches = [] }
 
   clash : {X : Type 0} (x : X) → None ≡ Some x → ⊥
   clash x e = cc
@@ -68,25 +64,55 @@ module _ (c : Counters) (rows : List Row) (a : AreCounters c rows) where
   no_group x (of_service nought s e m) = clash s e
   no_group x (of_instance above e f d m) = clash e f
 
-  pub first_read : AreRead first_rows (begun c)
+first_finds : (c : Counters) (rows : List Row) → AreCounters versions.First c rows → (k : Counter) (n : ℕ) → first_count_of (begun c) k ≡ Some n → Finds (counter_text k) (pos n) rows
+first_finds c rows a Version n e = subst (λ z. Finds (codes "version") (pos z) rows) (some_is 1 n e) a.version_is
+first_finds c rows a Layout n e = absurd (let none : None ≡ Some n = e in cc)
+first_finds c rows a Revision n e = subst (λ z. Finds (codes "revision") (pos z) rows) (some_is c.revision n e) a.revision
+first_finds c rows a NextInstance n e = subst (λ z. Finds (codes "next_instance") (pos z) rows) (some_is c.next_instance n e) a.next_instance
+first_finds c rows a NextSnapshot n e = subst (λ z. Finds (codes "next_snapshot") (pos z) rows) (some_is c.next_snapshot n e) a.next_snapshot
+
+first_shown : (c : Counters) (rows : List Row) → AreCounters versions.First c rows → (r : Row) → Has rows r → (k : Counter) → IsCounterOf versions.First k → column r 1 ≡ Text (counter_text k)
+    → (x : Count) × HasCountIn versions.First (begun c) x × ShowsCount x r
+first_shown c rows a r h Version of key = (record { counter = Version; value = 1 }, refl, record { counter_is = key; value_is = a.version_is.only r h key })
+first_shown c rows a r h Layout of key = absurd of
+first_shown c rows a r h Revision of key = (record { counter = Revision; value = c.revision }, refl, record { counter_is = key; value_is = a.revision.only r h key })
+first_shown c rows a r h NextInstance of key = (record { counter = NextInstance; value = c.next_instance }, refl, record { counter_is = key; value_is = a.next_instance.only r h key })
+first_shown c rows a r h NextSnapshot of key = (record { counter = NextSnapshot; value = c.next_snapshot }, refl, record { counter_is = key; value_is = a.next_snapshot.only r h key })
+
+second_finds : (c : Counters) (rows : List Row) → AreCounters versions.Second c rows → (k : Counter) → Finds (counter_text k) (pos (count_of (begun c) k)) rows
+second_finds c rows a Version = a.version_is
+second_finds c rows a Layout = a.layout
+second_finds c rows a Revision = a.revision
+second_finds c rows a NextInstance = a.next_instance
+second_finds c rows a NextSnapshot = a.next_snapshot
+
+counts_in : (version : StoreVersion) (c : Counters) (rows : List Row) → AreCounters version c rows → Matches (HasCountIn version (begun c)) ShowsCount rows
+counts_in versions.First c rows a = record {
+  there = λ x m. let f = first_finds c rows a x.counter x.value m in (f.row, f.there, record { counter_is = f.key_is; value_is = f.value_is });
+  only = λ r h. let k = a.known r h in first_shown c rows a r h k.counter k.of k.key_is;
+}
+counts_in versions.Second c rows a = record {
+  there = λ x m. let f = second_finds c rows a x.counter in (f.row, f.there, record { counter_is = f.key_is; value_is = f.value_is ∙ ap (λ n. Int (pos n)) m });
+  only = λ r h. let k = a.known r h in (record { counter = k.counter; value = count_of (begun c) k.counter }, refl, record { counter_is = k.key_is; value_is = (second_finds c rows a k.counter).only r h k.key_is });
+}
+
+module _ (version : StoreVersion) (c : Counters) (rows : List Row) (a : AreCounters version c rows) where
+  pub first_read : AreRead (first_rows version c rows a) (begun c)
   first_read = record {
-    counts = record {
-      there = λ x m. let f = finds x.counter in (f.row, f.there, record { counter_is = f.key_is; value_is = f.value_is ∙ ap (λ n. Int (pos n)) m });
-      only = λ r h. let k = a.known r h in (record { counter = k.0; value = count_of (begun c) k.0 }, refl, record { counter_is = k.1; value_is = (finds k.0).only r h k.1 });
-    };
-    services = record { there = λ x m. absurd (clash m.0 m.1); only = λ r h. absurd h };
-    instances = record { there = λ x m. absurd (clash m.0 m.1); only = λ r h. absurd h };
-    groups = record { there = λ x m. absurd (no_group x m); only = λ r h. absurd h };
-    snapshots = record { there = λ x m. absurd (clash x m); only = λ r h. absurd h };
-    launches = record { there = λ x m. absurd (clash x m); only = λ r h. absurd h };
-    arranged = record { ordered = record { services = tt; instances = tt; names = tt; snapshots = tt; launches = tt }; service_groups = λ name s e. absurd (clash s e); instance_groups = λ n x e. absurd (clash x e); none_at_zero = refl };
+    counts = counts_in version c rows a;
+    services = record { there = λ x m. absurd (clash version c rows a m.0 m.1); only = λ r h. absurd h };
+    instances = record { there = λ x m. absurd (clash version c rows a m.0 m.1); only = λ r h. absurd h };
+    groups = record { there = λ x m. absurd (no_group version c rows a x m); only = λ r h. absurd h };
+    snapshots = record { there = λ x m. absurd (clash version c rows a x m); only = λ r h. absurd h };
+    launches = record { there = λ x m. absurd (clash version c rows a x m); only = λ r h. absurd h };
+    arranged = record { ordered = record { services = tt; instances = tt; names = tt; snapshots = tt; launches = tt }; service_groups = λ name s e. absurd (clash version c rows a s e); instance_groups = λ n x e. absurd (clash version c rows a x e); none_at_zero = refl };
     numbered = record {
       ordered = record { services = tt; instances = tt; names = tt; snapshots = tt; launches = tt };
       first = a.first;
       none_at_zero = refl;
       instances = λ n past. refl;
       snapshots = λ n past. refl;
-      dated = λ n i kind e. absurd (clash i e);
+      dated = λ n i kind e. absurd (clash version c rows a i e);
       indexed = first_numbers.indexed;
     };
   }

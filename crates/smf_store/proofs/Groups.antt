@@ -11,12 +11,13 @@ use Rattle.smf_value.specs.Groups.{GroupRecord, by_group}
 use Rattle.smf_model.specs.declared.change.Change.TheVariants.{PutGroups}
 use Rattle.smf_model.specs.declared.held.Instance.{Instance}
 use Rattle.smf_model.specs.declared.held.InstanceEntry.{InstanceEntry}
+use Rattle.smf_model.specs.declared.held.Owner.{Owner}
 use Rattle.smf_model.specs.declared.held.Owner.TheVariants as owners
 use Rattle.smf_model.specs.declared.held.Service.{Service}
 use Rattle.smf_model.specs.Holdings.{Holdings}
 use Rattle.smf_model.specs.Look.{bare, by_entry, by_instance, changed, group_in, service}
 use Rattle.smf_model.proofs.Entries.{lookup_bare}
-use Rattle.smf_store.specs.Cells.{IsOfService, PutsGroup, ShowsBody}
+use Rattle.smf_store.specs.Cells.{IsOfService, IsOwnerUnder, PutsGroup, ShowsBody}
 use Rattle.smf_store.specs.Gathered.{Rows, AreRead, AddsGroupOf}
 use Rattle.smf_store.specs.Shown.{ShowsGroup}
 use Rattle.smf_store.specs.Steps.{owned_by}
@@ -50,6 +51,12 @@ puts_instance k h n front g r above p of body service_is own rows a =
     let made : h ≡ changed k (PutGroups (owners.Instance n) (put by_group g e.0.groups)) = p.made ∙ ap (λ gs. changed k (PutGroups (owners.Instance n) (put by_group g gs))) (sym e.2) in
     subst (AreRead (record rows { groups = rows.groups ++ r ∷ [] })) (sym made)
     (reads_instance_group k n above e.0 e.1 g (ap (λ gs. group_in gs g.name) e.2 ∙ p.none) front row.2.name named joined r (shows_group g r front n body service_is own) rows a)
+
+pub puts_group : (k h : Holdings) (text : List ℕ) (number : ℕ) (owner : Owner) (g : GroupRecord) (r : Row) → IsOwnerUnder k text number owner → PutsGroup owner g k h → ShowsBody g r → column r 1 ≡ Text text
+    → column r 2 ≡ Int (pos number) → AddsGroupOf r k h
+puts_group k h text number (owners.Service name) g r owns p body service own = puts_service k h name g r p body (service ∙ ap Text (sym owns.1)) (own ∙ ap (λ z. Int (pos z)) owns.0)
+puts_group k h text number (owners.Instance n) g r owns p body service own =
+    puts_instance k h n text g r (subst (λ z. 0 < z) (sym owns.0) owns.1) p (subst (λ z. IsOfService k z text) (sym owns.0) owns.2) body service (own ∙ ap (λ z. Int (pos z)) (sym owns.0))
 
 none_by : {X : Type 0} (b : Bool) (x : X) (any : Bool) (o : Option X) → (b || any) ≡ false → (any ≡ false → o ≡ None) → cond b (Some x) o ≡ None
 none_by true x any o e later = absurd cc

@@ -12,5 +12,9 @@ pub mod Journal
 pub mod Begins
 pub mod Gathers
 pub mod Groups
+pub mod Adds
+pub mod Utf8
+pub mod Known
+pub mod Verdicts
 pub mod Counts
 pub mod Stands

@@ -30,7 +30,9 @@ use Rattle.smf_model.specs.Holdings.{Holdings}
 use Rattle.smf_model.specs.Laws.{IsOrdered}
 use Rattle.smf_model.specs.Look.{by_entry, by_launch, by_service, by_snapshot, changed, group_in, installed, is_snapshot_of, others_of, put_by_lookup, put_new, snapshot, with_instance}
 use Rattle.smf_model.proofs.Order.{ordered_after}
-use Rattle.smf_store.specs.Shown.{Counter, Version, Layout, Revision, NextInstance as NextInstanceIs, NextSnapshot as NextSnapshotIs, Count, count_of, counter_text, HasCount, HasService, HasInstance, ShowsInstance, IsSplit, OwnedGroup, HasGroup, of_service, of_instance, HasSnapshot, ShowsSnapshot, HasLaunch}
+use Rattle.smf_store.specs.declared.counting.StoreVersion.{StoreVersion}
+use Rattle.smf_store.specs.declared.counting.StoreVersion.TheVariants as versions
+use Rattle.smf_store.specs.Shown.{Counter, Version, Layout, Revision, NextInstance as NextInstanceIs, NextSnapshot as NextSnapshotIs, Count, count_of, counter_text, first_count_of, HasCount, HasCountIn, HasService, HasInstance, ShowsInstance, IsSplit, OwnedGroup, HasGroup, of_service, of_instance, HasSnapshot, ShowsSnapshot, HasLaunch}
 use Rattle.smf_store.specs.Holds.{Holds, IsArranged}
 use Rattle.smf_store.specs.Steps.{AddsRow, GrowsAll, Makes}
 use Rattle.smf_store.proofs.Found.{found_has, has_found}
@@ -64,6 +66,17 @@ same_counts h k r i s x m = by x.counter ∙ m
     by Revision = sym r
     by NextInstanceIs = sym i
     by NextSnapshotIs = sym s
+
+first_counts : (h k : Holdings) → h.revision ≡ k.revision → h.next_instance ≡ k.next_instance → h.next_snapshot ≡ k.next_snapshot → (c : Counter) → first_count_of k c ≡ first_count_of h c
+first_counts h k r i s Version = refl
+first_counts h k r i s Layout = refl
+first_counts h k r i s Revision = ap Some (sym r)
+first_counts h k r i s NextInstanceIs = ap Some (sym i)
+first_counts h k r i s NextSnapshotIs = ap Some (sym s)
+
+pub same_counts_in : (v : StoreVersion) (h k : Holdings) → h.revision ≡ k.revision → h.next_instance ≡ k.next_instance → h.next_snapshot ≡ k.next_snapshot → (x : Count) → HasCountIn v h x → HasCountIn v k x
+same_counts_in versions.First h k r i s x m = first_counts h k r i s x.counter ∙ m
+same_counts_in versions.Second h k r i s x m = same_counts h k r i s x m
 
 -- every list stays in order
 pub ordered_change : (h : Holdings) (c : Change) → IsOrdered h → IsOrdered (changed h c)

@@ -1,24 +1,38 @@
 -- What is read of the six tables stands in them.
-use Rattle.std.proofs.Common.{◌≡◌, ℕ, true, List, [], ◌∷◌, refl, sym, ap, subst, ◌∙◌}
+use Rattle.std.proofs.Common.{◌≡◌, ◌⊎◌, inl, inr, ℕ, pos, codes, Some, None, true, false, List, [], ◌∷◌, Result, Ok, Err, IsTrue, refl, sym, ap, subst, ◌∙◌}
+use Rattle.std.specs.Prelude.{IfErr}
+use Rattle.std.specs.Result.{IsErrAnd}
 use Rattle.sqlite.specs.Order.{Row}
 use Rattle.sqlite.specs.Tree.{Trees}
 use Rattle.sqlite.specs.Effect.{Database, IsDatabase}
-use Rattle.sqlite.specs.State.{State, Shows}
+use Rattle.sqlite.specs.State.{State, Shows, IsLive, Survives}
+use Rattle.sqlite.proofs.StateLemmas.{survives_weaker}
 use Rattle.sqlite_rules.specs.Lists.{Has}
-use Rattle.smf_tables.specs.Reading.{AreShown, shown}
+use Rattle.smf_tables.specs.Reading.{AreShown, Looks, shown}
 use Rattle.smf_tables.specs.Rows.{IsKeyed}
 use Rattle.smf_tables.specs.Schema.{store_schema}
+use Rattle.smf_tables.specs.Statements.{AddsMeta, DropsMeta}
 use Rattle.smf_model.specs.declared.held.Instance.{Instance}
 use Rattle.smf_model.specs.declared.held.Launch.{Launch}
 use Rattle.smf_model.specs.declared.held.Snapshot.{Snapshot}
 use Rattle.smf_model.specs.Holdings.{Holdings}
-use Rattle.smf_store.specs.Begun.{begun}
-use Rattle.smf_store.specs.Gathered.{Matches, Rows, AreRead}
-use Rattle.smf_store.specs.Holds.{Listed, Stands}
-use Rattle.smf_store.specs.Shown.{Count, ShowsCount, ShowsInstance, OwnedGroup, ShowsGroup, ShowsSnapshot, ShowsLaunch}
-use Rattle.smf_store.specs.Stages.{IsSeen, Looks, SeesCounts, SeesServices, SeesInstances, SeesGroups, SeesSnapshots, SeesLaunches, ReadsAll}
-use Rattle.smf_store.proofs.Counts.{first_read}
+use Rattle.smf_store.specs.declared.counting.StoreVersion.{StoreVersion}
+use Rattle.smf_store.specs.declared.counting.StoreVersion.TheVariants as versions
+use Rattle.smf_store.specs.declared.judging.StoreRows.{StoreRows}
+use Rattle.smf_store.specs.Creating.{MayMake}
+use Rattle.smf_store.specs.Opens.{MayOpen}
+use Rattle.smf_store.specs.Gathered.{Matches, AreRead, rows_of}
+use Rattle.smf_store.specs.Holds.{Listed, Stands, StandsFirst}
+use Rattle.smf_store.specs.declared.refusal.OpenFault.{OpenFault}
+use Rattle.smf_store.specs.declared.refusal.OpenFault.TheVariants.{Memory, Database as Failed, Version as OtherVersion, Damaged, TooManyInstances}
+use Rattle.smf_store.specs.Judged.{IsJudged, judged}
+use Rattle.smf_store.specs.Shown.{Counter, Version, Layout, Revision, NextInstance, NextSnapshot, Count, count_of, counter_text, first_count_of, HasCount, HasCountIn, ShowsCount, ShowsInstance, OwnedGroup, ShowsGroup, ShowsSnapshot, ShowsLaunch}
+use Rattle.smf_store.specs.Stages.{AreAllKeyed, AreListed, IsFailure, IsRaised, IsRefused, IsSaid, Lists, MayRead, Opened, Raises, RaisesFrom, Reads, Says, raised, stayed}
 use Rattle.smf_store.proofs.Makes.{shows_then}
+use Rattle.smf_store.proofs.Six.{Six, Presents, holds, six_of}
+use Rattle.smf_store.proofs.Statements as step
+use Rattle.smf_store.proofs.Tables.{becomes}
+use Rattle.smf_store.proofs.Tests.{text_apart}
 
 listed : {X : Type 0} {M : X → Type 0} {S : X → Row → Type 0} (places : List ℕ) (all rows : List Row) → AreShown places all rows → IsKeyed rows → ((x : X) (r : Row) → S x r → S x (shown places r))
     → ((x : X) (r : Row) → S x (shown places r) → S x r) → Matches M S rows → Listed M S all
@@ -61,51 +75,69 @@ launch_forth x r s = record { restarter_is = s.restarter_is; count_is = s.count_
 launch_back : (x : Launch) (r : Row) → ShowsLaunch x (shown (0 ∷ 1 ∷ 2 ∷ []) r) → ShowsLaunch x r
 launch_back x r s = record { restarter_is = s.restarter_is; count_is = s.count_is }
 
-pub stands_in : (db : Database) (k0 k1 k2 k3 k4 h : Holdings) → db.schema ≡ store_schema → IsDatabase db → SeesCounts k0 db.trees → SeesServices k0 k1 db.trees → SeesInstances k1 k2 db.trees
-    → SeesGroups k2 k3 db.trees → SeesSnapshots k3 k4 db.trees → SeesLaunches k4 h db.trees → Stands db h
-stands_in db k0 k1 k2 k3 k4 h has sound counts services instances groups snapshots launches =
-    let c = counts.read in
-    let r0 : Rows = record { counts = counts.rows; services = []; instances = []; groups = []; snapshots = []; launches = [] } in
-    let a0 : AreRead r0 k0 = subst (AreRead r0) (sym c.2) (first_read c.0 counts.rows c.1) in
-    let r1 : Rows = record r0 { services = services.rows } in
-    let a1 : AreRead r1 k1 = services.read r0 refl a0 in
-    let r2 : Rows = record r1 { instances = instances.rows } in
-    let a2 : AreRead r2 k2 = instances.read r1 refl a1 in
-    let r3 : Rows = record r2 { groups = groups.rows } in
-    let a3 : AreRead r3 k3 = groups.read r2 refl a2 in
-    let r4 : Rows = record r3 { snapshots = snapshots.rows } in
-    let a4 : AreRead r4 k4 = snapshots.read r3 refl a3 in
-    let a : AreRead (record r4 { launches = launches.rows }) h = launches.read r4 refl a4 in
-    record {
-      holds = record {
-        schema = has;
-        sound = sound;
-        show = record {
-          counts = listed (0 ∷ 1 ∷ 2 ∷ []) (db.trees 0) counts.rows counts.shown counts.keyed count_forth count_back a.counts;
-          services = listed (0 ∷ 1 ∷ []) (db.trees 2) services.rows services.shown services.keyed (λ x r s. s) (λ x r s. s) a.services;
-          instances = listed (0 ∷ 0 ∷ 2 ∷ 3 ∷ 4 ∷ 5 ∷ 6 ∷ []) (db.trees 4) instances.rows instances.shown instances.keyed instance_forth instance_back a.instances;
-          groups = listed (0 ∷ 1 ∷ 2 ∷ 3 ∷ 4 ∷ []) (db.trees 6) groups.rows groups.shown groups.keyed group_forth group_back a.groups;
-          snapshots = listed (0 ∷ 0 ∷ 2 ∷ 3 ∷ []) (db.trees 8) snapshots.rows snapshots.shown snapshots.keyed snapshot_forth snapshot_back a.snapshots;
-          launches = listed (0 ∷ 1 ∷ 2 ∷ []) (db.trees 9) launches.rows launches.shown launches.keyed launch_forth launch_back a.launches;
-        };
-        arranged = a.arranged;
+module _ (db : Database) (rows : StoreRows) (h : Holdings) (has : db.schema ≡ store_schema) (sound : IsDatabase db) (l : AreListed rows db.trees) where
+  pub stands_second : AreRead (rows_of versions.Second rows) h → Stands db h
+  stands_second a = record {
+    holds = record {
+      schema = has;
+      sound = sound;
+      show = record {
+        counts = listed (0 ∷ 1 ∷ 2 ∷ []) (db.trees 0) rows.counts.items l.counts.shown l.counts.keyed count_forth count_back a.counts;
+        services = listed (0 ∷ 1 ∷ []) (db.trees 2) rows.services.items l.services.shown l.services.keyed (λ x r s. s) (λ x r s. s) a.services;
+        instances = listed (0 ∷ 0 ∷ 2 ∷ 3 ∷ 4 ∷ 5 ∷ 6 ∷ []) (db.trees 4) rows.instances.items l.instances.shown l.instances.keyed instance_forth instance_back a.instances;
+        groups = listed (0 ∷ 1 ∷ 2 ∷ 3 ∷ 4 ∷ []) (db.trees 6) rows.groups.items l.groups.shown l.groups.keyed group_forth group_back a.groups;
+        snapshots = listed (0 ∷ 0 ∷ 2 ∷ 3 ∷ []) (db.trees 8) rows.snapshots.items l.snapshots.shown l.snapshots.keyed snapshot_forth snapshot_back a.snapshots;
+        launches = listed (0 ∷ 1 ∷ 2 ∷ []) (db.trees 9) rows.launches.items l.launches.shown l.launches.keyed launch_forth launch_back a.launches;
       };
-      numbered = a.numbered;
+      arranged = a.arranged;
+    };
+    numbered = a.numbered;
+  }
+
+  pub stands_first : AreRead (rows_of versions.First rows) h → StandsFirst db h
+  stands_first a = record {
+    schema = has;
+    sound = sound;
+    counts = listed (0 ∷ 1 ∷ 2 ∷ []) (db.trees 0) rows.counts.items l.counts.shown l.counts.keyed count_forth count_back a.counts;
+    services = listed (0 ∷ 1 ∷ []) (db.trees 2) rows.services.items l.services.shown l.services.keyed (λ x r s. s) (λ x r s. s) a.services;
+    instances = listed (0 ∷ 0 ∷ 2 ∷ 3 ∷ 4 ∷ 5 ∷ 6 ∷ []) (db.trees 4) rows.instances.items l.instances.shown l.instances.keyed instance_forth instance_back a.instances;
+    groups = listed (0 ∷ 1 ∷ 2 ∷ 3 ∷ 4 ∷ []) (db.trees 6) rows.groups.items l.groups.shown l.groups.keyed group_forth group_back a.groups;
+    snapshots = listed (0 ∷ 0 ∷ 2 ∷ 3 ∷ []) (db.trees 8) rows.snapshots.items l.snapshots.shown l.snapshots.keyed snapshot_forth snapshot_back a.snapshots;
+    launches = listed (0 ∷ 1 ∷ 2 ∷ []) (db.trees 9) rows.launches.items l.launches.shown l.launches.keyed launch_forth launch_back a.launches;
+    arranged = a.arranged;
+    numbered = a.numbered;
+  }
+
+is_raised : (version : StoreVersion) (old mid new : Database) (rows : StoreRows) (h : Holdings) → old.schema ≡ store_schema → IsDatabase old → AreListed rows old.trees → AreRead (rows_of version rows) h
+    → mid ≡ old → RaisesFrom version mid new → IsRaised old new h
+is_raised versions.First old mid new rows h has sound l a same r =
+    let stands = stands_first old rows h has sound l a in raised stands (r h (subst (λ d. StandsFirst d h) (sym same) stands))
+is_raised versions.Second old mid new rows h has sound l a same r = stayed (stands_second old rows h has sound l a) (r ∙ same)
+
+pub reads_raised : (old mid new : State) (rows : StoreRows) (version : StoreVersion) (h : Holdings) → Lists old mid rows → judged rows ≡ Ok h → AreRead (rows_of version rows) h → Raises version mid new → Reads old new h
+reads_raised old mid new rows version h l said a r =
+    let live : IsTrue mid.is_open = l.shows.is_open in
+    record {
+      shows = shows_then old mid new l.shows (r.shows live);
+      says = λ has sound. record { rows = rows; listed = l.listed has sound; said = said };
+      raised = λ has sound. is_raised version old.now mid.now new.now rows h has sound (l.listed has sound) a (l.same has) (r.raised (ap (λ (d : Database). d.schema) (l.same has) ∙ has));
     }
 
 -- ---- one look after another
 
-pub looks_on : {P : Trees → Type 0} (a b c : State) → a.now.schema ≡ store_schema → (a.now.schema ≡ store_schema → b.now ≡ a.now) → IsDatabase a.now → Looks P b c → P a.now.trees
-looks_on {P = P} a b c has same sound l =
+looks_on : {tree : ℕ} {places : List ℕ} {rows : List Row} (a b c : State) → a.now.schema ≡ store_schema → (a.now.schema ≡ store_schema → b.now ≡ a.now) → IsDatabase a.now → Looks tree places b c rows
+    → AreShown places (a.now.trees tree) rows
+looks_on {tree = tree} {places = places} {rows = rows} a b c has same sound l =
     let is = same has in
-    subst (λ (d : Database). P d.trees) is (l.seen (ap (λ (d : Database). d.schema) is ∙ has) (subst IsDatabase (sym is) sound))
+    subst (λ (d : Database). AreShown places (d.trees tree) rows) is (l.seen (ap (λ (d : Database). d.schema) is ∙ has) (subst IsDatabase (sym is) sound))
 
-pub same_on : {P : Trees → Type 0} (a b c : State) → (a.now.schema ≡ store_schema → b.now ≡ a.now) → Looks P b c → a.now.schema ≡ store_schema → c.now ≡ a.now
+same_on : {tree : ℕ} {places : List ℕ} {rows : List Row} (a b c : State) → (a.now.schema ≡ store_schema → b.now ≡ a.now) → Looks tree places b c rows → a.now.schema ≡ store_schema → c.now ≡ a.now
 same_on a b c same l has = l.same (ap (λ (d : Database). d.schema) (same has) ∙ has) ∙ same has
 
-pub reads_all : (a b c d e f g : State) (k0 k1 k2 k3 k4 h : Holdings) → Looks (SeesCounts k0) a b → Looks (SeesServices k0 k1) b c → Looks (SeesInstances k1 k2) c d → Looks (SeesGroups k2 k3) d e → Looks (SeesSnapshots k3 k4) e f
-    → Looks (SeesLaunches k4 h) f g → ReadsAll a g h
-reads_all a b c d e f g k0 k1 k2 k3 k4 h one two three four five six =
+pub lists_all : (a b c d e f g : State) (rows : StoreRows) → AreAllKeyed rows → Looks 0 (0 ∷ 1 ∷ 2 ∷ []) a b rows.counts.items → Looks 2 (0 ∷ 1 ∷ []) b c rows.services.items
+    → Looks 4 (0 ∷ 0 ∷ 2 ∷ 3 ∷ 4 ∷ 5 ∷ 6 ∷ []) c d rows.instances.items → Looks 6 (0 ∷ 1 ∷ 2 ∷ 3 ∷ 4 ∷ []) d e rows.groups.items → Looks 8 (0 ∷ 0 ∷ 2 ∷ 3 ∷ []) e f rows.snapshots.items
+    → Looks 9 (0 ∷ 1 ∷ 2 ∷ []) f g rows.launches.items → Lists a g rows
+lists_all a b c d e f g rows keyed one two three four five six =
     let sb = one.same in
     let sc = same_on a b c sb two in
     let sd = same_on a c d sc three in
@@ -114,6 +146,134 @@ reads_all a b c d e f g k0 k1 k2 k3 k4 h one two three four five six =
     record {
       shows = shows_then a f g (shows_then a e f (shows_then a d e (shows_then a c d (shows_then a b c one.shows two.shows) three.shows) four.shows) five.shows) six.shows;
       same = same_on a f g sf six;
-      stands = λ has sound. stands_in a.now k0 k1 k2 k3 k4 h has sound (one.seen has sound) (looks_on a b c has sb sound two) (looks_on a c d has sc sound three) (looks_on a d e has sd sound four) (looks_on a e f has se sound five)
-          (looks_on a f g has sf sound six);
+      listed = λ has sound. record {
+        counts = record { shown = one.seen has sound; keyed = keyed.counts };
+        services = record { shown = looks_on a b c has sb sound two; keyed = keyed.services };
+        instances = record { shown = looks_on a c d has sc sound three; keyed = keyed.instances };
+        groups = record { shown = looks_on a d e has sd sound four; keyed = keyed.groups };
+        snapshots = record { shown = looks_on a e f has se sound five; keyed = keyed.snapshots };
+        launches = record { shown = looks_on a f g has sf sound six; keyed = keyed.launches };
+      };
     }
+
+-- ---- a store of the first version
+
+abbrev two : Counter → Count
+two c = record { counter = c; value = 2 }
+
+-- what its counters become
+abbrev IsNext : Holdings → Count → Type 0
+IsNext h x = (x ≡ two Layout) ⊎ ((x ≡ two Version) ⊎ (HasCountIn versions.First h x × (counter_text x.counter ≡ counter_text Version → ⊥)))
+
+same_value : (a b : ℕ) → Some a ≡ Some b → a ≡ b
+same_value a b e = cc
+
+next_by : (h : Holdings) (c : Counter) (v : ℕ) → first_count_of h c ≡ Some v → (counter_text c ≡ counter_text Version → ⊥) → count_of h c ≡ v
+next_by h Version v m apart = absurd (apart refl)
+next_by h Layout v m apart = absurd (let clash : None ≡ Some v = m in cc)
+next_by h Revision v m apart = same_value h.revision v m
+next_by h NextInstance v m apart = same_value h.next_instance v m
+next_by h NextSnapshot v m apart = same_value h.next_snapshot v m
+
+next_forth : (h : Holdings) (x : Count) → IsNext h x → HasCount h x
+next_forth h x (inl same) = ap (λ (z : Count). count_of h z.counter) same ∙ sym (ap (λ (z : Count). z.value) same)
+next_forth h x (inr (inl same)) = ap (λ (z : Count). count_of h z.counter) same ∙ sym (ap (λ (z : Count). z.value) same)
+next_forth h x (inr (inr before)) = next_by h x.counter x.value before.0 before.1
+
+next_back_by : (h : Holdings) (c : Counter) (v : ℕ) → count_of h c ≡ v → IsNext h (record { counter = c; value = v })
+next_back_by h Version v m = inr (inl (λ j. record { counter = Version; value = (sym m) j }))
+next_back_by h Layout v m = inl (λ j. record { counter = Layout; value = (sym m) j })
+next_back_by h Revision v m = inr (inr (ap Some m, text_apart (counter_text Revision) (counter_text Version) refl))
+next_back_by h NextInstance v m = inr (inr (ap Some m, text_apart (counter_text NextInstance) (counter_text Version) refl))
+next_back_by h NextSnapshot v m = inr (inr (ap Some m, text_apart (counter_text NextSnapshot) (counter_text Version) refl))
+
+abbrev first_six : Holdings → Six
+first_six h = record (six_of h) { counts = HasCountIn versions.First h }
+
+first_presents : (db : Database) (h : Holdings) → StandsFirst db h → Presents db (first_six h)
+first_presents db h p = record { schema = p.schema; sound = p.sound; counts = p.counts; services = p.services; instances = p.instances; groups = p.groups; snapshots = p.snapshots; launches = p.launches }
+
+pub raises_first : (a b c d : State) → DropsMeta (codes "version") a b → AddsMeta (codes "version") (pos 2) b c → AddsMeta (codes "layout") (pos 2) c d → Raises versions.First a d
+raises_first a b c d one more last = record {
+  shows = λ live. shows_then a c d (shows_then a b c one.shows more.shows) last.shows;
+  raised = λ has h p.
+      let p1 = step.drop_count a b (first_six h) (first_presents a.now h p) (codes "version") one in
+      let p2 = step.add_count b c _ p1 (two Version) more in
+      let p3 = step.add_count c d _ p2 (two Layout) last in
+      record {
+        holds = holds d.now h (record {
+          schema = p3.schema;
+          sound = p3.sound;
+          counts = becomes p3.counts (next_forth h) (λ x m. next_back_by h x.counter x.value m);
+          services = p3.services;
+          instances = p3.instances;
+          groups = p3.groups;
+          snapshots = p3.snapshots;
+          launches = p3.launches;
+        }) p.arranged;
+        numbered = p.numbered;
+      };
+}
+
+-- ---- faults
+
+pub failure_said : (trees : Trees) (e : OpenFault) → IsFailure e → IsSaid trees e
+failure_said trees Memory f = tt
+failure_said trees Failed f = tt
+failure_said trees (OtherVersion n) f = absurd f
+failure_said trees (Damaged table) f = absurd f
+failure_said trees TooManyInstances f = absurd f
+
+pub failing_said : {X : Type 0} (trees : Trees) (r : Result X OpenFault) → IsErrAnd r IsFailure → IfErr r (IsSaid trees)
+failing_said trees (Ok x) p = tt
+failing_said trees (Err e) p = failure_said trees e p
+
+pub failing_refused : {X : Type 0} (db : Database) (r : Result X OpenFault) → IsErrAnd r IsFailure → IfErr r (IsRefused db)
+failing_refused db (Ok x) p = tt
+failing_refused db (Err e) p = inr (failure_said db.trees e p)
+
+pub said_refused : {X : Type 0} (db : Database) (r : Result X OpenFault) (e : OpenFault) → IsErrAnd r (λ y. y ≡ e) → IsSaid db.trees e → IfErr r (IsRefused db)
+said_refused db (Ok x) e p said = tt
+said_refused db (Err y) e p said = inr (subst (IsSaid db.trees) (sym p) said)
+
+pub judged_said : (trees : Trees) (rows : StoreRows) (e : OpenFault) → AreListed rows trees → IsJudged (Err e) (judged rows) → IsSaid trees e
+judged_said trees rows Memory l j = tt
+judged_said trees rows Failed l j = tt
+judged_said trees rows (OtherVersion n) l j = record { rows = rows; listed = l; said = j }
+judged_said trees rows (Damaged table) l j = record { rows = rows; listed = l; said = j }
+judged_said trees rows TooManyInstances l j = record { rows = rows; listed = l; said = j }
+
+-- ---- the store behind its opening
+
+raised_stands : (old new : Database) (h : Holdings) → IsRaised old new h → Stands new h
+raised_stands old new h (stayed stands same) = subst (λ d. Stands d h) (sym same) stands
+raised_stands old new h (raised before stands) = stands
+
+module _ (old begun last : State) (h : Holdings) (now : begun.now ≡ old.now) (live : begun.is_open ≡ old.is_open) (has : old.now.schema ≡ store_schema) (sound : IsLive old) (r : Reads begun last h) where
+  has_six : begun.now.schema ≡ store_schema
+  has_six = ap (λ (d : Database). d.schema) now ∙ has
+
+  is_sound : IsDatabase begun.now
+  is_sound = subst IsDatabase (sym now) (sound (subst IsTrue live r.shows.was_open)).0
+
+  was_raised : IsRaised old.now last.now h
+  was_raised = subst (λ d. IsRaised d last.now h) now (r.raised has_six is_sound)
+
+  pub opened : (end : State) → Shows last end last.now last.now false → Opened old end h
+  opened end s =
+      let it = subst (λ d. IsRaised old.now d h) (sym s.now_is) was_raised in
+      record {
+        is_open = s.is_open;
+        says = subst (λ (d : Database). Says d.trees (Ok h)) now (r.says has_six is_sound);
+        raised = it;
+        keeps = record { stands = raised_stands old.now end.now h it; settled = s.committed_is ∙ sym s.now_is };
+      }
+
+  pub may_read : (db : Trees) → db ≡ last.now.trees → MayRead old db
+  may_read db is = (last.now, h, was_raised, is)
+
+pub leaves_made : (a b : State) → Survives a b (MayMake a) → Survives a b (MayOpen a)
+leaves_made a b s = survives_weaker a b (MayMake a) (MayOpen a) (λ clean db made. inl made) s
+
+pub leaves_read : (a b : State) → Survives a b (MayRead a) → Survives a b (MayOpen a)
+leaves_read a b s = survives_weaker a b (MayRead a) (MayOpen a) (λ clean db read. inr read) s

@@ -1,5 +1,5 @@
 -- How parts of what is held are shown by the columns of a row.
-use Rattle.std.specs.Prelude.{◌≡◌, ℕ, List, [], ◌∷◌, ◌++◌, Ok, Some, None}
+use Rattle.std.specs.Prelude.{◌≡◌, ◌<◌, ℕ, List, [], ◌∷◌, ◌++◌, Ok, Some, None}
 use Rattle.sqlite.specs.declared.types.Value.TheVariants.{Text, Blob}
 use Rattle.sqlite.specs.Order.{Row, column}
 use Rattle.smf_state.specs.declared.row.Row.{Row as StateRow}
@@ -13,6 +13,7 @@ use Rattle.smf_value.specs.Groups.{by_group}
 use Rattle.smf_model.specs.declared.change.Change.TheVariants.{PutGroups}
 use Rattle.smf_model.specs.declared.held.Instance.{Instance}
 use Rattle.smf_model.specs.declared.held.Owner.{Owner}
+use Rattle.smf_model.specs.declared.held.Owner.TheVariants as owners
 use Rattle.smf_model.specs.Holdings.{Holdings}
 use Rattle.smf_model.specs.Look.{changed, group_in, instance, owned}
 use Rattle.smf_store.specs.Shown.{IsSplit}
@@ -48,3 +49,8 @@ pub record IsOfService (h : Holdings) (n : ℕ) (service : List ℕ) : Type 0 wh
   pub found : Instance
   pub there : instance h n ≡ Some found
   pub service_is : service ≡ short ++ service_of found.name
+
+-- whose groups stand under the name of a service and a number
+abbrev pub IsOwnerUnder : Holdings → List ℕ → ℕ → Owner → Type 0
+IsOwnerUnder h text number (owners.Service name) = (number ≡ 0) × (name ≡ text)
+IsOwnerUnder h text number (owners.Instance n) = (n ≡ number) × (0 < number) × IsOfService h number text

@@ -4,7 +4,9 @@ use Rattle.sqlite.specs.declared.types.Value.TheVariants.{Int, Text}
 use Rattle.sqlite.specs.Order.{Row, column}
 use Rattle.sqlite_rules.specs.Lists.{Has}
 use Rattle.smf_store.specs.declared.counting.Counters.{Counters}
-use Rattle.smf_store.specs.Shown.{Counter, counter_text}
+use Rattle.smf_store.specs.declared.counting.StoreVersion.{StoreVersion}
+use Rattle.smf_store.specs.declared.counting.StoreVersion.TheVariants as versions
+use Rattle.smf_store.specs.Shown.{Counter, Layout, counter_text}
 
 -- one row has the key, and this value, and no other row has the key with another
 pub record Finds (key : List ℕ) (v : ℤ) (rows : List Row) : Type 0 where
@@ -24,20 +26,32 @@ pub data LooksAt (key : List ℕ) (row : Row) (old new : Option ℤ) : Type 0 wh
   other : (column row 1 ≡ Text key → ⊥) → new ≡ old → LooksAt key row old new
   has : (v : ℤ) → column row 1 ≡ Text key → column row 2 ≡ Int v → new ≡ Some v → old ≡ None → LooksAt key row old new
 
--- a text is the key of a counter
-pub record IsKey (text : List ℕ) : Type 0 where
+-- the row has the key of a counter that a store of this version has
+abbrev pub IsCounterOf : StoreVersion → Counter → Type 0
+IsCounterOf versions.First Layout = ⊥
+IsCounterOf versions.First _ = Unit {0}
+IsCounterOf versions.Second _ = Unit {0}
+
+pub record IsKnown (version : StoreVersion) (r : Row) : Type 0 where
   pub counter : Counter
-  pub is : text ≡ counter_text counter
+  pub of : IsCounterOf version counter
+  pub key_is : column r 1 ≡ Text (counter_text counter)
 
-abbrev pub IsKnown : Row → Type 0
-IsKnown r = (c : Counter) × (column r 1 ≡ Text (counter_text c))
+abbrev pub number_of_version : StoreVersion → ℕ
+number_of_version versions.First = 1
+number_of_version versions.Second = 2
 
--- the rows are those of the counters of a store, with these values
-pub record AreCounters (c : Counters) (rows : List Row) : Type 0 where
-  pub version : Finds (codes "version") (pos 2) rows
-  pub layout : Finds (codes "layout") (pos 2) rows
+-- the first version has no layout
+abbrev pub HasLayout : StoreVersion → List Row → Type 0
+HasLayout versions.First rows = Unit {0}
+HasLayout versions.Second rows = Finds (codes "layout") (pos 2) rows
+
+-- the rows are those of the counters of a store of this version, with these values
+pub record AreCounters (version : StoreVersion) (c : Counters) (rows : List Row) : Type 0 where
+  pub version_is : Finds (codes "version") (pos (number_of_version version)) rows
+  pub layout : HasLayout version rows
   pub revision : Finds (codes "revision") (pos c.revision) rows
   pub next_instance : Finds (codes "next_instance") (pos c.next_instance) rows
   pub next_snapshot : Finds (codes "next_snapshot") (pos c.next_snapshot) rows
   pub first : 1 ≤ c.next_instance
-  pub known : (r : Row) → Has rows r → IsKnown r
+  pub known : (r : Row) → Has rows r → IsKnown version r

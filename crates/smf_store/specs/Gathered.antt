@@ -4,7 +4,9 @@ use Rattle.sqlite.specs.Order.{Row}
 use Rattle.sqlite_rules.specs.Lists.{Has}
 use Rattle.smf_model.specs.Holdings.{Holdings}
 use Rattle.smf_model.specs.Laws.{IsNumbered}
-use Rattle.smf_store.specs.Shown.{HasCount, ShowsCount, HasService, ShowsService, HasInstance, ShowsInstance, HasGroup, ShowsGroup, HasSnapshot, ShowsSnapshot, HasLaunch, ShowsLaunch}
+use Rattle.smf_store.specs.declared.counting.StoreVersion.{StoreVersion}
+use Rattle.smf_store.specs.declared.judging.StoreRows.{StoreRows}
+use Rattle.smf_store.specs.Shown.{HasCountIn, ShowsCount, HasService, ShowsService, HasInstance, ShowsInstance, HasGroup, ShowsGroup, HasSnapshot, ShowsSnapshot, HasLaunch, ShowsLaunch}
 use Rattle.smf_store.specs.Holds.{IsArranged}
 
 -- each member has a row, and each row shows a member
@@ -12,8 +14,9 @@ pub record Matches {X : Type 0} (Member : X → Type 0) (Shows : X → Row → T
   pub there : (x : X) → Member x → (r : Row) × Has rows r × Shows x r
   pub only : (r : Row) → Has rows r → (x : X) × Member x × Shows x r
 
--- the rows of each table that were read
+-- the rows of each table that were read, of a store of this version
 pub record Rows : Type 0 where
+  pub version : StoreVersion
   pub counts : List Row
   pub services : List Row
   pub instances : List Row
@@ -23,7 +26,7 @@ pub record Rows : Type 0 where
 
 -- these rows show a value, and numbers were given once in it
 pub record AreRead (rows : Rows) (h : Holdings) : Type 0 where
-  pub counts : Matches (HasCount h) ShowsCount rows.counts
+  pub counts : Matches (HasCountIn rows.version h) ShowsCount rows.counts
   pub services : Matches (HasService h) ShowsService rows.services
   pub instances : Matches (HasInstance h) ShowsInstance rows.instances
   pub groups : Matches (HasGroup h) ShowsGroup rows.groups
@@ -62,3 +65,22 @@ AddsLaunchRow r k h = (rows : Rows) → AreRead rows k → AreRead (record rows 
 
 abbrev pub GathersLaunches : List Row → Holdings → Holdings → Type 0
 GathersLaunches all k h = (rows : Rows) → rows.launches ≡ [] → AreRead rows k → AreRead (record rows { launches = all }) h
+
+-- the rows of the first table, and all of them
+abbrev pub first_of : StoreVersion → StoreRows → Rows
+first_of version rows = record { version = version; counts = rows.counts.items; services = []; instances = []; groups = []; snapshots = []; launches = [] }
+
+abbrev pub rows_of : StoreVersion → StoreRows → Rows
+rows_of version rows =
+    record {
+      version = version;
+      counts = rows.counts.items;
+      services = rows.services.items;
+      instances = rows.instances.items;
+      groups = rows.groups.items;
+      snapshots = rows.snapshots.items;
+      launches = rows.launches.items;
+    }
+
+abbrev pub GathersAll : StoreRows → Holdings → Holdings → Type 0
+GathersAll rows k h = (version : StoreVersion) → AreRead (first_of version rows) k → AreRead (rows_of version rows) h

@@ -14,7 +14,8 @@ use Rattle.smf_model.specs.declared.held.Service.{Service}
 use Rattle.smf_model.specs.Holdings.{Holdings}
 use Rattle.smf_model.specs.Laws.{IsNumbered, IsOrdered}
 use Rattle.smf_model.specs.Look.{by_entry, service}
-use Rattle.smf_store.specs.Shown.{HasCount, ShowsCount, HasService, ShowsService, HasInstance, ShowsInstance, HasGroup, ShowsGroup, HasSnapshot, ShowsSnapshot, HasLaunch, ShowsLaunch}
+use Rattle.smf_store.specs.declared.counting.StoreVersion.TheVariants as versions
+use Rattle.smf_store.specs.Shown.{HasCount, HasCountIn, ShowsCount, HasService, ShowsService, HasInstance, ShowsInstance, HasGroup, ShowsGroup, HasSnapshot, ShowsSnapshot, HasLaunch, ShowsLaunch}
 
 -- each member has a row, each row shows a member, and each rowid names one row
 pub record Listed {X : Type 0} (Member : X → Type 0) (Shows : X → Row → Type 0) (rows : List Row) : Type 0 where
@@ -48,6 +49,19 @@ pub record Holds (db : Database) (h : Holdings) : Type 0 where
 -- and numbers were given once in it
 pub record Stands (db : Database) (h : Holdings) : Type 0 where
   pub holds : Holds db h
+  pub numbered : IsNumbered h
+
+-- a database of the first version, with the same tables: their counters are others
+pub record StandsFirst (db : Database) (h : Holdings) : Type 0 where
+  pub schema : db.schema ≡ store_schema
+  pub sound : IsDatabase db
+  pub counts : Listed (HasCountIn versions.First h) ShowsCount (db.trees 0)
+  pub services : Listed (HasService h) ShowsService (db.trees 2)
+  pub instances : Listed (HasInstance h) ShowsInstance (db.trees 4)
+  pub groups : Listed (HasGroup h) ShowsGroup (db.trees 6)
+  pub snapshots : Listed (HasSnapshot h) ShowsSnapshot (db.trees 8)
+  pub launches : Listed (HasLaunch h) ShowsLaunch (db.trees 9)
+  pub arranged : IsArranged h
   pub numbered : IsNumbered h
 
 -- the store is open, and its disk has given back what was written

@@ -8,6 +8,8 @@ pub mod Creating
 pub mod Gathered
 pub mod Cells
 pub mod Counting
+pub mod Readings
+pub mod Judged
 pub mod Begun
 pub mod Stages
 pub mod Opens

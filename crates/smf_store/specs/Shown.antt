@@ -1,5 +1,5 @@
 -- How what is held is shown by the rows of the tables: a row shows by its columns, of which the first is its rowid.
-use Rattle.std.specs.Prelude.{◌≡◌, ℕ, ◌<◌, pos, List, [], ◌∷◌, ◌++◌, codes, Option, Some, option_map, Ok}
+use Rattle.std.specs.Prelude.{◌≡◌, ℕ, ◌<◌, pos, List, [], ◌∷◌, ◌++◌, codes, Option, Some, None, option_map, Ok}
 use Rattle.sqlite.specs.declared.types.Value.{Value}
 use Rattle.sqlite.specs.declared.types.Value.TheVariants.{Int, Text, Blob}
 use Rattle.sqlite.specs.Values.{or_null}
@@ -18,6 +18,8 @@ use Rattle.smf_model.specs.declared.held.Service.{Service}
 use Rattle.smf_model.specs.declared.held.Snapshot.{Snapshot}
 use Rattle.smf_model.specs.Holdings.{Holdings}
 use Rattle.smf_model.specs.Look.{by_entry, by_launch, group_in, service, snapshot}
+use Rattle.smf_store.specs.declared.counting.StoreVersion.{StoreVersion}
+use Rattle.smf_store.specs.declared.counting.StoreVersion.TheVariants as versions
 
 -- ---- the table of counters
 
@@ -49,6 +51,18 @@ pub record Count : Type 0 where
 
 abbrev pub HasCount : Holdings → Count → Type 0
 HasCount h c = count_of h c.counter ≡ c.value
+
+-- the same of a store of the first version, which has no layout
+abbrev pub first_count_of : Holdings → Counter → Option ℕ
+first_count_of h Version = Some 1
+first_count_of h Layout = None
+first_count_of h Revision = Some h.revision
+first_count_of h NextInstance = Some h.next_instance
+first_count_of h NextSnapshot = Some h.next_snapshot
+
+abbrev pub HasCountIn : StoreVersion → Holdings → Count → Type 0
+HasCountIn versions.First h c = first_count_of h c.counter ≡ Some c.value
+HasCountIn versions.Second h c = HasCount h c
 
 pub record ShowsCount (c : Count) (r : Row) : Type 0 where
   pub counter_is : column r 1 ≡ Text (counter_text c.counter)

@@ -1,68 +1,103 @@
--- What the reading of each table does.
-use Rattle.std.specs.Prelude.{◌≡◌, ℕ, true, List, [], ◌∷◌, IsTrue}
+-- What the reading of a store does.
+use Rattle.std.specs.Prelude.{◌≡◌, ◌⊎◌, ℕ, true, List, [], ◌∷◌, IsTrue, Result, Ok, Err}
 use Rattle.sqlite.specs.Order.{Row}
 use Rattle.sqlite.specs.Tree.{Trees}
-use Rattle.sqlite.specs.Effect.{IsDatabase}
+use Rattle.sqlite.specs.Effect.{Database, IsDatabase}
 use Rattle.sqlite.specs.State.{State, Shows}
 use Rattle.smf_tables.specs.Reading.{AreShown}
 use Rattle.smf_tables.specs.Rows.{IsKeyed}
 use Rattle.smf_tables.specs.Schema.{store_schema}
 use Rattle.smf_model.specs.Holdings.{Holdings}
-use Rattle.smf_store.specs.declared.counting.Counters.{Counters}
-use Rattle.smf_store.specs.Begun.{begun}
-use Rattle.smf_store.specs.Counting.{AreCounters}
-use Rattle.smf_store.specs.Gathered.{GathersServices, GathersInstances, GathersGroups, GathersSnapshots, GathersLaunches}
-use Rattle.smf_store.specs.Holds.{Keeps, Stands}
+use Rattle.smf_store.specs.declared.counting.StoreVersion.{StoreVersion}
+use Rattle.smf_store.specs.declared.counting.StoreVersion.TheVariants as versions
+use Rattle.smf_store.specs.declared.judging.StoreRows.{StoreRows}
+use Rattle.smf_store.specs.declared.refusal.OpenFault.{OpenFault}
+use Rattle.smf_store.specs.declared.refusal.OpenFault.TheVariants.{Memory, Database as Failed, Version, Damaged, TooManyInstances}
+use Rattle.smf_store.specs.declared.refusal.StoreTable.TheVariants.{Meta}
+use Rattle.smf_store.specs.Holds.{Keeps, Stands, StandsFirst}
+use Rattle.smf_store.specs.Judged.{judged}
 
--- the rows of a table were looked at, and no rowid stands twice
-pub record IsSeen (Read : List Row → Type 0) (tree : ℕ) (places : List ℕ) (trees : Trees) : Type 0 where
-  pub rows : List Row
+-- these are the rows of a table, by the columns at these places, and no rowid stands twice
+pub record IsListed (tree : ℕ) (places : List ℕ) (trees : Trees) (rows : List Row) : Type 0 where
   pub shown : AreShown places (trees tree) rows
   pub keyed : IsKeyed rows
-  pub read : Read rows
 
--- the database is looked at, and stays
-pub record Looks (Read : Trees → Type 0) (old new : State) : Type 0 where
+-- the same of the six tables; a number that is a rowid stands twice, so that each other column has its own place
+pub record AreListed (rows : StoreRows) (trees : Trees) : Type 0 where
+  pub counts : IsListed 0 (0 ∷ 1 ∷ 2 ∷ []) trees rows.counts.items
+  pub services : IsListed 2 (0 ∷ 1 ∷ []) trees rows.services.items
+  pub instances : IsListed 4 (0 ∷ 0 ∷ 2 ∷ 3 ∷ 4 ∷ 5 ∷ 6 ∷ []) trees rows.instances.items
+  pub groups : IsListed 6 (0 ∷ 1 ∷ 2 ∷ 3 ∷ 4 ∷ []) trees rows.groups.items
+  pub snapshots : IsListed 8 (0 ∷ 0 ∷ 2 ∷ 3 ∷ []) trees rows.snapshots.items
+  pub launches : IsListed 9 (0 ∷ 1 ∷ 2 ∷ []) trees rows.launches.items
+
+pub record AreAllKeyed (rows : StoreRows) : Type 0 where
+  pub counts : IsKeyed rows.counts.items
+  pub services : IsKeyed rows.services.items
+  pub instances : IsKeyed rows.instances.items
+  pub groups : IsKeyed rows.groups.items
+  pub snapshots : IsKeyed rows.snapshots.items
+  pub launches : IsKeyed rows.launches.items
+
+-- the database was looked at, and stays
+pub record Lists (old new : State) (rows : StoreRows) : Type 0 where
   pub shows : Shows old new new.now old.committed true
   pub same : old.now.schema ≡ store_schema → new.now ≡ old.now
-  pub seen : old.now.schema ≡ store_schema → IsDatabase old.now → Read old.now.trees
+  pub listed : old.now.schema ≡ store_schema → IsDatabase old.now → AreListed rows old.now.trees
 
-abbrev pub GathersCounts : List Row → Holdings → Type 0
-GathersCounts all h = (c : Counters) × AreCounters c all × (h ≡ begun c)
+-- a fault that says nothing of the store
+abbrev pub IsFailure : OpenFault → Type 0
+IsFailure Memory = Unit {0}
+IsFailure Failed = Unit {0}
+IsFailure (Version n) = ⊥
+IsFailure (Damaged table) = ⊥
+IsFailure TooManyInstances = ⊥
 
-abbrev pub SeesCounts : Holdings → Trees → Type 0
-SeesCounts h = IsSeen (λ all. GathersCounts all h) 0 (0 ∷ 1 ∷ 2 ∷ [])
+-- what the rows of these tables say
+pub record Says (trees : Trees) (what : Result Holdings OpenFault) : Type 0 where
+  pub rows : StoreRows
+  pub listed : AreListed rows trees
+  pub said : judged rows ≡ what
 
-abbrev pub SeesServices : Holdings → Holdings → Trees → Type 0
-SeesServices k h = IsSeen (λ all. GathersServices all k h) 2 (0 ∷ 1 ∷ [])
+-- a fault that says something of the store is what its rows say
+abbrev pub IsSaid : Trees → OpenFault → Type 0
+IsSaid trees Memory = Unit {0}
+IsSaid trees Failed = Unit {0}
+IsSaid trees (Version n) = Says trees (Err (Version n))
+IsSaid trees (Damaged table) = Says trees (Err (Damaged table))
+IsSaid trees TooManyInstances = Says trees (Err TooManyInstances)
 
-abbrev pub SeesInstances : Holdings → Holdings → Trees → Type 0
-SeesInstances k h = IsSeen (λ all. GathersInstances all k h) 4 (0 ∷ 0 ∷ 2 ∷ 3 ∷ 4 ∷ 5 ∷ 6 ∷ [])
+-- where the six tables are not there as a store has them, the first is damaged
+abbrev pub IsRefused : Database → OpenFault → Type 0
+IsRefused db e = ((db.schema ≡ store_schema → ⊥) × (e ≡ Damaged Meta)) ⊎ IsSaid db.trees e
 
-abbrev pub SeesGroups : Holdings → Holdings → Trees → Type 0
-SeesGroups k h = IsSeen (λ all. GathersGroups all k h) 6 (0 ∷ 1 ∷ 2 ∷ 3 ∷ 4 ∷ [])
+-- a store of the second version stays; one of the first is made one of the second, which holds the same
+pub data IsRaised (old new : Database) (h : Holdings) : Type 0 where
+  stayed : Stands old h → new ≡ old → IsRaised old new h
+  raised : StandsFirst old h → Stands new h → IsRaised old new h
 
-abbrev pub SeesSnapshots : Holdings → Holdings → Trees → Type 0
-SeesSnapshots k h = IsSeen (λ all. GathersSnapshots all k h) 8 (0 ∷ 0 ∷ 2 ∷ 3 ∷ [])
+-- inside a transaction the store was made one of the second version
+abbrev pub RaisesFrom : StoreVersion → Database → Database → Type 0
+RaisesFrom versions.First old new = (h : Holdings) → StandsFirst old h → Stands new h
+RaisesFrom versions.Second old new = new ≡ old
 
-abbrev pub SeesLaunches : Holdings → Holdings → Trees → Type 0
-SeesLaunches k h = IsSeen (λ all. GathersLaunches all k h) 9 (0 ∷ 1 ∷ 2 ∷ [])
+pub record Raises (version : StoreVersion) (old new : State) : Type 0 where
+  pub shows : IsTrue old.is_open → Shows old new new.now old.committed true
+  pub raised : old.now.schema ≡ store_schema → RaisesFrom version old.now new.now
 
-abbrev pub LooksAtCounts : State → State → Holdings → Type 0
-LooksAtCounts old new h = Looks (SeesCounts h) old new
-
--- what the tables show was read
-pub record ReadsAll (old new : State) (h : Holdings) : Type 0 where
+-- the same, and what the tables hold was read
+pub record Reads (old new : State) (h : Holdings) : Type 0 where
   pub shows : Shows old new new.now old.committed true
-  pub same : old.now.schema ≡ store_schema → new.now ≡ old.now
-  pub stands : old.now.schema ≡ store_schema → IsDatabase old.now → Stands old.now h
+  pub says : old.now.schema ≡ store_schema → IsDatabase old.now → Says old.now.trees (Ok h)
+  pub raised : old.now.schema ≡ store_schema → IsDatabase old.now → IsRaised old.now new.now h
 
--- the database holds this value, as before, and nothing waits to be committed
+-- the store holds what its rows said, and nothing waits to be committed
 pub record Opened (old new : State) (h : Holdings) : Type 0 where
   pub is_open : IsTrue new.is_open
-  pub same : new.now ≡ old.now
+  pub says : Says old.now.trees (Ok h)
+  pub raised : IsRaised old.now new.now h
   pub keeps : Keeps new h
 
--- what the reading of a store may leave in the file: what is there
+-- what the opening may leave in the file: what is there, or the same made a store of the second version
 abbrev pub MayRead : State → Trees → Type 0
-MayRead old trees = trees ≡ old.now.trees
+MayRead old trees = (db : Database) × (h : Holdings) × IsRaised old.now db h × (trees ≡ db.trees)

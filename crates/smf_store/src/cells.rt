@@ -1,63 +1,118 @@
-ghost use Rattle.std.specs.Prelude.{◌≡◌, pos, IfOk, string_bytes};
+ghost use Rattle.std.specs.Prelude.{◌≡◌, pos, IfSome, option_map};
 ghost use Rattle.sqlite.specs.declared.types.Value.TheVariants.{Blob, Int, Text};
+ghost use Rattle.std.specs.Str.{is_utf8};
 ghost use Rattle.sqlite.specs.Order.{column};
+ghost use Rattle.sqlite_value.specs.Value.{owned};
 ghost use Rattle.smf_store.specs.Shown.{optional_value};
+ghost use Rattle.smf_store.specs.Readings.{bytes_in, count_in, given, integer_in, number_in, optional_in, text_in};
 
-use crate::refusal::{OpenFault, StoreTable};
 use smf_fmri::Number;
-use sqlite::{Error, ErrorCode, Row};
+use sqlite::Row;
+use sqlite_value::value::ValueRef;
 
-/// A value that cannot be read is damage, and want of memory is not.
-pub(crate) fn cell_fault(table: StoreTable, e: Error) -> OpenFault {
-    match e {
-        Error::SqliteFailure(ErrorCode::OutOfMemory) => OpenFault::Memory,
-        _ => OpenFault::Damaged(table),
+/// The value of a column, which is NULL past the last.
+fn value_at(row: &Row, at: usize) -> ValueRef<'_>
+    ensures { owned result ≡ column row.now at }
+{
+    match row.get_ref(at) {
+        Ok(value) => value,
+        Err(_) => ValueRef::Null,
     }
 }
 
-pub(crate) fn number_at(row: &Row, at: usize, table: StoreTable) -> Result<u64, OpenFault>
-    ensures { IfOk result (λ n. column row.now at ≡ Int (pos n)) }
+fn unsigned(number: i64) -> Option<u64>
+    ensures { result ≡ count_in (Int number) }
 {
-    match row.get(at) {
-        Ok(number) => Ok(number),
-        Err(e) => Err(cell_fault(table, e)),
+    if number < 0 {
+        return None;
+    }
+    Some(number as u64)
+}
+
+pub(crate) fn integer_at(row: &Row, at: usize) -> Option<i64>
+    ensures exact { result ≡ integer_in (column row.now at) }
+    ensures shows { IfSome result (λ n. column row.now at ≡ Int n) }
+{
+    match value_at(row, at) {
+        ValueRef::Int(number) => Some(number),
+        ValueRef::Null => None,
+        ValueRef::Real(_) => None,
+        ValueRef::Text(_) => None,
+        ValueRef::Blob(_) => None,
+    }
+}
+
+pub(crate) fn count_at(row: &Row, at: usize) -> Option<u64>
+    ensures exact { result ≡ count_in (column row.now at) }
+    ensures shows { IfSome result (λ n. column row.now at ≡ Int (pos n)) }
+{
+    match value_at(row, at) {
+        ValueRef::Int(number) => unsigned(number),
+        ValueRef::Null => None,
+        ValueRef::Real(_) => None,
+        ValueRef::Text(_) => None,
+        ValueRef::Blob(_) => None,
     }
 }
 
 /// A number up to the greatest that a store holds.
-pub(crate) fn small_at(row: &Row, at: usize, table: StoreTable) -> Result<Number, OpenFault>
-    ensures { IfOk result (λ n. column row.now at ≡ Int (pos n)) }
+pub(crate) fn number_at(row: &Row, at: usize) -> Option<Number>
+    ensures exact { result ≡ number_in (column row.now at) }
+    ensures shows { IfSome result (λ n. column row.now at ≡ Int (pos n)) }
 {
-    let number = number_at(row, at, table)?;
-    match Number::new(number) {
-        Some(number) => Ok(number),
-        None => Err(OpenFault::Damaged(table)),
+    let Some(number) = count_at(row, at) else {
+        return None;
+    };
+    Number::new(number)
+}
+
+/// A number or NULL.
+pub(crate) fn optional_at(row: &Row, at: usize) -> Option<Option<u64>>
+    ensures exact { result ≡ optional_in (column row.now at) }
+    ensures shows { IfSome result (λ n. column row.now at ≡ optional_value n) }
+{
+    match value_at(row, at) {
+        ValueRef::Null => Some(None),
+        ValueRef::Int(number) => unsigned(number).map(Some),
+        ValueRef::Real(_) => None,
+        ValueRef::Text(_) => None,
+        ValueRef::Blob(_) => None,
     }
 }
 
-pub(crate) fn optional_at(row: &Row, at: usize, table: StoreTable) -> Result<Option<u64>, OpenFault>
-    ensures { IfOk result (λ n. column row.now at ≡ optional_value n) }
+/// The bytes as a text, if they are one.
+fn text_of(bytes: &[u8]) -> Option<&str>
+    ensures exact { option_map (λ x. x.now) result ≡ given (is_utf8 bytes.now) bytes.now }
+    ensures same { IfSome result (λ text. text.now ≡ bytes.now) }
 {
-    match row.get(at) {
-        Ok(number) => Ok(number),
-        Err(e) => Err(cell_fault(table, e)),
+    match std::str::from_utf8(bytes) {
+        Ok(text) => Some(text),
+        Err(_) => None,
     }
 }
 
-pub(crate) fn text_at(row: &Row, at: usize, table: StoreTable) -> Result<String, OpenFault>
-    ensures { IfOk result (λ text. column row.now at ≡ Text (string_bytes text)) }
+pub(crate) fn text_at(row: &Row, at: usize) -> Option<&str>
+    ensures exact { option_map (λ x. x.now) result ≡ text_in (column row.now at) }
+    ensures shows { IfSome result (λ text. column row.now at ≡ Text text.now) }
 {
-    match row.get(at) {
-        Ok(text) => Ok(text),
-        Err(e) => Err(cell_fault(table, e)),
+    match value_at(row, at) {
+        ValueRef::Text(text) => text_of(text),
+        ValueRef::Null => None,
+        ValueRef::Int(_) => None,
+        ValueRef::Real(_) => None,
+        ValueRef::Blob(_) => None,
     }
 }
 
-pub(crate) fn bytes_at(row: &Row, at: usize, table: StoreTable) -> Result<Vec<u8>, OpenFault>
-    ensures { IfOk result (λ bytes. column row.now at ≡ Blob bytes.items) }
+pub(crate) fn bytes_at(row: &Row, at: usize) -> Option<&[u8]>
+    ensures exact { option_map (λ x. x.now) result ≡ bytes_in (column row.now at) }
+    ensures shows { IfSome result (λ bytes. column row.now at ≡ Blob bytes.now) }
 {
-    match row.get(at) {
-        Ok(bytes) => Ok(bytes),
-        Err(e) => Err(cell_fault(table, e)),
+    match value_at(row, at) {
+        ValueRef::Blob(bytes) => Some(bytes),
+        ValueRef::Null => None,
+        ValueRef::Int(_) => None,
+        ValueRef::Real(_) => None,
+        ValueRef::Text(_) => None,
     }
 }

@@ -1,17 +1,25 @@
-ghost use Rattle.std.specs.Prelude.{◌≡◌, ◌<◌, pos, codes, IfOk, IfSome, IsTrue, OnOk};
-ghost use Rattle.sqlite.specs.declared.types.Value.TheVariants.{Int};
-ghost use Rattle.sqlite.specs.Order.{Row as AnyRow, column};
+ghost use Rattle.std.specs.Ordering.{int_eq};
+ghost use Rattle.std.specs.Prelude.{◌≡◌, pos, codes, IfOk, IfSome, IsTrue};
+ghost use Rattle.std.specs.List.{list_all};
+ghost use Rattle.sqlite.specs.Order.{Row as AnyRow};
 ghost use Rattle.sqlite_rules.specs.Lists.{Has};
-ghost use Rattle.smf_model.specs.Look.{empty};
-ghost use Rattle.smf_store.specs.Counting.{AreCounters, Finds, IsKey, IsKnown, LooksAt};
+ghost use Rattle.smf_store.specs.Counting.{AreCounters, Finds, HasLayout, IsKnown, LooksAt, number_of_version};
 ghost use Rattle.smf_store.specs.Begun.{begun};
+ghost use Rattle.smf_store.specs.Judged.{counters_said, has_layout, is_key, is_known, is_old_key, is_within, look, number_of, number_said, value_of, version_said};
 
-use crate::cells::{cell_fault, text_at};
+use crate::cells::{integer_at, text_at};
 use crate::refusal::{OpenFault, StoreTable};
 use smf_fmri::{Items, Number};
 use smf_model::{Change, Tables};
 use sqlite::Row;
 use std::alloc::{AllocError, Global};
+
+/// The versions of a store that are read here. Only the second has a layout, and is written.
+#[derive(Clone, Copy, Debug, PartialEq, Eq)]
+pub(crate) enum StoreVersion {
+    First,
+    Second,
+}
 
 /// The counters of a store, its version and its layout aside.
 #[derive(Clone, Copy)]
@@ -21,76 +29,97 @@ pub(crate) struct Counters {
     pub(crate) next_snapshot: Number,
 }
 
-/// The version and the layout that are read here.
-const CURRENT: i64 = 2;
-
-fn value_at(row: &Row) -> Result<i64, OpenFault>
-    ensures { IfOk result (λ v. column row.now 2 ≡ Int v) }
-{
-    match row.get(2) {
-        Ok(value) => Ok(value),
-        Err(e) => Err(cell_fault(StoreTable::Meta, e)),
-    }
-}
+/// The greatest number that may come next for an instance.
+pub(crate) const MAX_NEXT_INSTANCE: u64 = 0x100_0000;
 
 /// What is found of a key, with one row more.
-fn look_at(row: &Row, key: &str, found: Option<i64>) -> Result<Option<i64>, OpenFault>
-    ensures { IfOk result (λ new. LooksAt key.now row.now found new) }
+#[tactic(auto, unfolding(crate::specs::Judged::look))]
+fn look_at(row: &Row, key: &str, found: Option<i64>) -> Option<Option<i64>>
+    ensures exact { result ≡ look key.now found row.now }
+    ensures looks { IfSome result (λ new. LooksAt key.now row.now found new) }
 {
-    let name = text_at(row, 1, StoreTable::Meta)?;
-    if name.as_str() != key {
-        return Ok(found);
+    let Some(name) = text_at(row, 1) else {
+        return None;
+    };
+    if name != key {
+        return Some(found);
     }
-    if found.is_some() {
-        return Err(OpenFault::Damaged(StoreTable::Meta));
+    let Some(value) = integer_at(row, 2) else {
+        return None;
+    };
+    match found {
+        None => Some(Some(value)),
+        Some(_) => None,
     }
-    let value = value_at(row)?;
-    Ok(Some(value))
 }
 
-/// The value of a key.
-fn value_of(rows: &[Row], key: &str) -> Result<i64, OpenFault>
-    ensures { IfOk result (λ v. Finds key.now v rows.now) }
+/// The value of a key that one row has.
+#[tactic(auto, unfolding(crate::specs::Judged::value_of))]
+fn value_of(rows: &[Row], key: &str) -> Option<i64>
+    ensures exact { result ≡ value_of key.now rows.now }
+    ensures found { IfSome result (λ v. Finds key.now v rows.now) }
 {
     let mut found: Option<i64> = None;
     for row in rows {
-        found = look_at(row, key, found)?;
+        let Some(more) = look_at(row, key, found) else {
+            return None;
+        };
+        found = more;
     }
-    match found {
-        Some(value) => Ok(value),
-        None => Err(OpenFault::Damaged(StoreTable::Meta)),
-    }
+    found
 }
 
-fn number_of(value: i64) -> Result<Number, OpenFault>
-    ensures { IfOk result (λ n. value ≡ pos n) }
+fn number_of(value: i64) -> Option<Number>
+    ensures exact { result ≡ number_of value }
+    ensures same { IfSome result (λ n. value ≡ pos n) }
 {
     if value < 0 {
-        return Err(OpenFault::Damaged(StoreTable::Meta));
+        return None;
     }
-    match Number::new(value as u64) {
-        Some(number) => Ok(number),
-        None => Err(OpenFault::Damaged(StoreTable::Meta)),
-    }
+    Number::new(value as u64)
 }
 
 /// The number of a key.
-fn counter_of(rows: &[Row], key: &str) -> Result<Number, OpenFault>
-    ensures { IfOk result (λ n. Finds key.now (pos n) rows.now) }
+#[tactic(auto, unfolding(crate::specs::Judged::number_said))]
+fn number_said(rows: &[Row], key: &str) -> Option<Number>
+    ensures exact { result ≡ number_said key.now rows.now }
+    ensures found { IfSome result (λ n. Finds key.now (pos n) rows.now) }
 {
-    let value = value_of(rows, key)?;
-    let number = number_of(value)?;
-    Ok(number)
+    let Some(value) = value_of(rows, key) else {
+        return None;
+    };
+    number_of(value)
 }
 
-/// Whether a text is the key of a counter.
-fn is_key(text: &str) -> bool
-    ensures { IsTrue result → IsKey text.now }
+fn is_same(value: i64, other: i64) -> bool
+    ensures exact { result ≡ int_eq value other }
+    ensures same { IsTrue result → value ≡ other }
+{
+    value == other
+}
+
+/// The version that the rows show.
+#[tactic(auto, unfolding(crate::specs::Judged::version_said))]
+pub(crate) fn version_said(rows: &[Row]) -> Result<StoreVersion, OpenFault>
+    ensures exact { result ≡ version_said rows.now }
+    ensures found { IfOk result (λ version. Finds (codes "version") (pos (number_of_version version)) rows.now) }
+{
+    let Some(version) = value_of(rows, "version") else {
+        return Err(OpenFault::Damaged(StoreTable::Meta));
+    };
+    if is_same(version, 2) {
+        return Ok(StoreVersion::Second);
+    }
+    if is_same(version, 1) {
+        return Ok(StoreVersion::First);
+    }
+    Err(OpenFault::Version(version))
+}
+
+fn is_old_key(text: &str) -> bool
+    ensures { result ≡ is_old_key text.now }
 {
     if text == "version" {
-        return true;
-    }
-    if text == "layout" {
         return true;
     }
     if text == "revision" {
@@ -102,48 +131,93 @@ fn is_key(text: &str) -> bool
     text == "next_snapshot"
 }
 
-/// Tests that each row has the key of a counter.
-fn test_keys(rows: &[Row]) -> Result<(), OpenFault>
-    ensures { OnOk result ((r : AnyRow) → Has rows.now r → IsKnown r) }
+/// Whether a text is the key of a counter.
+fn is_key(version: StoreVersion, text: &str) -> bool
+    ensures { result ≡ is_key version text.now }
 {
-    for row in rows {
-        let text = text_at(row, 1, StoreTable::Meta)?;
-        if !is_key(&text) {
-            return Err(OpenFault::Damaged(StoreTable::Meta));
+    match version {
+        StoreVersion::First => is_old_key(text),
+        StoreVersion::Second => {
+            if is_old_key(text) {
+                return true;
+            }
+            text == "layout"
         }
     }
-    Ok(())
 }
 
-/// Tests that a store is of the version and the layout that are read here.
-fn test_version(rows: &[Row]) -> Result<(), OpenFault>
-    ensures version { OnOk result (Finds (codes "version") (pos 2) rows.now) }
-    ensures layout { OnOk result (Finds (codes "layout") (pos 2) rows.now) }
+/// Whether a row has the key of a counter.
+#[tactic(auto, unfolding(crate::specs::Judged::is_known))]
+fn is_known(version: StoreVersion, row: &Row) -> bool
+    ensures { result ≡ is_known version row.now }
 {
-    let version = value_of(rows, "version")?;
-    if version != CURRENT {
-        return Err(OpenFault::Version(version));
+    match text_at(row, 1) {
+        None => false,
+        Some(text) => is_key(version, text),
     }
-    let layout = value_of(rows, "layout")?;
-    if layout != CURRENT {
-        return Err(OpenFault::Damaged(StoreTable::Meta));
-    }
-    Ok(())
 }
 
-/// The counters that the rows show.
-pub(crate) fn count(rows: &[Row]) -> Result<Counters, OpenFault>
-    ensures { IfOk result (λ c. AreCounters c rows.now) }
+fn are_keys(version: StoreVersion, rows: &[Row]) -> bool
+    ensures { result ≡ list_all (is_known version) rows.now }
 {
-    test_version(rows)?;
-    test_keys(rows)?;
-    let revision = counter_of(rows, "revision")?;
-    let next_instance = counter_of(rows, "next_instance")?;
-    let next_snapshot = counter_of(rows, "next_snapshot")?;
-    if next_instance.get() == 0 {
-        return Err(OpenFault::Damaged(StoreTable::Meta));
+    rows.iter().all(|row| is_known(version, row))
+}
+
+/// Whether each row has the key of a counter.
+fn are_known(version: StoreVersion, rows: &[Row]) -> bool
+    ensures exact { result ≡ list_all (is_known version) rows.now }
+    ensures known { IsTrue result → (r : AnyRow) → Has rows.now r → IsKnown version r }
+{
+    are_keys(version, rows)
+}
+
+/// Whether the rows show the layout of their version.
+#[tactic(auto, unfolding(crate::specs::Judged::has_layout))]
+fn has_layout(version: StoreVersion, rows: &[Row]) -> bool
+    ensures exact { result ≡ has_layout version rows.now }
+    ensures found { IsTrue result → HasLayout version rows.now }
+{
+    match version {
+        StoreVersion::First => true,
+        StoreVersion::Second => match value_of(rows, "layout") {
+            None => false,
+            Some(layout) => is_same(layout, 2),
+        },
     }
-    Ok(Counters {
+}
+
+/// Whether there are numbers for so many instances. A store of the first version is asked when all of it was read.
+fn is_within(version: StoreVersion, next: Number) -> bool
+    ensures { result ≡ is_within version next }
+{
+    match version {
+        StoreVersion::First => true,
+        StoreVersion::Second => next.get() <= MAX_NEXT_INSTANCE,
+    }
+}
+
+/// The counters that the rows show, if they keep the rules of their version.
+#[tactic(auto, unfolding(crate::specs::Judged::counters_said))]
+pub(crate) fn counters_said(version: StoreVersion, rows: &[Row]) -> Option<Counters>
+    ensures exact { result ≡ counters_said version rows.now }
+    ensures counters { IfSome result (λ c. Finds (codes "version") (pos (number_of_version version)) rows.now → AreCounters version c rows.now) }
+{
+    let Some(revision) = number_said(rows, "revision") else {
+        return None;
+    };
+    let Some(next_instance) = number_said(rows, "next_instance") else {
+        return None;
+    };
+    let Some(next_snapshot) = number_said(rows, "next_snapshot") else {
+        return None;
+    };
+    if !are_known(version, rows) || !has_layout(version, rows) {
+        return None;
+    }
+    if next_instance.get() < 1 || next_snapshot.get() < 1 || !is_within(version, next_instance) {
+        return None;
+    }
+    Some(Counters {
         revision,
         next_instance,
         next_snapshot,

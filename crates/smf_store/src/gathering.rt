@@ -1,4 +1,4 @@
-ghost use Rattle.std.specs.Prelude.{◌≡◌, ◌<◌, ◌≤◌, [], ◌∷◌, ◌++◌, None, Some, pos, IfOk, IfSome, IsTrue, OnOk, string_bytes};
+ghost use Rattle.std.specs.Prelude.{◌≡◌, ◌<◌, ◌≤◌, [], ◌∷◌, ◌++◌, ◌==◌, ◌&&◌, None, Some, length, nat_le, nat_lt, option_map, pos, IfOk, IfSome, IsTrue, OnOk, is_none, is_some, string_bytes};
 ghost use Rattle.sqlite.specs.declared.types.Value.TheVariants.{Int, Text};
 ghost use Rattle.sqlite.specs.Order.{column};
 ghost use Rattle.smf_model.specs.Dates.{EventKind, revision_of};
@@ -7,32 +7,39 @@ ghost use Rattle.smf_model.specs.Look.{instance as instance_of};
 ghost use Rattle.smf_store.specs.Shown.{IsSplit, ShowsInstance, ShowsLaunch, ShowsSnapshot};
 ghost use Rattle.smf_fmri.specs.Matching.{service_of};
 ghost use Rattle.smf_fmri.specs.Name.{short};
-ghost use Rattle.smf_store.specs.Cells.{IsOfService, PutsGroup, ShowsBody, ShowsState, ShowsWhole};
-ghost use Rattle.std.specs.List.{list_any};
+ghost use Rattle.smf_store.specs.Cells.{IsOwnerUnder, PutsGroup, ShowsBody, ShowsState, ShowsWhole};
+ghost use Rattle.std.specs.List.{list_all, list_any};
 ghost use Rattle.smf_fmri.specs.ByKey.{has_key, put};
 ghost use Rattle.smf_value.specs.Groups.{by_group};
 ghost use Rattle.smf_model.specs.Look.{by_launch, group_in as group_among};
+ghost use Rattle.smf_model.specs.Next.{most_groups};
+ghost use Rattle.smf_store.specs.Readings.{group_said, instance_said, joined_name, launch_said, name_said, only, service_said, short_service, snapshot_said, state_said};
+ghost use Rattle.smf_store.specs.Judged.{Takes, add_all, add_group, add_instance, add_launch, add_service, add_snapshot, is_new, is_right, is_there, is_up_to, names_held, names_snapshots, owner_said, put_group, with_instance};
 ghost use Rattle.smf_store.specs.Gathered.{AddsGroupOf, AddsInstanceRow, AddsLaunchRow, AddsServiceRow, AddsSnapshotRow, GathersGroups, GathersInstances, GathersLaunches, GathersServices, GathersSnapshots};
 
-use crate::cells::{bytes_at, number_at, optional_at, small_at, text_at};
-use crate::refusal::{OpenFault, StoreTable};
+use crate::cells::{bytes_at, count_at, number_at, optional_at, text_at};
 use smf_fmri::{Fmri, FmriFault, InstanceFmri, Items, Ordered, ServiceFmri};
 use smf_model::{
     Change, Instance, InstanceEntry, InstanceName, Launch, Owner, Service, Snapshot, Tables,
 };
 use smf_snap::decode_snapshot;
-use smf_state::{Row as StateRow, RowFault};
+use smf_state::{MAX_NUMBER, MAX_RUN, Row as StateRow, RowFault};
 use smf_value::{BodyFault, Group, decode};
 use sqlite::Row;
 use std::alloc::{AllocError, Global};
 
+/// The most groups of an owner.
+const MAX_GROUPS: usize = 1_000;
+
 /// The service that a text names in the short form.
-fn service_named(alloc: Global, text: &str) -> Result<Option<ServiceFmri>, OpenFault>
-    ensures { IfOk result (λ found. IfSome found (λ name. name ≡ text.now)) }
+#[tactic(auto, unfolding(crate::specs::Readings::short_service))]
+fn service_named(alloc: Global, text: &str) -> Result<Option<ServiceFmri>, AllocError>
+    ensures exact { IfOk result (λ found. found ≡ short_service text.now) }
+    ensures same { IfOk result (λ found. IfSome found (λ name. name ≡ text.now)) }
 {
     let name = match Fmri::parse(alloc, text) {
         Ok(name) => name,
-        Err(FmriFault::Memory) => return Err(OpenFault::Memory),
+        Err(FmriFault::Memory) => return Err(AllocError),
         Err(_) => return Ok(None),
     };
     if name.print() != text {
@@ -51,36 +58,55 @@ fn make_one(alloc: Global, tables: &mut Tables, change: Change) -> Result<(), Al
     Ok(())
 }
 
-fn add_service(alloc: Global, row: &Row, tables: &mut Tables) -> Result<(), OpenFault>
-    ensures { OnOk result (AddsServiceRow row.now tables.old tables.new) }
+/// The service that a row shows.
+#[tactic(auto, unfolding(crate::specs::Readings::service_said))]
+fn service_said(alloc: Global, row: &Row) -> Result<Option<ServiceFmri>, AllocError>
+    ensures exact { IfOk result (λ found. found ≡ service_said row.now) }
+    ensures shows { IfOk result (λ found. IfSome found (λ name. column row.now 1 ≡ Text name)) }
 {
-    let text = text_at(row, 1, StoreTable::Service)?;
-    let Some(name) = service_named(alloc, &text)? else {
-        return Err(OpenFault::Damaged(StoreTable::Service));
+    let Some(text) = text_at(row, 1) else {
+        return Ok(None);
+    };
+    let name = service_named(alloc, text)?;
+    Ok(name)
+}
+
+/// Puts in the service of a row, if it may stand there.
+#[tactic(auto, unfolding(crate::specs::Judged::add_service))]
+fn add_service(alloc: Global, row: &Row, tables: &mut Tables) -> Result<bool, AllocError>
+    ensures exact { IfOk result (λ taken. Takes taken (add_service tables.old row.now) tables.new) }
+    ensures added { IfOk result (λ taken. IsTrue taken → AddsServiceRow row.now tables.old tables.new) }
+{
+    let Some(name) = service_said(alloc, row)? else {
+        return Ok(false);
     };
     if tables.service(&name).is_some() {
-        return Err(OpenFault::Damaged(StoreTable::Service));
+        return Ok(false);
     }
     let service = Service {
         name,
         groups: Ordered::new(alloc),
     };
     make_one(alloc, tables, Change::AddService(service))?;
-    Ok(())
+    Ok(true)
 }
 
-/// The services that the rows show.
+/// The services that the rows show, if all of them may stand there.
 pub(crate) fn gather_services(
     alloc: Global,
     rows: &[Row],
     tables: &mut Tables,
-) -> Result<(), OpenFault>
-    ensures { OnOk result (GathersServices rows.now tables.old tables.new) }
+) -> Result<bool, AllocError>
+    ensures exact { IfOk result (λ taken. Takes taken (add_all add_service tables.old rows.now) tables.new) }
+    ensures gathered { IfOk result (λ taken. IsTrue taken → GathersServices rows.now tables.old tables.new) }
 {
     for row in rows {
-        add_service(alloc, row, tables)?;
+        let taken = add_service(alloc, row, tables)?;
+        if !taken {
+            return Ok(false);
+        }
     }
-    Ok(())
+    Ok(true)
 }
 
 /// Two texts with a colon between.
@@ -102,12 +128,14 @@ fn service_in(alloc: Global, name: &InstanceFmri) -> Result<ServiceFmri, AllocEr
 }
 
 /// The name of an instance, if the first of the texts is its service.
+#[tactic(auto, unfolding(crate::specs::Readings::joined_name))]
 fn name_of_parts(
     alloc: Global,
     front: &str,
     behind: &str,
 ) -> Result<Option<InstanceFmri>, AllocError>
-    ensures { IfOk result (λ found. IfSome found (λ name. IsSplit name front.now behind.now)) }
+    ensures exact { IfOk result (λ found. found ≡ joined_name front.now behind.now) }
+    ensures split { IfOk result (λ found. IfSome found (λ name. IsSplit name front.now behind.now)) }
 {
     let whole = joined(alloc, front, behind)?;
     let Some(name) = InstanceFmri::read_short(alloc, &whole)? else {
@@ -121,32 +149,51 @@ fn name_of_parts(
 }
 
 /// The name of an instance, of which two columns hold the parts.
-fn whole_name(alloc: Global, row: &Row) -> Result<InstanceFmri, OpenFault>
-    ensures { IfOk result (λ name. ShowsWhole name row.now) }
+#[tactic(auto, unfolding(crate::specs::Readings::name_said))]
+fn name_said(alloc: Global, row: &Row) -> Result<Option<InstanceFmri>, AllocError>
+    ensures exact { IfOk result (λ found. found ≡ name_said row.now) }
+    ensures shows { IfOk result (λ found. IfSome found (λ name. ShowsWhole name row.now)) }
 {
-    let service = text_at(row, 2, StoreTable::Instance)?;
-    let name = text_at(row, 3, StoreTable::Instance)?;
-    match name_of_parts(alloc, &service, &name)? {
-        Some(name) => Ok(name),
-        None => Err(OpenFault::Damaged(StoreTable::Instance)),
-    }
+    let Some(service) = text_at(row, 2) else {
+        return Ok(None);
+    };
+    let Some(name) = text_at(row, 3) else {
+        return Ok(None);
+    };
+    let found = name_of_parts(alloc, service, name)?;
+    Ok(found)
 }
 
 /// The row of an instance.
-fn state_row(alloc: Global, row: &Row) -> Result<StateRow, OpenFault>
-    ensures { IfOk result (λ read. ShowsState read row.now) }
+#[tactic(auto, unfolding(crate::specs::Readings::state_said))]
+fn state_said(alloc: Global, row: &Row) -> Result<Option<StateRow>, AllocError>
+    ensures exact { IfOk result (λ found. found ≡ state_said row.now) }
+    ensures shows { IfOk result (λ found. IfSome found (λ read. ShowsState read row.now)) }
 {
-    let text = text_at(row, 4, StoreTable::Instance)?;
-    match StateRow::read(alloc, &text) {
-        Ok(read) => Ok(read),
-        Err(RowFault::Memory) => Err(OpenFault::Memory),
-        Err(_) => Err(OpenFault::Damaged(StoreTable::Instance)),
+    let Some(text) = text_at(row, 4) else {
+        return Ok(None);
+    };
+    match StateRow::read(alloc, text) {
+        Ok(read) => Ok(Some(read)),
+        Err(RowFault::Memory) => Err(AllocError),
+        Err(RowFault::BadRow(_)) => Ok(None),
     }
 }
 
-/// Whether a row keeps revisions up to this alone, and runs up to its last.
-fn is_dated(row: &StateRow, revision: u64) -> bool
-    ensures { IsTrue result → (kind : EventKind) → revision_of kind row.now ≤ revision }
+/// Whether a run is not behind the last.
+fn is_up_to(last: u64, run: Option<u64>) -> bool
+    ensures { result ≡ is_up_to last run }
+{
+    match run {
+        None => true,
+        Some(run) => run <= last,
+    }
+}
+
+/// Whether a row keeps revisions up to this alone, runs up to its last, and numbers within their limits.
+fn is_right(row: &StateRow, revision: u64) -> bool
+    ensures exact { result ≡ is_right revision row.now }
+    ensures dated { IsTrue result → (kind : EventKind) → revision_of kind row.now ≤ revision }
 {
     if row.err > revision || row.stop > revision {
         return false;
@@ -154,50 +201,74 @@ fn is_dated(row: &StateRow, revision: u64) -> bool
     if row.refresh > revision || row.start > revision {
         return false;
     }
-    if row.live.is_some_and(|run| run > row.last) {
+    if row.base > revision {
         return false;
     }
-    !row.side.is_some_and(|run| run > row.last)
+    if !is_up_to(row.last, row.live) || !is_up_to(row.last, row.side) {
+        return false;
+    }
+    row.last <= MAX_RUN && row.number <= MAX_NUMBER
 }
 
 /// The instance that a row shows.
-fn instance_in(alloc: Global, row: &Row) -> Result<Instance, OpenFault>
-    ensures { IfOk result (λ i. ShowsInstance i row.now) }
+#[tactic(auto, unfolding(crate::specs::Readings::instance_said))]
+fn instance_said(alloc: Global, row: &Row) -> Result<Option<Instance>, AllocError>
+    ensures exact { IfOk result (λ found. found ≡ instance_said row.now) }
+    ensures shows { IfOk result (λ found. IfSome found (λ i. ShowsInstance i row.now)) }
 {
-    let number = number_at(row, 0, StoreTable::Instance)?;
-    let name = whole_name(alloc, row)?;
-    let read = state_row(alloc, row)?;
-    let start = optional_at(row, 5, StoreTable::Instance)?;
-    let previous = optional_at(row, 6, StoreTable::Instance)?;
-    Ok(Instance {
+    let Some(number) = count_at(row, 0) else {
+        return Ok(None);
+    };
+    let Some(name) = name_said(alloc, row)? else {
+        return Ok(None);
+    };
+    let Some(read) = state_said(alloc, row)? else {
+        return Ok(None);
+    };
+    let Some(start) = optional_at(row, 5) else {
+        return Ok(None);
+    };
+    let Some(previous) = optional_at(row, 6) else {
+        return Ok(None);
+    };
+    Ok(Some(Instance {
         number,
         name,
         row: read,
         start,
         previous,
-    })
+    }))
 }
 
-/// Whether an instance may be held beside those that are: its number was given, and nothing has its number or its name.
-fn is_new(tables: &Tables, instance: &Instance) -> bool
-    ensures above { IsTrue result → 0 < instance.now.number }
-    ensures below { IsTrue result → instance.now.number < tables.now.next_instance }
-    ensures none { IsTrue result → instance_of tables.now instance.now.number ≡ None }
-    ensures unnamed { IsTrue result → named tables.now instance.now.name ≡ None }
-    ensures dated { IsTrue result → (kind : EventKind) → revision_of kind instance.now.row ≤ tables.now.revision }
+/// Whether an instance may be held beside those that are: its number was given, nothing has its number or its name, its
+/// service is there, and its row is right.
+fn is_new(alloc: Global, tables: &Tables, instance: &Instance) -> Result<bool, AllocError>
+    ensures exact { IfOk result (λ new. new ≡ is_new tables.now instance.now) }
+    ensures above { IfOk result (λ new. IsTrue new → 0 < instance.now.number) }
+    ensures below { IfOk result (λ new. IsTrue new → instance.now.number < tables.now.next_instance) }
+    ensures none { IfOk result (λ new. IsTrue new → instance_of tables.now instance.now.number ≡ None) }
+    ensures unnamed { IfOk result (λ new. IsTrue new → named tables.now instance.now.name ≡ None) }
+    ensures dated { IfOk result (λ new. IsTrue new → (kind : EventKind) → revision_of kind instance.now.row ≤ tables.now.revision) }
 {
+    let service = service_in(alloc, &instance.name)?;
     if instance.number == 0 || instance.number >= tables.next_instance().get() {
-        return false;
+        return Ok(false);
     }
     if tables.instance(instance.number).is_some() || tables.named(&instance.name).is_some() {
-        return false;
+        return Ok(false);
     }
-    is_dated(&instance.row, tables.revision().get())
+    if tables.service(&service).is_none() {
+        return Ok(false);
+    }
+    if !is_right(&instance.row, tables.revision().get()) {
+        return Ok(false);
+    }
+    Ok(true)
 }
 
 /// Puts an instance and its name among those that are held.
 fn make_instance(alloc: Global, tables: &mut Tables, instance: Instance) -> Result<(), AllocError>
-    ensures { OnOk result (tables.new ≡ changed (changed tables.old (Change.AddInstance (record { instance = instance; groups = [] }))) (Change.PutName (record { name = instance.name; number = instance.number }))) }
+    ensures { OnOk result (tables.new ≡ with_instance tables.old instance) }
 {
     let name = InstanceName {
         name: instance.name.clone()?,
@@ -212,34 +283,45 @@ fn make_instance(alloc: Global, tables: &mut Tables, instance: Instance) -> Resu
     Ok(())
 }
 
-fn add_instance(alloc: Global, row: &Row, tables: &mut Tables) -> Result<(), OpenFault>
-    ensures { OnOk result (AddsInstanceRow row.now tables.old tables.new) }
+/// Puts in the instance of a row, if it may stand there.
+#[tactic(auto, unfolding(crate::specs::Judged::add_instance))]
+fn add_instance(alloc: Global, row: &Row, tables: &mut Tables) -> Result<bool, AllocError>
+    ensures exact { IfOk result (λ taken. Takes taken (add_instance tables.old row.now) tables.new) }
+    ensures added { IfOk result (λ taken. IsTrue taken → AddsInstanceRow row.now tables.old tables.new) }
 {
-    let instance = instance_in(alloc, row)?;
-    if !is_new(tables, &instance) {
-        return Err(OpenFault::Damaged(StoreTable::Instance));
+    let Some(instance) = instance_said(alloc, row)? else {
+        return Ok(false);
+    };
+    let new = is_new(alloc, tables, &instance)?;
+    if !new {
+        return Ok(false);
     }
     make_instance(alloc, tables, instance)?;
-    Ok(())
+    Ok(true)
 }
 
-/// The instances that the rows show.
+/// The instances that the rows show, if all of them may stand there.
 pub(crate) fn gather_instances(
     alloc: Global,
     rows: &[Row],
     tables: &mut Tables,
-) -> Result<(), OpenFault>
-    ensures { OnOk result (GathersInstances rows.now tables.old tables.new) }
+) -> Result<bool, AllocError>
+    ensures exact { IfOk result (λ taken. Takes taken (add_all add_instance tables.old rows.now) tables.new) }
+    ensures gathered { IfOk result (λ taken. IsTrue taken → GathersInstances rows.now tables.old tables.new) }
 {
     for row in rows {
-        add_instance(alloc, row, tables)?;
+        let taken = add_instance(alloc, row, tables)?;
+        if !taken {
+            return Ok(false);
+        }
     }
-    Ok(())
+    Ok(true)
 }
 
 /// The only group of a body.
 fn only_group(groups: &Ordered<Group>) -> Result<Option<Group>, AllocError>
-    ensures { IfOk result (λ found. IfSome found (λ g. groups.now ≡ g ∷ [])) }
+    ensures exact { IfOk result (λ found. found ≡ only groups.now) }
+    ensures alone { IfOk result (λ found. IfSome found (λ g. groups.now ≡ g ∷ [])) }
 {
     match groups.as_slice() {
         [group] => Ok(Some(group.clone()?)),
@@ -248,91 +330,121 @@ fn only_group(groups: &Ordered<Group>) -> Result<Option<Group>, AllocError>
 }
 
 /// The group that a row shows.
-fn group_in(alloc: Global, row: &Row) -> Result<Group, OpenFault>
-    ensures { IfOk result (λ g. ShowsBody g row.now) }
+#[tactic(auto, unfolding(crate::specs::Readings::group_said))]
+fn group_said(alloc: Global, row: &Row) -> Result<Option<Group>, AllocError>
+    ensures exact { IfOk result (λ found. found ≡ group_said row.now) }
+    ensures shows { IfOk result (λ found. IfSome found (λ g. ShowsBody g row.now)) }
 {
-    let name = text_at(row, 3, StoreTable::Group)?;
-    let body = bytes_at(row, 4, StoreTable::Group)?;
-    let groups = match decode(alloc, &body) {
+    let Some(name) = text_at(row, 3) else {
+        return Ok(None);
+    };
+    let Some(body) = bytes_at(row, 4) else {
+        return Ok(None);
+    };
+    let groups = match decode(alloc, body) {
         Ok(groups) => groups,
-        Err(BodyFault::Memory) => return Err(OpenFault::Memory),
-        Err(_) => return Err(OpenFault::Damaged(StoreTable::Group)),
+        Err(BodyFault::Memory) => return Err(AllocError),
+        Err(BodyFault::BadBody(_)) => return Ok(None),
     };
     let Some(group) = only_group(&groups)? else {
-        return Err(OpenFault::Damaged(StoreTable::Group));
+        return Ok(None);
     };
-    if group.name().as_str() != name.as_str() {
-        return Err(OpenFault::Damaged(StoreTable::Group));
+    if group.name().as_str() != name {
+        return Ok(None);
     }
-    Ok(group)
+    Ok(Some(group))
 }
 
 /// The launch that a row shows.
-fn launch_in(alloc: Global, row: &Row) -> Result<Launch, OpenFault>
-    ensures { IfOk result (λ l. ShowsLaunch l row.now) }
+#[tactic(auto, unfolding(crate::specs::Readings::launch_said))]
+fn launch_said(alloc: Global, row: &Row) -> Result<Option<Launch>, AllocError>
+    ensures exact { IfOk result (λ found. found ≡ launch_said row.now) }
+    ensures shows { IfOk result (λ found. IfSome found (λ l. ShowsLaunch l row.now)) }
 {
-    let text = text_at(row, 1, StoreTable::Restarter)?;
-    let count = small_at(row, 2, StoreTable::Restarter)?;
-    match InstanceFmri::read_short(alloc, &text)? {
-        Some(restarter) => Ok(Launch { restarter, count }),
-        None => Err(OpenFault::Damaged(StoreTable::Restarter)),
-    }
+    let Some(text) = text_at(row, 1) else {
+        return Ok(None);
+    };
+    let Some(count) = number_at(row, 2) else {
+        return Ok(None);
+    };
+    let Some(restarter) = InstanceFmri::read_short(alloc, text)? else {
+        return Ok(None);
+    };
+    Ok(Some(Launch { restarter, count }))
 }
 
 /// The snapshot that a row shows.
-fn snapshot_in(alloc: Global, row: &Row) -> Result<Snapshot, OpenFault>
-    ensures { IfOk result (λ s. ShowsSnapshot s row.now) }
+#[tactic(auto, unfolding(crate::specs::Readings::snapshot_said))]
+fn snapshot_said(alloc: Global, row: &Row) -> Result<Option<Snapshot>, AllocError>
+    ensures exact { IfOk result (λ found. found ≡ snapshot_said row.now) }
+    ensures shows { IfOk result (λ found. IfSome found (λ s. ShowsSnapshot s row.now)) }
 {
-    let number = number_at(row, 0, StoreTable::Snapshot)?;
-    let instance = number_at(row, 2, StoreTable::Snapshot)?;
-    let body = bytes_at(row, 3, StoreTable::Snapshot)?;
-    let read = match decode_snapshot(alloc, &body) {
-        Ok(read) => read,
-        Err(BodyFault::Memory) => return Err(OpenFault::Memory),
-        Err(_) => return Err(OpenFault::Damaged(StoreTable::Snapshot)),
+    let Some(number) = count_at(row, 0) else {
+        return Ok(None);
     };
-    Ok(Snapshot {
+    let Some(instance) = count_at(row, 2) else {
+        return Ok(None);
+    };
+    let Some(body) = bytes_at(row, 3) else {
+        return Ok(None);
+    };
+    let read = match decode_snapshot(alloc, body) {
+        Ok(read) => read,
+        Err(BodyFault::Memory) => return Err(AllocError),
+        Err(BodyFault::BadBody(_)) => return Ok(None),
+    };
+    Ok(Some(Snapshot {
         number,
         instance,
         service_groups: read.service,
         instance_groups: read.instance,
-    })
+    }))
 }
 
-fn add_snapshot(alloc: Global, row: &Row, tables: &mut Tables) -> Result<(), OpenFault>
-    ensures { OnOk result (AddsSnapshotRow row.now tables.old tables.new) }
+/// Puts in the snapshot of a row, if it may stand there.
+#[tactic(auto, unfolding(crate::specs::Judged::add_snapshot))]
+fn add_snapshot(alloc: Global, row: &Row, tables: &mut Tables) -> Result<bool, AllocError>
+    ensures exact { IfOk result (λ taken. Takes taken (add_snapshot tables.old row.now) tables.new) }
+    ensures added { IfOk result (λ taken. IsTrue taken → AddsSnapshotRow row.now tables.old tables.new) }
 {
-    let snapshot = snapshot_in(alloc, row)?;
+    let Some(snapshot) = snapshot_said(alloc, row)? else {
+        return Ok(false);
+    };
     if snapshot.number == 0 || snapshot.number >= tables.next_snapshot().get() {
-        return Err(OpenFault::Damaged(StoreTable::Snapshot));
+        return Ok(false);
     }
     if tables.snapshot(snapshot.number).is_some() || tables.instance(snapshot.instance).is_none() {
-        return Err(OpenFault::Damaged(StoreTable::Snapshot));
+        return Ok(false);
     }
     make_one(alloc, tables, Change::AddSnapshot(snapshot))?;
-    Ok(())
+    Ok(true)
 }
 
-/// The snapshots that the rows show.
+/// The snapshots that the rows show, if all of them may stand there.
 pub(crate) fn gather_snapshots(
     alloc: Global,
     rows: &[Row],
     tables: &mut Tables,
-) -> Result<(), OpenFault>
-    ensures { OnOk result (GathersSnapshots rows.now tables.old tables.new) }
+) -> Result<bool, AllocError>
+    ensures exact { IfOk result (λ taken. Takes taken (add_all add_snapshot tables.old rows.now) tables.new) }
+    ensures gathered { IfOk result (λ taken. IsTrue taken → GathersSnapshots rows.now tables.old tables.new) }
 {
     for row in rows {
-        add_snapshot(alloc, row, tables)?;
+        let taken = add_snapshot(alloc, row, tables)?;
+        if !taken {
+            return Ok(false);
+        }
     }
-    Ok(())
+    Ok(true)
 }
 
-/// The service's groups with one more, which was not among them.
+/// The owner's groups with one more, which was not among them.
 fn with_one(groups: &Ordered<Group>, group: Group) -> Result<Option<Ordered<Group>>, AllocError>
+    ensures exact { IfOk result (λ found. is_some found ≡ (is_none (group_among groups.now group.name) && nat_lt (length groups.now) most_groups)) }
     ensures none { IfOk result (λ found. IfSome found (λ _. group_among groups.now group.name ≡ None)) }
     ensures put { IfOk result (λ found. IfSome found (λ all. all ≡ put by_group group groups.now)) }
 {
-    if groups.get(group.name()).is_some() {
+    if groups.get(group.name()).is_some() || groups.as_slice().len() >= MAX_GROUPS {
         return Ok(None);
     }
     let mut all = groups.clone()?;
@@ -340,104 +452,92 @@ fn with_one(groups: &Ordered<Group>, group: Group) -> Result<Option<Ordered<Grou
     Ok(Some(all))
 }
 
-/// Puts a group among those of an owner, which is there and has none of its name.
+/// Puts a group among those of an owner, if it is there and has none of its name.
+#[tactic(auto, unfolding(crate::specs::Judged::put_group))]
 fn put_group(
     alloc: Global,
     tables: &mut Tables,
     owner: Owner,
     group: Group,
-) -> Result<(), OpenFault>
-    ensures { OnOk result (PutsGroup owner group tables.old tables.new) }
+) -> Result<bool, AllocError>
+    ensures exact { IfOk result (λ taken. Takes taken (put_group tables.old owner group) tables.new) }
+    ensures added { IfOk result (λ taken. IsTrue taken → PutsGroup owner group tables.old tables.new) }
 {
     let Some(groups) = tables.owned(&owner) else {
-        return Err(OpenFault::Damaged(StoreTable::Group));
-    };
-    let Some(groups) = with_one(groups, group)? else {
-        return Err(OpenFault::Damaged(StoreTable::Group));
-    };
-    make_one(alloc, tables, Change::PutGroups(owner, groups))?;
-    Ok(())
-}
-
-fn add_service_group(
-    alloc: Global,
-    row: &Row,
-    text: &str,
-    tables: &mut Tables,
-) -> Result<(), OpenFault>
-    requires service { column row.now 1 ≡ Text text.now }
-    requires own { column row.now 2 ≡ Int (pos 0) }
-    ensures { OnOk result (AddsGroupOf row.now tables.old tables.new) }
-{
-    let group = group_in(alloc, row)?;
-    let Some(name) = service_named(alloc, text)? else {
-        return Err(OpenFault::Damaged(StoreTable::Group));
-    };
-    put_group(alloc, tables, Owner::Service(name), group)?;
-    Ok(())
-}
-
-/// Whether an instance is there, and is one of the service of this name.
-fn is_of_service(
-    alloc: Global,
-    tables: &Tables,
-    number: u64,
-    service: &str,
-) -> Result<bool, AllocError>
-    ensures { IfOk result (λ found. IsTrue found → IsOfService tables.now number service.now) }
-{
-    let Some(instance) = tables.instance(number) else {
         return Ok(false);
     };
-    let named = service_in(alloc, &instance.name)?;
-    Ok(named.print() == service)
+    let Some(groups) = with_one(groups, group)? else {
+        return Ok(false);
+    };
+    make_one(alloc, tables, Change::PutGroups(owner, groups))?;
+    Ok(true)
 }
 
-fn add_instance_group(
+/// The owner whose groups stand under this service and this number, 0 for the service itself.
+#[tactic(auto, unfolding(crate::specs::Judged::owner_said))]
+fn owner_said(
     alloc: Global,
-    row: &Row,
+    tables: &Tables,
     text: &str,
     number: u64,
-    tables: &mut Tables,
-) -> Result<(), OpenFault>
-    requires above { 0 < number }
-    requires service { column row.now 1 ≡ Text text.now }
-    requires own { column row.now 2 ≡ Int (pos number) }
-    ensures { OnOk result (AddsGroupOf row.now tables.old tables.new) }
+) -> Result<Option<Owner>, AllocError>
+    ensures exact { IfOk result (λ found. found ≡ owner_said tables.now text.now number) }
+    ensures owns { IfOk result (λ found. IfSome found (IsOwnerUnder tables.now text.now number)) }
 {
-    let group = group_in(alloc, row)?;
-    if !is_of_service(alloc, tables, number, text)? {
-        return Err(OpenFault::Damaged(StoreTable::Group));
-    }
-    put_group(alloc, tables, Owner::Instance(number), group)?;
-    Ok(())
-}
-
-fn add_group(alloc: Global, row: &Row, tables: &mut Tables) -> Result<(), OpenFault>
-    ensures { OnOk result (AddsGroupOf row.now tables.old tables.new) }
-{
-    let text = text_at(row, 1, StoreTable::Group)?;
-    let number = number_at(row, 2, StoreTable::Group)?;
     if number == 0 {
-        add_service_group(alloc, row, &text, tables)?;
-        return Ok(());
+        return match service_named(alloc, text)? {
+            None => Ok(None),
+            Some(name) => Ok(Some(Owner::Service(name))),
+        };
     }
-    add_instance_group(alloc, row, &text, number, tables)?;
-    Ok(())
+    let Some(instance) = tables.instance(number) else {
+        return Ok(None);
+    };
+    let service = service_in(alloc, &instance.name)?;
+    if service.print() != text {
+        return Ok(None);
+    }
+    Ok(Some(Owner::Instance(number)))
 }
 
-/// The groups that the rows show.
+/// Puts in the group of a row, if it may stand there.
+#[tactic(auto, unfolding(crate::specs::Judged::add_group))]
+fn add_group(alloc: Global, row: &Row, tables: &mut Tables) -> Result<bool, AllocError>
+    ensures exact { IfOk result (λ taken. Takes taken (add_group tables.old row.now) tables.new) }
+    ensures added { IfOk result (λ taken. IsTrue taken → AddsGroupOf row.now tables.old tables.new) }
+{
+    let Some(group) = group_said(alloc, row)? else {
+        return Ok(false);
+    };
+    let Some(text) = text_at(row, 1) else {
+        return Ok(false);
+    };
+    let Some(number) = count_at(row, 2) else {
+        return Ok(false);
+    };
+    let Some(owner) = owner_said(alloc, tables, text, number)? else {
+        return Ok(false);
+    };
+    let taken = put_group(alloc, tables, owner, group)?;
+    Ok(taken)
+}
+
+/// The groups that the rows show, if all of them may stand there.
 pub(crate) fn gather_groups(
     alloc: Global,
     rows: &[Row],
     tables: &mut Tables,
-) -> Result<(), OpenFault>
-    ensures { OnOk result (GathersGroups rows.now tables.old tables.new) }
+) -> Result<bool, AllocError>
+    ensures exact { IfOk result (λ taken. Takes taken (add_all add_group tables.old rows.now) tables.new) }
+    ensures gathered { IfOk result (λ taken. IsTrue taken → GathersGroups rows.now tables.old tables.new) }
 {
     for row in rows {
-        add_group(alloc, row, tables)?;
+        let taken = add_group(alloc, row, tables)?;
+        if !taken {
+            return Ok(false);
+        }
     }
-    Ok(())
+    Ok(true)
 }
 
 /// Whether a restarter was launched.
@@ -449,27 +549,72 @@ fn was_launched(launches: &[Launch], restarter: &InstanceFmri) -> bool
         .any(|launch| launch.restarter.cmp(restarter).is_eq())
 }
 
-fn add_launch(alloc: Global, row: &Row, tables: &mut Tables) -> Result<(), OpenFault>
-    ensures { OnOk result (AddsLaunchRow row.now tables.old tables.new) }
+/// Puts in the launch of a row, if it may stand there.
+#[tactic(auto, unfolding(crate::specs::Judged::add_launch))]
+fn add_launch(alloc: Global, row: &Row, tables: &mut Tables) -> Result<bool, AllocError>
+    ensures exact { IfOk result (λ taken. Takes taken (add_launch tables.old row.now) tables.new) }
+    ensures added { IfOk result (λ taken. IsTrue taken → AddsLaunchRow row.now tables.old tables.new) }
 {
-    let launch = launch_in(alloc, row)?;
+    let Some(launch) = launch_said(alloc, row)? else {
+        return Ok(false);
+    };
     if was_launched(tables.launches(), &launch.restarter) {
-        return Err(OpenFault::Damaged(StoreTable::Restarter));
+        return Ok(false);
     }
     make_one(alloc, tables, Change::PutLaunch(launch))?;
-    Ok(())
+    Ok(true)
 }
 
-/// The launches that the rows show.
+/// The launches that the rows show, if all of them may stand there.
 pub(crate) fn gather_launches(
     alloc: Global,
     rows: &[Row],
     tables: &mut Tables,
-) -> Result<(), OpenFault>
-    ensures { OnOk result (GathersLaunches rows.now tables.old tables.new) }
+) -> Result<bool, AllocError>
+    ensures exact { IfOk result (λ taken. Takes taken (add_all add_launch tables.old rows.now) tables.new) }
+    ensures gathered { IfOk result (λ taken. IsTrue taken → GathersLaunches rows.now tables.old tables.new) }
 {
     for row in rows {
-        add_launch(alloc, row, tables)?;
+        let taken = add_launch(alloc, row, tables)?;
+        if !taken {
+            return Ok(false);
+        }
     }
-    Ok(())
+    Ok(true)
+}
+
+/// Whether a snapshot that is named is there.
+fn is_there(tables: &Tables, number: Option<u64>) -> bool
+    ensures { result ≡ is_there tables.now number }
+{
+    match number {
+        None => true,
+        Some(number) => tables.snapshot(number).is_some(),
+    }
+}
+
+/// Whether the snapshots that an instance names are there.
+fn names_snapshots(tables: &Tables, instance: &Instance) -> bool
+    ensures { result ≡ names_snapshots tables.now instance.now }
+{
+    if !is_there(tables, instance.start) || !is_there(tables, instance.previous) {
+        return false;
+    }
+    is_there(tables, instance.row.running) && is_there(tables, instance.row.begun)
+}
+
+/// Whether the snapshots that these instances name are there.
+fn name_held(tables: &Tables, entries: &[InstanceEntry]) -> bool
+    ensures { result ≡ list_all (names_held tables.now) entries.now }
+{
+    entries
+        .iter()
+        .all(|entry| names_snapshots(tables, &entry.instance))
+}
+
+/// Whether the snapshots that instances name are there.
+pub(crate) fn are_there(tables: &Tables) -> bool
+    ensures { result ≡ list_all (names_held tables.now) tables.now.instances }
+{
+    name_held(tables, tables.entries())
 }

@@ -1,25 +1,89 @@
-ghost use Rattle.std.specs.Prelude.{◌≡◌, IfOk};
+ghost use Rattle.std.specs.Prelude.{◌≡◌, IfErr, IfOk};
 ghost use Rattle.sqlite.specs.Held.{state};
-ghost use Rattle.sqlite.specs.State.{HasCleanDisk};
+ghost use Rattle.sqlite.specs.State.{HasCleanDisk, IsLive};
+ghost use Rattle.smf_model.specs.Laws.{IsNumbered};
+ghost use Rattle.smf_tables.specs.Calls.{CommitsNone, Does, IsInside, LeavesAsBefore};
+ghost use Rattle.smf_tables.specs.Calls.{Finds as Gives};
+ghost use Rattle.smf_tables.specs.Schema.{store_schema};
 ghost use Rattle.smf_store.specs.Ends.{Fails, LeavesOr};
-ghost use Rattle.smf_store.specs.Stages.{MayRead, Opened};
+ghost use Rattle.smf_store.specs.Stages.{IsRefused, IsSaid, MayRead, Opened, Raises, Reads};
 ghost use Rattle.smf_store.specs.Steps.{Kept};
 
-use crate::reading::read_all;
+use crate::counting::StoreVersion;
+use crate::fault::WriteFault;
+use crate::judging::{Judgement, judge};
+use crate::reading::read_rows;
 use crate::refusal::{OpenFault, StoreTable};
 use smf_model::Tables;
-use smf_tables::is_store;
-use sqlite::{Alter, Connection};
+use smf_tables::{add_meta, drop_meta, is_store};
+use sqlite::{Alter, Connection, Transaction};
 use std::alloc::Global;
 
-/// What the tables of a store hold. The database stays as it is.
+/// Makes a store of the first version one of the second.
+fn raise_first<S: Alter>(tx: &mut Transaction<'_, S>) -> Result<(), WriteFault>
+    requires { IsInside S.Store tx.old.conn.now }
+    ensures same_reference { tx.new.conn.ghost_name ≡ tx.old.conn.ghost_name }
+    ensures ok { Does (Raises StoreVersion.First) S.Store tx.old.conn.now tx.new.conn.now result }
+    ensures err { CommitsNone S.Store tx.old.conn.now tx.new.conn.now result }
+    ensures crash { LeavesAsBefore S.Store tx.old.conn.now tx.new.conn.now }
+{
+    drop_meta(tx, "version")?;
+    add_meta(tx, "version", 2)?;
+    add_meta(tx, "layout", 2)?;
+    Ok(())
+}
+
+/// Makes a store one of the second version.
+fn raise<S: Alter>(tx: &mut Transaction<'_, S>, version: StoreVersion) -> Result<(), WriteFault>
+    requires { IsInside S.Store tx.old.conn.now }
+    ensures same_reference { tx.new.conn.ghost_name ≡ tx.old.conn.ghost_name }
+    ensures ok { Does (Raises version) S.Store tx.old.conn.now tx.new.conn.now result }
+    ensures err { CommitsNone S.Store tx.old.conn.now tx.new.conn.now result }
+    ensures crash { LeavesAsBefore S.Store tx.old.conn.now tx.new.conn.now }
+{
+    match version {
+        StoreVersion::First => {
+            raise_first(tx)?;
+            Ok(())
+        }
+        StoreVersion::Second => Ok(()),
+    }
+}
+
+/// Reads what the tables hold, and makes the store one of the second version.
+fn read_raised<S: Alter>(alloc: Global, tx: &mut Transaction<'_, S>) -> Result<Tables, OpenFault>
+    requires { IsInside S.Store tx.old.conn.now }
+    ensures same_reference { tx.new.conn.ghost_name ≡ tx.old.conn.ghost_name }
+    ensures ok { Gives Reads S.Store tx.old.conn.now tx.new.conn.now result }
+    ensures err { CommitsNone S.Store tx.old.conn.now tx.new.conn.now result }
+    ensures crash { LeavesAsBefore S.Store tx.old.conn.now tx.new.conn.now }
+    ensures said { HasCleanDisk (state S.Store tx.new.conn.now) → (state S.Store tx.old.conn.now).now.schema ≡ store_schema → IsLive (state S.Store tx.old.conn.now)
+        → IfErr result (IsSaid (state S.Store tx.old.conn.now).now.trees) }
+    ensures numbered { IfOk result (λ h. IsNumbered h) }
+{
+    let rows = match read_rows(tx) {
+        Ok(rows) => rows,
+        Err(fault) => return Err(fault),
+    };
+    let judgement = match judge(alloc, &rows) {
+        Ok(judgement) => judgement,
+        Err(fault) => return Err(fault),
+    };
+    let Judgement { version, tables } = judgement;
+    raise(tx, version)?;
+    Ok(tables)
+}
+
+/// What the tables of a store hold. The database stays as it is, but for one of the first version.
 pub(crate) fn read_store<S: Alter>(
     alloc: Global,
     conn: &mut Connection<S>,
 ) -> Result<Tables, OpenFault>
     ensures ok { HasCleanDisk (state S.Store conn.new) → IfOk result (Opened (state S.Store conn.old) (state S.Store conn.new)) }
     ensures err { Fails Kept S.Store conn.old conn.new result }
+    ensures refused { HasCleanDisk (state S.Store conn.new) → IfErr result (IsRefused (state S.Store conn.old).now) }
     ensures crash { LeavesOr MayRead S.Store conn.old conn.new }
+    ensures numbered { IfOk result (λ h. IsNumbered h) }
 {
     if !conn.is_autocommit() {
         return Err(OpenFault::Database);
@@ -28,7 +92,7 @@ pub(crate) fn read_store<S: Alter>(
         return Err(OpenFault::Damaged(StoreTable::Meta));
     }
     let mut tx = conn.transaction();
-    let tables = read_all(alloc, &mut tx)?;
+    let tables = read_raised(alloc, &mut tx)?;
     tx.commit()?;
     Ok(tables)
 }

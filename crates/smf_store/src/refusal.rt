@@ -1,3 +1,7 @@
+ghost use Rattle.std.specs.Prelude.{◌≡◌};
+ghost use Rattle.smf_store.specs.declared.refusal.OpenFault.TheVariants.{Memory};
+ghost use Rattle.smf_store.specs.Stages.{IsFailure};
+
 use crate::fault::WriteFault;
 use sqlite::{Error, ErrorCode};
 use std::alloc::AllocError;
@@ -19,19 +23,25 @@ pub enum OpenFault {
     Memory,
     /// A statement failed.
     Database,
-    /// It is a store of another version.
+    /// It is a store of another version than the first and the second.
     Version(i64),
     /// The first table that breaks the rules of a store.
     Damaged(StoreTable),
+    /// A store of the first version has given more numbers to instances than there are.
+    TooManyInstances,
 }
 
 impl From<AllocError> for OpenFault {
+    ghost from_gives = { λ _ e. e ≡ Memory };
+
     fn from(_e: AllocError) -> OpenFault {
         OpenFault::Memory
     }
 }
 
 impl From<WriteFault> for OpenFault {
+    ghost from_gives = { λ _ e. IsFailure e };
+
     fn from(fault: WriteFault) -> OpenFault {
         match fault {
             WriteFault::Memory => OpenFault::Memory,
@@ -41,6 +51,8 @@ impl From<WriteFault> for OpenFault {
 }
 
 impl From<Error> for OpenFault {
+    ghost from_gives = { λ _ e. IsFailure e };
+
     fn from(e: Error) -> OpenFault {
         match e {
             Error::SqliteFailure(ErrorCode::OutOfMemory) => OpenFault::Memory,

@@ -1,11 +1,13 @@
 ghost use Rattle.std.specs.Prelude.{◌≡◌, ◌↔◌, IfErr, IfOk, IsTrue};
 ghost use Rattle.sqlite.specs.Held.{state};
 ghost use Rattle.sqlite.specs.State.{HasCleanDisk};
+ghost use Rattle.smf_model.specs.Laws.{IsNumbered};
 ghost use Rattle.smf_model.specs.Look.{empty};
 ghost use Rattle.smf_tables.specs.Schema.{no_schema};
 ghost use Rattle.smf_store.specs.Creating.{MayMake};
 ghost use Rattle.smf_store.specs.Ends.{LeavesOr};
 ghost use Rattle.smf_store.specs.Opens.{IsFoundIn, MayOpen};
+ghost use Rattle.smf_store.specs.Stages.{IsRefused};
 ghost use Rattle.smf_store.specs.Steps.{Kept};
 ghost use Rattle.smf_store.specs.Holds.{Could, IsSound, Keeps};
 ghost use Rattle.smf_store.specs.Unique.{stays_settled};
@@ -56,7 +58,8 @@ impl<S: Alter> Store<S> {
     }
 
     /// The journal over a database, and the value that its tables hold, which is the only one that stands in them. An
-    /// empty database is made new. A database that is not opened is handed back.
+    /// empty database is made new, and a store of the first version one of the second. A database that is not opened is
+    /// handed back.
     pub fn open(
         alloc: Global,
         mut conn: Connection<S>,
@@ -64,7 +67,11 @@ impl<S: Alter> Store<S> {
         ensures stands { IfOk result (λ p. IsSound (state S.Store p.0.conn) → Keeps (state S.Store p.0.conn) p.1) }
         ensures sound { IfOk result (λ p. HasCleanDisk (state S.Store p.0.conn) → IsSound (state S.Store p.0.conn)) }
         ensures found { IfOk result (λ p. HasCleanDisk (state S.Store p.0.conn) → IsFoundIn (state S.Store conn) (state S.Store p.0.conn) p.1) }
+        // Also where the disk is not clean.
+        ensures numbered { IfOk result (λ p. IsNumbered p.1) }
         ensures crash { IfOk result (λ p. LeavesOr MayOpen S.Store conn p.0.conn) }
+        // A fault that names a version or a table says what the rows of the tables say.
+        ensures refused { IfErr result (λ e. HasCleanDisk (state S.Store e.1) → IsRefused (state S.Store conn).now e.0) }
         ensures crash_err { IfErr result (λ e. LeavesOr MayOpen S.Store conn e.1) }
         ensures kept { IfErr result (λ e. HasCleanDisk (state S.Store e.1) → Kept (state S.Store conn) (state S.Store e.1)) }
     {

@@ -120,7 +120,7 @@ module _ (limit : Option ℕ) (keys : Keys) (schema : Schema) (table : Table) (p
       let step = went found.2 in
       let edit = edit_of db table (ids_of found.0) Given 0 [] in
       let applies = one_step schema keys db step.0 edit (acts (taken_by db edit) edit.news) step.1 in
-      let shown = are_shown (overlay db []) table.tree filter (col 1 0 ∷ []) params found.0 (found.1.answer Null) in
+      let shown = are_shown (overlay db []) [] table.tree filter (col 1 0 ∷ []) params found.0 (found.1.answer Null) in
       let trees : w.trees ≡ step.0 = ap (λ (x : Written). x.trees) (same_value step.2) in (
         subst (Loses (is_picked filter params) (db table.tree)) (sym (ap (λ (t : Trees). t table.tree) trees ∙ applies.rows)) (loses db table.tree filter params found.0 looks keyed shown),
         subst (Spares db) (sym trees) applies.tables,

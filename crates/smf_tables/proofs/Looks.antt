@@ -1,5 +1,6 @@
 -- What the queries inside a transaction show.
 use Rattle.std.proofs.Common.{◌≡◌, ◌<◌, ◌⊎◌, inl, inr, ℕ, ℤ, List, [], ◌∷◌, length, get_or, codes, string_bytes, Option, Some, None, Err, IsTrue, Bool, if◌then◌else◌, true, false, refl, sym, subst, ap, ◌∙◌, arith}
+use Rattle.sqlite_value.specs.declared.keys.Key.{Key}
 use Rattle.sqlite.specs.declared.types.Value.TheVariants.{Null, Int, Text}
 use Rattle.sqlite.specs.Order.{Row, column}
 use Rattle.sqlite.specs.Command.TheVariants.{Select}
@@ -17,7 +18,7 @@ use Rattle.smf_tables.specs.Schema.{store_schema}
 use Rattle.smf_tables.specs.declared.looking.NameColumns.{NameColumns}
 use Rattle.smf_tables.specs.Rows.{equal, is_picked}
 use Rattle.smf_tables.specs.Statements.{HasRow, ReadsName, FindsService}
-use Rattle.smf_tables.proofs.Answers.{rows_query, AreShown, are_shown}
+use Rattle.smf_tables.proofs.Answers.{ordered_query, AreShown, are_shown}
 use Rattle.smf_tables.proofs.Changes.{no_tables}
 use Rattle.smf_tables.proofs.Texts
 
@@ -65,13 +66,13 @@ unchanged text params old new rows plain h =
     let it = rw (bare.0) at h.2 in
     it.3
 
-module _ (text : List ℕ) (params : Row) (old new : State) (tree : ℕ) (tests shown : List Term) (names : List (List ℕ))
-    (is : command_of (understood store_schema text) ≡ Select (record { lets = []; body = rows_query tree tests shown }) names)
+module _ (text : List ℕ) (params : Row) (old new : State) (order : List (Term × Key)) (tree : ℕ) (tests shown : List Term) (names : List (List ℕ))
+    (is : command_of (understood store_schema text) ≡ Select (record { lets = []; body = ordered_query order tree tests shown }) names)
     (plain : IsPlain (understood store_schema text)) (unlisted : reads_listing store_schema text ≡ false) (has : old.now.schema ≡ store_schema) where
   -- the rows that pass are shown, and no other
   pub shows_rows : (rows : List Row) → Shown text params old new rows → AreShown old.now.trees tree tests shown params rows
   shows_rows rows seen =
-      let it = are_shown (overlay old.now.trees []) tree tests shown params rows ((reads_as text params old new store_schema has (Select (record { lets = []; body = rows_query tree tests shown }) names) is plain unlisted rows seen).answer Null) in
+      let it = are_shown (overlay old.now.trees []) order tree tests shown params rows ((reads_as text params old new store_schema has (Select (record { lets = []; body = ordered_query order tree tests shown }) names) is plain unlisted rows seen).answer Null) in
       let same = no_tables old.now.trees tree in
       record {
         sound = λ x h. let s = it.sound x h in (s.0, subst (λ l. Has l s.0) same s.1, s.2, s.3);
@@ -92,7 +93,7 @@ module _ (old new : State) (rows : List Row) (on : IsTrue old.in_transaction) wh
   pub no_name : (id : ℤ) → Shown Texts.name_of (Int id ∷ []) old new rows → ReadsName id old new None
   no_name id seen = record {
     shows = shown_inside Texts.name_of (Int id ∷ []) old new rows on seen;
-    same = λ has. same_database Texts.name_of (Int id ∷ []) old new 4 (equal 0 0 ∷ []) (col 1 2 ∷ col 1 3 ∷ []) (codes "service" ∷ codes "name" ∷ []) Texts.name_of_is Texts.name_of_plain Texts.name_of_unlisted has rows seen;
+    same = λ has. same_database Texts.name_of (Int id ∷ []) old new [] 4 (equal 0 0 ∷ []) (col 1 2 ∷ col 1 3 ∷ []) (codes "service" ∷ codes "name" ∷ []) Texts.name_of_is Texts.name_of_plain Texts.name_of_unlisted has rows seen;
     seen = λ has. tt;
   }
 
@@ -100,9 +101,9 @@ module _ (old new : State) (rows : List Row) (on : IsTrue old.in_transaction) wh
       → Shown Texts.name_of (Int id ∷ []) old new rows → ReadsName id old new (Some it)
   reads_name id it x there service name seen = record {
     shows = shown_inside Texts.name_of (Int id ∷ []) old new rows on seen;
-    same = λ has. same_database Texts.name_of (Int id ∷ []) old new 4 (equal 0 0 ∷ []) (col 1 2 ∷ col 1 3 ∷ []) (codes "service" ∷ codes "name" ∷ []) Texts.name_of_is Texts.name_of_plain Texts.name_of_unlisted has rows seen;
+    same = λ has. same_database Texts.name_of (Int id ∷ []) old new [] 4 (equal 0 0 ∷ []) (col 1 2 ∷ col 1 3 ∷ []) (codes "service" ∷ codes "name" ∷ []) Texts.name_of_is Texts.name_of_plain Texts.name_of_unlisted has rows seen;
     seen = λ has.
-        let all = shows_rows Texts.name_of (Int id ∷ []) old new 4 (equal 0 0 ∷ []) (col 1 2 ∷ col 1 3 ∷ []) (codes "service" ∷ codes "name" ∷ []) Texts.name_of_is Texts.name_of_plain Texts.name_of_unlisted has rows seen in
+        let all = shows_rows Texts.name_of (Int id ∷ []) old new [] 4 (equal 0 0 ∷ []) (col 1 2 ∷ col 1 3 ∷ []) (codes "service" ∷ codes "name" ∷ []) Texts.name_of_is Texts.name_of_plain Texts.name_of_unlisted has rows seen in
         let s = all.sound x there in
         record { row = s.0; there = s.1; picked = s.2; shows = (sym (ap (λ r. column r 0) s.3) ∙ service, sym (ap (λ r. column r 1) s.3) ∙ name) };
   }
@@ -110,10 +111,10 @@ module _ (old new : State) (rows : List Row) (on : IsTrue old.in_transaction) wh
   pub finds_service : (name : List ℕ) (found : Bool) → (IsTrue found → 0 < length rows) → Shown Texts.has_service (Text name ∷ []) old new rows → FindsService name old new found
   finds_service name found some seen = record {
     shows = shown_inside Texts.has_service (Text name ∷ []) old new rows on seen;
-    same = λ has. same_database Texts.has_service (Text name ∷ []) old new 2 (equal 1 0 ∷ []) (col 1 1 ∷ []) (codes "name" ∷ []) Texts.has_service_is Texts.has_service_plain Texts.has_service_unlisted has rows seen;
+    same = λ has. same_database Texts.has_service (Text name ∷ []) old new [] 2 (equal 1 0 ∷ []) (col 1 1 ∷ []) (codes "name" ∷ []) Texts.has_service_is Texts.has_service_plain Texts.has_service_unlisted has rows seen;
     seen = λ has is.
         let x = some_in rows (some is) in
-        let all = shows_rows Texts.has_service (Text name ∷ []) old new 2 (equal 1 0 ∷ []) (col 1 1 ∷ []) (codes "name" ∷ []) Texts.has_service_is Texts.has_service_plain Texts.has_service_unlisted has rows seen in
+        let all = shows_rows Texts.has_service (Text name ∷ []) old new [] 2 (equal 1 0 ∷ []) (col 1 1 ∷ []) (codes "name" ∷ []) Texts.has_service_is Texts.has_service_plain Texts.has_service_unlisted has rows seen in
         let s = all.sound x.0 x.1 in
         record { row = s.0; there = s.1; picked = s.2; shows = tt };
   }

@@ -6,12 +6,12 @@ use Rattle.sqlite_tied.specs.Compute.{everything}
 use Rattle.sqlite.specs.Listing.{understood, reads_listing}
 use Rattle.sqlite.proofs.Callers.{IsPlain, command_of}
 use Rattle.smf_tables.specs.Schema.{store_schema}
-use Rattle.smf_tables.proofs.Answers.{rows_query}
+use Rattle.smf_tables.proofs.Answers.{ordered_query, by_rowid}
 
 abbrev pub all_meta : List ℕ
-all_meta = codes "SELECT rowid, k, v FROM meta"
+all_meta = codes "SELECT rowid, k, v FROM meta ORDER BY rowid"
 
-pub all_meta_is : command_of (understood store_schema all_meta) ≡ Select (record { lets = []; body = rows_query 0 [] (col 1 0 ∷ col 1 1 ∷ col 1 2 ∷ []) }) (codes "rowid" ∷ codes "k" ∷ codes "v" ∷ [])
+pub all_meta_is : command_of (understood store_schema all_meta) ≡ Select (record { lets = []; body = ordered_query by_rowid 0 [] (col 1 0 ∷ col 1 1 ∷ col 1 2 ∷ []) }) (codes "rowid" ∷ codes "k" ∷ codes "v" ∷ [])
 unfolding understood everything
 all_meta_is = refl
 
@@ -24,9 +24,9 @@ unfolding understood everything
 all_meta_unlisted = refl
 
 abbrev pub all_services : List ℕ
-all_services = codes "SELECT rowid, name FROM service"
+all_services = codes "SELECT rowid, name FROM service ORDER BY rowid"
 
-pub all_services_is : command_of (understood store_schema all_services) ≡ Select (record { lets = []; body = rows_query 2 [] (col 1 0 ∷ col 1 1 ∷ []) }) (codes "rowid" ∷ codes "name" ∷ [])
+pub all_services_is : command_of (understood store_schema all_services) ≡ Select (record { lets = []; body = ordered_query by_rowid 2 [] (col 1 0 ∷ col 1 1 ∷ []) }) (codes "rowid" ∷ codes "name" ∷ [])
 unfolding understood everything
 all_services_is = refl
 
@@ -39,9 +39,9 @@ unfolding understood everything
 all_services_unlisted = refl
 
 abbrev pub all_instances : List ℕ
-all_instances = codes "SELECT id, id, service, name, rowtext, start_snap, previous_snap FROM instance"
+all_instances = codes "SELECT id, id, service, name, rowtext, start_snap, previous_snap FROM instance ORDER BY id"
 
-pub all_instances_is : command_of (understood store_schema all_instances) ≡ Select (record { lets = []; body = rows_query 4 [] (col 1 0 ∷ col 1 0 ∷ col 1 2 ∷ col 1 3 ∷ col 1 4 ∷ col 1 5 ∷ col 1 6 ∷ []) }) (codes "id" ∷ codes "id" ∷ codes "service" ∷ codes "name" ∷ codes "rowtext" ∷ codes "start_snap" ∷ codes "previous_snap" ∷ [])
+pub all_instances_is : command_of (understood store_schema all_instances) ≡ Select (record { lets = []; body = ordered_query by_rowid 4 [] (col 1 0 ∷ col 1 0 ∷ col 1 2 ∷ col 1 3 ∷ col 1 4 ∷ col 1 5 ∷ col 1 6 ∷ []) }) (codes "id" ∷ codes "id" ∷ codes "service" ∷ codes "name" ∷ codes "rowtext" ∷ codes "start_snap" ∷ codes "previous_snap" ∷ [])
 unfolding understood everything
 all_instances_is = refl
 
@@ -54,9 +54,9 @@ unfolding understood everything
 all_instances_unlisted = refl
 
 abbrev pub all_groups : List ℕ
-all_groups = codes "SELECT rowid, service, instance, name, body FROM grp"
+all_groups = codes "SELECT rowid, service, instance, name, body FROM grp ORDER BY rowid"
 
-pub all_groups_is : command_of (understood store_schema all_groups) ≡ Select (record { lets = []; body = rows_query 6 [] (col 1 0 ∷ col 1 1 ∷ col 1 2 ∷ col 1 3 ∷ col 1 4 ∷ []) }) (codes "rowid" ∷ codes "service" ∷ codes "instance" ∷ codes "name" ∷ codes "body" ∷ [])
+pub all_groups_is : command_of (understood store_schema all_groups) ≡ Select (record { lets = []; body = ordered_query by_rowid 6 [] (col 1 0 ∷ col 1 1 ∷ col 1 2 ∷ col 1 3 ∷ col 1 4 ∷ []) }) (codes "rowid" ∷ codes "service" ∷ codes "instance" ∷ codes "name" ∷ codes "body" ∷ [])
 unfolding understood everything
 all_groups_is = refl
 
@@ -69,9 +69,9 @@ unfolding understood everything
 all_groups_unlisted = refl
 
 abbrev pub all_snapshots : List ℕ
-all_snapshots = codes "SELECT id, id, instance, body FROM snap"
+all_snapshots = codes "SELECT id, id, instance, body FROM snap ORDER BY id"
 
-pub all_snapshots_is : command_of (understood store_schema all_snapshots) ≡ Select (record { lets = []; body = rows_query 8 [] (col 1 0 ∷ col 1 0 ∷ col 1 2 ∷ col 1 3 ∷ []) }) (codes "id" ∷ codes "id" ∷ codes "instance" ∷ codes "body" ∷ [])
+pub all_snapshots_is : command_of (understood store_schema all_snapshots) ≡ Select (record { lets = []; body = ordered_query by_rowid 8 [] (col 1 0 ∷ col 1 0 ∷ col 1 2 ∷ col 1 3 ∷ []) }) (codes "id" ∷ codes "id" ∷ codes "instance" ∷ codes "body" ∷ [])
 unfolding understood everything
 all_snapshots_is = refl
 
@@ -84,9 +84,9 @@ unfolding understood everything
 all_snapshots_unlisted = refl
 
 abbrev pub all_launches : List ℕ
-all_launches = codes "SELECT rowid, name, launch FROM restarter"
+all_launches = codes "SELECT rowid, name, launch FROM restarter ORDER BY rowid"
 
-pub all_launches_is : command_of (understood store_schema all_launches) ≡ Select (record { lets = []; body = rows_query 9 [] (col 1 0 ∷ col 1 1 ∷ col 1 2 ∷ []) }) (codes "rowid" ∷ codes "name" ∷ codes "launch" ∷ [])
+pub all_launches_is : command_of (understood store_schema all_launches) ≡ Select (record { lets = []; body = ordered_query by_rowid 9 [] (col 1 0 ∷ col 1 1 ∷ col 1 2 ∷ []) }) (codes "rowid" ∷ codes "name" ∷ codes "launch" ∷ [])
 unfolding understood everything
 all_launches_is = refl
 

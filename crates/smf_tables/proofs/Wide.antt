@@ -79,9 +79,9 @@ meta_same a b ta tb same (suc (suc (suc k))) less = past_all tables.meta a (suc 
 pub looks_at_meta : (old new : State) (rows : List Row) → IsTrue old.in_transaction → Shown Wholes.all_meta [] old new rows → Looks 0 (0 ∷ 1 ∷ 2 ∷ []) old new rows
 looks_at_meta old new rows on seen = record {
   shows = shown_inside Wholes.all_meta [] old new rows on seen;
-  same = λ has. same_database Wholes.all_meta [] old new 0 [] (col 1 0 ∷ col 1 1 ∷ col 1 2 ∷ []) (codes "rowid" ∷ codes "k" ∷ codes "v" ∷ []) Wholes.all_meta_is Wholes.all_meta_plain Wholes.all_meta_unlisted has rows seen;
+  same = λ has. same_database Wholes.all_meta [] old new answers.by_rowid 0 [] (col 1 0 ∷ col 1 1 ∷ col 1 2 ∷ []) (codes "rowid" ∷ codes "k" ∷ codes "v" ∷ []) Wholes.all_meta_is Wholes.all_meta_plain Wholes.all_meta_unlisted has rows seen;
   seen = λ has db.
-      let all = shows_rows Wholes.all_meta [] old new 0 [] (col 1 0 ∷ col 1 1 ∷ col 1 2 ∷ []) (codes "rowid" ∷ codes "k" ∷ codes "v" ∷ []) Wholes.all_meta_is Wholes.all_meta_plain Wholes.all_meta_unlisted has rows seen in
+      let all = shows_rows Wholes.all_meta [] old new answers.by_rowid 0 [] (col 1 0 ∷ col 1 1 ∷ col 1 2 ∷ []) (codes "rowid" ∷ codes "k" ∷ codes "v" ∷ []) Wholes.all_meta_is Wholes.all_meta_plain Wholes.all_meta_unlisted has rows seen in
       let typed = subst (λ s. AllByRecursion (λ t. AllByRecursion (λ row. passes Datatype old.now.schema old.now.trees t row ≡ true) (old.now.trees t.tree)) s.tables) has (db.obeys.rules Datatype) in
       record {
         sound = λ x there. let s = all.sound x there in (s.0, s.1, s.3);
@@ -105,9 +105,9 @@ services_same a b ta tb same (suc (suc k)) less = past_all tables.service a (suc
 pub looks_at_services : (old new : State) (rows : List Row) → IsTrue old.in_transaction → Shown Wholes.all_services [] old new rows → Looks 2 (0 ∷ 1 ∷ []) old new rows
 looks_at_services old new rows on seen = record {
   shows = shown_inside Wholes.all_services [] old new rows on seen;
-  same = λ has. same_database Wholes.all_services [] old new 2 [] (col 1 0 ∷ col 1 1 ∷ []) (codes "rowid" ∷ codes "name" ∷ []) Wholes.all_services_is Wholes.all_services_plain Wholes.all_services_unlisted has rows seen;
+  same = λ has. same_database Wholes.all_services [] old new answers.by_rowid 2 [] (col 1 0 ∷ col 1 1 ∷ []) (codes "rowid" ∷ codes "name" ∷ []) Wholes.all_services_is Wholes.all_services_plain Wholes.all_services_unlisted has rows seen;
   seen = λ has db.
-      let all = shows_rows Wholes.all_services [] old new 2 [] (col 1 0 ∷ col 1 1 ∷ []) (codes "rowid" ∷ codes "name" ∷ []) Wholes.all_services_is Wholes.all_services_plain Wholes.all_services_unlisted has rows seen in
+      let all = shows_rows Wholes.all_services [] old new answers.by_rowid 2 [] (col 1 0 ∷ col 1 1 ∷ []) (codes "rowid" ∷ codes "name" ∷ []) Wholes.all_services_is Wholes.all_services_plain Wholes.all_services_unlisted has rows seen in
       let typed = subst (λ s. AllByRecursion (λ t. AllByRecursion (λ row. passes Datatype old.now.schema old.now.trees t row ≡ true) (old.now.trees t.tree)) s.tables) has (db.obeys.rules Datatype) in
       record {
         sound = λ x there. let s = all.sound x there in (s.0, s.1, s.3);
@@ -136,9 +136,9 @@ instances_same a b ta tb same (suc (suc (suc (suc (suc (suc (suc k))))))) less =
 pub looks_at_instances : (old new : State) (rows : List Row) → IsTrue old.in_transaction → Shown Wholes.all_instances [] old new rows → Looks 4 (0 ∷ 0 ∷ 2 ∷ 3 ∷ 4 ∷ 5 ∷ 6 ∷ []) old new rows
 looks_at_instances old new rows on seen = record {
   shows = shown_inside Wholes.all_instances [] old new rows on seen;
-  same = λ has. same_database Wholes.all_instances [] old new 4 [] (col 1 0 ∷ col 1 0 ∷ col 1 2 ∷ col 1 3 ∷ col 1 4 ∷ col 1 5 ∷ col 1 6 ∷ []) (codes "id" ∷ codes "id" ∷ codes "service" ∷ codes "name" ∷ codes "rowtext" ∷ codes "start_snap" ∷ codes "previous_snap" ∷ []) Wholes.all_instances_is Wholes.all_instances_plain Wholes.all_instances_unlisted has rows seen;
+  same = λ has. same_database Wholes.all_instances [] old new answers.by_rowid 4 [] (col 1 0 ∷ col 1 0 ∷ col 1 2 ∷ col 1 3 ∷ col 1 4 ∷ col 1 5 ∷ col 1 6 ∷ []) (codes "id" ∷ codes "id" ∷ codes "service" ∷ codes "name" ∷ codes "rowtext" ∷ codes "start_snap" ∷ codes "previous_snap" ∷ []) Wholes.all_instances_is Wholes.all_instances_plain Wholes.all_instances_unlisted has rows seen;
   seen = λ has db.
-      let all = shows_rows Wholes.all_instances [] old new 4 [] (col 1 0 ∷ col 1 0 ∷ col 1 2 ∷ col 1 3 ∷ col 1 4 ∷ col 1 5 ∷ col 1 6 ∷ []) (codes "id" ∷ codes "id" ∷ codes "service" ∷ codes "name" ∷ codes "rowtext" ∷ codes "start_snap" ∷ codes "previous_snap" ∷ []) Wholes.all_instances_is Wholes.all_instances_plain Wholes.all_instances_unlisted has rows seen in
+      let all = shows_rows Wholes.all_instances [] old new answers.by_rowid 4 [] (col 1 0 ∷ col 1 0 ∷ col 1 2 ∷ col 1 3 ∷ col 1 4 ∷ col 1 5 ∷ col 1 6 ∷ []) (codes "id" ∷ codes "id" ∷ codes "service" ∷ codes "name" ∷ codes "rowtext" ∷ codes "start_snap" ∷ codes "previous_snap" ∷ []) Wholes.all_instances_is Wholes.all_instances_plain Wholes.all_instances_unlisted has rows seen in
       let typed = subst (λ s. AllByRecursion (λ t. AllByRecursion (λ row. passes Datatype old.now.schema old.now.trees t row ≡ true) (old.now.trees t.tree)) s.tables) has (db.obeys.rules Datatype) in
       record {
         sound = λ x there. let s = all.sound x there in (s.0, s.1, s.3);
@@ -165,9 +165,9 @@ groups_same a b ta tb same (suc (suc (suc (suc (suc k))))) less = past_all table
 pub looks_at_groups : (old new : State) (rows : List Row) → IsTrue old.in_transaction → Shown Wholes.all_groups [] old new rows → Looks 6 (0 ∷ 1 ∷ 2 ∷ 3 ∷ 4 ∷ []) old new rows
 looks_at_groups old new rows on seen = record {
   shows = shown_inside Wholes.all_groups [] old new rows on seen;
-  same = λ has. same_database Wholes.all_groups [] old new 6 [] (col 1 0 ∷ col 1 1 ∷ col 1 2 ∷ col 1 3 ∷ col 1 4 ∷ []) (codes "rowid" ∷ codes "service" ∷ codes "instance" ∷ codes "name" ∷ codes "body" ∷ []) Wholes.all_groups_is Wholes.all_groups_plain Wholes.all_groups_unlisted has rows seen;
+  same = λ has. same_database Wholes.all_groups [] old new answers.by_rowid 6 [] (col 1 0 ∷ col 1 1 ∷ col 1 2 ∷ col 1 3 ∷ col 1 4 ∷ []) (codes "rowid" ∷ codes "service" ∷ codes "instance" ∷ codes "name" ∷ codes "body" ∷ []) Wholes.all_groups_is Wholes.all_groups_plain Wholes.all_groups_unlisted has rows seen;
   seen = λ has db.
-      let all = shows_rows Wholes.all_groups [] old new 6 [] (col 1 0 ∷ col 1 1 ∷ col 1 2 ∷ col 1 3 ∷ col 1 4 ∷ []) (codes "rowid" ∷ codes "service" ∷ codes "instance" ∷ codes "name" ∷ codes "body" ∷ []) Wholes.all_groups_is Wholes.all_groups_plain Wholes.all_groups_unlisted has rows seen in
+      let all = shows_rows Wholes.all_groups [] old new answers.by_rowid 6 [] (col 1 0 ∷ col 1 1 ∷ col 1 2 ∷ col 1 3 ∷ col 1 4 ∷ []) (codes "rowid" ∷ codes "service" ∷ codes "instance" ∷ codes "name" ∷ codes "body" ∷ []) Wholes.all_groups_is Wholes.all_groups_plain Wholes.all_groups_unlisted has rows seen in
       let typed = subst (λ s. AllByRecursion (λ t. AllByRecursion (λ row. passes Datatype old.now.schema old.now.trees t row ≡ true) (old.now.trees t.tree)) s.tables) has (db.obeys.rules Datatype) in
       record {
         sound = λ x there. let s = all.sound x there in (s.0, s.1, s.3);
@@ -193,9 +193,9 @@ snapshots_same a b ta tb same (suc (suc (suc (suc k)))) less = past_all tables.s
 pub looks_at_snapshots : (old new : State) (rows : List Row) → IsTrue old.in_transaction → Shown Wholes.all_snapshots [] old new rows → Looks 8 (0 ∷ 0 ∷ 2 ∷ 3 ∷ []) old new rows
 looks_at_snapshots old new rows on seen = record {
   shows = shown_inside Wholes.all_snapshots [] old new rows on seen;
-  same = λ has. same_database Wholes.all_snapshots [] old new 8 [] (col 1 0 ∷ col 1 0 ∷ col 1 2 ∷ col 1 3 ∷ []) (codes "id" ∷ codes "id" ∷ codes "instance" ∷ codes "body" ∷ []) Wholes.all_snapshots_is Wholes.all_snapshots_plain Wholes.all_snapshots_unlisted has rows seen;
+  same = λ has. same_database Wholes.all_snapshots [] old new answers.by_rowid 8 [] (col 1 0 ∷ col 1 0 ∷ col 1 2 ∷ col 1 3 ∷ []) (codes "id" ∷ codes "id" ∷ codes "instance" ∷ codes "body" ∷ []) Wholes.all_snapshots_is Wholes.all_snapshots_plain Wholes.all_snapshots_unlisted has rows seen;
   seen = λ has db.
-      let all = shows_rows Wholes.all_snapshots [] old new 8 [] (col 1 0 ∷ col 1 0 ∷ col 1 2 ∷ col 1 3 ∷ []) (codes "id" ∷ codes "id" ∷ codes "instance" ∷ codes "body" ∷ []) Wholes.all_snapshots_is Wholes.all_snapshots_plain Wholes.all_snapshots_unlisted has rows seen in
+      let all = shows_rows Wholes.all_snapshots [] old new answers.by_rowid 8 [] (col 1 0 ∷ col 1 0 ∷ col 1 2 ∷ col 1 3 ∷ []) (codes "id" ∷ codes "id" ∷ codes "instance" ∷ codes "body" ∷ []) Wholes.all_snapshots_is Wholes.all_snapshots_plain Wholes.all_snapshots_unlisted has rows seen in
       let typed = subst (λ s. AllByRecursion (λ t. AllByRecursion (λ row. passes Datatype old.now.schema old.now.trees t row ≡ true) (old.now.trees t.tree)) s.tables) has (db.obeys.rules Datatype) in
       record {
         sound = λ x there. let s = all.sound x there in (s.0, s.1, s.3);
@@ -220,9 +220,9 @@ launches_same a b ta tb same (suc (suc (suc k))) less = past_all tables.restarte
 pub looks_at_launches : (old new : State) (rows : List Row) → IsTrue old.in_transaction → Shown Wholes.all_launches [] old new rows → Looks 9 (0 ∷ 1 ∷ 2 ∷ []) old new rows
 looks_at_launches old new rows on seen = record {
   shows = shown_inside Wholes.all_launches [] old new rows on seen;
-  same = λ has. same_database Wholes.all_launches [] old new 9 [] (col 1 0 ∷ col 1 1 ∷ col 1 2 ∷ []) (codes "rowid" ∷ codes "name" ∷ codes "launch" ∷ []) Wholes.all_launches_is Wholes.all_launches_plain Wholes.all_launches_unlisted has rows seen;
+  same = λ has. same_database Wholes.all_launches [] old new answers.by_rowid 9 [] (col 1 0 ∷ col 1 1 ∷ col 1 2 ∷ []) (codes "rowid" ∷ codes "name" ∷ codes "launch" ∷ []) Wholes.all_launches_is Wholes.all_launches_plain Wholes.all_launches_unlisted has rows seen;
   seen = λ has db.
-      let all = shows_rows Wholes.all_launches [] old new 9 [] (col 1 0 ∷ col 1 1 ∷ col 1 2 ∷ []) (codes "rowid" ∷ codes "name" ∷ codes "launch" ∷ []) Wholes.all_launches_is Wholes.all_launches_plain Wholes.all_launches_unlisted has rows seen in
+      let all = shows_rows Wholes.all_launches [] old new answers.by_rowid 9 [] (col 1 0 ∷ col 1 1 ∷ col 1 2 ∷ []) (codes "rowid" ∷ codes "name" ∷ codes "launch" ∷ []) Wholes.all_launches_is Wholes.all_launches_plain Wholes.all_launches_unlisted has rows seen in
       let typed = subst (λ s. AllByRecursion (λ t. AllByRecursion (λ row. passes Datatype old.now.schema old.now.trees t row ≡ true) (old.now.trees t.tree)) s.tables) has (db.obeys.rules Datatype) in
       record {
         sound = λ x there. let s = all.sound x there in (s.0, s.1, s.3);

@@ -1,4 +1,4 @@
-ghost use Rattle.std.specs.Prelude.{◌≡◌, [], ◌∷◌, IsTrue};
+ghost use Rattle.std.specs.Prelude.{◌≡◌, ◌↔◌, [], ◌∷◌, IsTrue};
 ghost use Rattle.sqlite_value.specs.Keys.{plain};
 ghost use Rattle.smf_tables.specs.Layout.{HasKeys, HasNoMore, HasRowKey, index, to_service};
 ghost use Rattle.smf_tables.specs.Schema.{column, grp, meta, restarter, service, snap, store_schema};
@@ -11,7 +11,7 @@ use sqlite_value::value::{Bytes, Value};
 
 /// Whether a column of a STRICT table has this name and type.
 fn is_column(it: &Column, name: &str, kind: Kind, not_null: bool) -> bool
-    ensures { IsTrue result → it.now ≡ column name.now kind not_null }
+    ensures { IsTrue result ↔ (it.now ≡ column name.now kind not_null) }
 {
     if it.name.as_slice() != name.as_bytes() || it.kind != kind {
         return false;
@@ -27,7 +27,7 @@ fn is_column(it: &Column, name: &str, kind: Kind, not_null: bool) -> bool
 
 /// Whether a table has this name and this tree, and no rules beside its columns and keys.
 fn has_no_more(table: &Table, name: &str, tree: u32) -> bool
-    ensures { IsTrue result → HasNoMore table.now name.now tree }
+    ensures { IsTrue result ↔ (HasNoMore table.now name.now tree) }
 {
     if table.name.as_slice() != name.as_bytes() || table.tree != tree || table.is_counted {
         return false;
@@ -43,7 +43,7 @@ fn has_no_more(table: &Table, name: &str, tree: u32) -> bool
 
 /// Whether there is one unique key, of these columns.
 fn is_only(uniques: &[Items<usize>], unique: &[usize]) -> bool
-    ensures { IsTrue result → uniques.now ≡ unique.now ∷ [] }
+    ensures { IsTrue result ↔ (uniques.now ≡ unique.now ∷ []) }
 {
     let [only] = uniques else {
         return false;
@@ -56,7 +56,7 @@ fn is_only(uniques: &[Items<usize>], unique: &[usize]) -> bool
 
 /// Whether there is one order, and it is the plain one.
 fn is_plain(orders: &[Order]) -> bool
-    ensures { IsTrue result → orders.now ≡ plain ∷ [] }
+    ensures { IsTrue result ↔ (orders.now ≡ plain ∷ []) }
 {
     let [order] = orders else {
         return false;
@@ -69,7 +69,7 @@ fn is_plain(orders: &[Order]) -> bool
 
 /// Whether a table has these keys.
 fn has_keys(table: &Table, key: Option<usize>, primary: &[usize], unique: &[usize]) -> bool
-    ensures { IsTrue result → HasKeys table.now key primary.now unique.now }
+    ensures { IsTrue result ↔ (HasKeys table.now key primary.now unique.now) }
 {
     if table.key != key || table.primary.as_slice() != primary {
         return false;
@@ -82,7 +82,7 @@ fn has_keys(table: &Table, key: Option<usize>, primary: &[usize], unique: &[usiz
 
 /// Whether a table has a row key alone.
 fn has_row_key(table: &Table) -> bool
-    ensures { IsTrue result → HasRowKey table.now }
+    ensures { IsTrue result ↔ (HasRowKey table.now) }
 {
     if table.key != Some(0) || table.primary.as_slice() != [0].as_slice() {
         return false;
@@ -92,7 +92,7 @@ fn has_row_key(table: &Table) -> bool
 
 /// Whether the names of a reference's columns are this one alone.
 fn is_name(names: &[Bytes], name: &str) -> bool
-    ensures { IsTrue result → names.now ≡ name.now ∷ [] }
+    ensures { IsTrue result ↔ (names.now ≡ name.now ∷ []) }
 {
     let [only] = names else {
         return false;
@@ -105,7 +105,7 @@ fn is_name(names: &[Bytes], name: &str) -> bool
 
 /// Whether this is the reference of an instance to its service.
 fn is_reference(it: &Reference) -> bool
-    ensures { IsTrue result → it.now ≡ to_service }
+    ensures { IsTrue result ↔ (it.now ≡ to_service) }
 {
     if it.columns.as_slice() != [2].as_slice() || it.parent.as_slice() != "service".as_bytes() {
         return false;
@@ -118,7 +118,7 @@ fn is_reference(it: &Reference) -> bool
 
 /// Whether there is no other reference.
 fn has_reference(table: &Table) -> bool
-    ensures { IsTrue result → table.now.references ≡ to_service ∷ [] }
+    ensures { IsTrue result ↔ (table.now.references ≡ to_service ∷ []) }
 {
     let [only] = table.references.as_slice() else {
         return false;
@@ -131,7 +131,7 @@ fn has_reference(table: &Table) -> bool
 
 /// Whether these are the columns of the table of counters.
 fn are_meta_columns(columns: &[Column]) -> bool
-    ensures { IsTrue result → columns.now ≡ meta.columns }
+    ensures { IsTrue result ↔ (columns.now ≡ meta.columns) }
 {
     let [a, b] = columns else {
         return false;
@@ -147,7 +147,7 @@ fn are_meta_columns(columns: &[Column]) -> bool
 
 /// Whether this is the table of counters.
 fn is_meta(table: &Table) -> bool
-    ensures { IsTrue result → table.now ≡ meta }
+    ensures { IsTrue result ↔ (table.now ≡ meta) }
 {
     if !has_no_more(table, "meta", 0) || !has_keys(table, None, &[1], &[1]) {
         return false;
@@ -160,7 +160,7 @@ fn is_meta(table: &Table) -> bool
 
 /// Whether these are the columns of the table of services.
 fn are_service_columns(columns: &[Column]) -> bool
-    ensures { IsTrue result → columns.now ≡ service.columns }
+    ensures { IsTrue result ↔ (columns.now ≡ service.columns) }
 {
     let [a] = columns else {
         return false;
@@ -173,7 +173,7 @@ fn are_service_columns(columns: &[Column]) -> bool
 
 /// Whether this is the table of services.
 fn is_service(table: &Table) -> bool
-    ensures { IsTrue result → table.now ≡ service }
+    ensures { IsTrue result ↔ (table.now ≡ service) }
 {
     if !has_no_more(table, "service", 2) || !has_keys(table, None, &[1], &[1]) {
         return false;
@@ -186,7 +186,7 @@ fn is_service(table: &Table) -> bool
 
 /// Whether these are the columns of the table of instances.
 fn are_instance_columns(columns: &[Column]) -> bool
-    ensures { IsTrue result → columns.now ≡ instance_table.columns }
+    ensures { IsTrue result ↔ (columns.now ≡ instance_table.columns) }
 {
     let [a, b, c, d, e, f] = columns else {
         return false;
@@ -214,7 +214,7 @@ fn are_instance_columns(columns: &[Column]) -> bool
 
 /// Whether this is the table of instances.
 fn is_instance(table: &Table) -> bool
-    ensures { IsTrue result → table.now ≡ instance_table }
+    ensures { IsTrue result ↔ (table.now ≡ instance_table) }
 {
     if !has_no_more(table, "instance", 4) || !has_keys(table, Some(0), &[0], &[2, 3]) {
         return false;
@@ -227,7 +227,7 @@ fn is_instance(table: &Table) -> bool
 
 /// Whether these are the columns of the table of groups.
 fn are_grp_columns(columns: &[Column]) -> bool
-    ensures { IsTrue result → columns.now ≡ grp.columns }
+    ensures { IsTrue result ↔ (columns.now ≡ grp.columns) }
 {
     let [a, b, c, d] = columns else {
         return false;
@@ -249,7 +249,7 @@ fn are_grp_columns(columns: &[Column]) -> bool
 
 /// Whether this is the table of groups.
 fn is_grp(table: &Table) -> bool
-    ensures { IsTrue result → table.now ≡ grp }
+    ensures { IsTrue result ↔ (table.now ≡ grp) }
 {
     if !has_no_more(table, "grp", 6) || !has_keys(table, None, &[1, 2, 3], &[1, 2, 3]) {
         return false;
@@ -262,7 +262,7 @@ fn is_grp(table: &Table) -> bool
 
 /// Whether these are the columns of the table of snapshots.
 fn are_snap_columns(columns: &[Column]) -> bool
-    ensures { IsTrue result → columns.now ≡ snap.columns }
+    ensures { IsTrue result ↔ (columns.now ≡ snap.columns) }
 {
     let [a, b, c] = columns else {
         return false;
@@ -281,7 +281,7 @@ fn are_snap_columns(columns: &[Column]) -> bool
 
 /// Whether this is the table of snapshots.
 fn is_snap(table: &Table) -> bool
-    ensures { IsTrue result → table.now ≡ snap }
+    ensures { IsTrue result ↔ (table.now ≡ snap) }
 {
     if !has_no_more(table, "snap", 8) || !has_row_key(table) {
         return false;
@@ -294,7 +294,7 @@ fn is_snap(table: &Table) -> bool
 
 /// Whether these are the columns of the table of restarters.
 fn are_restarter_columns(columns: &[Column]) -> bool
-    ensures { IsTrue result → columns.now ≡ restarter.columns }
+    ensures { IsTrue result ↔ (columns.now ≡ restarter.columns) }
 {
     let [a, b] = columns else {
         return false;
@@ -310,7 +310,7 @@ fn are_restarter_columns(columns: &[Column]) -> bool
 
 /// Whether this is the table of restarters.
 fn is_restarter(table: &Table) -> bool
-    ensures { IsTrue result → table.now ≡ restarter }
+    ensures { IsTrue result ↔ (table.now ≡ restarter) }
 {
     if !has_no_more(table, "restarter", 9) || !has_keys(table, None, &[1], &[1]) {
         return false;
@@ -323,7 +323,7 @@ fn is_restarter(table: &Table) -> bool
 
 /// Whether these are the six tables.
 fn are_tables(tables: &[Table]) -> bool
-    ensures { IsTrue result → tables.now ≡ store_schema.tables }
+    ensures { IsTrue result ↔ (tables.now ≡ store_schema.tables) }
 {
     let [a, b, c, d, e, f] = tables else {
         return false;
@@ -339,7 +339,7 @@ fn are_tables(tables: &[Table]) -> bool
 
 /// Whether this is the index of a unique key.
 fn is_index(it: &Index, name: &str, tree: u32, table: u32, columns: &[usize]) -> bool
-    ensures { IsTrue result → it.now ≡ index name.now tree table columns.now }
+    ensures { IsTrue result ↔ (it.now ≡ index name.now tree table columns.now) }
 {
     if it.name.as_slice() != name.as_bytes() || it.tree != tree || it.table != table {
         return false;
@@ -352,7 +352,7 @@ fn is_index(it: &Index, name: &str, tree: u32, table: u32, columns: &[usize]) ->
 
 /// Whether these are the indexes of their unique keys.
 fn are_indexes(indexes: &[Index]) -> bool
-    ensures { IsTrue result → indexes.now ≡ store_schema.indexes }
+    ensures { IsTrue result ↔ (indexes.now ≡ store_schema.indexes) }
 {
     let [a, b, c, d, e] = indexes else {
         return false;
@@ -377,7 +377,7 @@ fn are_indexes(indexes: &[Index]) -> bool
 
 /// Whether a database has the six tables and nothing else.
 pub fn is_store(schema: &Schema) -> bool
-    ensures { IsTrue result → schema.now ≡ store_schema }
+    ensures { IsTrue result ↔ (schema.now ≡ store_schema) }
 {
     if !are_tables(schema.tables.as_slice()) || !are_indexes(schema.indexes.as_slice()) {
         return false;

@@ -5,7 +5,7 @@ ghost use Rattle.smf_tables.specs.Rows.{IsKeyed};
 
 use sqlite::{Alter, Error, Row, Transaction};
 
-/// All rows of the table of counters.
+/// All rows, in the order of rowids, of the table of counters.
 pub fn all_meta<S: Alter>(tx: &mut Transaction<'_, S>) -> Result<Vec<Row>, Error>
     requires { IsInside S.Store tx.old.conn.now }
     ensures same_reference { tx.new.conn.ghost_name ≡ tx.old.conn.ghost_name }
@@ -13,13 +13,13 @@ pub fn all_meta<S: Alter>(tx: &mut Transaction<'_, S>) -> Result<Vec<Row>, Error
     ensures err { CommitsNone S.Store tx.old.conn.now tx.new.conn.now result }
     ensures crash { LeavesAsBefore S.Store tx.old.conn.now tx.new.conn.now }
 {
-    match tx.query_all("SELECT rowid, k, v FROM meta", &[]) {
+    match tx.query_all("SELECT rowid, k, v FROM meta ORDER BY rowid", &[]) {
         Ok(rows) => Ok(rows),
         Err(fault) => Err(fault),
     }
 }
 
-/// All rows of the table of services.
+/// All rows, in the order of rowids, of the table of services.
 pub fn all_services<S: Alter>(tx: &mut Transaction<'_, S>) -> Result<Vec<Row>, Error>
     requires { IsInside S.Store tx.old.conn.now }
     ensures same_reference { tx.new.conn.ghost_name ≡ tx.old.conn.ghost_name }
@@ -27,13 +27,13 @@ pub fn all_services<S: Alter>(tx: &mut Transaction<'_, S>) -> Result<Vec<Row>, E
     ensures err { CommitsNone S.Store tx.old.conn.now tx.new.conn.now result }
     ensures crash { LeavesAsBefore S.Store tx.old.conn.now tx.new.conn.now }
 {
-    match tx.query_all("SELECT rowid, name FROM service", &[]) {
+    match tx.query_all("SELECT rowid, name FROM service ORDER BY rowid", &[]) {
         Ok(rows) => Ok(rows),
         Err(fault) => Err(fault),
     }
 }
 
-/// All rows of the table of instances.
+/// All rows, in the order of rowids, of the table of instances.
 pub fn all_instances<S: Alter>(tx: &mut Transaction<'_, S>) -> Result<Vec<Row>, Error>
     requires { IsInside S.Store tx.old.conn.now }
     ensures same_reference { tx.new.conn.ghost_name ≡ tx.old.conn.ghost_name }
@@ -42,7 +42,7 @@ pub fn all_instances<S: Alter>(tx: &mut Transaction<'_, S>) -> Result<Vec<Row>, 
     ensures crash { LeavesAsBefore S.Store tx.old.conn.now tx.new.conn.now }
 {
     match tx.query_all(
-        "SELECT id, id, service, name, rowtext, start_snap, previous_snap FROM instance",
+        "SELECT id, id, service, name, rowtext, start_snap, previous_snap FROM instance ORDER BY id",
         &[],
     ) {
         Ok(rows) => Ok(rows),
@@ -50,7 +50,7 @@ pub fn all_instances<S: Alter>(tx: &mut Transaction<'_, S>) -> Result<Vec<Row>, 
     }
 }
 
-/// All rows of the table of groups.
+/// All rows, in the order of rowids, of the table of groups.
 pub fn all_groups<S: Alter>(tx: &mut Transaction<'_, S>) -> Result<Vec<Row>, Error>
     requires { IsInside S.Store tx.old.conn.now }
     ensures same_reference { tx.new.conn.ghost_name ≡ tx.old.conn.ghost_name }
@@ -58,13 +58,16 @@ pub fn all_groups<S: Alter>(tx: &mut Transaction<'_, S>) -> Result<Vec<Row>, Err
     ensures err { CommitsNone S.Store tx.old.conn.now tx.new.conn.now result }
     ensures crash { LeavesAsBefore S.Store tx.old.conn.now tx.new.conn.now }
 {
-    match tx.query_all("SELECT rowid, service, instance, name, body FROM grp", &[]) {
+    match tx.query_all(
+        "SELECT rowid, service, instance, name, body FROM grp ORDER BY rowid",
+        &[],
+    ) {
         Ok(rows) => Ok(rows),
         Err(fault) => Err(fault),
     }
 }
 
-/// All rows of the table of snapshots.
+/// All rows, in the order of rowids, of the table of snapshots.
 pub fn all_snapshots<S: Alter>(tx: &mut Transaction<'_, S>) -> Result<Vec<Row>, Error>
     requires { IsInside S.Store tx.old.conn.now }
     ensures same_reference { tx.new.conn.ghost_name ≡ tx.old.conn.ghost_name }
@@ -72,13 +75,13 @@ pub fn all_snapshots<S: Alter>(tx: &mut Transaction<'_, S>) -> Result<Vec<Row>, 
     ensures err { CommitsNone S.Store tx.old.conn.now tx.new.conn.now result }
     ensures crash { LeavesAsBefore S.Store tx.old.conn.now tx.new.conn.now }
 {
-    match tx.query_all("SELECT id, id, instance, body FROM snap", &[]) {
+    match tx.query_all("SELECT id, id, instance, body FROM snap ORDER BY id", &[]) {
         Ok(rows) => Ok(rows),
         Err(fault) => Err(fault),
     }
 }
 
-/// All rows of the table of launches.
+/// All rows, in the order of rowids, of the table of launches.
 pub fn all_launches<S: Alter>(tx: &mut Transaction<'_, S>) -> Result<Vec<Row>, Error>
     requires { IsInside S.Store tx.old.conn.now }
     ensures same_reference { tx.new.conn.ghost_name ≡ tx.old.conn.ghost_name }
@@ -86,7 +89,10 @@ pub fn all_launches<S: Alter>(tx: &mut Transaction<'_, S>) -> Result<Vec<Row>, E
     ensures err { CommitsNone S.Store tx.old.conn.now tx.new.conn.now result }
     ensures crash { LeavesAsBefore S.Store tx.old.conn.now tx.new.conn.now }
 {
-    match tx.query_all("SELECT rowid, name, launch FROM restarter", &[]) {
+    match tx.query_all(
+        "SELECT rowid, name, launch FROM restarter ORDER BY rowid",
+        &[],
+    ) {
         Ok(rows) => Ok(rows),
         Err(fault) => Err(fault),
     }

@@ -1,11 +1,15 @@
-use Rattle.std.proofs.Common.{◌≡◌, ◌<◌, None, sym, subst, rules, arith}
+use Rattle.std.proofs.Common.{◌≡◌, ◌<◌, None, sym, subst, rules}
 use Rattle.smf_model.specs.Look.{snapshot}
 use Rattle.smf_store.specs.Gathered.{AddsSnapshotRow}
+use Rattle.smf_store.specs.Shown.{ShowsSnapshot}
 use Rattle.smf_store.proofs.Gathers.{reads_snapshot}
 use Rattle.smf_store.proofs.gathering.add_snapshot.Goals as goal
 
-pub returns : goal.returns
-returns c =
-    let none : snapshot c.args.tables.now c.in_ok-snapshot.snapshot.number ≡ None = search rules in
-    let below : c.in_ok-snapshot.snapshot.number < c.args.tables.now.next_snapshot = search rules in
-    subst (AddsSnapshotRow c.args.row.now c.args.tables.now) (sym c.in_ok-make_one.ensures) (reads_snapshot c.args.tables.now c.in_ok-snapshot.snapshot below none c.args.row.now c.in_ok-snapshot.ensures)
+pub returns-clause-added : goal.returns-clause-added
+returns-clause-added c =
+    let s = c.in-Some.snapshot in
+    let k = c.args.tables.now in
+    let none : snapshot k s.number ≡ None = search rules in
+    let below : s.number < k.next_snapshot = search rules in
+    let shows : ShowsSnapshot s c.args.row.now = search rules in
+    λ taken. subst (AddsSnapshotRow c.args.row.now k) (sym c.in_ok-make_one.ensures) (reads_snapshot k s below none c.args.row.now shows)

@@ -1,0 +1,12 @@
+pub mod Turning
+pub mod Events
+pub mod Alone
+pub mod Fails
+pub mod Moving
+pub mod Steps
+pub mod Reaching
+pub mod Alikeness
+pub mod Passing
+pub mod Bonding
+pub mod Starting
+pub mod Agreeing

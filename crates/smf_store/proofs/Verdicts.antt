@@ -1,0 +1,83 @@
+-- What is said of the rows of a store, step by step.
+use Rattle.std.proofs.Common.{◌≡◌, Bool, true, false, Option, Some, None, Result, Ok, Err, IsTrue, refl, sym, ap, ◌∙◌}
+use Rattle.std.specs.List.{list_all}
+use Rattle.smf_model.specs.Holdings.{Holdings}
+use Rattle.smf_store.specs.declared.counting.Counters.{Counters}
+use Rattle.smf_store.specs.declared.counting.StoreVersion.{StoreVersion}
+use Rattle.smf_store.specs.declared.judging.Judgement.{Judgement}
+use Rattle.smf_store.specs.declared.judging.StoreRows.{StoreRows}
+use Rattle.smf_store.specs.declared.refusal.OpenFault.{OpenFault}
+use Rattle.smf_store.specs.declared.refusal.OpenFault.TheVariants.{Memory, Database, Version, Damaged, TooManyInstances}
+use Rattle.smf_store.specs.declared.refusal.StoreTable.TheVariants as tables
+use Rattle.smf_store.specs.Begun.{begun}
+use Rattle.smf_store.specs.Judged.{IsJudged, IsRead, add_all, add_group, add_instance, add_launch, add_service, add_snapshot, counters_said, fitting, judged, names_held, tables_said, version_said}
+
+module _ (rows : StoreRows) (h : Holdings) where
+  pub no_services : add_all add_service h rows.services.items ≡ None → tables_said rows h ≡ Err (Damaged tables.Service)
+  unfolding tables_said
+  no_services a = rw (a) refl
+
+  module _ (h1 : Holdings) (a : add_all add_service h rows.services.items ≡ Some h1) where
+    pub no_instances : add_all add_instance h1 rows.instances.items ≡ None → tables_said rows h ≡ Err (Damaged tables.Instance)
+    unfolding tables_said
+    no_instances b = rw (a, b) refl
+
+    module _ (h2 : Holdings) (b : add_all add_instance h1 rows.instances.items ≡ Some h2) where
+      pub no_groups : add_all add_group h2 rows.groups.items ≡ None → tables_said rows h ≡ Err (Damaged tables.Group)
+      unfolding tables_said
+      no_groups d = rw (a, b, d) refl
+
+      module _ (h3 : Holdings) (d : add_all add_group h2 rows.groups.items ≡ Some h3) where
+        pub no_snapshots : add_all add_snapshot h3 rows.snapshots.items ≡ None → tables_said rows h ≡ Err (Damaged tables.Snapshot)
+        unfolding tables_said
+        no_snapshots e = rw (a, b, d, e) refl
+
+        module _ (h4 : Holdings) (e : add_all add_snapshot h3 rows.snapshots.items ≡ Some h4) where
+          pub not_there : list_all (names_held h4) h4.instances ≡ false → tables_said rows h ≡ Err (Damaged tables.Instance)
+          unfolding tables_said
+          not_there t = rw (a, b, d, e, t) refl
+
+          module _ (t : list_all (names_held h4) h4.instances ≡ true) where
+            pub no_launches : add_all add_launch h4 rows.launches.items ≡ None → tables_said rows h ≡ Err (Damaged tables.Restarter)
+            unfolding tables_said
+            no_launches f = rw (a, b, d, e, t, f) refl
+
+            pub all_said : (h5 : Holdings) → add_all add_launch h4 rows.launches.items ≡ Some h5 → tables_said rows h ≡ Ok h5
+            unfolding tables_said
+            all_said h5 f = rw (a, b, d, e, t, f) refl
+
+module _ (rows : StoreRows) where
+  no_version : (e : OpenFault) → version_said rows.counts.items ≡ Err e → judged rows ≡ Err e
+  unfolding judged
+  no_version e v = rw (v) refl
+
+  judged_err : {given : Result Holdings OpenFault} (e : OpenFault) → given ≡ Err e → IsJudged (Err e) given
+  judged_err Memory g = tt
+  judged_err Database g = g
+  judged_err (Version n) g = g
+  judged_err (Damaged table) g = g
+  judged_err TooManyInstances g = g
+
+  pub of_version : (e : OpenFault) → version_said rows.counts.items ≡ Err e → IsJudged (Err e) (judged rows)
+  of_version e v = judged_err e (no_version e v)
+
+  module _ (version : StoreVersion) (v : version_said rows.counts.items ≡ Ok version) where
+    pub no_counters : counters_said version rows.counts.items ≡ None → judged rows ≡ Err (Damaged tables.Meta)
+    unfolding judged
+    no_counters n = rw (v, n) refl
+
+    module _ (c : Counters) (n : counters_said version rows.counts.items ≡ Some c) where
+      no_tables : (e : OpenFault) → tables_said rows (begun c) ≡ Err e → judged rows ≡ Err e
+      unfolding judged
+      no_tables e t = rw (v, n, t) refl
+
+      pub of_tables : (e : OpenFault) (k new : Holdings) → k ≡ begun c → IsRead {X = Unit {0}} (Err e) new (tables_said rows k) → IsJudged (Err e) (judged rows)
+      of_tables Memory k new is t = tt
+      of_tables Database k new is t = no_tables Database (ap (tables_said rows) (sym is) ∙ t)
+      of_tables (Version z) k new is t = no_tables (Version z) (ap (tables_said rows) (sym is) ∙ t)
+      of_tables (Damaged table) k new is t = no_tables (Damaged table) (ap (tables_said rows) (sym is) ∙ t)
+      of_tables TooManyInstances k new is t = no_tables TooManyInstances (ap (tables_said rows) (sym is) ∙ t)
+
+      pub of_all : (k h : Holdings) (what : Result Holdings OpenFault) → k ≡ begun c → tables_said rows k ≡ Ok h → fitting version h ≡ what → judged rows ≡ what
+      unfolding judged
+      of_all k h what is t f = let t2 : tables_said rows (begun c) ≡ Ok h = ap (tables_said rows) (sym is) ∙ t in rw (v, n, t2, f) refl

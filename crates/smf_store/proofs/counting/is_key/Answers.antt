@@ -1,1 +1,0 @@
-use Rattle.smf_store.proofs.counting.is_key.Goals as goal

@@ -1,0 +1,233 @@
+-- What the rows of the tables hold, or why it is no store that is opened: its version, or the first table that breaks the rules.
+use Rattle.std.specs.Prelude.{ℕ, ℤ, pos, List, [], ◌∷◌, ◌++◌, ◌≡◌, ◌+◌, ◌==◌, ◌&&◌, ◌||◌, not, nat_eq, nat_le, nat_lt, codes, length, Bool, true, false, Option, Some, None, is_some, is_none, option_map, Result, Ok, Err, if◌then◌else◌}
+use Rattle.std.specs.Cmp.Lexicographic.{pointwise}
+use Rattle.std.specs.List.{list_all, list_any}
+use Rattle.std.specs.Option.{option_map_or}
+use Rattle.std.specs.Ordering.{int_eq}
+use Rattle.sqlite.specs.Order.{Row, column}
+use Rattle.smf_fmri.specs.ByKey.{has_key, put}
+use Rattle.smf_fmri.specs.Matching.{service_of}
+use Rattle.smf_fmri.specs.Name.{short}
+use Rattle.smf_state.specs.declared.row.Row.{Row as StateRow}
+use Rattle.smf_state.specs.Rows.{greatest_number, greatest_run}
+use Rattle.smf_value.specs.Groups.{GroupRecord, by_group}
+use Rattle.smf_model.specs.declared.change.Change.TheVariants.{AddService, AddInstance, PutName, PutGroups, AddSnapshot, PutLaunch}
+use Rattle.smf_model.specs.declared.held.Instance.{Instance}
+use Rattle.smf_model.specs.declared.held.InstanceEntry.{InstanceEntry}
+use Rattle.smf_model.specs.declared.held.Owner.{Owner}
+use Rattle.smf_model.specs.declared.held.Owner.TheVariants as owners
+use Rattle.smf_model.specs.declared.held.Snapshot.{Snapshot}
+use Rattle.smf_model.specs.Holdings.{Holdings}
+use Rattle.smf_model.specs.Look.{by_launch, changed, group_in, instance, named, owned, service, snapshot}
+use Rattle.smf_model.specs.Next.{greatest_instance, most_groups}
+use Rattle.smf_store.specs.declared.counting.Counters.{Counters}
+use Rattle.smf_store.specs.declared.counting.StoreVersion.{StoreVersion}
+use Rattle.smf_store.specs.declared.counting.StoreVersion.TheVariants as versions
+use Rattle.smf_store.specs.declared.judging.Judgement.{Judgement}
+use Rattle.smf_store.specs.declared.judging.StoreRows.{StoreRows}
+use Rattle.smf_store.specs.declared.refusal.OpenFault.{OpenFault}
+use Rattle.smf_store.specs.declared.refusal.OpenFault.TheVariants.{Memory, Database, Version, Damaged, TooManyInstances}
+use Rattle.smf_store.specs.declared.refusal.StoreTable.{StoreTable}
+use Rattle.smf_store.specs.declared.refusal.StoreTable.TheVariants as tables
+use Rattle.smf_store.specs.Begun.{begun}
+use Rattle.smf_store.specs.Readings.{◌>>=◌, given, integer_in, count_in, text_in, greatest, short_service, service_said, instance_said, group_said, snapshot_said, launch_said}
+
+-- ---- the counters
+
+-- what is found of a key, with one value more
+abbrev pub looked : Option ℤ → Option ℤ → Option (Option ℤ)
+looked None (Some v) = Some (Some v)
+looked None None = None
+looked (Some before) more = None
+
+-- the same, with one row more
+unfoldable pub look : List ℕ → Option ℤ → Row → Option (Option ℤ)
+look key found r =
+    text_in (column r 1) >>= (λ name. if pointwise nat_eq name key then looked found (integer_in (column r 2)) else Some found)
+
+abbrev pub look_on : List ℕ → Option ℤ → List Row → Option (Option ℤ)
+look_on key found [] = Some found
+look_on key found (r ∷ rs) = look key found r >>= (λ more. look_on key more rs)
+
+-- the value of a key that one row has
+unfoldable pub value_of : List ℕ → List Row → Option ℤ
+value_of key rows = look_on key None rows >>= (λ found. found)
+
+abbrev pub number_of : ℤ → Option ℕ
+number_of (pos n) = given (nat_le n greatest) n
+number_of _ = None
+
+unfoldable pub number_said : List ℕ → List Row → Option ℕ
+number_said key rows = value_of key rows >>= (λ v. number_of v)
+
+abbrev pub version_by : Option ℤ → Result StoreVersion OpenFault
+version_by None = Err (Damaged tables.Meta)
+version_by (Some v) =
+    if int_eq v (pos 2) then Ok versions.Second
+    else if int_eq v (pos 1) then Ok versions.First
+    else Err (Version v)
+
+unfoldable pub version_said : List Row → Result StoreVersion OpenFault
+version_said rows = version_by (value_of (codes "version") rows)
+
+-- a key of either version, and that of the second alone
+abbrev pub is_old_key : List ℕ → Bool
+is_old_key text =
+    pointwise nat_eq text (codes "version") || pointwise nat_eq text (codes "revision")
+    || pointwise nat_eq text (codes "next_instance") || pointwise nat_eq text (codes "next_snapshot")
+
+abbrev pub is_key : StoreVersion → List ℕ → Bool
+is_key versions.First text = is_old_key text
+is_key versions.Second text = is_old_key text || pointwise nat_eq text (codes "layout")
+
+unfoldable pub is_known : StoreVersion → Row → Bool
+is_known version r = option_map_or (is_key version) (text_in (column r 1)) false
+
+-- the first version has no layout
+unfoldable pub has_layout : StoreVersion → List Row → Bool
+has_layout versions.First rows = true
+has_layout versions.Second rows = option_map_or (λ v. int_eq v (pos 2)) (value_of (codes "layout") rows) false
+
+-- so many instances as there are numbers for
+abbrev pub is_within : StoreVersion → ℕ → Bool
+is_within versions.First next = true
+is_within versions.Second next = nat_le next (greatest_instance + 1)
+
+unfoldable pub counters_said : StoreVersion → List Row → Option Counters
+counters_said version rows =
+    number_said (codes "revision") rows >>= (λ revision.
+    number_said (codes "next_instance") rows >>= (λ next_instance.
+    number_said (codes "next_snapshot") rows >>= (λ next_snapshot.
+    given (list_all (is_known version) rows && has_layout version rows && nat_le 1 next_instance && nat_le 1 next_snapshot && is_within version next_instance)
+    (record { revision = revision; next_instance = next_instance; next_snapshot = next_snapshot }))))
+
+-- ---- one row more of a table: none where it may not stand beside what is held
+
+unfoldable pub add_service : Holdings → Row → Option Holdings
+add_service h r =
+    service_said r >>= (λ name.
+    given (is_none (service h name)) (changed h (AddService (record { name = name; groups = [] }))))
+
+-- runs up to the last
+abbrev pub is_up_to : ℕ → Option ℕ → Bool
+is_up_to last None = true
+is_up_to last (Some run) = nat_le run last
+
+-- a row has no revision that is still to come, no run behind its last, and no number past a limit
+abbrev pub is_right : ℕ → StateRow → Bool
+is_right revision row =
+    nat_le row.err revision && nat_le row.stop revision && nat_le row.refresh revision && nat_le row.start revision
+    && nat_le row.base revision && is_up_to row.last row.live && is_up_to row.last row.side
+    && nat_le row.last greatest_run && nat_le row.number greatest_number
+
+abbrev pub is_new : Holdings → Instance → Bool
+is_new h i =
+    nat_lt 0 i.number && nat_lt i.number h.next_instance && is_none (instance h i.number) && is_none (named h i.name)
+    && is_some (service h (short ++ service_of i.name)) && is_right h.revision i.row
+
+abbrev pub with_instance : Holdings → Instance → Holdings
+with_instance h i = changed (changed h (AddInstance (record { instance = i; groups = [] }))) (PutName (record { name = i.name; number = i.number }))
+
+unfoldable pub add_instance : Holdings → Row → Option Holdings
+add_instance h r = instance_said r >>= (λ i. given (is_new h i) (with_instance h i))
+
+-- whose groups stand under this service and this number
+abbrev pub owner_by : List ℕ → ℕ → Option Instance → Option Owner
+owner_by text number None = None
+owner_by text number (Some i) = given (pointwise nat_eq (short ++ service_of i.name) text) (owners.Instance number)
+
+unfoldable pub owner_said : Holdings → List ℕ → ℕ → Option Owner
+owner_said h text number =
+    if number == 0 then (short_service text >>= (λ name. Some (owners.Service name)))
+    else owner_by text number (instance h number)
+
+unfoldable pub put_group : Holdings → Owner → GroupRecord → Option Holdings
+put_group h owner g =
+    owned h owner >>= (λ gs.
+    given (is_none (group_in gs g.name) && nat_lt (length gs) most_groups) (changed h (PutGroups owner (put by_group g gs))))
+
+unfoldable pub add_group : Holdings → Row → Option Holdings
+add_group h r =
+    group_said r >>= (λ g.
+    text_in (column r 1) >>= (λ text.
+    count_in (column r 2) >>= (λ number.
+    owner_said h text number >>= (λ owner.
+    put_group h owner g))))
+
+unfoldable pub add_snapshot : Holdings → Row → Option Holdings
+add_snapshot h r =
+    snapshot_said r >>= (λ s.
+    given (nat_lt 0 s.number && nat_lt s.number h.next_snapshot && is_none (snapshot h s.number) && is_some (instance h s.instance))
+    (changed h (AddSnapshot s)))
+
+unfoldable pub add_launch : Holdings → Row → Option Holdings
+add_launch h r =
+    launch_said r >>= (λ l.
+    given (not (list_any (has_key by_launch l.restarter) h.launches)) (changed h (PutLaunch l)))
+
+-- ---- the tables, one behind another
+
+abbrev pub add_all : (Holdings → Row → Option Holdings) → Holdings → List Row → Option Holdings
+add_all add h [] = Some h
+add_all add h (r ∷ rs) = add h r >>= (λ k. add_all add k rs)
+
+abbrev pub told : {X Y : Type 0} → StoreTable → Option X → (X → Result Y OpenFault) → Result Y OpenFault
+told table None f = Err (Damaged table)
+told table (Some x) f = f x
+
+-- a snapshot that an instance names is there
+abbrev pub is_there : Holdings → Option ℕ → Bool
+is_there h None = true
+is_there h (Some n) = is_some (snapshot h n)
+
+abbrev pub names_snapshots : Holdings → Instance → Bool
+names_snapshots h i =
+    is_there h i.start && is_there h i.previous && is_there h i.row.running && is_there h i.row.begun
+
+abbrev pub names_held : Holdings → InstanceEntry → Bool
+names_held h e = names_snapshots h e.instance
+
+-- the tables behind that of the counters
+unfoldable pub tables_said : StoreRows → Holdings → Result Holdings OpenFault
+tables_said rows h =
+    told tables.Service (add_all add_service h rows.services.items) (λ h1.
+    told tables.Instance (add_all add_instance h1 rows.instances.items) (λ h2.
+    told tables.Group (add_all add_group h2 rows.groups.items) (λ h3.
+    told tables.Snapshot (add_all add_snapshot h3 rows.snapshots.items) (λ h4.
+    told tables.Instance (given (list_all (names_held h4) h4.instances) h4) (λ h5.
+    told tables.Restarter (add_all add_launch h5 rows.launches.items) (λ h6. Ok h6))))))
+
+-- a store of the first version may have given more numbers than there are
+abbrev pub fitting : StoreVersion → Holdings → Result Holdings OpenFault
+fitting versions.First h = if nat_le h.next_instance (greatest_instance + 1) then Ok h else Err TooManyInstances
+fitting versions.Second h = Ok h
+
+abbrev pub held_by : StoreVersion → Result Holdings OpenFault → Result Holdings OpenFault
+held_by version (Ok h) = fitting version h
+held_by version (Err e) = Err e
+
+abbrev pub judged_as : StoreRows → Result StoreVersion OpenFault → Result Holdings OpenFault
+judged_as rows (Err e) = Err e
+judged_as rows (Ok version) =
+    told tables.Meta (counters_said version rows.counts.items) (λ c. held_by version (tables_said rows (begun c)))
+
+-- what is held, or why it is not opened
+unfoldable pub judged : StoreRows → Result Holdings OpenFault
+judged rows = judged_as rows (version_said rows.counts.items)
+
+-- a call gives this, unless memory ran out
+abbrev pub IsJudged : Result Judgement OpenFault → Result Holdings OpenFault → Type 0
+IsJudged (Ok x) given = given ≡ Ok x.tables
+IsJudged (Err Memory) given = Unit {0}
+IsJudged (Err e) given = given ≡ Err e
+
+-- a row was taken, or it may not stand there
+abbrev pub Takes : Bool → Option Holdings → Holdings → Type 0
+Takes true said new = said ≡ Some new
+Takes false said new = said ≡ None
+
+-- the tables behind that of the counters were read
+abbrev pub IsRead : {X : Type 0} → Result X OpenFault → Holdings → Result Holdings OpenFault → Type 0
+IsRead (Ok x) new given = given ≡ Ok new
+IsRead (Err Memory) new given = Unit {0}
+IsRead (Err e) new given = given ≡ Err e

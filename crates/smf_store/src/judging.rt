@@ -1,0 +1,112 @@
+ghost use Rattle.std.specs.Prelude.{◌≡◌, false, Err, IfOk, IsTrue, Ok, OnOk};
+ghost use Rattle.smf_model.specs.Laws.{IsNumbered};
+ghost use Rattle.smf_store.specs.Gathered.{AreRead, GathersAll, rows_of};
+ghost use Rattle.smf_store.specs.Judged.{IsJudged, IsRead, fitting, judged, tables_said};
+
+use crate::counting::{MAX_NEXT_INSTANCE, StoreVersion, begin, counters_said, version_said};
+use crate::gathering::{
+    are_there, gather_groups, gather_instances, gather_launches, gather_services, gather_snapshots,
+};
+use crate::refusal::{OpenFault, StoreTable};
+use smf_model::Tables;
+use sqlite::Row;
+use std::alloc::Global;
+
+/// All rows of the six tables.
+#[derive(Drop)]
+pub(crate) struct StoreRows {
+    pub(crate) counts: Vec<Row>,
+    pub(crate) services: Vec<Row>,
+    pub(crate) instances: Vec<Row>,
+    pub(crate) groups: Vec<Row>,
+    pub(crate) snapshots: Vec<Row>,
+    pub(crate) launches: Vec<Row>,
+}
+
+/// What stands in a store, and in which version.
+#[derive(Drop)]
+pub(crate) struct Judgement {
+    pub(crate) version: StoreVersion,
+    pub(crate) tables: Tables,
+}
+
+/// Puts in what the tables behind that of the counters show.
+#[tactic(auto, unfolding(crate::specs::Judged::tables_said))]
+fn read_tables(alloc: Global, rows: &StoreRows, tables: &mut Tables) -> Result<(), OpenFault>
+    ensures exact { IsRead result tables.new (tables_said rows.now tables.old) }
+    ensures read { OnOk result (GathersAll rows.now tables.old tables.new) }
+{
+    let Ok(services) = gather_services(alloc, &rows.services, tables) else {
+        return Err(OpenFault::Memory);
+    };
+    if !services {
+        return Err(OpenFault::Damaged(StoreTable::Service));
+    }
+    let Ok(instances) = gather_instances(alloc, &rows.instances, tables) else {
+        return Err(OpenFault::Memory);
+    };
+    if !instances {
+        return Err(OpenFault::Damaged(StoreTable::Instance));
+    }
+    let Ok(groups) = gather_groups(alloc, &rows.groups, tables) else {
+        return Err(OpenFault::Memory);
+    };
+    if !groups {
+        return Err(OpenFault::Damaged(StoreTable::Group));
+    }
+    let Ok(snapshots) = gather_snapshots(alloc, &rows.snapshots, tables) else {
+        return Err(OpenFault::Memory);
+    };
+    if !snapshots {
+        return Err(OpenFault::Damaged(StoreTable::Snapshot));
+    }
+    if !are_there(tables) {
+        return Err(OpenFault::Damaged(StoreTable::Instance));
+    }
+    let Ok(launches) = gather_launches(alloc, &rows.launches, tables) else {
+        return Err(OpenFault::Memory);
+    };
+    if !launches {
+        return Err(OpenFault::Damaged(StoreTable::Restarter));
+    }
+    Ok(())
+}
+
+/// Whether there are numbers for so many instances as a store of the first version may have.
+fn is_past(version: StoreVersion, tables: &Tables) -> bool
+    ensures past { IsTrue result → fitting version tables.now ≡ Err OpenFault.TooManyInstances }
+    ensures fits { result ≡ false → fitting version tables.now ≡ Ok tables.now }
+{
+    match version {
+        StoreVersion::First => tables.next_instance().get() > MAX_NEXT_INSTANCE,
+        StoreVersion::Second => false,
+    }
+}
+
+/// What the rows of a store show.
+#[tactic(auto, unfolding(crate::specs::Judged::judged))]
+pub(crate) fn judge(alloc: Global, rows: &StoreRows) -> Result<Judgement, OpenFault>
+    ensures exact { IsJudged result (judged rows.now) }
+    ensures read { IfOk result (λ j. AreRead (rows_of j.version rows.now) j.tables) }
+    ensures numbered { IfOk result (λ j. IsNumbered j.tables) }
+{
+    let version = match version_said(&rows.counts) {
+        Ok(version) => version,
+        Err(fault) => return Err(fault),
+    };
+    let Some(counters) = counters_said(version, &rows.counts) else {
+        return Err(OpenFault::Damaged(StoreTable::Meta));
+    };
+    let mut tables = match begin(alloc, &counters) {
+        Ok(tables) => tables,
+        Err(_) => return Err(OpenFault::Memory),
+    };
+    match read_tables(alloc, rows, &mut tables) {
+        Ok(()) => {}
+        Err(fault) => return Err(fault),
+    }
+    if is_past(version, &tables) {
+        return Err(OpenFault::TooManyInstances);
+    }
+    Ok(Judgement { version, tables })
+}
