@@ -1,10 +1,11 @@
 -- Moves keep what children keep and what the node's world says in agreement.
-use Rattle.std.proofs.Common.{◌≡◌, ◌⊎◌, ℕ, zero, suc, ◌+◌, ◌==◌, inl, inr, Bool, true, false, cond, List, [], ◌∷◌, ◌++◌, map, filter, reverse, Option, Some, None, IfSome, is_some, option_map, Ok, refl, sym, ap, ◌∙◌, subst, eq-eqb}
+use Rattle.std.proofs.Common.{◌≡◌, ◌⊎◌, ℕ, zero, suc, ◌+◌, ◌==◌, inl, inr, Bool, true, false, cond, List, [], ◌∷◌, ◌++◌, map, filter, length, reverse, Option, Some, None, IfSome, is_some, option_map, Result, Ok, Err, refl, sym, ap, ◌∙◌, subst, arith, eq-eqb}
 use Rattle.std.specs.Prelude.{find, flat_map}
 use Rattle.std.proofs.lemmas.Grind.{flat_map-append}
 use Rattle.std.proofs.lemmas.List.{append-nil, map_push}
 use Rattle.smf_contract.specs.declared.call.ContractCall.{ContractCall}
 use Rattle.smf_contract.specs.declared.call.ContractCall.TheVariants as calls
+use Rattle.smf_contract.specs.declared.contract.Contract.{Contract}
 use Rattle.smf_contract.specs.declared.contract.Member.{Member}
 use Rattle.smf_contract.specs.declared.contract.Report.{Report}
 use Rattle.smf_contract.specs.declared.event.Event.{Event as ContractEvent}
@@ -12,10 +13,11 @@ use Rattle.smf_contract.specs.declared.event.EventKind.{EventKind}
 use Rattle.smf_contract.specs.declared.event.EventKind.TheVariants as kinds
 use Rattle.smf_contract.specs.declared.event.Failure.{Failure}
 use Rattle.smf_contract.specs.declared.event.Failure.TheVariants.{Core, Signal, Hwerr}
+use Rattle.smf_contract.specs.declared.fault.ContractFault.{ContractFault}
 use Rattle.smf_contract.specs.declared.table.Made.{Made}
 use Rattle.smf_contract.specs.declared.terms.Terms.{Terms}
 use Rattle.smf_contract.specs.Called.{called, left_by, left_by_making}
-use Rattle.smf_contract.specs.Calls.{failure_kind, forked, forked_in, killed, next_contract, next_number, spawned, spawned_as}
+use Rattle.smf_contract.specs.Calls.{begun, failure_kind, forked, forked_in, killed, made, next_contract, next_number, spawned, spawned_as}
 use Rattle.smf_contract.specs.Cookies.{packed}
 use Rattle.smf_contract.specs.Entries.{Contracts, contract, empty, first_member, home, is_in, is_process, reported as report_at}
 use Rattle.smf_contract.specs.Laws.{Asked, IsOrdered}
@@ -41,7 +43,7 @@ use Rattle.smf_edge.specs.declared.deed.Happening.TheVariants as happenings
 use Rattle.smf_edge.specs.declared.note.Note.{Note}
 use Rattle.smf_edge.specs.declared.note.Note.TheVariants as notes
 use Rattle.smf_edge.specs.declared.note.Run.{Run}
-use Rattle.smf_edge.specs.Ledgers.{Ledger, call_of as call_for, is_other_event, record_of, runs_of}
+use Rattle.smf_edge.specs.Ledgers.{Ledger, call_of as call_for, forks_by, is_other_event, record_of, runs_of}
 use Rattle.smf_edge.specs.Steps.{IsFound, IsGiven, IsKilled, IsPolled, IsSpawned}
 use Rattle.smf_edge.proofs.Firsts.{found_is}
 use Rattle.smf_edge.proofs.Members.{home_of_first}
@@ -55,16 +57,16 @@ use Rattle.smf_world.specs.declared.work.Work.{Work}
 use Rattle.smf_world.specs.Happens.{done, happens}
 use Rattle.smf_world.specs.Worked.{acted, answer_of, begun_in, begun_item, begun_items, booted_as, call_of, calling, commanded, delivered, delivered_if, emptied_items, heard_by, held_items, holder, is_launched, joined, launched_if, own_ticked, process_call, reported_by, reported_to, restarter, sent_at, spawn_answer, ticked_for, timed, told, worked}
 use Rattle.smf_world.specs.World.{World, found}
-use Rattle.smf_drive.specs.declared.asking.Ask.{Ask}
-use Rattle.smf_drive.specs.declared.asking.Ask.TheVariants.{Nothing, Spawn, Kill}
+use Rattle.smf_drive.specs.declared.asking.Ask.TheVariants.{Spawn, Kill}
 use Rattle.smf_drive.specs.declared.asking.Wanted.{Wanted}
 use Rattle.smf_drive.specs.declared.learning.News.{News}
-use Rattle.smf_drive.specs.Agrees.{Agrees, AgreesUpTo, AreAlike, ArePast, IsNoted, IsPast, Start, start_by, start_if}
+use Rattle.smf_drive.specs.Agrees.{Agrees, AgreesUpTo, AreAlike, AreMade, ArePast, IsNoted, IsPast, Start, start_by, start_if}
 use Rattle.smf_drive.specs.Asking.{asked, asked_by, asked_of, first_of, is_held_by, is_instance, kill_if, wanted, wanted_in}
 use Rattle.smf_drive.specs.Learning.{news, news_if, news_in, news_of, told as told_of}
 use Rattle.smf_drive.specs.Moves.{AreMoves, IsMove, IsUnmade, Moves, Reaches, happened, is_alone, run_for}
 use Rattle.smf_drive.specs.Moves.IsMove.{alone, unmade, spawned as spawns_run, killed as kills, polled}
-use Rattle.smf_drive.proofs.Alikeness.{alike_adopt, alike_exit, alike_fail, alike_fork, alike_kill, alike_nothing, alike_spawn, killed_all, killed_shape, not_killed}
+use Rattle.smf_drive.proofs.Alikeness.{alike_adopt, alike_back, alike_exit, alike_fail, alike_fork, alike_kill, alike_nothing, alike_spawn, killed_all, killed_shape, not_killed}
+use Rattle.smf_drive.proofs.Bonding.{counted_more, found_given, given, made_alike, made_more, made_to, runs_made, runs_stay}
 use Rattle.smf_drive.proofs.Passing.{KindOf, fewer_past, home_at, killed_later, noted_found, noted_kill, noted_run, spawned_later, still_past, telling}
 use Rattle.smf_drive.proofs.Starting.{between, emptied_none, first_starts, held_none, no_starts, numbered, starts}
 
@@ -111,17 +113,28 @@ world_alike w v e u is a =
     let P : Contracts → Type 0 = λ x. AreAlike x u in
     subst P (sym (ap (λ x. x.table) is ∙ table_of w e)) a
 
+made_back : (runs : List Run) (t u : Contracts) → AreAlike t u → AreMade runs u.contracts → AreMade runs t.contracts
+made_back runs t u a h = made_alike runs u t (alike_back t u a) h
+
+made_both : (runs : List Run) (t v u : Contracts) → AreAlike t u → AreAlike v u → AreMade runs t.contracts → AreMade runs v.contracts
+made_both runs t v u a b h = made_back runs v u b (made_alike runs t u a h)
+
 -- nothing changes of what children know of
 agree_quiet : (w v : World) (e : Event) (l : Ledger) → v ≡ happens w e → IsQuiet w.table (worked w e).call → Agrees w l → Agrees v l
 agree_quiet w v e l is q a =
     let alike : AreAlike v.table l.table = world_alike w v e l.table is (q.alike l.table a.alike) in
     record {
       starts = ap (λ x. starts (reverse x.trail)) is ∙ no_starts w e q.no_run ∙ a.starts;
+      made = made_both (record_of l.notes).runs w.table v.table l.table a.alike alike a.made;
+      counted = alike.last_process ∙ sym a.alike.last_process ∙ a.counted;
       alike = alike;
       noted = noted_to l.notes w.table.events v.table.events (a.alike.events ∙ sym alike.events) a.noted;
       past = a.past;
       ordered = a.ordered;
     }
+
+none_more : (n : ℕ) → n ≡ n + 0
+none_more n = omega arith
 
 -- ---- events in which children have no part
 
@@ -352,19 +365,35 @@ found_no_runs : (es : List ContractEvent) → flat_map runs_of (map notes.Found 
 found_no_runs [] = refl
 found_no_runs (e ∷ es) = found_no_runs es
 
-spawn_parts : (t u : Contracts) (cookie : ℕ) (terms : Terms) (m : Made) (o n : Option ℕ) → (last : ℕ) → n ≡ next_number last → spawned_as t 0 cookie terms o n ≡ Ok (u, m)
-    → (id : ℕ) × (q : ℕ) × (u.members ≡ t.members ++ record { process = q; contract = id } ∷ []) × (u.last_process ≡ q) × (q ≡ last + 1) × (u.events ≡ t.events)
-spawn_parts t u cookie terms m None n last e h = absurd cc
-spawn_parts t u cookie terms m (Some id) None last e h = absurd cc
-spawn_parts t u cookie terms m (Some id) (Some q) last e h =
-    let is : left_by_making t (spawned_as t 0 cookie terms (Some id) (Some q)) ≡ u = ap (left_by_making t) h in
-    let P : Option ℕ → Type 0 = λ x. IfSome x (λ k. k ≡ last + 1) in
-    (id, q, ap (λ x. x.members) (sym is), ap (λ x. x.last_process) (sym is), subst P (sym e) (next_is last), ap (λ x. x.events) (sym is))
+-- what a spawn makes
+record IsShape (t u : Contracts) (cookie : ℕ) (terms : Terms) (m : Made) : Type 0 where
+  id : ℕ
+  process : ℕ
+  is : u ≡ made t 0 cookie terms id process
+  number : process ≡ t.last_process + 1
+  contract_is : m.contract ≡ id
 
-spawn_shape : (t u : Contracts) (cookie : ℕ) (terms : Terms) (m : Made) → spawned t 0 cookie terms ≡ Ok (u, m)
-    → (id : ℕ) × (q : ℕ) × (u.members ≡ t.members ++ record { process = q; contract = id } ∷ []) × (u.last_process ≡ q) × (q ≡ t.last_process + 1) × (u.events ≡ t.events)
+spawn_parts : (t u : Contracts) (cookie : ℕ) (terms : Terms) (m : Made) (o n : Option ℕ) → n ≡ next_number t.last_process → spawned_as t 0 cookie terms o n ≡ Ok (u, m) → IsShape t u cookie terms m
+spawn_parts t u cookie terms m None n e h = absurd cc
+spawn_parts t u cookie terms m (Some id) None e h = absurd cc
+spawn_parts t u cookie terms m (Some id) (Some q) e h =
+    let P : Option ℕ → Type 0 = λ x. IfSome x (λ k. k ≡ t.last_process + 1) in
+    let contract_at : Result (Contracts × Made) ContractFault → ℕ = contract_made in
+    record {
+      id = id;
+      process = q;
+      is = sym (ap (left_by_making t) h);
+      number = subst P (sym e) (next_is t.last_process);
+      contract_is = sym (ap contract_at h);
+    }
+  where
+    contract_made : Result (Contracts × Made) ContractFault → ℕ
+    contract_made (Ok x) = x.1.contract
+    contract_made (Err f) = 0
+
+spawn_shape : (t u : Contracts) (cookie : ℕ) (terms : Terms) (m : Made) → spawned t 0 cookie terms ≡ Ok (u, m) → IsShape t u cookie terms m
 unfolding spawned
-spawn_shape t u cookie terms m h = spawn_parts t u cookie terms m (next_number t.last_contract) (next_number t.last_process) t.last_process refl h
+spawn_shape t u cookie terms m h = spawn_parts t u cookie terms m (next_number t.last_contract) (next_number t.last_process) refl h
 
 ordered_by : (t u : Contracts) (call : ContractCall) → u ≡ called t call → IsOrdered t → IsOrdered u
 ordered_by t u call is o = let P : Contracts → Type 0 = IsOrdered in subst P (sym is) ((call_keeps t (Asked call)).ordered o)
@@ -384,7 +413,9 @@ agree_spawned w v name n want l m asks s is a =
     let run : Run = run_for want in
     let notes_are : m.notes ≡ l.notes ++ notes.Made run ∷ [] = ap (λ x. x.notes) s.is in
     let due : m.due ≡ l.due = ap (λ x. x.due) s.is in
-    let shape = spawn_shape l.table m.table want.cookie want.terms _ s.made in
+    let given_back : Made = record { contract = run.contract; process = m.table.last_process } in
+    let shape : IsShape l.table m.table want.cookie want.terms given_back = spawn_shape l.table m.table want.cookie want.terms given_back s.made in
+    let bond : Contract = begun shape.id 0 want.cookie want.terms shape.process in
     let P : ContractCall → Type 0 = λ c. AreAlike (called w.table c) m.table in
     let alike : AreAlike v.table m.table = world_alike w v e m.table is (subst P (sym r.call) (alike_spawn w.table l.table m.table r.actor want.cookie want.terms _ a.alike s.made)) in
     let Q : List Note → Type 0 = λ ns. IsNoted ns l.table.events in
@@ -395,10 +426,19 @@ agree_spawned w v name n want l m asks s is a =
           ∙ ap (λ xs. xs ++ record { contract = want.contract; cookie = Ok want.cookie; command = r.first.command } ∷ []) a.starts
           ∙ ap (λ c. map start_by (record_of l.notes).runs ++ record { contract = want.contract; cookie = Ok want.cookie; command = c } ∷ []) (sym r.command)
           ∙ sym (ap (λ ns. map start_by (record_of ns).runs) notes_are ∙ runs_more l.notes run);
+      made = made_back (record_of m.notes).runs v.table m.table alike
+          (made_to ((record_of l.notes).runs ++ run ∷ []) (record_of m.notes).runs (l.table.contracts ++ bond ∷ []) m.table.contracts
+          (ap (λ ns. (record_of ns).runs) notes_are ∙ runs_made l.notes run)
+          (ap (λ t. t.contracts) shape.is)
+          (made_more (record_of l.notes).runs run l.table.contracts bond (ap (λ c. record { contract = c; cookie = want.cookie; terms = want.terms }) shape.contract_is)
+          (made_alike (record_of l.notes).runs w.table l.table a.alike a.made)));
+      counted = alike.last_process
+          ∙ counted_more l.notes (notes.Made run ∷ []) l.table.last_process m.table.last_process 1 (sym a.alike.last_process ∙ a.counted) (ap (λ t. t.last_process) shape.is ∙ shape.number) refl
+          ∙ ap given (sym notes_are);
       alike = alike;
-      noted = noted_to m.notes l.table.events v.table.events (sym (alike.events ∙ shape.5))
+      noted = noted_to m.notes l.table.events v.table.events (sym (alike.events ∙ ap (λ t. t.events) shape.is))
           (subst Q (sym notes_are) (noted_run l.notes run l.table.events (noted_to l.notes w.table.events l.table.events a.alike.events a.noted)));
-      past = subst R (sym due) (still_past l.table m.table l.due (spawned_later l.table m.table shape.0 shape.1 shape.2 shape.3 shape.4) a.past);
+      past = subst R (sym due) (still_past l.table m.table l.due (spawned_later l.table m.table shape.id shape.process (ap (λ t. t.members) shape.is) (ap (λ t. t.last_process) shape.is) shape.number) a.past);
       ordered = ordered_by l.table m.table (calls.Spawn 0 want.cookie want.terms) (spawn_called l.table m.table want.cookie want.terms _ s.made) a.ordered;
     }
 
@@ -472,6 +512,14 @@ agree_killed w v name n id l m asks s is a =
           ∙ no_starts w e (not_run (worked w e).call (calls.Kill r.actor id) r.is (λ x. x))
           ∙ a.starts
           ∙ sym (ap (λ ns. map start_by (record_of ns).runs) notes_are ∙ no_runs l.notes (kill ∷ []) refl);
+      made = made_back (record_of m.notes).runs v.table m.table alike
+          (made_to (record_of l.notes).runs (record_of m.notes).runs l.table.contracts m.table.contracts
+          (ap (λ ns. (record_of ns).runs) notes_are ∙ runs_stay l.notes (kill ∷ []) refl)
+          (ap (λ t. t.contracts) table)
+          (made_alike (record_of l.notes).runs w.table l.table a.alike a.made));
+      counted = alike.last_process
+          ∙ counted_more l.notes (kill ∷ []) l.table.last_process m.table.last_process 0 (sym a.alike.last_process ∙ a.counted) (ap (λ t. t.last_process) table ∙ none_more l.table.last_process) refl
+          ∙ ap given (sym notes_are);
       alike = alike;
       noted = noted_to m.notes (killed_all l.table id).events v.table.events (sym (alike.events ∙ ap (λ t. t.events) table))
           (subst Q (sym notes_are) (noted_kill l.notes l.table id (noted_to l.notes w.table.events l.table.events a.alike.events a.noted)));
@@ -507,7 +555,7 @@ agree_given w v e l m g is a =
     let R : Ledger → Type 0 = λ k. ArePast k.table m.due → Agrees w k in
     let table : m.table ≡ l.table = ap (λ k. k.table) g.is in
     let S : Contracts → Type 0 = λ t. ArePast t m.due in
-    let same : Agrees w (record l { due = m.due }) = record { starts = a.starts; alike = a.alike; noted = a.noted; past = past.1; ordered = a.ordered } in
+    let same : Agrees w (record l { due = m.due }) = record { starts = a.starts; made = a.made; counted = a.counted; alike = a.alike; noted = a.noted; past = past.1; ordered = a.ordered } in
     let T : Ledger → Type 0 = λ k. Agrees w k in
     subst Q (sym world) (subst T (sym g.is) same)
 
@@ -519,9 +567,11 @@ first_of_home id p (m ∷ ms) h = by (m.contract == id) refl (first_of_home id p
   where
     Deeper : Type 0
     Deeper = option_map (λ x. x.contract) (find (is_process p) ms) ≡ Some id → (q : ℕ) × (option_map (λ x. x.process) (find (is_in id) ms) ≡ Some q)
+
     rest : (b : Bool) → (m.process == p) ≡ b → (m.contract == id) ≡ false → Deeper → option_map (λ x. x.contract) (cond b (Some m) (find (is_process p) ms)) ≡ Some id → (q : ℕ) × (option_map (λ x. x.process) (find (is_in id) ms) ≡ Some q)
     rest true e other deeper there = let same : m.contract ≡ id = cc in let no : true ≡ false = sym (eq-eqb m.contract id same) ∙ other in absurd cc
     rest false e other deeper there = deeper there
+
     by : (b : Bool) → (m.contract == id) ≡ b → Deeper → (q : ℕ) × (option_map (λ x. x.process) (cond b (Some m) (find (is_in id) ms)) ≡ Some q)
     by true e deeper = (m.process, refl)
     by false e deeper = rest (m.process == p) refl e deeper h
@@ -614,6 +664,15 @@ agree_found w v e l m f is a =
           ∙ no_starts w event (not_run (worked w event).call (process_call s.process s.what) call s.plain)
           ∙ a.starts
           ∙ sym (ap (λ ns. map start_by (record_of ns).runs) notes_are ∙ no_runs l.notes (map notes.Found (e ∷ m.due)) (found_no_runs (e ∷ m.due)));
+      made = made_back (record_of m.notes).runs v.table m.table alike
+          (made_to (record_of l.notes).runs (record_of m.notes).runs l.table.contracts m.table.contracts
+          (ap (λ ns. (record_of ns).runs) notes_are ∙ runs_stay l.notes (map notes.Found (e ∷ m.due)) (found_no_runs (e ∷ m.due)))
+          tells.contracts
+          (made_alike (record_of l.notes).runs w.table l.table a.alike a.made));
+      counted = alike.last_process
+          ∙ counted_more l.notes (map notes.Found (e ∷ m.due)) l.table.last_process m.table.last_process (length (forks_by e.contract e.kind))
+          (sym a.alike.last_process ∙ a.counted) tells.last (found_given m.table e m.due tells.past)
+          ∙ ap given (sym notes_are);
       alike = alike;
       noted = noted_to m.notes (l.table.events ++ e ∷ m.due) v.table.events (sym (alike.events ∙ tells.events))
           (subst R (sym notes_are) (noted_found l.notes l.table.events (e ∷ m.due) (noted_to l.notes w.table.events l.table.events a.alike.events a.noted)));
@@ -675,8 +734,11 @@ agree_first h =
     let table : (happens w events.Boot).table ≡ empty = table_of w events.Boot ∙ parts.0 in
     let P : Contracts → Type 0 = λ t. AreAlike t empty in
     let Q : Contracts → Type 0 = λ t. IsNoted [] t.events in
+    let R : Contracts → Type 0 = λ t. AreMade [] t.contracts in
     record {
       starts = no_starts w events.Boot (other_call (worked w events.Boot).call parts.1);
+      made = subst R (sym table) ([], refl);
+      counted = ap (λ t. t.last_process) table;
       alike = subst P (sym table) (record { contracts = refl; members = refl; events = refl; last_contract = refl; last_process = refl });
       noted = subst Q (sym table) ([], refl);
       past = tt;

@@ -30,6 +30,16 @@ alike_then s t u a b =
       last_process = a.last_process ∙ b.last_process;
     }
 
+pub alike_back : (t u : Contracts) → AreAlike t u → AreAlike u t
+alike_back t u a =
+    record {
+      contracts = sym a.contracts;
+      members = sym a.members;
+      events = sym a.events;
+      last_contract = sym a.last_contract;
+      last_process = sym a.last_process;
+    }
+
 abbrev over : Contracts → List Contract → Contracts
 over u cs = record u { contracts = cs }
 

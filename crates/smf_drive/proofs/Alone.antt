@@ -1,5 +1,5 @@
 -- What turns without children do is done by events in which children have no part.
-use Rattle.std.proofs.Common.{◌≡◌, ◌⊎◌, ℕ, zero, suc, Bool, true, false, not, List, [], ◌∷◌, ◌++◌, map, Option, Some, None, is_some, refl, sym, ap, ◌∙◌, subst}
+use Rattle.std.proofs.Common.{◌≡◌, ℕ, zero, suc, Bool, true, false, List, [], ◌∷◌, ◌++◌, map, Option, Some, None, is_some, refl, sym, ap, ◌∙◌, subst}
 use Rattle.std.specs.Prelude.{replicate}
 use Rattle.smf_contract.specs.declared.event.Event.{Event as ContractEvent}
 use Rattle.smf_contract.specs.Entries.{contract}
@@ -12,7 +12,7 @@ use Rattle.smf_world.specs.declared.schedule.Turn.{Turn}
 use Rattle.smf_world.specs.declared.schedule.Turn.TheVariants as turns
 use Rattle.smf_world.specs.Happens.{happens}
 use Rattle.smf_world.specs.Runs.{run}
-use Rattle.smf_world.specs.Schedule.{Progress, all_went, deeds_of, deliver_next, delivering, delivering_if, entering, heard_of, is_known_contract, is_lost, is_revision, marked, on, report_if, report_one, turned, unreported, went}
+use Rattle.smf_world.specs.Schedule.{Progress, all_went, deeds_of, deliver_next, delivering, delivering_if, entering, heard_of, is_known_contract, is_lost, is_revision, on, report_if, report_one, turned, unreported, went}
 use Rattle.smf_world.specs.Worked.{sent_at}
 use Rattle.smf_world.specs.World.{World}
 use Rattle.smf_drive.specs.Moves.{AllAlone, IsAlone, is_alone, is_plain}

@@ -1,5 +1,5 @@
 -- What a schedule does of itself is done by events that are no client's command, no crash and no boot.
-use Rattle.std.proofs.Common.{◌≡◌, ◌⊎◌, ℕ, Bool, true, false, List, [], ◌∷◌, ◌++◌, Option, Some, None, is_some, refl, sym, ap, ◌∙◌, subst}
+use Rattle.std.proofs.Common.{◌≡◌, ℕ, Bool, true, false, List, [], ◌∷◌, ◌++◌, Option, Some, None, is_some, refl, sym, ap, ◌∙◌, subst}
 use Rattle.smf_contract.specs.declared.event.Event.{Event as ContractEvent}
 use Rattle.smf_contract.specs.Entries.{contract}
 use Rattle.smf_wire.specs.declared.message.Message.{Message}
@@ -13,7 +13,7 @@ use Rattle.smf_world.specs.declared.schedule.Turn.TheVariants as turns
 use Rattle.smf_world.specs.Happens.{happens}
 use Rattle.smf_world.specs.Reached.{IsLater}
 use Rattle.smf_world.specs.Runs.{run}
-use Rattle.smf_world.specs.Schedule.{Progress, all_turned, all_went, deeds_of, deliver_next, delivering, delivering_if, entering, heard_of, is_known_contract, is_lost, is_revision, marked, on, refuses, report_if, report_one, tick_by, tick_one, turned, went}
+use Rattle.smf_world.specs.Schedule.{Progress, all_went, deeds_of, deliver_next, delivering, delivering_if, entering, heard_of, is_known_contract, is_lost, is_revision, marked, on, refuses, report_if, report_one, tick_by, tick_one, turned, went}
 use Rattle.smf_world.specs.Worked.{sent_at}
 use Rattle.smf_world.specs.World.{World}
 use Rattle.smf_drive.specs.Drives.{AreDriven, IsDriven, is_driven}

@@ -7,5 +7,6 @@ pub mod Steps
 pub mod Reaching
 pub mod Alikeness
 pub mod Passing
+pub mod Bonding
 pub mod Starting
 pub mod Agreeing

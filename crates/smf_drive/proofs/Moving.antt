@@ -1,5 +1,5 @@
 -- Moves, one behind another.
-use Rattle.std.proofs.Common.{◌≡◌, ◌⊎◌, ℕ, zero, suc, ◌+◌, Bool, true, false, List, [], ◌∷◌, ◌++◌, Option, Some, None, refl, sym, ap, ◌∙◌, subst, arith}
+use Rattle.std.proofs.Common.{◌≡◌, ℕ, zero, suc, ◌+◌, true, List, [], ◌∷◌, Option, Some, None, refl, sym, subst, arith}
 use Rattle.smf_edge.specs.Ledgers.{Ledger}
 use Rattle.smf_world.specs.declared.event.Event.{Event}
 use Rattle.smf_world.specs.declared.event.Event.TheVariants as events
@@ -9,10 +9,10 @@ use Rattle.smf_world.specs.World.{World}
 use Rattle.smf_drive.specs.declared.learning.News.{News}
 use Rattle.smf_drive.specs.Drives.{IsDriven, is_driven}
 use Rattle.smf_drive.specs.Learning.{news_of}
-use Rattle.smf_drive.specs.Moves.{AreMoves, IsAhead, IsAlone, IsMove, Moves, Reaches, AllAlone, happened, is_alone}
+use Rattle.smf_drive.specs.Moves.{AreMoves, IsAlone, IsMove, Moves, Reaches, AllAlone, happened, is_alone}
 use Rattle.smf_drive.specs.Moves.IsMove.{alone, unmade, spawned, killed, polled}
 use Rattle.smf_drive.specs.Moves.IsAhead.{is_same}
-use Rattle.smf_drive.proofs.Events.{driven_by, driven_same, driven_self, driven_then}
+use Rattle.smf_drive.proofs.Events.{driven_by, driven_same, driven_then}
 
 pub moves_none : (w : World) (l : Ledger) → Moves w w l l
 moves_none w l = (zero, (refl, refl))

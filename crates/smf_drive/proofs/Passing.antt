@@ -1,5 +1,5 @@
 -- What children note of processes that come and go, and which of them have ended.
-use Rattle.std.proofs.Common.{◌≡◌, ◌<◌, ◌≤◌, ℕ, ◌+◌, ◌==◌, nat_lt, Bool, true, false, cond, List, [], ◌∷◌, ◌++◌, length, map, filter, drop, Option, Some, None, option_map, refl, sym, ap, ◌∙◌, subst, arith, append_assoc, not}
+use Rattle.std.proofs.Common.{◌≡◌, ◌<◌, ◌≤◌, ℕ, ◌+◌, ◌==◌, nat_lt, Bool, true, false, cond, List, [], ◌∷◌, ◌++◌, length, map, filter, drop, Option, Some, None, IfSome, option_map, refl, sym, ap, ◌∙◌, subst, arith, append_assoc, not}
 use Rattle.std.specs.Prelude.{find, flat_map}
 use Rattle.std.proofs.Math.Seq.{drop-append_seam}
 use Rattle.std.proofs.lemmas.Bool.{eqb-true, ne_eqb}
@@ -13,16 +13,17 @@ use Rattle.smf_contract.specs.declared.event.EventKind.TheVariants as kinds
 use Rattle.smf_contract.specs.declared.event.Exit as ends
 use Rattle.smf_contract.specs.declared.event.Exit.TheVariants.{Killed}
 use Rattle.smf_contract.specs.declared.event.Failure.{Failure}
+use Rattle.smf_contract.specs.declared.event.Failure.TheVariants.{Core, Signal, Hwerr}
 use Rattle.smf_contract.specs.Called.{called, left_by, left_by_making}
-use Rattle.smf_contract.specs.Calls.{activity, emptied, ended, exited, exited_in, exits, exits_by_failure, failed, failed_in, failure_kind, forked, forked_in, is_fatal, next_number, noted, with_activity, with_failure}
+use Rattle.smf_contract.specs.Calls.{activity, emptied, exited, exited_in, exits, exits_by_failure, failed, failed_in, failure_kind, forked, forked_in, is_fatal, next_number, noted, with_activity, with_failure}
 use Rattle.smf_contract.specs.Entries.{Contracts, contract, has_members, home, is_in, is_process, last_event, outside, processes, without}
 use Rattle.smf_contract.specs.Laws.{Ascends, IsOrdered}
-use Rattle.smf_contract.proofs.Ordered.{ascends_filter}
+use Rattle.smf_contract.proofs.Ordered.{ascends_filter, next_is}
 use Rattle.smf_edge.specs.declared.deed.Happening.{Happening}
 use Rattle.smf_edge.specs.declared.deed.Happening.TheVariants as happenings
 use Rattle.smf_edge.specs.declared.note.Note.{Note}
 use Rattle.smf_edge.specs.declared.note.Note.TheVariants as notes
-use Rattle.smf_edge.specs.Ledgers.{call_of}
+use Rattle.smf_edge.specs.Ledgers.{call_of, forks_by}
 use Rattle.smf_edge.proofs.Firsts.{found_is}
 use Rattle.smf_edge.proofs.Members.{none_count}
 use Rattle.smf_drive.specs.Agrees.{ArePast, IsNoted, IsPast, Passage, ended_in, passages_in, passages_of}
@@ -143,12 +144,12 @@ AllGone low last fs (q ∷ qs) = (low < q) × (q ≤ last) × (at fs q ≡ None)
 
 gone_more : (low last : ℕ) (m : Member) (fs : List Member) (qs : List ℕ) → low < m.process → AllGone m.process last fs qs → AllGone low last (m ∷ fs) qs
 gone_more low last m fs [] h g = tt
-gone_more low last m fs (q ∷ qs) h g =
-    (
-      omega (arith, h, g.0), g.1,
-      skip (m.process == q) m (find (is_process q) fs) (ne_eqb m.process q (λ same. omega (arith, same, g.0))) ∙ g.2,
-      gone_more low last m fs qs h g.3,
-    )
+gone_more low last m fs (q ∷ qs) h g = (
+  omega (arith, h, g.0),
+  g.1,
+  skip (m.process == q) m (find (is_process q) fs) (ne_eqb m.process q (λ same. omega (arith, same, g.0))) ∙ g.2,
+  gone_more low last m fs qs h g.3,
+)
 
 gone_lower : (low high last : ℕ) (fs : List Member) (qs : List ℕ) → low < high → AllGone high last fs qs → AllGone low last fs qs
 gone_lower low high last fs [] h g = tt
@@ -156,12 +157,12 @@ gone_lower low high last fs (q ∷ qs) h g = (omega (arith, h, g.0), g.1, g.2, g
 
 outside_by : (b : Bool) (id low last : ℕ) (m : Member) (ms : List Member) → low < m.process → Ascends m.process (numbers ms) last → AllGone m.process last (outside id ms) (processes id ms)
     → AllGone low last (cond (not b) (m ∷ outside id ms) (outside id ms)) (map (λ x. x.process) (cond b (m ∷ filter (is_in id) ms) (filter (is_in id) ms)))
-outside_by true id low last m ms h a g =
-    (
-      h, ascends_last m.process last (numbers ms) a,
-      filter_none (λ x. not (is_in id x)) ms m.process (above_none m.process m.process last ms (omega arith) a),
-      gone_lower low m.process last (outside id ms) (processes id ms) h g,
-    )
+outside_by true id low last m ms h a g = (
+  h,
+  ascends_last m.process last (numbers ms) a,
+  filter_none (λ x. not (is_in id x)) ms m.process (above_none m.process m.process last ms (omega arith) a),
+  gone_lower low m.process last (outside id ms) (processes id ms) h g,
+)
 outside_by false id low last m ms h a g = gone_more low last m (outside id ms) (processes id ms) h g
 
 all_outside : (id low last : ℕ) (ms : List Member) → Ascends low (numbers ms) last → AllGone low last (outside id ms) (processes id ms)
@@ -272,6 +273,8 @@ pub record IsTelling (t u : Contracts) (h : Happening) (p : ℕ) (e : Event) (du
   pub kind : KindOf h p e.kind
   pub events : u.events ≡ t.events ++ e ∷ due
   pub past : ArePast u due
+  pub contracts : u.contracts ≡ t.contracts
+  pub last : u.last_process ≡ t.last_process + length (forks_by e.contract e.kind)
 
 given_is : (e first : Event) (due more : List Event) → first ∷ more ≡ e ∷ due → (first ≡ e) × (more ≡ due)
 given_is e first due more h = (let P : first ≡ e = cc in P, let P : more ≡ due = cc in P)
@@ -279,8 +282,7 @@ given_is e first due more h = (let P : first ≡ e = cc in P, let P : more ≡ d
 tells_first : (kind : EventKind) (u : Contracts) (es fs : List Event) (e : Event) (due : List Event) → Tells kind u es fs → drop (length es) fs ≡ e ∷ due → (e.kind ≡ kind) × (fs ≡ es ++ e ∷ due) × ArePast u due
 tells_first kind u es fs e due s h =
     let all : s.first ∷ s.more ≡ e ∷ due = sym (ap (drop (length es)) s.is ∙ drop-append_seam es (s.first ∷ s.more)) ∙ h in
-    let parts = given_is e s.first due s.more all in
-    (
+    let parts = given_is e s.first due s.more all in (
       ap (λ x. x.kind) (sym parts.0) ∙ s.kind_is,
       s.is ∙ ap (λ xs. es ++ xs) all,
       let P : List Event → Type 0 = λ xs. ArePast u xs in subst P parts.1 s.each,
@@ -293,12 +295,30 @@ none_told es e due h =
     let no : [] ≡ e ∷ due = sym here ∙ h in
     absurd cc
 
-fork_telling : (t : Contracts) (id p : ℕ) (e : Event) (due : List Event) (n : Option ℕ) → let u : Contracts = left_by_making t (forked_in t (Some id) n) in drop (length t.events) u.events ≡ e ∷ due → IsTelling t u happenings.Fork p e due
-fork_telling t id p e due None h = absurd (none_told t.events e due h)
-fork_telling t id p e due (Some child) h =
+-- numbers are given to forks alone
+last_same : (t : Contracts) (e : Event) (kind : EventKind) → e.kind ≡ kind → forks_by e.contract kind ≡ [] → t.last_process ≡ t.last_process + length (forks_by e.contract e.kind)
+last_same t e kind is none =
+    let count : length (forks_by e.contract e.kind) ≡ 0 = ap (λ k. length (forks_by e.contract k)) is ∙ ap length none in
+    omega (arith, count)
+
+last_forked : (t : Contracts) (e : Event) (child : ℕ) → e.kind ≡ kinds.Fork child → child ≡ t.last_process + 1 → child ≡ t.last_process + length (forks_by e.contract e.kind)
+last_forked t e child is next =
+    let count : length (forks_by e.contract e.kind) ≡ 1 = ap (λ k. length (forks_by e.contract k)) is in
+    omega (arith, count, next)
+
+no_fork : (f : Failure) (id p : ℕ) → forks_by id (failure_kind f p) ≡ []
+no_fork Core id p = refl
+no_fork Signal id p = refl
+no_fork Hwerr id p = refl
+
+fork_telling : (t : Contracts) (id p : ℕ) (e : Event) (due : List Event) (n : Option ℕ) → n ≡ next_number t.last_process → let u : Contracts = left_by_making t (forked_in t (Some id) n) in drop (length t.events) u.events ≡ e ∷ due → IsTelling t u happenings.Fork p e due
+fork_telling t id p e due None next h = absurd (none_told t.events e due h)
+fork_telling t id p e due (Some child) next h =
     let u : Contracts = left_by_making t (forked_in t (Some id) (Some child)) in
     let parts = tells_first (kinds.Fork child) u t.events u.events e due (fork_tells t id child) h in
-    record { kind = (child, parts.0); events = parts.1; past = parts.2 }
+    let P : Option ℕ → Type 0 = λ x. IfSome x (λ k. k ≡ t.last_process + 1) in
+    let number : child ≡ t.last_process + 1 = subst P (sym next) (next_is t.last_process) in
+    record { kind = (child, parts.0); events = parts.1; past = parts.2; contracts = refl; last = last_forked t e child parts.0 number }
 
 abbrev Telling : Contracts → ℕ → ℕ → Happening → Event → List Event → Type 0
 Telling t id p h e due = drop (length t.events) (called t (call_of p h)).events ≡ e ∷ due → IsTelling t (called t (call_of p h)) h p e due
@@ -307,22 +327,22 @@ telling_by : (t : Contracts) (id p : ℕ) (h : Happening) (e : Event) (due : Lis
 unfolding called forked exited failed
 telling_by t id p happenings.Fork e due o member =
     let P : Option ℕ → Type 0 = λ x. drop (length t.events) (left_by_making t (forked_in t x (next_number t.last_process))).events ≡ e ∷ due → IsTelling t (left_by_making t (forked_in t x (next_number t.last_process))) happenings.Fork p e due in
-    subst P (sym member) (fork_telling t id p e due (next_number t.last_process))
+    subst P (sym member) (fork_telling t id p e due (next_number t.last_process) refl)
 telling_by t id p (happenings.Exit exit) e due o member =
     let P : Option ℕ → Type 0 = λ x. drop (length t.events) (left_by t (exited_in t p exit x)).events ≡ e ∷ due → IsTelling t (left_by t (exited_in t p exit x)) (happenings.Exit exit) p e due in
     subst P (sym member) (λ h.
-      let u : Contracts = left_by t (exited_in t p exit (Some id)) in
-      let parts = tells_first (kinds.Exit p exit) u t.events u.events e due (exit_tells t id p exit) h in
-      record { kind = parts.0; events = parts.1; past = parts.2 }
+    let u : Contracts = left_by t (exited_in t p exit (Some id)) in
+    let parts = tells_first (kinds.Exit p exit) u t.events u.events e due (exit_tells t id p exit) h in
+    record { kind = parts.0; events = parts.1; past = parts.2; contracts = refl; last = last_same t e (kinds.Exit p exit) parts.0 refl }
     )
 telling_by t id p (happenings.Fail f) e due o member =
     let P : Option ℕ → Type 0 = λ x. drop (length t.events) (left_by t (failed_in t p f x)).events ≡ e ∷ due → IsTelling t (left_by t (failed_in t p f x)) (happenings.Fail f) p e due in
     let low : p ≤ t.last_process = below_last id p 0 t.last_process t.members o.members_ascend (sym (home_at t.members p) ∙ member) in
     subst P (sym member) (λ h.
-      let fatal : Bool = is_fatal f (contract t id) in
-      let u : Contracts = failed_by fatal t id p f in
-      let parts = tells_first (failure_kind f p) u t.events u.events e due (fail_tells fatal t id p f o.members_ascend low) h in
-      record { kind = parts.0; events = parts.1; past = parts.2 }
+    let fatal : Bool = is_fatal f (contract t id) in
+    let u : Contracts = failed_by fatal t id p f in
+    let parts = tells_first (failure_kind f p) u t.events u.events e due (fail_tells fatal t id p f o.members_ascend low) h in
+    record { kind = parts.0; events = parts.1; past = parts.2; contracts = refl; last = last_same t e (failure_kind f p) parts.0 (no_fork f e.contract p) }
     )
 
 pub telling : (t u : Contracts) (id p : ℕ) (h : Happening) (e : Event) (due : List Event) → IsOrdered t → home t.members p ≡ Some id → u ≡ called t (call_of p h) → drop (length t.events) u.events ≡ e ∷ due → IsTelling t u h p e due

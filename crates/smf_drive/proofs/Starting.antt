@@ -130,8 +130,8 @@ begun_shows ks t call items begun rows (at_once s plain is) all none =
 begun_shows ks t call items begun rows (spawned_in s c cookie terms next cookie_is call_is is) all none =
     let start : Start = record { contract = c; cookie = packed (record { instance = s.of.instance; run = s.owed.run; method = s.owed.method }); command = s.owed.call.command } in
     shows_one s.restarter.actor c cookie terms s.owed.call.command call_is (
-      ap starts all ∙ between rows begun (emptied_items t call) none (emptied_none t call) ∙ ap starts is ∙ append-nil (start_if (c == 0) start)
-      ∙ start_of (c == 0) start _ (numbered t c next) (ap (λ x. record { contract = c; cookie = x; command = s.owed.call.command }) cookie_is)
+    ap starts all ∙ between rows begun (emptied_items t call) none (emptied_none t call) ∙ ap starts is ∙ append-nil (start_if (c == 0) start)
+    ∙ start_of (c == 0) start _ (numbered t c next) (ap (λ x. record { contract = c; cookie = x; command = s.owed.call.command }) cookie_is)
     )
 
 tabled_shows : (ks : List Knowledge) (t : Contracts) (items : List Item) (call : ContractCall) → IsTabled ks t items call → Shows call items
@@ -163,6 +163,7 @@ one_start call items b c actor cookie terms rest s asked all some = by s (all �
   where
     first : Start
     first = record { contract = c; cookie = packed (record { instance = b.instance; run = b.run; method = b.method }); command = b.command }
+
     by : Shows call items → starts items ≡ first ∷ rest → starts items ≡ record { contract = c; cookie = Ok cookie; command = b.command } ∷ []
     by (shows_none none) is = let no : [] ≡ first ∷ rest = sym none ∙ is in absurd cc
     by (shows_one a d k more command is one) shown =

@@ -1,5 +1,5 @@
 -- Turns for instances and rounds, where children answer.
-use Rattle.std.proofs.Common.{◌≡◌, ◌⊎◌, ◌<◌, ℕ, zero, suc, ◌+◌, ◌-◌, ◌&&◌, inl, inr, Bool, true, false, List, [], ◌∷◌, ◌++◌, Option, Some, None, refl, sym, ap, ◌∙◌, subst, length, get_or, drop, arith}
+use Rattle.std.proofs.Common.{◌≡◌, ◌<◌, ℕ, suc, ◌+◌, ◌-◌, ◌&&◌, Bool, true, false, List, [], ◌∷◌, ◌++◌, Option, Some, None, refl, sym, ap, ◌∙◌, subst, length, get_or, drop, arith}
 use Rattle.std.proofs.Math.Seq.{drop-cons}
 use Rattle.smf_contract.specs.Entries.{Contracts}
 use Rattle.smf_contract.specs.declared.terms.Terms.{Terms}
@@ -10,7 +10,6 @@ use Rattle.smf_restarter.specs.declared.reply.Begun.{Begun}
 use Rattle.smf_restarter.specs.declared.reply.Call.{Call}
 use Rattle.smf_restarter.specs.declared.reply.Call.TheVariants as calls
 use Rattle.smf_world.specs.declared.event.Event.TheVariants as events
-use Rattle.smf_world.specs.declared.event.SpawnAnswer.{SpawnAnswer}
 use Rattle.smf_world.specs.declared.event.SpawnAnswer.TheVariants as spawns
 use Rattle.smf_world.specs.declared.schedule.Deed.{Deed}
 use Rattle.smf_world.specs.declared.schedule.Deed.TheVariants as deeds
@@ -21,10 +20,8 @@ use Rattle.smf_world.specs.Worked.{restarter}
 use Rattle.smf_world.specs.World.{World}
 use Rattle.smf_drive.specs.declared.asking.Ask.{Ask}
 use Rattle.smf_drive.specs.declared.asking.Ask.TheVariants.{Nothing, Unnumbered, Spawn, Kill}
-use Rattle.smf_drive.specs.declared.asking.Wanted.{Wanted}
 use Rattle.smf_drive.specs.declared.learning.News.{News}
-use Rattle.smf_drive.specs.Answered.{HasGone, HaveGone, IsAnswered, TickedIf, asks_kill, is_kill}
-use Rattle.smf_drive.specs.Answered.IsAnswered.{goes, is_refused, is_not_followed, is_owed}
+use Rattle.smf_drive.specs.Answered.{HasGone, HaveGone, asks_kill, is_kill}
 use Rattle.smf_drive.specs.Asking.{asked, asked_by, asked_of, kill_if, wanted, wanted_in}
 use Rattle.smf_drive.specs.Learning.{HasHeard, HasLearned, all_learned, learned}
 use Rattle.smf_drive.specs.Moves.{IsUnmade, Moves, happened}

@@ -1,5 +1,5 @@
 -- Where what children keep and what the node's world says agree.
-use Rattle.std.specs.Prelude.{◌≡◌, ◌≤◌, ◌==◌, ℕ, List, [], ◌∷◌, ◌++◌, map, flat_map, reverse, Bool, true, false, None, Result, Ok}
+use Rattle.std.specs.Prelude.{◌≡◌, ◌≤◌, ◌==◌, ◌+◌, ℕ, List, [], ◌∷◌, ◌++◌, length, map, flat_map, reverse, Bool, true, false, None, Result, Ok}
 use Rattle.smf_contract.specs.declared.contract.Contract.{Contract}
 use Rattle.smf_contract.specs.declared.contract.Holder.TheVariants.{Inherited}
 use Rattle.smf_contract.specs.declared.cookie.CookieFault.{CookieFault}
@@ -7,6 +7,7 @@ use Rattle.smf_contract.specs.declared.event.Event.{Event}
 use Rattle.smf_contract.specs.declared.event.EventKind.{EventKind}
 use Rattle.smf_contract.specs.declared.event.EventKind.TheVariants as kinds
 use Rattle.smf_contract.specs.declared.event.Exit.TheVariants.{Killed}
+use Rattle.smf_contract.specs.declared.terms.Terms.{Terms}
 use Rattle.smf_contract.specs.Cookies.{packed}
 use Rattle.smf_contract.specs.Entries.{Contracts, home}
 use Rattle.smf_contract.specs.Laws.{IsOrdered}
@@ -55,6 +56,23 @@ pub record AreAlike (t u : Contracts) : Type 0 where
   pub last_contract : t.last_contract ≡ u.last_contract
   pub last_process : t.last_process ≡ u.last_process
 
+-- what a contract has of the run that made it
+pub record Bond : Type 0 where
+  pub contract : ℕ
+  pub cookie : ℕ
+  pub terms : Terms
+
+abbrev pub bond_of : Contract → Bond
+bond_of c = record { contract = c.id; cookie = c.cookie; terms = c.terms }
+
+abbrev pub bond_by : Run → Bond
+bond_by run = record { contract = run.contract; cookie = run.cookie; terms = run.terms }
+
+-- the runs that were made end with those of the contracts of the table, in order; those before them were made before a
+-- boot
+abbrev pub AreMade : List Run → List Contract → Type 0
+AreMade runs cs = (earlier : List Bond) × (map bond_by runs ≡ earlier ++ map bond_of cs)
+
 -- ---- processes
 
 -- a process of a contract that came or went
@@ -98,11 +116,13 @@ ArePast t (e ∷ es) = IsPast t e.kind × ArePast t es
 
 -- ---- a node and its children
 
--- the runs that were made are those of the trail, in order; both have the same contracts, members and events; the forks
--- and ends that children noted, kills among them, are those of the events, in order; and what is given later brings
--- nothing more
+-- the runs that were made are those of the trail, in order, and those of the contracts; processes have the numbers of the
+-- runs and forks; both have the same contracts, members and events; the forks and ends that children noted, kills among
+-- them, are those of the events, in order; and what is given later brings nothing more
 pub record Agrees (w : World) (l : Ledger) : Type 0 where
   pub starts : flat_map starts_of (reverse w.trail) ≡ map start_by (record_of l.notes).runs
+  pub made : AreMade (record_of l.notes).runs w.table.contracts
+  pub counted : w.table.last_process ≡ length (record_of l.notes).runs + length (record_of l.notes).forks
   pub alike : AreAlike w.table l.table
   pub noted : IsNoted l.notes w.table.events
   pub past : ArePast l.table l.due

@@ -1,5 +1,5 @@
 -- What the turn of a restarter for an instance asks of children.
-use Rattle.std.specs.Prelude.{◌≡◌, ℕ, ◌==◌, List, [], ◌∷◌, find, Bool, true, false, if◌then◌else◌, Option, Some, None}
+use Rattle.std.specs.Prelude.{ℕ, ◌==◌, List, [], ◌∷◌, find, Bool, true, false, Option, Some, None}
 use Rattle.smf_contract.specs.declared.contract.Contract.{Contract}
 use Rattle.smf_contract.specs.declared.contract.Holder.{Holder}
 use Rattle.smf_contract.specs.declared.contract.Holder.TheVariants.{Held, Inherited, Abandoned}

@@ -1,5 +1,5 @@
 -- A drive, move by move: each is at most one call of the children that changes what they keep, and at most one event.
-use Rattle.std.specs.Prelude.{◌≡◌, ◌⊎◌, ℕ, zero, suc, List, [], ◌∷◌, Bool, true, false, Option, Some, None}
+use Rattle.std.specs.Prelude.{◌≡◌, ℕ, zero, suc, List, [], ◌∷◌, Bool, true, false, Option, Some, None}
 use Rattle.smf_contract.specs.declared.event.Event.{Event as ContractEvent}
 use Rattle.smf_edge.specs.declared.note.Run.{Run}
 use Rattle.smf_edge.specs.Ledgers.{Ledger}

@@ -1,1 +1,2 @@
 pub mod Unbooted
+pub mod Ended

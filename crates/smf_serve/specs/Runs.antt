@@ -1,5 +1,5 @@
 -- What a script over a database and the children of its services prints, and how such a run ends.
-use Rattle.std.specs.Prelude.{◌≡◌, ℕ, List, Option}
+use Rattle.std.specs.Prelude.{◌≡◌, ◌⊎◌, ℕ, List, Option}
 use Rattle.std_io.specs.declared.io.error.Error.{Error}
 use Rattle.sqlite.specs.Held.{Held}
 use Rattle.sqlite.specs.Store.{Ghosts}
@@ -10,7 +10,7 @@ use Rattle.smf_model.specs.Holdings.{Holdings}
 use Rattle.smf_node.specs.declared.fault.NodeFault.{NodeFault}
 use Rattle.smf_node.specs.Faults.{IsUnbooted}
 use Rattle.smf_run.specs.Asks.{Seen}
-use Rattle.smf_run.specs.Ends.{Ends}
+use Rattle.smf_run.specs.Ends.{HasEnded, IsUnlisted}
 use Rattle.smf_run.specs.Scripts.{HasRun, Stops}
 use Rattle.smf_script.specs.declared.fault.ScriptFault.{ScriptFault}
 use Rattle.smf_script.specs.declared.fault.ScriptFault.TheVariants.{Node}
@@ -31,12 +31,16 @@ first h = begun_at (happens (found h) events.Boot)
 
 -- ---- over what was found
 
+-- what was left of children was asked to end, where they could list it
+abbrev pub AreEnded : Skills → Seen → Seen → Type 0
+AreEnded k old new = HasEnded k old new ⊎ IsUnlisted k old new
+
 -- all lines were done and what they gave was written; then what was left of children was ended, and the trail is safe
 pub record HasRunOver (k : Skills) (h : Holdings) (input : Option (List ℕ)) (old new : Seen) (was is : Option (List ℕ)) (status : ℕ) : Type 0 where
   pub after : Progress
   pub mid : Seen
   pub ran : HasRun k (begun (first h)) input old mid after was is status
-  pub ended : Ends k mid new
+  pub ended : AreEnded k mid new
   pub safe : IsSafe after.world
 
 -- the node did not begin
@@ -52,7 +56,7 @@ pub record HasStopped (k : Skills) (stores : RepoFault → Type 0) (reads writes
   pub mid : Seen
   pub stops : Stops k stores fault (begun (first h)) input old mid after was is
   pub why : IsWhy stores reads writes fault
-  pub ended : Ends k mid new
+  pub ended : AreEnded k mid new
   pub safe : IsSafe after.world
 
 pub data IsCutOff (k : Skills) (stores : RepoFault → Type 0) (reads writes : Error → Type 0) (h : Holdings) (input : Option (List ℕ)) (old new : Seen) (was is : Option (List ℕ)) (fault : ScriptFault) : Type 0 where

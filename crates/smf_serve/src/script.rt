@@ -34,7 +34,7 @@ fn run_over<J: Journal + Drop, R: LineReader, W: TextWriter, K: Kids>(
         Err((fault, _)) => return Err(ScriptFault::Node(fault)),
     };
     let end = run_script(alloc, reader, writer, &mut node, kids);
-    end_all(kids);
+    let _is_listed: bool = end_all(kids);
     end
 }
 

@@ -1,5 +1,7 @@
 -- What is read of the six tables stands in them.
-use Rattle.std.proofs.Common.{◌≡◌, ◌⊎◌, inl, inr, ℕ, pos, codes, Some, None, true, false, List, [], ◌∷◌, Ok, Err, IsTrue, refl, sym, ap, subst, ◌∙◌}
+use Rattle.std.proofs.Common.{◌≡◌, ◌⊎◌, inl, inr, ℕ, pos, codes, Some, None, true, false, List, [], ◌∷◌, Result, Ok, Err, IsTrue, refl, sym, ap, subst, ◌∙◌}
+use Rattle.std.specs.Prelude.{IfErr}
+use Rattle.std.specs.Result.{IsErrAnd}
 use Rattle.sqlite.specs.Order.{Row}
 use Rattle.sqlite.specs.Tree.{Trees}
 use Rattle.sqlite.specs.Effect.{Database, IsDatabase}
@@ -25,7 +27,7 @@ use Rattle.smf_store.specs.declared.refusal.OpenFault.{OpenFault}
 use Rattle.smf_store.specs.declared.refusal.OpenFault.TheVariants.{Memory, Database as Failed, Version as OtherVersion, Damaged, TooManyInstances}
 use Rattle.smf_store.specs.Judged.{IsJudged, judged}
 use Rattle.smf_store.specs.Shown.{Counter, Version, Layout, Revision, NextInstance, NextSnapshot, Count, count_of, counter_text, first_count_of, HasCount, HasCountIn, ShowsCount, ShowsInstance, OwnedGroup, ShowsGroup, ShowsSnapshot, ShowsLaunch}
-use Rattle.smf_store.specs.Stages.{AreAllKeyed, AreListed, IsFailure, IsRaised, IsSaid, Lists, MayRead, Opened, Raises, RaisesFrom, Reads, Says, raised, stayed}
+use Rattle.smf_store.specs.Stages.{AreAllKeyed, AreListed, IsFailure, IsRaised, IsRefused, IsSaid, Lists, MayRead, Opened, Raises, RaisesFrom, Reads, Says, raised, stayed}
 use Rattle.smf_store.proofs.Makes.{shows_then}
 use Rattle.smf_store.proofs.Six.{Six, Presents, holds, six_of}
 use Rattle.smf_store.proofs.Statements as step
@@ -221,6 +223,18 @@ failure_said trees Failed f = tt
 failure_said trees (OtherVersion n) f = absurd f
 failure_said trees (Damaged table) f = absurd f
 failure_said trees TooManyInstances f = absurd f
+
+pub failing_said : {X : Type 0} (trees : Trees) (r : Result X OpenFault) → IsErrAnd r IsFailure → IfErr r (IsSaid trees)
+failing_said trees (Ok x) p = tt
+failing_said trees (Err e) p = failure_said trees e p
+
+pub failing_refused : {X : Type 0} (db : Database) (r : Result X OpenFault) → IsErrAnd r IsFailure → IfErr r (IsRefused db)
+failing_refused db (Ok x) p = tt
+failing_refused db (Err e) p = inr (failure_said db.trees e p)
+
+pub said_refused : {X : Type 0} (db : Database) (r : Result X OpenFault) (e : OpenFault) → IsErrAnd r (λ y. y ≡ e) → IsSaid db.trees e → IfErr r (IsRefused db)
+said_refused db (Ok x) e p said = tt
+said_refused db (Err y) e p said = inr (subst (IsSaid db.trees) (sym p) said)
 
 pub judged_said : (trees : Trees) (rows : StoreRows) (e : OpenFault) → AreListed rows trees → IsJudged (Err e) (judged rows) → IsSaid trees e
 judged_said trees rows Memory l j = tt

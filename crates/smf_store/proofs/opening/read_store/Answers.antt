@@ -1,4 +1,4 @@
-use Rattle.std.proofs.Common.{◌≡◌, ◌∙◌, inr, refl, sym, subst, rules, arith, true}
+use Rattle.std.proofs.Common.{◌≡◌, ◌∙◌, refl, sym, subst, rules, arith, true}
 use Rattle.sqlite.specs.State.{HasCleanDisk, Survives}
 use Rattle.sqlite.specs.Held.{state}
 use Rattle.sqlite.proofs.StateLemmas.{survives_then}

@@ -1,0 +1,9 @@
+use Rattle.std.proofs.Common.{sym, subst}
+use Rattle.smf_model.specs.Holdings.{Holdings}
+use Rattle.smf_store.specs.Opens.{IsOpenedAs}
+use Rattle.smf_store.proofs.repository.open_repository.Goals as goal
+
+pub returns-in-Ok-clause-opened : goal.returns-in-Ok-clause-opened
+returns-in-Ok-clause-opened g c =
+    subst (λ (h : Holdings). IsOpenedAs g.S.Store c.args.conn h) (sym c.over.ensures.held)
+    (record { opened = c.in-Ok.store.conn; found = c.in-Ok.ensures.found; crash = c.in-Ok.ensures.crash })
