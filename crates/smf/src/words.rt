@@ -13,7 +13,9 @@ pub(crate) fn matches<'a>(alloc: Global, words: &'a [String]) -> Result<ArgMatch
 }
 
 fn sim<'a>(alloc: Global) -> Command<'a> {
-    Command::new(alloc, "sim").about("Does a script over a repository in memory, with simulated processes")
+    Command::new(alloc, "sim").about(
+        "Does a script over a repository in memory, with simulated processes",
+    )
 }
 
 fn run<'a>(alloc: Global) -> Result<Command<'a>, Error> {

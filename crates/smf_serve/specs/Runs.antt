@@ -63,6 +63,12 @@ pub data IsCutOff (k : Skills) (stores : RepoFault → Type 0) (reads writes : E
   unbooted : (e : NodeFault) → fault ≡ Node e → HasNotBegun stores h old new was is e → IsCutOff k stores reads writes h input old new was is fault
   stopped : HasStopped k stores reads writes h input old new was is fault → IsCutOff k stores reads writes h input old new was is fault
 
+-- the fault that ended it was told
+pub record IsCut (k : Skills) (stores : RepoFault → Type 0) (reads writes tells : Error → Type 0) (h : Holdings) (input : Option (List ℕ)) (old new : Seen) (was is told_old told_new : Option (List ℕ)) : Type 0 where
+  pub fault : ScriptFault
+  pub cut : IsCutOff k stores reads writes h input old new was is fault
+  pub told : IsTold tells told_old told_new (fault_text fault)
+
 -- ---- over a database
 
 -- no fault ended the run: the script was done over what the database was opened with
@@ -75,6 +81,5 @@ pub record IsDone {S : Type 0} (g : Ghosts S) (conn : Held S) (k : Skills) (inpu
 pub data IsEnded {S : Type 0} (g : Ghosts S) (conn : Held S) (k : Skills) (stores : RepoFault → Type 0) (reads writes tells : Error → Type 0) (input : Option (List ℕ)) (old new : Seen) (was is told_old told_new : Option (List ℕ)) : Type 0 where
   unopened : new ≡ old → IsNotOpened g conn tells was is told_old told_new
       → IsEnded g conn k stores reads writes tells input old new was is told_old told_new
-  cut : (held : Holdings) → IsOpenedAs g conn held → (fault : ScriptFault)
-      → IsCutOff k stores reads writes held input old new was is fault → IsTold tells told_old told_new (fault_text fault)
+  cut : (held : Holdings) → IsOpenedAs g conn held → IsCut k stores reads writes tells held input old new was is told_old told_new
       → IsEnded g conn k stores reads writes tells input old new was is told_old told_new
