@@ -1,14 +1,16 @@
-//! `smf`: reads a script on standard input and does it over a repository in memory.
-//! Rooms: `serving` (a run over any reader and writers), `words` (the program's words).
+//! `smf`: does scripts of a service manager on standard input, over a repository in memory or over a database and the
+//! processes of its services, and lines of svccfg over a database.
+//! Rooms: `files` (the files that words name), `words` (the program's words).
 #![tactic(auto)]
 
-mod serving;
+mod files;
 mod words;
 
-use crate::serving::{serve, tell};
+use crate::files::{cfg_over, run_over};
 use crate::words::matches;
-use clap::Error;
+use clap::{ArgMatches, Error};
 use smf_lines::NotedReader;
+use smf_serve::{serve_sim, tell};
 use std::io::BufReader;
 use std::process::ExitCode;
 use std::{env, io};
@@ -27,15 +29,35 @@ fn refuse(rt: &HostRuntime, e: &Error) -> u8 {
     }
 }
 
-/// Reads the words, and runs what they ask for.
-fn run(rt: &HostRuntime) -> io::Result<u8> {
-    let alloc = rt.alloc();
-    let words: Vec<String> = env::args(rt)?.collect(alloc)?;
-    if let Err(e) = matches(alloc, words.as_slice()) {
-        return Ok(refuse(rt, &e));
+/// Does a script in memory.
+fn sim(rt: &HostRuntime) -> io::Result<u8> {
+    let mut reader = NotedReader::new(BufReader::new(rt.alloc(), rt.reader())?);
+    Ok(serve_sim(
+        rt.alloc(),
+        &mut reader,
+        &mut io::writer(rt),
+        &mut rt.stderr(),
+    ))
+}
+
+/// Does what words ask for.
+fn obey(rt: &HostRuntime, found: &ArgMatches<'_>) -> io::Result<u8> {
+    if let Some(words) = found.subcommand_matches("run") {
+        return run_over(rt, words.get_str("DB").unwrap_or(""));
     }
-    let mut reader = NotedReader::new(BufReader::new(alloc, rt.reader())?);
-    Ok(serve(alloc, &mut reader, &mut io::writer(rt), &mut rt.stderr()))
+    match found.subcommand_matches("cfg") {
+        Some(words) => cfg_over(rt, words.get_str("FILE"), words.get_str("DB").unwrap_or("")),
+        None => sim(rt),
+    }
+}
+
+/// Reads the words, and does what they ask for.
+fn run(rt: &HostRuntime) -> io::Result<u8> {
+    let words: Vec<String> = env::args(rt)?.collect(rt.alloc())?;
+    match matches(rt.alloc(), words.as_slice()) {
+        Ok(found) => obey(rt, &found),
+        Err(e) => Ok(refuse(rt, &e)),
+    }
 }
 
 fn main(rt: HostRuntime) -> ExitCode {

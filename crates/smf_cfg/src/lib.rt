@@ -11,5 +11,5 @@ mod session;
 pub use fault::{RunFault, SessionFault};
 pub use output::{LineEnd, Output};
 pub use run::run_cfg;
-pub use serving::{serve_cfg, tell};
+pub use serving::{read_text, serve_cfg, tell};
 pub use session::Session;

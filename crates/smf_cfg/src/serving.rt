@@ -16,7 +16,8 @@ use std::io;
 /// The status of a run that was ended by a fault.
 const FAULT: u8 = 3;
 
-fn read_text(fault: &ReadFault) -> &'static str
+/// What is told where lines could not be read.
+pub fn read_text(fault: &ReadFault) -> &'static str
     ensures { result.now ≡ read_text fault.now }
 {
     match fault {

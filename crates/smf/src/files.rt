@@ -1,0 +1,53 @@
+use smf_edge::OsKids;
+use smf_lines::{LineReader, NotedReader};
+use smf_serve::{serve, serve_cfg, tell};
+use sqlite::Connection;
+use std::fs::File;
+use std::io;
+use std::io::BufReader;
+
+/// Does a script over the database in a file, with processes of the system.
+pub(crate) fn run_over(rt: &HostRuntime, database: &str) -> io::Result<u8> {
+    let alloc = rt.alloc();
+    let mut errors = rt.stderr();
+    let Ok(conn) = Connection::open(rt, database) else {
+        return Ok(tell(&mut errors, "smf: store: database failed"));
+    };
+    let mut reader = NotedReader::new(BufReader::new(alloc, rt.reader())?);
+    let mut kids = OsKids::new(alloc, rt, rt.stderr());
+    Ok(serve(
+        alloc,
+        conn,
+        &mut reader,
+        &mut io::writer(rt),
+        &mut errors,
+        &mut kids,
+    ))
+}
+
+/// Does lines of svccfg over the database in a file: those of another file, or of standard input.
+pub(crate) fn cfg_over(rt: &HostRuntime, lines: Option<&str>, database: &str) -> io::Result<u8> {
+    let alloc = rt.alloc();
+    match lines {
+        Some(path) => {
+            let Ok(file) = File::open(rt, path) else {
+                return Ok(tell(&mut rt.stderr(), "smf: input failed"));
+            };
+            let mut reader = NotedReader::new(BufReader::new(alloc, file)?);
+            Ok(cfg_of(rt, &mut reader, database))
+        }
+        None => {
+            let mut reader = NotedReader::new(BufReader::new(alloc, rt.reader())?);
+            Ok(cfg_of(rt, &mut reader, database))
+        }
+    }
+}
+
+/// Does lines of svccfg over the database in a file.
+fn cfg_of<R: LineReader>(rt: &HostRuntime, reader: &mut R, database: &str) -> u8 {
+    let mut errors = rt.stderr();
+    match Connection::open(rt, database) {
+        Ok(conn) => serve_cfg(rt.alloc(), conn, reader, &mut io::writer(rt), &mut errors),
+        Err(_) => tell(&mut errors, "smf: store: database failed"),
+    }
+}

@@ -1,0 +1,55 @@
+-- What a line does, by what is done for what it asks.
+use Rattle.std.proofs.Common.{◌≡◌, inl, ℕ, List, Bool, Result, Ok, Err, IfErr, IfOk, refl, sym, subst}
+use Rattle.std.specs.Result.{IsErrAnd}
+use Rattle.smf_edge.specs.Answers.{Skills}
+use Rattle.smf_edge.specs.Ledgers.{Ledger}
+use Rattle.smf_drive.specs.Moves.{Reaches, is_same}
+use Rattle.smf_model.specs.declared.journal.RepoFault.{RepoFault}
+use Rattle.smf_node.specs.declared.fault.NodeFault.{NodeFault}
+use Rattle.smf_node.specs.declared.fault.NodeFault.TheVariants.{Memory}
+use Rattle.smf_run.specs.Asks.{Seen, to_act}
+use Rattle.smf_run.specs.Failing.{LineFails, fails_alone, fails_together}
+use Rattle.smf_run.specs.Lines.{AskedBy, DoesWith, HasDone, HasPut, deed, effect, happening, together}
+use Rattle.smf_script.specs.declared.request.Request.{Request}
+use Rattle.smf_script.specs.declared.request.Request.TheVariants as requests
+use Rattle.smf_script.specs.Failing.{MayEnd}
+use Rattle.smf_script.specs.Session.{Session}
+use Rattle.smf_world.specs.declared.event.ProcessEvent.{ProcessEvent}
+use Rattle.smf_world.specs.Schedule.{Progress}
+use Rattle.smf_world.specs.World.{World}
+
+-- what the exit of a `?` gives
+pub passed_on : {X : Type 0} (r : Result X NodeFault) (e : NodeFault) (P : NodeFault → Type 0) → IsErrAnd r (λ y. y ≡ e) → P e → IfErr r P
+passed_on (Ok x) e P q p = tt
+passed_on (Err y) e P q p = subst P (sym q) p
+
+-- what is done where children have a part
+together_by : (k : Skills) (request : Request) (s : Session) (old new : Seen) (q : Progress) (b b' : List ℕ) (r : Result Bool NodeFault)
+    → IfOk r (λ fine. HasPut (λ text. DoesWith k request s.progress old new (deed q fine text)) b b')
+    → IfOk r (λ fine. HasPut (λ text. HasDone k request s old new (effect (record { progress = q; selection = s.selection }) fine text)) b b')
+together_by k request s old new q b b' (Ok fine) h = record { text = h.text; put = h.put; is = together refl h.is }
+together_by k request s old new q b b' (Err e) h = tt
+
+-- something happens to a process
+pub process_done : (k : Skills) (request : Request) (word : List ℕ) (what : ProcessEvent) (s : Session) (old new : Seen) (b b' : List ℕ) (r : Result Bool NodeFault)
+    → request ≡ requests.Process word what
+    → IfOk r (λ fine. HasPut (λ text. AskedBy k s.progress (λ id. to_act id (happening what)) word old new (deed s.progress fine text)) b b')
+    → IfOk r (λ fine. HasPut (λ text. HasDone k request s old new (effect s fine text)) b b')
+process_done k request word what s old new b b' r is h =
+    subst (λ q. IfOk r (λ fine. HasPut (λ text. HasDone k q s old new (effect s fine text)) b b')) (sym is) (together_by k (requests.Process word what) s old new s.progress b b' r h)
+
+-- memory ran out
+undone : (stores : RepoFault → Type 0) (e : NodeFault) → e ≡ Memory → MayEnd stores e
+undone stores e is = rw is tt
+
+-- no move was made
+stays_so : (w : World) (l : Ledger) → Reaches w w l l
+stays_so w l = (l, (0, (refl, refl)), is_same refl)
+
+-- of a line nothing was done
+pub unread : (stores : RepoFault → Type 0) (request : Request) (s : Session) (old : Seen) (e : NodeFault) → e ≡ Memory → LineFails stores request s old old s.progress e
+unread stores (requests.Process word what) s old e is = fails_together (undone stores e is) (is, refl, refl)
+unread stores (requests.Join word) s old e is = fails_together (undone stores e is) (is, refl, refl)
+unread stores (requests.Settle rounds) s old e is = fails_together (undone stores e is) (stays_so s.progress.world old.ledger)
+unread stores requests.Boot s old e is = fails_together (undone stores e is) (refl, inl refl)
+unread stores _ s old e is = fails_alone refl (record { may = undone stores e is; left = inl refl }) refl

@@ -1,0 +1,6 @@
+use Rattle.smf_run.proofs.Doing.{process_done}
+use Rattle.smf_run.proofs.lines.do_request.Goals as goal
+
+pub returns-in-Process-clause-exact : goal.returns-in-Process-clause-exact
+returns-in-Process-clause-exact g c =
+    process_done g.K.Kids.skills _ _ _ (record { progress = c.args.node.now; selection = c.args.selection.now }) _ _ _ _ _ c.in-Process.is c.process.ensures.exact

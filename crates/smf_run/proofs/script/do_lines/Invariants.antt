@@ -1,0 +1,21 @@
+use Rattle.std.proofs.Common.{◌≡◌, ◌+◌}
+use Rattle.smf_lines.specs.Faults.{counted}
+use Rattle.smf_run.specs.Asks.{seen}
+use Rattle.smf_run.proofs.Going.{Goes}
+use Rattle.smf_script.specs.Script.{begun}
+use Rattle.smf_world.specs.Reached.{IsLater}
+use Rattle.smf_run.proofs.script.do_lines.Given as goal
+
+abbrev pub invariant-loop-selection : goal.invariant-loop-selection
+invariant-loop-selection g l =
+    record {
+      so_far : Goes g.K.Kids.skills (begun l.fn.node) (g.R.LineReader.remaining l.fn.reader) (g.R.LineReader.remaining l.reader) (l.turns.left + l.turns.interrupted)
+          (seen (g.K.Kids.ledger l.fn.kids) (g.K.Kids.failures l.fn.kids)) (seen (g.K.Kids.ledger l.kids) (g.K.Kids.failures l.kids))
+          (g.W.TextWriter.contents l.fn.writer) (g.W.TextWriter.contents l.writer) l.node l.selection l.fine;
+      later : IsLater l.fn.node.world l.node.world;
+      interrupted : g.R.LineReader.interrupted l.reader ≡ counted (g.R.LineReader.interrupted l.fn.reader) l.turns.interrupted;
+      failed : g.R.LineReader.has_failed l.reader ≡ g.R.LineReader.has_failed l.fn.reader;
+    }
+
+abbrev pub decreases-loop-selection : goal.decreases-loop-selection
+decreases-loop-selection g l = l.turns.left

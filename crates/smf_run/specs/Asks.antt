@@ -1,0 +1,88 @@
+-- What is asked of the children of services, and what they answer.
+use Rattle.std.specs.Prelude.{◌≡◌, ℕ, List, [], ◌++◌, codes, Bool, true, false, is_ok, Result, Ok, Err, IfErr, OnErr, OnOk}
+use Rattle.smf_edge.specs.declared.deed.Happening.{Happening}
+use Rattle.smf_edge.specs.declared.fault.KidsFault.{KidsFault}
+use Rattle.smf_edge.specs.declared.fault.KidsFault.TheVariants.{Refused, NotFollowed, NoChild, NotHere, Memory, Device}
+use Rattle.smf_edge.specs.Answers.{MayNotAnswer, MayNotDo, Skills}
+use Rattle.smf_edge.specs.Ledgers.{Ledger, left}
+use Rattle.smf_edge.specs.Steps.{IsJoined, IsKilled, happened, restarted}
+use Rattle.smf_script.specs.Session.{Deed, no_member, not_here}
+use Rattle.smf_script.specs.Text.{line_end}
+use Rattle.smf_world.specs.Schedule.{Progress}
+
+-- what is known of children: what they keep, and how often their device failed
+pub record Seen : Type 0 where
+  pub ledger : Ledger
+  pub failures : ℕ
+
+abbrev pub seen : Ledger → ℕ → Seen
+seen ledger failures = record { ledger = ledger; failures = failures }
+
+-- what is asked of them: that something happens to the lowest member of a contract, to wait until a member ends, to end
+-- all members, or to drop all members and contracts
+pub data Ask : Type 0 where
+  to_act : ℕ → Happening → Ask
+  to_join : ℕ → Ask
+  to_kill : ℕ → Ask
+  to_reboot : Ask
+
+-- whether it can be asked of these children
+abbrev pub is_here : Skills → Ask → Bool
+is_here k (to_act id happening) = k.acts
+is_here k (to_join id) = k.joins
+is_here k (to_kill id) = true
+is_here k to_reboot = k.acts
+
+-- what they keep where they did it
+abbrev pub IsDone : Ask → Ledger → Ledger → Type 0
+IsDone (to_act id happening) old new = new ≡ happened old id happening
+IsDone (to_join id) old new = IsJoined id old new
+IsDone (to_kill id) old new = IsKilled id old new
+IsDone to_reboot old new = new ≡ restarted old
+
+-- why they did not
+abbrev pub MayNot : Skills → Ask → Seen → Seen → KidsFault → Type 0
+MayNot k (to_act id happening) old new why = MayNotDo k k.acts (left old.ledger id) old.failures new.failures why
+MayNot k (to_join id) old new why = MayNotDo k k.joins (left old.ledger id) old.failures new.failures why
+MayNot k (to_kill id) old new why = MayNotDo k true (left old.ledger id) old.failures new.failures why
+MayNot k to_reboot old new why = MayNotAnswer k k.acts old.failures new.failures why
+
+-- they were asked, and answered so: what they did not do changed nothing of what they keep
+pub record HasAnswered (k : Skills) (ask : Ask) (answer : Result (Unit {0}) KidsFault) (old new : Seen) : Type 0 where
+  pub done : OnOk answer (IsDone ask old.ledger new.ledger)
+  pub kept : OnErr answer (new.ledger ≡ old.ledger)
+  pub why : IfErr answer (λ e. MayNot k ask old new e)
+  pub not_here : is_here k ask ≡ false → answer ≡ Err NotHere
+
+-- ---- what a line gives by their answer
+
+abbrev pub device_failed : List ℕ
+device_failed = codes "smf: device failed" ++ line_end
+
+-- a line says why they did not do what was asked; where memory ran out the script ends
+abbrev pub why_text : KidsFault → List ℕ
+why_text NoChild = no_member
+why_text NotHere = not_here
+why_text Device = device_failed
+why_text Memory = []
+why_text Refused = []
+why_text NotFollowed = []
+
+abbrev pub answer_text : Result (Unit {0}) KidsFault → List ℕ
+answer_text (Ok u) = []
+answer_text (Err why) = why_text why
+
+abbrev pub HadMemory : Result (Unit {0}) KidsFault → Type 0
+HadMemory (Err Memory) = ⊥
+HadMemory _ = Unit {0}
+
+-- the node stays as it is
+abbrev pub said : Progress → Result (Unit {0}) KidsFault → Deed
+said p answer = record { progress = p; text = answer_text answer; fine = is_ok answer }
+
+-- children were asked, and a line gave by their answer what `deed_by` says
+pub record HasAsked (k : Skills) (ask : Ask) (deed_by : Result (Unit {0}) KidsFault → Deed) (old new : Seen) (d : Deed) : Type 0 where
+  pub answer : Result (Unit {0}) KidsFault
+  pub answered : HasAnswered k ask answer old new
+  pub had_memory : HadMemory answer
+  pub gives : d ≡ deed_by answer

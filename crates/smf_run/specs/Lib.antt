@@ -1,0 +1,5 @@
+pub mod Asks
+pub mod Lines
+pub mod Failing
+pub mod Scripts
+pub mod Ends

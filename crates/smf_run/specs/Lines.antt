@@ -1,0 +1,98 @@
+-- What a line does over a node and the children of its services.
+use Rattle.std.specs.Prelude.{◌≡◌, ℕ, List, [], ◌++◌, Bool, true, false, Result, Ok, Err}
+use Rattle.std.specs.Option.{option_map_or}
+use Rattle.smf_admin.specs.declared.finding.Found.{Found}
+use Rattle.smf_admin.specs.declared.finding.Found.TheVariants as finds
+use Rattle.smf_admin.specs.Finding.{found_of}
+use Rattle.smf_admin.specs.Telling.{no_match_text, several_text}
+use Rattle.smf_contract.specs.Entries.{Contracts}
+use Rattle.smf_drive.specs.Drives.{HasDriven}
+use Rattle.smf_drive.specs.Moves.{Moves}
+use Rattle.smf_edge.specs.declared.deed.Happening.{Happening}
+use Rattle.smf_edge.specs.declared.deed.Happening.TheVariants as happens
+use Rattle.smf_edge.specs.declared.fault.KidsFault.{KidsFault}
+use Rattle.smf_edge.specs.Answers.{Skills}
+use Rattle.smf_edge.specs.Ledgers.{Ledger}
+use Rattle.smf_run.specs.Asks.{Ask, HasAsked, Seen, said, to_act, to_join, to_reboot, why_text}
+use Rattle.smf_script.specs.declared.request.Request.{Request}
+use Rattle.smf_script.specs.declared.request.Request.TheVariants as requests
+use Rattle.smf_script.specs.Session.{Deed, Effect, Session, done, effect_of, failed, latest, script_name, settled_text}
+use Rattle.smf_world.specs.declared.event.Event.TheVariants as events
+use Rattle.smf_world.specs.declared.event.ProcessEvent.{ProcessEvent}
+use Rattle.smf_world.specs.declared.event.ProcessEvent.TheVariants.{Fork, Exit, Fail}
+use Rattle.smf_world.specs.declared.schedule.Settled.{Settled}
+use Rattle.smf_world.specs.Schedule.{Progress, on}
+
+-- ---- processes
+
+abbrev pub happening : ProcessEvent → Happening
+happening Fork = happens.Fork
+happening (Exit exit) = happens.Exit exit
+happening (Fail failure) = happens.Fail failure
+
+-- the contract of an instance that has members, of its latest run; 0, which is no contract's, where there is none
+abbrev pub contract_of : Contracts → ℕ → ℕ
+contract_of t n = option_map_or (λ c. c.id) (latest t n) 0
+
+-- it is asked of that contract of the instance that was found; where none or several were, nothing is asked
+abbrev pub HasAskedOf : Skills → Progress → (ℕ → Ask) → Found → Seen → Seen → Deed → Type 0
+HasAskedOf k p ask (finds.One n) old new d = HasAsked k (ask (contract_of p.world.table n)) (said p) old new d
+HasAskedOf k p ask (finds.NoMatch word) old new d = (d ≡ failed p (no_match_text script_name word)) × (new ≡ old)
+HasAskedOf k p ask (finds.Several word count) old new d = (d ≡ failed p (several_text script_name word count)) × (new ≡ old)
+
+-- of the instance that a word stands for
+unfoldable pub AskedBy : Skills → Progress → (ℕ → Ask) → List ℕ → Seen → Seen → Deed → Type 0
+AskedBy k p ask word old new d = HasAskedOf k p ask (found_of p.world.now.names word) old new d
+
+-- ---- the machine
+
+-- the node boots where children dropped all that they had
+abbrev pub booted : Progress → Result (Unit {0}) KidsFault → Deed
+booted p (Ok u) = done (on p events.Boot) []
+booted p (Err why) = failed p (why_text why)
+
+-- at most so many rounds happened with the answers of children
+pub record HasSettled (rounds : ℕ) (p : Progress) (old new : Ledger) (d : Deed) : Type 0 where
+  pub how : Settled
+  pub driven : HasDriven rounds p d.progress how
+  pub moves : Moves p.world d.progress.world old new
+  pub gives : d ≡ done d.progress (settled_text how)
+
+-- ---- the line
+
+abbrev pub asks_children : Request → Bool
+asks_children (requests.Process word what) = true
+asks_children (requests.Join word) = true
+asks_children (requests.Settle rounds) = true
+asks_children requests.Boot = true
+asks_children _ = false
+
+-- what is done where children have a part
+abbrev pub DoesWith : Skills → Request → Progress → Seen → Seen → Deed → Type 0
+DoesWith k (requests.Process word what) p old new d = AskedBy k p (λ id. to_act id (happening what)) word old new d
+DoesWith k (requests.Join word) p old new d = AskedBy k p to_join word old new d
+DoesWith k (requests.Settle rounds) p old new d = HasSettled rounds p old.ledger new.ledger d
+DoesWith k requests.Boot p old new d = HasAsked k to_reboot (booted p) old new d
+DoesWith k _ p old new d = ⊥
+
+abbrev pub deed_of : Effect → Deed
+deed_of e = record { progress = e.session.progress; text = e.text; fine = e.fine }
+
+-- a line that asked for this had this effect, and left children so
+pub data HasDone (k : Skills) (request : Request) (s : Session) (old new : Seen) (e : Effect) : Type 0 where
+  alone : asks_children request ≡ false → e ≡ effect_of s request → new ≡ old → HasDone k request s old new e
+  together : e.session.selection ≡ s.selection → DoesWith k request s.progress old new (deed_of e) → HasDone k request s old new e
+
+-- ---- how calls do it
+
+abbrev pub deed : Progress → Bool → List ℕ → Deed
+deed p fine text = record { progress = p; text = text; fine = fine }
+
+abbrev pub effect : Session → Bool → List ℕ → Effect
+effect s fine text = record { session = s; text = text; fine = fine }
+
+-- a text of which this holds was put behind what was there
+pub record HasPut (Is : List ℕ → Type 0) (old new : List ℕ) : Type 0 where
+  pub text : List ℕ
+  pub put : new ≡ old ++ text
+  pub is : Is text

@@ -1,0 +1,80 @@
+ghost use Rattle.std.specs.Prelude.{◌≡◌, IfErr, IfOk, false, string_bytes};
+ghost use Rattle.smf_drive.specs.Moves.{Reaches};
+ghost use Rattle.smf_run.specs.Asks.{seen};
+ghost use Rattle.smf_run.specs.Failing.{LineFails};
+ghost use Rattle.smf_run.specs.Lines.{HasDone, HasPut, HasSettled, asks_children, deed, effect};
+ghost use Rattle.smf_script.specs.Failing.{MayEnd};
+ghost use Rattle.smf_script.specs.Request.{request_of};
+ghost use Rattle.smf_world.specs.Reached.{IsLater};
+
+use crate::acting::{boot, join, process};
+use smf_drive::drive;
+use smf_edge::Kids;
+use smf_model::Journal;
+use smf_node::{Node, NodeFault};
+use smf_script::{Request, request_of, run_request, settled_text};
+use smf_svccfg::Selection;
+use std::alloc::Global;
+
+/// Rounds happen with the answers of children.
+fn settle<J: Journal, K: Kids>(
+    node: &mut Node<J>,
+    kids: &mut K,
+    rounds: u64,
+    out: &mut String,
+) -> Result<bool, NodeFault>
+    ensures exact { IfOk result (λ fine. HasPut (λ text.
+        HasSettled rounds node.old (K.ledger kids.old) (K.ledger kids.new) (deed node.new fine text))
+        (string_bytes out.old) (string_bytes out.new)) }
+    ensures reaches { Reaches node.old.world node.new.world (K.ledger kids.old) (K.ledger kids.new) }
+    ensures later { IsLater node.old.world node.new.world }
+    ensures fault { IfErr result (λ e. MayEnd J.write_fails e) }
+{
+    let how = drive(node, kids, rounds)?;
+    out.push_str(settled_text(how))?;
+    Ok(true)
+}
+
+fn do_request<J: Journal, K: Kids>(
+    alloc: Global,
+    node: &mut Node<J>,
+    kids: &mut K,
+    selection: &mut Selection,
+    request: &Request,
+    out: &mut String,
+) -> Result<bool, NodeFault>
+    ensures exact { IfOk result (λ fine. HasPut (λ text.
+        HasDone K.skills request.now (record { progress = node.old; selection = selection.old }) (seen (K.ledger kids.old) (K.failures kids.old)) (seen (K.ledger kids.new) (K.failures kids.new)) (effect (record { progress = node.new; selection = selection.new }) fine text))
+        (string_bytes out.old) (string_bytes out.new)) }
+    ensures err { IfErr result (λ e. LineFails J.write_fails request.now (record { progress = node.old; selection = selection.old }) (seen (K.ledger kids.old) (K.failures kids.old)) (seen (K.ledger kids.new) (K.failures kids.new)) node.new e) }
+    ensures later { IsLater node.old.world node.new.world }
+    ensures fault { IfErr result (λ e. MayEnd J.write_fails e) }
+{
+    match request {
+        Request::Settle(rounds) => settle(node, kids, *rounds, out),
+        Request::Process { word, what } => process(alloc, node, kids, word, *what, out),
+        Request::Join(word) => join(alloc, node, kids, word, out),
+        Request::Boot => boot(node, kids, out),
+        _ => run_request(alloc, node, selection, request, out),
+    }
+}
+
+/// Does a line, which stands without its end, puts its text, and gives back whether it did not fail.
+pub(crate) fn run_line<J: Journal, K: Kids>(
+    alloc: Global,
+    node: &mut Node<J>,
+    kids: &mut K,
+    selection: &mut Selection,
+    line: &[u8],
+    out: &mut String,
+) -> Result<bool, NodeFault>
+    ensures exact { IfOk result (λ fine. HasPut (λ text.
+        HasDone K.skills (request_of line.now) (record { progress = node.old; selection = selection.old }) (seen (K.ledger kids.old) (K.failures kids.old)) (seen (K.ledger kids.new) (K.failures kids.new)) (effect (record { progress = node.new; selection = selection.new }) fine text))
+        (string_bytes out.old) (string_bytes out.new)) }
+    ensures err { IfErr result (λ e. LineFails J.write_fails (request_of line.now) (record { progress = node.old; selection = selection.old }) (seen (K.ledger kids.old) (K.failures kids.old)) (seen (K.ledger kids.new) (K.failures kids.new)) node.new e) }
+    ensures later { IsLater node.old.world node.new.world }
+    ensures fault { IfErr result (λ e. MayEnd J.write_fails e) }
+{
+    let request = request_of(alloc, line)?;
+    do_request(alloc, node, kids, selection, &request, out)
+}

@@ -1,0 +1,3 @@
+pub mod Unbooted
+pub mod Told
+pub mod Ended

@@ -1,0 +1,23 @@
+use Rattle.std.proofs.Common.{refl}
+use Rattle.smf_serve.specs.Runs.IsCutOff.{unbooted}
+use Rattle.smf_serve.proofs.Ended.{are_ended, cut_off, ran_over}
+use Rattle.smf_serve.proofs.script.run_over.Goals as goal
+
+pub returns-in-Err-clause-cut : goal.returns-in-Err-clause-cut
+returns-in-Err-clause-cut g c =
+    unbooted c.in-Err.fault refl (record { why = c.in-Err.ensures.fault; unasked = refl; silent = refl })
+
+pub returns-clause-ran : goal.returns-clause-ran
+returns-clause-ran g c =
+    ran_over _ c.args.repository.held c.in-Ok.node c.run_script-end.new.node _ _ _ _ _ _ c.run_script-end.result
+    c.in-Ok.ensures.ok c.run_script-end.ensures.ran
+    (are_ended c.end_all-is_listed.result _ _ _ c.end_all-is_listed.ensures.ended c.end_all-is_listed.ensures.unlisted)
+    c.run_script-end.ensures.safe
+
+pub returns-clause-cut : goal.returns-clause-cut
+returns-clause-cut g c =
+    cut_off _ g.J.Journal.write_fails g.R.LineReader.read_fails g.W.TextWriter.write_fails c.args.repository.held
+    c.in-Ok.node c.run_script-end.new.node _ _ _ _ _ _ c.run_script-end.result c.in-Ok.ensures.ok
+    c.run_script-end.ensures.err c.run_script-end.ensures.fault
+    (are_ended c.end_all-is_listed.result _ _ _ c.end_all-is_listed.ensures.ended c.end_all-is_listed.ensures.unlisted)
+    c.run_script-end.ensures.safe

@@ -1,0 +1,4 @@
+pub mod Telling
+pub mod Sims
+pub mod Cfgs
+pub mod Runs

@@ -1,0 +1,85 @@
+-- What a script over a database and the children of its services prints, and how such a run ends.
+use Rattle.std.specs.Prelude.{◌≡◌, ◌⊎◌, ℕ, List, Option}
+use Rattle.std_io.specs.declared.io.error.Error.{Error}
+use Rattle.sqlite.specs.Held.{Held}
+use Rattle.sqlite.specs.Store.{Ghosts}
+use Rattle.smf_cfg.specs.Serving.{IsTold}
+use Rattle.smf_edge.specs.Answers.{Skills}
+use Rattle.smf_model.specs.declared.journal.RepoFault.{RepoFault}
+use Rattle.smf_model.specs.Holdings.{Holdings}
+use Rattle.smf_node.specs.declared.fault.NodeFault.{NodeFault}
+use Rattle.smf_node.specs.Faults.{IsUnbooted}
+use Rattle.smf_run.specs.Asks.{Seen}
+use Rattle.smf_run.specs.Ends.{HasEnded, IsUnlisted}
+use Rattle.smf_run.specs.Scripts.{HasRun, Stops}
+use Rattle.smf_script.specs.declared.fault.ScriptFault.{ScriptFault}
+use Rattle.smf_script.specs.declared.fault.ScriptFault.TheVariants.{Node}
+use Rattle.smf_script.specs.Faults.{IsWhy}
+use Rattle.smf_script.specs.Script.{begun}
+use Rattle.smf_serve.specs.Cfgs.{IsNotOpened}
+use Rattle.smf_serve.specs.Telling.{fault_text}
+use Rattle.smf_store.specs.Opens.{IsOpenedAs}
+use Rattle.smf_world.specs.declared.event.Event.TheVariants as events
+use Rattle.smf_world.specs.Happens.{happens}
+use Rattle.smf_world.specs.Safe.{IsSafe}
+use Rattle.smf_world.specs.Schedule.{Progress, begun_at}
+use Rattle.smf_world.specs.World.{found}
+
+-- the node over what was found, behind its boot
+abbrev pub first : Holdings → Progress
+first h = begun_at (happens (found h) events.Boot)
+
+-- ---- over what was found
+
+-- what was left of children was asked to end, where they could list it
+abbrev pub AreEnded : Skills → Seen → Seen → Type 0
+AreEnded k old new = HasEnded k old new ⊎ IsUnlisted k old new
+
+-- all lines were done and what they gave was written; then what was left of children was ended, and the trail is safe
+pub record HasRunOver (k : Skills) (h : Holdings) (input : Option (List ℕ)) (old new : Seen) (was is : Option (List ℕ)) (status : ℕ) : Type 0 where
+  pub after : Progress
+  pub mid : Seen
+  pub ran : HasRun k (begun (first h)) input old mid after was is status
+  pub ended : AreEnded k mid new
+  pub safe : IsSafe after.world
+
+-- the node did not begin
+pub record HasNotBegun (stores : RepoFault → Type 0) (h : Holdings) (old new : Seen) (was is : Option (List ℕ)) (fault : NodeFault) : Type 0 where
+  pub why : IsUnbooted stores h fault
+  pub unasked : new ≡ old
+  pub silent : is ≡ was
+
+-- some of the lines were done and what they gave was written; then what was left of children was ended, and the trail is
+-- safe
+pub record HasStopped (k : Skills) (stores : RepoFault → Type 0) (reads writes : Error → Type 0) (h : Holdings) (input : Option (List ℕ)) (old new : Seen) (was is : Option (List ℕ)) (fault : ScriptFault) : Type 0 where
+  pub after : Progress
+  pub mid : Seen
+  pub stops : Stops k stores fault (begun (first h)) input old mid after was is
+  pub why : IsWhy stores reads writes fault
+  pub ended : AreEnded k mid new
+  pub safe : IsSafe after.world
+
+pub data IsCutOff (k : Skills) (stores : RepoFault → Type 0) (reads writes : Error → Type 0) (h : Holdings) (input : Option (List ℕ)) (old new : Seen) (was is : Option (List ℕ)) (fault : ScriptFault) : Type 0 where
+  unbooted : (e : NodeFault) → fault ≡ Node e → HasNotBegun stores h old new was is e → IsCutOff k stores reads writes h input old new was is fault
+  stopped : HasStopped k stores reads writes h input old new was is fault → IsCutOff k stores reads writes h input old new was is fault
+
+-- the fault that ended it was told
+pub record IsCut (k : Skills) (stores : RepoFault → Type 0) (reads writes tells : Error → Type 0) (h : Holdings) (input : Option (List ℕ)) (old new : Seen) (was is told_old told_new : Option (List ℕ)) : Type 0 where
+  pub fault : ScriptFault
+  pub cut : IsCutOff k stores reads writes h input old new was is fault
+  pub told : IsTold tells told_old told_new (fault_text fault)
+
+-- ---- over a database
+
+-- no fault ended the run: the script was done over what the database was opened with
+pub record IsDone {S : Type 0} (g : Ghosts S) (conn : Held S) (k : Skills) (input : Option (List ℕ)) (old new : Seen) (was is : Option (List ℕ)) (status : ℕ) : Type 0 where
+  pub held : Holdings
+  pub opened : IsOpenedAs g conn held
+  pub ran : HasRunOver k held input old new was is status
+
+-- a fault ended it, and was told
+pub data IsEnded {S : Type 0} (g : Ghosts S) (conn : Held S) (k : Skills) (stores : RepoFault → Type 0) (reads writes tells : Error → Type 0) (input : Option (List ℕ)) (old new : Seen) (was is told_old told_new : Option (List ℕ)) : Type 0 where
+  unopened : new ≡ old → IsNotOpened g conn tells was is told_old told_new
+      → IsEnded g conn k stores reads writes tells input old new was is told_old told_new
+  cut : (held : Holdings) → IsOpenedAs g conn held → IsCut k stores reads writes tells held input old new was is told_old told_new
+      → IsEnded g conn k stores reads writes tells input old new was is told_old told_new
