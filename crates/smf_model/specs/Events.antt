@@ -83,14 +83,23 @@ IsEvent kind n h c = IsEventTo kind n h c (next h c).0 (next h c).1
 -- that it made is above the base
 abbrev pub Happened : EventKind → ℕ → ℕ → Holdings → List Command → Type 0
 Happened kind n base h [] = ⊥
-Happened kind n base h (c ∷ cs) = (IsEvent kind n (made h cs) c × (base < (made h (c ∷ cs)).revision)) ⊎ Happened kind n base h cs
+Happened kind n base h (c ∷ cs) =
+    (IsEvent kind n (made h cs) c × (base < (made h (c ∷ cs)).revision)) ⊎ Happened kind n base h cs
 
 -- where a row keeps a revision above the base, such an event happened after it
 abbrev pub IsTold : Holdings → List Command → EventKind → ℕ → ℕ → Instance → Type 0
 IsTold h cs kind n base i =
-    IsNumbered h → h.revision ≤ base → instance (made h cs) n ≡ Some i → base < revision_of kind i.row → Happened kind n base h cs
+    IsNumbered h
+    → h.revision ≤ base
+    → instance (made h cs) n ≡ Some i
+    → base < revision_of kind i.row
+    → Happened kind n base h cs
 
 -- and where one happened, the row keeps such a revision
 abbrev pub IsKept : Holdings → List Command → EventKind → ℕ → ℕ → Instance → Type 0
 IsKept h cs kind n base i =
-    IsNumbered h → h.revision ≤ base → instance (made h cs) n ≡ Some i → Happened kind n base h cs → base < revision_of kind i.row
+    IsNumbered h
+    → h.revision ≤ base
+    → instance (made h cs) n ≡ Some i
+    → Happened kind n base h cs
+    → base < revision_of kind i.row

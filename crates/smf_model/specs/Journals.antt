@@ -21,7 +21,8 @@ abbrev pub LeavesOldOr : {J : Type 0} → (J → Option Holdings → Type 0) →
 LeavesOldOr could old new h = (found : Option Holdings) → could new found → could old found ⊎ (found ≡ Some h)
 
 -- the same, for what stood in the journal with the changes made
-abbrev pub LeavesOldOrTold : {J : Type 0} → (J → Holdings → Type 0) → (J → Option Holdings → Type 0) → J → J → List Change → Type 0
+abbrev pub LeavesOldOrTold : {J : Type 0} → (J → Holdings → Type 0) → (J → Option Holdings → Type 0)
+    → J → J → List Change → Type 0
 LeavesOldOrTold stands could old new changes =
     (h : Holdings) → IsNumbered (installed h changes) → stands old h → LeavesOldOr could old new (installed h changes)
 

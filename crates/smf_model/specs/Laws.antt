@@ -15,7 +15,8 @@ use Rattle.smf_model.specs.declared.held.InstanceName.{InstanceName}
 use Rattle.smf_model.specs.declared.held.Snapshot.{Snapshot}
 use Rattle.smf_model.specs.Dates.{IsDated}
 use Rattle.smf_model.specs.Holdings.{Holdings}
-use Rattle.smf_model.specs.Look.{bare, by_entry, by_instance, by_launch, by_name, by_service, by_snapshot, has_number, instance, named, snapshot}
+use Rattle.smf_model.specs.Look.{bare, by_entry, by_instance, by_launch, by_name, by_service}
+use Rattle.smf_model.specs.Look.{by_snapshot, has_number, instance, named, snapshot}
 use Rattle.smf_model.specs.Next.{found, is_again, next}
 use Rattle.smf_model.specs.Setting.{startd}
 
@@ -35,7 +36,8 @@ is_accepted _ = false
 
 -- the proposal that was granted last is granted again, and leaves what is held
 abbrev pub IsGrantedAgain : Holdings → Proposal → Instance → Type 0
-IsGrantedAgain h p i = found h p.instance ≡ Some i → is_again i.row p ≡ true → next h (commands.Propose p) ≡ (h, Granted i.row)
+IsGrantedAgain h p i =
+    found h p.instance ≡ Some i → is_again i.row p ≡ true → next h (commands.Propose p) ≡ (h, Granted i.row)
 
 -- a command that is accepted makes one revision
 abbrev pub MakesRevision : Holdings → Command → Type 0
@@ -115,12 +117,15 @@ RowRises h c n i j =
     → instance (next h c).0 n ≡ Some j
     → (i.row.number ≤ j.row.number) × (i.row.last ≤ j.row.last)
 
--- a row stays but for what is asked, the snapshot `running` and the last refresh; its owner stays where its number isn't 0
+-- a row stays but for what is asked, the snapshot `running` and the last refresh;
+-- its owner stays where its number isn't 0
 pub record Stays (before after : Row) : Type 0 where
-  pub same : after ≡ record before { owner = after.owner; asks = after.asks; running = after.running; refresh = after.refresh }
+  pub same : after
+      ≡ record before { owner = after.owner; asks = after.asks; running = after.running; refresh = after.refresh }
   pub owner : (before.number ≡ 0) ⊎ (after.owner ≡ before.owner)
 
--- uninitialized under the next number, with nothing under way, no live run and no granted proposal; the greatest run stays
+-- uninitialized under the next number, with nothing under way, no live run and no granted proposal;
+-- the greatest run stays
 pub record BeginsAnew (before after : Row) : Type 0 where
   pub number : after.number ≡ before.number + 1
   pub state : after.state ≡ Uninitialized
@@ -136,7 +141,8 @@ pub data RowFollows (c : Command) (n : ℕ) (before after : Row) : Type 0 where
   stays : Stays before after → RowFollows c n before after
   steps : (p : Proposal) → c ≡ commands.Propose p → p.instance ≡ n → GoesOn before after → RowFollows c n before after
   boots : c ≡ commands.Boot → BeginsAnew before after → RowFollows c n before after
-  moves : c ≡ commands.Edit (asked_for.Refresh n) → (before.state ≡ Uninitialized) ⊎ (before.state ≡ Disabled) → BeginsAnew before after → RowFollows c n before after
+  moves : c ≡ commands.Edit (asked_for.Refresh n) → (before.state ≡ Uninitialized) ⊎ (before.state ≡ Disabled)
+      → BeginsAnew before after → RowFollows c n before after
 
 -- the instance n after a command, by what it was before: an instance that was not there has a fresh row
 abbrev pub Follows : Command → ℕ → Option Instance → Instance → Type 0

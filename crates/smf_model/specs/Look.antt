@@ -1,5 +1,6 @@
 -- How what is held is looked up, and how it is changed.
-use Rattle.std.specs.Prelude.{ℕ, List, [], ◌∷◌, ◌==◌, not, Bool, Option, Some, None, option_map, unwrap_or, filter, map, if◌then◌else◌}
+use Rattle.std.specs.Prelude.{ℕ, List, [], ◌∷◌, ◌==◌, not, Bool, Option}
+use Rattle.std.specs.Prelude.{Some, None, option_map, unwrap_or, filter, map, if◌then◌else◌}
 use Rattle.std.specs.Option.{option_map_or}
 use Rattle.smf_fmri.specs.ByKey.{By, amend, by_number, by_text, has_key, lookup, put, without}
 use Rattle.smf_value.specs.Groups.{GroupRecord, by_group}
@@ -12,7 +13,10 @@ use Rattle.smf_model.specs.declared.held.Owner.TheVariants as owners
 use Rattle.smf_model.specs.declared.held.Service.{Service}
 use Rattle.smf_model.specs.declared.held.Snapshot.{Snapshot}
 use Rattle.smf_model.specs.declared.change.Change.{Change}
-use Rattle.smf_model.specs.declared.change.Change.TheVariants.{AddService, DropService, AddInstance, PutInstance, DropInstance, PutName, DropName, PutGroups, AddSnapshot, DropSnapshots, PutLaunch, NextInstance, NextSnapshot, SetRevision}
+use Rattle.smf_model.specs.declared.change.Change.TheVariants.{AddService, DropService, AddInstance, PutInstance}
+use Rattle.smf_model.specs.declared.change.Change.TheVariants.{DropInstance, PutName, DropName, PutGroups}
+use Rattle.smf_model.specs.declared.change.Change.TheVariants.{AddSnapshot, DropSnapshots, PutLaunch, NextInstance}
+use Rattle.smf_model.specs.declared.change.Change.TheVariants.{NextSnapshot, SetRevision}
 use Rattle.smf_model.specs.Holdings.{Holdings}
 
 abbrev pub empty : Holdings
@@ -130,8 +134,10 @@ abbrev pub put_new : {X K : Type 0} → By X K → X → List X → List X
 put_new o x xs = put_by_lookup o x xs (lookup o xs (o.key x))
 
 abbrev pub with_groups : Holdings → List GroupRecord → Owner → Holdings
-with_groups h gs (owners.Service name) = record h { services = amend by_service name (λ s. record s { groups = gs }) h.services }
-with_groups h gs (owners.Instance n) = record h { instances = amend by_entry n (λ e. record e { groups = gs }) h.instances }
+with_groups h gs (owners.Service name) =
+    record h { services = amend by_service name (λ s. record s { groups = gs }) h.services }
+with_groups h gs (owners.Instance n) =
+    record h { instances = amend by_entry n (λ e. record e { groups = gs }) h.instances }
 
 -- one change
 abbrev pub changed : Holdings → Change → Holdings

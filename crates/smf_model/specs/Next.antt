@@ -1,5 +1,7 @@
 -- What each command asks to change, its reply, and what the repository is after it.
-use Rattle.std.specs.Prelude.{ℕ, ◌+◌, ◌==◌, ◌&&◌, ◌||◌, not, nat_lt, nat_le, nat_eq, List, [], ◌∷◌, ◌++◌, length, map, filter, count_by, Bool, true, false, if◌then◌else◌, Option, Some, None, is_some, is_none, option_map, unwrap_or, Result, Ok, Err}
+use Rattle.std.specs.Prelude.{ℕ, ◌+◌, ◌==◌, ◌&&◌, ◌||◌, not, nat_lt, nat_le, nat_eq, List, []}
+use Rattle.std.specs.Prelude.{◌∷◌, ◌++◌, length, map, filter, count_by, Bool, true, false, if◌then◌else◌, Option}
+use Rattle.std.specs.Prelude.{Some, None, is_some, is_none, option_map, unwrap_or, Result, Ok, Err}
 use Rattle.std.specs.Cmp.Lexicographic.{pointwise}
 use Rattle.std.specs.Int.RustNames.{bit_or}
 use Rattle.std.specs.List.{list_any}
@@ -7,7 +9,8 @@ use Rattle.smf_fmri.specs.ByKey.{put, without}
 use Rattle.smf_fmri.specs.Matching.{read_short}
 use Rattle.smf_state.specs.declared.row.Row.{Row}
 use Rattle.smf_state.specs.declared.fault.StepFault.{StepFault}
-use Rattle.smf_state.specs.declared.state.State.TheVariants.{Uninitialized, Disabled, Offline, Online, Degraded, Maintenance}
+use Rattle.smf_state.specs.declared.state.State.TheVariants.{Uninitialized, Disabled, Offline}
+use Rattle.smf_state.specs.declared.state.State.TheVariants.{Online, Degraded, Maintenance}
 use Rattle.smf_state.specs.declared.step.Proposal.{Proposal}
 use Rattle.smf_state.specs.declared.step.Step.{Step}
 use Rattle.smf_state.specs.declared.step.Step.TheVariants.{Start}
@@ -22,7 +25,10 @@ use Rattle.smf_snap.specs.declared.name.SnapshotName.{SnapshotName}
 use Rattle.smf_snap.specs.declared.name.SnapshotName.TheVariants as snapshots
 use Rattle.smf_snap.specs.Taking.{taken, restored}
 use Rattle.smf_model.specs.declared.change.Change.{Change}
-use Rattle.smf_model.specs.declared.change.Change.TheVariants.{AddService, DropService, AddInstance, PutInstance, DropInstance, PutName, DropName, PutGroups, AddSnapshot, DropSnapshots, PutLaunch, NextInstance, NextSnapshot, SetRevision}
+use Rattle.smf_model.specs.declared.change.Change.TheVariants.{AddService, DropService, AddInstance, PutInstance}
+use Rattle.smf_model.specs.declared.change.Change.TheVariants.{DropInstance, PutName, DropName, PutGroups}
+use Rattle.smf_model.specs.declared.change.Change.TheVariants.{AddSnapshot, DropSnapshots, PutLaunch, NextInstance}
+use Rattle.smf_model.specs.declared.change.Change.TheVariants.{NextSnapshot, SetRevision}
 use Rattle.smf_model.specs.declared.command.Command.{Command}
 use Rattle.smf_model.specs.declared.command.Command.TheVariants as commands
 use Rattle.smf_model.specs.declared.command.Edit.{Edit}
@@ -32,7 +38,8 @@ use Rattle.smf_model.specs.declared.command.Mark.TheVariants as marks
 use Rattle.smf_model.specs.declared.command.PropertyChange.{PropertyChange}
 use Rattle.smf_model.specs.declared.command.PropertyChange.TheVariants as properties
 use Rattle.smf_model.specs.declared.command.Reply.{Reply}
-use Rattle.smf_model.specs.declared.command.Reply.TheVariants.{Made, Granted, Done, NoSuch, InUse, NotInState, Exists, Denied, Limit, Stale}
+use Rattle.smf_model.specs.declared.command.Reply.TheVariants.{Made, Granted, Done, NoSuch, InUse}
+use Rattle.smf_model.specs.declared.command.Reply.TheVariants.{NotInState, Exists, Denied, Limit, Stale}
 use Rattle.smf_model.specs.declared.command.Why.{Why}
 use Rattle.smf_model.specs.declared.command.Why.TheVariants as whys
 use Rattle.smf_model.specs.declared.change.Outcome.{Outcome}
@@ -48,7 +55,8 @@ use Rattle.smf_model.specs.declared.setting.Setting.{Setting}
 use Rattle.smf_model.specs.declared.setting.Setting.TheVariants.{Unreadable}
 use Rattle.smf_model.specs.Holdings.{Holdings}
 use Rattle.smf_model.specs.Look.{service, instance, instances, named, groups_of, group, snapshot, launch_of, installed}
-use Rattle.smf_model.specs.Setting.{Groups, general, general_ovr, enabled_name, restarter_name, framework, startd, service_fmri, service_owner, current, setting, owner_by}
+use Rattle.smf_model.specs.Setting.{Groups, general, general_ovr, enabled_name, restarter_name, framework}
+use Rattle.smf_model.specs.Setting.{startd, service_fmri, service_owner, current, setting, owner_by}
 
 -- what a command makes: the changes, and the reply
 abbrev pub Asked : Type 0
@@ -77,7 +85,9 @@ refused reply = record { changes = []; reply = reply }
 -- an accepted command makes one revision, where one is left
 abbrev pub accepted : Holdings → List Change → Reply → Asked
 accepted h changes reply =
-    if nat_lt h.revision greatest then (record { changes = changes ++ SetRevision (h.revision + 1) ∷ []; reply = reply }) else refused Limit
+    if nat_lt h.revision greatest
+    then (record { changes = changes ++ SetRevision (h.revision + 1) ∷ []; reply = reply })
+    else refused Limit
 
 -- the instance of a number, as it is read
 abbrev pub found : Holdings → ℕ → Option Instance
@@ -90,7 +100,8 @@ asked_add_service h name (Some s) = refused Exists
 asked_add_service h name None = accepted h (AddService (record { name = name; groups = [] }) ∷ []) Done
 
 abbrev pub new_instance : Holdings → List ℕ → Instance
-new_instance h name = record { number = h.next_instance; name = name; row = fresh startd; start = None; previous = None }
+new_instance h name =
+    record { number = h.next_instance; name = name; row = fresh startd; start = None; previous = None }
 
 abbrev pub new_entry : Holdings → List ℕ → InstanceEntry
 new_entry h name = record { instance = new_instance h name; groups = [] }
@@ -105,7 +116,9 @@ joining h name = AddInstance (new_entry h name) ∷ PutName (new_name h name) �
 abbrev pub added_at : Holdings → List ℕ → Option Instance → Asked
 added_at h name (Some i) = refused Exists
 added_at h name None =
-    if nat_le h.next_instance greatest_instance then accepted h (joining h name) (Made h.next_instance) else refused Limit
+    if nat_le h.next_instance greatest_instance
+    then accepted h (joining h name) (Made h.next_instance)
+    else refused Limit
 
 -- a name of more than 512 bytes is past a limit
 abbrev pub added_named : Holdings → Option (List ℕ) → Asked
@@ -170,7 +183,8 @@ guarded h owner name asked =
     else asked
 
 abbrev pub new_group : List ℕ → List ℕ → Bool → GroupRecord
-new_group name group_type non_persistent = record { name = name; group_type = group_type; non_persistent = non_persistent; properties = [] }
+new_group name group_type non_persistent =
+    record { name = name; group_type = group_type; non_persistent = non_persistent; properties = [] }
 
 abbrev pub added_group : Holdings → Owner → GroupRecord → Option GroupRecord → Asked
 added_group h owner g (Some there) = refused Exists
@@ -218,7 +232,9 @@ enabling_of h owner g = PutGroups owner (put by_group g (without by_group genera
 abbrev pub enabled_for_good : Holdings → ℕ → Result GroupRecord GroupFault → Asked
 enabled_for_good h n (Err fault) = refused (Denied fault)
 enabled_for_good h n (Ok g) =
-    if has_room h (owners.Instance n) general general_ovr then accepted h (enabling_of h (owners.Instance n) g ∷ []) Done else refused Limit
+    if has_room h (owners.Instance n) general general_ovr
+    then accepted h (enabling_of h (owners.Instance n) g ∷ []) Done
+    else refused Limit
 
 abbrev pub enabled_for_now : Holdings → ℕ → Result GroupRecord GroupFault → Asked
 enabled_for_now h n (Err fault) = refused (Denied fault)
@@ -229,7 +245,8 @@ enabled_for_now h n (Ok g) =
 
 -- the group of a name of an instance, or a new one
 abbrev pub group_or_new : Holdings → ℕ → List ℕ → Bool → GroupRecord
-group_or_new h n name non_persistent = unwrap_or (group h (owners.Instance n) name) (new_group name framework non_persistent)
+group_or_new h n name non_persistent =
+    unwrap_or (group h (owners.Instance n) name) (new_group name framework non_persistent)
 
 -- it with the property `enabled`
 abbrev pub group_enabled : Bool → GroupRecord → Result GroupRecord GroupFault
@@ -311,10 +328,13 @@ target_by Unreadable owner = None
 target_by s owner = if pointwise nat_eq (owner_by s) owner then None else Some (owner_by s)
 
 abbrev pub may_be_moved : Row → Bool
-may_be_moved r = (same_state r.state Uninitialized || same_state r.state Disabled) && is_none r.next && is_none r.live && is_none r.side
+may_be_moved r =
+    (same_state r.state Uninitialized || same_state r.state Disabled)
+    && is_none r.next && is_none r.live && is_none r.side
 
 abbrev pub refreshed_row : Row → ℕ → ℕ → Bool → Row
-refreshed_row r running revision true = record r { running = Some running; asks = record { 0 = bit_or r.asks.0 128 }; refresh = revision }
+refreshed_row r running revision true =
+    record r { running = Some running; asks = record { 0 = bit_or r.asks.0 128 }; refresh = revision }
 refreshed_row r running revision false = record r { running = Some running }
 
 abbrev pub moved_row : Row → ℕ → List ℕ → Row
@@ -381,7 +401,9 @@ reverted_to h i service_groups instance_groups =
 abbrev pub reverted : Holdings → Instance → Option Snapshot → Asked
 reverted h i None = refused NoSuch
 reverted h i (Some s) =
-    reverted_to h i (restored (groups_of h (service_owner i)) s.service_groups) (restored (groups_of h (owners.Instance i.number)) s.instance_groups)
+    reverted_to h i
+    (restored (groups_of h (service_owner i)) s.service_groups)
+    (restored (groups_of h (owners.Instance i.number)) s.instance_groups)
 
 abbrev pub asked_revert : Holdings → SnapshotName → Option Instance → Asked
 asked_revert h name None = refused NoSuch
@@ -429,20 +451,23 @@ stale h r p =
 
 -- a start that succeeded was by the snapshot with which it began
 abbrev pub started_by : Row → Row → Option ℕ → Option ℕ
-started_by before after start = if same_state before.state Offline && same_state after.state Online then after.begun else start
+started_by before after start =
+    if same_state before.state Offline && same_state after.state Online then after.begun else start
 
 abbrev pub with_row : Instance → Row → Instance
 with_row i row = record i { row = row; start = started_by i.row row i.start }
 
 -- the move that leaves uninitialized takes `running` where there is none
 abbrev pub takes_running : Row → Row → Bool
-takes_running before after = same_state before.state Uninitialized && not (same_state after.state Uninitialized) && is_none before.running
+takes_running before after =
+    same_state before.state Uninitialized && not (same_state after.state Uninitialized) && is_none before.running
 
 abbrev pub with_running : Holdings → Row → Row
 with_running h row = record row { running = Some h.next_snapshot }
 
 abbrev pub granted : Holdings → Instance → Row → Bool → Asked
-granted h i row true = with_snapshot h i (PutInstance (with_row i (with_running h row)) ∷ []) (Granted (with_running h row))
+granted h i row true =
+    with_snapshot h i (PutInstance (with_row i (with_running h row)) ∷ []) (Granted (with_running h row))
 granted h i row false = accepted h (PutInstance (with_row i row) ∷ []) (Granted row)
 
 abbrev pub step_answer : Holdings → Instance → Result Row StepFault → Asked

@@ -1,5 +1,6 @@
 -- What the group `general` says of an instance: whether it is enabled, and by which restarter it is run.
-use Rattle.std.specs.Prelude.{ℕ, ◌==◌, List, [], ◌∷◌, ◌++◌, length, Bool, true, false, if◌then◌else◌, codes, Option, Some, None, is_some, Result, Ok, Err}
+use Rattle.std.specs.Prelude.{ℕ, ◌==◌, List, [], ◌∷◌, ◌++◌, length, Bool, true, false}
+use Rattle.std.specs.Prelude.{if◌then◌else◌, codes, Option, Some, None, is_some, Result, Ok, Err}
 use Rattle.smf_fmri.specs.declared.fault.FmriFault.{FmriFault}
 use Rattle.smf_fmri.specs.Name.{short, read}
 use Rattle.smf_fmri.specs.Matching.{service_of, instance_of}
@@ -65,13 +66,15 @@ is_true (Some p) = truth_of p.values
 
 -- `enabled` of `general_ovr` of an instance, else of its `general`, else of that of its service
 abbrev pub enabled_property : Option GroupRecord → Option GroupRecord → Option GroupRecord → Option PropertyRecord
-enabled_property ovr own services_own = first_of (property_in ovr enabled_name) (property_of_either own services_own enabled_name)
+enabled_property ovr own services_own =
+    first_of (property_in ovr enabled_name) (property_of_either own services_own enabled_name)
 
 -- `general_ovr/enabled` of the instance if it is there, else `general/enabled`
 unfoldable pub enabled : Groups → Instance → Bool
 enabled gs i =
     let own = gs (owners.Instance i.number) in
-    is_true (enabled_property (group_in own general_ovr) (group_in own general) (group_in (gs (service_owner i)) general))
+    is_true
+    (enabled_property (group_in own general_ovr) (group_in own general) (group_in (gs (service_owner i)) general))
 
 abbrev pub named_restarter : Result (List ℕ) FmriFault → Setting
 named_restarter (Ok name) = if is_some (instance_of name) then Restarter name else Unreadable

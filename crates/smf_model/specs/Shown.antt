@@ -52,7 +52,10 @@ made_group r =
       name = restarter_name;
       group_type = framework;
       non_persistent = true;
-      properties = text_property (codes "next_state") (next_text r.next) ∷ text_property (codes "state") (state_text r.state) ∷ [];
+      properties =
+          text_property (codes "next_state") (next_text r.next)
+          ∷ text_property (codes "state") (state_text r.state)
+          ∷ [];
     }
 
 abbrev pub shown_with : Option Instance → List GroupRecord → List GroupRecord

@@ -1,15 +1,13 @@
-ghost use Rattle.std.specs.Prelude.{◌≡◌, ◌==◌, ◌+◌, ◌∷◌, [], IfOk, Some, None, Ok, Err};
-ghost use Rattle.smf_model.specs.Next.{answer, answer_at, found, fresh_answer, granted, is_again, is_other_snapshot, is_running, refused, stale, started_by, takes_running, with_row};
+ghost use Rattle.std.specs.Prelude.{◌≡◌, ◌==◌, ◌+◌, IfOk, Some, None};
+ghost use Rattle.smf_model.specs.Next.{answer, answer_at, fresh_answer, granted, is_again, is_other_snapshot};
+ghost use Rattle.smf_model.specs.Next.{is_running, refused, stale, started_by, takes_running, with_row};
 
-use crate::asking::{Asked, accepted, found, one, refused};
 use crate::change::Change;
 use crate::command::{Reply, Why};
 use crate::held::Instance;
-use crate::snapping::with_snapshot;
-use crate::tables::Tables;
+use crate::planner::{Asked, Planner};
 use smf_fmri::Items;
 use smf_state::{Proposal, Row, State, Step, StepFault};
-use std::alloc::Global;
 
 /// The proposal that was granted last.
 fn is_again(row: &Row, proposal: &Proposal) -> bool
@@ -42,23 +40,6 @@ fn is_next_number(before: u64, number: u64) -> bool
     before.checked_add(1) == Some(number)
 }
 
-/// Why a proposal is refused before its step is looked at, the first reason.
-fn stale(tables: &Tables, row: &Row, proposal: &Proposal) -> Option<Why>
-    ensures { result ≡ stale tables.now row.now proposal.now }
-{
-    if proposal.launch != tables.launch_of(&proposal.proposer) {
-        Some(Why::Launch)
-    } else if row.owner != proposal.proposer {
-        Some(Why::Owner)
-    } else if !is_next_number(row.number, proposal.number) {
-        Some(Why::Number)
-    } else if is_other_snapshot(row, &proposal.step) {
-        Some(Why::Snapshot)
-    } else {
-        None
-    }
-}
-
 /// A start that succeeded was by the snapshot with which it began.
 fn started_by(before: &Row, after: &Row, start: Option<u64>) -> Option<u64>
     ensures { result ≡ started_by before.now after.now start }
@@ -87,66 +68,80 @@ fn with_row(mut instance: Instance, row: Row) -> Instance
     instance
 }
 
-fn granted(alloc: Global, tables: &Tables, instance: &Instance, mut row: Row, takes: bool) -> Asked
-    ensures { IfOk result (λ r. r ≡ granted tables.now instance.now row takes) }
-{
-    if takes {
-        row.running = Some(tables.next_snapshot().get());
-        let after = with_row(instance.clone()?, row.clone()?);
-        let mut changes = Items::new(alloc);
-        changes.push(Change::PutInstance(after))?;
-        return with_snapshot(alloc, tables, instance, changes, Reply::Granted(row));
-    }
-    let after = with_row(instance.clone()?, row.clone()?);
-    one(
-        alloc,
-        tables,
-        Change::PutInstance(after),
-        Reply::Granted(row),
-    )
-}
-
-/// Takes the step of a proposal, whose reasons to be refused were looked at.
-fn step_answer(alloc: Global, tables: &Tables, instance: &Instance, proposal: &Proposal) -> Asked
-    ensures { IfOk result (λ r. r ≡ fresh_answer tables.now instance.now proposal.now None) }
-{
-    let mut row = instance.row.clone()?;
-    let revision = tables.revision().get() + 1;
-    match row.apply(proposal, revision) {
-        Err(fault) => refused_step(alloc, instance, fault),
-        Ok(()) => {
-            let takes = takes_running(&instance.row, &row);
-            granted(alloc, tables, instance, row, takes)
+impl Planner<'_> {
+    /// Why a proposal is refused before its step is looked at, the first reason.
+    fn stale(&self, row: &Row, proposal: &Proposal) -> Option<Why>
+        ensures { result ≡ stale self.now row.now proposal.now }
+    {
+        if proposal.launch != self.tables.launch_of(&proposal.proposer) {
+            Some(Why::Launch)
+        } else if row.owner != proposal.proposer {
+            Some(Why::Owner)
+        } else if !is_next_number(row.number, proposal.number) {
+            Some(Why::Number)
+        } else if is_other_snapshot(row, &proposal.step) {
+            Some(Why::Snapshot)
+        } else {
+            None
         }
     }
-}
 
-fn refused_step(alloc: Global, instance: &Instance, fault: StepFault) -> Asked
-    ensures { IfOk result (λ r. r ≡ refused (Reply.Stale (Why.Step fault) (Some instance.now.row))) }
-{
-    let row = instance.row.clone()?;
-    refused(alloc, Reply::Stale(Why::Step(fault), Some(row)))
-}
-
-fn answer_at(alloc: Global, tables: &Tables, instance: &Instance, proposal: &Proposal) -> Asked
-    ensures { IfOk result (λ r. r ≡ answer_at tables.now proposal.now (Some instance.now)) }
-{
-    if is_again(&instance.row, proposal) {
-        return refused(alloc, Reply::Granted(instance.row.clone()?));
+    fn granted(&self, instance: &Instance, mut row: Row, takes: bool) -> Asked
+        ensures { IfOk result (λ r. r ≡ granted self.now instance.now row takes) }
+    {
+        if takes {
+            row.running = Some(self.tables.next_snapshot().get());
+            let after = with_row(instance.clone()?, row.clone()?);
+            let mut changes = Items::new(self.alloc);
+            changes.push(Change::PutInstance(after))?;
+            return self.with_snapshot(instance, changes, Reply::Granted(row));
+        }
+        let after = with_row(instance.clone()?, row.clone()?);
+        self.one(Change::PutInstance(after), Reply::Granted(row))
     }
-    match stale(tables, &instance.row, proposal) {
-        Some(why) => refused(alloc, Reply::Stale(why, Some(instance.row.clone()?))),
-        None => step_answer(alloc, tables, instance, proposal),
-    }
-}
 
-/// The answer to a proposal.
-#[tactic(auto, unfolding(crate::specs::Next::answer))]
-pub(crate) fn answer(alloc: Global, tables: &Tables, proposal: &Proposal) -> Asked
-    ensures { IfOk result (λ r. r ≡ answer tables.now proposal.now) }
-{
-    match found(alloc, tables, proposal.instance)? {
-        None => refused(alloc, Reply::Stale(Why::NoSuch, None)),
-        Some(instance) => answer_at(alloc, tables, &instance, proposal),
+    /// Takes the step of a proposal, whose reasons to be refused were looked at.
+    fn step_answer(&self, instance: &Instance, proposal: &Proposal) -> Asked
+        ensures { IfOk result (λ r. r ≡ fresh_answer self.now instance.now proposal.now None) }
+    {
+        let mut row = instance.row.clone()?;
+        let revision = self.tables.revision().get() + 1;
+        match row.apply(proposal, revision) {
+            Err(fault) => self.refused_step(instance, fault),
+            Ok(()) => {
+                let takes = takes_running(&instance.row, &row);
+                self.granted(instance, row, takes)
+            }
+        }
+    }
+
+    fn refused_step(&self, instance: &Instance, fault: StepFault) -> Asked
+        ensures { IfOk result (λ r. r ≡ refused (Reply.Stale (Why.Step fault) (Some instance.now.row))) }
+    {
+        let row = instance.row.clone()?;
+        self.refused(Reply::Stale(Why::Step(fault), Some(row)))
+    }
+
+    fn answer_at(&self, instance: &Instance, proposal: &Proposal) -> Asked
+        ensures { IfOk result (λ r. r ≡ answer_at self.now proposal.now (Some instance.now)) }
+    {
+        if is_again(&instance.row, proposal) {
+            return self.refused(Reply::Granted(instance.row.clone()?));
+        }
+        match self.stale(&instance.row, proposal) {
+            Some(why) => self.refused(Reply::Stale(why, Some(instance.row.clone()?))),
+            None => self.step_answer(instance, proposal),
+        }
+    }
+
+    /// The answer to a proposal.
+    #[tactic(auto, unfolding(crate::specs::Next::answer))]
+    pub(crate) fn answer(&self, proposal: &Proposal) -> Asked
+        ensures { IfOk result (λ r. r ≡ answer self.now proposal.now) }
+    {
+        match self.found(proposal.instance)? {
+            None => self.refused(Reply::Stale(Why::NoSuch, None)),
+            Some(instance) => self.answer_at(&instance, proposal),
+        }
     }
 }

@@ -1,20 +1,20 @@
-ghost use Rattle.std.specs.Prelude.{◌≡◌, ◌≤◌, ◌+◌, ◌∷◌, [], IfOk, Some, None};
-ghost use Rattle.smf_model.specs.Next.{accepted, added_at, asked_add_instance, asked_add_service, asked_clear, asked_delete_instance, asked_if, asked_launch, asked_mark, asked_restart, asked_where, asking, found, greatest_instance, is_in_use, is_made, is_there, joining, leaving, marked, refused};
-ghost use Rattle.smf_model.specs.Look.{launch_of, named, service};
+ghost use Rattle.std.specs.Prelude.{◌≡◌, ◌≤◌, ◌+◌, IfOk};
+ghost use Rattle.smf_model.specs.Next.{added_at, asked_add_instance, asked_add_service, asked_clear};
+ghost use Rattle.smf_model.specs.Next.{asked_delete_instance, asked_if, asked_launch, asked_mark};
+ghost use Rattle.smf_model.specs.Next.{asked_restart, asked_where, asking, found, greatest_instance};
+ghost use Rattle.smf_model.specs.Next.{is_in_use, is_made, is_there, joining, leaving, marked};
+ghost use Rattle.smf_model.specs.Look.{named, service};
 
-use crate::change::{Change, Outcome};
+use crate::change::Change;
 use crate::command::{Mark, Reply};
 use crate::held::{Instance, InstanceEntry, InstanceName, Launch, Owner, Service};
-use crate::setting::{current, startd};
-use crate::tables::Tables;
+use crate::planner::{Asked, Planner};
+use crate::setting::startd;
 use bitflags::Flags;
 use smf_fmri::{InstanceFmri, Items, Number, Ordered, ServiceFmri};
 use smf_state::{Asks, Row, State};
 use smf_value::Name;
 use std::alloc::{AllocError, Global};
-
-/// What a command makes, unless memory runs out.
-pub(crate) type Asked = Result<Outcome, AllocError>;
 
 /// The most instances, 2^24 - 1.
 pub const MAX_INSTANCE: u64 = 0xff_ffff;
@@ -22,170 +22,11 @@ pub const MAX_INSTANCE: u64 = 0xff_ffff;
 /// The greatest revision, launch and row number, 2^63 - 1.
 pub const MAX_COUNT: u64 = 0x7fff_ffff_ffff_ffff;
 
-/// A refusal changes nothing.
-pub(crate) fn refused(alloc: Global, reply: Reply) -> Asked
-    ensures { IfOk result (λ r. r ≡ refused reply) }
-{
-    Ok(Outcome {
-        changes: Items::new(alloc),
-        reply,
-    })
-}
-
-/// An accepted command makes one revision, where one is left.
-pub(crate) fn accepted(
-    alloc: Global,
-    tables: &Tables,
-    mut changes: Items<Change>,
-    reply: Reply,
-) -> Asked
-    ensures { IfOk result (λ r. r ≡ accepted tables.now changes reply) }
-{
-    match tables.revision().next() {
-        None => refused(alloc, Reply::Limit),
-        Some(next) => {
-            changes.push(Change::SetRevision(next))?;
-            Ok(Outcome { changes, reply })
-        }
-    }
-}
-
-/// A command with one change.
-pub(crate) fn one(alloc: Global, tables: &Tables, change: Change, reply: Reply) -> Asked
-    ensures { IfOk result (λ r. r ≡ accepted tables.now (change ∷ []) reply) }
-{
-    let mut changes = Items::new(alloc);
-    changes.push(change)?;
-    accepted(alloc, tables, changes, reply)
-}
-
-pub(crate) fn two(
-    alloc: Global,
-    tables: &Tables,
-    first: Change,
-    second: Change,
-    reply: Reply,
-) -> Asked
-    ensures { IfOk result (λ r. r ≡ accepted tables.now (first ∷ second ∷ []) reply) }
-{
-    let mut changes = Items::new(alloc);
-    changes.push(first)?;
-    changes.push(second)?;
-    accepted(alloc, tables, changes, reply)
-}
-
-/// The instance of a number, as it is read.
-pub(crate) fn found(
-    alloc: Global,
-    tables: &Tables,
-    number: u64,
-) -> Result<Option<Instance>, AllocError>
-    ensures { IfOk result (λ i. i ≡ found tables.now number) }
-{
-    match tables.instance(number) {
-        None => Ok(None),
-        Some(instance) => {
-            let instance = current(alloc, tables, instance.clone()?)?;
-            Ok(Some(instance))
-        }
-    }
-}
-
-pub(crate) fn add_service(alloc: Global, tables: &Tables, name: &ServiceFmri) -> Asked
-    ensures { IfOk result (λ r. r ≡ asked_add_service tables.now name.now (service tables.now name.now)) }
-{
-    match tables.service(name) {
-        Some(_) => refused(alloc, Reply::Exists),
-        None => {
-            let service = Service {
-                name: name.clone()?,
-                groups: Ordered::new(alloc),
-            };
-            one(alloc, tables, Change::AddService(service), Reply::Done)
-        }
-    }
-}
-
-pub(crate) fn add_instance(
-    alloc: Global,
-    tables: &Tables,
-    parent: &ServiceFmri,
-    name: &Name,
-) -> Asked
-    ensures { IfOk result (λ r. r ≡ asked_add_instance tables.now name.now (service tables.now parent.now)) }
-{
-    let Some(service) = tables.service(parent) else {
-        return refused(alloc, Reply::NoSuch);
-    };
-    let mut text = String::from_str(alloc, service.name.print())?;
-    text.push_str(":")?;
-    text.push_str(name.as_str())?;
-    match InstanceFmri::read_short(alloc, &text)? {
-        None => refused(alloc, Reply::Limit),
-        Some(name) => add_at(alloc, tables, name),
-    }
-}
-
-fn add_at(alloc: Global, tables: &Tables, name: InstanceFmri) -> Asked
-    ensures { IfOk result (λ r. r ≡ added_at tables.now name (named tables.now name)) }
-{
-    if tables.named(&name).is_some() {
-        return refused(alloc, Reply::Exists);
-    }
-    let number = tables.next_instance().get();
-    if number > MAX_INSTANCE {
-        return refused(alloc, Reply::Limit);
-    }
-    let changes = joining(alloc, tables, name)?;
-    accepted(alloc, tables, changes, Reply::Made(number))
-}
-
-/// The changes that add an instance of the number that comes next.
-fn joining(alloc: Global, tables: &Tables, name: InstanceFmri) -> Result<Items<Change>, AllocError>
-    requires { tables.now.next_instance ≤ greatest_instance }
-    ensures { IfOk result (λ all. all ≡ joining tables.now name) }
-{
-    let number = tables.next_instance().get();
-    let next = Number::new(number + 1).unwrap();
-    let entry = InstanceName {
-        name: name.clone()?,
-        number,
-    };
-    let instance = Instance {
-        number,
-        name,
-        row: Row::new(startd(alloc)?),
-        start: None,
-        previous: None,
-    };
-    let mut changes = Items::new(alloc);
-    changes.push(Change::AddInstance(InstanceEntry {
-        instance,
-        groups: Ordered::new(alloc),
-    }))?;
-    changes.push(Change::PutName(entry))?;
-    changes.push(Change::NextInstance(next))?;
-    Ok(changes)
-}
-
 /// An instance that runs, or whose transition is under way, or that has a run.
 fn is_in_use(row: &Row) -> bool
     ensures { result ≡ is_in_use row.now }
 {
     row.state.runs() || row.next.is_some() || row.live.is_some() || row.side.is_some()
-}
-
-pub(crate) fn delete_instance(alloc: Global, tables: &Tables, number: u64) -> Asked
-    ensures { IfOk result (λ r. r ≡ asked_delete_instance tables.now (found tables.now number)) }
-{
-    let Some(instance) = found(alloc, tables, number)? else {
-        return refused(alloc, Reply::NoSuch);
-    };
-    if is_in_use(&instance.row) {
-        return refused(alloc, Reply::InUse);
-    }
-    let changes = leaving(alloc, instance)?;
-    accepted(alloc, tables, changes, Reply::Done)
 }
 
 /// The changes that drop an instance.
@@ -197,15 +38,6 @@ fn leaving(alloc: Global, instance: Instance) -> Result<Items<Change>, AllocErro
     changes.push(Change::DropName(instance.name))?;
     changes.push(Change::DropInstance(instance.number))?;
     Ok(changes)
-}
-
-pub(crate) fn is_there(tables: &Tables, owner: &Owner) -> bool
-    ensures { result ≡ is_there tables.now owner.now }
-{
-    match owner {
-        Owner::Service(name) => tables.service(name).is_some(),
-        Owner::Instance(number) => tables.instance(*number).is_some(),
-    }
 }
 
 /// The group `restarter` of an instance is made from its row.
@@ -226,125 +58,201 @@ fn asking(mut instance: Instance, ask: Asks) -> Instance
     instance
 }
 
-fn asked_if(alloc: Global, tables: &Tables, applies: bool, instance: Instance, ask: Asks) -> Asked
-    ensures { IfOk result (λ r. r ≡ asked_if tables.now applies instance ask.0) }
-{
-    if applies {
-        one(
-            alloc,
-            tables,
-            Change::PutInstance(asking(instance, ask)),
-            Reply::Done,
-        )
-    } else {
-        accepted(alloc, tables, Items::new(alloc), Reply::Done)
-    }
-}
-
-fn asked_where(
-    alloc: Global,
-    tables: &Tables,
-    applies: bool,
-    instance: Instance,
-    ask: Asks,
-) -> Asked
-    ensures { IfOk result (λ r. r ≡ asked_where tables.now applies instance ask.0) }
-{
-    if applies {
-        one(
-            alloc,
-            tables,
-            Change::PutInstance(asking(instance, ask)),
-            Reply::Done,
-        )
-    } else {
-        refused(alloc, Reply::NotInState)
-    }
-}
-
-pub(crate) fn restart(alloc: Global, tables: &Tables, number: u64) -> Asked
-    ensures { IfOk result (λ r. r ≡ asked_restart tables.now (found tables.now number)) }
-{
-    match found(alloc, tables, number)? {
-        None => refused(alloc, Reply::NoSuch),
-        Some(instance) => {
-            let runs = instance.row.state.runs();
-            asked_if(alloc, tables, runs, instance, Asks::RESTART)
+impl Planner<'_> {
+    /// The instance of a number, as it is read.
+    pub(crate) fn found(&self, number: u64) -> Result<Option<Instance>, AllocError>
+        ensures { IfOk result (λ i. i ≡ found self.now number) }
+    {
+        match self.tables.instance(number) {
+            None => Ok(None),
+            Some(instance) => {
+                let instance = self.current(instance.clone()?)?;
+                Ok(Some(instance))
+            }
         }
     }
-}
 
-pub(crate) fn clear(alloc: Global, tables: &Tables, number: u64) -> Asked
-    ensures { IfOk result (λ r. r ≡ asked_clear tables.now (found tables.now number)) }
-{
-    match found(alloc, tables, number)? {
-        None => refused(alloc, Reply::NoSuch),
-        Some(instance) => {
-            let state = instance.row.state;
-            let applies = state == State::Maintenance || state == State::Degraded;
-            asked_where(alloc, tables, applies, instance, Asks::CLEAR)
+    pub(crate) fn add_service(&self, name: &ServiceFmri) -> Asked
+        ensures { IfOk result (λ r. r ≡ asked_add_service self.now name.now (service self.now name.now)) }
+    {
+        match self.tables.service(name) {
+            Some(_) => self.refused(Reply::Exists),
+            None => {
+                let service = Service {
+                    name: name.clone()?,
+                    groups: Ordered::new(self.alloc),
+                };
+                self.one(Change::AddService(service), Reply::Done)
+            }
         }
     }
-}
 
-pub(crate) fn mark(alloc: Global, tables: &Tables, number: u64, mark: Mark) -> Asked
-    ensures { IfOk result (λ r. r ≡ asked_mark tables.now mark (found tables.now number)) }
-{
-    match found(alloc, tables, number)? {
-        None => refused(alloc, Reply::NoSuch),
-        Some(instance) => marked(alloc, tables, mark, instance),
+    pub(crate) fn add_instance(&self, parent: &ServiceFmri, name: &Name) -> Asked
+        ensures { IfOk result (λ r. r ≡ asked_add_instance self.now name.now (service self.now parent.now)) }
+    {
+        let Some(service) = self.tables.service(parent) else {
+            return self.refused(Reply::NoSuch);
+        };
+        let mut text = String::from_str(self.alloc, service.name.print())?;
+        text.push_str(":")?;
+        text.push_str(name.as_str())?;
+        match InstanceFmri::read_short(self.alloc, &text)? {
+            None => self.refused(Reply::Limit),
+            Some(name) => self.add_at(name),
+        }
     }
-}
 
-fn marked(alloc: Global, tables: &Tables, mark: Mark, instance: Instance) -> Asked
-    ensures { IfOk result (λ r. r ≡ marked tables.now mark instance) }
-{
-    let state = instance.row.state;
-    match mark {
-        Mark::Degraded => {
-            asked_where(
-                alloc,
-                tables,
-                state == State::Online,
+    fn add_at(&self, name: InstanceFmri) -> Asked
+        ensures { IfOk result (λ r. r ≡ added_at self.now name (named self.now name)) }
+    {
+        if self.tables.named(&name).is_some() {
+            return self.refused(Reply::Exists);
+        }
+        let number = self.tables.next_instance().get();
+        if number > MAX_INSTANCE {
+            return self.refused(Reply::Limit);
+        }
+        let changes = self.joining(name)?;
+        self.accepted(changes, Reply::Made(number))
+    }
+
+    /// The changes that add an instance of the number that comes next.
+    fn joining(&self, name: InstanceFmri) -> Result<Items<Change>, AllocError>
+        requires { self.now.next_instance ≤ greatest_instance }
+        ensures { IfOk result (λ all. all ≡ joining self.now name) }
+    {
+        let number = self.tables.next_instance().get();
+        let next = Number::new(number + 1).unwrap();
+        let entry = InstanceName {
+            name: name.clone()?,
+            number,
+        };
+        let instance = Instance {
+            number,
+            name,
+            row: Row::new(startd(self.alloc)?),
+            start: None,
+            previous: None,
+        };
+        let mut changes = Items::new(self.alloc);
+        changes.push(Change::AddInstance(InstanceEntry {
+            instance,
+            groups: Ordered::new(self.alloc),
+        }))?;
+        changes.push(Change::PutName(entry))?;
+        changes.push(Change::NextInstance(next))?;
+        Ok(changes)
+    }
+
+    pub(crate) fn delete_instance(&self, number: u64) -> Asked
+        ensures { IfOk result (λ r. r ≡ asked_delete_instance self.now (found self.now number)) }
+    {
+        let Some(instance) = self.found(number)? else {
+            return self.refused(Reply::NoSuch);
+        };
+        if is_in_use(&instance.row) {
+            return self.refused(Reply::InUse);
+        }
+        let changes = leaving(self.alloc, instance)?;
+        self.accepted(changes, Reply::Done)
+    }
+
+    pub(crate) fn is_there(&self, owner: &Owner) -> bool
+        ensures { result ≡ is_there self.now owner.now }
+    {
+        match owner {
+            Owner::Service(name) => self.tables.service(name).is_some(),
+            Owner::Instance(number) => self.tables.instance(*number).is_some(),
+        }
+    }
+
+    fn asked_if(&self, applies: bool, instance: Instance, ask: Asks) -> Asked
+        ensures { IfOk result (λ r. r ≡ asked_if self.now applies instance ask.0) }
+    {
+        if applies {
+            self.one(Change::PutInstance(asking(instance, ask)), Reply::Done)
+        } else {
+            self.accepted(Items::new(self.alloc), Reply::Done)
+        }
+    }
+
+    fn asked_where(&self, applies: bool, instance: Instance, ask: Asks) -> Asked
+        ensures { IfOk result (λ r. r ≡ asked_where self.now applies instance ask.0) }
+    {
+        if applies {
+            self.one(Change::PutInstance(asking(instance, ask)), Reply::Done)
+        } else {
+            self.refused(Reply::NotInState)
+        }
+    }
+
+    pub(crate) fn restart(&self, number: u64) -> Asked
+        ensures { IfOk result (λ r. r ≡ asked_restart self.now (found self.now number)) }
+    {
+        match self.found(number)? {
+            None => self.refused(Reply::NoSuch),
+            Some(instance) => {
+                let runs = instance.row.state.runs();
+                self.asked_if(runs, instance, Asks::RESTART)
+            }
+        }
+    }
+
+    pub(crate) fn clear(&self, number: u64) -> Asked
+        ensures { IfOk result (λ r. r ≡ asked_clear self.now (found self.now number)) }
+    {
+        match self.found(number)? {
+            None => self.refused(Reply::NoSuch),
+            Some(instance) => {
+                let state = instance.row.state;
+                let applies = state == State::Maintenance || state == State::Degraded;
+                self.asked_where(applies, instance, Asks::CLEAR)
+            }
+        }
+    }
+
+    pub(crate) fn mark(&self, number: u64, mark: Mark) -> Asked
+        ensures { IfOk result (λ r. r ≡ asked_mark self.now mark (found self.now number)) }
+    {
+        match self.found(number)? {
+            None => self.refused(Reply::NoSuch),
+            Some(instance) => self.marked(mark, instance),
+        }
+    }
+
+    fn marked(&self, mark: Mark, instance: Instance) -> Asked
+        ensures { IfOk result (λ r. r ≡ marked self.now mark instance) }
+    {
+        let state = instance.row.state;
+        match mark {
+            Mark::Degraded => self.asked_where(state == State::Online, instance, Asks::DEGRADED),
+            Mark::Maintenance => self.asked_if(
+                state != State::Maintenance,
                 instance,
-                Asks::DEGRADED,
-            )
+                Asks::MAINTENANCE,
+            ),
+            Mark::MaintenanceNow => self.asked_if(
+                state != State::Maintenance,
+                instance,
+                Asks::MAINTENANCE_NOW,
+            ),
         }
-        Mark::Maintenance => asked_if(
-            alloc,
-            tables,
-            state != State::Maintenance,
-            instance,
-            Asks::MAINTENANCE,
-        ),
-        Mark::MaintenanceNow => asked_if(
-            alloc,
-            tables,
-            state != State::Maintenance,
-            instance,
-            Asks::MAINTENANCE_NOW,
-        ),
     }
-}
 
-/// A restarter of a name begins.
-#[tactic(auto, unfolding(crate::specs::Next::asked_launch))]
-pub(crate) fn launch(alloc: Global, tables: &Tables, restarter: &InstanceFmri) -> Asked
-    ensures { IfOk result (λ r. r ≡ asked_launch tables.now restarter.now) }
-{
-    let count = tables.launch_of(restarter);
-    if count >= MAX_COUNT {
-        return refused(alloc, Reply::Limit);
+    /// A restarter of a name begins.
+    #[tactic(auto, unfolding(crate::specs::Next::asked_launch))]
+    pub(crate) fn launch(&self, restarter: &InstanceFmri) -> Asked
+        ensures { IfOk result (λ r. r ≡ asked_launch self.now restarter.now) }
+    {
+        let count = self.tables.launch_of(restarter);
+        if count >= MAX_COUNT {
+            return self.refused(Reply::Limit);
+        }
+        let next = Number::new(count + 1).unwrap();
+        let launch = Launch {
+            restarter: restarter.clone()?,
+            count: next,
+        };
+        self.one(Change::PutLaunch(launch), Reply::Made(count + 1))
     }
-    let next = Number::new(count + 1).unwrap();
-    let launch = Launch {
-        restarter: restarter.clone()?,
-        count: next,
-    };
-    one(
-        alloc,
-        tables,
-        Change::PutLaunch(launch),
-        Reply::Made(count + 1),
-    )
 }

@@ -2,16 +2,18 @@ ghost use Rattle.std.specs.Prelude.{◌≡◌, ◌<◌, ◌++◌, false, IfOk, m
 ghost use Rattle.std.specs.List.{list_any};
 ghost use Rattle.std.specs.Option.{option_copied};
 ghost use Rattle.smf_model.specs.Look.{bare, group_in, groups_of, service};
-ghost use Rattle.smf_model.specs.Next.{all_booted, asked_boot, asked_delete_service, booted, booted_row, booting, has_dropped, is_instance_of, is_last_launch, is_last_number, kept_groups, kept_of_instances, kept_of_services, may_not_boot, persistent, relaunched};
+ghost use Rattle.smf_model.specs.Next.{all_booted, asked_boot, asked_delete_service, booted, booted_row, booting};
+ghost use Rattle.smf_model.specs.Next.{has_dropped, is_instance_of, is_last_launch, is_last_number, kept_groups};
+ghost use Rattle.smf_model.specs.Next.{kept_of_instances, kept_of_services, may_not_boot, persistent, relaunched};
 ghost use Rattle.smf_model.specs.Setting.{setting};
 ghost use Rattle.smf_state.specs.Rows.{greatest_number};
 
-use crate::asking::{Asked, MAX_COUNT, accepted, one, refused};
+use crate::asking::MAX_COUNT;
 use crate::change::Change;
 use crate::command::Reply;
 use crate::held::{Instance, InstanceEntry, Launch, Owner, Service};
+use crate::planner::{Asked, Planner};
 use crate::setting::{Setting, owner_by, service_owner, setting_by};
-use crate::tables::Tables;
 use bitflags::Flags;
 use smf_fmri::{InstanceFmri, Items, Ordered, ServiceFmri};
 use smf_state::{Asks, Row, State};
@@ -134,17 +136,6 @@ fn booted_row(mut row: Row, owner: InstanceFmri) -> Row
     row
 }
 
-/// The group of a name of an owner, where it outlasts a boot.
-#[tactic(auto, unfolding(crate::specs::Look::groups_of))]
-fn persistent_group<'a>(tables: &'a Tables, owner: &Owner, name: &str) -> Option<&'a Group>
-    ensures { option_copied result ≡ group_in (persistent (groups_of tables.now) owner.now) name.now }
-{
-    match tables.owned(owner) {
-        None => None,
-        Some(groups) => kept_of_name(groups, name),
-    }
-}
-
 /// The group of a name, where it outlasts a boot.
 #[tactic(auto, using(crate::proofs::Kept::kept_none, crate::proofs::Kept::kept_some))]
 fn kept_of_name<'a>(groups: &'a Ordered<Group>, name: &str) -> Option<&'a Group>
@@ -161,78 +152,6 @@ fn kept_of_name<'a>(groups: &'a Ordered<Group>, name: &str) -> Option<&'a Group>
             }
         }
     }
-}
-
-/// What `general/restarter` says of an instance once a boot has dropped groups.
-#[tactic(auto, unfolding(crate::specs::Setting::setting))]
-fn setting_at_boot(
-    alloc: Global,
-    tables: &Tables,
-    instance: &Instance,
-) -> Result<Setting, AllocError>
-    ensures { IfOk result (λ s. s ≡ setting (persistent (groups_of tables.now)) instance.now) }
-{
-    let own = Owner::Instance(instance.number);
-    let service = service_owner(alloc, &instance.name)?;
-    let general = persistent_group(tables, &own, "general");
-    let services_own = persistent_group(tables, &service, "general");
-    setting_by(alloc, general, services_own)
-}
-
-fn booted(alloc: Global, tables: &Tables, instance: &Instance) -> Result<Instance, AllocError>
-    requires { instance.now.row.number < greatest_number }
-    ensures { IfOk result (λ i. i ≡ booted (persistent (groups_of tables.now)) instance.now) }
-{
-    let owner = owner_by(alloc, setting_at_boot(alloc, tables, instance)?)?;
-    let mut instance = instance.clone()?;
-    instance.row = booted_row(instance.row, owner);
-    Ok(instance)
-}
-
-/// Every instance begins anew.
-fn boot_all(
-    alloc: Global,
-    mut changes: Items<Change>,
-    tables: &Tables,
-    entries: &[InstanceEntry],
-) -> Result<Items<Change>, AllocError>
-    requires { list_any is_last_number (bare entries.now) ≡ false }
-    ensures { IfOk result (λ all. all ≡ changes ++ all_booted (persistent (groups_of tables.now)) (bare entries.now)) }
-{
-    for entry in entries {
-        let next = booted(alloc, tables, &entry.instance)?;
-        changes.push(Change::PutInstance(next))?;
-    }
-    Ok(changes)
-}
-
-/// The changes of a boot: every restarter is launched again, groups go, every instance begins anew.
-fn booting(alloc: Global, tables: &Tables) -> Result<Items<Change>, AllocError>
-    requires { may_not_boot tables.now ≡ false }
-    ensures { IfOk result (λ all. all ≡ booting tables.now) }
-{
-    let changes = relaunch(Items::new(alloc), tables.launches())?;
-    let changes = keep_of_services(alloc, changes, tables.services())?;
-    let changes = keep_of_instances(alloc, changes, tables.entries())?;
-    boot_all(alloc, changes, tables, tables.entries())
-}
-
-fn may_not_boot(tables: &Tables) -> bool
-    ensures { result ≡ may_not_boot tables.now }
-{
-    any_last_launch(tables.launches()) || any_last_number(tables.entries())
-}
-
-/// What a boot of the machine changes.
-#[tactic(auto, unfolding(crate::specs::Next::asked_boot))]
-pub(crate) fn boot(alloc: Global, tables: &Tables) -> Asked
-    ensures { IfOk result (λ r. r ≡ asked_boot tables.now) }
-{
-    if may_not_boot(tables) {
-        return refused(alloc, Reply::Limit);
-    }
-    let changes = booting(alloc, tables)?;
-    accepted(alloc, tables, changes, Reply::Done)
 }
 
 pub(crate) fn is_instance_of(
@@ -263,15 +182,96 @@ fn has_instance(
     Ok(false)
 }
 
-pub(crate) fn delete_service(alloc: Global, tables: &Tables, name: &ServiceFmri) -> Asked
-    ensures { IfOk result (λ r. r ≡ asked_delete_service tables.now (service tables.now name.now)) }
-{
-    let Some(service) = tables.service(name) else {
-        return refused(alloc, Reply::NoSuch);
-    };
-    if has_instance(alloc, &service.name, tables.entries())? {
-        return refused(alloc, Reply::InUse);
+impl Planner<'_> {
+    /// The group of a name of an owner, where it outlasts a boot.
+    #[tactic(auto, unfolding(crate::specs::Look::groups_of))]
+    fn persistent_group(&self, owner: &Owner, name: &str) -> Option<&Group>
+        ensures { option_copied result ≡ group_in (persistent (groups_of self.now) owner.now) name.now }
+    {
+        match self.tables.owned(owner) {
+            None => None,
+            Some(groups) => kept_of_name(groups, name),
+        }
     }
-    let change = Change::DropService(service.name.clone()?);
-    one(alloc, tables, change, Reply::Done)
+
+    /// What `general/restarter` says of an instance once a boot has dropped groups.
+    #[tactic(auto, unfolding(crate::specs::Setting::setting))]
+    fn setting_at_boot(&self, instance: &Instance) -> Result<Setting, AllocError>
+        ensures { IfOk result (λ s. s ≡ setting (persistent (groups_of self.now)) instance.now) }
+    {
+        let own = Owner::Instance(instance.number);
+        let service = service_owner(self.alloc, &instance.name)?;
+        let general = self.persistent_group(&own, "general");
+        let services_own = self.persistent_group(&service, "general");
+        setting_by(self.alloc, general, services_own)
+    }
+
+    fn booted(&self, instance: &Instance) -> Result<Instance, AllocError>
+        requires { instance.now.row.number < greatest_number }
+        ensures { IfOk result (λ i. i ≡ booted (persistent (groups_of self.now)) instance.now) }
+    {
+        let owner = owner_by(self.alloc, self.setting_at_boot(instance)?)?;
+        let mut instance = instance.clone()?;
+        instance.row = booted_row(instance.row, owner);
+        Ok(instance)
+    }
+
+    /// Every instance begins anew.
+    fn boot_all(
+        &self,
+        mut changes: Items<Change>,
+        entries: &[InstanceEntry],
+    ) -> Result<Items<Change>, AllocError>
+        requires { list_any is_last_number (bare entries.now) ≡ false }
+        ensures { IfOk result (λ all. all ≡
+            changes ++ all_booted (persistent (groups_of self.now)) (bare entries.now)) }
+    {
+        for entry in entries {
+            let next = self.booted(&entry.instance)?;
+            changes.push(Change::PutInstance(next))?;
+        }
+        Ok(changes)
+    }
+
+    /// The changes of a boot: every restarter is launched again, groups go, every instance begins anew.
+    fn booting(&self) -> Result<Items<Change>, AllocError>
+        requires { may_not_boot self.now ≡ false }
+        ensures { IfOk result (λ all. all ≡ booting self.now) }
+    {
+        let changes = relaunch(Items::new(self.alloc), self.tables.launches())?;
+        let changes = keep_of_services(self.alloc, changes, self.tables.services())?;
+        let changes = keep_of_instances(self.alloc, changes, self.tables.entries())?;
+        self.boot_all(changes, self.tables.entries())
+    }
+
+    fn may_not_boot(&self) -> bool
+        ensures { result ≡ may_not_boot self.now }
+    {
+        any_last_launch(self.tables.launches()) || any_last_number(self.tables.entries())
+    }
+
+    /// What a boot of the machine changes.
+    #[tactic(auto, unfolding(crate::specs::Next::asked_boot))]
+    pub(crate) fn boot(&self) -> Asked
+        ensures { IfOk result (λ r. r ≡ asked_boot self.now) }
+    {
+        if self.may_not_boot() {
+            return self.refused(Reply::Limit);
+        }
+        let changes = self.booting()?;
+        self.accepted(changes, Reply::Done)
+    }
+
+    pub(crate) fn delete_service(&self, name: &ServiceFmri) -> Asked
+        ensures { IfOk result (λ r. r ≡ asked_delete_service self.now (service self.now name.now)) }
+    {
+        let Some(service) = self.tables.service(name) else {
+            return self.refused(Reply::NoSuch);
+        };
+        if has_instance(self.alloc, &service.name, self.tables.entries())? {
+            return self.refused(Reply::InUse);
+        }
+        let change = Change::DropService(service.name.clone()?);
+        self.one(change, Reply::Done)
+    }
 }

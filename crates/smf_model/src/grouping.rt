@@ -1,16 +1,17 @@
-ghost use Rattle.std.specs.Int.RustNames.{bit_and};
-ghost use Rattle.std.specs.Prelude.{◌≡◌, ◌==◌, false, true, ◌∷◌, [], IfOk, None, count_by, Ok};
+ghost use Rattle.std.specs.Prelude.{◌≡◌, ◌∷◌, [], IfOk, None, count_by, Ok};
 ghost use Rattle.smf_value.specs.Edits.{Answers};
 ghost use Rattle.smf_model.specs.Look.{group, groups_of};
-ghost use Rattle.smf_model.specs.Next.{accepted, added_group, asked_add_group, asked_delete_group, asked_for_good, asked_for_now, asked_property, asked_enable, enabled_for_good, enabled_for_now, enabling_of, found, group_dropped, group_enabled, group_or_new, group_put, has_room, is_other_group, new_group, property_changed};
-ghost use Rattle.smf_model.specs.Setting.{general, general_ovr};
+ghost use Rattle.smf_model.specs.Next.{accepted, added_group, asked_add_group, asked_delete_group};
+ghost use Rattle.smf_model.specs.Next.{asked_for_good, asked_for_now, asked_property, asked_enable};
+ghost use Rattle.smf_model.specs.Next.{enabled_for_good, enabled_for_now, enabling_of, found};
+ghost use Rattle.smf_model.specs.Next.{group_dropped, group_enabled, group_or_new, group_put};
+ghost use Rattle.smf_model.specs.Next.{has_room, is_other_group, new_group, property_changed};
 
-use crate::asking::{Asked, found, is_made, is_there, one, refused};
+use crate::asking::is_made;
 use crate::change::Change;
 use crate::command::{PropertyChange, Reply};
 use crate::held::Owner;
-use crate::setting::group_of;
-use crate::tables::Tables;
+use crate::planner::{Asked, Planner};
 use smf_fmri::Ordered;
 use smf_value::{Group, GroupFault, GroupFlags, Name, Property, Value};
 use std::alloc::{AllocError, Global};
@@ -24,24 +25,6 @@ fn is_other_group(first: &str, second: &str, group: &Group) -> bool
     group.name().as_str() != first && group.name().as_str() != second
 }
 
-/// Whether an owner has room for a group of one of two names.
-#[tactic(auto, unfolding(crate::specs::Look::groups_of))]
-fn has_room(tables: &Tables, owner: &Owner, first: &str, second: &str) -> bool
-    ensures { result ≡ has_room tables.now owner.now first.now second.now }
-{
-    match tables.owned(owner) {
-        None => true,
-        Some(groups) => other_count(groups.as_slice(), first, second) < MAX_GROUPS,
-    }
-}
-
-/// Whether an owner has room for a group of a name.
-fn has_room_for(tables: &Tables, owner: &Owner, name: &str) -> bool
-    ensures { result ≡ has_room tables.now owner.now name.now name.now }
-{
-    has_room(tables, owner, name, name)
-}
-
 fn other_count(groups: &[Group], first: &str, second: &str) -> usize
     ensures { result ≡ count_by (is_other_group first.now second.now) groups.now }
 {
@@ -49,106 +32,6 @@ fn other_count(groups: &[Group], first: &str, second: &str) -> usize
         .iter()
         .filter(|group| is_other_group(first, second, group))
         .count()
-}
-
-/// A copy of the groups of an owner.
-#[tactic(auto, unfolding(crate::specs::Look::groups_of))]
-pub(crate) fn groups_of(
-    alloc: Global,
-    tables: &Tables,
-    owner: &Owner,
-) -> Result<Ordered<Group>, AllocError>
-    ensures { IfOk result (λ gs. gs ≡ groups_of tables.now owner.now) }
-{
-    match tables.owned(owner) {
-        None => Ok(Ordered::new(alloc)),
-        Some(groups) => groups.clone(),
-    }
-}
-
-pub(crate) fn add_group(alloc: Global, tables: &Tables, owner: &Owner, new: Group) -> Asked
-    ensures { IfOk result (λ r. r ≡ asked_add_group tables.now owner.now new) }
-{
-    if !is_there(tables, owner) {
-        return refused(alloc, Reply::NoSuch);
-    }
-    if is_made(owner, new.name()) {
-        return refused(alloc, Reply::InUse);
-    }
-    match group_of(tables, owner, new.name().as_str()) {
-        Some(_) => refused(alloc, Reply::Exists),
-        None => put_where_room(alloc, tables, owner, new),
-    }
-}
-
-fn put_where_room(alloc: Global, tables: &Tables, owner: &Owner, new: Group) -> Asked
-    ensures { IfOk result (λ r. r ≡ added_group tables.now owner.now new None) }
-{
-    if has_room_for(tables, owner, new.name().as_str()) {
-        put(alloc, tables, owner, new)
-    } else {
-        refused(alloc, Reply::Limit)
-    }
-}
-
-/// Puts a group in its place.
-fn put(alloc: Global, tables: &Tables, owner: &Owner, new: Group) -> Asked
-    ensures { IfOk result (λ r. r ≡ accepted tables.now (group_put tables.now owner.now new ∷ []) Reply.Done) }
-{
-    let mut groups = groups_of(alloc, tables, owner)?;
-    groups.put(new)?;
-    let change = Change::PutGroups(owner.clone()?, groups);
-    one(alloc, tables, change, Reply::Done)
-}
-
-/// Takes a group out.
-fn drop_group(alloc: Global, tables: &Tables, owner: &Owner, name: &Name) -> Asked
-    ensures { IfOk result (λ r. r ≡ accepted tables.now (group_dropped tables.now owner.now name.now ∷ []) Reply.Done) }
-{
-    let mut groups = groups_of(alloc, tables, owner)?;
-    groups.remove(name);
-    let change = Change::PutGroups(owner.clone()?, groups);
-    one(alloc, tables, change, Reply::Done)
-}
-
-pub(crate) fn delete_group(alloc: Global, tables: &Tables, owner: &Owner, name: &Name) -> Asked
-    ensures { IfOk result (λ r. r ≡ asked_delete_group tables.now owner.now name.now) }
-{
-    if !is_there(tables, owner) {
-        return refused(alloc, Reply::NoSuch);
-    }
-    if is_made(owner, name) {
-        return refused(alloc, Reply::InUse);
-    }
-    if group_of(tables, owner, name.as_str()).is_none() {
-        return refused(alloc, Reply::NoSuch);
-    }
-    drop_group(alloc, tables, owner, name)
-}
-
-pub(crate) fn change_property(
-    alloc: Global,
-    tables: &Tables,
-    owner: &Owner,
-    name: &Name,
-    change: &PropertyChange,
-) -> Asked
-    ensures { IfOk result (λ r. r ≡ asked_property tables.now owner.now name.now change.now) }
-{
-    if !is_there(tables, owner) {
-        return refused(alloc, Reply::NoSuch);
-    }
-    if is_made(owner, name) {
-        return refused(alloc, Reply::InUse);
-    }
-    let Some(group) = group_of(tables, owner, name.as_str()) else {
-        return refused(alloc, Reply::NoSuch);
-    };
-    match property_changed(alloc, group.clone()?, change) {
-        Ok(changed) => put(alloc, tables, owner, changed),
-        Err(GroupFault::Memory) => Err(AllocError),
-        Err(fault) => refused(alloc, Reply::Denied(fault)),
-    }
 }
 
 fn property_changed(
@@ -195,113 +78,210 @@ pub(crate) fn new_group(alloc: Global, name: Name, group_type: Name, non_persist
     }
 }
 
-/// The group of a name of an instance, or a new one of type framework.
-fn group_or_new(
-    alloc: Global,
-    tables: &Tables,
-    number: u64,
-    name: Name,
-    non_persistent: bool,
-) -> Result<Group, AllocError>
-    ensures { IfOk result (λ g. g ≡ group_or_new tables.now number name non_persistent) }
-{
-    let owner = Owner::Instance(number);
-    match group_of(tables, &owner, name.as_str()) {
-        Some(group) => group.clone(),
-        None => {
-            let framework = Name::new(alloc, "framework")?;
-            Ok(new_group(alloc, name, framework, non_persistent))
+impl Planner<'_> {
+    /// Whether an owner has room for a group of one of two names.
+    #[tactic(auto, unfolding(crate::specs::Look::groups_of))]
+    fn has_room(&self, owner: &Owner, first: &str, second: &str) -> bool
+        ensures { result ≡ has_room self.now owner.now first.now second.now }
+    {
+        match self.tables.owned(owner) {
+            None => true,
+            Some(groups) => other_count(groups.as_slice(), first, second) < MAX_GROUPS,
         }
     }
-}
 
-/// Enables or disables an instance for good: `general/enabled`, and no `general_ovr`.
-fn enable_for_good(alloc: Global, tables: &Tables, number: u64, enabled: bool) -> Asked
-    ensures { IfOk result (λ r. r ≡ asked_for_good tables.now number enabled) }
-{
-    let name = Name::new(alloc, "general")?;
-    let general = group_or_new(alloc, tables, number, name, false)?;
-    match with_enabled(alloc, general, enabled) {
-        Err(GroupFault::Memory) => Err(AllocError),
-        Err(fault) => refused(alloc, Reply::Denied(fault)),
-        Ok(general) => put_for_good(alloc, tables, number, general),
+    /// Whether an owner has room for a group of a name.
+    fn has_room_for(&self, owner: &Owner, name: &str) -> bool
+        ensures { result ≡ has_room self.now owner.now name.now name.now }
+    {
+        self.has_room(owner, name, name)
     }
-}
 
-fn put_for_good(alloc: Global, tables: &Tables, number: u64, general: Group) -> Asked
-    ensures { IfOk result (λ r. r ≡ enabled_for_good tables.now number (Ok general)) }
-{
-    let owner = Owner::Instance(number);
-    if !has_room(tables, &owner, "general", "general_ovr") {
-        return refused(alloc, Reply::Limit);
+    /// A copy of the groups of an owner.
+    #[tactic(auto, unfolding(crate::specs::Look::groups_of))]
+    pub(crate) fn groups_of(&self, owner: &Owner) -> Result<Ordered<Group>, AllocError>
+        ensures { IfOk result (λ gs. gs ≡ groups_of self.now owner.now) }
+    {
+        match self.tables.owned(owner) {
+            None => Ok(Ordered::new(self.alloc)),
+            Some(groups) => groups.clone(),
+        }
     }
-    let change = enabling(alloc, tables, owner, general)?;
-    one(alloc, tables, change, Reply::Done)
-}
 
-/// A group put in its place, and `general_ovr` gone.
-fn enabling(
-    alloc: Global,
-    tables: &Tables,
-    owner: Owner,
-    group: Group,
-) -> Result<Change, AllocError>
-    ensures { IfOk result (λ c. c ≡ enabling_of tables.now owner group) }
-{
-    let mut groups = groups_of(alloc, tables, &owner)?;
-    let name = Name::new(alloc, "general_ovr")?;
-    groups.remove(&name);
-    groups.put(group)?;
-    Ok(Change::PutGroups(owner, groups))
-}
-
-/// Enables or disables an instance until the next boot: `general_ovr/enabled`.
-fn enable_for_now(alloc: Global, tables: &Tables, number: u64, enabled: bool) -> Asked
-    ensures { IfOk result (λ r. r ≡ asked_for_now tables.now number enabled) }
-{
-    let name = Name::new(alloc, "general_ovr")?;
-    let present = group_or_new(alloc, tables, number, name, true)?;
-    write_for_now(alloc, tables, number, present, enabled)
-}
-
-fn write_for_now(
-    alloc: Global,
-    tables: &Tables,
-    number: u64,
-    present: Group,
-    enabled: bool,
-) -> Asked
-    ensures { IfOk result (λ r. r ≡ enabled_for_now tables.now number (group_enabled enabled present)) }
-{
-    match with_enabled(alloc, present, enabled) {
-        Err(GroupFault::Memory) => Err(AllocError),
-        Err(fault) => refused(alloc, Reply::Denied(fault)),
-        Ok(general_ovr) => put_for_now(alloc, tables, number, general_ovr),
+    pub(crate) fn add_group(&self, owner: &Owner, new: Group) -> Asked
+        ensures { IfOk result (λ r. r ≡ asked_add_group self.now owner.now new) }
+    {
+        if !self.is_there(owner) {
+            return self.refused(Reply::NoSuch);
+        }
+        if is_made(owner, new.name()) {
+            return self.refused(Reply::InUse);
+        }
+        match self.group_of(owner, new.name().as_str()) {
+            Some(_) => self.refused(Reply::Exists),
+            None => self.put_where_room(owner, new),
+        }
     }
-}
 
-fn put_for_now(alloc: Global, tables: &Tables, number: u64, ovr: Group) -> Asked
-    ensures { IfOk result (λ r. r ≡ enabled_for_now tables.now number (Ok ovr)) }
-{
-    let owner = Owner::Instance(number);
-    if !has_room(tables, &owner, "general_ovr", "general_ovr") {
-        return refused(alloc, Reply::Limit);
+    fn put_where_room(&self, owner: &Owner, new: Group) -> Asked
+        ensures { IfOk result (λ r. r ≡ added_group self.now owner.now new None) }
+    {
+        if self.has_room_for(owner, new.name().as_str()) {
+            self.put(owner, new)
+        } else {
+            self.refused(Reply::Limit)
+        }
     }
-    put(alloc, tables, &owner, ovr)
-}
 
-pub(crate) fn enable(
-    alloc: Global,
-    tables: &Tables,
-    number: u64,
-    enabled: bool,
-    temporary: bool,
-) -> Asked
-    ensures { IfOk result (λ r. r ≡ asked_enable tables.now number enabled temporary (found tables.now number)) }
-{
-    match found(alloc, tables, number)? {
-        None => refused(alloc, Reply::NoSuch),
-        Some(_) if temporary => enable_for_now(alloc, tables, number, enabled),
-        Some(_) => enable_for_good(alloc, tables, number, enabled),
+    /// Puts a group in its place.
+    fn put(&self, owner: &Owner, new: Group) -> Asked
+        ensures { IfOk result (λ r. r ≡ accepted self.now (group_put self.now owner.now new ∷ []) Reply.Done) }
+    {
+        let mut groups = self.groups_of(owner)?;
+        groups.put(new)?;
+        let change = Change::PutGroups(owner.clone()?, groups);
+        self.one(change, Reply::Done)
+    }
+
+    /// Takes a group out.
+    fn drop_group(&self, owner: &Owner, name: &Name) -> Asked
+        ensures { IfOk result (λ r. r ≡ accepted self.now (group_dropped self.now owner.now name.now ∷ []) Reply.Done) }
+    {
+        let mut groups = self.groups_of(owner)?;
+        groups.remove(name);
+        let change = Change::PutGroups(owner.clone()?, groups);
+        self.one(change, Reply::Done)
+    }
+
+    pub(crate) fn delete_group(&self, owner: &Owner, name: &Name) -> Asked
+        ensures { IfOk result (λ r. r ≡ asked_delete_group self.now owner.now name.now) }
+    {
+        if !self.is_there(owner) {
+            return self.refused(Reply::NoSuch);
+        }
+        if is_made(owner, name) {
+            return self.refused(Reply::InUse);
+        }
+        if self.group_of(owner, name.as_str()).is_none() {
+            return self.refused(Reply::NoSuch);
+        }
+        self.drop_group(owner, name)
+    }
+
+    pub(crate) fn change_property(
+        &self,
+        owner: &Owner,
+        name: &Name,
+        change: &PropertyChange,
+    ) -> Asked
+        ensures { IfOk result (λ r. r ≡ asked_property self.now owner.now name.now change.now) }
+    {
+        if !self.is_there(owner) {
+            return self.refused(Reply::NoSuch);
+        }
+        if is_made(owner, name) {
+            return self.refused(Reply::InUse);
+        }
+        let Some(group) = self.group_of(owner, name.as_str()) else {
+            return self.refused(Reply::NoSuch);
+        };
+        match property_changed(self.alloc, group.clone()?, change) {
+            Ok(changed) => self.put(owner, changed),
+            Err(GroupFault::Memory) => Err(AllocError),
+            Err(fault) => self.refused(Reply::Denied(fault)),
+        }
+    }
+
+    /// The group of a name of an instance, or a new one of type framework.
+    fn group_or_new(
+        &self,
+        number: u64,
+        name: Name,
+        non_persistent: bool,
+    ) -> Result<Group, AllocError>
+        ensures { IfOk result (λ g. g ≡ group_or_new self.now number name non_persistent) }
+    {
+        let owner = Owner::Instance(number);
+        match self.group_of(&owner, name.as_str()) {
+            Some(group) => group.clone(),
+            None => {
+                let framework = Name::new(self.alloc, "framework")?;
+                Ok(new_group(self.alloc, name, framework, non_persistent))
+            }
+        }
+    }
+
+    /// Enables or disables an instance for good: `general/enabled`, and no `general_ovr`.
+    fn enable_for_good(&self, number: u64, enabled: bool) -> Asked
+        ensures { IfOk result (λ r. r ≡ asked_for_good self.now number enabled) }
+    {
+        let name = Name::new(self.alloc, "general")?;
+        let general = self.group_or_new(number, name, false)?;
+        match with_enabled(self.alloc, general, enabled) {
+            Err(GroupFault::Memory) => Err(AllocError),
+            Err(fault) => self.refused(Reply::Denied(fault)),
+            Ok(general) => self.put_for_good(number, general),
+        }
+    }
+
+    fn put_for_good(&self, number: u64, general: Group) -> Asked
+        ensures { IfOk result (λ r. r ≡ enabled_for_good self.now number (Ok general)) }
+    {
+        let owner = Owner::Instance(number);
+        if !self.has_room(&owner, "general", "general_ovr") {
+            return self.refused(Reply::Limit);
+        }
+        let change = self.enabling(owner, general)?;
+        self.one(change, Reply::Done)
+    }
+
+    /// A group put in its place, and `general_ovr` gone.
+    fn enabling(&self, owner: Owner, group: Group) -> Result<Change, AllocError>
+        ensures { IfOk result (λ c. c ≡ enabling_of self.now owner group) }
+    {
+        let mut groups = self.groups_of(&owner)?;
+        let name = Name::new(self.alloc, "general_ovr")?;
+        groups.remove(&name);
+        groups.put(group)?;
+        Ok(Change::PutGroups(owner, groups))
+    }
+
+    /// Enables or disables an instance until the next boot: `general_ovr/enabled`.
+    fn enable_for_now(&self, number: u64, enabled: bool) -> Asked
+        ensures { IfOk result (λ r. r ≡ asked_for_now self.now number enabled) }
+    {
+        let name = Name::new(self.alloc, "general_ovr")?;
+        let present = self.group_or_new(number, name, true)?;
+        self.write_for_now(number, present, enabled)
+    }
+
+    fn write_for_now(&self, number: u64, present: Group, enabled: bool) -> Asked
+        ensures { IfOk result (λ r. r ≡ enabled_for_now self.now number (group_enabled enabled present)) }
+    {
+        match with_enabled(self.alloc, present, enabled) {
+            Err(GroupFault::Memory) => Err(AllocError),
+            Err(fault) => self.refused(Reply::Denied(fault)),
+            Ok(general_ovr) => self.put_for_now(number, general_ovr),
+        }
+    }
+
+    fn put_for_now(&self, number: u64, ovr: Group) -> Asked
+        ensures { IfOk result (λ r. r ≡ enabled_for_now self.now number (Ok ovr)) }
+    {
+        let owner = Owner::Instance(number);
+        if !self.has_room(&owner, "general_ovr", "general_ovr") {
+            return self.refused(Reply::Limit);
+        }
+        self.put(&owner, ovr)
+    }
+
+    pub(crate) fn enable(&self, number: u64, enabled: bool, temporary: bool) -> Asked
+        ensures { IfOk result (λ r. r ≡ asked_enable self.now number enabled temporary (found self.now number)) }
+    {
+        match self.found(number)? {
+            None => self.refused(Reply::NoSuch),
+            Some(_) if temporary => self.enable_for_now(number, enabled),
+            Some(_) => self.enable_for_good(number, enabled),
+        }
     }
 }

@@ -52,7 +52,7 @@ pub struct InstanceName {
 #[derive(Debug, Drop)]
 pub struct Snapshot {
     /// From 1, never given again.
-    pub number: u64,
+    pub number: Number,
     pub instance: u64,
     pub service_groups: Ordered<Group>,
     pub instance_groups: Ordered<Group>,
@@ -148,7 +148,7 @@ impl Keyed for Snapshot {
     ghost by = { by_number (λ s. s.number) };
 
     fn key(&self) -> &u64 {
-        &self.number
+        self.number.as_u64()
     }
 
     ghost same = { refl };

@@ -6,9 +6,9 @@ ghost use Rattle.smf_model.specs.Dates.{EventKind, IsDated};
 ghost use Rattle.smf_model.specs.Events.{IsKept, IsTold};
 ghost use Rattle.smf_model.specs.History.{AreInTurn, HasValueAt, entries, history, made, now};
 ghost use Rattle.smf_model.specs.Holdings.{Holdings};
-ghost use Rattle.smf_model.specs.Laws.{GetsNextNumber, HasTheName, InstanceStaysGone, IsFoundByName, IsGrantedAgain};
-ghost use Rattle.smf_model.specs.Laws.{IsNumbered, MakesRevision, RowGoesOn, RowRises, SnapshotStays, SnapshotStaysGone};
-ghost use Rattle.smf_model.specs.Laws.{is_refusal};
+ghost use Rattle.smf_model.specs.Laws.{GetsNextNumber, HasTheName, InstanceStaysGone};
+ghost use Rattle.smf_model.specs.Laws.{IsFoundByName, IsGrantedAgain, IsNumbered, MakesRevision};
+ghost use Rattle.smf_model.specs.Laws.{RowGoesOn, RowRises, SnapshotStays, SnapshotStaysGone, is_refusal};
 ghost use Rattle.smf_model.specs.Look.{empty};
 ghost use Rattle.smf_model.specs.Next.{asked, next};
 ghost use Rattle.smf_state.specs.declared.step.Proposal.{Proposal as AnyProposal};
@@ -71,6 +71,8 @@ pub fn histories_are_made_in_turn()
 /// came after the base. No row keeps a revision that is still to come.
 pub fn revisions_tell_events()
     ensures kept { (h : Holdings) (cs : List AnyCommand) → IsNumbered h → IsDated (made h cs) }
-    ensures told { (h : Holdings) (cs : List AnyCommand) (k : EventKind) (n base : ℕ) (i : AnyInstance) → IsTold h cs k n base i }
-    ensures happened { (h : Holdings) (cs : List AnyCommand) (k : EventKind) (n base : ℕ) (i : AnyInstance) → IsKept h cs k n base i }
+    ensures told { (h : Holdings) (cs : List AnyCommand) (k : EventKind) (n base : ℕ) (i : AnyInstance)
+        → IsTold h cs k n base i }
+    ensures happened { (h : Holdings) (cs : List AnyCommand) (k : EventKind) (n base : ℕ) (i : AnyInstance)
+        → IsKept h cs k n base i }
 {}

@@ -1,9 +1,10 @@
 //! The repository as a plain value: what it holds, what each command makes of it, and the body that keeps it in lists.
 //! Modules: `held` (what is held), `command` (commands and replies), `change` (record changes), `tables` (the lists and
-//! their changes), `setting` (restarters), `asking` (services, instances and notes of asks), `grouping` (edits of
-//! groups), `snapping` (refresh), `reverting` (revert), `answering` (proposals), `booting` (boot), `dispatch` (which
-//! command it is), `journal` (what is told of changes), `plain` (the repository over a journal), `showing` (reads),
-//! `viewing` (what the graph sees, and snapshots by name), `law` (what no list of commands breaks).
+//! their changes), `planner` (what a command is planned over, and what it may answer), `setting` (restarters), `asking`
+//! (services, instances and notes of asks), `grouping` (edits of groups), `snapping` (refresh), `reverting` (revert),
+//! `answering` (proposals), `booting` (boot), `dispatch` (which command it is), `journal` (what is told of changes),
+//! `plain` (the repository over a journal), `showing` (reads), `viewing` (what the graph sees, and snapshots by name),
+//! `law` (what no list of commands breaks).
 #![tactic(auto)]
 
 mod answering;
@@ -17,6 +18,7 @@ mod held;
 mod journal;
 mod law;
 mod plain;
+mod planner;
 mod reverting;
 mod setting;
 mod showing;

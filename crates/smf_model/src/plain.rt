@@ -6,19 +6,16 @@ ghost use Rattle.smf_model.specs.Laws.{IsNumbered, is_refusal};
 ghost use Rattle.smf_model.specs.Look.{empty, groups_of, installed, instance, launch_of, named, service, snapshot};
 ghost use Rattle.smf_model.specs.Next.{asked, found, next};
 ghost use Rattle.smf_model.specs.Setting.{enabled};
-ghost use Rattle.smf_model.specs.Shown.{all_read, children, composed_groups, rows, rows_of, shown_groups, snapshot_number, snapshots_of, view};
+ghost use Rattle.smf_model.specs.Shown.{all_read, children, composed_groups, rows, rows_of};
+ghost use Rattle.smf_model.specs.Shown.{shown_groups, snapshot_number, snapshots_of, view};
 ghost use Rattle.smf_model.specs.Tables.{held_in};
 
-use crate::asking::found;
 use crate::change::{Change, Outcome};
 use crate::command::{Command, Reply};
-use crate::dispatch::asked;
 use crate::held::{Instance, InstanceName, Owner, Service, Snapshot, View};
 use crate::journal::{Journal, RepoFault};
-use crate::setting::enabled;
-use crate::showing::{all_read, children, composed_groups, copied, rows_of, shown_groups};
+use crate::planner::Planner;
 use crate::tables::{Lists, Tables, install, reserve};
-use crate::viewing::{rows, snapshot_number, snapshots_of, view};
 use smf_fmri::{InstanceFmri, Items, Number, Ordered, ServiceFmri, Table};
 use smf_snap::SnapshotName;
 use smf_state::ViewItem;
@@ -81,6 +78,13 @@ impl<J: Journal> Plain<J> {
         self.journal
     }
 
+    /// What is held, to be planned over and read.
+    fn planner(&self) -> Planner<'_>
+        ensures { result ≡ self.now.held }
+    {
+        Planner::over(self.alloc, &self.tables)
+    }
+
     /// What a command changes, and its reply. It changes nothing itself.
     pub fn asked(&self, command: &Command) -> Result<Outcome, AllocError>
         ensures exact { IfOk result (λ r. r ≡ asked self.now.held command.now) }
@@ -88,7 +92,7 @@ impl<J: Journal> Plain<J> {
         ensures numbered { IfOk result (λ r. IsNumbered (installed self.now.held r.changes)) }
         ensures stands { J.stands self.now.journal self.now.held }
     {
-        let outcome = asked(self.alloc, &self.tables, command)?;
+        let outcome = Planner::over(self.alloc, &self.tables).asked(command)?;
         Ok(outcome)
     }
 
@@ -129,14 +133,14 @@ impl<J: Journal> Plain<J> {
     pub fn instance(&self, number: u64) -> Result<Option<Instance>, AllocError>
         ensures { IfOk result (λ i. i ≡ found self.now.held number) }
     {
-        found(self.alloc, &self.tables, number)
+        self.planner().found(number)
     }
 
     /// All instances in number order, their owners as they are read now.
     pub fn instances(&self) -> Result<Items<Instance>, AllocError>
         ensures { IfOk result (λ all. all ≡ all_read self.now.held) }
     {
-        let all = all_read(self.alloc, &self.tables)?;
+        let all = self.planner().all_read()?;
         Ok(Items::from_vec(all))
     }
 
@@ -158,35 +162,35 @@ impl<J: Journal> Plain<J> {
     pub fn rows_of(&self, restarter: &InstanceFmri) -> Result<Items<Instance>, AllocError>
         ensures { IfOk result (λ all. all ≡ rows_of self.now.held restarter.now) }
     {
-        rows_of(self.alloc, &self.tables, restarter)
+        self.planner().rows_of(restarter)
     }
 
     /// The instances of a service, in number order.
     pub fn children(&self, service: &ServiceFmri) -> Result<Items<Instance>, AllocError>
         ensures { IfOk result (λ all. all ≡ children self.now.held service.now) }
     {
-        children(self.alloc, &self.tables, service)
+        self.planner().children(service)
     }
 
     /// The groups of an owner in the order of their names; an instance's `restarter` is made from its row.
     pub fn groups(&self, owner: &Owner) -> Result<Ordered<Group>, AllocError>
         ensures { IfOk result (λ gs. gs ≡ shown_groups self.now.held owner.now) }
     {
-        shown_groups(self.alloc, &self.tables, owner)
+        self.planner().shown_groups(owner)
     }
 
     /// The groups that the instance of a number has, by name: its own, else those of its service, each as a whole.
     pub fn composed_groups(&self, number: u64) -> Result<Option<Ordered<Group>>, AllocError>
         ensures { IfOk result (λ gs. gs ≡ composed_groups self.now.held number) }
     {
-        composed_groups(self.alloc, &self.tables, number)
+        self.planner().composed_groups(number)
     }
 
     /// What svc.startd's graph sees of the instances, but for the bytes of snapshots.
     pub fn rows(&self) -> Result<Items<ViewItem>, AllocError>
         ensures { IfOk result (λ all. all ≡ rows self.now.held) }
     {
-        rows(self.alloc, &self.tables)
+        self.planner().rows()
     }
 
     pub fn has_service(&self, name: &ServiceFmri) -> bool
@@ -232,35 +236,35 @@ impl<J: Journal> Plain<J> {
     pub fn snapshots(&self, instance: u64) -> Result<Option<Items<SnapshotName>>, AllocError>
         ensures { IfOk result (λ all. all ≡ snapshots_of self.now.held instance) }
     {
-        snapshots_of(self.alloc, &self.tables, instance)
+        self.planner().snapshots_of(instance)
     }
 
     /// Which snapshot a name means of an instance.
     pub fn snapshot_number(&self, instance: u64, name: SnapshotName) -> Option<u64>
         ensures { result ≡ snapshot_number self.now.held instance name }
     {
-        snapshot_number(&self.tables, instance, name)
+        self.planner().snapshot_number(instance, name)
     }
 
     /// What svc.startd's graph sees.
     pub fn view(&self) -> Result<View, AllocError>
         ensures { IfOk result (λ v. v ≡ view self.now.held) }
     {
-        view(self.alloc, &self.tables)
+        self.planner().view()
     }
 
     /// Whether an instance that is there is enabled.
     pub fn is_enabled(&self, instance: &Instance) -> Result<bool, AllocError>
         ensures { IfOk result (λ b. b ≡ enabled (groups_of self.now.held) instance.now) }
     {
-        enabled(self.alloc, &self.tables, instance)
+        self.planner().enabled(instance)
     }
 
     /// All that is held, each instance as it is read.
     pub fn copy(&self) -> Result<Tables, AllocError>
         ensures { IfOk result (λ t. t ≡ copied self.now.held) }
     {
-        copied(self.alloc, &self.tables)
+        self.planner().copied()
     }
 
     /// All that is held as it is stored, which a history begins with.

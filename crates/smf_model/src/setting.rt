@@ -1,13 +1,14 @@
 ghost use Rattle.std.specs.Option.{option_copied};
 ghost use Rattle.std.specs.Cmp.Lexicographic.{pointwise};
-ghost use Rattle.std.specs.Prelude.{◌≡◌, ◌==◌, if◌then◌else◌, length, nat_eq, IfOk, option_map, Some, Ok};
+ghost use Rattle.std.specs.Prelude.{◌≡◌, ◌==◌, if◌then◌else◌, length, nat_eq, IfOk, Ok};
 ghost use Rattle.smf_fmri.specs.Name.{read};
-ghost use Rattle.smf_fmri.specs.Matching.{service_of};
 ghost use Rattle.smf_model.specs.Look.{group, groups_of};
-ghost use Rattle.smf_model.specs.Setting.{current, enabled, enabled_property, is_readable, is_true, named_restarter, owner_by, property_in, property_of_either, service_fmri, set_by, setting, setting_by, setting_of, startd, truth_of};
+ghost use Rattle.smf_model.specs.Setting.{current, enabled, enabled_property, is_readable, is_true};
+ghost use Rattle.smf_model.specs.Setting.{named_restarter, owner_by, property_in, property_of_either};
+ghost use Rattle.smf_model.specs.Setting.{service_fmri, set_by, setting, setting_by, setting_of, startd, truth_of};
 
 use crate::held::{Instance, Owner};
-use crate::tables::Tables;
+use crate::planner::Planner;
 use smf_fmri::{Fmri, FmriFault, InstanceFmri};
 use smf_value::{Group, Property, Value};
 use std::alloc::{AllocError, Global};
@@ -73,34 +74,6 @@ pub(crate) fn service_owner(alloc: Global, name: &InstanceFmri) -> Result<Owner,
 {
     let service = name.as_fmri().service_fmri(alloc)?;
     Ok(Owner::Service(service))
-}
-
-/// The group of a name of an owner.
-#[tactic(auto, unfolding(crate::specs::Look::groups_of))]
-pub(crate) fn group_of<'a>(tables: &'a Tables, owner: &Owner, name: &str) -> Option<&'a Group>
-    ensures { option_copied result ≡ group tables.now owner.now name.now }
-{
-    match tables.owned(owner) {
-        None => None,
-        Some(groups) => groups.get_text(name),
-    }
-}
-
-/// Whether an instance is enabled: by `general_ovr/enabled`, else by `general/enabled`.
-#[tactic(auto, unfolding(crate::specs::Setting::enabled))]
-pub(crate) fn enabled(
-    alloc: Global,
-    tables: &Tables,
-    instance: &Instance,
-) -> Result<bool, AllocError>
-    ensures { IfOk result (λ b. b ≡ enabled (groups_of tables.now) instance.now) }
-{
-    let own = Owner::Instance(instance.number);
-    let service = service_owner(alloc, &instance.name)?;
-    let ovr = group_of(tables, &own, "general_ovr");
-    let general = group_of(tables, &own, "general");
-    let services_own = group_of(tables, &service, "general");
-    Ok(is_true(enabled_property(ovr, general, services_own)))
 }
 
 /// The property that says whether an instance is enabled.
@@ -170,22 +143,6 @@ fn named(name: Fmri) -> Setting
     }
 }
 
-/// What `general/restarter` says of an instance.
-#[tactic(auto, unfolding(crate::specs::Setting::setting))]
-pub(crate) fn setting_for(
-    alloc: Global,
-    tables: &Tables,
-    instance: &Instance,
-) -> Result<Setting, AllocError>
-    ensures { IfOk result (λ s. s ≡ setting (groups_of tables.now) instance.now) }
-{
-    let own = Owner::Instance(instance.number);
-    let service = service_owner(alloc, &instance.name)?;
-    let general = group_of(tables, &own, "general");
-    let services_own = group_of(tables, &service, "general");
-    setting_by(alloc, general, services_own)
-}
-
 /// What the groups `general` of an instance and of its service say.
 pub(crate) fn setting_by(
     alloc: Global,
@@ -222,18 +179,52 @@ pub(crate) fn owner_by(alloc: Global, setting: Setting) -> Result<InstanceFmri, 
     }
 }
 
-/// The instance as it is read: while its row number is 0 its owner is what `general/restarter` says.
-#[tactic(auto, unfolding(crate::specs::Setting::current))]
-pub(crate) fn current(
-    alloc: Global,
-    tables: &Tables,
-    mut instance: Instance,
-) -> Result<Instance, AllocError>
-    ensures { IfOk result (λ i. i ≡ current (groups_of tables.now) instance) }
-{
-    if instance.row.number == 0 {
-        let setting = setting_for(alloc, tables, &instance)?;
-        instance.row.owner = owner_by(alloc, setting)?;
+impl Planner<'_> {
+    /// The group of a name of an owner.
+    #[tactic(auto, unfolding(crate::specs::Look::groups_of))]
+    pub(crate) fn group_of(&self, owner: &Owner, name: &str) -> Option<&Group>
+        ensures { option_copied result ≡ group self.now owner.now name.now }
+    {
+        match self.tables.owned(owner) {
+            None => None,
+            Some(groups) => groups.get_text(name),
+        }
     }
-    Ok(instance)
+
+    /// Whether an instance is enabled: by `general_ovr/enabled`, else by `general/enabled`.
+    #[tactic(auto, unfolding(crate::specs::Setting::enabled))]
+    pub(crate) fn enabled(&self, instance: &Instance) -> Result<bool, AllocError>
+        ensures { IfOk result (λ b. b ≡ enabled (groups_of self.now) instance.now) }
+    {
+        let own = Owner::Instance(instance.number);
+        let service = service_owner(self.alloc, &instance.name)?;
+        let ovr = self.group_of(&own, "general_ovr");
+        let general = self.group_of(&own, "general");
+        let services_own = self.group_of(&service, "general");
+        Ok(is_true(enabled_property(ovr, general, services_own)))
+    }
+
+    /// What `general/restarter` says of an instance.
+    #[tactic(auto, unfolding(crate::specs::Setting::setting))]
+    pub(crate) fn setting_for(&self, instance: &Instance) -> Result<Setting, AllocError>
+        ensures { IfOk result (λ s. s ≡ setting (groups_of self.now) instance.now) }
+    {
+        let own = Owner::Instance(instance.number);
+        let service = service_owner(self.alloc, &instance.name)?;
+        let general = self.group_of(&own, "general");
+        let services_own = self.group_of(&service, "general");
+        setting_by(self.alloc, general, services_own)
+    }
+
+    /// The instance as it is read: while its row number is 0 its owner is what `general/restarter` says.
+    #[tactic(auto, unfolding(crate::specs::Setting::current))]
+    pub(crate) fn current(&self, mut instance: Instance) -> Result<Instance, AllocError>
+        ensures { IfOk result (λ i. i ≡ current (groups_of self.now) instance) }
+    {
+        if instance.row.number == 0 {
+            let setting = self.setting_for(&instance)?;
+            instance.row.owner = owner_by(self.alloc, setting)?;
+        }
+        Ok(instance)
+    }
 }

@@ -3,7 +3,8 @@ ghost use Rattle.smf_fmri.specs.ByKey.{put_all};
 ghost use Rattle.smf_value.specs.Groups.{by_group};
 ghost use Rattle.smf_model.specs.Copied.{copied, reads_written};
 ghost use Rattle.smf_model.specs.Look.{bare, groups_of};
-ghost use Rattle.smf_model.specs.Shown.{all_read, children, composed_groups, composed_of, is_run_by, made_group, next_text, rows_of, shown_groups, text_property};
+ghost use Rattle.smf_model.specs.Shown.{all_read, children, composed_groups, composed_of, is_run_by};
+ghost use Rattle.smf_model.specs.Shown.{made_group, next_text, rows_of, shown_groups, text_property};
 ghost use Rattle.smf_model.specs.Next.{is_instance_of, new_group};
 ghost use Rattle.smf_model.specs.Setting.{current, framework, restarter_name};
 ghost use Rattle.smf_state.specs.States.{state_text};
@@ -11,61 +12,15 @@ ghost use Rattle.smf_value.specs.Texts.{is_astring};
 
 use crate::booting::is_instance_of;
 use crate::change::Change;
-use crate::grouping::{groups_of, new_group};
+use crate::grouping::new_group;
 use crate::held::{Instance, InstanceEntry, Owner};
-use crate::setting::{current, service_owner};
+use crate::planner::Planner;
+use crate::setting::service_owner;
 use crate::tables::Tables;
 use smf_fmri::{InstanceFmri, Items, Ordered, ServiceFmri};
 use smf_state::{Row, State};
 use smf_value::{Astring, Group, Name, Property, Value};
 use std::alloc::{AllocError, Global};
-
-/// All instances as they are read.
-pub(crate) fn all_read(alloc: Global, tables: &Tables) -> Result<Vec<Instance>, AllocError>
-    ensures { IfOk result (λ all. all.items ≡ all_read tables.now) }
-{
-    read_each(alloc, tables, tables.entries())
-}
-
-fn read_each(
-    alloc: Global,
-    tables: &Tables,
-    entries: &[InstanceEntry],
-) -> Result<Vec<Instance>, AllocError>
-    ensures { IfOk result (λ all. all.items ≡ map (current (groups_of tables.now)) (bare entries.now)) }
-{
-    let mut all = Vec::new(alloc);
-    for entry in entries {
-        all.push(current(alloc, tables, entry.instance.clone()?)?)?;
-    }
-    Ok(all)
-}
-
-/// The changes that write each instance as it is read.
-fn reads_written(
-    alloc: Global,
-    tables: &Tables,
-    entries: &[InstanceEntry],
-) -> Result<Items<Change>, AllocError>
-    ensures { IfOk result (λ all. all ≡ reads_written (groups_of tables.now) entries.now) }
-{
-    let mut all = Items::new(alloc);
-    for entry in entries {
-        let shown = current(alloc, tables, entry.instance.clone()?)?;
-        all.push(Change::PutInstance(shown))?;
-    }
-    Ok(all)
-}
-
-/// All that is held, each instance as it is read.
-pub(crate) fn copied(alloc: Global, tables: &Tables) -> Result<Tables, AllocError>
-    ensures { IfOk result (λ copy. copy ≡ copied tables.now) }
-{
-    let changes = reads_written(alloc, tables, tables.entries())?;
-    let mut copy = tables.clone()?;
-    copy.make(changes)?;
-    Ok(copy)
-}
 
 /// Those that a restarter runs.
 fn run_by(
@@ -84,19 +39,6 @@ fn run_by(
     Ok(rows)
 }
 
-/// The instances that a restarter runs.
-#[tactic(auto, unfolding(crate::specs::Shown::rows_of))]
-pub(crate) fn rows_of(
-    alloc: Global,
-    tables: &Tables,
-    restarter: &InstanceFmri,
-) -> Result<Items<Instance>, AllocError>
-    ensures { IfOk result (λ all. all ≡ rows_of tables.now restarter.now) }
-{
-    let rows = run_by(alloc, all_read(alloc, tables)?, restarter)?;
-    Ok(Items::from_vec(rows))
-}
-
 /// Those of a service.
 fn of_service(
     alloc: Global,
@@ -112,19 +54,6 @@ fn of_service(
         }
     }
     Ok(rows)
-}
-
-/// The instances of a service.
-#[tactic(auto, unfolding(crate::specs::Shown::children))]
-pub(crate) fn children(
-    alloc: Global,
-    tables: &Tables,
-    service: &ServiceFmri,
-) -> Result<Items<Instance>, AllocError>
-    ensures { IfOk result (λ all. all ≡ children tables.now service.now) }
-{
-    let rows = of_service(alloc, all_read(alloc, tables)?, service)?;
-    Ok(Items::from_vec(rows))
 }
 
 fn text_property(alloc: Global, name: Name, text: &str) -> Result<Property, AllocError>
@@ -178,28 +107,6 @@ fn made_group(alloc: Global, row: &Row) -> Result<Group, AllocError>
     }
 }
 
-/// The groups of an owner, an instance's made one among them.
-#[tactic(auto, unfolding(crate::specs::Shown::shown_groups))]
-pub(crate) fn shown_groups(
-    alloc: Global,
-    tables: &Tables,
-    owner: &Owner,
-) -> Result<Ordered<Group>, AllocError>
-    ensures { IfOk result (λ gs. gs ≡ shown_groups tables.now owner.now) }
-{
-    let mut groups = groups_of(alloc, tables, owner)?;
-    let Owner::Instance(number) = owner else {
-        return Ok(groups);
-    };
-    match tables.instance(*number) {
-        None => Ok(groups),
-        Some(instance) => {
-            groups.put(made_group(alloc, &instance.row)?)?;
-            Ok(groups)
-        }
-    }
-}
-
 /// Puts copies of groups among others, each over the one that has its name.
 fn put_copies(into: Ordered<Group>, groups: &[Group]) -> Result<Ordered<Group>, AllocError>
     ensures { IfOk result (λ gs. gs ≡ put_all by_group groups.now into) }
@@ -211,34 +118,103 @@ fn put_copies(into: Ordered<Group>, groups: &[Group]) -> Result<Ordered<Group>, 
     Ok(all)
 }
 
-/// The groups that an instance has: its own, else those of its service.
-fn composed_of(
-    alloc: Global,
-    tables: &Tables,
-    instance: &Instance,
-) -> Result<Ordered<Group>, AllocError>
-    ensures { IfOk result (λ gs. gs ≡ composed_of tables.now instance.now) }
-{
-    let service = service_owner(alloc, &instance.name)?;
-    let own = groups_of(alloc, tables, &Owner::Instance(instance.number))?;
-    let services_own = groups_of(alloc, tables, &service)?;
-    put_copies(services_own, own.as_slice())
-}
+impl Planner<'_> {
+    /// All instances as they are read.
+    pub(crate) fn all_read(&self) -> Result<Vec<Instance>, AllocError>
+        ensures { IfOk result (λ all. all.items ≡ all_read self.now) }
+    {
+        self.read_each(self.tables.entries())
+    }
 
-/// The groups that the instance of a number has, or none where there is no such instance.
-#[tactic(auto, unfolding(crate::specs::Shown::composed_groups))]
-pub(crate) fn composed_groups(
-    alloc: Global,
-    tables: &Tables,
-    number: u64,
-) -> Result<Option<Ordered<Group>>, AllocError>
-    ensures { IfOk result (λ gs. gs ≡ composed_groups tables.now number) }
-{
-    match tables.instance(number) {
-        None => Ok(None),
-        Some(instance) => {
-            let all = composed_of(alloc, tables, instance)?;
-            Ok(Some(all))
+    fn read_each(&self, entries: &[InstanceEntry]) -> Result<Vec<Instance>, AllocError>
+        ensures { IfOk result (λ all. all.items ≡ map (current (groups_of self.now)) (bare entries.now)) }
+    {
+        let mut all = Vec::new(self.alloc);
+        for entry in entries {
+            all.push(self.current(entry.instance.clone()?)?)?;
+        }
+        Ok(all)
+    }
+
+    /// The changes that write each instance as it is read.
+    fn reads_written(&self, entries: &[InstanceEntry]) -> Result<Items<Change>, AllocError>
+        ensures { IfOk result (λ all. all ≡ reads_written (groups_of self.now) entries.now) }
+    {
+        let mut all = Items::new(self.alloc);
+        for entry in entries {
+            let shown = self.current(entry.instance.clone()?)?;
+            all.push(Change::PutInstance(shown))?;
+        }
+        Ok(all)
+    }
+
+    /// All that is held, each instance as it is read.
+    pub(crate) fn copied(&self) -> Result<Tables, AllocError>
+        ensures { IfOk result (λ copy. copy ≡ copied self.now) }
+    {
+        let changes = self.reads_written(self.tables.entries())?;
+        let mut copy = self.tables.clone()?;
+        copy.make(changes)?;
+        Ok(copy)
+    }
+
+    /// The instances that a restarter runs.
+    #[tactic(auto, unfolding(crate::specs::Shown::rows_of))]
+    pub(crate) fn rows_of(&self, restarter: &InstanceFmri) -> Result<Items<Instance>, AllocError>
+        ensures { IfOk result (λ all. all ≡ rows_of self.now restarter.now) }
+    {
+        let rows = run_by(self.alloc, self.all_read()?, restarter)?;
+        Ok(Items::from_vec(rows))
+    }
+
+    /// The instances of a service.
+    #[tactic(auto, unfolding(crate::specs::Shown::children))]
+    pub(crate) fn children(&self, service: &ServiceFmri) -> Result<Items<Instance>, AllocError>
+        ensures { IfOk result (λ all. all ≡ children self.now service.now) }
+    {
+        let rows = of_service(self.alloc, self.all_read()?, service)?;
+        Ok(Items::from_vec(rows))
+    }
+
+    /// The groups of an owner, an instance's made one among them.
+    #[tactic(auto, unfolding(crate::specs::Shown::shown_groups))]
+    pub(crate) fn shown_groups(&self, owner: &Owner) -> Result<Ordered<Group>, AllocError>
+        ensures { IfOk result (λ gs. gs ≡ shown_groups self.now owner.now) }
+    {
+        let mut groups = self.groups_of(owner)?;
+        let Owner::Instance(number) = owner else {
+            return Ok(groups);
+        };
+        match self.tables.instance(*number) {
+            None => Ok(groups),
+            Some(instance) => {
+                groups.put(made_group(self.alloc, &instance.row)?)?;
+                Ok(groups)
+            }
+        }
+    }
+
+    /// The groups that an instance has: its own, else those of its service.
+    fn composed_of(&self, instance: &Instance) -> Result<Ordered<Group>, AllocError>
+        ensures { IfOk result (λ gs. gs ≡ composed_of self.now instance.now) }
+    {
+        let service = service_owner(self.alloc, &instance.name)?;
+        let own = self.groups_of(&Owner::Instance(instance.number))?;
+        let services_own = self.groups_of(&service)?;
+        put_copies(services_own, own.as_slice())
+    }
+
+    /// The groups that the instance of a number has, or none where there is no such instance.
+    #[tactic(auto, unfolding(crate::specs::Shown::composed_groups))]
+    pub(crate) fn composed_groups(&self, number: u64) -> Result<Option<Ordered<Group>>, AllocError>
+        ensures { IfOk result (λ gs. gs ≡ composed_groups self.now number) }
+    {
+        match self.tables.instance(number) {
+            None => Ok(None),
+            Some(instance) => {
+                let all = self.composed_of(instance)?;
+                Ok(Some(all))
+            }
         }
     }
 }

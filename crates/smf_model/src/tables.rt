@@ -1,7 +1,8 @@
 ghost use Rattle.std.specs.Option.{option_copied};
 ghost use Rattle.std.specs.Prelude.{◌≡◌, ◌+◌, ◌<◌, ◌≤◌, length, ℕ, IfOk, OnErr, OnOk};
 ghost use Rattle.smf_fmri.specs.ByKey.{Rises, lookup};
-ghost use Rattle.smf_model.specs.Look.{by_entry, by_name, by_snapshot, changed, empty, installed, instance, launch_of, named, others_of, owned, put_new, service, snapshot, with_groups};
+ghost use Rattle.smf_model.specs.Look.{by_entry, by_name, by_snapshot, changed, empty, installed, instance};
+ghost use Rattle.smf_model.specs.Look.{launch_of, named, others_of, owned, put_new, service, snapshot, with_groups};
 ghost use Rattle.smf_model.specs.Tables.{HasRoom, held_in};
 
 use crate::change::Change;
@@ -197,7 +198,7 @@ fn add_snapshot(snapshots: &mut Table<Snapshot>, snapshot: Snapshot)
     ensures put { snapshots.new.items ≡ put_new by_snapshot snapshot snapshots.old.items }
     ensures room { snapshots.old.room ≤ snapshots.new.room + 1 }
 {
-    if snapshots.get(&snapshot.number).is_none() {
+    if snapshots.get(snapshot.number.as_u64()).is_none() {
         snapshots.put(snapshot);
     }
 }

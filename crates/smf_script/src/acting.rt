@@ -35,10 +35,9 @@ fn run_of(instance: u64, cookie: Option<Cookie>) -> Option<u64>
 fn run_in(table: &Table, instance: u64, contract: &Contract) -> Option<u64>
     ensures { result ≡ run_in table.now.table instance contract.now }
 {
-    if table.has_members(contract.id) {
-        run_of(instance, Cookie::unpack(contract.cookie))
-    } else {
-        None
+    match run_of(instance, Cookie::unpack(contract.cookie)) {
+        Some(run) if table.has_members(contract.id) => Some(run),
+        _ => None,
     }
 }
 

@@ -15,7 +15,7 @@ use Rattle.smf_fmri.proofs.SameLists.{found_key, lookup_filter}
 use Rattle.smf_value.specs.Groups.{GroupRecord, by_group}
 use Rattle.smf_tables.specs.Rows.{equal}
 use Rattle.smf_tables.specs.Schema.{instance, snap}
-use Rattle.smf_tables.specs.Statements.{DropsMeta, AddsMeta, DropsService, AddsService, DropsInstance, DropsServiceGroups, DropsInstanceGroups, DropsSnapshots, DropsLaunch, AddsLaunch, HasRow, Sees, ShowsName, ReadsName, FindsService}
+use Rattle.smf_tables.specs.Statements.{DropsMeta, AddsMeta, DropsService, AddsService, DropsInstance, DropsServiceGroups, DropsGroups, DropsSnapshots, DropsLaunch, AddsLaunch, HasRow, HasNoRow, Sees, ShowsName, ReadsName, FindsService}
 use Rattle.smf_tables.specs.declared.looking.NameColumns.{NameColumns}
 use Rattle.smf_model.specs.declared.change.Change.{Change}
 use Rattle.smf_model.specs.declared.change.Change.TheVariants.{AddService, DropService, AddInstance, PutInstance, DropInstance, PutName, DropName, PutGroups, AddSnapshot, DropSnapshots, PutLaunch, NextInstance, NextSnapshot, SetRevision}
@@ -134,7 +134,7 @@ makes_service a b c d e s rises one two three four = record {
   shows = shows_then a d e (shows_then a c d (shows_then a b c one.shows two.shows) three.shows) four.shows;
   made = λ h p.
       let m0 = six_of h in
-      let p1 = step.drop_service_groups a b m0 (presents a.now h p) s.name one in
+      let p1 = step.drop_groups a b m0 (presents a.now h p) s.name 0 one in
       let p2 = step.drop_service b c _ p1 s.name two in
       let p3 = step.add_service c d _ p2 s.name three in
       let p4 = step.add_groups d e _ p3 s.name 0 s.groups four in
@@ -174,7 +174,7 @@ makes_no_service a b c name one two = record {
   shows = shows_then a b c one.shows two.shows;
   made = λ h p.
       let m0 = six_of h in
-      let p1 = step.drop_service_groups a b m0 (presents a.now h p) name one in
+      let p1 = step.drop_groups a b m0 (presents a.now h p) name 0 one in
       let p2 = step.drop_service b c _ p1 name two in
       holds c.now (without_service h name) (record {
         schema = p2.schema;
@@ -228,35 +228,6 @@ entry_groups_back h e front named above x (of_instance some d f s m) = elim (put
 pub apart_from_zero : (n : ℕ) → 0 < n → n ≡ 0 → ⊥
 apart_from_zero n above e = omega (arith, above, e)
 
-pub makes_entry : (a b c d f : State) (e : InstanceEntry) (front behind : List ℕ) → IsSplit e.instance.name front behind → 0 < e.instance.number → Rises by_group e.groups
-    → DropsInstanceGroups (pos e.instance.number) a b → DropsInstance (pos e.instance.number) b c → AddsRow (ShowsInstance e.instance) instance c d → GrowsAll front e.instance.number e.groups d f
-    → Makes (AddInstance e) a f
-makes_entry a b c d f e front behind split above rises one two three four = record {
-  shows = shows_then a d f (shows_then a c d (shows_then a b c one.shows two.shows) three.shows) four.shows;
-  made = λ h p.
-      let m0 = six_of h in
-      let n = e.instance.number in
-      let p1 = step.drop_instance_groups a b m0 (presents a.now h p) n one in
-      let p2 = step.drop_instance b c _ p1 n two in
-      let p3 = step.add_instance c d _ p2 e.instance three in
-      let p4 = step.add_groups d f _ p3 front n e.groups four in
-      holds f.now (with_entry h e) (record {
-        schema = p4.schema;
-        sound = p4.sound;
-        counts = p4.counts;
-        services = p4.services;
-        instances = becomes p4.instances (entry_forth h e) (entry_back h e);
-        groups = becomes p4.groups (entry_groups_forth h e front split.service above rises) (entry_groups_back h e front split.service above);
-        snapshots = p4.snapshots;
-        launches = p4.launches;
-      }) (record {
-        ordered = ordered_change h (AddInstance e) p.arranged.ordered;
-        service_groups = p.arranged.service_groups;
-        instance_groups = λ k t g. elim (put_cases by_entry e h.instances k t g) [ inl here ↦ subst (λ (z : InstanceEntry). Rises by_group z.groups) here.1 rises | inr other ↦ p.arranged.instance_groups k t other.1 ];
-        none_at_zero = put_other by_entry e h.instances 0 (apart_from_zero n above) ∙ p.arranged.none_at_zero;
-      });
-}
-
 -- ---- an instance that goes
 
 abbrev without_entry : Holdings → ℕ → Holdings
@@ -275,30 +246,6 @@ left_groups_forth h n x (of_instance above e f d m, diff) = of_instance above e 
 left_groups_back : (h : Holdings) (n : ℕ) → 0 < n → (x : OwnedGroup) → HasGroup (without_entry h n) x → HasGroup h x × (x.number ≡ n → ⊥)
 left_groups_back h n above x (of_service nought t e m) = (of_service nought t e m, λ same. absurd (omega (arith, above, nought, same)))
 left_groups_back h n above x (of_instance some e f d m) = let it = without_cases by_entry n h.instances x.number e f in (of_instance some e it.1 d m, λ same. it.0 (sym same))
-
-pub makes_no_entry : (a b c : State) (n : ℕ) → 0 < n → DropsInstanceGroups (pos n) a b → DropsInstance (pos n) b c → Makes (DropInstance n) a c
-makes_no_entry a b c n above one two = record {
-  shows = shows_then a b c one.shows two.shows;
-  made = λ h p.
-      let m0 = six_of h in
-      let p1 = step.drop_instance_groups a b m0 (presents a.now h p) n one in
-      let p2 = step.drop_instance b c _ p1 n two in
-      holds c.now (without_entry h n) (record {
-        schema = p2.schema;
-        sound = p2.sound;
-        counts = p2.counts;
-        services = p2.services;
-        instances = becomes p2.instances (left_forth h n) (left_back h n);
-        groups = becomes p2.groups (left_groups_forth h n) (left_groups_back h n above);
-        snapshots = p2.snapshots;
-        launches = p2.launches;
-      }) (record {
-        ordered = ordered_change h (DropInstance n) p.arranged.ordered;
-        service_groups = p.arranged.service_groups;
-        instance_groups = λ k t e. p.arranged.instance_groups k t (without_cases by_entry n h.instances k t e).1;
-        none_at_zero = without_other by_entry n h.instances 0 (apart_from_zero n above) ∙ p.arranged.none_at_zero;
-      });
-}
 
 -- ---- what a look found
 
@@ -334,6 +281,111 @@ found_service db h name p f =
 
 looked : (a b : State) (h : Holdings) {Seen : Trees → Type 0} → Sees Seen a b → Holds a.now h → Holds b.now h
 looked a b h sees p = subst (λ (db : Database). Holds db h) (sym (sees.same p.schema)) p
+
+-- the groups of an instance are those that its service and its number find
+own_forth : (h : Holdings) (n : ℕ) (front behind : List ℕ) → 0 < n → IsFound h n front behind → (x : OwnedGroup) → HasGroup h x × ((x.service ≡ front) × (x.number ≡ n) → ⊥) → HasGroup h x × (x.number ≡ n → ⊥)
+own_forth h n front behind above f x (of_service nought t e m, apart) = (of_service nought t e m, λ same. absurd (omega (arith, above, nought, same)))
+own_forth h n front behind above f x (of_instance some e g s m, apart) =
+    let front_is : x.number ≡ n → x.service ≡ front = λ same.
+    s ∙ ap (λ (z : InstanceEntry). short ++ service_of z.instance.name) (some_is e f.entry (sym g ∙ ap (lookup by_entry h.instances) same ∙ f.there)) ∙ sym f.front_is in
+    (of_instance some e g s m, λ same. apart (front_is same, same))
+
+own_back : (h : Holdings) (n : ℕ) (front : List ℕ) (x : OwnedGroup) → HasGroup h x × (x.number ≡ n → ⊥) → HasGroup h x × ((x.service ≡ front) × (x.number ≡ n) → ⊥)
+own_back h n front x m = (m.0, λ both. m.1 both.1)
+
+-- ---- an instance that goes
+
+-- where no row has the number, nothing has it
+none_has : (db : Database) (h : Holdings) (n : ℕ) → Holds db h → HasNoRow (db.trees 4) (equal 0 0 ∷ []) (Int (pos n) ∷ []) → (i : Instance) → HasInstance h i → i.number ≡ n → ⊥
+none_has db h n p none i m =
+    let s = p.show.instances.there i m in
+    step.id_kept s.0 i.number n s.2.number_is (none s.0 s.1)
+
+none_owns : (db : Database) (h : Holdings) (n : ℕ) → 0 < n → Holds db h → HasNoRow (db.trees 4) (equal 0 0 ∷ []) (Int (pos n) ∷ []) → (x : OwnedGroup) → HasGroup h x → x.number ≡ n → ⊥
+none_owns db h n above p none x (of_service nought t e m) same = omega (arith, above, nought, same)
+none_owns db h n above p none x (of_instance some e g s m) same =
+    let number : e.instance.number ≡ x.number = found_key by_entry x.number h.instances e g in
+    none_has db h n p none e.instance (e, ap (lookup by_entry h.instances) number ∙ g, refl) (number ∙ same)
+
+gone : (h : Holdings) (n : ℕ) (db : Database) → 0 < n → IsArranged h → IsArranged (without_entry h n)
+gone h n db above it = record {
+  ordered = ordered_change h (DropInstance n) it.ordered;
+  service_groups = it.service_groups;
+  instance_groups = λ k t e. it.instance_groups k t (without_cases by_entry n h.instances k t e).1;
+  none_at_zero = without_other by_entry n h.instances 0 (apart_from_zero n above) ∙ it.none_at_zero;
+}
+
+pub makes_nothing : (a b : State) (n : ℕ) → 0 < n → ReadsName (pos n) a b None → Makes (DropInstance n) a b
+makes_nothing a b n above look = record {
+  shows = look.shows;
+  made = λ h p.
+      let none = (look.seen p.schema).1 in
+      let p1 = presents b.now h (looked a b h look p) in
+      holds b.now (without_entry h n) (record {
+        schema = p1.schema;
+        sound = p1.sound;
+        counts = p1.counts;
+        services = p1.services;
+        instances = becomes p1.instances (λ i m. left_forth h n i (m, none_has a.now h n p none i m)) (λ i m. (left_back h n i m).0);
+        groups = becomes p1.groups (λ x m. left_groups_forth h n x (m, none_owns a.now h n above p none x m)) (λ x m. (left_groups_back h n above x m).0);
+        snapshots = p1.snapshots;
+        launches = p1.launches;
+      }) (gone h n b.now above p.arranged);
+}
+
+pub makes_no_entry : (a b c d : State) (n : ℕ) (it : NameColumns) → 0 < n → ReadsName (pos n) a b (Some it) → DropsGroups (string_bytes it.service) (pos n) b c → DropsInstance (pos n) c d → Makes (DropInstance n) a d
+makes_no_entry a b c d n it above look one two = record {
+  shows = shows_then a c d (shows_then a b c look.shows one.shows) two.shows;
+  made = λ h p.
+      let front = string_bytes it.service in
+      let behind = string_bytes it.name in
+      let found = found_entry a.now h n it p (look.seen p.schema).0 in
+      let p1 = step.drop_groups b c (six_of h) (presents b.now h (looked a b h look p)) front n one in
+      let p2 = step.drop_instance c d _ p1 n two in
+      holds d.now (without_entry h n) (record {
+        schema = p2.schema;
+        sound = p2.sound;
+        counts = p2.counts;
+        services = p2.services;
+        instances = becomes p2.instances (left_forth h n) (left_back h n);
+        groups = becomes p2.groups (λ x m. left_groups_forth h n x (own_forth h n front behind above found x m)) (λ x m. own_back h n front x (left_groups_back h n above x m));
+        snapshots = p2.snapshots;
+        launches = p2.launches;
+      }) (gone h n d.now above p.arranged);
+}
+
+behind_left : {A B C : Type 0} → A ⊎ B → (B → C) → A ⊎ C
+behind_left (inl a) f = inl a
+behind_left (inr b) f = inr (f b)
+
+pub makes_entry : (a b c d : State) (e : InstanceEntry) (front behind : List ℕ) → IsSplit e.instance.name front behind → 0 < e.instance.number → Rises by_group e.groups
+    → Makes (DropInstance e.instance.number) a b → AddsRow (ShowsInstance e.instance) instance b c → GrowsAll front e.instance.number e.groups c d
+    → Makes (AddInstance e) a d
+makes_entry a b c d e front behind split above rises one two three = record {
+  shows = shows_then a c d (shows_then a b c one.shows two.shows) three.shows;
+  made = λ h p.
+      let n = e.instance.number in
+      let k = without_entry h n in
+      let p1 = presents b.now k (one.made h p) in
+      let p2 = step.add_instance b c (six_of k) p1 e.instance two in
+      let p3 = step.add_groups c d _ p2 front n e.groups three in
+      holds d.now (with_entry h e) (record {
+        schema = p3.schema;
+        sound = p3.sound;
+        counts = p3.counts;
+        services = p3.services;
+        instances = becomes p3.instances (λ i m. entry_forth h e i (behind_left m (left_back h n i))) (λ i m. behind_left (entry_back h e i m) (left_forth h n i));
+        groups = becomes p3.groups (λ x m. entry_groups_forth h e front split.service above rises x (behind_left m (left_groups_back h n above x)))
+            (λ x m. behind_left (entry_groups_back h e front split.service above x m) (left_groups_forth h n x));
+        snapshots = p3.snapshots;
+        launches = p3.launches;
+      }) (record {
+        ordered = ordered_change h (AddInstance e) p.arranged.ordered;
+        service_groups = p.arranged.service_groups;
+        instance_groups = λ k t g. elim (put_cases by_entry e h.instances k t g) [ inl here ↦ subst (λ (z : InstanceEntry). Rises by_group z.groups) here.1 rises | inr other ↦ p.arranged.instance_groups k t other.1 ];
+        none_at_zero = put_other by_entry e h.instances 0 (apart_from_zero n above) ∙ p.arranged.none_at_zero;
+      });
+}
 
 -- ---- an instance in place of the one of its number
 
@@ -389,7 +441,7 @@ pub makes_instance : (a b c d : State) (i : Instance) (it : NameColumns) → 0 <
 makes_instance a b c d i it above whole look one two = record {
   shows = shows_then a c d (shows_then a b c look.shows one.shows) two.shows;
   made = λ h p.
-      let found = found_entry a.now h i.number it p (look.seen p.schema) in
+      let found = found_entry a.now h i.number it p (look.seen p.schema).0 in
       let named : i.name ≡ found.entry.instance.name = whole ∙ sym found.joined in
       let p1 = step.drop_instance b c (six_of h) (presents b.now h (looked a b h look p)) i.number one in
       let p2 = step.add_instance c d _ p1 i two in
@@ -458,7 +510,7 @@ makes_service_groups a b c d name gs rises look one two = record {
   shows = shows_then a c d (shows_then a b c look.shows one.shows) two.shows;
   made = λ h p.
       let there = found_service a.now h name p (look.seen p.schema refl) in
-      let p1 = step.drop_service_groups b c (six_of h) (presents b.now h (looked a b h look p)) name one in
+      let p1 = step.drop_groups b c (six_of h) (presents b.now h (looked a b h look p)) name 0 one in
       let p2 = step.add_groups c d _ p1 name 0 gs two in
       holds d.now (regroup_service h name gs) (record {
         schema = p2.schema;
@@ -521,15 +573,15 @@ member_groups_back h n gs front behind above f x (of_instance some e g s m) = el
   | inr other ↦ inr (of_instance some e other.1 s m, λ same. other.0 (sym same))
 ]
 
-pub makes_instance_groups : (a b c d : State) (n : ℕ) (gs : List GroupRecord) (it : NameColumns) → 0 < n → Rises by_group gs → ReadsName (pos n) a b (Some it) → DropsInstanceGroups (pos n) b c
+pub makes_instance_groups : (a b c d : State) (n : ℕ) (gs : List GroupRecord) (it : NameColumns) → 0 < n → Rises by_group gs → ReadsName (pos n) a b (Some it) → DropsGroups (string_bytes it.service) (pos n) b c
     → GrowsAll (string_bytes it.service) n gs c d → Makes (PutGroups (owners.Instance n) gs) a d
 makes_instance_groups a b c d n gs it above rises look one two = record {
   shows = shows_then a c d (shows_then a b c look.shows one.shows) two.shows;
   made = λ h p.
       let front = string_bytes it.service in
       let behind = string_bytes it.name in
-      let found = found_entry a.now h n it p (look.seen p.schema) in
-      let p1 = step.drop_instance_groups b c (six_of h) (presents b.now h (looked a b h look p)) n one in
+      let found = found_entry a.now h n it p (look.seen p.schema).0 in
+      let p1 = step.drop_groups b c (six_of h) (presents b.now h (looked a b h look p)) front n one in
       let p2 = step.add_groups c d _ p1 front n gs two in
       holds d.now (regroup_entry h n gs) (record {
         schema = p2.schema;
@@ -537,7 +589,8 @@ makes_instance_groups a b c d n gs it above rises look one two = record {
         counts = p2.counts;
         services = p2.services;
         instances = becomes p2.instances (members_forth h n gs) (members_back h n gs);
-        groups = becomes p2.groups (member_groups_forth h n gs front behind above rises found) (member_groups_back h n gs front behind above found);
+        groups = becomes p2.groups (λ x m. member_groups_forth h n gs front behind above rises found x (behind_left m (own_forth h n front behind above found x)))
+            (λ x m. behind_left (member_groups_back h n gs front behind above found x m) (own_back h n front x));
         snapshots = p2.snapshots;
         launches = p2.launches;
       }) (record {

@@ -228,14 +228,6 @@ pub failing_said : {X : Type 0} (trees : Trees) (r : Result X OpenFault) → IsE
 failing_said trees (Ok x) p = tt
 failing_said trees (Err e) p = failure_said trees e p
 
-pub failing_refused : {X : Type 0} (db : Database) (r : Result X OpenFault) → IsErrAnd r IsFailure → IfErr r (IsRefused db)
-failing_refused db (Ok x) p = tt
-failing_refused db (Err e) p = inr (failure_said db.trees e p)
-
-pub said_refused : {X : Type 0} (db : Database) (r : Result X OpenFault) (e : OpenFault) → IsErrAnd r (λ y. y ≡ e) → IsSaid db.trees e → IfErr r (IsRefused db)
-said_refused db (Ok x) e p said = tt
-said_refused db (Err y) e p said = inr (subst (IsSaid db.trees) (sym p) said)
-
 pub judged_said : (trees : Trees) (rows : StoreRows) (e : OpenFault) → AreListed rows trees → IsJudged (Err e) (judged rows) → IsSaid trees e
 judged_said trees rows Memory l j = tt
 judged_said trees rows Failed l j = tt

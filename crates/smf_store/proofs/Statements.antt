@@ -11,7 +11,7 @@ use Rattle.sqlite_typed.specs.Tests.{bytes_cmp}
 use Rattle.sqlite_typed.proofs.TestLemmas.{same_bytes}
 use Rattle.smf_tables.specs.Rows.{equal, is_picked}
 use Rattle.smf_tables.specs.Schema.{instance, snap}
-use Rattle.smf_tables.specs.Statements.{DropsMeta, AddsMeta, DropsService, AddsService, DropsInstance, DropsServiceGroups, DropsInstanceGroups, DropsSnapshots, DropsLaunch, AddsLaunch}
+use Rattle.smf_tables.specs.Statements.{DropsMeta, AddsMeta, DropsService, AddsService, DropsInstance, DropsGroups, DropsSnapshots, DropsLaunch, AddsLaunch}
 use Rattle.smf_value.specs.Groups.{GroupRecord}
 use Rattle.smf_model.specs.declared.held.Instance.{Instance}
 use Rattle.smf_model.specs.declared.held.Launch.{Launch}
@@ -41,7 +41,7 @@ module _ (r : Row) (m n : ℕ) (is : column r 0 ≡ Int (pos m)) where
   id_picks : is_picked (equal 0 0 ∷ []) (Int (pos n) ∷ []) r ≡ int_eq (pos m) (pos n)
   id_picks = ap (λ v. is_picked (equal 0 0 ∷ []) (Int (pos n) ∷ []) (v ∷ [])) is ∙ by_id_picks m n []
 
-  id_kept : is_picked (equal 0 0 ∷ []) (Int (pos n) ∷ []) r ≡ false → m ≡ n → ⊥
+  pub id_kept : is_picked (equal 0 0 ∷ []) (Int (pos n) ∷ []) r ≡ false → m ≡ n → ⊥
   id_kept diff = int_apart m n (sym id_picks ∙ diff)
 
   id_spared : (m ≡ n → ⊥) → is_picked (equal 0 0 ∷ []) (Int (pos n) ∷ []) r ≡ false
@@ -118,17 +118,11 @@ module _ (old new : State) (m : Six) (p : Presents old.now m) where
       let t = d.turns p.schema p.instances.keyed in
       with_instances old.now new.now m p t (λ j. (j ≡ i) ⊎ m.instances j) (added p.instances i t.rows)
 
-  pub drop_service_groups : (key : List ℕ) → DropsServiceGroups key old new → Presents new.now (record m { groups = λ x. m.groups x × ((x.service ≡ key) × (x.number ≡ 0) → ⊥) })
-  drop_service_groups key d =
+  pub drop_groups : (key : List ℕ) (n : ℕ) → DropsGroups key (pos n) old new → Presents new.now (record m { groups = λ x. m.groups x × ((x.service ≡ key) × (x.number ≡ n) → ⊥) })
+  drop_groups key n d =
       let t = d.turns p.schema p.groups.keyed in
-      with_groups old.now new.now m p t (λ x. m.groups x × ((x.service ≡ key) × (x.number ≡ 0) → ⊥)) (lost p.groups (is_picked (equal 1 0 ∷ equal 2 1 ∷ []) (Text key ∷ Int (pos 0) ∷ [])) t.rows (λ x. (x.service ≡ key) × (x.number ≡ 0))
-      (λ x r s. both_kept r x.service key x.number 0 s.service_is s.number_is) (λ x r s. both_spared r x.service key x.number 0 s.service_is s.number_is))
-
-  pub drop_instance_groups : (n : ℕ) → DropsInstanceGroups (pos n) old new → Presents new.now (record m { groups = λ x. m.groups x × (x.number ≡ n → ⊥) })
-  drop_instance_groups n d =
-      let t = d.turns p.schema p.groups.keyed in
-      with_groups old.now new.now m p t (λ x. m.groups x × (x.number ≡ n → ⊥)) (lost p.groups (is_picked (equal 2 0 ∷ []) (Int (pos n) ∷ [])) t.rows (λ x. x.number ≡ n)
-      (λ x r s. owner_kept r x.number n s.number_is) (λ x r s. owner_spared r x.number n s.number_is))
+      with_groups old.now new.now m p t (λ x. m.groups x × ((x.service ≡ key) × (x.number ≡ n) → ⊥)) (lost p.groups (is_picked (equal 1 0 ∷ equal 2 1 ∷ []) (Text key ∷ Int (pos n) ∷ [])) t.rows (λ x. (x.service ≡ key) × (x.number ≡ n))
+      (λ x r s. both_kept r x.service key x.number n s.service_is s.number_is) (λ x r s. both_spared r x.service key x.number n s.service_is s.number_is))
 
   pub add_groups : (service : List ℕ) (n : ℕ) (gs : List GroupRecord) → GrowsAll service n gs old new → Presents new.now (record m { groups = λ x. IsOf service n gs x ⊎ m.groups x })
   add_groups service n gs d =

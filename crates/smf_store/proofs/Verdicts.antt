@@ -1,6 +1,5 @@
 -- What is said of the rows of a store, step by step.
-use Rattle.std.proofs.Common.{◌≡◌, Bool, true, false, Option, Some, None, Result, Ok, Err, IsTrue, refl, sym, ap, ◌∙◌}
-use Rattle.std.specs.List.{list_all}
+use Rattle.std.proofs.Common.{◌≡◌, Option, Some, None, Result, Ok, Err, refl, sym, ap, ◌∙◌}
 use Rattle.smf_model.specs.Holdings.{Holdings}
 use Rattle.smf_store.specs.declared.counting.Counters.{Counters}
 use Rattle.smf_store.specs.declared.counting.StoreVersion.{StoreVersion}
@@ -10,7 +9,7 @@ use Rattle.smf_store.specs.declared.refusal.OpenFault.{OpenFault}
 use Rattle.smf_store.specs.declared.refusal.OpenFault.TheVariants.{Memory, Database, Version, Damaged, TooManyInstances}
 use Rattle.smf_store.specs.declared.refusal.StoreTable.TheVariants as tables
 use Rattle.smf_store.specs.Begun.{begun}
-use Rattle.smf_store.specs.Judged.{IsJudged, IsRead, add_all, add_group, add_instance, add_launch, add_service, add_snapshot, counters_said, fitting, judged, names_held, tables_said, version_said}
+use Rattle.smf_store.specs.Judged.{IsJudged, IsRead, add_all, add_group, add_instance, add_launch, add_service, add_snapshot, counters_said, fitting, instances_said, judged, tables_said, version_said}
 
 module _ (rows : StoreRows) (h : Holdings) where
   pub no_services : add_all add_service h rows.services.items ≡ None → tables_said rows h ≡ Err (Damaged tables.Service)
@@ -18,11 +17,11 @@ module _ (rows : StoreRows) (h : Holdings) where
   no_services a = rw (a) refl
 
   module _ (h1 : Holdings) (a : add_all add_service h rows.services.items ≡ Some h1) where
-    pub no_instances : add_all add_instance h1 rows.instances.items ≡ None → tables_said rows h ≡ Err (Damaged tables.Instance)
+    pub no_instances : instances_said rows.instances.items rows.snapshots.items h1 ≡ None → tables_said rows h ≡ Err (Damaged tables.Instance)
     unfolding tables_said
     no_instances b = rw (a, b) refl
 
-    module _ (h2 : Holdings) (b : add_all add_instance h1 rows.instances.items ≡ Some h2) where
+    module _ (h2 : Holdings) (b : instances_said rows.instances.items rows.snapshots.items h1 ≡ Some h2) where
       pub no_groups : add_all add_group h2 rows.groups.items ≡ None → tables_said rows h ≡ Err (Damaged tables.Group)
       unfolding tables_said
       no_groups d = rw (a, b, d) refl
@@ -33,18 +32,13 @@ module _ (rows : StoreRows) (h : Holdings) where
         no_snapshots e = rw (a, b, d, e) refl
 
         module _ (h4 : Holdings) (e : add_all add_snapshot h3 rows.snapshots.items ≡ Some h4) where
-          pub not_there : list_all (names_held h4) h4.instances ≡ false → tables_said rows h ≡ Err (Damaged tables.Instance)
+          pub no_launches : add_all add_launch h4 rows.launches.items ≡ None → tables_said rows h ≡ Err (Damaged tables.Restarter)
           unfolding tables_said
-          not_there t = rw (a, b, d, e, t) refl
+          no_launches f = rw (a, b, d, e, f) refl
 
-          module _ (t : list_all (names_held h4) h4.instances ≡ true) where
-            pub no_launches : add_all add_launch h4 rows.launches.items ≡ None → tables_said rows h ≡ Err (Damaged tables.Restarter)
-            unfolding tables_said
-            no_launches f = rw (a, b, d, e, t, f) refl
-
-            pub all_said : (h5 : Holdings) → add_all add_launch h4 rows.launches.items ≡ Some h5 → tables_said rows h ≡ Ok h5
-            unfolding tables_said
-            all_said h5 f = rw (a, b, d, e, t, f) refl
+          pub all_said : (h5 : Holdings) → add_all add_launch h4 rows.launches.items ≡ Some h5 → tables_said rows h ≡ Ok h5
+          unfolding tables_said
+          all_said h5 f = rw (a, b, d, e, f) refl
 
 module _ (rows : StoreRows) where
   no_version : (e : OpenFault) → version_said rows.counts.items ≡ Err e → judged rows ≡ Err e

@@ -1,9 +1,9 @@
 -- What the rows of the tables hold, or why it is no store that is opened: its version, or the first table that breaks the rules.
 use Rattle.std.specs.Prelude.{ℕ, ℤ, pos, List, [], ◌∷◌, ◌++◌, ◌≡◌, ◌+◌, ◌==◌, ◌&&◌, ◌||◌, not, nat_eq, nat_le, nat_lt, codes, length, Bool, true, false, Option, Some, None, is_some, is_none, option_map, Result, Ok, Err, if◌then◌else◌}
 use Rattle.std.specs.Cmp.Lexicographic.{pointwise}
-use Rattle.std.specs.List.{list_all, list_any}
+use Rattle.std.specs.List.{filter_map, list_all, list_any}
 use Rattle.std.specs.Option.{option_map_or}
-use Rattle.std.specs.Ordering.{int_eq}
+use Rattle.std.specs.Ordering.{int_eq, is_eq, nat_cmp}
 use Rattle.sqlite.specs.Order.{Row, column}
 use Rattle.smf_fmri.specs.ByKey.{has_key, put}
 use Rattle.smf_fmri.specs.Matching.{service_of}
@@ -30,7 +30,7 @@ use Rattle.smf_store.specs.declared.refusal.OpenFault.TheVariants.{Memory, Datab
 use Rattle.smf_store.specs.declared.refusal.StoreTable.{StoreTable}
 use Rattle.smf_store.specs.declared.refusal.StoreTable.TheVariants as tables
 use Rattle.smf_store.specs.Begun.{begun}
-use Rattle.smf_store.specs.Readings.{◌>>=◌, given, integer_in, count_in, text_in, greatest, short_service, service_said, instance_said, group_said, snapshot_said, launch_said}
+use Rattle.smf_store.specs.Readings.{◌>>=◌, given, integer_in, count_in, number_in, text_in, greatest, short_service, service_said, instance_said, group_said, snapshot_said, launch_said}
 
 -- ---- the counters
 
@@ -175,27 +175,35 @@ abbrev pub told : {X Y : Type 0} → StoreTable → Option X → (X → Result Y
 told table None f = Err (Damaged table)
 told table (Some x) f = f x
 
+-- a row of snapshots has this number, whatever else it holds
+unfoldable pub has_row : List Row → ℕ → Bool
+has_row rows n = list_any (λ m. is_eq (nat_cmp n m)) (filter_map (λ r. number_in (column r 0)) rows)
+
 -- a snapshot that an instance names is there
-abbrev pub is_there : Holdings → Option ℕ → Bool
-is_there h None = true
-is_there h (Some n) = is_some (snapshot h n)
+abbrev pub is_there : (ℕ → Bool) → Option ℕ → Bool
+is_there has None = true
+is_there has (Some n) = has n
 
-abbrev pub names_snapshots : Holdings → Instance → Bool
-names_snapshots h i =
-    is_there h i.start && is_there h i.previous && is_there h i.row.running && is_there h i.row.begun
+abbrev pub names_snapshots : (ℕ → Bool) → Instance → Bool
+names_snapshots has i =
+    is_there has i.start && is_there has i.previous && is_there has i.row.running && is_there has i.row.begun
 
-abbrev pub names_held : Holdings → InstanceEntry → Bool
-names_held h e = names_snapshots h e.instance
+abbrev pub names_held : (ℕ → Bool) → InstanceEntry → Bool
+names_held has e = names_snapshots has e.instance
+
+-- the instances of these rows, where each snapshot that they name has a row
+unfoldable pub instances_said : List Row → List Row → Holdings → Option Holdings
+instances_said rows snapshots h =
+    add_all add_instance h rows >>= (λ k. given (list_all (names_held (has_row snapshots)) k.instances) k)
 
 -- the tables behind that of the counters
 unfoldable pub tables_said : StoreRows → Holdings → Result Holdings OpenFault
 tables_said rows h =
     told tables.Service (add_all add_service h rows.services.items) (λ h1.
-    told tables.Instance (add_all add_instance h1 rows.instances.items) (λ h2.
+    told tables.Instance (instances_said rows.instances.items rows.snapshots.items h1) (λ h2.
     told tables.Group (add_all add_group h2 rows.groups.items) (λ h3.
     told tables.Snapshot (add_all add_snapshot h3 rows.snapshots.items) (λ h4.
-    told tables.Instance (given (list_all (names_held h4) h4.instances) h4) (λ h5.
-    told tables.Restarter (add_all add_launch h5 rows.launches.items) (λ h6. Ok h6))))))
+    told tables.Restarter (add_all add_launch h4 rows.launches.items) (λ h5. Ok h5)))))
 
 -- a store of the first version may have given more numbers than there are
 abbrev pub fitting : StoreVersion → Holdings → Result Holdings OpenFault

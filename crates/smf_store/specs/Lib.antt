@@ -11,5 +11,6 @@ pub mod Counting
 pub mod Readings
 pub mod Judged
 pub mod Begun
+pub mod FirstOther
 pub mod Stages
 pub mod Opens

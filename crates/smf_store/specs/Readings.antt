@@ -120,7 +120,7 @@ snapshot_of number instance kept = record { number = number; instance = instance
 
 unfoldable pub snapshot_said : Row → Option Snapshot
 snapshot_said r =
-    count_in (column r 0) >>= (λ number.
+    number_in (column r 0) >>= (λ number.
     count_in (column r 2) >>= (λ instance.
     bytes_in (column r 3) >>= (λ body.
     read_well (decoded_snapshot body) >>= (λ kept.

@@ -1,6 +1,7 @@
 -- What the reading of a store does.
 use Rattle.std.specs.Prelude.{◌≡◌, ◌⊎◌, ℕ, true, List, [], ◌∷◌, IsTrue, Result, Ok, Err}
 use Rattle.sqlite.specs.Order.{Row}
+use Rattle.sqlite.specs.Schema.{Schema}
 use Rattle.sqlite.specs.Tree.{Trees}
 use Rattle.sqlite.specs.Effect.{Database, IsDatabase}
 use Rattle.sqlite.specs.State.{State, Shows}
@@ -13,7 +14,8 @@ use Rattle.smf_store.specs.declared.counting.StoreVersion.TheVariants as version
 use Rattle.smf_store.specs.declared.judging.StoreRows.{StoreRows}
 use Rattle.smf_store.specs.declared.refusal.OpenFault.{OpenFault}
 use Rattle.smf_store.specs.declared.refusal.OpenFault.TheVariants.{Memory, Database as Failed, Version, Damaged, TooManyInstances}
-use Rattle.smf_store.specs.declared.refusal.StoreTable.TheVariants.{Meta}
+use Rattle.smf_store.specs.declared.refusal.StoreTable.{StoreTable}
+use Rattle.smf_store.specs.FirstOther.{IsFirstOther}
 use Rattle.smf_store.specs.Holds.{Keeps, Stands, StandsFirst}
 use Rattle.smf_store.specs.Judged.{judged}
 
@@ -67,9 +69,14 @@ IsSaid trees (Version n) = Says trees (Err (Version n))
 IsSaid trees (Damaged table) = Says trees (Err (Damaged table))
 IsSaid trees TooManyInstances = Says trees (Err TooManyInstances)
 
--- where the six tables are not there as a store has them, the first is damaged
+-- the tables of the schema are not those of a store, and this is the first that is not
+abbrev pub IsOther : Schema → OpenFault → Type 0
+IsOther schema e = (schema ≡ store_schema → ⊥) × (table : StoreTable) × (e ≡ Damaged table) × IsFirstOther schema table
+
+-- a fault that names a table or a version: the first table that is absent or another, and then no row is read; where all
+-- are as in a store, what their rows say
 abbrev pub IsRefused : Database → OpenFault → Type 0
-IsRefused db e = ((db.schema ≡ store_schema → ⊥) × (e ≡ Damaged Meta)) ⊎ IsSaid db.trees e
+IsRefused db e = IsFailure e ⊎ (IsOther db.schema e ⊎ ((db.schema ≡ store_schema) × IsSaid db.trees e))
 
 -- a store of the second version stays; one of the first is made one of the second, which holds the same
 pub data IsRaised (old new : Database) (h : Holdings) : Type 0 where

@@ -1,4 +1,4 @@
-ghost use Rattle.std.specs.Prelude.{◌≡◌, ◌<◌, ◌≤◌, [], ◌∷◌, ◌++◌, ◌==◌, ◌&&◌, None, Some, length, nat_le, nat_lt, option_map, pos, IfOk, IfSome, IsTrue, OnOk, is_none, is_some, string_bytes};
+ghost use Rattle.std.specs.Prelude.{ℕ, ◌≡◌, ◌<◌, ◌≤◌, [], ◌∷◌, ◌++◌, ◌==◌, ◌&&◌, None, Some, length, nat_le, nat_lt, option_map, pos, IfOk, IfSome, IsTrue, OnOk, is_none, is_some, string_bytes};
 ghost use Rattle.sqlite.specs.declared.types.Value.TheVariants.{Int, Text};
 ghost use Rattle.sqlite.specs.Order.{column};
 ghost use Rattle.smf_model.specs.Dates.{EventKind, revision_of};
@@ -8,13 +8,15 @@ ghost use Rattle.smf_store.specs.Shown.{IsSplit, ShowsInstance, ShowsLaunch, Sho
 ghost use Rattle.smf_fmri.specs.Matching.{service_of};
 ghost use Rattle.smf_fmri.specs.Name.{short};
 ghost use Rattle.smf_store.specs.Cells.{IsOwnerUnder, PutsGroup, ShowsBody, ShowsState, ShowsWhole};
+ghost use Rattle.std.specs.BTreeSet.{contains};
 ghost use Rattle.std.specs.List.{list_all, list_any};
+ghost use Rattle.std.specs.Ordering.{nat_cmp};
 ghost use Rattle.smf_fmri.specs.ByKey.{has_key, put};
 ghost use Rattle.smf_value.specs.Groups.{by_group};
 ghost use Rattle.smf_model.specs.Look.{by_launch, group_in as group_among};
 ghost use Rattle.smf_model.specs.Next.{most_groups};
-ghost use Rattle.smf_store.specs.Readings.{group_said, instance_said, joined_name, launch_said, name_said, only, service_said, short_service, snapshot_said, state_said};
-ghost use Rattle.smf_store.specs.Judged.{Takes, add_all, add_group, add_instance, add_launch, add_service, add_snapshot, is_new, is_right, is_there, is_up_to, names_held, names_snapshots, owner_said, put_group, with_instance};
+ghost use Rattle.smf_store.specs.Readings.{group_said, instance_said, joined_name, launch_said, name_said, number_in, only, service_said, short_service, snapshot_said, state_said};
+ghost use Rattle.smf_store.specs.Judged.{Takes, add_all, add_group, add_instance, add_launch, add_service, add_snapshot, has_row, instances_said, is_new, is_right, is_there, is_up_to, names_held, names_snapshots, owner_said, put_group, with_instance};
 ghost use Rattle.smf_store.specs.Gathered.{AddsGroupOf, AddsInstanceRow, AddsLaunchRow, AddsServiceRow, AddsSnapshotRow, GathersGroups, GathersInstances, GathersLaunches, GathersServices, GathersSnapshots};
 
 use crate::cells::{bytes_at, count_at, number_at, optional_at, text_at};
@@ -27,6 +29,7 @@ use smf_state::{MAX_NUMBER, MAX_RUN, Row as StateRow, RowFault};
 use smf_value::{BodyFault, Group, decode};
 use sqlite::Row;
 use std::alloc::{AllocError, Global};
+use std::collections::BTreeSet;
 
 /// The most groups of an owner.
 const MAX_GROUPS: usize = 1_000;
@@ -301,11 +304,7 @@ fn add_instance(alloc: Global, row: &Row, tables: &mut Tables) -> Result<bool, A
 }
 
 /// The instances that the rows show, if all of them may stand there.
-pub(crate) fn gather_instances(
-    alloc: Global,
-    rows: &[Row],
-    tables: &mut Tables,
-) -> Result<bool, AllocError>
+fn gather_instances(alloc: Global, rows: &[Row], tables: &mut Tables) -> Result<bool, AllocError>
     ensures exact { IfOk result (λ taken. Takes taken (add_all add_instance tables.old rows.now) tables.new) }
     ensures gathered { IfOk result (λ taken. IsTrue taken → GathersInstances rows.now tables.old tables.new) }
 {
@@ -379,7 +378,7 @@ fn snapshot_said(alloc: Global, row: &Row) -> Result<Option<Snapshot>, AllocErro
     ensures exact { IfOk result (λ found. found ≡ snapshot_said row.now) }
     ensures shows { IfOk result (λ found. IfSome found (λ s. ShowsSnapshot s row.now)) }
 {
-    let Some(number) = count_at(row, 0) else {
+    let Some(number) = number_at(row, 0) else {
         return Ok(None);
     };
     let Some(instance) = count_at(row, 2) else {
@@ -410,10 +409,11 @@ fn add_snapshot(alloc: Global, row: &Row, tables: &mut Tables) -> Result<bool, A
     let Some(snapshot) = snapshot_said(alloc, row)? else {
         return Ok(false);
     };
-    if snapshot.number == 0 || snapshot.number >= tables.next_snapshot().get() {
+    let number = snapshot.number.get();
+    if number == 0 || number >= tables.next_snapshot().get() {
         return Ok(false);
     }
-    if tables.snapshot(snapshot.number).is_some() || tables.instance(snapshot.instance).is_none() {
+    if tables.snapshot(number).is_some() || tables.instance(snapshot.instance).is_none() {
         return Ok(false);
     }
     make_one(alloc, tables, Change::AddSnapshot(snapshot))?;
@@ -583,38 +583,80 @@ pub(crate) fn gather_launches(
     Ok(true)
 }
 
+/// The number of a row of snapshots.
+fn snapshot_number(row: &Row) -> Option<u64>
+    ensures { result ≡ number_in (column row.now 0) }
+{
+    match number_at(row, 0) {
+        None => None,
+        Some(number) => Some(number.get()),
+    }
+}
+
+/// The numbers of the rows of snapshots, whatever else these hold.
+fn numbers_of(alloc: Global, rows: &[Row]) -> Result<BTreeSet<u64>, AllocError>
+    ensures { IfOk result (λ numbers. (n : ℕ) → contains nat_cmp numbers n ≡ has_row rows.now n) }
+{
+    rows.iter()
+        .filter_map(|row| snapshot_number(row))
+        .collect(alloc)
+}
+
 /// Whether a snapshot that is named is there.
-fn is_there(tables: &Tables, number: Option<u64>) -> bool
-    ensures { result ≡ is_there tables.now number }
+fn is_there(numbers: &BTreeSet<u64>, number: Option<u64>) -> bool
+    ensures { result ≡ is_there (contains nat_cmp numbers.now) number }
 {
     match number {
         None => true,
-        Some(number) => tables.snapshot(number).is_some(),
+        Some(number) => numbers.contains(&number),
     }
 }
 
 /// Whether the snapshots that an instance names are there.
-fn names_snapshots(tables: &Tables, instance: &Instance) -> bool
-    ensures { result ≡ names_snapshots tables.now instance.now }
+fn names_snapshots(numbers: &BTreeSet<u64>, instance: &Instance) -> bool
+    ensures { result ≡ names_snapshots (contains nat_cmp numbers.now) instance.now }
 {
-    if !is_there(tables, instance.start) || !is_there(tables, instance.previous) {
+    if !is_there(numbers, instance.start) || !is_there(numbers, instance.previous) {
         return false;
     }
-    is_there(tables, instance.row.running) && is_there(tables, instance.row.begun)
+    is_there(numbers, instance.row.running) && is_there(numbers, instance.row.begun)
 }
 
 /// Whether the snapshots that these instances name are there.
-fn name_held(tables: &Tables, entries: &[InstanceEntry]) -> bool
-    ensures { result ≡ list_all (names_held tables.now) entries.now }
+fn name_held(numbers: &BTreeSet<u64>, entries: &[InstanceEntry]) -> bool
+    ensures { result ≡ list_all (names_held (contains nat_cmp numbers.now)) entries.now }
 {
     entries
         .iter()
-        .all(|entry| names_snapshots(tables, &entry.instance))
+        .all(|entry| names_snapshots(numbers, &entry.instance))
 }
 
-/// Whether the snapshots that instances name are there.
-pub(crate) fn are_there(tables: &Tables) -> bool
-    ensures { result ≡ list_all (names_held tables.now) tables.now.instances }
+/// Whether each snapshot that an instance names has a row.
+fn have_rows(alloc: Global, tables: &Tables, snapshots: &[Row]) -> Result<bool, AllocError>
+    ensures { IfOk result (λ all. all ≡ list_all (names_held (has_row snapshots.now)) tables.now.instances) }
 {
-    name_held(tables, tables.entries())
+    let numbers = numbers_of(alloc, snapshots)?;
+    Ok(name_held(&numbers, tables.entries()))
+}
+
+/// The instances that the rows show, if all of them may stand there and each snapshot that they name has a row.
+#[tactic(auto, unfolding(crate::specs::Judged::instances_said))]
+pub(crate) fn gather_named(
+    alloc: Global,
+    rows: &[Row],
+    snapshots: &[Row],
+    tables: &mut Tables,
+) -> Result<bool, AllocError>
+    ensures exact { IfOk result (λ taken. Takes taken (instances_said rows.now snapshots.now tables.old) tables.new) }
+    ensures gathered { IfOk result (λ taken. IsTrue taken → GathersInstances rows.now tables.old tables.new) }
+{
+    let taken = gather_instances(alloc, rows, tables)?;
+    if !taken {
+        return Ok(false);
+    }
+    let all = have_rows(alloc, tables, snapshots)?;
+    if !all {
+        return Ok(false);
+    }
+    Ok(true)
 }

@@ -5,7 +5,7 @@ ghost use Rattle.smf_store.specs.Judged.{IsJudged, IsRead, fitting, judged, tabl
 
 use crate::counting::{MAX_NEXT_INSTANCE, StoreVersion, begin, counters_said, version_said};
 use crate::gathering::{
-    are_there, gather_groups, gather_instances, gather_launches, gather_services, gather_snapshots,
+    gather_groups, gather_launches, gather_named, gather_services, gather_snapshots,
 };
 use crate::refusal::{OpenFault, StoreTable};
 use smf_model::Tables;
@@ -42,7 +42,7 @@ fn read_tables(alloc: Global, rows: &StoreRows, tables: &mut Tables) -> Result<(
     if !services {
         return Err(OpenFault::Damaged(StoreTable::Service));
     }
-    let Ok(instances) = gather_instances(alloc, &rows.instances, tables) else {
+    let Ok(instances) = gather_named(alloc, &rows.instances, &rows.snapshots, tables) else {
         return Err(OpenFault::Memory);
     };
     if !instances {
@@ -59,9 +59,6 @@ fn read_tables(alloc: Global, rows: &StoreRows, tables: &mut Tables) -> Result<(
     };
     if !snapshots {
         return Err(OpenFault::Damaged(StoreTable::Snapshot));
-    }
-    if !are_there(tables) {
-        return Err(OpenFault::Damaged(StoreTable::Instance));
     }
     let Ok(launches) = gather_launches(alloc, &rows.launches, tables) else {
         return Err(OpenFault::Memory);

@@ -1,4 +1,4 @@
-ghost use Rattle.std.specs.Prelude.{◌≡◌};
+ghost use Rattle.std.specs.Prelude.{◌≡◌, ◌<◌, OnOk};
 ghost use Rattle.smf_tables.specs.Calls.{CommitsNone, Does, IsInside, LeavesAsBefore};
 ghost use Rattle.smf_store.specs.Ends.{MakesInstanceGroups, MakesServiceGroups};
 ghost use Rattle.smf_store.specs.Steps.{Makes};
@@ -9,7 +9,7 @@ use crate::rows::{insert_groups, insert_instance, insert_snapshot};
 use smf_fmri::{InstanceFmri, Number, Ordered, ServiceFmri};
 use smf_model::{Change, Instance, InstanceEntry, InstanceName, Launch, Owner, Service, Snapshot};
 use smf_tables::{
-    add_launch, add_meta, add_service, drop_instance, drop_instance_groups, drop_launch, drop_meta,
+    add_launch, add_meta, add_service, drop_groups, drop_instance, drop_launch, drop_meta,
     drop_service, drop_service_groups, drop_snapshots, has_service, name_of,
 };
 use smf_value::Group;
@@ -64,11 +64,9 @@ fn put_entry<S: Alter>(
     ensures crash { LeavesAsBefore S.Store tx.old.conn.now tx.new.conn.now }
 {
     let number = entry.instance.number;
-    let id = key_of(number)?;
     let columns = split(alloc, &entry.instance.name)?;
     let groups = entry.groups.as_slice();
-    drop_instance_groups(tx, id)?;
-    drop_instance(tx, id)?;
+    take_instance(tx, number)?;
     insert_instance(alloc, tx, &entry.instance)?;
     insert_groups(alloc, tx, columns.service.print(), number, groups)?;
     Ok(())
@@ -104,11 +102,15 @@ fn take_instance<S: Alter>(tx: &mut Transaction<'_, S>, number: u64) -> Result<(
     requires { IsInside S.Store tx.old.conn.now }
     ensures same_reference { tx.new.conn.ghost_name ≡ tx.old.conn.ghost_name }
     ensures ok { Does (Makes (Change.DropInstance number)) S.Store tx.old.conn.now tx.new.conn.now result }
+    ensures some { OnOk result (0 < number) }
     ensures err { CommitsNone S.Store tx.old.conn.now tx.new.conn.now result }
     ensures crash { LeavesAsBefore S.Store tx.old.conn.now tx.new.conn.now }
 {
     let id = key_of(number)?;
-    drop_instance_groups(tx, id)?;
+    let Some(read) = name_of(tx, id)? else {
+        return Ok(());
+    };
+    drop_groups(tx, read.service.as_str(), id)?;
     drop_instance(tx, id)?;
     Ok(())
 }
@@ -154,7 +156,7 @@ fn put_instance_groups<S: Alter>(
     let Some(read) = name_of(tx, id)? else {
         return Err(WriteFault::Database);
     };
-    drop_instance_groups(tx, id)?;
+    drop_groups(tx, read.service.as_str(), id)?;
     insert_groups(alloc, tx, read.service.as_str(), number, groups)?;
     Ok(())
 }

@@ -6,6 +6,7 @@ ghost use Rattle.smf_tables.specs.Calls.{CommitsNone, Does, IsInside, LeavesAsBe
 ghost use Rattle.smf_tables.specs.Calls.{Finds as Gives};
 ghost use Rattle.smf_tables.specs.Schema.{store_schema};
 ghost use Rattle.smf_store.specs.Ends.{Fails, LeavesOr};
+ghost use Rattle.smf_store.specs.FirstOther.{IsFirstOther};
 ghost use Rattle.smf_store.specs.Stages.{IsRefused, IsSaid, MayRead, Opened, Raises, Reads};
 ghost use Rattle.smf_store.specs.Steps.{Kept};
 
@@ -15,8 +16,12 @@ use crate::judging::{Judgement, judge};
 use crate::reading::read_rows;
 use crate::refusal::{OpenFault, StoreTable};
 use smf_model::Tables;
-use smf_tables::{add_meta, drop_meta, is_store};
+use smf_tables::{
+    add_meta, drop_meta, has_grp_table, has_instance_table, has_meta_table, has_restarter_table,
+    has_service_table, has_snap_table, is_store,
+};
 use sqlite::{Alter, Connection, Transaction};
+use sqlite_schema::schema::Schema;
 use std::alloc::Global;
 
 /// Makes a store of the first version one of the second.
@@ -74,6 +79,31 @@ fn read_raised<S: Alter>(alloc: Global, tx: &mut Transaction<'_, S>) -> Result<T
     Ok(tables)
 }
 
+/// The first of the six tables that is absent or another.
+fn first_other(schema: &Schema) -> StoreTable
+    ensures { IsFirstOther schema.now result }
+{
+    if !has_meta_table(schema) {
+        return StoreTable::Meta;
+    }
+    if !has_service_table(schema) {
+        return StoreTable::Service;
+    }
+    if !has_instance_table(schema) {
+        return StoreTable::Instance;
+    }
+    if !has_grp_table(schema) {
+        return StoreTable::Group;
+    }
+    if !has_snap_table(schema) {
+        return StoreTable::Snapshot;
+    }
+    if !has_restarter_table(schema) {
+        return StoreTable::Restarter;
+    }
+    StoreTable::Meta
+}
+
 /// What the tables of a store hold. The database stays as it is, but for one of the first version.
 pub(crate) fn read_store<S: Alter>(
     alloc: Global,
@@ -89,7 +119,7 @@ pub(crate) fn read_store<S: Alter>(
         return Err(OpenFault::Database);
     }
     if !is_store(conn.schema()) {
-        return Err(OpenFault::Damaged(StoreTable::Meta));
+        return Err(OpenFault::Damaged(first_other(conn.schema())));
     }
     let mut tx = conn.transaction();
     let tables = read_raised(alloc, &mut tx)?;

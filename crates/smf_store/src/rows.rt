@@ -6,7 +6,7 @@ ghost use Rattle.smf_store.specs.Shown.{ShowsInstance, ShowsSnapshot};
 ghost use Rattle.smf_store.specs.Steps.{AddsRow, GrowsBy};
 
 use crate::fault::WriteFault;
-use crate::fields::{body_of, key_of, optional_of, small_of, split};
+use crate::fields::{body_of, integer_of, key_of, optional_of, small_of, split};
 use smf_model::{Instance, Snapshot};
 use smf_snap::encode_both;
 use smf_tables::{InstanceRow, add_group, add_instance, add_snapshot};
@@ -55,7 +55,7 @@ pub(crate) fn insert_snapshot<S: Alter>(
     ensures err { CommitsNone S.Store tx.old.conn.now tx.new.conn.now result }
     ensures crash { LeavesAsBefore S.Store tx.old.conn.now tx.new.conn.now }
 {
-    let id = small_of(s.number)?;
+    let id = integer_of(s.number);
     let instance = small_of(s.instance)?;
     let body = encode_both(alloc, &s.service_groups, &s.instance_groups)?;
     add_snapshot(tx, id, instance, body.as_slice())?;

@@ -5,7 +5,7 @@ use Rattle.sqlite.specs.declared.types.Value.TheVariants.{Null, Int, Text}
 use Rattle.sqlite.specs.Order.{Row, column}
 use Rattle.sqlite.specs.Command.TheVariants.{Select}
 use Rattle.sqlite.specs.Program.{overlay}
-use Rattle.sqlite.specs.Term.{Term, col, eval_all}
+use Rattle.sqlite.specs.Term.{Term, col}
 use Rattle.sqlite.specs.Listing.{understood, reads_listing}
 use Rattle.sqlite.specs.declared.error.Error.{Error}
 use Rattle.sqlite_schema.specs.declared.command.Returning.{Returning}
@@ -17,7 +17,7 @@ use Rattle.sqlite_rules.proofs.ListLemmas.{has_at}
 use Rattle.smf_tables.specs.Schema.{store_schema}
 use Rattle.smf_tables.specs.declared.looking.NameColumns.{NameColumns}
 use Rattle.smf_tables.specs.Rows.{equal, is_picked}
-use Rattle.smf_tables.specs.Statements.{HasRow, ReadsName, FindsService}
+use Rattle.smf_tables.specs.Statements.{ReadsName, FindsService}
 use Rattle.smf_tables.proofs.Answers.{ordered_query, AreShown, are_shown}
 use Rattle.smf_tables.proofs.Changes.{no_tables}
 use Rattle.smf_tables.proofs.Texts
@@ -89,12 +89,22 @@ some_in : (rows : List Row) → 0 < length rows → (x : Row) × Has rows x
 some_in [] less = absurd (omega (arith, less))
 some_in (x ∷ rows) less = (x, inl refl)
 
+none_in : (rows : List Row) → length rows ≡ 0 → (x : Row) → Has rows x → ⊥
+none_in [] none x h = h
+none_in (y ∷ rows) none x h = omega (arith, none)
+
+fails_unless : (b : Bool) → (b ≡ true → ⊥) → b ≡ false
+fails_unless true away = absurd (away refl)
+fails_unless false away = refl
+
 module _ (old new : State) (rows : List Row) (on : IsTrue old.in_transaction) where
-  pub no_name : (id : ℤ) → Shown Texts.name_of (Int id ∷ []) old new rows → ReadsName id old new None
-  no_name id seen = record {
+  pub no_name : (id : ℤ) → length rows ≡ 0 → Shown Texts.name_of (Int id ∷ []) old new rows → ReadsName id old new None
+  no_name id none seen = record {
     shows = shown_inside Texts.name_of (Int id ∷ []) old new rows on seen;
     same = λ has. same_database Texts.name_of (Int id ∷ []) old new [] 4 (equal 0 0 ∷ []) (col 1 2 ∷ col 1 3 ∷ []) (codes "service" ∷ codes "name" ∷ []) Texts.name_of_is Texts.name_of_plain Texts.name_of_unlisted has rows seen;
-    seen = λ has. tt;
+    seen = λ has.
+        let all = shows_rows Texts.name_of (Int id ∷ []) old new [] 4 (equal 0 0 ∷ []) (col 1 2 ∷ col 1 3 ∷ []) (codes "service" ∷ codes "name" ∷ []) Texts.name_of_is Texts.name_of_plain Texts.name_of_unlisted has rows seen in
+        (tt, λ r there. fails_unless (is_picked (equal 0 0 ∷ []) (Int id ∷ []) r) (λ passes. none_in rows none _ (all.complete r there passes)));
   }
 
   pub reads_name : (id : ℤ) (it : NameColumns) (x : Row) → Has rows x → column x 0 ≡ Text (string_bytes it.service) → column x 1 ≡ Text (string_bytes it.name)
@@ -105,7 +115,7 @@ module _ (old new : State) (rows : List Row) (on : IsTrue old.in_transaction) wh
     seen = λ has.
         let all = shows_rows Texts.name_of (Int id ∷ []) old new [] 4 (equal 0 0 ∷ []) (col 1 2 ∷ col 1 3 ∷ []) (codes "service" ∷ codes "name" ∷ []) Texts.name_of_is Texts.name_of_plain Texts.name_of_unlisted has rows seen in
         let s = all.sound x there in
-        record { row = s.0; there = s.1; picked = s.2; shows = (sym (ap (λ r. column r 0) s.3) ∙ service, sym (ap (λ r. column r 1) s.3) ∙ name) };
+        (record { row = s.0; there = s.1; picked = s.2; shows = (sym (ap (λ r. column r 0) s.3) ∙ service, sym (ap (λ r. column r 1) s.3) ∙ name) }, tt);
   }
 
   pub finds_service : (name : List ℕ) (found : Bool) → (IsTrue found → 0 < length rows) → Shown Texts.has_service (Text name ∷ []) old new rows → FindsService name old new found

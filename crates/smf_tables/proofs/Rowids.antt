@@ -1,35 +1,23 @@
 -- Rows by their rowids.
-use Rattle.std.proofs.Common.{◌≡◌, ◌≢◌, ◌⊎◌, inl, inr, ℕ, ℤ, List, [], ◌∷◌, Bool, true, false, ◌||◌, cond, None, refl, sym, ap, ap₂, subst, subst₂, ◌∙◌, not, arith, true≢false}
+use Rattle.std.proofs.Common.{◌≡◌, ◌⊎◌, inl, inr, ℤ, List, [], ◌∷◌, Bool, true, false, ◌||◌, cond, refl, sym, ap, ◌∙◌, not, arith, true≢false}
 use Rattle.std.proofs.lemmas.Int.{ints}
-use Rattle.sqlite_schema.specs.Rules.{equal, agree}
 use Rattle.sqlite_trees.proofs.TreeLemmas.{not_true}
 use Rattle.std.specs.Ordering.{is_eq, int_eq}
-use Rattle.std.specs.declared.cmp.Ordering.TheVariants.{Less, Equal}
-use Rattle.std.specs.List.{AllByRecursion, list_any}
+use Rattle.std.specs.List.{list_any}
 use Rattle.std.proofs.lemmas.Cmp.{tied_itself}
 use Rattle.sqlite_value.proofs.OrderLemmas.{value_cmp_total, value_cmp-Int}
-use Rattle.sqlite_sql.specs.declared.ops.CompareOp.TheVariants.{Eq}
-use Rattle.sqlite_rules.proofs.ListLemmas.{has_filtered, has_kept, all_has}
-use Rattle.sqlite_rules.proofs.TableLemmas.{int_is, without_all_has, put_all_has, put_all_adds, put_all_keeps}
-use Rattle.sqlite_trees.specs.Tree.{IsTable}
+use Rattle.sqlite_rules.proofs.ListLemmas.{has_filtered, has_kept}
+use Rattle.sqlite_rules.proofs.TableLemmas.{without_all_has}
 use Rattle.std.proofs.lemmas.Bool.{not-true}
 use Rattle.sqlite.specs.declared.types.Value.{Value}
-use Rattle.sqlite.specs.declared.types.Value.TheVariants.{Null, Int, Text}
-use Rattle.sqlite_value.specs.declared.keys.Collation.TheVariants.{Binary}
+use Rattle.sqlite.specs.declared.types.Value.TheVariants.{Null, Int}
 use Rattle.sqlite_value.specs.Order.{Row, value_cmp}
-use Rattle.sqlite_value.specs.Keys.{plain, first_key}
 use Rattle.sqlite.specs.Ops.{unary}
 use Rattle.sqlite.specs.Kind.TheVariants.{Integer}
-use Rattle.sqlite.specs.Cast.{cast, cast_row}
-use Rattle.sqlite.specs.Edit.{without_all, put_all, are_fresh, is_taken, id_in}
+use Rattle.sqlite.specs.Cast.{cast}
+use Rattle.sqlite.specs.Edit.{without_all}
 use Rattle.sqlite.specs.Tree.{rowid, without_rowid, has_rowid}
-use Rattle.sqlite.specs.View.{IsShaped}
-use Rattle.sqlite_trees.specs.declared.store.Shape.TheVariants as shape
-use Rattle.sqlite_typed.proofs.TestLemmas.{at_ints, at_texts, same_bytes, bytes_eq_refl, last_term}
-use Rattle.sqlite_typed.specs.Tests.{bytes_cmp}
 use Rattle.sqlite_rules.specs.Lists.{Has}
-use Rattle.sqlite_rules.specs.Keys.{conflicts, shares, AreConflicts}
-use Rattle.sqlite_rules.specs.Calls.{ids_of}
 
 int_eq_is : (a b : ℤ) → int_eq a b ≡ true → a ≡ b
 int_eq_is a b h = grind (arith, ints)

@@ -1,5 +1,5 @@
 -- Lists of a known length.
-use Rattle.std.proofs.Common.{◌≡◌, ◌<◌, ◌≤◌, ℕ, List, [], ◌∷◌, length, slice_index_or, refl, sym, ap, ap₂, ◌∙◌, arith}
+use Rattle.std.proofs.Common.{◌≡◌, ◌<◌, ◌≤◌, List, [], ◌∷◌, length, slice_index_or, sym, ap, arith}
 
 pub single_is : {X : Type 0} (xs : List X) (d x : X) → 1 ≤ length xs → length xs < 2 → slice_index_or xs 0 d ≡ x → xs ≡ x ∷ []
 single_is [] d x least below is = absurd (omega (arith, least))

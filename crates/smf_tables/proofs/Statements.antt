@@ -1,40 +1,30 @@
 -- What each statement does to what the tables hold.
-use Rattle.std.proofs.Common.{◌≡◌, ◌≢◌, ◌⊎◌, inl, inr, ℕ, ℤ, pos, List, [], ◌∷◌, ◌++◌, codes, Some, None, Ok, Err, Option, Result, length, slice_get, refl, sym, ap, ap₂, subst, ◌∙◌, Bool, true, false, int_eq, arith}
+use Rattle.std.proofs.Common.{◌≡◌, ◌≢◌, ℕ, List, [], ◌∷◌, Some, None, Ok, Option, length, slice_get, refl, sym, ap, subst, true, false}
 use Rattle.std.specs.Prelude.{◌==◌}
-use Rattle.std.specs.List.{AllByRecursion, list_all, flat_map, filter_map}
-use Rattle.std.specs.Ordering.{is_eq}
-use Rattle.sqlite.specs.declared.types.Value.TheVariants.{Null, Int, Text}
+use Rattle.std.specs.List.{AllByRecursion, flat_map, filter_map}
 use Rattle.sqlite.specs.Order.{Row}
 use Rattle.sqlite.specs.Cast.{cast_row}
 use Rattle.sqlite.specs.Command.{Command}
 use Rattle.sqlite.specs.Command.TheVariants.{Insert, Delete}
 use Rattle.sqlite.specs.Source.{Source}
-use Rattle.sqlite.specs.Source.TheVariants.{Values}
 use Rattle.sqlite.specs.Rowids.TheVariants.{Chosen}
 use Rattle.sqlite.specs.Does.{Tally, Does, OnRows}
-use Rattle.sqlite.specs.Rows.{Part, Written, Task, stamped}
+use Rattle.sqlite.specs.Rows.{Task, stamped}
 use Rattle.sqlite.specs.Edit.{with_rowid, next_rowid}
 use Rattle.sqlite.specs.Tree.{Trees}
 use Rattle.sqlite.specs.Table.{Table}
 use Rattle.sqlite.specs.Term.{Term, col, lit, holds}
-use Rattle.sqlite.specs.Effect.{Database, IsDatabase, IsSource}
+use Rattle.sqlite.specs.Effect.{Database, IsSource}
 use Rattle.sqlite.specs.Listing.{understood}
-use Rattle.sqlite.specs.State.{State, mode_of, Writes, Executes}
+use Rattle.sqlite.specs.State.{State, mode_of, Executes}
 use Rattle.sqlite.proofs.Callers.{IsPlain, command_of, statement_of, runs_as}
 use Rattle.sqlite_schema.specs.declared.schema.Keys.TheVariants.{Enforced}
 use Rattle.sqlite_schema.specs.Rules.{parent_key}
 use Rattle.sqlite_rules.specs.Action.{works, work_by, pairs, deed_for}
-use Rattle.sqlite_rules.specs.Lists.{Has}
-use Rattle.sqlite_sql.specs.declared.ops.CompareOp.TheVariants.{Eq}
-use Rattle.sqlite_typed.specs.Tests.{bytes_cmp}
-use Rattle.sqlite_typed.proofs.TestLemmas.{at_ints, at_texts, last_term}
-use Rattle.smf_tables.specs.Schema as tables
 use Rattle.smf_tables.specs.Schema.{store_schema}
-use Rattle.smf_tables.specs.Rows.{IsKeyed, Loses, Gains, Turns, Alters, SameColumns, equal, is_picked}
+use Rattle.smf_tables.specs.Rows.{IsKeyed, Loses, Gains, Turns, is_picked}
 use Rattle.smf_tables.proofs.Answers.{rows_query}
 use Rattle.smf_tables.proofs.Changes.{LooksAtColumns, went, same_value, deletes, inserts}
-use Rattle.smf_tables.proofs.Texts
-use Rattle.smf_tables.proofs.Rowids.{cast_null, cast_int}
 
 pub no_acts : (tree : ℕ) (olds news : List Row) → works store_schema Enforced 0 tree olds news ≡ []
 no_acts tree olds news =

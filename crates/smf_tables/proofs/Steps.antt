@@ -1,17 +1,16 @@
 -- What each statement of the store does, inside a transaction.
-use Rattle.std.proofs.Common.{◌≡◌, ◌<◌, ℕ, ℤ, pos, List, [], ◌∷◌, Some, None, Ok, Option, slice_get, refl, ap, ap₂, ◌∙◌, true, false, ◌&&◌, arith}
+use Rattle.std.proofs.Common.{◌≡◌, ◌<◌, ℕ, ℤ, List, [], ◌∷◌, Some, None, Ok, Option, slice_get, refl, ap, ap₂, ◌∙◌, true, false, ◌&&◌, arith}
 use Rattle.sqlite.specs.declared.types.Value.{Value}
 use Rattle.sqlite.specs.declared.types.Value.TheVariants.{Null, Int, Text, Blob}
 use Rattle.sqlite.specs.Collation.TheVariants.{Binary}
 use Rattle.sqlite.specs.Values.{bound_value, or_null}
-use Rattle.sqlite.specs.Ops.{binary, is_true, unary}
+use Rattle.sqlite.specs.Ops.{binary, is_true}
 use Rattle.sqlite_sql.specs.declared.ops.BinaryOp.TheVariants.{Compare}
 use Rattle.sqlite_sql.specs.declared.ops.CompareOp.TheVariants.{Eq}
 use Rattle.sqlite.specs.Order.{Row, column}
 use Rattle.sqlite.specs.Cast.{cast, cast_row}
 use Rattle.sqlite.specs.Kind.TheVariants.{Integer}
 use Rattle.sqlite.specs.Command.TheVariants.{Insert, Delete}
-use Rattle.sqlite.specs.Source.{Source}
 use Rattle.sqlite.specs.Source.TheVariants.{Values}
 use Rattle.sqlite.specs.Rowids.TheVariants.{Chosen}
 use Rattle.sqlite.specs.Rows.{stamped}
@@ -25,8 +24,8 @@ use Rattle.sqlite.proofs.Callers.{IsPlain, command_of}
 use Rattle.smf_tables.specs.declared.writing.InstanceRow.{InstanceRow}
 use Rattle.smf_tables.specs.Schema as tables
 use Rattle.smf_tables.specs.Schema.{store_schema}
-use Rattle.smf_tables.specs.Rows.{IsKeyed, Loses, Gains, Alters, SameColumns, equal, is_picked}
-use Rattle.smf_tables.specs.Statements.{DropsMeta, AddsMeta, DropsService, AddsService, DropsInstance, AddsInstance, instance_row, DropsServiceGroups, DropsInstanceGroups, AddsGroup, DropsSnapshots, AddsSnapshot, DropsLaunch, AddsLaunch}
+use Rattle.smf_tables.specs.Rows.{Loses, Gains, Alters, equal, is_picked}
+use Rattle.smf_tables.specs.Statements.{DropsMeta, AddsMeta, DropsService, AddsService, DropsInstance, AddsInstance, instance_row, DropsGroups, AddsGroup, DropsSnapshots, AddsSnapshot, DropsLaunch, AddsLaunch}
 use Rattle.smf_tables.proofs.Answers.{rows_query}
 use Rattle.smf_tables.proofs.Changes.{LooksAtColumns}
 use Rattle.smf_tables.proofs.Rowids.{cast_null, cast_int}
@@ -71,11 +70,8 @@ module _ (old new : State) (count : ℕ) where
   pub drop_instance : (id : ℤ) → ExecutesInside 0 Texts.drop_instance (Int id ∷ []) old new (Ok count) → DropsInstance id old new
   drop_instance id = drops Texts.drop_instance (Int id ∷ []) 2 tables.instance refl (equal 0 0 ∷ []) Texts.drop_instance_is Texts.drop_instance_plain (one_test 0 0 (Int id ∷ []) (omega arith))
 
-  pub drop_service_groups : (name : List ℕ) → ExecutesInside 0 Texts.drop_service_groups (Text name ∷ Int (pos 0) ∷ []) old new (Ok count) → DropsServiceGroups name old new
-  drop_service_groups name = drops Texts.drop_service_groups (Text name ∷ Int (pos 0) ∷ []) 3 tables.grp refl (equal 1 0 ∷ equal 2 1 ∷ []) Texts.drop_service_groups_is Texts.drop_service_groups_plain (two_tests 1 0 2 1 (Text name ∷ Int (pos 0) ∷ []) (omega arith) (omega arith))
-
-  pub drop_instance_groups : (id : ℤ) → ExecutesInside 0 Texts.drop_instance_groups (Int id ∷ []) old new (Ok count) → DropsInstanceGroups id old new
-  drop_instance_groups id = drops Texts.drop_instance_groups (Int id ∷ []) 3 tables.grp refl (equal 2 0 ∷ []) Texts.drop_instance_groups_is Texts.drop_instance_groups_plain (one_test 2 0 (Int id ∷ []) (omega arith))
+  pub drop_groups : (service : List ℕ) (id : ℤ) → ExecutesInside 0 Texts.drop_groups (Text service ∷ Int id ∷ []) old new (Ok count) → DropsGroups service id old new
+  drop_groups service id = drops Texts.drop_groups (Text service ∷ Int id ∷ []) 3 tables.grp refl (equal 1 0 ∷ equal 2 1 ∷ []) Texts.drop_groups_is Texts.drop_groups_plain (two_tests 1 0 2 1 (Text service ∷ Int id ∷ []) (omega arith) (omega arith))
 
   pub drop_snapshots : (id : ℤ) → ExecutesInside 0 Texts.drop_snapshots (Int id ∷ []) old new (Ok count) → DropsSnapshots id old new
   drop_snapshots id = drops Texts.drop_snapshots (Int id ∷ []) 4 tables.snap refl (equal 2 0 ∷ []) Texts.drop_snapshots_is Texts.drop_snapshots_plain (one_test 2 0 (Int id ∷ []) (omega arith))

@@ -44,27 +44,16 @@ pub drop_instance_plain : IsPlain (understood store_schema drop_instance)
 unfolding understood everything
 drop_instance_plain = (refl, refl)
 
-abbrev pub drop_service_groups : List ℕ
-drop_service_groups = codes "DELETE FROM grp WHERE service = ?1 AND instance = ?2"
+abbrev pub drop_groups : List ℕ
+drop_groups = codes "DELETE FROM grp WHERE service = ?1 AND instance = ?2"
 
-pub drop_service_groups_is : command_of (understood store_schema drop_service_groups) ≡ Delete 3 (record { lets = []; body = rows_query 6 (equal 1 0 ∷ equal 2 1 ∷ []) (col 1 0 ∷ []) })
+pub drop_groups_is : command_of (understood store_schema drop_groups) ≡ Delete 3 (record { lets = []; body = rows_query 6 (equal 1 0 ∷ equal 2 1 ∷ []) (col 1 0 ∷ []) })
 unfolding understood everything
-drop_service_groups_is = refl
+drop_groups_is = refl
 
-pub drop_service_groups_plain : IsPlain (understood store_schema drop_service_groups)
+pub drop_groups_plain : IsPlain (understood store_schema drop_groups)
 unfolding understood everything
-drop_service_groups_plain = (refl, refl)
-
-abbrev pub drop_instance_groups : List ℕ
-drop_instance_groups = codes "DELETE FROM grp WHERE instance = ?1"
-
-pub drop_instance_groups_is : command_of (understood store_schema drop_instance_groups) ≡ Delete 3 (record { lets = []; body = rows_query 6 (equal 2 0 ∷ []) (col 1 0 ∷ []) })
-unfolding understood everything
-drop_instance_groups_is = refl
-
-pub drop_instance_groups_plain : IsPlain (understood store_schema drop_instance_groups)
-unfolding understood everything
-drop_instance_groups_plain = (refl, refl)
+drop_groups_plain = (refl, refl)
 
 abbrev pub drop_snapshots : List ℕ
 drop_snapshots = codes "DELETE FROM snap WHERE instance = ?1"

@@ -1,12 +1,11 @@
 -- What the queries of whole tables show.
-use Rattle.std.proofs.Common.{◌≡◌, ◌+◌, ◌<◌, ◌≤◌, ℕ, zero, suc, List, [], ◌∷◌, ◌&&◌, length, drop, codes, Option, Some, None, IsTrue, Bool, true, false, refl, sym, ap, subst, ◌∙◌, arith}
+use Rattle.std.proofs.Common.{◌≡◌, ◌+◌, ◌<◌, ◌≤◌, ℕ, zero, suc, List, [], ◌∷◌, ◌&&◌, length, drop, codes, Option, Some, IsTrue, Bool, true, false, refl, sym, subst, ◌∙◌, arith}
 use Rattle.std.specs.List.{AllByRecursion}
 use Rattle.sqlite.specs.declared.types.Value.{Value}
 use Rattle.sqlite.specs.declared.types.Value.TheVariants.{Null, Int, Real, Text, Blob}
 use Rattle.sqlite.specs.Order.{Row, column}
-use Rattle.sqlite.specs.Term.{Term, col}
-use Rattle.sqlite.specs.Tree.{Trees, rowid}
-use Rattle.sqlite.specs.Effect.{Database, IsDatabase}
+use Rattle.sqlite.specs.Term.{col}
+use Rattle.sqlite.specs.Effect.{Database}
 use Rattle.sqlite.specs.State.{State, Shown}
 use Rattle.sqlite.specs.Table.{Table}
 use Rattle.sqlite_sql.specs.Ops.{is_null}
@@ -17,8 +16,8 @@ use Rattle.sqlite_rules.specs.Lists.{Has}
 use Rattle.sqlite_rules.proofs.ListLemmas.{all_has}
 use Rattle.smf_tables.specs.Schema as tables
 use Rattle.smf_tables.specs.Schema.{store_schema}
-use Rattle.smf_tables.specs.Rows.{IsKeyed, SameColumns}
-use Rattle.smf_tables.specs.Reading.{shown, AreShown, Looks}
+use Rattle.smf_tables.specs.Rows.{SameColumns}
+use Rattle.smf_tables.specs.Reading.{shown, Looks}
 use Rattle.smf_tables.proofs.Answers as answers
 use Rattle.smf_tables.proofs.Looks.{shown_inside, shows_rows, same_database}
 use Rattle.smf_tables.proofs.Wholes

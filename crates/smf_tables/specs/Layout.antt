@@ -1,9 +1,11 @@
 -- When a table of a schema is one of the six.
 use Rattle.std.specs.Prelude.{◌≡◌, ℕ, List, [], ◌∷◌, codes, Option, Some, false, true}
+use Rattle.std.specs.List.{slice_get}
 use Rattle.sqlite_value.specs.Keys.{plain}
 use Rattle.sqlite_schema.specs.declared.schema.Index.{Index}
 use Rattle.sqlite_schema.specs.declared.schema.Action.TheVariants.{NoAction}
 use Rattle.sqlite_schema.specs.declared.schema.Reference.{Reference}
+use Rattle.sqlite.specs.Schema.{Schema}
 use Rattle.sqlite.specs.Table.{Table}
 
 -- the table has no rule beside its columns and keys
@@ -34,3 +36,7 @@ pub record HasRowKey (table : Table) : Type 0 where
 
 abbrev pub to_service : Reference
 to_service = record { columns = 2 ∷ []; parent = codes "service"; parent_columns = codes "name" ∷ []; on_delete = NoAction; on_update = NoAction; is_deferred = false }
+
+-- the table at this place of a schema, counted from 0, is this one
+abbrev pub StandsAt : Schema → ℕ → Table → Type 0
+StandsAt schema place table = slice_get schema.tables place ≡ Some table

@@ -1,6 +1,5 @@
 -- What each statement does.
-use Rattle.std.specs.Prelude.{◌≡◌, ℕ, ℤ, pos, Bool, true, List, [], ◌∷◌, Option, IfSome, IsTrue, string_bytes}
-use Rattle.sqlite.specs.declared.types.Value.{Value}
+use Rattle.std.specs.Prelude.{◌≡◌, ℕ, ℤ, pos, Bool, true, false, List, [], ◌∷◌, Option, IfSome, IfNone, IsTrue, string_bytes}
 use Rattle.sqlite.specs.declared.types.Value.TheVariants.{Null, Int, Text, Blob}
 use Rattle.sqlite.specs.Values.{or_null}
 use Rattle.sqlite.specs.Order.{Row, column}
@@ -36,12 +35,13 @@ instance_row i =
 abbrev pub AddsInstance : InstanceRow → State → State → Type 0
 AddsInstance i = Alters (Gains (instance_row i)) instance
 
+-- the groups of an owner: of an instance by its service and its number, of a service by 0
+abbrev pub DropsGroups : List ℕ → ℤ → State → State → Type 0
+DropsGroups service id = Alters (Loses (is_picked (equal 1 0 ∷ equal 2 1 ∷ []) (Text service ∷ Int id ∷ []))) grp
+
 -- a service's own groups
 abbrev pub DropsServiceGroups : List ℕ → State → State → Type 0
-DropsServiceGroups name = Alters (Loses (is_picked (equal 1 0 ∷ equal 2 1 ∷ []) (Text name ∷ Int (pos 0) ∷ []))) grp
-
-abbrev pub DropsInstanceGroups : ℤ → State → State → Type 0
-DropsInstanceGroups id = Alters (Loses (is_picked (equal 2 0 ∷ []) (Int id ∷ []))) grp
+DropsServiceGroups name = DropsGroups name (pos 0)
 
 abbrev pub AddsGroup : List ℕ → ℤ → List ℕ → List ℕ → State → State → Type 0
 AddsGroup service id name body old =
@@ -76,9 +76,17 @@ pub record Sees (Seen : Trees → Type 0) (old new : State) : Type 0 where
 abbrev pub ShowsName : NameColumns → Row → Type 0
 ShowsName it r = (column r 2 ≡ Text (string_bytes it.service)) × (column r 3 ≡ Text (string_bytes it.name))
 
+-- no row passes
+abbrev pub HasNoRow : List Row → List Term → Row → Type 0
+HasNoRow rows tests params = (r : Row) → Has rows r → is_picked tests params r ≡ false
+
+abbrev pub IsNamed : List Row → ℤ → Option NameColumns → Type 0
+IsNamed rows id found =
+    IfSome found (λ it. HasRow rows (equal 0 0 ∷ []) (Int id ∷ []) (ShowsName it))
+    × IfNone found (HasNoRow rows (equal 0 0 ∷ []) (Int id ∷ []))
+
 abbrev pub ReadsName : ℤ → State → State → Option NameColumns → Type 0
-ReadsName id old new found =
-    Sees (λ trees. IfSome found (λ it. HasRow (trees 4) (equal 0 0 ∷ []) (Int id ∷ []) (ShowsName it))) old new
+ReadsName id old new found = Sees (λ trees. IsNamed (trees 4) id found) old new
 
 abbrev pub FindsService : List ℕ → State → State → Bool → Type 0
 FindsService name old new found =

@@ -1,6 +1,8 @@
 ghost use Rattle.std.specs.Prelude.{◌≡◌, ◌↔◌, [], ◌∷◌, IsTrue};
+ghost use Rattle.std.specs.List.{slice_get};
+ghost use Rattle.std.specs.Option.{option_copied};
 ghost use Rattle.sqlite_value.specs.Keys.{plain};
-ghost use Rattle.smf_tables.specs.Layout.{HasKeys, HasNoMore, HasRowKey, index, to_service};
+ghost use Rattle.smf_tables.specs.Layout.{HasKeys, HasNoMore, HasRowKey, StandsAt, index, to_service};
 ghost use Rattle.smf_tables.specs.Schema.{column, grp, meta, restarter, service, snap, store_schema};
 ghost use Rattle.smf_tables.specs.Schema.{instance as instance_table};
 
@@ -383,4 +385,71 @@ pub fn is_store(schema: &Schema) -> bool
         return false;
     }
     schema.views.is_empty()
+}
+
+/// The table at a place of a schema, counted from 0.
+fn table_at(schema: &Schema, place: usize) -> Option<&Table>
+    ensures { option_copied result ≡ slice_get schema.now.tables place }
+{
+    schema.tables.as_slice().get(place)
+}
+
+/// Whether the table of counters stands in its place.
+pub fn has_meta_table(schema: &Schema) -> bool
+    ensures { IsTrue result ↔ (StandsAt schema.now 0 meta) }
+{
+    let Some(table) = table_at(schema, 0) else {
+        return false;
+    };
+    is_meta(table)
+}
+
+/// Whether the table of services stands in its place.
+pub fn has_service_table(schema: &Schema) -> bool
+    ensures { IsTrue result ↔ (StandsAt schema.now 1 service) }
+{
+    let Some(table) = table_at(schema, 1) else {
+        return false;
+    };
+    is_service(table)
+}
+
+/// Whether the table of instances stands in its place.
+pub fn has_instance_table(schema: &Schema) -> bool
+    ensures { IsTrue result ↔ (StandsAt schema.now 2 instance_table) }
+{
+    let Some(table) = table_at(schema, 2) else {
+        return false;
+    };
+    is_instance(table)
+}
+
+/// Whether the table of groups stands in its place.
+pub fn has_grp_table(schema: &Schema) -> bool
+    ensures { IsTrue result ↔ (StandsAt schema.now 3 grp) }
+{
+    let Some(table) = table_at(schema, 3) else {
+        return false;
+    };
+    is_grp(table)
+}
+
+/// Whether the table of snapshots stands in its place.
+pub fn has_snap_table(schema: &Schema) -> bool
+    ensures { IsTrue result ↔ (StandsAt schema.now 4 snap) }
+{
+    let Some(table) = table_at(schema, 4) else {
+        return false;
+    };
+    is_snap(table)
+}
+
+/// Whether the table of restarters stands in its place.
+pub fn has_restarter_table(schema: &Schema) -> bool
+    ensures { IsTrue result ↔ (StandsAt schema.now 5 restarter) }
+{
+    let Some(table) = table_at(schema, 5) else {
+        return false;
+    };
+    is_restarter(table)
 }

@@ -1,6 +1,6 @@
 ghost use Rattle.std.specs.Prelude.{◌≡◌};
 ghost use Rattle.smf_tables.specs.Calls.{CommitsNone, Does, IsInside, LeavesAsBefore};
-ghost use Rattle.smf_tables.specs.Statements.{AddsGroup, AddsInstance, AddsLaunch, AddsMeta, AddsService, AddsSnapshot, DropsInstance, DropsInstanceGroups, DropsLaunch, DropsMeta, DropsService, DropsServiceGroups, DropsSnapshots};
+ghost use Rattle.smf_tables.specs.Statements.{AddsGroup, AddsInstance, AddsLaunch, AddsMeta, AddsService, AddsSnapshot, DropsGroups, DropsInstance, DropsLaunch, DropsMeta, DropsService, DropsServiceGroups, DropsSnapshots};
 
 use sqlite::{Alter, Error, Transaction, params};
 
@@ -96,6 +96,26 @@ pub fn add_instance<S: Alter>(tx: &mut Transaction<'_, S>, i: &InstanceRow<'_>) 
     Ok(())
 }
 
+/// Takes out the groups of an owner: those of an instance by its service and its number, those of a service by 0. Found
+/// so they cost a search of the table's key; by the number alone every group would be looked at.
+pub fn drop_groups<S: Alter>(
+    tx: &mut Transaction<'_, S>,
+    service: &str,
+    id: i64,
+) -> Result<(), Error>
+    requires { IsInside S.Store tx.old.conn.now }
+    ensures same_reference { tx.new.conn.ghost_name ≡ tx.old.conn.ghost_name }
+    ensures ok { Does (DropsGroups service.now id) S.Store tx.old.conn.now tx.new.conn.now result }
+    ensures err { CommitsNone S.Store tx.old.conn.now tx.new.conn.now result }
+    ensures crash { LeavesAsBefore S.Store tx.old.conn.now tx.new.conn.now }
+{
+    tx.execute(
+        "DELETE FROM grp WHERE service = ?1 AND instance = ?2",
+        params![service, id],
+    )?;
+    Ok(())
+}
+
 /// Takes out the groups of a service, and none of its instances.
 pub fn drop_service_groups<S: Alter>(tx: &mut Transaction<'_, S>, name: &str) -> Result<(), Error>
     requires { IsInside S.Store tx.old.conn.now }
@@ -104,23 +124,7 @@ pub fn drop_service_groups<S: Alter>(tx: &mut Transaction<'_, S>, name: &str) ->
     ensures err { CommitsNone S.Store tx.old.conn.now tx.new.conn.now result }
     ensures crash { LeavesAsBefore S.Store tx.old.conn.now tx.new.conn.now }
 {
-    tx.execute(
-        "DELETE FROM grp WHERE service = ?1 AND instance = ?2",
-        params![name, 0i64],
-    )?;
-    Ok(())
-}
-
-/// Takes out the groups of an instance.
-pub fn drop_instance_groups<S: Alter>(tx: &mut Transaction<'_, S>, id: i64) -> Result<(), Error>
-    requires { IsInside S.Store tx.old.conn.now }
-    ensures same_reference { tx.new.conn.ghost_name ≡ tx.old.conn.ghost_name }
-    ensures ok { Does (DropsInstanceGroups id) S.Store tx.old.conn.now tx.new.conn.now result }
-    ensures err { CommitsNone S.Store tx.old.conn.now tx.new.conn.now result }
-    ensures crash { LeavesAsBefore S.Store tx.old.conn.now tx.new.conn.now }
-{
-    tx.execute("DELETE FROM grp WHERE instance = ?1", params![id])?;
-    Ok(())
+    drop_groups(tx, name, 0)
 }
 
 /// Puts in a group of a service, with instance 0, or of an instance of the service.

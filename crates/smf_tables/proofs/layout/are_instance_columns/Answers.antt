@@ -1,4 +1,4 @@
-use Rattle.std.proofs.Common.{rules, arith, [], ◌∷◌, ◌∙◌, codes, refl}
+use Rattle.std.proofs.Common.{arith, [], ◌∷◌, ◌∙◌, refl}
 use Rattle.smf_tables.proofs.Sizes.{six_are}
 use Rattle.smf_tables.proofs.layout.are_instance_columns.Goals as goal
 

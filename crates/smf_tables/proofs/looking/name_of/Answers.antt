@@ -11,7 +11,7 @@ pub returns-then-is_empty-clause-ok : goal.returns-then-is_empty-clause-ok
 returns-then-is_empty-clause-ok g c clean =
     let old = state g.S.Store c.args.tx.now.conn.now in
     let early : HasCleanDisk old = omega (arith, c.query_all.ensures.survives.clean) in
-    no_name old (state g.S.Store c.query_all.new.self.conn.now) c.in-Ok.rows.items (c.requires early) c.args.id (rw (c.params-to_sql.ensures, to_z-of_z c.ranges.id) at (c.in-Ok.ensures.ok clean))
+    no_name old (state g.S.Store c.query_all.new.self.conn.now) c.in-Ok.rows.items (c.requires early) c.args.id (search rules) (rw (c.params-to_sql.ensures, to_z-of_z c.ranges.id) at (c.in-Ok.ensures.ok clean))
 
 pub returns-in-Ok-name_in-clause-ok : goal.returns-in-Ok-name_in-clause-ok
 returns-in-Ok-name_in-clause-ok g c clean =

@@ -1,0 +1,44 @@
+-- Which of the six tables is not there as a store has it.
+use Rattle.std.specs.Prelude.{◌≡◌, ◌⊎◌, ℕ}
+use Rattle.sqlite.specs.Schema.{Schema}
+use Rattle.sqlite.specs.Table.{Table}
+use Rattle.smf_tables.specs.Layout.{StandsAt}
+use Rattle.smf_tables.specs.Schema as stored
+use Rattle.smf_store.specs.declared.refusal.StoreTable.{StoreTable}
+use Rattle.smf_store.specs.declared.refusal.StoreTable.TheVariants.{Meta, Service, Instance, Group, Snapshot, Restarter}
+
+-- the places of the tables are their order
+abbrev pub place_of : StoreTable → ℕ
+place_of Meta = 0
+place_of Service = 1
+place_of Instance = 2
+place_of Group = 3
+place_of Snapshot = 4
+place_of Restarter = 5
+
+abbrev pub table_of : StoreTable → Table
+table_of Meta = stored.meta
+table_of Service = stored.service
+table_of Instance = stored.instance
+table_of Group = stored.grp
+table_of Snapshot = stored.snap
+table_of Restarter = stored.restarter
+
+-- the table is there, with its columns, keys and references, in its place
+abbrev pub IsThere : Schema → StoreTable → Type 0
+IsThere schema table = StandsAt schema (place_of table) (table_of table)
+
+-- those before it are there
+abbrev pub AreBefore : Schema → StoreTable → Type 0
+AreBefore s Meta = Unit {0}
+AreBefore s Service = IsThere s Meta
+AreBefore s Instance = IsThere s Meta × IsThere s Service
+AreBefore s Group = IsThere s Meta × IsThere s Service × IsThere s Instance
+AreBefore s Snapshot = IsThere s Meta × IsThere s Service × IsThere s Instance × IsThere s Group
+AreBefore s Restarter = IsThere s Meta × IsThere s Service × IsThere s Instance × IsThere s Group × IsThere s Snapshot
+
+-- the first of the six that is absent or another; where all are there and something else beside them, the first of all
+abbrev pub IsFirstOther : Schema → StoreTable → Type 0
+IsFirstOther schema table =
+    (AreBefore schema table × (IsThere schema table → ⊥))
+    ⊎ ((table ≡ Meta) × AreBefore schema Restarter × IsThere schema Restarter)
