@@ -1,17 +1,26 @@
 use smf_edge::OsKids;
 use smf_lines::{LineReader, NotedReader};
 use smf_serve::{serve, serve_cfg, tell};
-use sqlite::Connection;
+use sqlite::{Connection, Error, ErrorCode};
 use std::fs::File;
 use std::io;
 use std::io::BufReader;
+
+/// What is told of a database that the library does not open.
+fn refusal_of(fault: Error) -> &'static str {
+    match fault {
+        Error::SqliteFailure(ErrorCode::OutOfMemory) => "smf: no memory",
+        _ => "smf: store: database failed",
+    }
+}
 
 /// Does a script over the database in a file, with processes of the system.
 pub(crate) fn run_over(rt: &HostRuntime, database: &str) -> io::Result<u8> {
     let alloc = rt.alloc();
     let mut errors = rt.stderr();
-    let Ok(conn) = Connection::open(rt, database) else {
-        return Ok(tell(&mut errors, "smf: store: database failed"));
+    let conn = match Connection::open(rt, database) {
+        Ok(conn) => conn,
+        Err(fault) => return Ok(tell(&mut errors, refusal_of(fault))),
     };
     let mut reader = NotedReader::new(BufReader::new(alloc, rt.reader())?);
     let mut kids = OsKids::new(alloc, rt, rt.stderr());
@@ -48,6 +57,6 @@ fn cfg_of<R: LineReader>(rt: &HostRuntime, reader: &mut R, database: &str) -> u8
     let mut errors = rt.stderr();
     match Connection::open(rt, database) {
         Ok(conn) => serve_cfg(rt.alloc(), conn, reader, &mut io::writer(rt), &mut errors),
-        Err(_) => tell(&mut errors, "smf: store: database failed"),
+        Err(fault) => tell(&mut errors, refusal_of(fault)),
     }
 }
