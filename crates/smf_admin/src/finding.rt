@@ -31,7 +31,7 @@ fn found_at(word: &Text, item: Option<&InstanceName>) -> Result<Found, AllocErro
     ensures { IfOk result (λ one. one ≡ found_at word.now (option_copied item.entry)) }
 {
     match item {
-        Some(item) => Ok(Found::One(item.number)),
+        Some(item) => Ok(Found::One(item.number.get())),
         None => Ok(Found::NoMatch(word.clone()?)),
     }
 }
@@ -45,7 +45,7 @@ fn found_by(
 {
     match picked {
         Ok(place) => match view.get(place) {
-            Some(item) => Ok(Found::One(item.number)),
+            Some(item) => Ok(Found::One(item.number.get())),
             None => Ok(Found::NoMatch(word.clone()?)),
         },
         Err(PickFault::NoMatch) => Ok(Found::NoMatch(word.clone()?)),

@@ -3,7 +3,7 @@
 use crate::fault::CallFault;
 use crate::names::instance_of;
 use crate::values::kind_of;
-use crate::words::{copied, count_of, truth, words_of};
+use crate::words::{copied, count_of, number_of, truth, words_of};
 use smf_fmri::{Fmri, Items, ServiceFmri, Text};
 use smf_model::{Command, Edit, Instance, Mark, NoJournal, Owner, Plain, PropertyChange, Reply};
 use smf_snap::SnapshotName;
@@ -38,7 +38,7 @@ fn service_of(alloc: Global, word: &str) -> Result<ServiceFmri, CallFault> {
 }
 
 fn owner_of(alloc: Global, word: &str) -> Result<Owner, CallFault> {
-    match count_of(word) {
+    match number_of(word) {
         Ok(number) => Ok(Owner::Instance(number)),
         Err(_) => Ok(Owner::Service(service_of(alloc, word)?)),
     }
@@ -356,7 +356,7 @@ fn numbers_text(alloc: Global, rows: &[Instance]) -> Result<String, CallFault> {
         if !out.is_empty() {
             out.push(' ')?;
         }
-        let number = row.number;
+        let number = row.number.get();
         out.push_str(format!(in alloc; "{number}")?.as_str())?;
     }
     if out.is_empty() {

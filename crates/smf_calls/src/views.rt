@@ -10,7 +10,7 @@ use smf_admin::{
     svcs_usage,
 };
 use smf_engine::{Engine, orders};
-use smf_fmri::{Bytes, Items, Table};
+use smf_fmri::{Bytes, Items, Number, Table};
 use smf_model::{Edit, InstanceName, Mark, View};
 use smf_state::{Row, ViewItem};
 use smf_wire::{Order, What};
@@ -207,12 +207,12 @@ fn put_asked(alloc: Global, out: &mut String, all: &[Asked]) -> Result<(), Alloc
 fn names_of(alloc: Global, items: &[ViewItem]) -> Result<Table<InstanceName>, AllocError> {
     let mut names = Table::new(alloc);
     for item in items {
+        let Some(number) = Number::new(item.instance) else {
+            continue;
+        };
         let name = item.name.clone()?;
         names.reserve(1)?;
-        names.put(InstanceName {
-            name,
-            number: item.instance,
-        });
+        names.put(InstanceName { name, number });
     }
     Ok(names)
 }

@@ -58,12 +58,12 @@ use Rattle.smf_world.specs.Happens.{done, happens}
 use Rattle.smf_world.specs.Worked.{acted, answer_of, begun_in, begun_item, begun_items, booted_as, call_of, calling, commanded, delivered, delivered_if, emptied_items, heard_by, held_items, holder, is_launched, joined, launched_if, own_ticked, process_call, reported_by, reported_to, restarter, sent_at, spawn_answer, ticked_for, timed, told, worked}
 use Rattle.smf_world.specs.World.{World, found}
 use Rattle.smf_drive.specs.declared.asking.Ask.TheVariants.{Spawn, Kill}
-use Rattle.smf_drive.specs.declared.asking.Wanted.{Wanted}
-use Rattle.smf_drive.specs.declared.learning.News.{News}
-use Rattle.smf_drive.specs.Agrees.{Agrees, AgreesUpTo, AreAlike, AreMade, ArePast, IsNoted, IsPast, Start, start_by, start_if}
+use Rattle.smf_machine.specs.declared.children.Wanted.{Wanted}
+use Rattle.smf_machine.specs.declared.hearing.News.{News}
+use Rattle.smf_drive.specs.Agrees.{Agrees, AreAlike, AreMade, ArePast, IsNoted, IsPast, Start, start_by, start_if}
 use Rattle.smf_drive.specs.Asking.{asked, asked_by, asked_of, first_of, is_held_by, is_instance, kill_if, wanted, wanted_in}
-use Rattle.smf_drive.specs.Learning.{news, news_if, news_in, news_of, told as told_of}
-use Rattle.smf_drive.specs.Moves.{AreMoves, IsMove, IsUnmade, Moves, Reaches, happened, is_alone, run_for}
+use Rattle.smf_machine.specs.Children.{happened, news, news_if, news_in, news_of, run_for, told as told_of}
+use Rattle.smf_drive.specs.Moves.{AreMoves, IsMove, IsUnmade, Moves, is_alone}
 use Rattle.smf_drive.specs.Moves.IsMove.{alone, unmade, spawned as spawns_run, killed as kills, polled}
 use Rattle.smf_drive.proofs.Alikeness.{alike_adopt, alike_back, alike_exit, alike_fail, alike_fork, alike_kill, alike_nothing, alike_spawn, killed_all, killed_shape, not_killed}
 use Rattle.smf_drive.proofs.Bonding.{counted_more, found_given, given, made_alike, made_more, made_to, runs_made, runs_stay}
@@ -72,7 +72,7 @@ use Rattle.smf_drive.proofs.Starting.{between, emptied_none, first_starts, held_
 
 -- ---- calls that make no run, and change nothing that children know of
 
-abbrev IsSpawn : ContractCall → Type 0
+abbrev pub IsSpawn : ContractCall → Type 0
 IsSpawn (calls.Spawn actor cookie terms) = Unit {0}
 IsSpawn _ = ⊥
 
@@ -80,10 +80,10 @@ pub record IsQuiet (t : Contracts) (call : ContractCall) : Type 0 where
   pub no_run : (actor cookie : ℕ) (terms : Terms) → call ≡ calls.Spawn actor cookie terms → ⊥
   pub alike : (u : Contracts) → AreAlike t u → AreAlike (called t call) u
 
-other_call : (call : ContractCall) → (IsSpawn call → ⊥) → (actor cookie : ℕ) (terms : Terms) → call ≡ calls.Spawn actor cookie terms → ⊥
+pub other_call : (call : ContractCall) → (IsSpawn call → ⊥) → (actor cookie : ℕ) (terms : Terms) → call ≡ calls.Spawn actor cookie terms → ⊥
 other_call call other actor cookie terms e = other (let P : ContractCall → Type 0 = IsSpawn in subst P (sym e) tt)
 
-quiet_nothing : (t : Contracts) → IsQuiet t calls.Nothing
+pub quiet_nothing : (t : Contracts) → IsQuiet t calls.Nothing
 quiet_nothing t = record { no_run = other_call calls.Nothing (λ x. x); alike = alike_nothing t }
 
 quiet_adopt : (t : Contracts) (actor id : ℕ) → IsQuiet t (calls.Adopt actor id)
@@ -96,12 +96,12 @@ quiet_kill t actor id other =
       alike = λ u a. (let P : Contracts → Type 0 = λ x. AreAlike x u in subst P (sym (not_killed t actor id other)) a);
     }
 
-quiet_as : (t : Contracts) (a b : ContractCall) → a ≡ b → IsQuiet t b → IsQuiet t a
+pub quiet_as : (t : Contracts) (a b : ContractCall) → a ≡ b → IsQuiet t b → IsQuiet t a
 quiet_as t a b e q = let P : ContractCall → Type 0 = IsQuiet t in subst P (sym e) q
 
 -- ---- an event
 
-table_of : (w : World) (e : Event) → (happens w e).table ≡ called w.table (worked w e).call
+pub table_of : (w : World) (e : Event) → (happens w e).table ≡ called w.table (worked w e).call
 unfolding happens done
 table_of w e = refl
 
@@ -120,7 +120,7 @@ made_both : (runs : List Run) (t v u : Contracts) → AreAlike t u → AreAlike 
 made_both runs t v u a b h = made_back runs v u b (made_alike runs t u a h)
 
 -- nothing changes of what children know of
-agree_quiet : (w v : World) (e : Event) (l : Ledger) → v ≡ happens w e → IsQuiet w.table (worked w e).call → Agrees w l → Agrees v l
+pub agree_quiet : (w v : World) (e : Event) (l : Ledger) → v ≡ happens w e → IsQuiet w.table (worked w e).call → Agrees w l → Agrees v l
 agree_quiet w v e l is q a =
     let alike : AreAlike v.table l.table = world_alike w v e l.table is (q.alike l.table a.alike) in
     record {
@@ -189,7 +189,7 @@ unfolding commanded
 call_launched w name true = refl
 call_launched w name false = refl
 
-call_alone : (w : World) (e : Event) → is_alone e ≡ true → (worked w e).call ≡ calls.Nothing
+pub call_alone : (w : World) (e : Event) → is_alone e ≡ true → (worked w e).call ≡ calls.Nothing
 unfolding worked
 call_alone w (events.Deliver place) a = call_sent w (sent_at w place)
 call_alone w (events.Client edit) a = absurd cc
@@ -395,7 +395,7 @@ spawn_shape : (t u : Contracts) (cookie : ℕ) (terms : Terms) (m : Made) → sp
 unfolding spawned
 spawn_shape t u cookie terms m h = spawn_parts t u cookie terms m (next_number t.last_contract) (next_number t.last_process) refl h
 
-ordered_by : (t u : Contracts) (call : ContractCall) → u ≡ called t call → IsOrdered t → IsOrdered u
+pub ordered_by : (t u : Contracts) (call : ContractCall) → u ≡ called t call → IsOrdered t → IsOrdered u
 ordered_by t u call is o = let P : Contracts → Type 0 = IsOrdered in subst P (sym is) ((call_keeps t (Asked call)).ordered o)
 
 spawn_called : (t u : Contracts) (cookie : ℕ) (terms : Terms) (m : Made) → spawned t 0 cookie terms ≡ Ok (u, m) → u ≡ called t (calls.Spawn 0 cookie terms)
@@ -491,7 +491,7 @@ kill_is : (w : World) (name : List ℕ) (n id : ℕ) → asked w name n ≡ Kill
 unfolding asked worked
 kill_is w name n id h = kill_of w (restarter w name) n id h
 
-not_run : (a b : ContractCall) → a ≡ b → (IsSpawn b → ⊥) → (actor cookie : ℕ) (terms : Terms) → a ≡ calls.Spawn actor cookie terms → ⊥
+pub not_run : (a b : ContractCall) → a ≡ b → (IsSpawn b → ⊥) → (actor cookie : ℕ) (terms : Terms) → a ≡ calls.Spawn actor cookie terms → ⊥
 not_run a b same other = other_call a (λ x. other (let P : ContractCall → Type 0 = IsSpawn in subst P same x))
 
 agree_killed : (w v : World) (name : List ℕ) (n id : ℕ) (l m : Ledger) → asked w name n ≡ Kill id → IsKilled id l m → v ≡ happens w (events.Tick name n spawns.Made) → Agrees w l → Agrees v m
@@ -682,7 +682,7 @@ agree_found w v e l m f is a =
 
 -- ---- moves
 
-agree_as : (v : World) (l m : Ledger) → m ≡ l → Agrees v l → Agrees v m
+pub agree_as : (v : World) (l m : Ledger) → m ≡ l → Agrees v l → Agrees v m
 agree_as v l m e a = let P : Ledger → Type 0 = λ k. Agrees v k in subst P (sym e) a
 
 agree_polled : (w v : World) (e : ContractEvent) (l m : Ledger) → IsPolled (Some e) l m → v ≡ happened (news_of w.table e) w → Agrees w l → Agrees v m
@@ -703,9 +703,6 @@ agree_by (suc k) w v l m h a = agree_by k h.0 v h.1 m h.3 (agree_move w h.0 l h.
 
 pub agree_moves : (w v : World) (l m : Ledger) → Moves w v l m → Agrees w l → Agrees v m
 agree_moves w v l m h a = agree_by h.0 w v l m h.1 a
-
-pub agree_reached : (w v : World) (l m : Ledger) → Reaches w v l m → Agrees w l → AgreesUpTo v m
-agree_reached w v l m r a = (r.0, agree_moves w v l r.0 r.1 a, r.2)
 
 -- ---- a first boot
 

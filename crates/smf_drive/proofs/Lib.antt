@@ -10,3 +10,4 @@ pub mod Passing
 pub mod Bonding
 pub mod Starting
 pub mod Agreeing
+pub mod Keeping

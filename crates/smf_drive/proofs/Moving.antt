@@ -6,12 +6,11 @@ use Rattle.smf_world.specs.declared.event.Event.TheVariants as events
 use Rattle.smf_world.specs.Happens.{happens}
 use Rattle.smf_world.specs.Runs.{run}
 use Rattle.smf_world.specs.World.{World}
-use Rattle.smf_drive.specs.declared.learning.News.{News}
+use Rattle.smf_machine.specs.declared.hearing.News.{News}
 use Rattle.smf_drive.specs.Drives.{IsDriven, is_driven}
-use Rattle.smf_drive.specs.Learning.{news_of}
-use Rattle.smf_drive.specs.Moves.{AreMoves, IsAlone, IsMove, Moves, Reaches, AllAlone, happened, is_alone}
+use Rattle.smf_machine.specs.Children.{happened, news_of}
+use Rattle.smf_drive.specs.Moves.{AreMoves, IsAlone, IsMove, Moves, AllAlone, is_alone}
 use Rattle.smf_drive.specs.Moves.IsMove.{alone, unmade, spawned, killed, polled}
-use Rattle.smf_drive.specs.Moves.IsAhead.{is_same}
 use Rattle.smf_drive.proofs.Events.{driven_by, driven_same, driven_then}
 
 pub moves_none : (w : World) (l : Ledger) → Moves w w l l
@@ -32,12 +31,6 @@ then_by (suc j) i u v w k l m a b =
 
 pub moves_then : (u v w : World) (k l m : Ledger) → Moves u v k l → Moves v w l m → Moves u w k m
 moves_then u v w k l m a b = (a.0 + b.0, then_by a.0 b.0 u v w k l m a.1 b.1)
-
-pub reached : (w v : World) (l m : Ledger) → Moves w v l m → Reaches w v l m
-reached w v l m h = (m, h, is_same refl)
-
-pub reach_then : (u v w : World) (k l m : Ledger) → Moves u v k l → Reaches v w l m → Reaches u w k m
-reach_then u v w k l m a r = (r.0, moves_then u v w k l r.0 a r.1, r.2)
 
 -- ---- events in which children have no part
 
@@ -81,5 +74,5 @@ driven_moves zero w v l m a = driven_same w v a.0
 driven_moves (suc k) w v l m a = driven_then w a.0 v (driven_move w a.0 l a.1 a.2) (driven_moves k a.0 v a.1 m a.3)
 
 -- what moves reach is reached by events that are no client's command, crash or boot
-pub driven_reached : (w v : World) (l m : Ledger) → Reaches w v l m → IsDriven w v
-driven_reached w v l m r = driven_moves r.1.0 w v l r.0 r.1.1
+pub driven_moved : (w v : World) (l m : Ledger) → Moves w v l m → IsDriven w v
+driven_moved w v l m h = driven_moves h.0 w v l m h.1

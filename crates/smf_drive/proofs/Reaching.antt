@@ -1,4 +1,4 @@
--- What calls reach, one behind another, and what is reached where one of them fails.
+-- What calls lead to, one behind another.
 use Rattle.std.proofs.Common.{◌≡◌, ℕ, zero, List, ◌∷◌, Option, Some, None, refl, ap, ◌∙◌, subst}
 use Rattle.smf_contract.specs.declared.event.Event.{Event as ContractEvent}
 use Rattle.smf_edge.specs.Ledgers.{Ledger}
@@ -6,20 +6,18 @@ use Rattle.smf_edge.specs.Steps.{IsPolled}
 use Rattle.smf_world.specs.declared.schedule.Turn.{Turn}
 use Rattle.smf_world.specs.declared.schedule.Turn.TheVariants as turns
 use Rattle.smf_world.specs.Schedule.{Progress, all_turned, deliveries, launched_names, turned}
-use Rattle.smf_drive.specs.Learning.{HasLearned, learned, news_of}
-use Rattle.smf_drive.specs.Moves.{IsAlone, Moves, Reaches}
+use Rattle.smf_machine.specs.Children.{HasGiven, news_of}
+use Rattle.smf_node.specs.Children.{learned, learned_of}
+use Rattle.smf_drive.specs.Learning.{HasHeard, HasLearned}
+use Rattle.smf_drive.specs.Moves.{IsAlone, Moves}
 use Rattle.smf_drive.specs.Moves.IsMove.{polled}
-use Rattle.smf_drive.specs.Moves.IsAhead.{has_polled}
 use Rattle.smf_drive.specs.Rounds.{AreTurns, IsRound, leading_turns}
 use Rattle.smf_drive.proofs.Alone.{alone_then}
-use Rattle.smf_drive.proofs.Moving.{moves_alone, moves_then, one_move, reach_then, reached}
+use Rattle.smf_drive.proofs.Moving.{moves_alone, moves_then, one_move}
 use Rattle.smf_drive.proofs.Steps.{learned_world}
 
 abbrev pub MovesTo : Progress → Progress → Ledger → Ledger → Type 0
 MovesTo p q l m = Moves p.world q.world l m
-
-abbrev pub ReachesTo : Progress → Progress → Ledger → Ledger → Type 0
-ReachesTo p q l m = Reaches p.world q.world l m
 
 abbrev pub AloneTo : Progress → Progress → Type 0
 AloneTo p q = IsAlone p.world q.world
@@ -28,43 +26,28 @@ AloneTo p q = IsAlone p.world q.world
 pub same_moves : (p q : Progress) (l m : Ledger) → q ≡ p → m ≡ l → MovesTo p q l m
 same_moves p q l m is same = (zero, (ap (λ x. x.world) is, same))
 
-pub same_reaches : (p q : Progress) (l m : Ledger) → q ≡ p → m ≡ l → ReachesTo p q l m
-same_reaches p q l m is same = reached p.world q.world l m (same_moves p q l m is same)
-
--- what was reached before, and nothing more was done
-pub still_reached : (p q r : Progress) (k l m : Ledger) → MovesTo p q k l → r ≡ q → m ≡ l → ReachesTo p r k m
-still_reached p q r k l m moves is same = reach_then p.world q.world r.world k l m moves (same_reaches q r l m is same)
-
 -- ---- what children tell
 
-pub polled_some : (o : Option ContractEvent) (e : ContractEvent) (l m : Ledger) → o ≡ Some e → IsPolled o l m → IsPolled (Some e) l m
-polled_some o e l m is found = let P : Option ContractEvent → Type 0 = λ x. IsPolled x l m in subst P is found
-
-pub polled_none : (o : Option ContractEvent) (l m : Ledger) → o ≡ None → IsPolled o l m → m ≡ l
-polled_none None l m is found = found.0
-polled_none (Some e) l m is found = absurd cc
-
-pub polled_moves : (p q : Progress) (e : ContractEvent) (l m : Ledger) → IsPolled (Some e) l m → q ≡ learned (news_of p.world.table e) p → MovesTo p q l m
+polled_moves : (p q : Progress) (e : ContractEvent) (l m : Ledger) → IsPolled (Some e) l m → q ≡ learned (news_of p.world.table e) p → MovesTo p q l m
 polled_moves p q e l m found is =
     one_move p.world q.world l m (polled e found (ap (λ x. x.world) is ∙ learned_world (news_of p.world.table e) p))
 
--- it was taken of the children, and did not happen to the node
-pub polled_ahead : (p q : Progress) (e : ContractEvent) (l m : Ledger) → IsPolled (Some e) l m → q ≡ p → ReachesTo p q l m
-polled_ahead p q e l m found is = (l, same_moves p q l l is refl, has_polled e found)
+-- an event, or none
+pub heard_moves : (o : Option ContractEvent) (p q : Progress) (l m : Ledger) → HasGiven o l m → q ≡ learned_of o p → MovesTo p q l m
+heard_moves None p q l m given is = same_moves p q l m is given
+heard_moves (Some e) p q l m given is = polled_moves p q e l m given is
+
+pub has_heard : (o : Option ContractEvent) (p q : Progress) → q ≡ learned_of o p → HasHeard p q
+has_heard None p q is = (None, is)
+has_heard (Some e) p q is = (news_of p.world.table e, is)
 
 -- ---- turns without children, and then calls of children
 
 pub alone_moves : (p q : Progress) (l m : Ledger) → AloneTo p q → m ≡ l → MovesTo p q l m
 alone_moves p q l m alone same = moves_alone p.world q.world l m alone same
 
-pub alone_reaches : (p q : Progress) (l m : Ledger) → AloneTo p q → m ≡ l → ReachesTo p q l m
-alone_reaches p q l m alone same = reached p.world q.world l m (alone_moves p q l m alone same)
-
 pub then_moves : (p q r : Progress) (k l m : Ledger) → MovesTo p q k l → MovesTo q r l m → MovesTo p r k m
 then_moves p q r k l m a b = moves_then p.world q.world r.world k l m a b
-
-pub then_reaches : (p q r : Progress) (k l m : Ledger) → MovesTo p q k l → ReachesTo q r l m → ReachesTo p r k m
-then_reaches p q r k l m a b = reach_then p.world q.world r.world k l m a b
 
 pub then_alone : (p q r : Progress) → AloneTo p q → AloneTo q r → AloneTo p r
 then_alone p q r a b = alone_then p.world q.world r.world a b

@@ -20,11 +20,13 @@ use Rattle.smf_world.specs.Worked.{restarter}
 use Rattle.smf_world.specs.World.{World}
 use Rattle.smf_drive.specs.declared.asking.Ask.{Ask}
 use Rattle.smf_drive.specs.declared.asking.Ask.TheVariants.{Nothing, Unnumbered, Spawn, Kill}
-use Rattle.smf_drive.specs.declared.learning.News.{News}
+use Rattle.smf_machine.specs.declared.hearing.News.{News}
 use Rattle.smf_drive.specs.Answered.{HasGone, HaveGone, asks_kill, is_kill}
 use Rattle.smf_drive.specs.Asking.{asked, asked_by, asked_of, kill_if, wanted, wanted_in}
-use Rattle.smf_drive.specs.Learning.{HasHeard, HasLearned, all_learned, learned}
-use Rattle.smf_drive.specs.Moves.{IsUnmade, Moves, happened}
+use Rattle.smf_drive.specs.Learning.{HasHeard, HasLearned, all_learned}
+use Rattle.smf_drive.specs.Moves.{IsUnmade, Moves}
+use Rattle.smf_machine.specs.Children.{happened}
+use Rattle.smf_node.specs.Children.{learned}
 use Rattle.smf_drive.specs.Rounds.{AreRounds, AreTurns, IsBehind, IsRound, IsTurn}
 use Rattle.smf_drive.proofs.Moving.{moves_none, moves_then}
 use Rattle.smf_edge.specs.Ledgers.{Ledger}

@@ -1,7 +1,6 @@
 -- What the calls behind a turn for an instance leave, by how they ended.
 use Rattle.std.proofs.Common.{◌≡◌, ℕ, Bool, true, false, List, Result, Ok, Err, IfErr, OnOk, OnErr, refl, sym, ap, ◌∙◌, subst}
 use Rattle.smf_edge.specs.Ledgers.{Ledger}
-use Rattle.smf_edge.specs.Steps.{IsKilled, IsSpawned}
 use Rattle.smf_model.specs.declared.journal.RepoFault.{RepoFault}
 use Rattle.smf_node.specs.declared.fault.NodeFault.{NodeFault}
 use Rattle.smf_node.specs.Partly.{TurnFails}
@@ -15,16 +14,17 @@ use Rattle.smf_world.specs.Worked.{restarter}
 use Rattle.smf_world.specs.World.{World}
 use Rattle.smf_drive.specs.declared.asking.Ask.{Ask}
 use Rattle.smf_drive.specs.declared.asking.Ask.TheVariants.{Nothing, Unnumbered, Spawn, Kill}
-use Rattle.smf_drive.specs.declared.asking.Wanted.{Wanted}
+use Rattle.smf_machine.specs.declared.children.Wanted.{Wanted}
 use Rattle.smf_drive.specs.Answered.{IsAnswered}
 use Rattle.smf_drive.specs.Answered.IsAnswered.{goes, is_refused, is_not_followed, is_owed}
 use Rattle.smf_drive.specs.Asking.{asked}
-use Rattle.smf_drive.specs.Moves.{HasKilled, HasSpawned, IsAlone, IsUnmade, Moves, Reaches, is_plain, run_for}
+use Rattle.smf_machine.specs.Children.{HasKilled, HasSpawned}
+use Rattle.smf_node.specs.Children.{on_if}
+use Rattle.smf_drive.specs.Moves.{IsAlone, IsUnmade, Moves, is_plain}
 use Rattle.smf_drive.specs.Moves.IsMove.{unmade, spawned, killed}
-use Rattle.smf_drive.specs.Moves.IsAhead.{is_same, has_spawned, has_killed}
 use Rattle.smf_drive.proofs.Alone.{alone_then, alone_to, alone_turned}
 use Rattle.smf_drive.proofs.Fails.{alone_turn_fails}
-use Rattle.smf_drive.proofs.Moving.{moves_alone, moves_none, moves_then, one_move, reached}
+use Rattle.smf_drive.proofs.Moving.{moves_alone, moves_none, moves_then, one_move}
 use Rattle.smf_drive.proofs.Steps.{asked_for, unmade_refused, went_made, went_not_refused, went_refused}
 
 abbrev Stores : Type 1
@@ -32,20 +32,17 @@ Stores = RepoFault → Type 0
 
 -- ---- nothing more was done
 
-pub still_reached : (w : World) (l m : Ledger) → m ≡ l → Reaches w w l m
-still_reached w l m same = (l, moves_none w l, is_same same)
-
 pub still_moved : (w : World) (l m : Ledger) → m ≡ l → Moves w w l m
 still_moved w l m same = subst (λ (x : Ledger). Moves w w l x) (sym same) (moves_none w l)
 
-pub same_reached : (p q : Progress) (l m : Ledger) → q ≡ p → m ≡ l → Reaches p.world q.world l m
-same_reached p q l m here same = subst (λ (x : Progress). Reaches p.world x.world l m) (sym here) (still_reached p.world l m same)
+pub same_moved : (p q : Progress) (l m : Ledger) → q ≡ p → m ≡ l → Moves p.world q.world l m
+same_moved p q l m here same = subst (λ (x : Progress). Moves p.world x.world l m) (sym here) (still_moved p.world l m same)
 
 -- ---- a call that moved, or left everything where it failed
 
-pub reached_by : {X : Type 0} (p q : Progress) (l m : Ledger) (r : Result X NodeFault) → OnOk r (Moves p.world q.world l m) → OnErr r (q ≡ p) → m ≡ l → Reaches p.world q.world l m
-reached_by p q l m (Ok x) moves err same = reached p.world q.world l m moves
-reached_by p q l m (Err e) moves err same = same_reached p q l m err same
+pub moved_by : {X : Type 0} (p q : Progress) (l m : Ledger) (r : Result X NodeFault) → OnOk r (Moves p.world q.world l m) → OnErr r (q ≡ p) → m ≡ l → Moves p.world q.world l m
+moved_by p q l m (Ok x) moves err same = moves
+moved_by p q l m (Err e) moves err same = same_moved p q l m err same
 
 -- ---- turns without children
 
@@ -55,55 +52,26 @@ turn_alone stores t p q (Err e) plain ok err = alone_turn_fails stores p q t e p
 
 -- ---- a kill
 
-pub kill_made : (b : Bool) (id : ℕ) (l m : Ledger) → b ≡ true → HasKilled b id l m → IsKilled id l m
-kill_made true id l m e h = h
-kill_made false id l m e h = absurd cc
+pub kill_moves : (did : Bool) (p q : Progress) (name : List ℕ) (n id : ℕ) (l m : Ledger) → asked p.world name n ≡ Kill id → HasKilled did id l m → q ≡ on_if did p (events.Tick name n spawns.Made) → Moves p.world q.world l m
+kill_moves true p q name n id l m asks kills is = one_move p.world q.world l m (killed name n id asks kills (ap (λ (x : Progress). x.world) is))
+kill_moves false p q name n id l m asks kills is = same_moved p q l m is kills
 
-pub kill_not_made : (b : Bool) (id : ℕ) (l m : Ledger) → b ≡ false → HasKilled b id l m → m ≡ l
-kill_not_made true id l m e h = absurd cc
-kill_not_made false id l m e h = h
-
-pub killed_moves : (p q : Progress) (name : List ℕ) (n id : ℕ) (l m : Ledger) → asked p.world name n ≡ Kill id → refuses p name n ≡ false → IsKilled id l m → q ≡ went (deeds.Tick name n) p → Moves p.world q.world l m
-killed_moves p q name n id l m asks made kills is =
-    one_move p.world q.world l m (killed name n id asks kills (ap (λ (x : Progress). x.world) is ∙ went_not_refused p name n made))
-
-pub killed_moved : {X : Type 0} (p q : Progress) (name : List ℕ) (n id : ℕ) (l m : Ledger) (r : Result X NodeFault) → asked p.world name n ≡ Kill id → refuses p name n ≡ false → IsKilled id l m
-    → OnOk r (q ≡ went (deeds.Tick name n) p) → OnOk r (Moves p.world q.world l m)
-killed_moved p q name n id l m (Ok x) asks made kills ok = killed_moves p q name n id l m asks made kills ok
-killed_moved p q name n id l m (Err e) asks made kills ok = tt
-
-pub killed_reached : {X : Type 0} (p q : Progress) (name : List ℕ) (n id : ℕ) (l m : Ledger) (r : Result X NodeFault) → asked p.world name n ≡ Kill id → refuses p name n ≡ false → IsKilled id l m
-    → OnOk r (q ≡ went (deeds.Tick name n) p) → OnErr r (q ≡ p) → Reaches p.world q.world l m
-killed_reached p q name n id l m (Ok x) asks made kills ok err = reached p.world q.world l m (killed_moves p q name n id l m asks made kills ok)
-killed_reached p q name n id l m (Err e) asks made kills ok err =
-    subst (λ (x : Progress). Reaches p.world x.world l m) (sym err) (l, moves_none p.world l, has_killed id kills)
-
-pub owed : (p q : Progress) (name : List ℕ) (n id : ℕ) → asked p.world name n ≡ Kill id → q ≡ p → IsAnswered name n p q
+owed : (p q : Progress) (name : List ℕ) (n id : ℕ) → asked p.world name n ≡ Kill id → q ≡ p → IsAnswered name n p q
 owed p q name n id asks is = is_owed (asked_for p.world name n (Kill id) (sym asks)) is
+
+pub kill_answered : (did : Bool) (p q : Progress) (name : List ℕ) (n id : ℕ) → asked p.world name n ≡ Kill id → refuses p name n ≡ false → q ≡ on_if did p (events.Tick name n spawns.Made) → IsAnswered name n p q
+kill_answered true p q name n id asks made is = goes (went_made name n p q made is)
+kill_answered false p q name n id asks made is = owed p q name n id asks is
 
 -- ---- a spawn
 
-pub asks_for_spawn : (w : World) (name : List ℕ) (n : ℕ) (wanted : Wanted) → asked w name n ≡ Spawn wanted → asks_spawn (restarter w name) n ≡ true
+asks_for_spawn : (w : World) (name : List ℕ) (n : ℕ) (wanted : Wanted) → asked w name n ≡ Spawn wanted → asks_spawn (restarter w name) n ≡ true
 asks_for_spawn w name n wanted asks = asked_for w name n (Spawn wanted) (sym asks)
 
-pub spawn_answered : {X : Type 0} (p q : Progress) (name : List ℕ) (n : ℕ) (r : Result X NodeFault) → refuses p name n ≡ false → OnOk r (q ≡ on p (events.Tick name n spawns.Made)) → OnOk r (IsAnswered name n p q)
-spawn_answered p q name n (Ok x) made ok = goes (went_made name n p q made ok)
-spawn_answered p q name n (Err e) made ok = tt
-
-pub spawn_moves : (p q : Progress) (name : List ℕ) (n : ℕ) (wanted : Wanted) (l m : Ledger) → asked p.world name n ≡ Spawn wanted → IsSpawned (run_for wanted) l m → q ≡ on p (events.Tick name n spawns.Made)
-    → Moves p.world q.world l m
-spawn_moves p q name n wanted l m asks made is = one_move p.world q.world l m (spawned name n wanted asks made (ap (λ (x : Progress). x.world) is))
-
-pub spawn_moved : {X : Type 0} (p q : Progress) (name : List ℕ) (n : ℕ) (wanted : Wanted) (l m : Ledger) (r : Result X NodeFault) → asked p.world name n ≡ Spawn wanted → IsSpawned (run_for wanted) l m
-    → OnOk r (q ≡ on p (events.Tick name n spawns.Made)) → OnOk r (Moves p.world q.world l m)
-spawn_moved p q name n wanted l m (Ok x) asks made ok = spawn_moves p q name n wanted l m asks made ok
-spawn_moved p q name n wanted l m (Err e) asks made ok = tt
-
-pub spawn_reached : {X : Type 0} (p q : Progress) (name : List ℕ) (n : ℕ) (wanted : Wanted) (l m : Ledger) (r : Result X NodeFault) → asked p.world name n ≡ Spawn wanted → IsSpawned (run_for wanted) l m
-    → OnOk r (q ≡ on p (events.Tick name n spawns.Made)) → OnErr r (q ≡ p) → Reaches p.world q.world l m
-spawn_reached p q name n wanted l m (Ok x) asks made ok err = reached p.world q.world l m (spawn_moves p q name n wanted l m asks made ok)
-spawn_reached p q name n wanted l m (Err e) asks made ok err =
-    subst (λ (x : Progress). Reaches p.world x.world l m) (sym err) (l, moves_none p.world l, has_spawned (run_for wanted) made)
+pub spawn_answered : (a : SpawnAnswer) (p q : Progress) (name : List ℕ) (n : ℕ) (wanted : Wanted) → asked p.world name n ≡ Spawn wanted → refuses p name n ≡ false → q ≡ on p (events.Tick name n a) → IsAnswered name n p q
+spawn_answered spawns.Made p q name n wanted asks made is = goes (went_made name n p q made is)
+spawn_answered spawns.Refused p q name n wanted asks made is = is_refused (asks_for_spawn p.world name n wanted asks) is
+spawn_answered spawns.NotFollowed p q name n wanted asks made is = is_not_followed (asks_for_spawn p.world name n wanted asks) is
 
 -- ---- a turn without children
 
@@ -121,17 +89,9 @@ pub unmade_moved : {X : Type 0} (p q : Progress) (name : List ℕ) (n : ℕ) (a 
 unmade_moved p q name n a l m (Ok x) h ok same = unmade_moves p q name n a l m h ok same
 unmade_moved p q name n a l m (Err e) h ok same = tt
 
-pub unmade_reached : {X : Type 0} (p q : Progress) (name : List ℕ) (n : ℕ) (a : SpawnAnswer) (l m : Ledger) (r : Result X NodeFault) → IsUnmade (asked p.world name n) a → OnOk r (q ≡ on p (events.Tick name n a)) → OnErr r (q ≡ p) → m ≡ l
-    → Reaches p.world q.world l m
-unmade_reached p q name n a l m r h ok err same = reached_by p q l m r (unmade_moved p q name n a l m r h ok same) err same
-
 pub refused_answered : {X : Type 0} (p q : Progress) (name : List ℕ) (n : ℕ) (r : Result X NodeFault) → asks_spawn (restarter p.world name) n ≡ true → OnOk r (q ≡ on p (events.Tick name n spawns.Refused)) → OnOk r (IsAnswered name n p q)
 refused_answered p q name n (Ok x) asks ok = is_refused asks ok
 refused_answered p q name n (Err e) asks ok = tt
-
-pub not_followed_answered : {X : Type 0} (p q : Progress) (name : List ℕ) (n : ℕ) (r : Result X NodeFault) → asks_spawn (restarter p.world name) n ≡ true → OnOk r (q ≡ on p (events.Tick name n spawns.NotFollowed)) → OnOk r (IsAnswered name n p q)
-not_followed_answered p q name n (Ok x) asks ok = is_not_followed asks ok
-not_followed_answered p q name n (Err e) asks ok = tt
 
 -- ---- a turn as the schedule has it
 
@@ -153,11 +113,13 @@ refused_moved p q name n l m (Ok x) refused ok same =
     (unmade name n spawns.Refused (unmade_refused p name n refused) (ap (λ (x : Progress). x.world) ok ∙ went_refused p name n refused) same)
 refused_moved p q name n l m (Err e) refused ok same = tt
 
-pub answer_is : (a b : SpawnAnswer) (wanted : Wanted) (l m : Ledger) → a ≡ b → HasSpawned a wanted l m → HasSpawned b wanted l m
-answer_is a b wanted l m e h = subst (λ (x : SpawnAnswer). HasSpawned x wanted l m) e h
-
-pub unmade_spawn : (w : World) (name : List ℕ) (n : ℕ) (a : SpawnAnswer) (wanted : Wanted) → asked w name n ≡ Spawn wanted → IsUnmade (Spawn wanted) a → IsUnmade (asked w name n) a
+unmade_spawn : (w : World) (name : List ℕ) (n : ℕ) (a : SpawnAnswer) (wanted : Wanted) → asked w name n ≡ Spawn wanted → IsUnmade (Spawn wanted) a → IsUnmade (asked w name n) a
 unmade_spawn w name n a wanted asks h = unmade_as w name n a (Spawn wanted) (sym asks) h
+
+pub spawn_moves : (a : SpawnAnswer) (p q : Progress) (name : List ℕ) (n : ℕ) (wanted : Wanted) (l m : Ledger) → asked p.world name n ≡ Spawn wanted → HasSpawned a wanted l m → q ≡ on p (events.Tick name n a) → Moves p.world q.world l m
+spawn_moves spawns.Made p q name n wanted l m asks made is = one_move p.world q.world l m (spawned name n wanted asks made (ap (λ (x : Progress). x.world) is))
+spawn_moves spawns.Refused p q name n wanted l m asks made is = unmade_moves p q name n spawns.Refused l m (unmade_spawn p.world name n spawns.Refused wanted asks tt) is made
+spawn_moves spawns.NotFollowed p q name n wanted l m asks made is = unmade_moves p q name n spawns.NotFollowed l m (unmade_spawn p.world name n spawns.NotFollowed wanted asks tt) is made
 
 pub unnumbered : (w : World) (name : List ℕ) (n : ℕ) → Unnumbered ≡ asked w name n → IsUnmade (asked w name n) spawns.Refused
 unnumbered w name n asks = unmade_as w name n spawns.Refused Unnumbered asks tt
@@ -174,7 +136,3 @@ all_alone t u v w a b c = alone_then t v w (alone_then t u v a b) c
 pub turns_move : (t u v w : World) (l m : Ledger) → IsAlone t u → Moves u v l m → IsAlone v w → Moves t w l m
 turns_move t u v w l m own moves sent =
     moves_then t u w l l m (moves_alone t u l l own refl) (moves_then u v w l m m moves (moves_alone v w m m sent refl))
-
-pub turns_moved : {X : Type 0} (t u v w : World) (l m : Ledger) (r : Result X NodeFault) → IsAlone t u → Moves u v l m → IsAlone v w → OnOk r (Moves t w l m)
-turns_moved t u v w l m (Ok x) own moves sent = turns_move t u v w l m own moves sent
-turns_moved t u v w l m (Err e) own moves sent = tt

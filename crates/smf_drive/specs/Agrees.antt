@@ -19,7 +19,6 @@ use Rattle.smf_edge.specs.Ledgers.{Ledger, record_of}
 use Rattle.smf_world.specs.declared.item.Item.{Item}
 use Rattle.smf_world.specs.declared.item.Item.TheVariants.{Spawned}
 use Rattle.smf_world.specs.World.{World}
-use Rattle.smf_drive.specs.Moves.{IsAhead}
 
 -- ---- runs
 
@@ -127,7 +126,3 @@ pub record Agrees (w : World) (l : Ledger) : Type 0 where
   pub noted : IsNoted l.notes w.table.events
   pub past : ArePast l.table l.due
   pub ordered : IsOrdered l.table
-
--- they agree, but that children may be one call ahead
-abbrev pub AgreesUpTo : World → Ledger → Type 0
-AgreesUpTo w l = (k : Ledger) × Agrees w k × IsAhead k l

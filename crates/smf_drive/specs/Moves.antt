@@ -1,9 +1,10 @@
--- A drive, move by move: each is at most one call of the children that changes what they keep, and at most one event.
-use Rattle.std.specs.Prelude.{◌≡◌, ℕ, zero, suc, List, [], ◌∷◌, Bool, true, false, Option, Some, None}
+-- A drive, move by move: each is at most one call of the children that changes what they keep, with the event that it is to the node.
+use Rattle.std.specs.Prelude.{◌≡◌, ℕ, zero, suc, List, [], ◌∷◌, Bool, true, false, Some}
 use Rattle.smf_contract.specs.declared.event.Event.{Event as ContractEvent}
-use Rattle.smf_edge.specs.declared.note.Run.{Run}
 use Rattle.smf_edge.specs.Ledgers.{Ledger}
 use Rattle.smf_edge.specs.Steps.{IsKilled, IsPolled, IsSpawned}
+use Rattle.smf_machine.specs.declared.children.Wanted.{Wanted}
+use Rattle.smf_machine.specs.Children.{happened, news_of, run_for}
 use Rattle.smf_world.specs.declared.event.Event.{Event}
 use Rattle.smf_world.specs.declared.event.Event.TheVariants as events
 use Rattle.smf_world.specs.declared.event.SpawnAnswer.{SpawnAnswer}
@@ -15,10 +16,7 @@ use Rattle.smf_world.specs.Runs.{run}
 use Rattle.smf_world.specs.World.{World}
 use Rattle.smf_drive.specs.declared.asking.Ask.{Ask}
 use Rattle.smf_drive.specs.declared.asking.Ask.TheVariants.{Nothing, Unnumbered, Spawn, Kill}
-use Rattle.smf_drive.specs.declared.asking.Wanted.{Wanted}
-use Rattle.smf_drive.specs.declared.learning.News.{News}
 use Rattle.smf_drive.specs.Asking.{asked}
-use Rattle.smf_drive.specs.Learning.{news_of}
 
 -- an event in which children have no part: no client's command, crash or boot, no turn for an instance, and nothing that
 -- happens to a process
@@ -38,10 +36,6 @@ AllAlone (e ∷ es) = (is_alone e ≡ true) × AllAlone es
 abbrev pub IsAlone : World → World → Type 0
 IsAlone w v = (es : List Event) × AllAlone es × (run es w ≡ v)
 
--- the run that is made for what is asked for
-abbrev pub run_for : Wanted → Run
-run_for w = record { contract = w.contract; cookie = w.cookie; terms = w.terms; command = w.command }
-
 -- a turn that asks nothing of children goes on; one that asks for a spawn may go on without it
 abbrev pub IsUnmade : Ask → SpawnAnswer → Type 0
 IsUnmade Nothing spawns.Made = Unit {0}
@@ -51,10 +45,6 @@ IsUnmade Unnumbered _ = Unit {0}
 IsUnmade (Spawn wanted) spawns.Made = ⊥
 IsUnmade (Spawn wanted) _ = Unit {0}
 IsUnmade (Kill id) a = ⊥
-
-abbrev pub happened : Option News → World → World
-happened None w = w
-happened (Some n) w = happens w (events.Process n.process n.what)
 
 -- one move leads from a world and what children keep to another world and what they keep then
 pub data IsMove (w v : World) (l m : Ledger) : Type 0 where
@@ -71,30 +61,6 @@ AreMoves (suc k) w v l m = (u : World) × (k' : Ledger) × IsMove w u l k' × Ar
 -- moves lead there
 abbrev pub Moves : World → World → Ledger → Ledger → Type 0
 Moves w v l m = (k : ℕ) × AreMoves k w v l m
-
--- the last call of children was made, and memory ran out before its event
-pub data IsAhead (l m : Ledger) : Type 0 where
-  is_same : m ≡ l → IsAhead l m
-  has_spawned : (run : Run) → IsSpawned run l m → IsAhead l m
-  has_killed : (id : ℕ) → IsKilled id l m → IsAhead l m
-  has_polled : (e : ContractEvent) → IsPolled (Some e) l m → IsAhead l m
-
--- moves lead there, but that children may be one call ahead
-abbrev pub Reaches : World → World → Ledger → Ledger → Type 0
-Reaches w v l m = (k : Ledger) × Moves w v l k × IsAhead k m
-
--- ---- calls of children
-
--- what a spawn that had this answer made
-abbrev pub HasSpawned : SpawnAnswer → Wanted → Ledger → Ledger → Type 0
-HasSpawned spawns.Made w l m = IsSpawned (run_for w) l m
-HasSpawned spawns.Refused w l m = m ≡ l
-HasSpawned spawns.NotFollowed w l m = m ≡ l
-
--- what a kill that was done or not made
-abbrev pub HasKilled : Bool → ℕ → Ledger → Ledger → Type 0
-HasKilled true id l m = IsKilled id l m
-HasKilled false id l m = m ≡ l
 
 -- ---- turns without children
 

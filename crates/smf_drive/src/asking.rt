@@ -2,26 +2,13 @@ ghost use Rattle.std.specs.Option.{option_copied};
 ghost use Rattle.std.specs.Prelude.{◌≡◌, find, Some, IfOk};
 ghost use Rattle.smf_drive.specs.Asking.{asked, asked_by, asked_of, first_of, is_held_by, is_holder, is_instance, kill_if, wanted, wanted_in};
 
-use smf_contract::{Contract, Holder, Method, Table, Terms};
+use smf_contract::{Contract, Holder, Table, Terms};
 use smf_fmri::{InstanceFmri, Number};
-use smf_method::Command;
+use smf_machine::Wanted;
 use smf_model::Journal;
 use smf_node::Node;
 use smf_restarter::{Begun, Call, KnownInstance, Restarter};
-use smf_state::Duration;
 use std::alloc::AllocError;
-
-/// A process that is asked for.
-#[derive(Debug, Drop)]
-pub struct Wanted {
-    pub(crate) contract: Number,
-    pub(crate) cookie: u64,
-    pub(crate) style: Duration,
-    pub(crate) terms: Terms,
-    pub(crate) command: Command,
-    pub(crate) method: Method,
-    pub(crate) instance: InstanceFmri,
-}
 
 /// What the turn of a restarter for an instance asks of children.
 #[derive(Debug, Drop)]

@@ -1,7 +1,7 @@
 ghost use Rattle.std.specs.Prelude.{◌≡◌, ◌∷◌, true, IfErr, IfOk, OnOk};
-ghost use Rattle.smf_drive.specs.Agrees.{Agrees, AgreesUpTo};
+ghost use Rattle.smf_drive.specs.Agrees.{Agrees};
 ghost use Rattle.smf_drive.specs.Drives.{HasDriven, IsDriven, MayStop};
-ghost use Rattle.smf_drive.specs.Moves.{IsAlone, Moves, Reaches, is_plain};
+ghost use Rattle.smf_drive.specs.Moves.{IsAlone, Moves, is_plain};
 ghost use Rattle.smf_drive.specs.Rounds.{AreTurns, IsRound, leading_turns};
 ghost use Rattle.smf_world.specs.Safe.{IsSafe};
 ghost use Rattle.smf_world.specs.Schedule.{all_turned, deliveries, launched_names};
@@ -38,8 +38,7 @@ fn lead<J: Journal>(node: &mut Node<J>) -> Result<(), NodeFault>
 /// The turns of the launched restarters.
 fn act<J: Journal, K: Kids>(node: &mut Node<J>, kids: &mut K) -> Result<(), NodeFault>
     ensures ok { OnOk result (AreTurns (launched_names node.old.world) node.old node.new) }
-    ensures moves { OnOk result (Moves node.old.world node.new.world (K.ledger kids.old) (K.ledger kids.new)) }
-    ensures reaches { Reaches node.old.world node.new.world (K.ledger kids.old) (K.ledger kids.new) }
+    ensures moves { Moves node.old.world node.new.world (K.ledger kids.old) (K.ledger kids.new) }
     ensures fault { IfErr result (λ e. MayStop J.write_fails e) }
 {
     let names = node.launched_names()?;
@@ -49,8 +48,7 @@ fn act<J: Journal, K: Kids>(node: &mut Node<J>, kids: &mut K) -> Result<(), Node
 /// A round of the schedule with the answers of children.
 fn round<J: Journal, K: Kids>(node: &mut Node<J>, kids: &mut K) -> Result<(), NodeFault>
     ensures ok { OnOk result (IsRound node.old node.new) }
-    ensures moves { OnOk result (Moves node.old.world node.new.world (K.ledger kids.old) (K.ledger kids.new)) }
-    ensures reaches { Reaches node.old.world node.new.world (K.ledger kids.old) (K.ledger kids.new) }
+    ensures moves { Moves node.old.world node.new.world (K.ledger kids.old) (K.ledger kids.new) }
     ensures fault { IfErr result (λ e. MayStop J.write_fails e) }
 {
     lead(node)?;
@@ -65,8 +63,7 @@ fn drive_rounds<J: Journal, K: Kids>(
     rounds: u64,
 ) -> Result<Settled, NodeFault>
     ensures ok { IfOk result (λ how. HasDriven rounds node.old node.new how) }
-    ensures moves { OnOk result (Moves node.old.world node.new.world (K.ledger kids.old) (K.ledger kids.new)) }
-    ensures reaches { Reaches node.old.world node.new.world (K.ledger kids.old) (K.ledger kids.new) }
+    ensures moves { Moves node.old.world node.new.world (K.ledger kids.old) (K.ledger kids.new) }
     ensures fault { IfErr result (λ e. MayStop J.write_fails e) }
 {
     for _ in 0..rounds {
@@ -81,17 +78,15 @@ fn drive_rounds<J: Journal, K: Kids>(
 
 /// Lets at most so many rounds happen with the answers of children, up to the first that leaves nothing to do. `Limit`
 /// where a restarter has to be launched and cannot be. A fault leaves what was done before the event that failed. Where
-/// children and the node agreed, they agree, but that a fault may leave children one call ahead.
+/// children and the node agreed, they agree, however it ends.
 pub fn drive<J: Journal, K: Kids>(
     node: &mut Node<J>,
     kids: &mut K,
     rounds: u64,
 ) -> Result<Settled, NodeFault>
     ensures ok { IfOk result (λ how. HasDriven rounds node.old node.new how) }
-    ensures moves { OnOk result (Moves node.old.world node.new.world (K.ledger kids.old) (K.ledger kids.new)) }
-    ensures reaches { Reaches node.old.world node.new.world (K.ledger kids.old) (K.ledger kids.new) }
-    ensures agrees { OnOk result (Agrees node.old.world (K.ledger kids.old) → Agrees node.new.world (K.ledger kids.new)) }
-    ensures ahead { Agrees node.old.world (K.ledger kids.old) → AgreesUpTo node.new.world (K.ledger kids.new) }
+    ensures moves { Moves node.old.world node.new.world (K.ledger kids.old) (K.ledger kids.new) }
+    ensures agrees { Agrees node.old.world (K.ledger kids.old) → Agrees node.new.world (K.ledger kids.new) }
     ensures driven { IsDriven node.old.world node.new.world }
     ensures safe { IsSafe node.new.world }
     ensures fault { IfErr result (λ e. MayStop J.write_fails e) }

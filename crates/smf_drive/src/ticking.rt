@@ -3,18 +3,18 @@ ghost use Rattle.smf_drive.specs.Answered.{HasGone, HaveGone, IsAnswered, Ticked
 ghost use Rattle.smf_drive.specs.declared.asking.Ask.TheVariants.{Kill, Spawn};
 ghost use Rattle.smf_drive.specs.Asking.{asked};
 ghost use Rattle.smf_drive.specs.Drives.{MayStop};
-ghost use Rattle.smf_drive.specs.Moves.{HasKilled, HasSpawned, IsAlone, Moves, Reaches, is_plain};
+ghost use Rattle.smf_drive.specs.Moves.{IsAlone, Moves, is_plain};
 ghost use Rattle.smf_drive.specs.Rounds.{AreTurns, IsTurn};
-ghost use Rattle.smf_node.specs.declared.fault.NodeFault.TheVariants.{Memory};
 ghost use Rattle.smf_world.specs.declared.event.Event.TheVariants as events;
 ghost use Rattle.smf_world.specs.declared.schedule.Deed.TheVariants as deeds;
 ghost use Rattle.smf_world.specs.declared.schedule.Turn.TheVariants as turns;
 ghost use Rattle.smf_world.specs.Schedule.{all_turned, asks_spawn, deeds_of, deliveries, on, refuses, turned, went};
 ghost use Rattle.smf_world.specs.Worked.{restarter};
 
-use crate::asking::{Ask, Wanted, ask_of};
-use smf_edge::{Kids, KidsFault};
+use crate::asking::{Ask, ask_of};
+use smf_edge::Kids;
 use smf_fmri::{InstanceFmri, Number};
+use smf_machine::Wanted;
 use smf_model::Journal;
 use smf_node::{Node, NodeFault};
 use smf_world::{Deed, Event, SpawnAnswer, Turn};
@@ -53,47 +53,6 @@ fn go<J: Journal>(node: &mut Node<J>, name: &InstanceFmri, instance: u64) -> Res
     node.go(&deed)
 }
 
-/// Children are asked for a process.
-fn spawn<K: Kids>(
-    kids: &mut K,
-    name: &InstanceFmri,
-    wanted: &Wanted,
-) -> Result<SpawnAnswer, NodeFault>
-    ensures made { IfOk result (λ answer. HasSpawned answer wanted.now (K.ledger kids.old) (K.ledger kids.new)) }
-    ensures err { OnErr result (K.ledger kids.new ≡ K.ledger kids.old) }
-    ensures fault { IfErr result (λ e. e ≡ Memory) }
-{
-    let made = kids.spawn(
-        wanted.contract,
-        wanted.cookie,
-        wanted.style,
-        wanted.terms,
-        &wanted.command,
-        name,
-        wanted.method,
-        &wanted.instance,
-    );
-    match made {
-        Ok(()) => Ok(SpawnAnswer::Made),
-        Err(KidsFault::NotFollowed) => Ok(SpawnAnswer::NotFollowed),
-        Err(KidsFault::Memory) => Err(NodeFault::Memory),
-        Err(_) => Ok(SpawnAnswer::Refused),
-    }
-}
-
-/// Children are asked to end the members of a contract. Says whether they did.
-fn kill<K: Kids>(kids: &mut K, id: Number) -> Result<bool, NodeFault>
-    ensures killed { IfOk result (λ did. HasKilled did id (K.ledger kids.old) (K.ledger kids.new)) }
-    ensures err { OnErr result (K.ledger kids.new ≡ K.ledger kids.old) }
-    ensures fault { IfErr result (λ e. e ≡ Memory) }
-{
-    match kids.kill(id) {
-        Ok(()) => Ok(true),
-        Err(KidsFault::Memory) => Err(NodeFault::Memory),
-        Err(_) => Ok(false),
-    }
-}
-
 /// What children answer to a spawn, and the turn with that answer.
 fn tick_spawn<J: Journal, K: Kids>(
     node: &mut Node<J>,
@@ -105,15 +64,11 @@ fn tick_spawn<J: Journal, K: Kids>(
     requires asks { asked node.old.world name.now instance ≡ Spawn wanted.now }
     requires made { refuses node.old name.now instance ≡ false }
     ensures ok { OnOk result (IsAnswered name.now instance node.old node.new) }
-    ensures moves { OnOk result (Moves node.old.world node.new.world (K.ledger kids.old) (K.ledger kids.new)) }
-    ensures reaches { Reaches node.old.world node.new.world (K.ledger kids.old) (K.ledger kids.new) }
+    ensures moves { Moves node.old.world node.new.world (K.ledger kids.old) (K.ledger kids.new) }
     ensures fault { IfErr result (λ e. MayStop J.write_fails e) }
 {
-    match spawn(kids, name, wanted)? {
-        SpawnAnswer::Made => step(node, name, instance, SpawnAnswer::Made),
-        SpawnAnswer::Refused => step(node, name, instance, SpawnAnswer::Refused),
-        SpawnAnswer::NotFollowed => step(node, name, instance, SpawnAnswer::NotFollowed),
-    }
+    node.spawn(kids, name, instance, wanted)?;
+    Ok(())
 }
 
 /// What children answer to a kill, and the turn where they did it. Else it is owed again.
@@ -127,15 +82,11 @@ fn tick_kill<J: Journal, K: Kids>(
     requires asks { asked node.old.world name.now instance ≡ Kill id }
     requires made { refuses node.old name.now instance ≡ false }
     ensures ok { OnOk result (IsAnswered name.now instance node.old node.new) }
-    ensures moves { OnOk result (Moves node.old.world node.new.world (K.ledger kids.old) (K.ledger kids.new)) }
-    ensures reaches { Reaches node.old.world node.new.world (K.ledger kids.old) (K.ledger kids.new) }
+    ensures moves { Moves node.old.world node.new.world (K.ledger kids.old) (K.ledger kids.new) }
     ensures fault { IfErr result (λ e. MayStop J.write_fails e) }
 {
-    if kill(kids, id)? {
-        go(node, name, instance)
-    } else {
-        Ok(())
-    }
+    node.kill(kids, name, instance, id)?;
+    Ok(())
 }
 
 /// The turn of a restarter for an instance, in which the schedule refuses no spawn.
@@ -147,8 +98,7 @@ fn tick_asking<J: Journal, K: Kids>(
 ) -> Result<(), NodeFault>
     requires { refuses node.old name.now instance ≡ false }
     ensures ok { OnOk result (IsAnswered name.now instance node.old node.new) }
-    ensures moves { OnOk result (Moves node.old.world node.new.world (K.ledger kids.old) (K.ledger kids.new)) }
-    ensures reaches { Reaches node.old.world node.new.world (K.ledger kids.old) (K.ledger kids.new) }
+    ensures moves { Moves node.old.world node.new.world (K.ledger kids.old) (K.ledger kids.new) }
     ensures fault { IfErr result (λ e. MayStop J.write_fails e) }
 {
     match ask_of(node, name, instance)? {
@@ -167,8 +117,7 @@ fn tick_one<J: Journal, K: Kids>(
     instance: u64,
 ) -> Result<(), NodeFault>
     ensures ok { OnOk result (TickedIf (refuses node.old name.now instance) name.now instance node.old node.new) }
-    ensures moves { OnOk result (Moves node.old.world node.new.world (K.ledger kids.old) (K.ledger kids.new)) }
-    ensures reaches { Reaches node.old.world node.new.world (K.ledger kids.old) (K.ledger kids.new) }
+    ensures moves { Moves node.old.world node.new.world (K.ledger kids.old) (K.ledger kids.new) }
     ensures fault { IfErr result (λ e. MayStop J.write_fails e) }
 {
     if node.refuses(name, instance)? {
@@ -181,8 +130,7 @@ fn tick_one<J: Journal, K: Kids>(
 /// A deed of the turns of a restarter for its instances.
 fn tick<J: Journal, K: Kids>(node: &mut Node<J>, kids: &mut K, deed: &Deed) -> Result<(), NodeFault>
     ensures ok { OnOk result (HasGone deed.now node.old node.new) }
-    ensures moves { OnOk result (Moves node.old.world node.new.world (K.ledger kids.old) (K.ledger kids.new)) }
-    ensures reaches { Reaches node.old.world node.new.world (K.ledger kids.old) (K.ledger kids.new) }
+    ensures moves { Moves node.old.world node.new.world (K.ledger kids.old) (K.ledger kids.new) }
     ensures fault { IfErr result (λ e. MayStop J.write_fails e) }
 {
     match deed {
@@ -205,8 +153,7 @@ fn tick_all<J: Journal, K: Kids>(
     deeds: &[Deed],
 ) -> Result<(), NodeFault>
     ensures ok { OnOk result (HaveGone deeds.now node.old node.new) }
-    ensures moves { OnOk result (Moves node.old.world node.new.world (K.ledger kids.old) (K.ledger kids.new)) }
-    ensures reaches { Reaches node.old.world node.new.world (K.ledger kids.old) (K.ledger kids.new) }
+    ensures moves { Moves node.old.world node.new.world (K.ledger kids.old) (K.ledger kids.new) }
     ensures fault { IfErr result (λ e. MayStop J.write_fails e) }
 {
     for deed in deeds {
@@ -222,8 +169,7 @@ fn ticks<J: Journal, K: Kids>(
     name: &InstanceFmri,
 ) -> Result<(), NodeFault>
     ensures ok { OnOk result (HaveGone (deeds_of node.old (turns.Ticks name.now)) node.old node.new) }
-    ensures moves { OnOk result (Moves node.old.world node.new.world (K.ledger kids.old) (K.ledger kids.new)) }
-    ensures reaches { Reaches node.old.world node.new.world (K.ledger kids.old) (K.ledger kids.new) }
+    ensures moves { Moves node.old.world node.new.world (K.ledger kids.old) (K.ledger kids.new) }
     ensures fault { IfErr result (λ e. MayStop J.write_fails e) }
 {
     let deeds = node.deeds_of(&Turn::Ticks(name.clone()?))?;
@@ -269,8 +215,7 @@ fn turns_of<J: Journal, K: Kids>(
     name: &InstanceFmri,
 ) -> Result<(), NodeFault>
     ensures ok { OnOk result (IsTurn name.now node.old node.new) }
-    ensures moves { OnOk result (Moves node.old.world node.new.world (K.ledger kids.old) (K.ledger kids.new)) }
-    ensures reaches { Reaches node.old.world node.new.world (K.ledger kids.old) (K.ledger kids.new) }
+    ensures moves { Moves node.old.world node.new.world (K.ledger kids.old) (K.ledger kids.new) }
     ensures fault { IfErr result (λ e. MayStop J.write_fails e) }
 {
     own_turn(node, name)?;
@@ -285,8 +230,7 @@ pub(crate) fn turns_of_all<J: Journal, K: Kids>(
     names: &[InstanceFmri],
 ) -> Result<(), NodeFault>
     ensures ok { OnOk result (AreTurns names.now node.old node.new) }
-    ensures moves { OnOk result (Moves node.old.world node.new.world (K.ledger kids.old) (K.ledger kids.new)) }
-    ensures reaches { Reaches node.old.world node.new.world (K.ledger kids.old) (K.ledger kids.new) }
+    ensures moves { Moves node.old.world node.new.world (K.ledger kids.old) (K.ledger kids.new) }
     ensures fault { IfErr result (λ e. MayStop J.write_fails e) }
 {
     for name in names {

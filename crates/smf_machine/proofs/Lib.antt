@@ -7,3 +7,6 @@ pub mod Asking
 pub mod Reaching
 pub mod Booting
 pub mod Keeping
+pub mod Emptying
+pub mod Telling
+pub mod Turned

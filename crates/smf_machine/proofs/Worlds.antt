@@ -13,9 +13,8 @@ use Rattle.smf_world.specs.declared.item.Item.{Item}
 use Rattle.smf_world.specs.declared.work.Work.{Work}
 use Rattle.smf_world.specs.Happens.{done}
 use Rattle.smf_world.specs.World.{World}
-use Rattle.smf_machine.specs.declared.installing.Rest.{Rest}
 use Rattle.smf_machine.specs.declared.parts.Parts.{Parts}
-use Rattle.smf_machine.specs.Install.{IsInstalled, IsSame}
+use Rattle.smf_machine.specs.Install.{IsInstalled, IsSame, rest_of}
 use Rattle.smf_machine.specs.Lists.{AtMostOne}
 use Rattle.smf_machine.specs.Parts.{world_of}
 
@@ -31,7 +30,7 @@ pub same_world : (h k : Holdings) (p q : Parts) → k ≡ h → IsSame p q → w
 unfolding world_of
 same_world h k p q e s = world_is _ _ _ _ _ _ _ _ _ _ _ _ _ _ _ _ s.first (ap reverse s.commands) e s.restarters s.seen s.table (ap reverse s.messages) (ap reverse s.trail)
 
-behind : {A : Type 0} (xs zs ys : List A) → ys ≡ xs ++ zs → reverse ys ≡ reverse zs ++ reverse xs
+pub behind : {A : Type 0} (xs zs ys : List A) → ys ≡ xs ++ zs → reverse ys ≡ reverse zs ++ reverse xs
 behind xs zs ys e = ap reverse e ∙ reverse-append xs zs
 
 -- a list of one at most is itself turned round
@@ -39,9 +38,6 @@ one_reversed : {A : Type 0} (xs : List A) → AtMostOne xs → reverse xs ≡ xs
 one_reversed [] h = refl
 one_reversed (x ∷ []) h = refl
 one_reversed (x ∷ y ∷ ys) h = absurd h
-
-abbrev rest_of : Work → Rest
-rest_of w = record { command = w.command; items = w.items; messages = w.messages; becomes = w.becomes; seen = w.seen; forgets = w.forgets; call = w.call }
 
 -- room was made, the changes were made of what is held, and the rest was installed
 pub done_is : (h k : Holdings) (p m q : Parts) (w : Work) → IsSame p m → k ≡ installed h w.changes → IsInstalled m q (rest_of w) → AtMostOne w.command → world_of k q ≡ done (world_of h p) w

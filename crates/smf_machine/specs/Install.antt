@@ -1,5 +1,5 @@
 -- Room for what an event makes, and what is made of it.
-use Rattle.std.specs.Prelude.{◌≡◌, ℕ, ◌+◌, ◌<◌, ◌≤◌, List, [], ◌∷◌, ◌++◌, length, map, position, reverse, slice_get, vec_capacity, vec_len, true, Option, Some}
+use Rattle.std.specs.Prelude.{◌≡◌, ℕ, ◌+◌, ◌<◌, ◌≤◌, List, [], ◌∷◌, ◌++◌, length, map, position, reverse, slice_get, vec_capacity, vec_len, Bool, true, false, Option, Some}
 use Rattle.smf_contract.specs.Called.{called}
 use Rattle.smf_model.specs.Holdings.{Holdings}
 use Rattle.smf_model.specs.Laws.{IsNumbered}
@@ -65,6 +65,19 @@ pub record HasRoomLeft (p : Parts) (k : Rest) : Type 0 where
   pub becomes : RoomForAll k.becomes p.restarters.items
   pub call : p.table.room ≡ true
 
+-- what is left of a work when the repository has committed
+abbrev pub rest_of : Work → Rest
+rest_of k =
+    record {
+      command = k.command;
+      items = k.items;
+      messages = k.messages;
+      becomes = k.becomes;
+      seen = k.seen;
+      forgets = k.forgets;
+      call = k.call;
+    }
+
 -- ---- what can be installed
 
 -- names are apart, and there is one command at most, and one thing that becomes of the restarters
@@ -91,3 +104,8 @@ pub record IsInstalled (p q : Parts) (k : Rest) : Type 0 where
   pub messages : q.messages.items ≡ p.messages.items ++ k.messages
   pub trail : q.trail.items ≡ p.trail.items ++ k.items
   pub table : q.table.table ≡ called p.table.table k.call
+
+-- it was made, or nothing was
+abbrev pub IsInstalledIf : Bool → Parts → Parts → Rest → Type 0
+IsInstalledIf true p q k = IsInstalled p q k
+IsInstalledIf false p q k = q ≡ p

@@ -4,3 +4,4 @@ pub mod Lists
 pub mod Faults
 pub mod Install
 pub mod Done
+pub mod Children

@@ -59,7 +59,7 @@ fn row_item(instance: &Instance) -> Item
     ensures { result ≡ row_item instance.now }
 {
     Item::Committed {
-        instance: instance.number,
+        instance: instance.number.get(),
         number: instance.row.number,
         state: instance.row.state,
         next: instance.row.next,
@@ -143,7 +143,7 @@ impl<J: Journal> System<J> {
         match change {
             Change::AddInstance(entry) => Some(row_item(&entry.instance)),
             Change::PutInstance(instance) => {
-                let before = self.row_number(instance.number);
+                let before = self.row_number(instance.number.get());
                 row_beside(before, instance)
             }
             _ => None,

@@ -20,7 +20,7 @@ fn known_of(instance: &Instance) -> Result<Known, AllocError>
     let name = instance.name.clone()?;
     let row = instance.row.clone()?;
     Ok(Known {
-        instance: instance.number,
+        instance: instance.number.get(),
         name,
         row,
     })

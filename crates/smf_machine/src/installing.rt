@@ -2,7 +2,7 @@ ghost use Rattle.std.specs.Prelude.{◌≡◌, ◌∷◌, ◌++◌, ◌<◌, [],
 ghost use Rattle.smf_engine.specs.Orders.{newer};
 ghost use Rattle.smf_machine.specs.Faults.{IsUndone};
 ghost use Rattle.smf_machine.specs.Given.{is_named_kept};
-ghost use Rattle.smf_machine.specs.Install.{CanInstall, HasRoomLeft, IsInstalled, IsSingle, RoomFor, RoomForAll, RoomOf};
+ghost use Rattle.smf_machine.specs.Install.{CanInstall, HasRoomLeft, IsInstalled, IsInstalledIf, IsSame, IsSingle, RoomFor, RoomForAll, RoomOf, rest_of};
 ghost use Rattle.smf_machine.specs.Lists.{AtMostOne, NoTwins};
 ghost use Rattle.smf_machine.specs.Parts.{knowledge, world_of};
 ghost use Rattle.smf_restarter.specs.Knowledge.{at_first};
@@ -20,7 +20,7 @@ use smf_model::{Command, Journal, Plain, Reply, View};
 use smf_restarter::{Change, Restarter};
 use smf_wire::Message;
 use smf_world::{Becomes, Item, Work};
-use std::alloc::Global;
+use std::alloc::{AllocError, Global};
 
 /// What an event makes, the repository aside.
 #[derive(Debug, Drop)]
@@ -143,6 +143,45 @@ fn install(alloc: Global, parts: &mut Parts, work: Rest)
     parts.commands.append(&mut command.into_vec()).unwrap();
     parts.trail.append(&mut items.into_vec()).unwrap();
     parts.messages.append(&mut messages.into_vec()).unwrap();
+}
+
+/// Makes room for all that is left of a work, which can then be installed.
+pub(crate) fn prepare(parts: &mut Parts, work: Work) -> Result<Rest, AllocError>
+    ensures same { IsSame parts.old parts.new }
+    ensures rest { IfOk result (λ rest. rest ≡ rest_of work) }
+    ensures room { IfOk result (λ rest. HasRoomLeft parts.new rest) }
+{
+    make_room(parts, &work)?;
+    let Work {
+        command,
+        items,
+        messages,
+        becomes,
+        seen,
+        forgets,
+        call,
+        ..
+    } = work;
+    Ok(Rest {
+        command,
+        items,
+        messages,
+        becomes,
+        seen,
+        forgets,
+        call,
+    })
+}
+
+/// Makes what is left, for which there is room, or nothing.
+pub(crate) fn install_if(alloc: Global, parts: &mut Parts, rest: Rest, is_made: bool)
+    requires room { HasRoomLeft parts.old rest }
+    requires single { IsSingle (map knowledge parts.old.restarters.items) rest }
+    ensures { IsInstalledIf is_made parts.old parts.new rest }
+{
+    if is_made {
+        install(alloc, parts, rest);
+    }
 }
 
 /// Makes what an event makes: room first, then the repository commits, and what is left cannot fail.

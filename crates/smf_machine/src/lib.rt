@@ -1,18 +1,24 @@
 //! The machine: what happens to it is worked out first, and then installed. Room is made before anything changes, the
-//! repository commits, and what is left to do cannot fail.
+//! repository commits, and what is left to do cannot fail. So children are called once there is room for what comes of it.
 //! Modules: `parts` (the actors, seen as the world), `commanding` (what a command makes), `replying` (what the reply of
-//! a restarter makes), `delivering` (messages), `working` (events), `room`, `installing`, `machine`, `fault`.
+//! a restarter makes), `delivering` (messages), `working` (events), `room`, `installing`, `children` (their calls),
+//! `hearing` (what they tell), `turning` (turns with their answers), `machine`, `fault`.
 #![tactic(auto)]
 
+mod children;
 mod commanding;
 mod delivering;
 mod fault;
+mod hearing;
 mod installing;
 mod machine;
 mod parts;
 mod replying;
 mod room;
+mod turning;
 mod working;
 
+pub use children::Wanted;
 pub use fault::MachineFault;
+pub use hearing::News;
 pub use machine::Machine;

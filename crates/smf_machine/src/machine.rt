@@ -1,5 +1,7 @@
 ghost use Rattle.std.specs.Prelude.{◌≡◌, map, option_map, reverse, IfErr, IfOk, OnErr, OnOk};
 ghost use Rattle.std.specs.Option.{option_copied};
+ghost use Rattle.smf_machine.specs.Children.{HasGiven, HasKilled, HasSpawned, happens_if, heard};
+ghost use Rattle.smf_machine.specs.declared.fault.MachineFault.TheVariants.{Memory};
 ghost use Rattle.smf_machine.specs.Faults.{IsUnbooted, IsUndone};
 ghost use Rattle.smf_machine.specs.Done.{IsDone};
 ghost use Rattle.smf_machine.specs.Lists.{NoTwins};
@@ -9,21 +11,24 @@ ghost use Rattle.smf_model.specs.declared.command.Reply.TheVariants.{Done};
 ghost use Rattle.smf_model.specs.Laws.{IsNumbered};
 ghost use Rattle.smf_model.specs.Next.{next};
 ghost use Rattle.smf_world.specs.declared.event.Event.TheVariants as events;
+ghost use Rattle.smf_world.specs.declared.event.SpawnAnswer.TheVariants as spawns;
 ghost use Rattle.smf_world.specs.Happens.{happens};
 ghost use Rattle.smf_world.specs.Reached.{IsReached};
 ghost use Rattle.smf_world.specs.Safe.{IsSafe};
 ghost use Rattle.smf_world.specs.Worked.{restarter, worked};
 ghost use Rattle.smf_world.specs.World.{found};
 
+use crate::children::Wanted;
 use crate::commanding::is_done;
 use crate::fault::MachineFault;
 use crate::parts::{System, parts_of};
-use smf_contract::Table;
-use smf_fmri::{InstanceFmri, Items};
+use smf_contract::{Event as ContractEvent, Table};
+use smf_edge::Kids;
+use smf_fmri::{InstanceFmri, Items, Number};
 use smf_model::{Journal, Plain, Reply};
 use smf_restarter::Restarter;
 use smf_wire::Message;
-use smf_world::{Event, Item};
+use smf_world::{Event, Item, SpawnAnswer};
 use std::alloc::Global;
 use std::marker::Model;
 
@@ -65,7 +70,7 @@ impl<J: Journal> System<J> {
 
     /// An event happens.
     #[tactic(auto, unfolding(smf_world::specs::Happens::happens))]
-    fn happen(&mut self, event: &Event) -> Result<Items<Reply>, MachineFault>
+    pub(crate) fn happen(&mut self, event: &Event) -> Result<Items<Reply>, MachineFault>
         requires { IsReached self.old }
         ensures ok { IfOk result (λ r. IsDone self.old event.now self.new r) }
         ensures err { OnErr result (self.new ≡ self.old) }
@@ -109,6 +114,54 @@ impl<J: Journal> Machine<J> {
         ensures fault { IfErr result (λ e. IsUndone J.write_fails (worked self.old event.now).changes e) }
     {
         self.system.happen(event)
+    }
+
+    /// A restarter has its turn for an instance, with what children answer to the spawn that it asks for. They are asked
+    /// once there is room for a process that they make: a fault leaves both as they were.
+    pub fn spawn<K: Kids>(
+        &mut self,
+        kids: &mut K,
+        name: &InstanceFmri,
+        instance: u64,
+        wanted: &Wanted,
+    ) -> Result<SpawnAnswer, MachineFault>
+        ensures made { IfOk result (λ answer. self.new ≡ happens self.old (events.Tick name.now instance answer)) }
+        ensures spawned { IfOk result (λ answer. HasSpawned answer wanted.now (K.ledger kids.old) (K.ledger kids.new)) }
+        ensures err { OnErr result (self.new ≡ self.old) }
+        ensures kept { OnErr result (K.ledger kids.new ≡ K.ledger kids.old) }
+        ensures fault { IfErr result (λ e. e ≡ Memory) }
+    {
+        self.system.spawn(kids, name, instance, wanted)
+    }
+
+    /// A restarter has its turn for an instance, where children make the kill that it asks for; says whether they did.
+    /// They are asked once there is room: a fault leaves both as they were.
+    pub fn kill<K: Kids>(
+        &mut self,
+        kids: &mut K,
+        name: &InstanceFmri,
+        instance: u64,
+        id: Number,
+    ) -> Result<bool, MachineFault>
+        ensures made { IfOk result (λ did. self.new ≡ happens_if did self.old (events.Tick name.now instance spawns.Made)) }
+        ensures killed { IfOk result (λ did. HasKilled did id (K.ledger kids.old) (K.ledger kids.new)) }
+        ensures err { OnErr result (self.new ≡ self.old) }
+        ensures kept { OnErr result (K.ledger kids.new ≡ K.ledger kids.old) }
+        ensures fault { IfErr result (λ e. e ≡ Memory) }
+    {
+        self.system.kill(kids, name, instance, id)
+    }
+
+    /// Children are asked for an event once there is room for it; it happens, and is given back. There is none where
+    /// their device fails. A fault leaves both as they were.
+    pub fn hear<K: Kids>(&mut self, kids: &mut K) -> Result<Option<ContractEvent>, MachineFault>
+        ensures heard { IfOk result (λ event. self.new ≡ heard event self.old) }
+        ensures given { IfOk result (λ event. HasGiven event (K.ledger kids.old) (K.ledger kids.new)) }
+        ensures err { OnErr result (self.new ≡ self.old) }
+        ensures kept { OnErr result (K.ledger kids.new ≡ K.ledger kids.old) }
+        ensures fault { IfErr result (λ e. e ≡ Memory) }
+    {
+        self.system.hear(kids)
     }
 
     /// The repository.

@@ -35,7 +35,8 @@ fn order_messages(alloc: Global, orders: Items<Order>) -> Result<Items<Message>,
     Ok(all)
 }
 
-fn process_call(process: Number, what: ProcessEvent) -> ContractCall
+/// The call that something that happens to a process is.
+pub(crate) fn process_call(process: Number, what: ProcessEvent) -> ContractCall
     ensures { result ≡ process_call process what }
 {
     match what {

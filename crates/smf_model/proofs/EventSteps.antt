@@ -264,10 +264,10 @@ keep_for_now : (n : ℕ) (r : Row) (h : Holdings) (m : ℕ) (g : Result GroupRec
 keep_for_now n r h m (Err fault) = tt
 keep_for_now n r h m (Ok g) = keeps_either n r (has_room h (owners.Instance m) general_ovr general_ovr) _ _ (keeps_accepted n r h (group_put h (owners.Instance m) g ∷ []) Done tt) tt
 
-keep_enable : (n : ℕ) (r : Row) (h : Holdings) (m : ℕ) (b temporary : Bool) (o : Option Instance) → Keeps n r (asked_enable h m b temporary o).changes
-keep_enable n r h m b temporary None = tt
-keep_enable n r h m b false (Some i) = keep_for_good n r h m _
-keep_enable n r h m b true (Some i) = keep_for_now n r h m _
+keep_enable : (n : ℕ) (r : Row) (h : Holdings) (b temporary : Bool) (o : Option Instance) → Keeps n r (asked_enable h b temporary o).changes
+keep_enable n r h b temporary None = tt
+keep_enable n r h b false (Some i) = keep_for_good n r h i.number _
+keep_enable n r h b true (Some i) = keep_for_now n r h i.number _
 
 -- ---- what is asked of an instance, and reverts
 
@@ -312,7 +312,7 @@ keep_edit n h before (asked_for.AddGroup owner name group_type p) there new othe
 keep_edit n h before (asked_for.DeleteGroup owner name) there new other = keep_guarded n before.row h owner name _ (keep_delete_group n before.row h owner name (group h owner name))
 keep_edit n h before (asked_for.Property owner name change) there new other =
     keep_guarded n before.row h owner name _ (keep_change_group n before.row h owner change (group h owner name))
-keep_edit n h before (asked_for.Enable m b temporary) there new other = keep_enable n before.row h m b temporary (found h m)
+keep_edit n h before (asked_for.Enable m b temporary) there new other = keep_enable n before.row h b temporary (found h m)
 keep_edit n h before (asked_for.Restart m) there new other =
     by_found h m (λ o. Keeps n before.row (asked_restart h o).changes) tt (λ (i : Instance) f. keep_if n h before m i (runs i.row.state) 16 there f)
 keep_edit n h before (asked_for.Refresh m) there new other = absurd (other m refl)

@@ -258,10 +258,10 @@ asked_for_good h n b = enabled_for_good h n (group_enabled b (group_or_new h n g
 abbrev pub asked_for_now : Holdings → ℕ → Bool → Asked
 asked_for_now h n b = enabled_for_now h n (group_enabled b (group_or_new h n general_ovr true))
 
-abbrev pub asked_enable : Holdings → ℕ → Bool → Bool → Option Instance → Asked
-asked_enable h n b temporary None = refused NoSuch
-asked_enable h n b false (Some i) = asked_for_good h n b
-asked_enable h n b true (Some i) = asked_for_now h n b
+abbrev pub asked_enable : Holdings → Bool → Bool → Option Instance → Asked
+asked_enable h b temporary None = refused NoSuch
+asked_enable h b false (Some i) = asked_for_good h i.number b
+asked_enable h b true (Some i) = asked_for_now h i.number b
 
 -- ---- what is asked of an instance
 
@@ -419,7 +419,7 @@ asked_edit h (asked_for.DeleteInstance n) = asked_delete_instance h (found h n)
 asked_edit h (asked_for.AddGroup owner name group_type p) = asked_add_group h owner (new_group name group_type p)
 asked_edit h (asked_for.DeleteGroup owner name) = asked_delete_group h owner name
 asked_edit h (asked_for.Property owner name change) = asked_property h owner name change
-asked_edit h (asked_for.Enable n b temporary) = asked_enable h n b temporary (found h n)
+asked_edit h (asked_for.Enable n b temporary) = asked_enable h b temporary (found h n)
 asked_edit h (asked_for.Restart n) = asked_restart h (found h n)
 asked_edit h (asked_for.Refresh n) = asked_refresh h (found h n)
 asked_edit h (asked_for.Clear n) = asked_clear h (found h n)
@@ -449,10 +449,15 @@ stale h r p =
     else if is_other_snapshot r p.step then Some whys.Snapshot
     else None
 
+-- the number of a snapshot, which is below 2^63
+abbrev pub snapshot_in : Option ℕ → Option ℕ
+snapshot_in None = None
+snapshot_in (Some n) = if nat_le n 0x7fff_ffff_ffff_ffff then Some n else None
+
 -- a start that succeeded was by the snapshot with which it began
 abbrev pub started_by : Row → Row → Option ℕ → Option ℕ
 started_by before after start =
-    if same_state before.state Offline && same_state after.state Online then after.begun else start
+    if same_state before.state Offline && same_state after.state Online then snapshot_in after.begun else start
 
 abbrev pub with_row : Instance → Row → Instance
 with_row i row = record i { row = row; start = started_by i.row row i.start }

@@ -1,12 +1,12 @@
 ghost use Rattle.std.specs.Prelude.{◌≡◌, ◌==◌, ◌+◌, IfOk, Some, None};
 ghost use Rattle.smf_model.specs.Next.{answer, answer_at, fresh_answer, granted, is_again, is_other_snapshot};
-ghost use Rattle.smf_model.specs.Next.{is_running, refused, stale, started_by, takes_running, with_row};
+ghost use Rattle.smf_model.specs.Next.{is_running, refused, snapshot_in, stale, started_by, takes_running, with_row};
 
 use crate::change::Change;
 use crate::command::{Reply, Why};
 use crate::held::Instance;
 use crate::planner::{Asked, Planner};
-use smf_fmri::Items;
+use smf_fmri::{Items, Number};
 use smf_state::{Proposal, Row, State, Step, StepFault};
 
 /// The proposal that was granted last.
@@ -40,12 +40,22 @@ fn is_next_number(before: u64, number: u64) -> bool
     before.checked_add(1) == Some(number)
 }
 
+/// The number of a snapshot, which is below 2^63.
+fn snapshot_in(number: Option<u64>) -> Option<Number>
+    ensures { result ≡ snapshot_in number }
+{
+    match number {
+        None => None,
+        Some(number) => Number::new(number),
+    }
+}
+
 /// A start that succeeded was by the snapshot with which it began.
-fn started_by(before: &Row, after: &Row, start: Option<u64>) -> Option<u64>
+fn started_by(before: &Row, after: &Row, start: Option<Number>) -> Option<Number>
     ensures { result ≡ started_by before.now after.now start }
 {
     if before.state == State::Offline && after.state == State::Online {
-        after.begun
+        snapshot_in(after.begun)
     } else {
         start
     }

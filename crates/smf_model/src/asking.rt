@@ -121,8 +121,8 @@ impl Planner<'_> {
         requires { self.now.next_instance ≤ greatest_instance }
         ensures { IfOk result (λ all. all ≡ joining self.now name) }
     {
-        let number = self.tables.next_instance().get();
-        let next = Number::new(number + 1).unwrap();
+        let number = self.tables.next_instance();
+        let next = Number::new(number.get() + 1).unwrap();
         let entry = InstanceName {
             name: name.clone()?,
             number,
@@ -162,7 +162,7 @@ impl Planner<'_> {
     {
         match owner {
             Owner::Service(name) => self.tables.service(name).is_some(),
-            Owner::Instance(number) => self.tables.instance(*number).is_some(),
+            Owner::Instance(number) => self.tables.instance(number.get()).is_some(),
         }
     }
 

@@ -15,14 +15,14 @@ pub enum Change {
     /// In place of the instance of this number, which keeps its groups.
     PutInstance(Instance),
     /// An instance with its groups.
-    DropInstance(u64),
+    DropInstance(Number),
     PutName(InstanceName),
     DropName(InstanceFmri),
     /// In place of all groups of an owner.
     PutGroups(Owner, Ordered<Group>),
     AddSnapshot(Snapshot),
     /// All snapshots of an instance.
-    DropSnapshots(u64),
+    DropSnapshots(Number),
     /// In place of the launch of this restarter.
     PutLaunch(Launch),
     NextInstance(Number),

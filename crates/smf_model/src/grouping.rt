@@ -12,7 +12,7 @@ use crate::change::Change;
 use crate::command::{PropertyChange, Reply};
 use crate::held::Owner;
 use crate::planner::{Asked, Planner};
-use smf_fmri::Ordered;
+use smf_fmri::{Number, Ordered};
 use smf_value::{Group, GroupFault, GroupFlags, Name, Property, Value};
 use std::alloc::{AllocError, Global};
 
@@ -195,7 +195,7 @@ impl Planner<'_> {
     /// The group of a name of an instance, or a new one of type framework.
     fn group_or_new(
         &self,
-        number: u64,
+        number: Number,
         name: Name,
         non_persistent: bool,
     ) -> Result<Group, AllocError>
@@ -212,7 +212,7 @@ impl Planner<'_> {
     }
 
     /// Enables or disables an instance for good: `general/enabled`, and no `general_ovr`.
-    fn enable_for_good(&self, number: u64, enabled: bool) -> Asked
+    fn enable_for_good(&self, number: Number, enabled: bool) -> Asked
         ensures { IfOk result (λ r. r ≡ asked_for_good self.now number enabled) }
     {
         let name = Name::new(self.alloc, "general")?;
@@ -224,7 +224,7 @@ impl Planner<'_> {
         }
     }
 
-    fn put_for_good(&self, number: u64, general: Group) -> Asked
+    fn put_for_good(&self, number: Number, general: Group) -> Asked
         ensures { IfOk result (λ r. r ≡ enabled_for_good self.now number (Ok general)) }
     {
         let owner = Owner::Instance(number);
@@ -247,7 +247,7 @@ impl Planner<'_> {
     }
 
     /// Enables or disables an instance until the next boot: `general_ovr/enabled`.
-    fn enable_for_now(&self, number: u64, enabled: bool) -> Asked
+    fn enable_for_now(&self, number: Number, enabled: bool) -> Asked
         ensures { IfOk result (λ r. r ≡ asked_for_now self.now number enabled) }
     {
         let name = Name::new(self.alloc, "general_ovr")?;
@@ -255,7 +255,7 @@ impl Planner<'_> {
         self.write_for_now(number, present, enabled)
     }
 
-    fn write_for_now(&self, number: u64, present: Group, enabled: bool) -> Asked
+    fn write_for_now(&self, number: Number, present: Group, enabled: bool) -> Asked
         ensures { IfOk result (λ r. r ≡ enabled_for_now self.now number (group_enabled enabled present)) }
     {
         match with_enabled(self.alloc, present, enabled) {
@@ -265,7 +265,7 @@ impl Planner<'_> {
         }
     }
 
-    fn put_for_now(&self, number: u64, ovr: Group) -> Asked
+    fn put_for_now(&self, number: Number, ovr: Group) -> Asked
         ensures { IfOk result (λ r. r ≡ enabled_for_now self.now number (Ok ovr)) }
     {
         let owner = Owner::Instance(number);
@@ -276,12 +276,12 @@ impl Planner<'_> {
     }
 
     pub(crate) fn enable(&self, number: u64, enabled: bool, temporary: bool) -> Asked
-        ensures { IfOk result (λ r. r ≡ asked_enable self.now number enabled temporary (found self.now number)) }
+        ensures { IfOk result (λ r. r ≡ asked_enable self.now enabled temporary (found self.now number)) }
     {
         match self.found(number)? {
             None => self.refused(Reply::NoSuch),
-            Some(_) if temporary => self.enable_for_now(number, enabled),
-            Some(_) => self.enable_for_good(number, enabled),
+            Some(instance) if temporary => self.enable_for_now(instance.number, enabled),
+            Some(instance) => self.enable_for_good(instance.number, enabled),
         }
     }
 }

@@ -11,7 +11,7 @@ use std::alloc::AllocError;
 pub enum Owner {
     Service(ServiceFmri),
     /// An instance, by its number.
-    Instance(u64),
+    Instance(Number),
 }
 
 /// A service, with its groups by name.
@@ -25,13 +25,13 @@ pub struct Service {
 #[derive(Debug, Drop)]
 pub struct Instance {
     /// From 1 to 2^24 - 1, never given again.
-    pub number: u64,
+    pub number: Number,
     pub name: InstanceFmri,
     pub row: Row,
     /// The snapshot by which it last came online.
-    pub start: Option<u64>,
+    pub start: Option<Number>,
     /// The snapshot that the last revert took.
-    pub previous: Option<u64>,
+    pub previous: Option<Number>,
 }
 
 /// An instance, with its groups by name.
@@ -45,7 +45,7 @@ pub struct InstanceEntry {
 #[derive(Debug, Drop)]
 pub struct InstanceName {
     pub name: InstanceFmri,
-    pub number: u64,
+    pub number: Number,
 }
 
 /// What an instance's configuration was: the groups of its service and its own.
@@ -53,7 +53,7 @@ pub struct InstanceName {
 pub struct Snapshot {
     /// From 1, never given again.
     pub number: Number,
-    pub instance: u64,
+    pub instance: Number,
     pub service_groups: Ordered<Group>,
     pub instance_groups: Ordered<Group>,
 }
@@ -103,7 +103,7 @@ impl Keyed for InstanceEntry {
     ghost by = { by_number (λ e. e.instance.number) };
 
     fn key(&self) -> &u64 {
-        &self.instance.number
+        self.instance.number.as_u64()
     }
 
     ghost same = { refl };

@@ -217,7 +217,7 @@ impl<J: Journal> Plain<J> {
     }
 
     /// The number of the instance of a name.
-    pub fn number_of(&self, name: &InstanceFmri) -> Option<u64>
+    pub fn number_of(&self, name: &InstanceFmri) -> Option<Number>
         ensures { result ≡ option_map (λ i. i.number) (named self.now.held name.now) }
     {
         match self.tables.named(name) {

@@ -11,19 +11,28 @@ use crate::grouping::MAX_GROUPS;
 use crate::held::{Instance, Owner, Snapshot};
 use crate::planner::{Asked, Planner};
 use crate::setting::service_owner;
-use smf_fmri::{Items, Ordered};
+use smf_fmri::{Items, Number, Ordered};
 use smf_snap::{SnapshotName, restore};
 use smf_value::Group;
 use std::alloc::AllocError;
+
+fn value_of(number: Option<Number>) -> Option<u64>
+    ensures { result ≡ number }
+{
+    match number {
+        None => None,
+        Some(number) => Some(number.get()),
+    }
+}
 
 /// Which snapshot a name means.
 pub(crate) fn number_of(instance: &Instance, name: SnapshotName) -> Option<u64>
     ensures { result ≡ number_of instance.now name }
 {
     match name {
-        SnapshotName::Previous => instance.previous,
+        SnapshotName::Previous => value_of(instance.previous),
         SnapshotName::Running => instance.row.running,
-        SnapshotName::Start => instance.start,
+        SnapshotName::Start => value_of(instance.start),
     }
 }
 
@@ -48,7 +57,7 @@ impl Planner<'_> {
     {
         let service = service_owner(self.alloc, &instance.name)?;
         let own = Owner::Instance(instance.number);
-        instance.previous = Some(self.tables.next_snapshot().get());
+        instance.previous = Some(self.tables.next_snapshot());
         let mut changes = Items::new(self.alloc);
         changes.push(Change::PutInstance(instance))?;
         changes.push(Change::PutGroups(service, service_groups))?;

@@ -185,7 +185,7 @@ impl Planner<'_> {
         let Owner::Instance(number) = owner else {
             return Ok(groups);
         };
-        match self.tables.instance(*number) {
+        match self.tables.instance(number.get()) {
             None => Ok(groups),
             Some(instance) => {
                 groups.put(made_group(self.alloc, &instance.row)?)?;

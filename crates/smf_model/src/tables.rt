@@ -142,7 +142,7 @@ impl Tables {
     {
         match self.number_named(name) {
             None => None,
-            Some(entry) => self.instance(entry.number),
+            Some(entry) => self.instance(entry.number.get()),
         }
     }
 
@@ -168,7 +168,7 @@ impl Tables {
     {
         match owner {
             Owner::Service(name) => self.service(name).map(|service| &service.groups),
-            Owner::Instance(number) => self.entry(*number).map(|entry| &entry.groups),
+            Owner::Instance(number) => self.entry(number.get()).map(|entry| &entry.groups),
         }
     }
 }
@@ -185,7 +185,7 @@ impl Tables {
     }
 }
 
-fn drop_snapshots(snapshots: &mut Table<Snapshot>, instance: u64)
+fn drop_snapshots(snapshots: &mut Table<Snapshot>, instance: Number)
     ensures dropped { snapshots.new.items ≡ others_of instance snapshots.old.items }
     ensures room { snapshots.old.room ≤ snapshots.new.room }
 {
@@ -209,7 +209,9 @@ fn put_groups(lists: &mut Lists, owner: Owner, groups: Ordered<Group>)
 {
     match owner {
         Owner::Service(name) => lists.services.amend(&name, groups),
-        Owner::Instance(number) => lists.instances.amend(&number, EntryPart::Groups(groups)),
+        Owner::Instance(number) => lists
+            .instances
+            .amend(number.as_u64(), EntryPart::Groups(groups)),
     }
 }
 
@@ -220,7 +222,7 @@ fn put_instance(lists: &mut Lists, instance: Instance)
     let number = instance.number;
     lists
         .instances
-        .amend(&number, EntryPart::Instance(instance));
+        .amend(number.as_u64(), EntryPart::Instance(instance));
 }
 
 /// Makes one change, for which there is room.
@@ -234,7 +236,7 @@ fn install_one(lists: &mut Lists, change: Change)
         Change::DropService(name) => lists.services.remove(&name),
         Change::AddInstance(entry) => lists.instances.put(entry),
         Change::PutInstance(instance) => put_instance(lists, instance),
-        Change::DropInstance(number) => lists.instances.remove(&number),
+        Change::DropInstance(number) => lists.instances.remove(number.as_u64()),
         Change::PutName(name) => lists.names.put(name),
         Change::DropName(name) => lists.names.remove(&name),
         Change::PutGroups(owner, groups) => put_groups(lists, owner, groups),

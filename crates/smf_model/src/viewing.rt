@@ -75,7 +75,7 @@ impl Planner<'_> {
         let name = instance.name.clone()?;
         let shown = self.current(instance.clone()?)?;
         Ok(ViewItem {
-            instance: instance.number,
+            instance: instance.number.get(),
             name,
             enabled: is_enabled,
             readable: can_be_read,

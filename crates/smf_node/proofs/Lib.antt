@@ -6,3 +6,5 @@ mod Running
 mod Settling
 mod UpTo
 mod Giving
+mod Answering
+pub mod Lining

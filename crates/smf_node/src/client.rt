@@ -10,7 +10,7 @@ ghost use Rattle.smf_world.specs.Schedule.{Progress as AnyProgress};
 
 use crate::fault::NodeFault;
 use crate::node::Node;
-use smf_fmri::{InstanceFmri, Items, Ordered, ServiceFmri, Table};
+use smf_fmri::{InstanceFmri, Items, Number, Ordered, ServiceFmri, Table};
 use smf_model::{
     Edit, Instance, InstanceName, Journal, Owner, Reply, RepoFault, Service, Snapshot,
 };
@@ -68,7 +68,7 @@ impl<J: Journal> Client for Node<J> {
         self.repository().has_service(name)
     }
 
-    fn number_of(&self, name: &InstanceFmri) -> Option<u64> {
+    fn number_of(&self, name: &InstanceFmri) -> Option<Number> {
         self.repository().number_of(name)
     }
 

@@ -3,24 +3,27 @@ ghost use Rattle.smf_node.specs.declared.fault.NodeFault.TheVariants.{Limit};
 ghost use Rattle.smf_node.specs.Faults.{IsUnbooted, is_limit, is_past_limit};
 ghost use Rattle.smf_node.specs.Marks.{progress_of};
 ghost use Rattle.smf_machine.specs.Parts.{knowledge};
+ghost use Rattle.smf_wire.specs.Grammar.{read_line};
+ghost use Rattle.smf_wire.specs.Lines.{IsSpelled, line_text};
 ghost use Rattle.smf_world.specs.declared.event.Event.TheVariants as events;
 ghost use Rattle.smf_world.specs.Happens.{happens};
 ghost use Rattle.smf_world.specs.Reached.{IsReached};
 ghost use Rattle.smf_world.specs.Safe.{IsSafe};
 ghost use Rattle.smf_world.specs.Schedule.{begun_at};
-ghost use Rattle.smf_world.specs.Worked.{is_launched, restarter};
+ghost use Rattle.smf_world.specs.Spelled.{HasBodies};
+ghost use Rattle.smf_world.specs.Worked.{is_launched, restarter, sent_at};
 ghost use Rattle.smf_world.specs.World.{found};
 ghost use Rattle.std.specs.Option.{option_copied};
-ghost use Rattle.std.specs.Prelude.{◌≡◌, option_map, reverse, false, IfErr, IfOk};
+ghost use Rattle.std.specs.Prelude.{◌≡◌, option_map, reverse, false, IfErr, IfOk, IfSome, Ok, OnOk};
 
 use crate::fault::NodeFault;
 use crate::marks::Marks;
 use smf_contract::Table;
-use smf_fmri::InstanceFmri;
+use smf_fmri::{InstanceFmri, Text};
 use smf_machine::Machine;
 use smf_model::{Command, Journal, Plain, Reply};
 use smf_restarter::Restarter;
-use smf_wire::Message;
+use smf_wire::{Message, encode};
 use smf_world::Item;
 use std::alloc::{AllocError, Global};
 use std::marker::Model;
@@ -119,6 +122,38 @@ impl<J: Journal> Node<J> {
         ensures { result.now ≡ reverse self.now.world.sent }
     {
         self.machine.messages()
+    }
+
+    /// The message at a place, counted from the oldest.
+    #[tactic(auto, unfolding(crate::specs::Marks::progress_of))]
+    fn message(&self, place: u64) -> Option<&Message>
+        ensures { option_copied result ≡ sent_at self.now.world place }
+    {
+        self.machine.messages().get(place as usize)
+    }
+
+    /// The line of the message at a place, by what the message is.
+    fn line_at(&self, place: u64) -> Result<Option<Text>, AllocError>
+        ensures line { IfOk result (λ line. line ≡ option_map line_text (sent_at self.now.world place)) }
+        ensures again { OnOk result (IfSome (sent_at self.now.world place) (λ m. IsSpelled m → read_line (line_text m) ≡ Ok m)) }
+    {
+        match self.message(place) {
+            None => Ok(None),
+            Some(message) => {
+                let line = encode(self.alloc, message)?;
+                Ok(Some(line))
+            }
+        }
+    }
+
+    /// The line of the message at a place, counted from the oldest, if one was sent there.
+    pub fn line(&self, place: u64) -> Result<Option<Text>, AllocError>
+        ensures line { IfOk result (λ line. line ≡ option_map line_text (sent_at self.now.world place)) }
+        // It is read again as that message.
+        ensures again { OnOk result (IfSome (sent_at self.now.world place) (λ m. HasBodies m → read_line (line_text m) ≡ Ok m)) }
+    {
+        let _reached = self.trail();
+        self.line_at(place)
     }
 
     /// The contracts.

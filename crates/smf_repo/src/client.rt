@@ -11,7 +11,7 @@ ghost use Rattle.smf_model.specs.Next.{found, next};
 ghost use Rattle.smf_model.specs.Shown.{shown_groups, snapshot_number, snapshots_of};
 ghost use Rattle.smf_repo.specs.Clients.{IsEdited};
 
-use smf_fmri::{InstanceFmri, Items, Ordered, ServiceFmri, Table};
+use smf_fmri::{InstanceFmri, Items, Number, Ordered, ServiceFmri, Table};
 use smf_model::{
     Command, Edit, Instance, InstanceName, Journal, Owner, Plain, Reply, RepoFault, Service,
     Snapshot,
@@ -46,7 +46,7 @@ pub trait Client {
         ensures { result ≡ is_some (service (held self.now) name.now) };
 
     /// The number of the instance of a name.
-    fn number_of(&self, name: &InstanceFmri) -> Option<u64>
+    fn number_of(&self, name: &InstanceFmri) -> Option<Number>
         ensures { result ≡ option_map (λ i. i.number) (named (held self.now) name.now) };
 
     /// The services with their groups, by name.
@@ -94,7 +94,7 @@ impl<J: Journal> Client for Plain<J> {
         Plain::has_service(self, name)
     }
 
-    fn number_of(&self, name: &InstanceFmri) -> Option<u64> {
+    fn number_of(&self, name: &InstanceFmri) -> Option<Number> {
         Plain::number_of(self, name)
     }
 

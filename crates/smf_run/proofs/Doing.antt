@@ -1,19 +1,21 @@
 -- What a line does, by what is done for what it asks.
-use Rattle.std.proofs.Common.{◌≡◌, inl, ℕ, List, Bool, Result, Ok, Err, IfErr, IfOk, refl, sym, subst}
+use Rattle.std.proofs.Common.{◌≡◌, ◌∙◌, inl, ℕ, List, Bool, true, false, None, Result, Ok, Err, IfErr, IfOk, OnOk, refl, sym, subst}
 use Rattle.std.specs.Result.{IsErrAnd}
 use Rattle.smf_edge.specs.Answers.{Skills}
 use Rattle.smf_edge.specs.Ledgers.{Ledger}
-use Rattle.smf_drive.specs.Moves.{Reaches, is_same}
+use Rattle.smf_drive.specs.Moves.{Moves}
 use Rattle.smf_model.specs.declared.journal.RepoFault.{RepoFault}
 use Rattle.smf_node.specs.declared.fault.NodeFault.{NodeFault}
 use Rattle.smf_node.specs.declared.fault.NodeFault.TheVariants.{Memory}
-use Rattle.smf_run.specs.Asks.{Seen, to_act}
+use Rattle.smf_node.specs.Faults.{refused}
+use Rattle.smf_run.specs.Asks.{HasAsked, Seen, to_act, to_reboot}
 use Rattle.smf_run.specs.Failing.{LineFails, fails_alone, fails_together}
-use Rattle.smf_run.specs.Lines.{AskedBy, DoesWith, HasDone, HasPut, deed, effect, happening, together}
+use Rattle.smf_run.specs.Lines.{AskedBy, DoesWith, HasBooted, HasDone, HasPut, booted, deed, effect, happening, together}
 use Rattle.smf_script.specs.declared.request.Request.{Request}
 use Rattle.smf_script.specs.declared.request.Request.TheVariants as requests
 use Rattle.smf_script.specs.Failing.{MayEnd}
 use Rattle.smf_script.specs.Session.{Session}
+use Rattle.smf_world.specs.declared.event.Event.TheVariants as events
 use Rattle.smf_world.specs.declared.event.ProcessEvent.{ProcessEvent}
 use Rattle.smf_world.specs.Schedule.{Progress}
 use Rattle.smf_world.specs.World.{World}
@@ -38,13 +40,38 @@ pub process_done : (k : Skills) (request : Request) (word : List ℕ) (what : Pr
 process_done k request word what s old new b b' r is h =
     subst (λ q. IfOk r (λ fine. HasPut (λ text. HasDone k q s old new (effect s fine text)) b b')) (sym is) (together_by k (requests.Process word what) s old new s.progress b b' r h)
 
+-- a boot that can happen where children dropped all that they had
+pub could_boot : (r : Result Bool NodeFault) (P : Type 0) → OnOk r P → IfOk r (λ fine. fine ≡ true → P)
+could_boot (Ok fine) P h = λ e. h
+could_boot (Err e) P h = tt
+
+pub kept_on : (r : Result Bool NodeFault) (P : Type 0) → IfOk r (λ fine. fine ≡ false) → IfOk r (λ fine. fine ≡ true → P)
+kept_on (Ok fine) P h = λ e. (let no : true ≡ false = sym e ∙ h in absurd cc)
+kept_on (Err e) P h = tt
+
+booted_by : (k : Skills) (s : Session) (old new : Seen) (q : Progress) (b b' : List ℕ) (r : Result Bool NodeFault)
+    → IfOk r (λ fine. HasPut (λ text. HasAsked k to_reboot (booted s.progress) old new (deed q fine text)) b b')
+    → IfOk r (λ fine. fine ≡ true → refused s.progress.world events.Boot ≡ None)
+    → IfOk r (λ fine. HasPut (λ text. HasBooted k s.progress old new (deed q fine text)) b b')
+booted_by k s old new q b b' (Ok fine) h taken = record { text = h.text; put = h.put; is = record { asked = h.is; taken = taken } }
+booted_by k s old new q b b' (Err e) h taken = tt
+
+pub boot_done : (k : Skills) (request : Request) (s : Session) (old new : Seen) (q : Progress) (b b' : List ℕ) (r : Result Bool NodeFault)
+    → request ≡ requests.Boot
+    → IfOk r (λ fine. HasPut (λ text. HasAsked k to_reboot (booted s.progress) old new (deed q fine text)) b b')
+    → IfOk r (λ fine. fine ≡ true → refused s.progress.world events.Boot ≡ None)
+    → IfOk r (λ fine. HasPut (λ text. HasDone k request s old new (effect (record { progress = q; selection = s.selection }) fine text)) b b')
+boot_done k request s old new q b b' r is h taken =
+    subst (λ x. IfOk r (λ fine. HasPut (λ text. HasDone k x s old new (effect (record { progress = q; selection = s.selection }) fine text)) b b')) (sym is)
+    (together_by k requests.Boot s old new q b b' r (booted_by k s old new q b b' r h taken))
+
 -- memory ran out
 undone : (stores : RepoFault → Type 0) (e : NodeFault) → e ≡ Memory → MayEnd stores e
 undone stores e is = rw is tt
 
 -- no move was made
-stays_so : (w : World) (l : Ledger) → Reaches w w l l
-stays_so w l = (l, (0, (refl, refl)), is_same refl)
+stays_so : (w : World) (l : Ledger) → Moves w w l l
+stays_so w l = (0, (refl, refl))
 
 -- of a line nothing was done
 pub unread : (stores : RepoFault → Type 0) (request : Request) (s : Session) (old : Seen) (e : NodeFault) → e ≡ Memory → LineFails stores request s old old s.progress e

@@ -1,3 +1,5 @@
 pub mod Answering
 pub mod Doing
 pub mod Going
+pub mod Parting
+pub mod Agreeing

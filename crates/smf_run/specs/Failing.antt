@@ -1,6 +1,6 @@
 -- What is left of a line that a fault of the node ended.
 use Rattle.std.specs.Prelude.{◌≡◌, ◌⊎◌, false}
-use Rattle.smf_drive.specs.Moves.{Reaches}
+use Rattle.smf_drive.specs.Moves.{Moves}
 use Rattle.smf_edge.specs.Ledgers.{Ledger}
 use Rattle.smf_edge.specs.Steps.{restarted}
 use Rattle.smf_model.specs.declared.journal.RepoFault.{RepoFault}
@@ -23,7 +23,7 @@ IsUndone p old after new e = (e ≡ Memory) × (after ≡ p) × (new ≡ old)
 abbrev pub LeavesWith : Request → Progress → Ledger → Progress → Ledger → NodeFault → Type 0
 LeavesWith (requests.Process word what) p old after new e = IsUndone p old after new e
 LeavesWith (requests.Join word) p old after new e = IsUndone p old after new e
-LeavesWith (requests.Settle rounds) p old after new e = Reaches p.world after.world old new
+LeavesWith (requests.Settle rounds) p old after new e = Moves p.world after.world old new
 LeavesWith requests.Boot p old after new e = (after ≡ p) × ((new ≡ old) ⊎ (new ≡ restarted old))
 LeavesWith _ p old after new e = ⊥
 

@@ -3,3 +3,4 @@ pub mod Lines
 pub mod Failing
 pub mod Scripts
 pub mod Ends
+pub mod Agreed

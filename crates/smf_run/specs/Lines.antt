@@ -1,5 +1,5 @@
 -- What a line does over a node and the children of its services.
-use Rattle.std.specs.Prelude.{◌≡◌, ℕ, List, [], ◌++◌, Bool, true, false, Result, Ok, Err}
+use Rattle.std.specs.Prelude.{◌≡◌, ℕ, List, [], ◌++◌, Bool, true, false, None, Result, Ok, Err}
 use Rattle.std.specs.Option.{option_map_or}
 use Rattle.smf_admin.specs.declared.finding.Found.{Found}
 use Rattle.smf_admin.specs.declared.finding.Found.TheVariants as finds
@@ -13,6 +13,7 @@ use Rattle.smf_edge.specs.declared.deed.Happening.TheVariants as happens
 use Rattle.smf_edge.specs.declared.fault.KidsFault.{KidsFault}
 use Rattle.smf_edge.specs.Answers.{Skills}
 use Rattle.smf_edge.specs.Ledgers.{Ledger}
+use Rattle.smf_node.specs.Faults.{refused}
 use Rattle.smf_run.specs.Asks.{Ask, HasAsked, Seen, said, to_act, to_join, to_reboot, why_text}
 use Rattle.smf_script.specs.declared.request.Request.{Request}
 use Rattle.smf_script.specs.declared.request.Request.TheVariants as requests
@@ -51,6 +52,11 @@ abbrev pub booted : Progress → Result (Unit {0}) KidsFault → Deed
 booted p (Ok u) = done (on p events.Boot) []
 booted p (Err why) = failed p (why_text why)
 
+-- children were asked to drop all that they had; where they did, the boot can happen
+pub record HasBooted (k : Skills) (p : Progress) (old new : Seen) (d : Deed) : Type 0 where
+  pub asked : HasAsked k to_reboot (booted p) old new d
+  pub taken : d.fine ≡ true → refused p.world events.Boot ≡ None
+
 -- at most so many rounds happened with the answers of children
 pub record HasSettled (rounds : ℕ) (p : Progress) (old new : Ledger) (d : Deed) : Type 0 where
   pub how : Settled
@@ -72,7 +78,7 @@ abbrev pub DoesWith : Skills → Request → Progress → Seen → Seen → Deed
 DoesWith k (requests.Process word what) p old new d = AskedBy k p (λ id. to_act id (happening what)) word old new d
 DoesWith k (requests.Join word) p old new d = AskedBy k p to_join word old new d
 DoesWith k (requests.Settle rounds) p old new d = HasSettled rounds p old.ledger new.ledger d
-DoesWith k requests.Boot p old new d = HasAsked k to_reboot (booted p) old new d
+DoesWith k requests.Boot p old new d = HasBooted k p old new d
 DoesWith k _ p old new d = ⊥
 
 abbrev pub deed_of : Effect → Deed

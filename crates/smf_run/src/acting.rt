@@ -1,6 +1,7 @@
-ghost use Rattle.std.specs.Prelude.{◌≡◌, ◌++◌, ◌⊎◌, IfErr, IfOk, OnErr, OnOk, Err, false, is_ok, string_bytes, true};
+ghost use Rattle.std.specs.Prelude.{◌≡◌, ◌++◌, ◌⊎◌, IfErr, IfOk, None, OnErr, OnOk, Err, false, is_ok, string_bytes, true};
 ghost use Rattle.smf_edge.specs.Steps.{restarted};
 ghost use Rattle.smf_node.specs.declared.fault.NodeFault.TheVariants.{Memory};
+ghost use Rattle.smf_node.specs.Faults.{refused};
 ghost use Rattle.smf_run.specs.Asks.{HadMemory, HasAsked, answer_text, said, seen, to_act, to_join, to_reboot, why_text};
 ghost use Rattle.smf_run.specs.Lines.{AskedBy, HasPut, booted, contract_of, deed, happening};
 ghost use Rattle.smf_script.specs.Failing.{MayEnd};
@@ -152,6 +153,7 @@ pub(crate) fn join<J: Journal, K: Kids>(
 /// The node boots.
 fn restart<J: Journal>(node: &mut Node<J>) -> Result<bool, NodeFault>
     ensures flag { IfOk result (λ fine. fine ≡ true) }
+    ensures taken { OnOk result (refused node.old.world events.Boot ≡ None) }
     ensures ok { OnOk result (node.new ≡ on node.old events.Boot) }
     ensures err { OnErr result (node.new ≡ node.old) }
     ensures later { IsLater node.old.world node.new.world }
@@ -170,6 +172,7 @@ pub(crate) fn boot<J: Journal, K: Kids>(
     ensures exact { IfOk result (λ fine. HasPut (λ text.
         HasAsked K.skills to_reboot (booted node.old) (seen (K.ledger kids.old) (K.failures kids.old)) (seen (K.ledger kids.new) (K.failures kids.new)) (deed node.new fine text))
         (string_bytes out.old) (string_bytes out.new)) }
+    ensures taken { IfOk result (λ fine. fine ≡ true → refused node.old.world events.Boot ≡ None) }
     ensures err { OnErr result (node.new ≡ node.old) }
     ensures kept { OnErr result ((K.ledger kids.new ≡ K.ledger kids.old) ⊎ (K.ledger kids.new ≡ restarted (K.ledger kids.old))) }
     ensures later { IsLater node.old.world node.new.world }

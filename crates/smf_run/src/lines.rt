@@ -1,5 +1,5 @@
 ghost use Rattle.std.specs.Prelude.{◌≡◌, IfErr, IfOk, false, string_bytes};
-ghost use Rattle.smf_drive.specs.Moves.{Reaches};
+ghost use Rattle.smf_drive.specs.Moves.{Moves};
 ghost use Rattle.smf_run.specs.Asks.{seen};
 ghost use Rattle.smf_run.specs.Failing.{LineFails};
 ghost use Rattle.smf_run.specs.Lines.{HasDone, HasPut, HasSettled, asks_children, deed, effect};
@@ -26,7 +26,7 @@ fn settle<J: Journal, K: Kids>(
     ensures exact { IfOk result (λ fine. HasPut (λ text.
         HasSettled rounds node.old (K.ledger kids.old) (K.ledger kids.new) (deed node.new fine text))
         (string_bytes out.old) (string_bytes out.new)) }
-    ensures reaches { Reaches node.old.world node.new.world (K.ledger kids.old) (K.ledger kids.new) }
+    ensures moves { Moves node.old.world node.new.world (K.ledger kids.old) (K.ledger kids.new) }
     ensures later { IsLater node.old.world node.new.world }
     ensures fault { IfErr result (λ e. MayEnd J.write_fails e) }
 {

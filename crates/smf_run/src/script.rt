@@ -1,5 +1,7 @@
-ghost use Rattle.std.specs.Prelude.{◌≡◌, ◌≤◌, IfErr, IfOk, IfSome};
+ghost use Rattle.std.specs.Prelude.{◌≡◌, ◌≤◌, IfErr, IfOk, IfSome, OnErr, OnOk};
+ghost use Rattle.smf_drive.specs.Agrees.{Agrees};
 ghost use Rattle.smf_lines.specs.Reading.{lines_of};
+ghost use Rattle.smf_run.specs.Agreed.{AgreesOrDropped};
 ghost use Rattle.smf_run.specs.Asks.{seen};
 ghost use Rattle.smf_run.specs.Scripts.{HasRun, HasWritten, IsCut, Stops};
 ghost use Rattle.smf_script.specs.Faults.{IsWhy, Tells, failed_in};
@@ -96,6 +98,9 @@ pub fn run_script<R: LineReader, W: TextWriter, J: Journal, K: Kids>(
     // Some of the lines were done, and their texts were written.
     ensures err { IfErr result (λ fault.
         Stops K.skills J.write_fails fault (begun node.old) (R.remaining reader.old) (seen (K.ledger kids.old) (K.failures kids.old)) (seen (K.ledger kids.new) (K.failures kids.new)) node.new (W.contents writer.old) (W.contents writer.new)) }
+    // Where children and the node agreed, they agree; only a fault in a boot may leave children that have dropped all.
+    ensures agrees { OnOk result (Agrees node.old.world (K.ledger kids.old) → Agrees node.new.world (K.ledger kids.new)) }
+    ensures dropped { OnErr result (Agrees node.old.world (K.ledger kids.old) → AgreesOrDropped node.new.world (K.ledger kids.new)) }
     // Whatever the lines and the children: what the trail shows is what happened.
     ensures safe { IsSafe node.new.world }
     ensures later { IsLater node.old.world node.new.world }
@@ -104,6 +109,7 @@ pub fn run_script<R: LineReader, W: TextWriter, J: Journal, K: Kids>(
     ensures failed { R.has_failed reader.new ≡ failed_in result (R.has_failed reader.old) }
     ensures told { IfErr result (λ e. Tells e (R.interrupted reader.old) (R.interrupted reader.new)) }
 {
+    let _begun = node.trail();
     let end = do_lines(alloc, reader, writer, node, kids);
     let _shown = node.trail();
     end

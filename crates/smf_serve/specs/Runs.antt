@@ -4,11 +4,13 @@ use Rattle.std_io.specs.declared.io.error.Error.{Error}
 use Rattle.sqlite.specs.Held.{Held}
 use Rattle.sqlite.specs.Store.{Ghosts}
 use Rattle.smf_cfg.specs.Serving.{IsTold}
+use Rattle.smf_drive.specs.Agrees.{Agrees}
 use Rattle.smf_edge.specs.Answers.{Skills}
 use Rattle.smf_model.specs.declared.journal.RepoFault.{RepoFault}
 use Rattle.smf_model.specs.Holdings.{Holdings}
 use Rattle.smf_node.specs.declared.fault.NodeFault.{NodeFault}
 use Rattle.smf_node.specs.Faults.{IsUnbooted}
+use Rattle.smf_run.specs.Agreed.{AgreesOrDropped, unasked}
 use Rattle.smf_run.specs.Asks.{Seen}
 use Rattle.smf_run.specs.Ends.{HasEnded, IsUnlisted}
 use Rattle.smf_run.specs.Scripts.{HasRun, Stops}
@@ -35,13 +37,15 @@ first h = begun_at (happens (found h) events.Boot)
 abbrev pub AreEnded : Skills → Seen → Seen → Type 0
 AreEnded k old new = HasEnded k old new ⊎ IsUnlisted k old new
 
--- all lines were done and what they gave was written; then what was left of children was ended, and the trail is safe
+-- all lines were done and what they gave was written; then what was left of children was ended. The trail is safe, and the
+-- node agreed with children that had been asked nothing before
 pub record HasRunOver (k : Skills) (h : Holdings) (input : Option (List ℕ)) (old new : Seen) (was is : Option (List ℕ)) (status : ℕ) : Type 0 where
   pub after : Progress
   pub mid : Seen
   pub ran : HasRun k (begun (first h)) input old mid after was is status
   pub ended : AreEnded k mid new
   pub safe : IsSafe after.world
+  pub agrees : old.ledger ≡ unasked → Agrees after.world mid.ledger
 
 -- the node did not begin
 pub record HasNotBegun (stores : RepoFault → Type 0) (h : Holdings) (old new : Seen) (was is : Option (List ℕ)) (fault : NodeFault) : Type 0 where
@@ -49,8 +53,8 @@ pub record HasNotBegun (stores : RepoFault → Type 0) (h : Holdings) (old new :
   pub unasked : new ≡ old
   pub silent : is ≡ was
 
--- some of the lines were done and what they gave was written; then what was left of children was ended, and the trail is
--- safe
+-- some of the lines were done and what they gave was written; then what was left of children was ended. The trail is safe,
+-- and the node agreed with children that had been asked nothing before, or a boot had made them drop all that they had
 pub record HasStopped (k : Skills) (stores : RepoFault → Type 0) (reads writes : Error → Type 0) (h : Holdings) (input : Option (List ℕ)) (old new : Seen) (was is : Option (List ℕ)) (fault : ScriptFault) : Type 0 where
   pub after : Progress
   pub mid : Seen
@@ -58,6 +62,7 @@ pub record HasStopped (k : Skills) (stores : RepoFault → Type 0) (reads writes
   pub why : IsWhy stores reads writes fault
   pub ended : AreEnded k mid new
   pub safe : IsSafe after.world
+  pub agrees : old.ledger ≡ unasked → AgreesOrDropped after.world mid.ledger
 
 pub data IsCutOff (k : Skills) (stores : RepoFault → Type 0) (reads writes : Error → Type 0) (h : Holdings) (input : Option (List ℕ)) (old new : Seen) (was is : Option (List ℕ)) (fault : ScriptFault) : Type 0 where
   unbooted : (e : NodeFault) → fault ≡ Node e → HasNotBegun stores h old new was is e → IsCutOff k stores reads writes h input old new was is fault

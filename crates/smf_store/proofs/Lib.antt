@@ -18,3 +18,4 @@ pub mod Known
 pub mod Verdicts
 pub mod Counts
 pub mod Stands
+pub mod Before

@@ -8,7 +8,10 @@ use Rattle.sqlite.specs.Effect.{Database, IsDatabase}
 use Rattle.sqlite.specs.State.{State, Shows, IsLive, Survives}
 use Rattle.sqlite.proofs.StateLemmas.{survives_weaker}
 use Rattle.sqlite_rules.specs.Lists.{Has}
-use Rattle.smf_tables.specs.Reading.{AreShown, Looks, shown}
+use Rattle.sqlite.specs.Schema.{Schema}
+use Rattle.smf_tables.specs.Layout.{Begins, Rest}
+use Rattle.smf_tables.specs.Reading.{AreShown, Looks, LooksAtMeta, LooksAtServices, LooksAtInstances, LooksAtGroups, LooksAtSnapshots, LooksAtLaunches, shown}
+use Rattle.smf_tables.proofs.Begun.{of_store}
 use Rattle.smf_tables.specs.Rows.{IsKeyed}
 use Rattle.smf_tables.specs.Schema.{store_schema}
 use Rattle.smf_tables.specs.Statements.{AddsMeta, DropsMeta}
@@ -125,34 +128,34 @@ reads_raised old mid new rows version h l said a r =
 
 -- ---- one look after another
 
-looks_on : {tree : ℕ} {places : List ℕ} {rows : List Row} (a b c : State) → a.now.schema ≡ store_schema → (a.now.schema ≡ store_schema → b.now ≡ a.now) → IsDatabase a.now → Looks tree places b c rows
+looks_on : {begun : Rest → Schema} {tree : ℕ} {places : List ℕ} {rows : List Row} (a b c : State) → Begins begun a.now.schema → b.now ≡ a.now → IsDatabase a.now → Looks begun tree places b c rows
     → AreShown places (a.now.trees tree) rows
-looks_on {tree = tree} {places = places} {rows = rows} a b c has same sound l =
-    let is = same has in
-    subst (λ (d : Database). AreShown places (d.trees tree) rows) is (l.seen (ap (λ (d : Database). d.schema) is ∙ has) (subst IsDatabase (sym is) sound))
+looks_on {begun} {tree} {places} {rows} a b c has is sound l =
+    subst (λ (d : Database). AreShown places (d.trees tree) rows) is (l.seen (subst (λ (d : Database). Begins begun d.schema) (sym is) has) (subst IsDatabase (sym is) sound))
 
-same_on : {tree : ℕ} {places : List ℕ} {rows : List Row} (a b c : State) → (a.now.schema ≡ store_schema → b.now ≡ a.now) → Looks tree places b c rows → a.now.schema ≡ store_schema → c.now ≡ a.now
-same_on a b c same l has = l.same (ap (λ (d : Database). d.schema) (same has) ∙ has) ∙ same has
+same_on : {begun : Rest → Schema} {tree : ℕ} {places : List ℕ} {rows : List Row} (a b c : State) → b.now ≡ a.now → Looks begun tree places b c rows → Begins begun a.now.schema → c.now ≡ a.now
+same_on {begun} a b c is l has = l.same (subst (λ (d : Database). Begins begun d.schema) (sym is) has) ∙ is
 
-pub lists_all : (a b c d e f g : State) (rows : StoreRows) → AreAllKeyed rows → Looks 0 (0 ∷ 1 ∷ 2 ∷ []) a b rows.counts.items → Looks 2 (0 ∷ 1 ∷ []) b c rows.services.items
-    → Looks 4 (0 ∷ 0 ∷ 2 ∷ 3 ∷ 4 ∷ 5 ∷ 6 ∷ []) c d rows.instances.items → Looks 6 (0 ∷ 1 ∷ 2 ∷ 3 ∷ 4 ∷ []) d e rows.groups.items → Looks 8 (0 ∷ 0 ∷ 2 ∷ 3 ∷ []) e f rows.snapshots.items
-    → Looks 9 (0 ∷ 1 ∷ 2 ∷ []) f g rows.launches.items → Lists a g rows
-lists_all a b c d e f g rows keyed one two three four five six =
-    let sb = one.same in
-    let sc = same_on a b c sb two in
-    let sd = same_on a c d sc three in
-    let se = same_on a d e sd four in
-    let sf = same_on a e f se five in
+pub lists_all : (a b c d e f g : State) (rows : StoreRows) → rows.knows_snapshots ≡ true → AreAllKeyed rows → LooksAtMeta a b rows.counts.items → LooksAtServices b c rows.services.items
+    → LooksAtInstances c d rows.instances.items → LooksAtGroups d e rows.groups.items → LooksAtSnapshots e f rows.snapshots.items → LooksAtLaunches f g rows.launches.items → Lists a g rows
+lists_all a b c d e f g rows known keyed one two three four five six =
+    let o = of_store a.now.schema in
+    let sb : a.now.schema ≡ store_schema → b.now ≡ a.now = λ has. one.same (o has).one in
+    let sc : a.now.schema ≡ store_schema → c.now ≡ a.now = λ has. same_on a b c (sb has) two (o has).two in
+    let sd : a.now.schema ≡ store_schema → d.now ≡ a.now = λ has. same_on a c d (sc has) three (o has).three in
+    let se : a.now.schema ≡ store_schema → e.now ≡ a.now = λ has. same_on a d e (sd has) four (o has).four in
+    let sf : a.now.schema ≡ store_schema → f.now ≡ a.now = λ has. same_on a e f (se has) five (o has).five in
     record {
       shows = shows_then a f g (shows_then a e f (shows_then a d e (shows_then a c d (shows_then a b c one.shows two.shows) three.shows) four.shows) five.shows) six.shows;
-      same = same_on a f g sf six;
+      same = λ has. same_on a f g (sf has) six (o has).six;
       listed = λ has sound. record {
-        counts = record { shown = one.seen has sound; keyed = keyed.counts };
-        services = record { shown = looks_on a b c has sb sound two; keyed = keyed.services };
-        instances = record { shown = looks_on a c d has sc sound three; keyed = keyed.instances };
-        groups = record { shown = looks_on a d e has sd sound four; keyed = keyed.groups };
-        snapshots = record { shown = looks_on a e f has se sound five; keyed = keyed.snapshots };
-        launches = record { shown = looks_on a f g has sf sound six; keyed = keyed.launches };
+        known = known;
+        counts = record { shown = one.seen (o has).one sound; keyed = keyed.counts };
+        services = record { shown = looks_on a b c (o has).two (sb has) sound two; keyed = keyed.services };
+        instances = record { shown = looks_on a c d (o has).three (sc has) sound three; keyed = keyed.instances };
+        groups = record { shown = looks_on a d e (o has).four (sd has) sound four; keyed = keyed.groups };
+        snapshots = record { shown = looks_on a e f (o has).five (se has) sound five; keyed = keyed.snapshots };
+        launches = record { shown = looks_on a f g (o has).six (sf has) sound six; keyed = keyed.launches };
       };
     }
 

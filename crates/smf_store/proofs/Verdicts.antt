@@ -7,9 +7,10 @@ use Rattle.smf_store.specs.declared.judging.Judgement.{Judgement}
 use Rattle.smf_store.specs.declared.judging.StoreRows.{StoreRows}
 use Rattle.smf_store.specs.declared.refusal.OpenFault.{OpenFault}
 use Rattle.smf_store.specs.declared.refusal.OpenFault.TheVariants.{Memory, Database, Version, Damaged, TooManyInstances}
+use Rattle.smf_store.specs.declared.refusal.StoreTable.{StoreTable}
 use Rattle.smf_store.specs.declared.refusal.StoreTable.TheVariants as tables
 use Rattle.smf_store.specs.Begun.{begun}
-use Rattle.smf_store.specs.Judged.{IsJudged, IsRead, add_all, add_group, add_instance, add_launch, add_service, add_snapshot, counters_said, fitting, instances_said, judged, tables_said, version_said}
+use Rattle.smf_store.specs.Judged.{IsBroken, IsJudged, IsRead, broken_by, first_broken, add_all, add_group, add_instance, add_launch, add_service, add_snapshot, counters_said, fitting, instances_seen, judged, tables_said, version_said}
 
 module _ (rows : StoreRows) (h : Holdings) where
   pub no_services : add_all add_service h rows.services.items ≡ None → tables_said rows h ≡ Err (Damaged tables.Service)
@@ -17,11 +18,11 @@ module _ (rows : StoreRows) (h : Holdings) where
   no_services a = rw (a) refl
 
   module _ (h1 : Holdings) (a : add_all add_service h rows.services.items ≡ Some h1) where
-    pub no_instances : instances_said rows.instances.items rows.snapshots.items h1 ≡ None → tables_said rows h ≡ Err (Damaged tables.Instance)
+    pub no_instances : instances_seen rows.knows_snapshots rows.instances.items rows.snapshots.items h1 ≡ None → tables_said rows h ≡ Err (Damaged tables.Instance)
     unfolding tables_said
     no_instances b = rw (a, b) refl
 
-    module _ (h2 : Holdings) (b : instances_said rows.instances.items rows.snapshots.items h1 ≡ Some h2) where
+    module _ (h2 : Holdings) (b : instances_seen rows.knows_snapshots rows.instances.items rows.snapshots.items h1 ≡ Some h2) where
       pub no_groups : add_all add_group h2 rows.groups.items ≡ None → tables_said rows h ≡ Err (Damaged tables.Group)
       unfolding tables_said
       no_groups d = rw (a, b, d) refl
@@ -75,3 +76,20 @@ module _ (rows : StoreRows) where
       pub of_all : (k h : Holdings) (what : Result Holdings OpenFault) → k ≡ begun c → tables_said rows k ≡ Ok h → fitting version h ≡ what → judged rows ≡ what
       unfolding judged
       of_all k h what is t f = let t2 : tables_said rows (begun c) ≡ Ok h = ap (tables_said rows) (sym is) ∙ t in rw (v, n, t2, f) refl
+
+-- ---- where a table is absent or another
+
+pub broken_none : (other : StoreTable) (x : Holdings) (given : Result Holdings OpenFault) → given ≡ Ok x → Damaged other ≡ first_broken other given
+unfolding first_broken
+broken_none other x given is = sym (ap (first_broken other) is)
+
+told_by : (other : StoreTable) (e : OpenFault) (given : Result Holdings OpenFault) → given ≡ Err e → broken_by other e ≡ first_broken other given
+unfolding first_broken
+told_by other e given is = sym (ap (first_broken other) is)
+
+pub broken_some : (other : StoreTable) (e : OpenFault) (given : Result Holdings OpenFault) → IsJudged (Err e) given → IsBroken (broken_by other e) (first_broken other given)
+broken_some other Memory given j = tt
+broken_some other Database given j = told_by other Database given j
+broken_some other (Version n) given j = told_by other (Version n) given j
+broken_some other (Damaged table) given j = told_by other (Damaged table) given j
+broken_some other TooManyInstances given j = told_by other TooManyInstances given j

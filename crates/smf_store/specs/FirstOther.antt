@@ -1,5 +1,5 @@
 -- Which of the six tables is not there as a store has it.
-use Rattle.std.specs.Prelude.{◌≡◌, ◌⊎◌, ℕ}
+use Rattle.std.specs.Prelude.{Bool, true, nat_lt, ℕ, Option, Some, None}
 use Rattle.sqlite.specs.Schema.{Schema}
 use Rattle.sqlite.specs.Table.{Table}
 use Rattle.smf_tables.specs.Layout.{StandsAt}
@@ -37,8 +37,17 @@ AreBefore s Group = IsThere s Meta × IsThere s Service × IsThere s Instance
 AreBefore s Snapshot = IsThere s Meta × IsThere s Service × IsThere s Instance × IsThere s Group
 AreBefore s Restarter = IsThere s Meta × IsThere s Service × IsThere s Instance × IsThere s Group × IsThere s Snapshot
 
--- the first of the six that is absent or another; where all are there and something else beside them, the first of all
-abbrev pub IsFirstOther : Schema → StoreTable → Type 0
-IsFirstOther schema table =
-    (AreBefore schema table × (IsThere schema table → ⊥))
-    ⊎ ((table ≡ Meta) × AreBefore schema Restarter × IsThere schema Restarter)
+-- the first of the six that is absent or another; none, where all are there
+abbrev pub IsFirstOther : Schema → Option StoreTable → Type 0
+IsFirstOther schema None = AreBefore schema Restarter × IsThere schema Restarter
+IsFirstOther schema (Some other) = AreBefore schema other × (IsThere schema other → ⊥)
+
+-- a table stands before the first that is absent or another, so that its rows are looked at
+abbrev pub is_before : StoreTable → Option StoreTable → Bool
+is_before table None = true
+is_before table (Some other) = nat_lt (place_of table) (place_of other)
+
+-- what is told of the schema where no row breaks a rule: where something stands beside the six, the first of all
+abbrev pub told_for : Option StoreTable → StoreTable
+told_for None = Meta
+told_for (Some other) = other

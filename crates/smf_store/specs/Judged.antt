@@ -150,7 +150,7 @@ unfoldable pub add_group : Holdings → Row → Option Holdings
 add_group h r =
     group_said r >>= (λ g.
     text_in (column r 1) >>= (λ text.
-    count_in (column r 2) >>= (λ number.
+    number_in (column r 2) >>= (λ number.
     owner_said h text number >>= (λ owner.
     put_group h owner g))))
 
@@ -196,11 +196,16 @@ unfoldable pub instances_said : List Row → List Row → Holdings → Option Ho
 instances_said rows snapshots h =
     add_all add_instance h rows >>= (λ k. given (list_all (names_held (has_row snapshots)) k.instances) k)
 
+-- the same, and the snapshots are looked for where it is known which are there
+abbrev pub instances_seen : Bool → List Row → List Row → Holdings → Option Holdings
+instances_seen true rows snapshots h = instances_said rows snapshots h
+instances_seen false rows snapshots h = add_all add_instance h rows
+
 -- the tables behind that of the counters
 unfoldable pub tables_said : StoreRows → Holdings → Result Holdings OpenFault
 tables_said rows h =
     told tables.Service (add_all add_service h rows.services.items) (λ h1.
-    told tables.Instance (instances_said rows.instances.items rows.snapshots.items h1) (λ h2.
+    told tables.Instance (instances_seen rows.knows_snapshots rows.instances.items rows.snapshots.items h1) (λ h2.
     told tables.Group (add_all add_group h2 rows.groups.items) (λ h3.
     told tables.Snapshot (add_all add_snapshot h3 rows.snapshots.items) (λ h4.
     told tables.Restarter (add_all add_launch h4 rows.launches.items) (λ h5. Ok h5)))))
@@ -222,6 +227,22 @@ judged_as rows (Ok version) =
 -- what is held, or why it is not opened
 unfoldable pub judged : StoreRows → Result Holdings OpenFault
 judged rows = judged_as rows (version_said rows.counts.items)
+
+-- what is told where a table is absent or another: a fault of the tables before it, or that one
+abbrev pub broken_by : StoreTable → OpenFault → OpenFault
+broken_by other Memory = Memory
+broken_by other (Version n) = Version n
+broken_by other (Damaged table) = Damaged table
+broken_by other _ = Damaged other
+
+unfoldable pub first_broken : StoreTable → Result Holdings OpenFault → OpenFault
+first_broken other (Ok h) = Damaged other
+first_broken other (Err e) = broken_by other e
+
+-- a call tells this, unless memory ran out
+abbrev pub IsBroken : OpenFault → OpenFault → Type 0
+IsBroken Memory e = Unit {0}
+IsBroken told e = told ≡ e
 
 -- a call gives this, unless memory ran out
 abbrev pub IsJudged : Result Judgement OpenFault → Result Holdings OpenFault → Type 0

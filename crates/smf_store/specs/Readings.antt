@@ -1,5 +1,5 @@
 -- What a row says by its columns; none where it breaks the grammar of its table.
-use Rattle.std.specs.Prelude.{ℕ, ℤ, pos, List, [], ◌∷◌, ◌++◌, nat_eq, nat_le, Bool, Option, Some, None, Result, Ok, Err, if◌then◌else◌}
+use Rattle.std.specs.Prelude.{ℕ, ℤ, pos, List, [], ◌∷◌, ◌++◌, nat_eq, nat_le, Bool, Option, Some, None, option_map, Result, Ok, Err, if◌then◌else◌}
 use Rattle.std.specs.Cmp.Lexicographic.{pointwise}
 use Rattle.std.specs.Str.{is_utf8}
 use Rattle.sqlite.specs.declared.types.Value.{Value}
@@ -43,12 +43,6 @@ abbrev pub count_in : Value → Option ℕ
 count_in (Int (pos n)) = Some n
 count_in _ = None
 
--- a number, or NULL for none
-abbrev pub optional_in : Value → Option (Option ℕ)
-optional_in Null = Some None
-optional_in (Int (pos n)) = Some (Some n)
-optional_in _ = None
-
 abbrev pub text_in : Value → Option (List ℕ)
 text_in (Text t) = given (is_utf8 t) t
 text_in _ = None
@@ -60,6 +54,12 @@ bytes_in _ = None
 -- the greatest number that a store holds
 abbrev pub greatest : ℕ
 greatest = 0x7fff_ffff_ffff_ffff
+
+-- a number, or NULL for none
+abbrev pub optional_in : Value → Option (Option ℕ)
+optional_in Null = Some None
+optional_in (Int (pos n)) = option_map (λ m. Some m) (given (nat_le n greatest) n)
+optional_in _ = None
 
 abbrev pub number_in : Value → Option ℕ
 number_in v = count_in v >>= (λ n. given (nat_le n greatest) n)
@@ -95,7 +95,7 @@ state_said r = text_in (column r 4) >>= (λ text. read_well (read_row text))
 
 unfoldable pub instance_said : Row → Option Instance
 instance_said r =
-    count_in (column r 0) >>= (λ number.
+    number_in (column r 0) >>= (λ number.
     name_said r >>= (λ name.
     state_said r >>= (λ row.
     optional_in (column r 5) >>= (λ start.
@@ -121,7 +121,7 @@ snapshot_of number instance kept = record { number = number; instance = instance
 unfoldable pub snapshot_said : Row → Option Snapshot
 snapshot_said r =
     number_in (column r 0) >>= (λ number.
-    count_in (column r 2) >>= (λ instance.
+    number_in (column r 2) >>= (λ instance.
     bytes_in (column r 3) >>= (λ body.
     read_well (decoded_snapshot body) >>= (λ kept.
     Some (snapshot_of number instance kept)))))

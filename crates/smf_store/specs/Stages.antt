@@ -1,7 +1,6 @@
 -- What the reading of a store does.
-use Rattle.std.specs.Prelude.{◌≡◌, ◌⊎◌, ℕ, true, List, [], ◌∷◌, IsTrue, Result, Ok, Err}
+use Rattle.std.specs.Prelude.{◌≡◌, ◌⊎◌, ℕ, Bool, true, false, List, [], ◌∷◌, IsTrue, Option, Result, Ok, Err}
 use Rattle.sqlite.specs.Order.{Row}
-use Rattle.sqlite.specs.Schema.{Schema}
 use Rattle.sqlite.specs.Tree.{Trees}
 use Rattle.sqlite.specs.Effect.{Database, IsDatabase}
 use Rattle.sqlite.specs.State.{State, Shows}
@@ -15,9 +14,10 @@ use Rattle.smf_store.specs.declared.judging.StoreRows.{StoreRows}
 use Rattle.smf_store.specs.declared.refusal.OpenFault.{OpenFault}
 use Rattle.smf_store.specs.declared.refusal.OpenFault.TheVariants.{Memory, Database as Failed, Version, Damaged, TooManyInstances}
 use Rattle.smf_store.specs.declared.refusal.StoreTable.{StoreTable}
-use Rattle.smf_store.specs.FirstOther.{IsFirstOther}
+use Rattle.smf_store.specs.declared.refusal.StoreTable.TheVariants as tables
+use Rattle.smf_store.specs.FirstOther.{IsFirstOther, is_before, told_for}
 use Rattle.smf_store.specs.Holds.{Keeps, Stands, StandsFirst}
-use Rattle.smf_store.specs.Judged.{judged}
+use Rattle.smf_store.specs.Judged.{first_broken, judged}
 
 -- these are the rows of a table, by the columns at these places, and no rowid stands twice
 pub record IsListed (tree : ℕ) (places : List ℕ) (trees : Trees) (rows : List Row) : Type 0 where
@@ -26,12 +26,34 @@ pub record IsListed (tree : ℕ) (places : List ℕ) (trees : Trees) (rows : Lis
 
 -- the same of the six tables; a number that is a rowid stands twice, so that each other column has its own place
 pub record AreListed (rows : StoreRows) (trees : Trees) : Type 0 where
+  pub known : rows.knows_snapshots ≡ true
   pub counts : IsListed 0 (0 ∷ 1 ∷ 2 ∷ []) trees rows.counts.items
   pub services : IsListed 2 (0 ∷ 1 ∷ []) trees rows.services.items
   pub instances : IsListed 4 (0 ∷ 0 ∷ 2 ∷ 3 ∷ 4 ∷ 5 ∷ 6 ∷ []) trees rows.instances.items
   pub groups : IsListed 6 (0 ∷ 1 ∷ 2 ∷ 3 ∷ 4 ∷ []) trees rows.groups.items
   pub snapshots : IsListed 8 (0 ∷ 0 ∷ 2 ∷ 3 ∷ []) trees rows.snapshots.items
   pub launches : IsListed 9 (0 ∷ 1 ∷ 2 ∷ []) trees rows.launches.items
+
+-- the rows of a table that is looked at, and none of another
+abbrev pub ListedIf : Bool → ℕ → List ℕ → Trees → List Row → Type 0
+ListedIf true tree places trees rows = IsListed tree places trees rows
+ListedIf false tree places trees rows = rows ≡ []
+
+-- these are the rows of the tables before the first that is absent or another; whether a snapshot is there is known where
+-- the table before theirs stands
+pub record AreListedBefore (other : Option StoreTable) (rows : StoreRows) (trees : Trees) : Type 0 where
+  pub known : rows.knows_snapshots ≡ is_before tables.Group other
+  pub counts : ListedIf (is_before tables.Meta other) 0 (0 ∷ 1 ∷ 2 ∷ []) trees rows.counts.items
+  pub services : ListedIf (is_before tables.Service other) 2 (0 ∷ 1 ∷ []) trees rows.services.items
+  pub instances : ListedIf (is_before tables.Instance other) 4 (0 ∷ 0 ∷ 2 ∷ 3 ∷ 4 ∷ 5 ∷ 6 ∷ []) trees rows.instances.items
+  pub groups : ListedIf (is_before tables.Group other) 6 (0 ∷ 1 ∷ 2 ∷ 3 ∷ 4 ∷ []) trees rows.groups.items
+  pub snapshots : ListedIf (is_before tables.Snapshot other) 8 (0 ∷ 0 ∷ 2 ∷ 3 ∷ []) trees rows.snapshots.items
+  pub launches : ListedIf (is_before tables.Restarter other) 9 (0 ∷ 1 ∷ 2 ∷ []) trees rows.launches.items
+
+-- a table was looked at, or it was not
+abbrev pub LooksIf : Bool → (State → State → List Row → Type 0) → State → State → List Row → Type 0
+LooksIf true Looks old new rows = Looks old new rows
+LooksIf false Looks old new rows = (new.now ≡ old.now) × (IsTrue new.is_open → IsTrue old.is_open) × (rows ≡ [])
 
 pub record AreAllKeyed (rows : StoreRows) : Type 0 where
   pub counts : IsKeyed rows.counts.items
@@ -69,14 +91,24 @@ IsSaid trees (Version n) = Says trees (Err (Version n))
 IsSaid trees (Damaged table) = Says trees (Err (Damaged table))
 IsSaid trees TooManyInstances = Says trees (Err TooManyInstances)
 
--- the tables of the schema are not those of a store, and this is the first that is not
-abbrev pub IsOther : Schema → OpenFault → Type 0
-IsOther schema e = (schema ≡ store_schema → ⊥) × (table : StoreTable) × (e ≡ Damaged table) × IsFirstOther schema table
+-- what the rows of the tables before the first that is absent or another say, or that one
+pub record SaysBefore (other : Option StoreTable) (trees : Trees) (e : OpenFault) : Type 0 where
+  pub rows : StoreRows
+  pub listed : AreListedBefore other rows trees
+  pub said : e ≡ first_broken (told_for other) (judged rows)
 
--- a fault that names a table or a version: the first table that is absent or another, and then no row is read; where all
--- are as in a store, what their rows say
+-- a fault that says something of the store is what is told so
+abbrev pub IsSaidBefore : Option StoreTable → Trees → OpenFault → Type 0
+IsSaidBefore other trees e = IsFailure e ⊎ SaysBefore other trees e
+
+-- the tables of the schema are not those of a store, and this is told of them
+abbrev pub IsOther : Database → OpenFault → Type 0
+IsOther db e = (db.schema ≡ store_schema → ⊥) × (other : Option StoreTable) × IsFirstOther db.schema other × SaysBefore other db.trees e
+
+-- a fault that names a table or a version: the first table, in their order, that is absent, or another, or has a row that
+-- breaks a rule
 abbrev pub IsRefused : Database → OpenFault → Type 0
-IsRefused db e = IsFailure e ⊎ (IsOther db.schema e ⊎ ((db.schema ≡ store_schema) × IsSaid db.trees e))
+IsRefused db e = IsFailure e ⊎ (IsOther db e ⊎ ((db.schema ≡ store_schema) × IsSaid db.trees e))
 
 -- a store of the second version stays; one of the first is made one of the second, which holds the same
 pub data IsRaised (old new : Database) (h : Holdings) : Type 0 where

@@ -67,13 +67,13 @@ pub(crate) fn number_at(row: &Row, at: usize) -> Option<Number>
 }
 
 /// A number or NULL.
-pub(crate) fn optional_at(row: &Row, at: usize) -> Option<Option<u64>>
+pub(crate) fn optional_at(row: &Row, at: usize) -> Option<Option<Number>>
     ensures exact { result ≡ optional_in (column row.now at) }
     ensures shows { IfSome result (λ n. column row.now at ≡ optional_value n) }
 {
     match value_at(row, at) {
         ValueRef::Null => Some(None),
-        ValueRef::Int(number) => unsigned(number).map(Some),
+        ValueRef::Int(_) => number_at(row, at).map(Some),
         ValueRef::Real(_) => None,
         ValueRef::Text(_) => None,
         ValueRef::Blob(_) => None,

@@ -17,37 +17,24 @@ pub(crate) fn integer_of(number: Number) -> i64
     number.get() as i64
 }
 
-/// The same of a number that may be too great.
-pub(crate) fn small_of(number: u64) -> Result<i64, WriteFault>
-    ensures { IfOk result (λ id. id ≡ pos number) }
-{
-    if number > Number::MAX {
-        return Err(WriteFault::Database);
-    }
-    Ok(number as i64)
-}
-
-/// The number of an instance or of a snapshot, which is not 0.
-pub(crate) fn key_of(number: u64) -> Result<i64, WriteFault>
+/// The number of an instance, which is not 0.
+pub(crate) fn key_of(number: Number) -> Result<i64, WriteFault>
     ensures id { IfOk result (λ id. id ≡ pos number) }
     ensures some { IfOk result (λ _. 0 < number) }
 {
-    if number == 0 || number > Number::MAX {
+    if number.get() == 0 {
         return Err(WriteFault::Database);
     }
-    Ok(number as i64)
+    Ok(integer_of(number))
 }
 
 /// The number of a snapshot, if there is one.
-pub(crate) fn optional_of(number: Option<u64>) -> Result<Option<i64>, WriteFault>
-    ensures { IfOk result (λ id. id ≡ option_map pos number) }
+pub(crate) fn optional_of(number: Option<Number>) -> Option<i64>
+    ensures { result ≡ option_map pos number }
 {
     match number {
-        None => Ok(None),
-        Some(number) => {
-            let id = small_of(number)?;
-            Ok(Some(id))
-        }
+        None => None,
+        Some(number) => Some(integer_of(number)),
     }
 }
 

@@ -16,11 +16,11 @@ ghost use Rattle.smf_value.specs.Groups.{by_group};
 ghost use Rattle.smf_model.specs.Look.{by_launch, group_in as group_among};
 ghost use Rattle.smf_model.specs.Next.{most_groups};
 ghost use Rattle.smf_store.specs.Readings.{group_said, instance_said, joined_name, launch_said, name_said, number_in, only, service_said, short_service, snapshot_said, state_said};
-ghost use Rattle.smf_store.specs.Judged.{Takes, add_all, add_group, add_instance, add_launch, add_service, add_snapshot, has_row, instances_said, is_new, is_right, is_there, is_up_to, names_held, names_snapshots, owner_said, put_group, with_instance};
+ghost use Rattle.smf_store.specs.Judged.{Takes, add_all, add_group, add_instance, add_launch, add_service, add_snapshot, has_row, instances_said, instances_seen, is_new, is_right, is_there, is_up_to, names_held, names_snapshots, owner_said, put_group, with_instance};
 ghost use Rattle.smf_store.specs.Gathered.{AddsGroupOf, AddsInstanceRow, AddsLaunchRow, AddsServiceRow, AddsSnapshotRow, GathersGroups, GathersInstances, GathersLaunches, GathersServices, GathersSnapshots};
 
 use crate::cells::{bytes_at, count_at, number_at, optional_at, text_at};
-use smf_fmri::{Fmri, FmriFault, InstanceFmri, Items, Ordered, ServiceFmri};
+use smf_fmri::{Fmri, FmriFault, InstanceFmri, Items, Number, Ordered, ServiceFmri};
 use smf_model::{
     Change, Instance, InstanceEntry, InstanceName, Launch, Owner, Service, Snapshot, Tables,
 };
@@ -219,7 +219,7 @@ fn instance_said(alloc: Global, row: &Row) -> Result<Option<Instance>, AllocErro
     ensures exact { IfOk result (λ found. found ≡ instance_said row.now) }
     ensures shows { IfOk result (λ found. IfSome found (λ i. ShowsInstance i row.now)) }
 {
-    let Some(number) = count_at(row, 0) else {
+    let Some(number) = number_at(row, 0) else {
         return Ok(None);
     };
     let Some(name) = name_said(alloc, row)? else {
@@ -254,10 +254,11 @@ fn is_new(alloc: Global, tables: &Tables, instance: &Instance) -> Result<bool, A
     ensures dated { IfOk result (λ new. IsTrue new → (kind : EventKind) → revision_of kind instance.now.row ≤ tables.now.revision) }
 {
     let service = service_in(alloc, &instance.name)?;
-    if instance.number == 0 || instance.number >= tables.next_instance().get() {
+    let number = instance.number.get();
+    if number == 0 || number >= tables.next_instance().get() {
         return Ok(false);
     }
-    if tables.instance(instance.number).is_some() || tables.named(&instance.name).is_some() {
+    if tables.instance(number).is_some() || tables.named(&instance.name).is_some() {
         return Ok(false);
     }
     if tables.service(&service).is_none() {
@@ -381,7 +382,7 @@ fn snapshot_said(alloc: Global, row: &Row) -> Result<Option<Snapshot>, AllocErro
     let Some(number) = number_at(row, 0) else {
         return Ok(None);
     };
-    let Some(instance) = count_at(row, 2) else {
+    let Some(instance) = number_at(row, 2) else {
         return Ok(None);
     };
     let Some(body) = bytes_at(row, 3) else {
@@ -409,11 +410,11 @@ fn add_snapshot(alloc: Global, row: &Row, tables: &mut Tables) -> Result<bool, A
     let Some(snapshot) = snapshot_said(alloc, row)? else {
         return Ok(false);
     };
-    let number = snapshot.number.get();
+    let (number, instance) = (snapshot.number.get(), snapshot.instance.get());
     if number == 0 || number >= tables.next_snapshot().get() {
         return Ok(false);
     }
-    if tables.snapshot(number).is_some() || tables.instance(snapshot.instance).is_none() {
+    if tables.snapshot(number).is_some() || tables.instance(instance).is_none() {
         return Ok(false);
     }
     make_one(alloc, tables, Change::AddSnapshot(snapshot))?;
@@ -479,18 +480,19 @@ fn owner_said(
     alloc: Global,
     tables: &Tables,
     text: &str,
-    number: u64,
+    number: Number,
 ) -> Result<Option<Owner>, AllocError>
     ensures exact { IfOk result (λ found. found ≡ owner_said tables.now text.now number) }
     ensures owns { IfOk result (λ found. IfSome found (IsOwnerUnder tables.now text.now number)) }
 {
-    if number == 0 {
+    let id = number.get();
+    if id == 0 {
         return match service_named(alloc, text)? {
             None => Ok(None),
             Some(name) => Ok(Some(Owner::Service(name))),
         };
     }
-    let Some(instance) = tables.instance(number) else {
+    let Some(instance) = tables.instance(id) else {
         return Ok(None);
     };
     let service = service_in(alloc, &instance.name)?;
@@ -512,7 +514,7 @@ fn add_group(alloc: Global, row: &Row, tables: &mut Tables) -> Result<bool, Allo
     let Some(text) = text_at(row, 1) else {
         return Ok(false);
     };
-    let Some(number) = count_at(row, 2) else {
+    let Some(number) = number_at(row, 2) else {
         return Ok(false);
     };
     let Some(owner) = owner_said(alloc, tables, text, number)? else {
@@ -612,11 +614,21 @@ fn is_there(numbers: &BTreeSet<u64>, number: Option<u64>) -> bool
     }
 }
 
+/// The same of a number that is held.
+fn has(numbers: &BTreeSet<u64>, number: Option<Number>) -> bool
+    ensures { result ≡ is_there (contains nat_cmp numbers.now) number }
+{
+    match number {
+        None => true,
+        Some(number) => numbers.contains(number.as_u64()),
+    }
+}
+
 /// Whether the snapshots that an instance names are there.
 fn names_snapshots(numbers: &BTreeSet<u64>, instance: &Instance) -> bool
     ensures { result ≡ names_snapshots (contains nat_cmp numbers.now) instance.now }
 {
-    if !is_there(numbers, instance.start) || !is_there(numbers, instance.previous) {
+    if !has(numbers, instance.start) || !has(numbers, instance.previous) {
         return false;
     }
     is_there(numbers, instance.row.running) && is_there(numbers, instance.row.begun)
@@ -641,7 +653,7 @@ fn have_rows(alloc: Global, tables: &Tables, snapshots: &[Row]) -> Result<bool, 
 
 /// The instances that the rows show, if all of them may stand there and each snapshot that they name has a row.
 #[tactic(auto, unfolding(crate::specs::Judged::instances_said))]
-pub(crate) fn gather_named(
+fn gather_named(
     alloc: Global,
     rows: &[Row],
     snapshots: &[Row],
@@ -659,4 +671,22 @@ pub(crate) fn gather_named(
         return Ok(false);
     }
     Ok(true)
+}
+
+/// The instances that the rows show, if all of them may stand there, and if each snapshot that they name has a row where
+/// it is known which are there.
+pub(crate) fn gather_seen(
+    alloc: Global,
+    knows_snapshots: bool,
+    rows: &[Row],
+    snapshots: &[Row],
+    tables: &mut Tables,
+) -> Result<bool, AllocError>
+    ensures exact { IfOk result (λ taken. Takes taken (instances_seen knows_snapshots rows.now snapshots.now tables.old) tables.new) }
+    ensures gathered { IfOk result (λ taken. IsTrue taken → GathersInstances rows.now tables.old tables.new) }
+{
+    match knows_snapshots {
+        true => gather_named(alloc, rows, snapshots, tables),
+        false => gather_instances(alloc, rows, tables),
+    }
 }

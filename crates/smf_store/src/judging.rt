@@ -1,11 +1,11 @@
 ghost use Rattle.std.specs.Prelude.{◌≡◌, false, Err, IfOk, IsTrue, Ok, OnOk};
 ghost use Rattle.smf_model.specs.Laws.{IsNumbered};
 ghost use Rattle.smf_store.specs.Gathered.{AreRead, GathersAll, rows_of};
-ghost use Rattle.smf_store.specs.Judged.{IsJudged, IsRead, fitting, judged, tables_said};
+ghost use Rattle.smf_store.specs.Judged.{IsBroken, IsJudged, IsRead, broken_by, first_broken, fitting, judged, tables_said};
 
 use crate::counting::{MAX_NEXT_INSTANCE, StoreVersion, begin, counters_said, version_said};
 use crate::gathering::{
-    gather_groups, gather_launches, gather_named, gather_services, gather_snapshots,
+    gather_groups, gather_launches, gather_seen, gather_services, gather_snapshots,
 };
 use crate::refusal::{OpenFault, StoreTable};
 use smf_model::Tables;
@@ -21,6 +21,8 @@ pub(crate) struct StoreRows {
     pub(crate) groups: Vec<Row>,
     pub(crate) snapshots: Vec<Row>,
     pub(crate) launches: Vec<Row>,
+    /// Whether it is known which snapshots are there.
+    pub(crate) knows_snapshots: bool,
 }
 
 /// What stands in a store, and in which version.
@@ -42,7 +44,13 @@ fn read_tables(alloc: Global, rows: &StoreRows, tables: &mut Tables) -> Result<(
     if !services {
         return Err(OpenFault::Damaged(StoreTable::Service));
     }
-    let Ok(instances) = gather_named(alloc, &rows.instances, &rows.snapshots, tables) else {
+    let Ok(instances) = gather_seen(
+        alloc,
+        rows.knows_snapshots,
+        &rows.instances,
+        &rows.snapshots,
+        tables,
+    ) else {
         return Err(OpenFault::Memory);
     };
     if !instances {
@@ -106,4 +114,28 @@ pub(crate) fn judge(alloc: Global, rows: &StoreRows) -> Result<Judgement, OpenFa
         return Err(OpenFault::TooManyInstances);
     }
     Ok(Judgement { version, tables })
+}
+
+/// What is told of a fault where this table is absent or another.
+fn broken_by(fault: OpenFault, other: StoreTable) -> OpenFault
+    ensures { result ≡ broken_by other fault }
+{
+    match fault {
+        OpenFault::Memory => OpenFault::Memory,
+        OpenFault::Version(version) => OpenFault::Version(version),
+        OpenFault::Damaged(table) => OpenFault::Damaged(table),
+        _ => OpenFault::Damaged(other),
+    }
+}
+
+/// The first table that breaks a rule, where this one is absent or another and the tables before it have these rows.
+#[tactic(auto, using(crate::proofs::Verdicts::broken_none, crate::proofs::Verdicts::broken_some))]
+pub(crate) fn find_broken(alloc: Global, rows: &StoreRows, other: StoreTable) -> OpenFault
+    ensures { IsBroken result (first_broken other (judged rows.now)) }
+{
+    let fault = match judge(alloc, rows) {
+        Ok(_) => return OpenFault::Damaged(other),
+        Err(fault) => fault,
+    };
+    broken_by(fault, other)
 }

@@ -4,7 +4,7 @@ ghost use Rattle.smf_store.specs.Ends.{MakesInstanceGroups, MakesServiceGroups};
 ghost use Rattle.smf_store.specs.Steps.{Makes};
 
 use crate::fault::WriteFault;
-use crate::fields::{are_same, integer_of, key_of, small_of, split};
+use crate::fields::{are_same, integer_of, key_of, split};
 use crate::rows::{insert_groups, insert_instance, insert_snapshot};
 use smf_fmri::{InstanceFmri, Number, Ordered, ServiceFmri};
 use smf_model::{Change, Instance, InstanceEntry, InstanceName, Launch, Owner, Service, Snapshot};
@@ -33,7 +33,7 @@ fn put_service<S: Alter>(
     drop_service_groups(tx, name)?;
     drop_service(tx, name)?;
     add_service(tx, name)?;
-    insert_groups(alloc, tx, name, 0, groups)?;
+    insert_groups(alloc, tx, name, Number::zero(), groups)?;
     Ok(())
 }
 
@@ -98,7 +98,7 @@ fn put_instance<S: Alter>(
 }
 
 /// Takes out an instance with its groups.
-fn take_instance<S: Alter>(tx: &mut Transaction<'_, S>, number: u64) -> Result<(), WriteFault>
+fn take_instance<S: Alter>(tx: &mut Transaction<'_, S>, number: Number) -> Result<(), WriteFault>
     requires { IsInside S.Store tx.old.conn.now }
     ensures same_reference { tx.new.conn.ghost_name ≡ tx.old.conn.ghost_name }
     ensures ok { Does (Makes (Change.DropInstance number)) S.Store tx.old.conn.now tx.new.conn.now result }
@@ -134,7 +134,7 @@ fn put_service_groups<S: Alter>(
         return Err(WriteFault::Database);
     }
     drop_service_groups(tx, name)?;
-    insert_groups(alloc, tx, name, 0, groups)?;
+    insert_groups(alloc, tx, name, Number::zero(), groups)?;
     Ok(())
 }
 
@@ -142,7 +142,7 @@ fn put_service_groups<S: Alter>(
 fn put_instance_groups<S: Alter>(
     alloc: Global,
     tx: &mut Transaction<'_, S>,
-    number: u64,
+    number: Number,
     groups: &Ordered<Group>,
 ) -> Result<(), WriteFault>
     requires { IsInside S.Store tx.old.conn.now }
@@ -178,14 +178,14 @@ fn put_snapshot<S: Alter>(
 }
 
 /// Takes out the snapshots of an instance.
-fn take_snapshots<S: Alter>(tx: &mut Transaction<'_, S>, number: u64) -> Result<(), WriteFault>
+fn take_snapshots<S: Alter>(tx: &mut Transaction<'_, S>, number: Number) -> Result<(), WriteFault>
     requires { IsInside S.Store tx.old.conn.now }
     ensures same_reference { tx.new.conn.ghost_name ≡ tx.old.conn.ghost_name }
     ensures ok { Does (Makes (Change.DropSnapshots number)) S.Store tx.old.conn.now tx.new.conn.now result }
     ensures err { CommitsNone S.Store tx.old.conn.now tx.new.conn.now result }
     ensures crash { LeavesAsBefore S.Store tx.old.conn.now tx.new.conn.now }
 {
-    let id = small_of(number)?;
+    let id = integer_of(number);
     drop_snapshots(tx, id)?;
     Ok(())
 }

@@ -1,19 +1,19 @@
-ghost use Rattle.std.specs.Prelude.{◌≡◌, IfErr, IfOk};
+ghost use Rattle.std.specs.Prelude.{◌≡◌, false, IfErr, IfOk};
 ghost use Rattle.sqlite.specs.Held.{state};
-ghost use Rattle.sqlite.specs.State.{HasCleanDisk, IsLive};
+ghost use Rattle.sqlite.specs.State.{HasCleanDisk, IsLive, KeepsCommit};
 ghost use Rattle.smf_model.specs.Laws.{IsNumbered};
 ghost use Rattle.smf_tables.specs.Calls.{CommitsNone, Does, IsInside, LeavesAsBefore};
 ghost use Rattle.smf_tables.specs.Calls.{Finds as Gives};
 ghost use Rattle.smf_tables.specs.Schema.{store_schema};
 ghost use Rattle.smf_store.specs.Ends.{Fails, LeavesOr};
 ghost use Rattle.smf_store.specs.FirstOther.{IsFirstOther};
-ghost use Rattle.smf_store.specs.Stages.{IsRefused, IsSaid, MayRead, Opened, Raises, Reads};
+ghost use Rattle.smf_store.specs.Stages.{IsRefused, IsSaid, IsSaidBefore, MayRead, Opened, Raises, Reads};
 ghost use Rattle.smf_store.specs.Steps.{Kept};
 
 use crate::counting::StoreVersion;
 use crate::fault::WriteFault;
-use crate::judging::{Judgement, judge};
-use crate::reading::read_rows;
+use crate::judging::{Judgement, find_broken, judge};
+use crate::reading::{read_before, read_rows, told_for};
 use crate::refusal::{OpenFault, StoreTable};
 use smf_model::Tables;
 use smf_tables::{
@@ -79,29 +79,64 @@ fn read_raised<S: Alter>(alloc: Global, tx: &mut Transaction<'_, S>) -> Result<T
     Ok(tables)
 }
 
-/// The first of the six tables that is absent or another.
-fn first_other(schema: &Schema) -> StoreTable
+/// The first of the six tables that is absent or another, if one is.
+fn first_other(schema: &Schema) -> Option<StoreTable>
     ensures { IsFirstOther schema.now result }
 {
     if !has_meta_table(schema) {
-        return StoreTable::Meta;
+        return Some(StoreTable::Meta);
     }
     if !has_service_table(schema) {
-        return StoreTable::Service;
+        return Some(StoreTable::Service);
     }
     if !has_instance_table(schema) {
-        return StoreTable::Instance;
+        return Some(StoreTable::Instance);
     }
     if !has_grp_table(schema) {
-        return StoreTable::Group;
+        return Some(StoreTable::Group);
     }
     if !has_snap_table(schema) {
-        return StoreTable::Snapshot;
+        return Some(StoreTable::Snapshot);
     }
     if !has_restarter_table(schema) {
-        return StoreTable::Restarter;
+        return Some(StoreTable::Restarter);
     }
-    StoreTable::Meta
+    None
+}
+
+/// What is told where the tables are not those of a store: the first that is absent, or another, or has a row that breaks
+/// a rule.
+fn find_fault<S: Alter>(
+    alloc: Global,
+    tx: &mut Transaction<'_, S>,
+    other: Option<StoreTable>,
+) -> OpenFault
+    requires { IsInside S.Store tx.old.conn.now }
+    ensures same_reference { tx.new.conn.ghost_name ≡ tx.old.conn.ghost_name }
+    ensures kept { HasCleanDisk (state S.Store tx.new.conn.now) → KeepsCommit (state S.Store tx.old.conn.now) (state S.Store tx.new.conn.now) }
+    ensures crash { LeavesAsBefore S.Store tx.old.conn.now tx.new.conn.now }
+    ensures said { HasCleanDisk (state S.Store tx.new.conn.now) → IsFirstOther (state S.Store tx.old.conn.now).now.schema other → IsLive (state S.Store tx.old.conn.now)
+        → IsSaidBefore other (state S.Store tx.old.conn.now).now.trees result }
+{
+    let rows = match read_before(alloc, tx, other) {
+        Ok(rows) => rows,
+        Err(fault) => return fault,
+    };
+    find_broken(alloc, &rows, told_for(other))
+}
+
+/// The same, of a database that stays as it is.
+#[tactic(auto, using(crate::proofs::Before::refused_before))]
+fn refuse<S: Alter>(alloc: Global, conn: &mut Connection<S>) -> OpenFault
+    requires autocommits { conn.old.in_transaction ≡ false }
+    requires another { (state S.Store conn.old).now.schema ≡ store_schema → ⊥ }
+    ensures kept { HasCleanDisk (state S.Store conn.new) → Kept (state S.Store conn.old) (state S.Store conn.new) }
+    ensures refused { HasCleanDisk (state S.Store conn.new) → IsRefused (state S.Store conn.old).now result }
+    ensures crash { LeavesOr MayRead S.Store conn.old conn.new }
+{
+    let other = first_other(conn.schema());
+    let mut tx = conn.transaction();
+    find_fault(alloc, &mut tx, other)
 }
 
 /// What the tables of a store hold. The database stays as it is, but for one of the first version.
@@ -119,7 +154,7 @@ pub(crate) fn read_store<S: Alter>(
         return Err(OpenFault::Database);
     }
     if !is_store(conn.schema()) {
-        return Err(OpenFault::Damaged(first_other(conn.schema())));
+        return Err(refuse(alloc, conn));
     }
     let mut tx = conn.transaction();
     let tables = read_raised(alloc, &mut tx)?;

@@ -6,7 +6,8 @@ ghost use Rattle.smf_store.specs.Shown.{ShowsInstance, ShowsSnapshot};
 ghost use Rattle.smf_store.specs.Steps.{AddsRow, GrowsBy};
 
 use crate::fault::WriteFault;
-use crate::fields::{body_of, integer_of, key_of, optional_of, small_of, split};
+use crate::fields::{body_of, integer_of, key_of, optional_of, split};
+use smf_fmri::Number;
 use smf_model::{Instance, Snapshot};
 use smf_snap::encode_both;
 use smf_tables::{InstanceRow, add_group, add_instance, add_snapshot};
@@ -27,8 +28,8 @@ pub(crate) fn insert_instance<S: Alter>(
     ensures crash { LeavesAsBefore S.Store tx.old.conn.now tx.new.conn.now }
 {
     let id = key_of(i.number)?;
-    let start = optional_of(i.start)?;
-    let previous = optional_of(i.previous)?;
+    let start = optional_of(i.start);
+    let previous = optional_of(i.previous);
     let columns = split(alloc, &i.name)?;
     let row = i.row.print(alloc)?;
     let row = InstanceRow {
@@ -56,7 +57,7 @@ pub(crate) fn insert_snapshot<S: Alter>(
     ensures crash { LeavesAsBefore S.Store tx.old.conn.now tx.new.conn.now }
 {
     let id = integer_of(s.number);
-    let instance = small_of(s.instance)?;
+    let instance = integer_of(s.instance);
     let body = encode_both(alloc, &s.service_groups, &s.instance_groups)?;
     add_snapshot(tx, id, instance, body.as_slice())?;
     Ok(())
@@ -67,7 +68,7 @@ fn insert_group<S: Alter>(
     alloc: Global,
     tx: &mut Transaction<'_, S>,
     service: &str,
-    number: u64,
+    number: Number,
     group: &Group,
 ) -> Result<(), WriteFault>
     requires { IsInside S.Store tx.old.conn.now }
@@ -76,7 +77,7 @@ fn insert_group<S: Alter>(
     ensures err { CommitsNone S.Store tx.old.conn.now tx.new.conn.now result }
     ensures crash { LeavesAsBefore S.Store tx.old.conn.now tx.new.conn.now }
 {
-    let id = small_of(number)?;
+    let id = integer_of(number);
     let body = body_of(alloc, group)?;
     add_group(tx, service, id, group.name().as_str(), body.as_slice())?;
     Ok(())
@@ -87,7 +88,7 @@ pub(crate) fn insert_groups<S: Alter>(
     alloc: Global,
     tx: &mut Transaction<'_, S>,
     service: &str,
-    number: u64,
+    number: Number,
     groups: &[Group],
 ) -> Result<(), WriteFault>
     requires { IsInside S.Store tx.old.conn.now }

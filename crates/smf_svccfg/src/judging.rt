@@ -16,7 +16,7 @@ use crate::naming::{
 };
 use crate::parsing::name_in;
 use crate::selection::{Judged, Selection};
-use smf_fmri::{ServiceFmri, Text};
+use smf_fmri::{Number, ServiceFmri, Text};
 use smf_model::{Edit, Owner, PropertyChange};
 use smf_repo::Client;
 use smf_snap::SnapshotName;
@@ -62,7 +62,7 @@ fn unselect<C: Client>(
 
 fn snapshot_named<C: Client>(
     repository: &C,
-    instance: u64,
+    instance: Number,
     name: Option<SnapshotName>,
 ) -> Result<Judged, CfgFault>
     ensures { result ≡ snapshot_named (C.held repository.now) instance name }
@@ -70,7 +70,7 @@ fn snapshot_named<C: Client>(
     match name {
         None => Err(CfgFault::NoSuch),
         Some(name) => {
-            if repository.snapshot_number(instance, name).is_some() {
+            if repository.snapshot_number(instance.get(), name).is_some() {
                 Ok(Judged::Select(Selection::Snapshot { instance, name }))
             } else {
                 Err(CfgFault::NoSuch)
@@ -82,7 +82,7 @@ fn snapshot_named<C: Client>(
 /// A snapshot of an instance by its name, or the instance again.
 fn snapshot_in<C: Client>(
     repository: &C,
-    instance: u64,
+    instance: Number,
     word: &Option<Text>,
 ) -> Result<Judged, CfgFault>
     ensures { result ≡ snapshot_in (C.held repository.now) instance word.now }
@@ -95,7 +95,7 @@ fn snapshot_in<C: Client>(
 
 fn select_snapshot<C: Client>(
     repository: &C,
-    instance: Option<u64>,
+    instance: Option<Number>,
     word: &Option<Text>,
 ) -> Result<Judged, CfgFault>
     ensures { result ≡ judged_snapshot (C.held repository.now) instance word.now }
@@ -174,7 +174,7 @@ fn deleting(owner: Owner) -> Edit
 {
     match owner {
         Owner::Service(name) => Edit::DeleteService(name),
-        Owner::Instance(number) => Edit::DeleteInstance(number),
+        Owner::Instance(number) => Edit::DeleteInstance(number.get()),
     }
 }
 
@@ -271,15 +271,16 @@ fn reverting(selection: &Selection) -> Result<Judged, CfgFault>
     }
 }
 
-fn revert_edit(instance: u64, snapshot: SnapshotName, after: Selection) -> Judged
+fn revert_edit(instance: Number, snapshot: SnapshotName, after: Selection) -> Judged
     ensures { result ≡ judgements.Edit (edits.Revert instance snapshot) after }
 {
+    let instance = instance.get();
     Judged::Edit(Edit::Revert { instance, snapshot }, after)
 }
 
 fn reverting_to(
     selection: &Selection,
-    instance: u64,
+    instance: Number,
     name: Option<SnapshotName>,
 ) -> Result<Judged, CfgFault>
     ensures { Gives result (reverting_to selection.now instance name) }
@@ -334,7 +335,7 @@ fn list_properties<C: Client>(
 fn list_snapshots<C: Client>(
     alloc: Global,
     repository: &C,
-    instance: Option<u64>,
+    instance: Option<Number>,
 ) -> Result<Judged, CfgFault>
     ensures { Gives result (printed (option_map snapshots_text (snapshots_in (C.held repository.now) instance))) }
 {

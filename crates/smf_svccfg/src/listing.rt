@@ -11,7 +11,7 @@ ghost use Rattle.smf_svccfg.specs.Listed.{before_instances, children_text, compo
 
 use crate::quoting::quoted;
 use crate::selection::Selection;
-use smf_fmri::{Items, Ordered, ServiceFmri, Table, Text, strip};
+use smf_fmri::{Items, Number, Ordered, ServiceFmri, Table, Text, strip};
 use smf_model::{InstanceName, Owner, Service, Snapshot};
 use smf_repo::Client;
 use smf_snap::SnapshotName;
@@ -262,10 +262,10 @@ fn composed_in(alloc: Global, snapshot: Option<&Snapshot>) -> Result<Ordered<Gro
     }
 }
 
-fn snapshot_of<C: Client>(repository: &C, instance: u64, name: SnapshotName) -> Option<&Snapshot>
+fn snapshot_of<C: Client>(repository: &C, instance: Number, name: SnapshotName) -> Option<&Snapshot>
     ensures { option_copied result ≡ snapshot_by_name (C.held repository.now) instance name }
 {
-    match repository.snapshot_number(instance, name) {
+    match repository.snapshot_number(instance.get(), name) {
         None => None,
         Some(number) => repository.snapshot(number),
     }
@@ -315,12 +315,12 @@ pub(crate) fn snapshots_text(alloc: Global, names: &[SnapshotName]) -> Result<Te
 /// The names of the snapshots of an instance, if one is selected.
 pub(crate) fn snapshots_in<C: Client>(
     repository: &C,
-    instance: Option<u64>,
+    instance: Option<Number>,
 ) -> Result<Option<Items<SnapshotName>>, AllocError>
     ensures { IfOk result (λ names. names ≡ snapshots_in (C.held repository.now) instance) }
 {
     match instance {
         None => Ok(None),
-        Some(instance) => repository.snapshots(instance),
+        Some(instance) => repository.snapshots(instance.get()),
     }
 }

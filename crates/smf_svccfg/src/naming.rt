@@ -8,7 +8,7 @@ ghost use Rattle.smf_svccfg.specs.Judged.{Gives, above, above_instance, child, e
 
 use crate::fault::CfgFault;
 use crate::selection::Selection;
-use smf_fmri::{Fmri, FmriFault, InstanceFmri, ServiceFmri};
+use smf_fmri::{Fmri, FmriFault, InstanceFmri, Number, ServiceFmri};
 use smf_model::Owner;
 use smf_repo::Client;
 use std::alloc::{AllocError, Global};
@@ -132,7 +132,7 @@ pub(crate) fn selection_of(owner: Owner) -> Selection
 }
 
 /// The instance that is selected, or of which a snapshot is.
-pub(crate) fn instance_in(selection: &Selection) -> Option<u64>
+pub(crate) fn instance_in(selection: &Selection) -> Option<Number>
     ensures { result ≡ instance_in selection.now }
 {
     match selection {
@@ -147,11 +147,11 @@ pub(crate) fn instance_in(selection: &Selection) -> Option<u64>
 pub(crate) fn above_instance<C: Client>(
     alloc: Global,
     repository: &C,
-    number: u64,
+    number: Number,
 ) -> Result<Selection, AllocError>
     ensures { IfOk result (λ found. found ≡ above_instance (instance (C.held repository.now) number)) }
 {
-    match repository.instance(number)? {
+    match repository.instance(number.get())? {
         None => Ok(Selection::Nothing),
         Some(instance) => {
             let service = instance.name.as_fmri().service_fmri(alloc)?;

@@ -1,6 +1,6 @@
 ghost use Rattle.std.specs.Prelude.{◌≡◌};
 
-use smf_fmri::{ServiceFmri, Text};
+use smf_fmri::{Number, ServiceFmri, Text};
 use smf_model::Edit;
 use smf_snap::SnapshotName;
 use std::alloc::AllocError;
@@ -11,9 +11,12 @@ pub enum Selection {
     Nothing,
     Service(ServiceFmri),
     /// An instance, by its number. It has no children.
-    Instance(u64),
+    Instance(Number),
     /// A snapshot of an instance, by its name.
-    Snapshot { instance: u64, name: SnapshotName },
+    Snapshot {
+        instance: Number,
+        name: SnapshotName,
+    },
 }
 
 /// What a line comes to.

@@ -10,3 +10,4 @@ pub mod Wholes
 pub mod Wide
 pub mod Rowed
 pub mod Sizes
+pub mod Begun

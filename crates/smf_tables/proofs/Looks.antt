@@ -5,6 +5,7 @@ use Rattle.sqlite.specs.declared.types.Value.TheVariants.{Null, Int, Text}
 use Rattle.sqlite.specs.Order.{Row, column}
 use Rattle.sqlite.specs.Command.TheVariants.{Select}
 use Rattle.sqlite.specs.Program.{overlay}
+use Rattle.sqlite.specs.Schema.{Schema}
 use Rattle.sqlite.specs.Term.{Term, col}
 use Rattle.sqlite.specs.Listing.{understood, reads_listing}
 use Rattle.sqlite.specs.declared.error.Error.{Error}
@@ -14,7 +15,6 @@ use Rattle.sqlite.specs.State.{State, Shown, Shows, ShowsRows, IsUnchanged, IsRo
 use Rattle.sqlite.proofs.Callers.{IsPlain, command_of, reads_as}
 use Rattle.sqlite_rules.specs.Lists.{Has}
 use Rattle.sqlite_rules.proofs.ListLemmas.{has_at}
-use Rattle.smf_tables.specs.Schema.{store_schema}
 use Rattle.smf_tables.specs.declared.looking.NameColumns.{NameColumns}
 use Rattle.smf_tables.specs.Rows.{equal, is_picked}
 use Rattle.smf_tables.specs.Statements.{ReadsName, FindsService}
@@ -66,13 +66,13 @@ unchanged text params old new rows plain h =
     let it = rw (bare.0) at h.2 in
     it.3
 
-module _ (text : List ℕ) (params : Row) (old new : State) (order : List (Term × Key)) (tree : ℕ) (tests shown : List Term) (names : List (List ℕ))
-    (is : command_of (understood store_schema text) ≡ Select (record { lets = []; body = ordered_query order tree tests shown }) names)
-    (plain : IsPlain (understood store_schema text)) (unlisted : reads_listing store_schema text ≡ false) (has : old.now.schema ≡ store_schema) where
+module _ {schema : Schema} (text : List ℕ) (params : Row) (old new : State) (order : List (Term × Key)) (tree : ℕ) (tests shown : List Term) (names : List (List ℕ))
+    (is : command_of (understood schema text) ≡ Select (record { lets = []; body = ordered_query order tree tests shown }) names)
+    (plain : IsPlain (understood schema text)) (unlisted : reads_listing schema text ≡ false) (has : old.now.schema ≡ schema) where
   -- the rows that pass are shown, and no other
   pub shows_rows : (rows : List Row) → Shown text params old new rows → AreShown old.now.trees tree tests shown params rows
   shows_rows rows seen =
-      let it = are_shown (overlay old.now.trees []) order tree tests shown params rows ((reads_as text params old new store_schema has (Select (record { lets = []; body = ordered_query order tree tests shown }) names) is plain unlisted rows seen).answer Null) in
+      let it = are_shown (overlay old.now.trees []) order tree tests shown params rows ((reads_as text params old new schema has (Select (record { lets = []; body = ordered_query order tree tests shown }) names) is plain unlisted rows seen).answer Null) in
       let same = no_tables old.now.trees tree in
       record {
         sound = λ x h. let s = it.sound x h in (s.0, subst (λ l. Has l s.0) same s.1, s.2, s.3);

@@ -15,7 +15,7 @@ use Rattle.sqlite_schema.specs.Rules.{are_typed, passes}
 use Rattle.sqlite_rules.specs.Lists.{Has}
 use Rattle.sqlite_rules.proofs.ListLemmas.{all_has}
 use Rattle.smf_tables.specs.Schema as tables
-use Rattle.smf_tables.specs.Schema.{store_schema}
+use Rattle.smf_tables.specs.Layout.{Begins, begun_1, begun_2, begun_3, begun_4, begun_5, begun_6}
 use Rattle.smf_tables.specs.Rows.{SameColumns}
 use Rattle.smf_tables.specs.Reading.{shown, Looks}
 use Rattle.smf_tables.proofs.Answers as answers
@@ -75,13 +75,14 @@ meta_same a b ta tb same (suc zero) less = same 1 (omega arith)
 meta_same a b ta tb same (suc (suc zero)) less = same 2 (omega arith)
 meta_same a b ta tb same (suc (suc (suc k))) less = past_all tables.meta a (suc (suc k)) ta (omega arith) ∙ sym (past_all tables.meta b (suc (suc k)) tb (omega arith))
 
-pub looks_at_meta : (old new : State) (rows : List Row) → IsTrue old.in_transaction → Shown Wholes.all_meta [] old new rows → Looks 0 (0 ∷ 1 ∷ 2 ∷ []) old new rows
+pub looks_at_meta : (old new : State) (rows : List Row) → IsTrue old.in_transaction → Shown Wholes.all_meta [] old new rows → Looks begun_1 0 (0 ∷ 1 ∷ 2 ∷ []) old new rows
+unfolding Begins
 looks_at_meta old new rows on seen = record {
   shows = shown_inside Wholes.all_meta [] old new rows on seen;
-  same = λ has. same_database Wholes.all_meta [] old new answers.by_rowid 0 [] (col 1 0 ∷ col 1 1 ∷ col 1 2 ∷ []) (codes "rowid" ∷ codes "k" ∷ codes "v" ∷ []) Wholes.all_meta_is Wholes.all_meta_plain Wholes.all_meta_unlisted has rows seen;
-  seen = λ has db.
-      let all = shows_rows Wholes.all_meta [] old new answers.by_rowid 0 [] (col 1 0 ∷ col 1 1 ∷ col 1 2 ∷ []) (codes "rowid" ∷ codes "k" ∷ codes "v" ∷ []) Wholes.all_meta_is Wholes.all_meta_plain Wholes.all_meta_unlisted has rows seen in
-      let typed = subst (λ s. AllByRecursion (λ t. AllByRecursion (λ row. passes Datatype old.now.schema old.now.trees t row ≡ true) (old.now.trees t.tree)) s.tables) has (db.obeys.rules Datatype) in
+  same = λ b. same_database Wholes.all_meta [] old new answers.by_rowid 0 [] (col 1 0 ∷ col 1 1 ∷ col 1 2 ∷ []) (codes "rowid" ∷ codes "k" ∷ codes "v" ∷ []) (Wholes.all_meta_is b.0) (Wholes.all_meta_plain b.0) (Wholes.all_meta_unlisted b.0) b.1 rows seen;
+  seen = λ b db.
+      let all = shows_rows Wholes.all_meta [] old new answers.by_rowid 0 [] (col 1 0 ∷ col 1 1 ∷ col 1 2 ∷ []) (codes "rowid" ∷ codes "k" ∷ codes "v" ∷ []) (Wholes.all_meta_is b.0) (Wholes.all_meta_plain b.0) (Wholes.all_meta_unlisted b.0) b.1 rows seen in
+      let typed = subst (λ s. AllByRecursion (λ t. AllByRecursion (λ row. passes Datatype old.now.schema old.now.trees t row ≡ true) (old.now.trees t.tree)) s.tables) b.1 (db.obeys.rules Datatype) in
       record {
         sound = λ x there. let s = all.sound x there in (s.0, s.1, s.3);
         complete = λ r there. all.complete r there refl;
@@ -101,13 +102,14 @@ services_same a b ta tb same zero less = same 0 (omega arith)
 services_same a b ta tb same (suc zero) less = same 1 (omega arith)
 services_same a b ta tb same (suc (suc k)) less = past_all tables.service a (suc k) ta (omega arith) ∙ sym (past_all tables.service b (suc k) tb (omega arith))
 
-pub looks_at_services : (old new : State) (rows : List Row) → IsTrue old.in_transaction → Shown Wholes.all_services [] old new rows → Looks 2 (0 ∷ 1 ∷ []) old new rows
+pub looks_at_services : (old new : State) (rows : List Row) → IsTrue old.in_transaction → Shown Wholes.all_services [] old new rows → Looks begun_2 2 (0 ∷ 1 ∷ []) old new rows
+unfolding Begins
 looks_at_services old new rows on seen = record {
   shows = shown_inside Wholes.all_services [] old new rows on seen;
-  same = λ has. same_database Wholes.all_services [] old new answers.by_rowid 2 [] (col 1 0 ∷ col 1 1 ∷ []) (codes "rowid" ∷ codes "name" ∷ []) Wholes.all_services_is Wholes.all_services_plain Wholes.all_services_unlisted has rows seen;
-  seen = λ has db.
-      let all = shows_rows Wholes.all_services [] old new answers.by_rowid 2 [] (col 1 0 ∷ col 1 1 ∷ []) (codes "rowid" ∷ codes "name" ∷ []) Wholes.all_services_is Wholes.all_services_plain Wholes.all_services_unlisted has rows seen in
-      let typed = subst (λ s. AllByRecursion (λ t. AllByRecursion (λ row. passes Datatype old.now.schema old.now.trees t row ≡ true) (old.now.trees t.tree)) s.tables) has (db.obeys.rules Datatype) in
+  same = λ b. same_database Wholes.all_services [] old new answers.by_rowid 2 [] (col 1 0 ∷ col 1 1 ∷ []) (codes "rowid" ∷ codes "name" ∷ []) (Wholes.all_services_is b.0) (Wholes.all_services_plain b.0) (Wholes.all_services_unlisted b.0) b.1 rows seen;
+  seen = λ b db.
+      let all = shows_rows Wholes.all_services [] old new answers.by_rowid 2 [] (col 1 0 ∷ col 1 1 ∷ []) (codes "rowid" ∷ codes "name" ∷ []) (Wholes.all_services_is b.0) (Wholes.all_services_plain b.0) (Wholes.all_services_unlisted b.0) b.1 rows seen in
+      let typed = subst (λ s. AllByRecursion (λ t. AllByRecursion (λ row. passes Datatype old.now.schema old.now.trees t row ≡ true) (old.now.trees t.tree)) s.tables) b.1 (db.obeys.rules Datatype) in
       record {
         sound = λ x there. let s = all.sound x there in (s.0, s.1, s.3);
         complete = λ r there. all.complete r there refl;
@@ -132,13 +134,14 @@ instances_same a b ta tb same (suc (suc (suc (suc (suc zero))))) less = same 5 (
 instances_same a b ta tb same (suc (suc (suc (suc (suc (suc zero)))))) less = same 6 (omega arith)
 instances_same a b ta tb same (suc (suc (suc (suc (suc (suc (suc k))))))) less = past_all tables.instance a (suc (suc (suc (suc (suc (suc k)))))) ta (omega arith) ∙ sym (past_all tables.instance b (suc (suc (suc (suc (suc (suc k)))))) tb (omega arith))
 
-pub looks_at_instances : (old new : State) (rows : List Row) → IsTrue old.in_transaction → Shown Wholes.all_instances [] old new rows → Looks 4 (0 ∷ 0 ∷ 2 ∷ 3 ∷ 4 ∷ 5 ∷ 6 ∷ []) old new rows
+pub looks_at_instances : (old new : State) (rows : List Row) → IsTrue old.in_transaction → Shown Wholes.all_instances [] old new rows → Looks begun_3 4 (0 ∷ 0 ∷ 2 ∷ 3 ∷ 4 ∷ 5 ∷ 6 ∷ []) old new rows
+unfolding Begins
 looks_at_instances old new rows on seen = record {
   shows = shown_inside Wholes.all_instances [] old new rows on seen;
-  same = λ has. same_database Wholes.all_instances [] old new answers.by_rowid 4 [] (col 1 0 ∷ col 1 0 ∷ col 1 2 ∷ col 1 3 ∷ col 1 4 ∷ col 1 5 ∷ col 1 6 ∷ []) (codes "id" ∷ codes "id" ∷ codes "service" ∷ codes "name" ∷ codes "rowtext" ∷ codes "start_snap" ∷ codes "previous_snap" ∷ []) Wholes.all_instances_is Wholes.all_instances_plain Wholes.all_instances_unlisted has rows seen;
-  seen = λ has db.
-      let all = shows_rows Wholes.all_instances [] old new answers.by_rowid 4 [] (col 1 0 ∷ col 1 0 ∷ col 1 2 ∷ col 1 3 ∷ col 1 4 ∷ col 1 5 ∷ col 1 6 ∷ []) (codes "id" ∷ codes "id" ∷ codes "service" ∷ codes "name" ∷ codes "rowtext" ∷ codes "start_snap" ∷ codes "previous_snap" ∷ []) Wholes.all_instances_is Wholes.all_instances_plain Wholes.all_instances_unlisted has rows seen in
-      let typed = subst (λ s. AllByRecursion (λ t. AllByRecursion (λ row. passes Datatype old.now.schema old.now.trees t row ≡ true) (old.now.trees t.tree)) s.tables) has (db.obeys.rules Datatype) in
+  same = λ b. same_database Wholes.all_instances [] old new answers.by_rowid 4 [] (col 1 0 ∷ col 1 0 ∷ col 1 2 ∷ col 1 3 ∷ col 1 4 ∷ col 1 5 ∷ col 1 6 ∷ []) (codes "id" ∷ codes "id" ∷ codes "service" ∷ codes "name" ∷ codes "rowtext" ∷ codes "start_snap" ∷ codes "previous_snap" ∷ []) (Wholes.all_instances_is b.0) (Wholes.all_instances_plain b.0) (Wholes.all_instances_unlisted b.0) b.1 rows seen;
+  seen = λ b db.
+      let all = shows_rows Wholes.all_instances [] old new answers.by_rowid 4 [] (col 1 0 ∷ col 1 0 ∷ col 1 2 ∷ col 1 3 ∷ col 1 4 ∷ col 1 5 ∷ col 1 6 ∷ []) (codes "id" ∷ codes "id" ∷ codes "service" ∷ codes "name" ∷ codes "rowtext" ∷ codes "start_snap" ∷ codes "previous_snap" ∷ []) (Wholes.all_instances_is b.0) (Wholes.all_instances_plain b.0) (Wholes.all_instances_unlisted b.0) b.1 rows seen in
+      let typed = subst (λ s. AllByRecursion (λ t. AllByRecursion (λ row. passes Datatype old.now.schema old.now.trees t row ≡ true) (old.now.trees t.tree)) s.tables) b.1 (db.obeys.rules Datatype) in
       record {
         sound = λ x there. let s = all.sound x there in (s.0, s.1, s.3);
         complete = λ r there. all.complete r there refl;
@@ -161,13 +164,14 @@ groups_same a b ta tb same (suc (suc (suc zero))) less = same 3 (omega arith)
 groups_same a b ta tb same (suc (suc (suc (suc zero)))) less = same 4 (omega arith)
 groups_same a b ta tb same (suc (suc (suc (suc (suc k))))) less = past_all tables.grp a (suc (suc (suc (suc k)))) ta (omega arith) ∙ sym (past_all tables.grp b (suc (suc (suc (suc k)))) tb (omega arith))
 
-pub looks_at_groups : (old new : State) (rows : List Row) → IsTrue old.in_transaction → Shown Wholes.all_groups [] old new rows → Looks 6 (0 ∷ 1 ∷ 2 ∷ 3 ∷ 4 ∷ []) old new rows
+pub looks_at_groups : (old new : State) (rows : List Row) → IsTrue old.in_transaction → Shown Wholes.all_groups [] old new rows → Looks begun_4 6 (0 ∷ 1 ∷ 2 ∷ 3 ∷ 4 ∷ []) old new rows
+unfolding Begins
 looks_at_groups old new rows on seen = record {
   shows = shown_inside Wholes.all_groups [] old new rows on seen;
-  same = λ has. same_database Wholes.all_groups [] old new answers.by_rowid 6 [] (col 1 0 ∷ col 1 1 ∷ col 1 2 ∷ col 1 3 ∷ col 1 4 ∷ []) (codes "rowid" ∷ codes "service" ∷ codes "instance" ∷ codes "name" ∷ codes "body" ∷ []) Wholes.all_groups_is Wholes.all_groups_plain Wholes.all_groups_unlisted has rows seen;
-  seen = λ has db.
-      let all = shows_rows Wholes.all_groups [] old new answers.by_rowid 6 [] (col 1 0 ∷ col 1 1 ∷ col 1 2 ∷ col 1 3 ∷ col 1 4 ∷ []) (codes "rowid" ∷ codes "service" ∷ codes "instance" ∷ codes "name" ∷ codes "body" ∷ []) Wholes.all_groups_is Wholes.all_groups_plain Wholes.all_groups_unlisted has rows seen in
-      let typed = subst (λ s. AllByRecursion (λ t. AllByRecursion (λ row. passes Datatype old.now.schema old.now.trees t row ≡ true) (old.now.trees t.tree)) s.tables) has (db.obeys.rules Datatype) in
+  same = λ b. same_database Wholes.all_groups [] old new answers.by_rowid 6 [] (col 1 0 ∷ col 1 1 ∷ col 1 2 ∷ col 1 3 ∷ col 1 4 ∷ []) (codes "rowid" ∷ codes "service" ∷ codes "instance" ∷ codes "name" ∷ codes "body" ∷ []) (Wholes.all_groups_is b.0) (Wholes.all_groups_plain b.0) (Wholes.all_groups_unlisted b.0) b.1 rows seen;
+  seen = λ b db.
+      let all = shows_rows Wholes.all_groups [] old new answers.by_rowid 6 [] (col 1 0 ∷ col 1 1 ∷ col 1 2 ∷ col 1 3 ∷ col 1 4 ∷ []) (codes "rowid" ∷ codes "service" ∷ codes "instance" ∷ codes "name" ∷ codes "body" ∷ []) (Wholes.all_groups_is b.0) (Wholes.all_groups_plain b.0) (Wholes.all_groups_unlisted b.0) b.1 rows seen in
+      let typed = subst (λ s. AllByRecursion (λ t. AllByRecursion (λ row. passes Datatype old.now.schema old.now.trees t row ≡ true) (old.now.trees t.tree)) s.tables) b.1 (db.obeys.rules Datatype) in
       record {
         sound = λ x there. let s = all.sound x there in (s.0, s.1, s.3);
         complete = λ r there. all.complete r there refl;
@@ -189,13 +193,14 @@ snapshots_same a b ta tb same (suc (suc zero)) less = same 2 (omega arith)
 snapshots_same a b ta tb same (suc (suc (suc zero))) less = same 3 (omega arith)
 snapshots_same a b ta tb same (suc (suc (suc (suc k)))) less = past_all tables.snap a (suc (suc (suc k))) ta (omega arith) ∙ sym (past_all tables.snap b (suc (suc (suc k))) tb (omega arith))
 
-pub looks_at_snapshots : (old new : State) (rows : List Row) → IsTrue old.in_transaction → Shown Wholes.all_snapshots [] old new rows → Looks 8 (0 ∷ 0 ∷ 2 ∷ 3 ∷ []) old new rows
+pub looks_at_snapshots : (old new : State) (rows : List Row) → IsTrue old.in_transaction → Shown Wholes.all_snapshots [] old new rows → Looks begun_5 8 (0 ∷ 0 ∷ 2 ∷ 3 ∷ []) old new rows
+unfolding Begins
 looks_at_snapshots old new rows on seen = record {
   shows = shown_inside Wholes.all_snapshots [] old new rows on seen;
-  same = λ has. same_database Wholes.all_snapshots [] old new answers.by_rowid 8 [] (col 1 0 ∷ col 1 0 ∷ col 1 2 ∷ col 1 3 ∷ []) (codes "id" ∷ codes "id" ∷ codes "instance" ∷ codes "body" ∷ []) Wholes.all_snapshots_is Wholes.all_snapshots_plain Wholes.all_snapshots_unlisted has rows seen;
-  seen = λ has db.
-      let all = shows_rows Wholes.all_snapshots [] old new answers.by_rowid 8 [] (col 1 0 ∷ col 1 0 ∷ col 1 2 ∷ col 1 3 ∷ []) (codes "id" ∷ codes "id" ∷ codes "instance" ∷ codes "body" ∷ []) Wholes.all_snapshots_is Wholes.all_snapshots_plain Wholes.all_snapshots_unlisted has rows seen in
-      let typed = subst (λ s. AllByRecursion (λ t. AllByRecursion (λ row. passes Datatype old.now.schema old.now.trees t row ≡ true) (old.now.trees t.tree)) s.tables) has (db.obeys.rules Datatype) in
+  same = λ b. same_database Wholes.all_snapshots [] old new answers.by_rowid 8 [] (col 1 0 ∷ col 1 0 ∷ col 1 2 ∷ col 1 3 ∷ []) (codes "id" ∷ codes "id" ∷ codes "instance" ∷ codes "body" ∷ []) (Wholes.all_snapshots_is b.0) (Wholes.all_snapshots_plain b.0) (Wholes.all_snapshots_unlisted b.0) b.1 rows seen;
+  seen = λ b db.
+      let all = shows_rows Wholes.all_snapshots [] old new answers.by_rowid 8 [] (col 1 0 ∷ col 1 0 ∷ col 1 2 ∷ col 1 3 ∷ []) (codes "id" ∷ codes "id" ∷ codes "instance" ∷ codes "body" ∷ []) (Wholes.all_snapshots_is b.0) (Wholes.all_snapshots_plain b.0) (Wholes.all_snapshots_unlisted b.0) b.1 rows seen in
+      let typed = subst (λ s. AllByRecursion (λ t. AllByRecursion (λ row. passes Datatype old.now.schema old.now.trees t row ≡ true) (old.now.trees t.tree)) s.tables) b.1 (db.obeys.rules Datatype) in
       record {
         sound = λ x there. let s = all.sound x there in (s.0, s.1, s.3);
         complete = λ r there. all.complete r there refl;
@@ -216,13 +221,14 @@ launches_same a b ta tb same (suc zero) less = same 1 (omega arith)
 launches_same a b ta tb same (suc (suc zero)) less = same 2 (omega arith)
 launches_same a b ta tb same (suc (suc (suc k))) less = past_all tables.restarter a (suc (suc k)) ta (omega arith) ∙ sym (past_all tables.restarter b (suc (suc k)) tb (omega arith))
 
-pub looks_at_launches : (old new : State) (rows : List Row) → IsTrue old.in_transaction → Shown Wholes.all_launches [] old new rows → Looks 9 (0 ∷ 1 ∷ 2 ∷ []) old new rows
+pub looks_at_launches : (old new : State) (rows : List Row) → IsTrue old.in_transaction → Shown Wholes.all_launches [] old new rows → Looks begun_6 9 (0 ∷ 1 ∷ 2 ∷ []) old new rows
+unfolding Begins
 looks_at_launches old new rows on seen = record {
   shows = shown_inside Wholes.all_launches [] old new rows on seen;
-  same = λ has. same_database Wholes.all_launches [] old new answers.by_rowid 9 [] (col 1 0 ∷ col 1 1 ∷ col 1 2 ∷ []) (codes "rowid" ∷ codes "name" ∷ codes "launch" ∷ []) Wholes.all_launches_is Wholes.all_launches_plain Wholes.all_launches_unlisted has rows seen;
-  seen = λ has db.
-      let all = shows_rows Wholes.all_launches [] old new answers.by_rowid 9 [] (col 1 0 ∷ col 1 1 ∷ col 1 2 ∷ []) (codes "rowid" ∷ codes "name" ∷ codes "launch" ∷ []) Wholes.all_launches_is Wholes.all_launches_plain Wholes.all_launches_unlisted has rows seen in
-      let typed = subst (λ s. AllByRecursion (λ t. AllByRecursion (λ row. passes Datatype old.now.schema old.now.trees t row ≡ true) (old.now.trees t.tree)) s.tables) has (db.obeys.rules Datatype) in
+  same = λ b. same_database Wholes.all_launches [] old new answers.by_rowid 9 [] (col 1 0 ∷ col 1 1 ∷ col 1 2 ∷ []) (codes "rowid" ∷ codes "name" ∷ codes "launch" ∷ []) (Wholes.all_launches_is b.0) (Wholes.all_launches_plain b.0) (Wholes.all_launches_unlisted b.0) b.1 rows seen;
+  seen = λ b db.
+      let all = shows_rows Wholes.all_launches [] old new answers.by_rowid 9 [] (col 1 0 ∷ col 1 1 ∷ col 1 2 ∷ []) (codes "rowid" ∷ codes "name" ∷ codes "launch" ∷ []) (Wholes.all_launches_is b.0) (Wholes.all_launches_plain b.0) (Wholes.all_launches_unlisted b.0) b.1 rows seen in
+      let typed = subst (λ s. AllByRecursion (λ t. AllByRecursion (λ row. passes Datatype old.now.schema old.now.trees t row ≡ true) (old.now.trees t.tree)) s.tables) b.1 (db.obeys.rules Datatype) in
       record {
         sound = λ x there. let s = all.sound x there in (s.0, s.1, s.3);
         complete = λ r there. all.complete r there refl;

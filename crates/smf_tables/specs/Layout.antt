@@ -7,6 +7,8 @@ use Rattle.sqlite_schema.specs.declared.schema.Action.TheVariants.{NoAction}
 use Rattle.sqlite_schema.specs.declared.schema.Reference.{Reference}
 use Rattle.sqlite.specs.Schema.{Schema}
 use Rattle.sqlite.specs.Table.{Table}
+use Rattle.sqlite_schema.specs.declared.schema.View.{View}
+use Rattle.smf_tables.specs.Schema as stored
 
 -- the table has no rule beside its columns and keys
 pub record HasNoMore (table : Table) (name : List ℕ) (tree : ℕ) : Type 0 where
@@ -40,3 +42,31 @@ to_service = record { columns = 2 ∷ []; parent = codes "service"; parent_colum
 -- the table at this place of a schema, counted from 0, is this one
 abbrev pub StandsAt : Schema → ℕ → Table → Type 0
 StandsAt schema place table = slice_get schema.tables place ≡ Some table
+
+-- what stands in a schema behind its first tables
+pub record Rest : Type 0 where
+  pub tables : List Table
+  pub indexes : List Index
+  pub views : List View
+
+-- a schema that begins with so many of the six
+abbrev pub begun_1 : Rest → Schema
+begun_1 rest = record { tables = stored.meta ∷ rest.tables; indexes = rest.indexes; views = rest.views }
+
+abbrev pub begun_2 : Rest → Schema
+begun_2 rest = record { tables = stored.meta ∷ stored.service ∷ rest.tables; indexes = rest.indexes; views = rest.views }
+
+abbrev pub begun_3 : Rest → Schema
+begun_3 rest = record { tables = stored.meta ∷ stored.service ∷ stored.instance ∷ rest.tables; indexes = rest.indexes; views = rest.views }
+
+abbrev pub begun_4 : Rest → Schema
+begun_4 rest = record { tables = stored.meta ∷ stored.service ∷ stored.instance ∷ stored.grp ∷ rest.tables; indexes = rest.indexes; views = rest.views }
+
+abbrev pub begun_5 : Rest → Schema
+begun_5 rest = record { tables = stored.meta ∷ stored.service ∷ stored.instance ∷ stored.grp ∷ stored.snap ∷ rest.tables; indexes = rest.indexes; views = rest.views }
+
+abbrev pub begun_6 : Rest → Schema
+begun_6 rest = record { tables = stored.meta ∷ stored.service ∷ stored.instance ∷ stored.grp ∷ stored.snap ∷ stored.restarter ∷ rest.tables; indexes = rest.indexes; views = rest.views }
+
+unfoldable pub Begins : (Rest → Schema) → Schema → Type 0
+Begins begun schema = (rest : Rest) × (schema ≡ begun rest)

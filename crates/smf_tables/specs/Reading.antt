@@ -5,7 +5,8 @@ use Rattle.sqlite.specs.Effect.{IsDatabase}
 use Rattle.sqlite.specs.State.{State, Shows}
 use Rattle.sqlite_rules.specs.Lists.{Has}
 use Rattle.smf_tables.specs.Rows.{IsKeyed}
-use Rattle.smf_tables.specs.Schema.{store_schema}
+use Rattle.sqlite.specs.Schema.{Schema}
+use Rattle.smf_tables.specs.Layout.{Begins, Rest, begun_1, begun_2, begun_3, begun_4, begun_5, begun_6}
 
 -- the columns at these places
 abbrev pub shown : List ℕ → Row → Row
@@ -18,27 +19,27 @@ pub record AreShown (places : List ℕ) (all rows : List Row) : Type 0 where
   -- where no rowid is shown twice, none stands twice
   pub keyed : IsKeyed rows → IsKeyed all
 
--- a look at all of a table, where the six tables are there
-pub record Looks (tree : ℕ) (places : List ℕ) (old new : State) (rows : List Row) : Type 0 where
+-- a look at all of a table, where it is there and those before it are, whatever stands behind it
+pub record Looks (begun : Rest → Schema) (tree : ℕ) (places : List ℕ) (old new : State) (rows : List Row) : Type 0 where
   pub shows : Shows old new new.now old.committed true
-  pub same : old.now.schema ≡ store_schema → new.now ≡ old.now
-  pub seen : old.now.schema ≡ store_schema → IsDatabase old.now → AreShown places (old.now.trees tree) rows
+  pub same : Begins begun old.now.schema → new.now ≡ old.now
+  pub seen : Begins begun old.now.schema → IsDatabase old.now → AreShown places (old.now.trees tree) rows
 
 abbrev pub LooksAtMeta : State → State → List Row → Type 0
-LooksAtMeta = Looks 0 (0 ∷ 1 ∷ 2 ∷ [])
+LooksAtMeta = Looks begun_1 0 (0 ∷ 1 ∷ 2 ∷ [])
 
 abbrev pub LooksAtServices : State → State → List Row → Type 0
-LooksAtServices = Looks 2 (0 ∷ 1 ∷ [])
+LooksAtServices = Looks begun_2 2 (0 ∷ 1 ∷ [])
 
 -- the number stands twice, so that each other column has its own place
 abbrev pub LooksAtInstances : State → State → List Row → Type 0
-LooksAtInstances = Looks 4 (0 ∷ 0 ∷ 2 ∷ 3 ∷ 4 ∷ 5 ∷ 6 ∷ [])
+LooksAtInstances = Looks begun_3 4 (0 ∷ 0 ∷ 2 ∷ 3 ∷ 4 ∷ 5 ∷ 6 ∷ [])
 
 abbrev pub LooksAtGroups : State → State → List Row → Type 0
-LooksAtGroups = Looks 6 (0 ∷ 1 ∷ 2 ∷ 3 ∷ 4 ∷ [])
+LooksAtGroups = Looks begun_4 6 (0 ∷ 1 ∷ 2 ∷ 3 ∷ 4 ∷ [])
 
 abbrev pub LooksAtSnapshots : State → State → List Row → Type 0
-LooksAtSnapshots = Looks 8 (0 ∷ 0 ∷ 2 ∷ 3 ∷ [])
+LooksAtSnapshots = Looks begun_5 8 (0 ∷ 0 ∷ 2 ∷ 3 ∷ [])
 
 abbrev pub LooksAtLaunches : State → State → List Row → Type 0
-LooksAtLaunches = Looks 9 (0 ∷ 1 ∷ 2 ∷ [])
+LooksAtLaunches = Looks begun_6 9 (0 ∷ 1 ∷ 2 ∷ [])

@@ -1,4 +1,4 @@
--- What a restarter sends is neither a view nor an order.
+-- A restarter sends joins and proposals alone.
 use Rattle.std.proofs.Common.{◌==◌, ◌&&◌, nat_lt, ℕ, Bool, true, false, if◌then◌else◌, List, [], ◌∷◌, map, Option, Some, None, Result, Ok, Err}
 use Rattle.smf_contract.specs.declared.cookie.CookieFault.{CookieFault}
 use Rattle.smf_contract.specs.Cookies.{packed}
@@ -40,14 +40,30 @@ use Rattle.smf_restarter.specs.Runs.{known_run, orphan}
 use Rattle.smf_restarter.specs.Ticks.{adopting_or, begun_by, drain_call, ending_by, noted_by, own_tick, spawning_by, ticked, ticked_in, ticked_known, ticked_up}
 use Rattle.smf_world.proofs.LiveLists.{Each}
 
+-- a join or a proposal
+abbrev pub IsAsked : Message → Type 0
+IsAsked (messages.Join name launch) = Unit {0}
+IsAsked (messages.Propose p) = Unit {0}
+IsAsked _ = ⊥
+
+abbrev pub Quiet : Reply → Type 0
+Quiet r = Each IsAsked r.messages
+
 -- neither a view nor an order
 abbrev pub IsQuiet : Message → Type 0
 IsQuiet (messages.View v) = ⊥
 IsQuiet (messages.Order o) = ⊥
 IsQuiet _ = Unit {0}
 
-abbrev pub Quiet : Reply → Type 0
-Quiet r = Each IsQuiet r.messages
+pub asked_quiet : (m : Message) → IsAsked m → IsQuiet m
+asked_quiet (messages.Join name launch) a = tt
+asked_quiet (messages.Propose p) a = tt
+asked_quiet (messages.Rows name launch rows) a = tt
+asked_quiet (messages.Ack name launch serial n row) a = tt
+asked_quiet (messages.Nack name launch serial n why row) a = tt
+asked_quiet messages.AskView a = tt
+asked_quiet (messages.View v) a = a
+asked_quiet (messages.Order o) a = a
 
 proposes_if : (b : Bool) (k : Knowledge) (i : KnownInstance) (step : Step) (after : After) (taken : List Known) → Quiet (proposing_if b k i step after taken)
 proposes_if true k i step after taken = (tt, tt)

@@ -37,7 +37,7 @@ use Rattle.smf_world.specs.World.{World, found}
 use Rattle.smf_world.proofs.DecidedClauses.{IsOrderIn, IsViewIn, OrderSaid, OrdersSaid, ViewSaid, ViewSeen, ViewsSaid}
 use Rattle.smf_world.proofs.DecidedHistory.{Grew, grew_by, newest_value}
 use Rattle.smf_world.proofs.DecidedOrders.{orders_in_history}
-use Rattle.smf_world.proofs.DecidedQuiet.{IsQuiet, Quiet, heard_quiet, own_quiet, tick_quiet}
+use Rattle.smf_world.proofs.DecidedQuiet.{IsAsked, IsQuiet, Quiet, asked_quiet, heard_quiet, own_quiet, tick_quiet}
 use Rattle.smf_world.proofs.LiveEach.{each_later, each_reversed, each_sent}
 use Rattle.smf_world.proofs.LiveLists.{Each}
 use Rattle.smf_world.proofs.Lasting.{Fact, IsKept, Of, of_event}
@@ -140,11 +140,11 @@ proposal_shows w p = quiet_shows w.history (answer_to p (asked w.now (commands.P
 
 heard_shows : (w : World) (k : Knowledge) (r : Reply) → Quiet r → WorkShows w (heard_by k r)
 unfolding heard_by
-heard_shows w k r q = quiet_shows w.history r.messages q
+heard_shows w k r q = quiet_shows w.history r.messages (each_later IsAsked IsQuiet asked_quiet r.messages q)
 
 acted_shows : (w : World) (k : Knowledge) (n : ℕ) (spawn : SpawnAnswer) (r : Reply) → Quiet r → WorkShows w (acted w k n spawn r)
 unfolding acted
-acted_shows w k n spawn r q = quiet_shows w.history r.messages q
+acted_shows w k n spawn r q = quiet_shows w.history r.messages (each_later IsAsked IsQuiet asked_quiet r.messages q)
 
 calling_shows : (w : World) (t : Contracts) (call : ContractCall) → WorkShows w (calling t call)
 unfolding calling

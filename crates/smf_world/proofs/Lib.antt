@@ -81,3 +81,12 @@ pub mod LiveOverRows
 pub mod LiveOverFrees
 pub mod LiveAll
 pub mod Safely
+pub mod FormedNames
+pub mod FormedEdits
+pub mod FormedGroups
+pub mod FormedHoldings
+pub mod FormedCommands
+pub mod SpelledShown
+pub mod SpelledMessages
+pub mod SpelledRuns
+pub mod TablesInherit

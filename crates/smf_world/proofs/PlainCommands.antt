@@ -148,10 +148,10 @@ enable_for_now : (h : Holdings) (n : ℕ) (r : _) → Silent h (enabled_for_now 
 enable_for_now h n (Err fault) = refuses h (Denied fault)
 enable_for_now h n (Ok g) = either h _ _ _ (accepts h (group_put h (owners.Instance n) g ∷ []) Done tt) (refuses h Limit)
 
-enable : (h : Holdings) (n : ℕ) (b temporary : Bool) (o : Option Instance) → Silent h (asked_enable h n b temporary o)
-enable h n b temporary None = refuses h NoSuch
-enable h n b false (Some i) = enable_for_good h n _
-enable h n b true (Some i) = enable_for_now h n _
+enable : (h : Holdings) (b temporary : Bool) (o : Option Instance) → Silent h (asked_enable h b temporary o)
+enable h b temporary None = refuses h NoSuch
+enable h b false (Some i) = enable_for_good h i.number _
+enable h b true (Some i) = enable_for_now h i.number _
 
 asks_if : (h : Holdings) (n : ℕ) (b : Bool) (before i : Instance) (bit : ℕ) → Found h n before i → Silent h (asked_if h b i bit)
 asks_if h n true before i bit f = accepts h (PutInstance (asking i bit) ∷ []) Done (unchanged h n before i (asking i bit) f refl refl, tt)
@@ -203,7 +203,7 @@ edit h (asked_for.DeleteInstance n) e = delete_instance h (found h n)
 edit h (asked_for.AddGroup owner name group_type p) e = guards h owner name _ (add_group h owner _ (group h owner name))
 edit h (asked_for.DeleteGroup owner name) e = guards h owner name _ (delete_group h owner name (group h owner name))
 edit h (asked_for.Property owner name change) e = guards h owner name _ (change_group h owner change (group h owner name))
-edit h (asked_for.Enable n b temporary) e = enable h n b temporary (found h n)
+edit h (asked_for.Enable n b temporary) e = enable h b temporary (found h n)
 edit h (asked_for.Restart n) e = restart h n
 edit h (asked_for.Clear n) e = clear h n
 edit h (asked_for.Mark n mark) e = mark_at h n mark

@@ -210,10 +210,10 @@ enable_for_now : (h : Holdings) (c : Command) (n : ℕ) (r : _) → Gives h c (e
 enable_for_now h c n (Err fault) = refuses h c (Denied fault)
 enable_for_now h c n (Ok g) = either h c _ _ _ (edits h c (group_put h (owners.Instance n) g ∷ []) Done tt) (refuses h c Limit)
 
-enable : (h : Holdings) (c : Command) (n : ℕ) (b temporary : Bool) (o : Option Instance) → Gives h c (asked_enable h n b temporary o)
-enable h c n b temporary None = refuses h c NoSuch
-enable h c n b false (Some i) = enable_for_good h c n _
-enable h c n b true (Some i) = enable_for_now h c n _
+enable : (h : Holdings) (c : Command) (b temporary : Bool) (o : Option Instance) → Gives h c (asked_enable h b temporary o)
+enable h c b temporary None = refuses h c NoSuch
+enable h c b false (Some i) = enable_for_good h c i.number _
+enable h c b true (Some i) = enable_for_now h c i.number _
 
 -- ---- refresh, moves and revert
 
@@ -307,7 +307,7 @@ gives_edit h (asked_for.DeleteInstance n) = by_found h _ n (asked_delete_instanc
 gives_edit h (asked_for.AddGroup owner name group_type p) = guards h _ owner name _ (add_group h _ owner _ (group h owner name))
 gives_edit h (asked_for.DeleteGroup owner name) = guards h _ owner name _ (delete_group h _ owner name (group h owner name))
 gives_edit h (asked_for.Property owner name change) = guards h _ owner name _ (change_group h _ owner change (group h owner name))
-gives_edit h (asked_for.Enable n b temporary) = enable h _ n b temporary (found h n)
+gives_edit h (asked_for.Enable n b temporary) = enable h _ b temporary (found h n)
 gives_edit h (asked_for.Restart n) = by_found h _ n (asked_restart h) (refuses h _ NoSuch) (λ (before i : Instance) f. asks_if h _ n before i (runs i.row.state) 16 f)
 gives_edit h (asked_for.Refresh n) = by_found h _ n (asked_refresh h) (refuses h _ NoSuch) (λ (before i : Instance) f. refreshing h n before i (target_by (setting (groups_of h) i) i.row.owner) f)
 gives_edit h (asked_for.Clear n) = by_found h _ n (asked_clear h) (refuses h _ NoSuch) (λ (before i : Instance) f. asks_where h _ n before i (same_state i.row.state Maintenance || same_state i.row.state Degraded) 32 f)

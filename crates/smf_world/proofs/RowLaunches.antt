@@ -137,10 +137,10 @@ enable_for_now : (h : Holdings) (n : ℕ) (r : _) → Without h (enabled_for_now
 enable_for_now h n (Err fault) = refuses h _
 enable_for_now h n (Ok g) = either h (has_room h (owners.Instance n) general_ovr general_ovr) (accepted h (group_put h (owners.Instance n) g ∷ []) replies.Done) (refused replies.Limit) (accepts h (group_put h (owners.Instance n) g ∷ []) replies.Done tt) (refuses h _)
 
-enable : (h : Holdings) (n : ℕ) (b temporary : Bool) (o : Option Instance) → Without h (asked_enable h n b temporary o)
-enable h n b temporary None = refuses h _
-enable h n b false (Some i) = enable_for_good h n _
-enable h n b true (Some i) = enable_for_now h n _
+enable : (h : Holdings) (b temporary : Bool) (o : Option Instance) → Without h (asked_enable h b temporary o)
+enable h b temporary None = refuses h _
+enable h b false (Some i) = enable_for_good h i.number _
+enable h b true (Some i) = enable_for_now h i.number _
 
 asks_if : (h : Holdings) (b : Bool) (i : Instance) (bit : ℕ) → Without h (asked_if h b i bit)
 asks_if h true i bit = accepts h (PutInstance (asking i bit) ∷ []) replies.Done tt
@@ -195,7 +195,7 @@ edit h (asked_for.DeleteInstance n) = delete_instance h (found h n)
 edit h (asked_for.AddGroup owner name group_type p) = guards h owner name _ (add_group h owner _ (group h owner name))
 edit h (asked_for.DeleteGroup owner name) = guards h owner name _ (delete_group h owner name (group h owner name))
 edit h (asked_for.Property owner name change) = guards h owner name _ (change_group h owner change (group h owner name))
-edit h (asked_for.Enable n b temporary) = enable h n b temporary (found h n)
+edit h (asked_for.Enable n b temporary) = enable h b temporary (found h n)
 edit h (asked_for.Restart n) = restart h (found h n)
 edit h (asked_for.Refresh n) = refresh h (found h n)
 edit h (asked_for.Clear n) = clear h (found h n)

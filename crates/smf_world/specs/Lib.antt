@@ -5,4 +5,6 @@ pub mod Happens
 pub mod Runs
 pub mod Reached
 pub mod Safe
+pub mod Formed
+pub mod Spelled
 pub mod Schedule

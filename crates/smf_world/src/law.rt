@@ -1,8 +1,13 @@
-ghost use Rattle.std.specs.Prelude.{◌≡◌, ℕ, List};
+ghost use Rattle.std.specs.Prelude.{◌≡◌, ℕ, IfSome, List, Some};
 ghost use Rattle.smf_model.specs.Holdings.{Holdings};
 ghost use Rattle.smf_model.specs.Laws.{IsNumbered};
-ghost use Rattle.smf_model.specs.Look.{installed};
+ghost use Rattle.smf_model.specs.Look.{empty, installed};
+ghost use Rattle.smf_model.specs.Next.{next};
+ghost use Rattle.smf_model.specs.declared.command.Command.{Command as AnyCommand};
+ghost use Rattle.smf_wire.specs.Lines.{IsSpelled};
+ghost use Rattle.smf_wire.specs.declared.message.Message.{Message as AnyMessage};
 ghost use Rattle.smf_world.specs.declared.event.Event.{Event as AnyEvent};
+ghost use Rattle.smf_world.specs.Formed.{IsFormed, IsFormedCommand};
 ghost use Rattle.smf_world.specs.Happens.{happens};
 ghost use Rattle.smf_world.specs.Reached.{CanFail, IsAlways, IsLater, IsReached};
 ghost use Rattle.smf_world.specs.Runs.{run};
@@ -10,7 +15,8 @@ ghost use Rattle.smf_world.specs.Safe.{AlongTheDiagram, CommitsFollowHistory as 
 ghost use Rattle.smf_world.specs.Safe.{IsSafe, OneLive, StartsDecided};
 ghost use Rattle.smf_world.specs.Schedule.{Progress, all_turned, all_went, delivered_again, round};
 ghost use Rattle.smf_world.specs.Schedule.{settled, turned, went};
-ghost use Rattle.smf_world.specs.Worked.{worked};
+ghost use Rattle.smf_world.specs.Spelled.{AreFormedEvents, AreInOrder, AreSpelled, HasBodies, IsFormedEvent, IsInOrder};
+ghost use Rattle.smf_world.specs.Worked.{sent_at, worked};
 ghost use Rattle.smf_world.specs.World.{World, found};
 ghost use Rattle.smf_world.specs.declared.schedule.Deed.{Deed as AnyDeed};
 ghost use Rattle.smf_world.specs.declared.schedule.Turn.{Turn as AnyTurn};
@@ -65,6 +71,26 @@ pub fn whatever_happens_is_safe()
 pub fn changes_keep_numbers()
     ensures kept { (w : World) (e : AnyEvent) → IsNumbered w.now → IsNumbered (installed w.now (worked w e).changes) }
     ensures made { (w : World) (e : AnyEvent) → (happens w e).now ≡ installed w.now (worked w e).changes }
+{}
+
+/// Each message that is ever sent has a line that is read again as that message, whatever happens, crashes and messages
+/// that come late or twice among it: where what was found and what clients ask are what the types of the program let be
+/// held and asked. Of each world that is reached the same holds but for the bodies of a view.
+pub fn messages_are_spelled()
+    ensures always { (h : Holdings) (es : List AnyEvent) → IsNumbered h → IsFormed h → AreFormedEvents es → AreSpelled (run es (found h)) }
+    ensures kept { (w : World) (e : AnyEvent) → IsNumbered w.now → IsFormed w.now → IsFormedEvent e → AreSpelled w → AreSpelled (happens w e) }
+    ensures each { (w : World) (place : ℕ) (m : AnyMessage) → AreSpelled w → sent_at w place ≡ Some m → IsSpelled m }
+    ensures reached { (w : World) → IsReached w → AreInOrder w }
+    ensures whole { (m : AnyMessage) → IsInOrder m → HasBodies m → IsSpelled m }
+    ensures place { (w : World) (place : ℕ) → IsReached w → IfSome (sent_at w place) (λ m. HasBodies m → IsSpelled m) }
+{}
+
+/// What the types of the program let commands ask leaves groups that a body may hold, in an empty repository and behind
+/// each command and each event.
+pub fn held_groups_are_formed()
+    ensures first { IsFormed empty }
+    ensures commands { (h : Holdings) (c : AnyCommand) → IsFormed h → IsFormedCommand c → IsFormed (next h c).0 }
+    ensures events { (w : World) (e : AnyEvent) → IsNumbered w.now → IsFormed w.now → IsFormedEvent e → IsFormed (happens w e).now }
 {}
 
 /// What a schedule makes of the world is what some list of events makes of it.

@@ -12,7 +12,7 @@ returns-clause-ran g c =
     ran_over _ c.args.repository.held c.in-Ok.node c.run_script-end.new.node _ _ _ _ _ _ c.run_script-end.result
     c.in-Ok.ensures.ok c.run_script-end.ensures.ran
     (are_ended c.end_all-is_listed.result _ _ _ c.end_all-is_listed.ensures.ended c.end_all-is_listed.ensures.unlisted)
-    c.run_script-end.ensures.safe
+    c.run_script-end.ensures.safe c.run_script-end.ensures.agrees
 
 pub returns-clause-cut : goal.returns-clause-cut
 returns-clause-cut g c =
@@ -20,4 +20,4 @@ returns-clause-cut g c =
     c.in-Ok.node c.run_script-end.new.node _ _ _ _ _ _ c.run_script-end.result c.in-Ok.ensures.ok
     c.run_script-end.ensures.err c.run_script-end.ensures.fault
     (are_ended c.end_all-is_listed.result _ _ _ c.end_all-is_listed.ensures.ended c.end_all-is_listed.ensures.unlisted)
-    c.run_script-end.ensures.safe
+    c.run_script-end.ensures.safe c.run_script-end.ensures.dropped

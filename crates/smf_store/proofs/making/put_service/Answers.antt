@@ -17,4 +17,4 @@ returns-clause-ok g c clean =
     let k1 : HasCleanDisk s1 = omega (arith, k2, c.drop_service.ensures.crash.clean) in
     let three = rw (c.print-name.ensures.text) at (c.in_ok-add_service.ensures.ok k3) in
     made.makes_service s0 s1 s2 s3 s4 c.args.service.now c.as_slice-groups.ensures.rises (rw (c.print-name.ensures.text) at (c.in_ok-drop_service_groups.ensures.ok k1)) (rw (c.print-name.ensures.text) at (c.in_ok-drop_service.ensures.ok k2)) three
-    (rw (c.print-name.ensures.text, c.as_slice-groups.ensures.all) at (c.in_ok-insert_groups.ensures.ok k4 three.shows.is_open))
+    (rw (c.print-name.ensures.text, c.zero.ensures, c.as_slice-groups.ensures.all) at (c.in_ok-insert_groups.ensures.ok k4 three.shows.is_open))

@@ -16,4 +16,4 @@ returns-clause-ok g c clean =
     let found : c.in_ok-has_service.field-0 ≡ true = search rules in
     let two = rw (c.print-name.ensures.text) at (c.in_ok-drop_service_groups.ensures.ok k2) in
     made.makes_service_groups s0 s1 s2 s3 c.args.name.now c.args.groups.now c.as_slice-groups.ensures.rises (rw (c.print-name.ensures.text, found) at (c.in_ok-has_service.ensures.ok k1)) two
-    (rw (c.print-name.ensures.text, c.as_slice-groups.ensures.all) at (c.in_ok-insert_groups.ensures.ok k3 two.shows.is_open))
+    (rw (c.print-name.ensures.text, c.zero.ensures, c.as_slice-groups.ensures.all) at (c.in_ok-insert_groups.ensures.ok k3 two.shows.is_open))

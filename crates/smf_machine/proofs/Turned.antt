@@ -1,0 +1,138 @@
+-- A work that is made where children made a call.
+use Rattle.std.proofs.Common.{◌≡◌, ◌⊎◌, inl, inr, ◌<◌, ℕ, Bool, true, false, List, [], ◌∷◌, length, map, Option, None, Some, Result, Ok, Err, IfOk, OnErr, OnOk, refl, sym, subst, ap, ◌∙◌, arith}
+use Rattle.smf_contract.specs.declared.event.Event.{Event as ContractEvent}
+use Rattle.smf_edge.specs.Ledgers.{Ledger}
+use Rattle.smf_model.specs.declared.change.Change.{Change}
+use Rattle.smf_model.specs.declared.journal.RepoFault.{RepoFault}
+use Rattle.smf_model.specs.declared.journal.RepoFault.TheVariants as journals
+use Rattle.smf_model.specs.Holdings.{Holdings}
+use Rattle.smf_model.specs.Look.{installed}
+use Rattle.smf_restarter.specs.Knowledge.{Knowledge}
+use Rattle.smf_world.specs.declared.event.Event.{Event}
+use Rattle.smf_world.specs.declared.event.Event.TheVariants as events
+use Rattle.smf_world.specs.declared.event.SpawnAnswer.{SpawnAnswer}
+use Rattle.smf_world.specs.declared.event.SpawnAnswer.TheVariants as spawns
+use Rattle.smf_world.specs.declared.work.Work.{Work}
+use Rattle.smf_world.specs.Happens.{done, happens}
+use Rattle.smf_world.specs.Reached.{IsReached}
+use Rattle.smf_world.specs.Worked.{acted, restarter, ticked_for, worked}
+use Rattle.smf_world.specs.World.{World}
+use Rattle.smf_machine.proofs.Reaching.{reached_next}
+use Rattle.smf_machine.proofs.Worlds.{done_is, same_world}
+use Rattle.smf_machine.specs.declared.fault.MachineFault.{MachineFault}
+use Rattle.smf_machine.specs.declared.fault.MachineFault.TheVariants.{Memory}
+use Rattle.smf_machine.specs.declared.installing.Rest.{Rest}
+use Rattle.smf_machine.specs.declared.parts.Parts.{Parts}
+use Rattle.smf_machine.specs.declared.children.Wanted.{Wanted}
+use Rattle.smf_machine.specs.Children.{HasSpawned, done_if, happened, happens_if, heard, is_made, news_of}
+use Rattle.smf_machine.specs.declared.hearing.News.{News}
+use Rattle.smf_machine.specs.Faults.{IsUndone}
+use Rattle.smf_machine.specs.Install.{IsInstalledIf, IsSame, IsSingle, rest_of}
+use Rattle.smf_machine.specs.Lists.{AtMostOne}
+use Rattle.smf_machine.specs.Parts.{knowledge, world_of}
+
+-- ---- parts
+
+none_installed : (h : Holdings) (cs : List Change) → cs ≡ [] → h ≡ installed h cs
+unfolding installed
+none_installed h cs e = subst (λ xs. h ≡ installed h xs) (sym e) refl
+
+turned : (b : Bool) (h : Holdings) (p m q : Parts) (k : Work) → IsSame p m → IsInstalledIf b m q (rest_of k) → k.changes ≡ [] → AtMostOne k.command → world_of h q ≡ done_if b (world_of h p) k
+turned true h p m q k s i plain one = done_is h h p m q k s (none_installed h k.changes plain) i one
+turned false h p m q k s i plain one = ap (world_of h) i ∙ same_world h h p m refl s
+
+-- room was made, a call was made or not, and the rest of the work was made with it
+pub turned_parts : (a b : Bool) (h : Holdings) (p m q : Parts) (k : Work) (r : Rest) → a ≡ b → r ≡ rest_of k → IsSame p m → IsInstalledIf a m q r → k.changes ≡ [] → AtMostOne k.command
+    → world_of h q ≡ done_if b (world_of h p) k
+turned_parts a b h p m q k r same rest s i plain one =
+    turned b h p m q k s (subst (λ x. IsInstalledIf b m q x) rest (subst (λ (x : Bool). IsInstalledIf x m q r) same i)) plain one
+
+pub single_kept : (p m : Parts) (k : Work) (r : Rest) → IsSame p m → r ≡ rest_of k → IsSingle (map knowledge p.restarters.items) (rest_of k) → IsSingle (map knowledge m.restarters.items) r
+single_kept p m k r s e h =
+    subst (λ x. IsSingle (map knowledge m.restarters.items) x) (sym e) (subst (λ ks. IsSingle ks (rest_of k)) (sym s.restarters) h)
+
+-- ---- the turn of a restarter for an instance
+
+plain_by : (w : World) (n : ℕ) (a : SpawnAnswer) (o : Option Knowledge) → (ticked_for w n a o).changes ≡ []
+unfolding acted
+plain_by w n a None = refl
+plain_by w n a (Some k) = refl
+
+plain_tick : (w : World) (name : List ℕ) (n : ℕ) (a : SpawnAnswer) → (worked w (events.Tick name n a)).changes ≡ []
+unfolding worked
+plain_tick w name n a = plain_by w n a (restarter w name)
+
+pub tick_plain : (w : World) (e : Event) (k : Work) (name : List ℕ) (n : ℕ) (a : SpawnAnswer) → e ≡ events.Tick name n a → k ≡ worked w e → k.changes ≡ []
+tick_plain w e k name n a at is = ap (λ (x : Work). x.changes) is ∙ ap (λ (x : Event). (worked w x).changes) at ∙ plain_tick w name n a
+
+none_written : (cs : List Change) → cs ≡ [] → 0 < length cs → ⊥
+none_written cs e more = let none : length cs ≡ 0 = ap length e in absurd (omega (arith, none, more))
+
+by_undone : (fails : RepoFault → Type 0) (cs : List Change) (e : MachineFault) → cs ≡ [] → IsUndone fails cs e → e ≡ Memory
+by_undone fails cs e plain (inl is) = is
+by_undone fails cs e plain (inr h) = absurd (none_written cs plain h.2)
+
+pub only_memory : (fails : RepoFault → Type 0) (w : World) (e : Event) (name : List ℕ) (n : ℕ) (a : SpawnAnswer) (f : MachineFault) → e ≡ events.Tick name n a → IsUndone fails (worked w e).changes f → f ≡ Memory
+only_memory fails w e name n a f at h = by_undone fails (worked w e).changes f (tick_plain w e (worked w e) name n a at refl) h
+
+-- ---- worlds
+
+made_if : (b : Bool) (w : World) (e : Event) (k : Work) → k ≡ worked w e → done_if b w k ≡ happens_if b w e
+unfolding happens
+made_if true w e k is = ap (done w) is
+made_if false w e k is = refl
+
+made_by : (b : Bool) (w v : World) (e t : Event) (k : Work) → e ≡ t → k ≡ worked w e → v ≡ done_if b w k → v ≡ happens_if b w t
+made_by b w v e t k at is h = h ∙ made_if b w e k is ∙ ap (happens_if b w) at
+
+pub spawn_made : {E : Type 0} (w v : World) (e t : Event) (k : Work) (r : Result SpawnAnswer E) → e ≡ t → k ≡ worked w e → IfOk r (λ a. v ≡ done_if (is_made a) w k) → IfOk r (λ a. v ≡ happens_if (is_made a) w t)
+spawn_made w v e t k (Ok a) at is h = made_by (is_made a) w v e t k at is h
+spawn_made w v e t k (Err f) at is h = tt
+
+pub kill_made : {E : Type 0} (w v : World) (e t : Event) (k : Work) (r : Result Bool E) → e ≡ t → k ≡ worked w e → IfOk r (λ did. v ≡ done_if did w k) → IfOk r (λ did. v ≡ happens_if did w t)
+kill_made w v e t k (Ok b) at is h = made_by b w v e t k at is h
+kill_made w v e t k (Err f) at is h = tt
+
+-- a spawn that was not made
+pub not_made : (w v : World) (e : Event) (a b : SpawnAnswer) → a ≡ b → is_made b ≡ false → v ≡ happens_if (is_made a) w e → v ≡ w
+not_made w v e a b is never h = h ∙ ap (λ (x : Bool). happens_if x w e) (ap is_made is ∙ never)
+
+pub was_made : (w v : World) (e : Event) (a : SpawnAnswer) → a ≡ spawns.Made → v ≡ happens_if (is_made a) w e → v ≡ happens w e
+was_made w v e a is h = h ∙ ap (λ (x : Bool). happens_if x w e) (ap is_made is)
+
+-- ---- what stays reached
+
+reached_if : (b : Bool) (w v : World) (e : Event) → IsReached w → v ≡ happens_if b w e → IsReached v
+reached_if true w v e r is = reached_next w v e is r
+reached_if false w v e r is = subst IsReached (sym is) r
+
+pub reached_spawned : {E : Type 0} (w v : World) (name : List ℕ) (n : ℕ) (r : Result SpawnAnswer E) → IsReached w → IfOk r (λ a. v ≡ happens w (events.Tick name n a)) → OnErr r (v ≡ w) → IsReached v
+reached_spawned w v name n (Ok a) h made same = reached_next w v (events.Tick name n a) made h
+reached_spawned w v name n (Err f) h made same = subst IsReached (sym same) h
+
+pub reached_killed : {E : Type 0} (w v : World) (e : Event) (r : Result Bool E) → IsReached w → IfOk r (λ did. v ≡ happens_if did w e) → OnErr r (v ≡ w) → IsReached v
+reached_killed w v e (Ok did) h made same = reached_if did w v e h made
+reached_killed w v e (Err f) h made same = subst IsReached (sym same) h
+
+reached_news : (o : Option News) (w v : World) → IsReached w → v ≡ happened o w → IsReached v
+reached_news None w v h is = subst IsReached (sym is) h
+reached_news (Some n) w v h is = reached_next w v (events.Process n.process n.what) is h
+
+reached_event : (o : Option ContractEvent) (w v : World) → IsReached w → v ≡ heard o w → IsReached v
+reached_event None w v h is = subst IsReached (sym is) h
+reached_event (Some e) w v h is = reached_news (news_of w.table e) w v h is
+
+pub reached_heard : {E : Type 0} (w v : World) (r : Result (Option ContractEvent) E) → IsReached w → IfOk r (λ event. v ≡ heard event w) → OnErr r (v ≡ w) → IsReached v
+reached_heard w v (Ok o) h made same = reached_event o w v h made
+reached_heard w v (Err f) h made same = subst IsReached (sym same) h
+
+-- ---- what was answered where nothing was made
+
+pub answered : (w u v : World) (e : Event) (name : List ℕ) (n : ℕ) (a b : SpawnAnswer) → a ≡ b → is_made b ≡ false → u ≡ happens_if (is_made a) w e → v ≡ happens u (events.Tick name n b) → v ≡ happens w (events.Tick name n b)
+answered w u v e name n a b is never h made = made ∙ ap (λ (x : World). happens x (events.Tick name n b)) (not_made w u e a b is never h)
+
+pub still_answers : (w u v : World) (e : Event) (a b : SpawnAnswer) → a ≡ b → is_made b ≡ false → u ≡ happens_if (is_made a) w e → v ≡ u → v ≡ w
+still_answers w u v e a b is never h same = same ∙ not_made w u e a b is never h
+
+pub spawned_is : (a b : SpawnAnswer) (wanted : Wanted) (l m : Ledger) → a ≡ b → HasSpawned a wanted l m → HasSpawned b wanted l m
+spawned_is a b wanted l m e h = subst (λ (x : SpawnAnswer). HasSpawned x wanted l m) e h

@@ -1,0 +1,99 @@
+-- What is asked of children, and what they tell.
+use Rattle.std.specs.Prelude.{◌≡◌, ℕ, List, [], ◌∷◌, Bool, true, false, if◌then◌else◌, Option, Some, None, is_some, option_map}
+use Rattle.smf_contract.specs.declared.contract.Member.{Member}
+use Rattle.smf_contract.specs.declared.event.Event.{Event}
+use Rattle.smf_contract.specs.declared.event.EventKind.{EventKind}
+use Rattle.smf_contract.specs.declared.event.EventKind.TheVariants as kinds
+use Rattle.smf_contract.specs.declared.event.Failure.TheVariants.{Core, Signal, Hwerr}
+use Rattle.smf_contract.specs.Entries.{Contracts, first_member, has_members, home}
+use Rattle.smf_edge.specs.declared.note.Run.{Run}
+use Rattle.smf_edge.specs.Ledgers.{Ledger}
+use Rattle.smf_edge.specs.Steps.{IsKilled, IsPolled, IsSpawned}
+use Rattle.smf_world.specs.declared.event.Event.{Event as WorldEvent}
+use Rattle.smf_world.specs.declared.event.Event.TheVariants as events
+use Rattle.smf_world.specs.declared.event.ProcessEvent.{ProcessEvent}
+use Rattle.smf_world.specs.declared.event.ProcessEvent.TheVariants.{Fork, Exit, Fail}
+use Rattle.smf_world.specs.declared.event.SpawnAnswer.{SpawnAnswer}
+use Rattle.smf_world.specs.declared.event.SpawnAnswer.TheVariants as spawns
+use Rattle.smf_world.specs.declared.work.Work.{Work}
+use Rattle.smf_world.specs.Happens.{done, happens}
+use Rattle.smf_world.specs.World.{World}
+use Rattle.smf_machine.specs.declared.children.Wanted.{Wanted}
+use Rattle.smf_machine.specs.declared.hearing.News.{News}
+
+-- ---- what is asked
+
+-- the run that is made for what is asked for
+abbrev pub run_for : Wanted → Run
+run_for w = record { contract = w.contract; cookie = w.cookie; terms = w.terms; command = w.command }
+
+-- what a spawn that had this answer made
+abbrev pub HasSpawned : SpawnAnswer → Wanted → Ledger → Ledger → Type 0
+HasSpawned spawns.Made w l m = IsSpawned (run_for w) l m
+HasSpawned spawns.Refused w l m = m ≡ l
+HasSpawned spawns.NotFollowed w l m = m ≡ l
+
+-- what a kill that was done or not made
+abbrev pub HasKilled : Bool → ℕ → Ledger → Ledger → Type 0
+HasKilled true id l m = IsKilled id l m
+HasKilled false id l m = m ≡ l
+
+-- what was asked for an event made, which may have given none; also where a device failed
+abbrev pub HasGiven : Option Event → Ledger → Ledger → Type 0
+HasGiven None l m = m ≡ l
+HasGiven (Some e) l m = IsPolled (Some e) l m
+
+abbrev pub is_made : SpawnAnswer → Bool
+is_made spawns.Made = true
+is_made spawns.Refused = false
+is_made spawns.NotFollowed = false
+
+-- ---- what comes of it
+
+abbrev pub done_if : Bool → World → Work → World
+done_if true w k = done w k
+done_if false w k = w
+
+abbrev pub happens_if : Bool → World → WorldEvent → World
+happens_if true w e = happens w e
+happens_if false w e = w
+
+-- ---- what is told
+
+abbrev pub news : ProcessEvent → ℕ → News
+news what p = record { process = p; what = what }
+
+-- what an event says of a process; a fork may have come of any member of the contract, which is the same
+abbrev pub told : Contracts → ℕ → EventKind → Option News
+told t id kinds.Empty = None
+told t id (kinds.Fork p) = option_map (news Fork) (first_member id t.members)
+told t id (kinds.Exit p exit) = Some (news (Exit exit) p)
+told t id (kinds.Core p) = Some (news (Fail Core) p)
+told t id (kinds.Signal p) = Some (news (Fail Signal) p)
+told t id (kinds.Hwerr p) = Some (news (Fail Hwerr) p)
+
+abbrev pub news_if : Bool → News → Option News
+news_if true n = Some n
+news_if false n = None
+
+abbrev pub news_in : Contracts → Option News → Option News
+news_in t None = None
+news_in t (Some n) = news_if (is_some (home t.members n.process)) n
+
+-- what it says of a process that has not ended
+unfoldable pub news_of : Contracts → Event → Option News
+news_of t e = news_in t (told t e.contract e.kind)
+
+abbrev pub happened : Option News → World → World
+happened None w = w
+happened (Some n) w = happens w (events.Process n.process n.what)
+
+-- the event that children gave, or none, happened
+abbrev pub heard : Option Event → World → World
+heard None w = w
+heard (Some e) w = happened (news_of w.table e) w
+
+-- the contract that a process was in, where it has no members now
+abbrev pub emptied_one : List Member → Option ℕ → List ℕ
+emptied_one ms None = []
+emptied_one ms (Some id) = if has_members id ms then [] else id ∷ []

@@ -1,0 +1,19 @@
+-- Where the node's world and what children keep agree, or nearly, behind a script.
+use Rattle.std.specs.Prelude.{◌≡◌, ◌⊎◌, []}
+use Rattle.smf_contract.specs.Entries.{empty}
+use Rattle.smf_drive.specs.Agrees.{Agrees}
+use Rattle.smf_edge.specs.Ledgers.{Ledger}
+use Rattle.smf_edge.specs.Steps.{restarted}
+use Rattle.smf_world.specs.World.{World}
+
+-- what children keep that were asked nothing yet
+abbrev pub unasked : Ledger
+unasked = record { notes = []; table = empty; due = []; pending = [] }
+
+-- children dropped all that they had, and the node did not boot behind it
+abbrev pub HasDropped : World → Ledger → Type 0
+HasDropped w l = (k : Ledger) × Agrees w k × (l ≡ restarted k)
+
+-- they agree, or a boot went no further than that
+abbrev pub AgreesOrDropped : World → Ledger → Type 0
+AgreesOrDropped w l = Agrees w l ⊎ HasDropped w l
