@@ -8,6 +8,7 @@ mod words;
 
 use crate::files::{cfg_over, run_over};
 use crate::words::matches;
+use clap::error::ErrorKind;
 use clap::{ArgMatches, Error};
 use smf_lines::NotedReader;
 use smf_serve::{serve_sim, tell};
@@ -20,6 +21,9 @@ const BAD_USAGE: u8 = 2;
 
 /// Shows help that was asked for, or says why words are not taken.
 fn refuse(rt: &HostRuntime, e: &Error) -> u8 {
+    if matches!(e.kind(), ErrorKind::OutOfMemory) {
+        return tell(&mut rt.stderr(), "smf: no memory");
+    }
     if e.use_stderr() {
         let _ = eprint!(rt; "smf: bad usage\n{e}");
         BAD_USAGE
