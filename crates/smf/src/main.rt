@@ -1,6 +1,6 @@
 //! `smf`: does scripts of a service manager on standard input, over a repository in memory or over a database and the
 //! processes of its services, and lines of svccfg over a database.
-//! Rooms: `files` (the files that words name), `words` (the program's words).
+//! Modules: `files` (the files that words name), `words` (the program's words).
 #![tactic(auto)]
 
 mod files;
@@ -10,6 +10,7 @@ use crate::files::{cfg_over, run_over};
 use crate::words::matches;
 use clap::error::ErrorKind;
 use clap::{ArgMatches, Error};
+use smf_edge::TableKids;
 use smf_lines::NotedReader;
 use smf_serve::{serve_sim, tell};
 use std::io::BufReader;
@@ -33,14 +34,16 @@ fn refuse(rt: &HostRuntime, e: &Error) -> u8 {
     }
 }
 
-/// Does a script in memory.
+/// Does a script in memory, over processes that a contract table simulates.
 fn sim(rt: &HostRuntime) -> io::Result<u8> {
-    let mut reader = NotedReader::new(BufReader::new(rt.alloc(), rt.reader())?);
+    let alloc = rt.alloc();
+    let mut reader = NotedReader::new(BufReader::new(alloc, rt.reader())?);
     Ok(serve_sim(
-        rt.alloc(),
+        alloc,
         &mut reader,
         &mut io::writer(rt),
         &mut rt.stderr(),
+        &mut TableKids::new(alloc),
     ))
 }
 

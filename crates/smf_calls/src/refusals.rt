@@ -3,8 +3,9 @@
 use crate::fault::CallFault;
 use crate::values::kind_of;
 use crate::words::{copied, split_word};
-use smf_model::{Reply, Why};
+use smf_model::Reply;
 use smf_repo::refusal_text;
+use smf_state::Why;
 use smf_value::GroupFault;
 use std::alloc::Global;
 

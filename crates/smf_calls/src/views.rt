@@ -11,8 +11,8 @@ use smf_admin::{
 };
 use smf_engine::{Engine, orders};
 use smf_fmri::{Bytes, Items, Number, Table};
-use smf_model::{Edit, InstanceName, Mark, View};
-use smf_state::{Row, ViewItem};
+use smf_model::{Edit, InstanceName, Mark};
+use smf_state::{Row, View, ViewItem};
 use smf_wire::{Order, What};
 use std::alloc::{AllocError, Global};
 

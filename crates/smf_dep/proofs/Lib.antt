@@ -3,5 +3,4 @@ pub mod Copies
 pub mod CyclePlaces
 pub mod Flagged
 pub mod LawCycles
-pub mod LawStops
 pub mod Round

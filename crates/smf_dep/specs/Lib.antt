@@ -1,6 +1,5 @@
 pub mod Requirements
 pub mod Members
 pub mod Verdicts
-pub mod MustStop
 pub mod Cycles
 pub mod Places

@@ -7,7 +7,7 @@ use Rattle.smf_value.specs.declared.fault.BodyFault.{BodyFault}
 use Rattle.smf_value.specs.Groups.{GroupRecord, by_group}
 use Rattle.smf_snap.specs.declared.body.Snapshot.{Snapshot}
 use Rattle.smf_snap.specs.Body.{decoded_snapshot}
-use Rattle.smf_model.specs.Setting.{startd}
+use Rattle.smf_state.specs.OwnName.{startd}
 use Rattle.smf_dep.specs.declared.dependency.Dependency.{Dependency}
 use Rattle.smf_dep.specs.declared.dependency.Grouping.TheVariants.{RequireAll}
 use Rattle.smf_dep.specs.declared.dependency.RestartOn.TheVariants as restarts

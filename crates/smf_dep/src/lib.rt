@@ -18,6 +18,6 @@ mod reading;
 pub use dependency::{Dependency, Grouping, RestartOn};
 pub use fault::DependencyFault;
 pub use graph::{Finding, Graph, Verdict};
-pub use law::{cycles_are_lists, rows_tell_what_stops};
+pub use law::cycles_are_lists;
 pub use member::{Member, members};
 pub use reading::read_groups;

@@ -8,9 +8,8 @@ use crate::dependency::{Dependency, Grouping, RestartOn};
 use crate::fault::DependencyFault;
 use crate::reading::read_groups;
 use smf_fmri::{Fmri, InstanceFmri, Items, Ordered};
-use smf_model::is_startd;
 use smf_snap::{Snapshot, decode_snapshot};
-use smf_state::{State, ViewItem};
+use smf_state::{State, ViewItem, is_startd};
 use smf_value::{BodyFault, Group};
 use std::alloc::{AllocError, Global};
 

@@ -11,7 +11,7 @@ use smf_restarter::{Begun, Call, KnownInstance, Restarter};
 use std::alloc::AllocError;
 
 /// What the turn of a restarter for an instance asks of children.
-#[derive(Debug, Drop)]
+#[derive(Drop)]
 pub enum Ask {
     Nothing,
     /// A process for which there is no contract.

@@ -1,8 +1,9 @@
 // The processes of the system that were started.
-use crate::shell::exit_of;
+use crate::shell::{exit_of, killer};
 use smf_contract::Exit;
 use smf_fmri::Number;
-use std::process::{Child, OpenProcess};
+use std::alloc::{AllocError, Global};
+use std::process::{Child, Command as Program, OpenProcess, Processes};
 
 /// A process, and the contract that it is in.
 #[derive(Drop)]
@@ -53,18 +54,36 @@ pub(crate) fn wait_for<P: OpenProcess>(kids: &mut [Kid<P>], contract: Number) ->
     None
 }
 
-fn end<P: OpenProcess>(kid: &mut Kid<P>) -> bool {
-    kid.child.kill().is_ok() && kid.child.wait().is_ok()
+/// Ends the processes of a group, as far as the system does. The group may be gone, or not be there yet.
+fn end_group<R: Processes>(processes: &R, mut killer: Program) {
+    if let Ok(mut child) = killer.spawn(processes) {
+        let _has_ended = child.wait().is_ok();
+    }
 }
 
-/// Ends the process of a contract and waits for its end. Says whether that was done.
-pub(crate) fn end_all<P: OpenProcess>(kids: &mut [Kid<P>], contract: Number) -> bool {
+/// Ends a process and its process group, and waits for its end. Says whether that was done.
+fn end<R: Processes>(
+    alloc: Global,
+    processes: &R,
+    kid: &mut Kid<R::Started>,
+) -> Result<bool, AllocError> {
+    end_group(processes, killer(alloc, kid.child.id())?);
+    Ok(kid.child.kill().is_ok() && kid.child.wait().is_ok())
+}
+
+/// Ends the process of a contract and its process group, and waits for its end. Says whether that was done.
+pub(crate) fn end_all<R: Processes>(
+    alloc: Global,
+    processes: &R,
+    kids: &mut [Kid<R::Started>],
+    contract: Number,
+) -> Result<bool, AllocError> {
     for kid in kids {
         if kid.contract == contract {
-            return end(kid);
+            return end(alloc, processes, kid);
         }
     }
-    false
+    Ok(false)
 }
 
 /// Lets go of the process of a contract.

@@ -23,8 +23,8 @@ fn one_more(faults: u64) -> u64
     faults.saturating_add(1)
 }
 
-/// Children that are processes of the system. The process that was started is the only member of its contract: what it
-/// forks is not followed.
+/// Children that are processes of the system, each in a process group of its own. The process that was started is the only
+/// member of its contract: what it forks is not followed, but a kill ends it too, as far as it stays in the group.
 #[derive(Drop)]
 pub struct OsKids<R: Processes> {
     alloc: Global,
@@ -165,7 +165,7 @@ impl<R: Processes> Kids for OsKids<R> {
 
     fn kill(&mut self, id: Number) -> Result<(), KidsFault> {
         let kill = self.book.prepare_kill(id)?;
-        if !end_all(&mut self.children, id) {
+        if !end_all(self.alloc, &self.processes, &mut self.children, id)? {
             self.faults = one_more(self.faults);
             return Err(KidsFault::Device);
         }

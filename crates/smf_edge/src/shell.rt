@@ -2,7 +2,7 @@
 ghost use Rattle.std.specs.Prelude.{◌≡◌, ◌≢◌, IfOk, OnOk, ℕ, List, Some, None, true, codes, [], ◌∷◌};
 ghost use Rattle.std.specs.Process.{SameEnv, SameOtherVars, SameProgramAndArgs, clears_env, command_args, command_program, command_var};
 ghost use Rattle.smf_method.specs.Tokens.{method_text};
-ghost use Rattle.smf_edge.specs.Shell.{IsOther, follows};
+ghost use Rattle.smf_edge.specs.Shell.{IsOther, by_shell, follows};
 
 use smf_contract::{Exit, Method};
 use smf_fmri::InstanceFmri;
@@ -12,14 +12,16 @@ use std::alloc::{AllocError, Global};
 use std::io::Stderr;
 use std::process::{Command as Program, ExitStatus, Stdio};
 
-/// A command by the shell, with no variables.
+/// A command by the shell, in a session and so in a process group of its own, with no variables. `setsid` becomes the
+/// shell, so the shell's number is that of the group.
 fn bare(alloc: Global, command: &Command) -> Result<Program, AllocError>
     ensures clears { IfOk result (λ c. clears_env c ≡ true) }
-    ensures program { IfOk result (λ c. command_program c ≡ codes "/bin/sh") }
-    ensures args { IfOk result (λ c. command_args c ≡ codes "-c" ∷ command.now ∷ []) }
+    ensures program { IfOk result (λ c. command_program c ≡ codes "/usr/bin/setsid") }
+    ensures args { IfOk result (λ c. command_args c ≡ by_shell command.now) }
     ensures vars { IfOk result (λ c. (name : List ℕ) → command_var c name ≡ None) }
 {
-    let mut program = Program::new(alloc, "/bin/sh")?;
+    let mut program = Program::new(alloc, "/usr/bin/setsid")?;
+    program.arg("/bin/sh")?;
     program.arg("-c")?;
     program.arg(command.as_str())?;
     program.env_clear();
@@ -46,7 +48,8 @@ fn wire(program: &mut Program, output: Stderr)
     program.stderr(output);
 }
 
-/// A command by the shell, with these variables alone and an empty standard input. What it writes goes to one stream.
+/// A command by the shell, in a process group of its own, with these variables alone and an empty standard input. What it
+/// writes goes to one stream.
 pub(crate) fn shell(
     alloc: Global,
     command: &Command,
@@ -56,8 +59,8 @@ pub(crate) fn shell(
     output: Stderr,
 ) -> Result<Program, AllocError>
     ensures clears { IfOk result (λ c. clears_env c ≡ true) }
-    ensures program { IfOk result (λ c. command_program c ≡ codes "/bin/sh") }
-    ensures args { IfOk result (λ c. command_args c ≡ codes "-c" ∷ command.now ∷ []) }
+    ensures program { IfOk result (λ c. command_program c ≡ codes "/usr/bin/setsid") }
+    ensures args { IfOk result (λ c. command_args c ≡ by_shell command.now) }
     ensures path { IfOk result (λ c. command_var c (codes "PATH") ≡ Some (Some (codes "/usr/sbin:/usr/bin:/sbin:/bin"))) }
     ensures fmri { IfOk result (λ c. command_var c (codes "SMF_FMRI") ≡ Some (Some instance.now)) }
     ensures method { IfOk result (λ c. command_var c (codes "SMF_METHOD") ≡ Some (Some (method_text method))) }
@@ -70,6 +73,19 @@ pub(crate) fn shell(
     set(&mut program, "SMF_METHOD", method_text(method))?;
     set(&mut program, "SMF_RESTARTER", restarter.print())?;
     wire(&mut program, output);
+    Ok(program)
+}
+
+/// What ends every process of a group, by SIGKILL.
+pub(crate) fn killer(alloc: Global, group: u32) -> Result<Program, AllocError> {
+    let words = format!(in alloc; "kill -KILL -{group}")?;
+    let mut program = Program::new(alloc, "/bin/sh")?;
+    program.arg("-c")?;
+    program.arg(words.as_str())?;
+    program.env_clear();
+    program.stdin(Stdio::null());
+    program.stdout(Stdio::null());
+    program.stderr(Stdio::null());
     Ok(program)
 }
 

@@ -26,7 +26,7 @@ use Rattle.smf_wire.specs.declared.order.What.{What}
 use Rattle.smf_wire.specs.declared.order.What.TheVariants as whats
 use Rattle.smf_engine.specs.declared.deciding.Decision.{Decision}
 use Rattle.smf_engine.specs.declared.deciding.Decision.TheVariants.{To, Start, Stop, Refresh}
-use Rattle.smf_model.specs.declared.held.View.{View}
+use Rattle.smf_state.specs.declared.view.View.{View}
 
 -- ---- methods
 

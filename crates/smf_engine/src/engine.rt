@@ -3,7 +3,7 @@ ghost use Rattle.smf_engine.specs.Orders.{decided, newer, orders_seen};
 
 use crate::ordering::{order_of, orders};
 use smf_fmri::Items;
-use smf_model::View;
+use smf_state::View;
 use smf_wire::Order;
 use std::alloc::{AllocError, Global};
 use std::marker::Model;
@@ -16,7 +16,7 @@ pub struct Engine {
 
 impl Model for Engine {
     ghost use Rattle.std.specs.Prelude.{Option};
-    ghost use Rattle.smf_model.specs.declared.held.View.{View as AnyView};
+    ghost use Rattle.smf_state.specs.declared.view.View.{View as AnyView};
 
     ghost Value = { Option AnyView };
 

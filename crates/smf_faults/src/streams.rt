@@ -1,13 +1,15 @@
+use smf_edge::TableKids;
 use smf_lines::{LineReader, NotedReader, ReadFault};
 use smf_model::{NoJournal, Plain};
 use smf_node::Node;
-use smf_script::{ScriptFault, run_script};
+use smf_run::run_script;
+use smf_script::ScriptFault;
 use std::alloc::Global;
 use std::io::{BufRead, BufReader, Read, Write};
 use std::test::Fail;
 use std::{io, str};
 
-/// Does a script over a repository in memory.
+/// Does a script over a repository in memory and simulated children.
 fn run_in_memory<R: LineReader, W: Write>(
     alloc: Global,
     reader: &mut R,
@@ -20,7 +22,8 @@ fn run_in_memory<R: LineReader, W: Write>(
             return Err(ScriptFault::Node(fault));
         }
     };
-    let end = run_script(alloc, reader, writer, &mut node);
+    let mut kids = TableKids::new(alloc);
+    let end = run_script(alloc, reader, writer, &mut node, &mut kids);
     let NoJournal {} = node.into_repository().into_journal();
     end
 }

@@ -10,7 +10,7 @@ use Rattle.std.proofs.Math.Seq.{map-set_same}
 use Rattle.std.proofs.lemmas.Option.{none-some}
 use Rattle.smf_world.specs.declared.work.Becomes.TheVariants.{Knows}
 use Rattle.smf_world.specs.Happens.{becoming}
-use Rattle.smf_model.proofs.OwnName.{some_is}
+use Rattle.smf_state.proofs.OwnName.{some_is}
 use Rattle.smf_machine.specs.Install.{FitsIn, RoomOf}
 use Rattle.std.specs.Prelude.{if◌then◌else◌}
 use Rattle.smf_restarter.specs.declared.reply.Change.{Change}

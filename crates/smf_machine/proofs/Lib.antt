@@ -10,3 +10,4 @@ pub mod Keeping
 pub mod Emptying
 pub mod Telling
 pub mod Turned
+pub mod Seen

@@ -122,6 +122,9 @@ ordered w r =
     ordered_next (found w.history.first) events.Boot (record { numbered = r.numbered; apart = tt }) in
     subst IsOrdered r.since.1 (ordered_run r.since.0 (happens (found w.history.first) events.Boot) first)
 
+pub reached_numbered : (w : World) → IsReached w → IsNumbered w.now
+reached_numbered w r = (ordered w r).numbered
+
 pub reached_installs : (w : World) (e : Event) → IsReached w → CanInstall w.now w.restarters (worked w e)
 reached_installs w e r = let o = ordered w r in can_install w e o.numbered o.apart
 

@@ -14,10 +14,9 @@ use Rattle.smf_world.specs.declared.event.SpawnAnswer.{SpawnAnswer}
 use Rattle.smf_world.specs.declared.event.SpawnAnswer.TheVariants as spawns
 use Rattle.smf_world.specs.declared.work.Work.{Work}
 use Rattle.smf_world.specs.Happens.{done, happens}
-use Rattle.smf_world.specs.Reached.{IsReached}
 use Rattle.smf_world.specs.Worked.{acted, restarter, ticked_for, worked}
 use Rattle.smf_world.specs.World.{World}
-use Rattle.smf_machine.proofs.Reaching.{reached_next}
+use Rattle.smf_machine.proofs.Keeping.{sound_next, sound_same}
 use Rattle.smf_machine.proofs.Worlds.{done_is, same_world}
 use Rattle.smf_machine.specs.declared.fault.MachineFault.{MachineFault}
 use Rattle.smf_machine.specs.declared.fault.MachineFault.TheVariants.{Memory}
@@ -30,6 +29,7 @@ use Rattle.smf_machine.specs.Faults.{IsUndone}
 use Rattle.smf_machine.specs.Install.{IsInstalledIf, IsSame, IsSingle, rest_of}
 use Rattle.smf_machine.specs.Lists.{AtMostOne}
 use Rattle.smf_machine.specs.Parts.{knowledge, world_of}
+use Rattle.smf_machine.specs.Sound.{IsSound}
 
 -- ---- parts
 
@@ -72,8 +72,9 @@ by_undone : (fails : RepoFault → Type 0) (cs : List Change) (e : MachineFault)
 by_undone fails cs e plain (inl is) = is
 by_undone fails cs e plain (inr h) = absurd (none_written cs plain h.2)
 
-pub only_memory : (fails : RepoFault → Type 0) (w : World) (e : Event) (name : List ℕ) (n : ℕ) (a : SpawnAnswer) (f : MachineFault) → e ≡ events.Tick name n a → IsUndone fails (worked w e).changes f → f ≡ Memory
-only_memory fails w e name n a f at h = by_undone fails (worked w e).changes f (tick_plain w e (worked w e) name n a at refl) h
+-- where a turn cannot be taken there was no memory
+pub memory_only : (fails : RepoFault → Type 0) (w : World) (name : List ℕ) (n : ℕ) (a : SpawnAnswer) (k : Work) (f : MachineFault) → k ≡ worked w (events.Tick name n a) → IsUndone fails k.changes f → f ≡ Memory
+memory_only fails w name n a k f is h = by_undone fails k.changes f (tick_plain w (events.Tick name n a) k name n a refl is) h
 
 -- ---- worlds
 
@@ -93,6 +94,11 @@ pub kill_made : {E : Type 0} (w v : World) (e t : Event) (k : Work) (r : Result 
 kill_made w v e t k (Ok b) at is h = made_by b w v e t k at is h
 kill_made w v e t k (Err f) at is h = tt
 
+-- a turn that was taken
+pub turn_made : (w v : World) (e : Event) (k : Work) → k ≡ worked w e → v ≡ done w k → v ≡ happens w e
+unfolding happens
+turn_made w v e k is h = h ∙ ap (done w) is
+
 -- a spawn that was not made
 pub not_made : (w v : World) (e : Event) (a b : SpawnAnswer) → a ≡ b → is_made b ≡ false → v ≡ happens_if (is_made a) w e → v ≡ w
 not_made w v e a b is never h = h ∙ ap (λ (x : Bool). happens_if x w e) (ap is_made is ∙ never)
@@ -100,31 +106,34 @@ not_made w v e a b is never h = h ∙ ap (λ (x : Bool). happens_if x w e) (ap i
 pub was_made : (w v : World) (e : Event) (a : SpawnAnswer) → a ≡ spawns.Made → v ≡ happens_if (is_made a) w e → v ≡ happens w e
 was_made w v e a is h = h ∙ ap (λ (x : Bool). happens_if x w e) (ap is_made is)
 
--- ---- what stays reached
+-- ---- what stays sound
 
-reached_if : (b : Bool) (w v : World) (e : Event) → IsReached w → v ≡ happens_if b w e → IsReached v
-reached_if true w v e r is = reached_next w v e is r
-reached_if false w v e r is = subst IsReached (sym is) r
+abbrev tick : List ℕ → ℕ → SpawnAnswer → Event
+tick name n answer = events.Tick name n answer
 
-pub reached_spawned : {E : Type 0} (w v : World) (name : List ℕ) (n : ℕ) (r : Result SpawnAnswer E) → IsReached w → IfOk r (λ a. v ≡ happens w (events.Tick name n a)) → OnErr r (v ≡ w) → IsReached v
-reached_spawned w v name n (Ok a) h made same = reached_next w v (events.Tick name n a) made h
-reached_spawned w v name n (Err f) h made same = subst IsReached (sym same) h
+sound_ticked : (b : Bool) (w v : World) (name : List ℕ) (n : ℕ) (a : SpawnAnswer) → IsSound w → v ≡ happens_if b w (tick name n a) → IsSound v
+sound_ticked true w v name n a s is = sound_next w v (tick name n a) is tt s
+sound_ticked false w v name n a s is = sound_same w v is s
 
-pub reached_killed : {E : Type 0} (w v : World) (e : Event) (r : Result Bool E) → IsReached w → IfOk r (λ did. v ≡ happens_if did w e) → OnErr r (v ≡ w) → IsReached v
-reached_killed w v e (Ok did) h made same = reached_if did w v e h made
-reached_killed w v e (Err f) h made same = subst IsReached (sym same) h
+pub sound_spawned : {E : Type 0} (w v : World) (name : List ℕ) (n : ℕ) (r : Result SpawnAnswer E) → IsSound w → IfOk r (λ a. v ≡ happens w (events.Tick name n a)) → OnErr r (v ≡ w) → IsSound v
+sound_spawned w v name n (Ok a) s made same = sound_next w v (tick name n a) made tt s
+sound_spawned w v name n (Err f) s made same = sound_same w v same s
 
-reached_news : (o : Option News) (w v : World) → IsReached w → v ≡ happened o w → IsReached v
-reached_news None w v h is = subst IsReached (sym is) h
-reached_news (Some n) w v h is = reached_next w v (events.Process n.process n.what) is h
+pub sound_killed : {E : Type 0} (w v : World) (name : List ℕ) (n : ℕ) (a : SpawnAnswer) (r : Result Bool E) → IsSound w → IfOk r (λ did. v ≡ happens_if did w (events.Tick name n a)) → OnErr r (v ≡ w) → IsSound v
+sound_killed w v name n a (Ok did) s made same = sound_ticked did w v name n a s made
+sound_killed w v name n a (Err f) s made same = sound_same w v same s
 
-reached_event : (o : Option ContractEvent) (w v : World) → IsReached w → v ≡ heard o w → IsReached v
-reached_event None w v h is = subst IsReached (sym is) h
-reached_event (Some e) w v h is = reached_news (news_of w.table e) w v h is
+sound_news : (o : Option News) (w v : World) → IsSound w → v ≡ happened o w → IsSound v
+sound_news None w v s is = sound_same w v is s
+sound_news (Some n) w v s is = sound_next w v (events.Process n.process n.what) is tt s
 
-pub reached_heard : {E : Type 0} (w v : World) (r : Result (Option ContractEvent) E) → IsReached w → IfOk r (λ event. v ≡ heard event w) → OnErr r (v ≡ w) → IsReached v
-reached_heard w v (Ok o) h made same = reached_event o w v h made
-reached_heard w v (Err f) h made same = subst IsReached (sym same) h
+sound_event : (o : Option ContractEvent) (w v : World) → IsSound w → v ≡ heard o w → IsSound v
+sound_event None w v s is = sound_same w v is s
+sound_event (Some e) w v s is = sound_news (news_of w.table e) w v s is
+
+pub sound_heard : {E : Type 0} (w v : World) (r : Result (Option ContractEvent) E) → IsSound w → IfOk r (λ event. v ≡ heard event w) → OnErr r (v ≡ w) → IsSound v
+sound_heard w v (Ok o) s made same = sound_event o w v s made
+sound_heard w v (Err f) s made same = sound_same w v same s
 
 -- ---- what was answered where nothing was made
 

@@ -4,7 +4,7 @@ use Rattle.std.specs.Prelude.{map, reverse}
 use Rattle.std.proofs.lemmas.List.{reverse-append}
 use Rattle.smf_contract.specs.Entries.{Contracts}
 use Rattle.smf_model.specs.declared.command.Command.{Command}
-use Rattle.smf_model.specs.declared.held.View.{View}
+use Rattle.smf_state.specs.declared.view.View.{View}
 use Rattle.smf_model.specs.Holdings.{Holdings}
 use Rattle.smf_model.specs.Look.{installed}
 use Rattle.smf_restarter.specs.Knowledge.{Knowledge}

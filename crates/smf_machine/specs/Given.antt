@@ -1,19 +1,24 @@
 -- Words beside those of the world, by what the code has at hand.
-use Rattle.std.specs.Prelude.{ℕ, ◌==◌, List, [], ◌∷◌, Bool, true, false, Option, Some, None}
+use Rattle.std.specs.Prelude.{ℕ, ◌==◌, List, [], ◌∷◌, ◌++◌, Bool, true, false, Option, Some, None}
 use Rattle.std.specs.Cmp.Lexicographic.{pointwise}
 use Rattle.std.specs.Prelude.{nat_eq}
+use Rattle.smf_contract.specs.declared.call.ContractCall.{ContractCall}
 use Rattle.smf_contract.specs.Entries.{statuses}
 use Rattle.smf_model.specs.declared.command.Reply.{Reply as CommandReply}
 use Rattle.smf_model.specs.declared.command.Reply.TheVariants as replies
 use Rattle.smf_model.specs.declared.held.Instance.{Instance}
 use Rattle.smf_restarter.specs.declared.reply.Answer.{Answer}
+use Rattle.smf_restarter.specs.declared.reply.Begun.{Begun}
 use Rattle.smf_restarter.specs.declared.reply.Call.{Call}
 use Rattle.smf_restarter.specs.declared.reply.Call.TheVariants as asks
 use Rattle.smf_restarter.specs.declared.reply.Change.{Change as KnowledgeChange}
 use Rattle.smf_restarter.specs.Answers.{answered, listed}
 use Rattle.smf_restarter.specs.Knowledge.{Kept, Knowledge}
+use Rattle.smf_wire.specs.declared.message.Known.{Known}
 use Rattle.smf_world.specs.declared.item.Item.{Item}
+use Rattle.smf_world.specs.declared.work.Becomes.{Becomes}
 use Rattle.smf_world.specs.Items.{row_if, row_item}
+use Rattle.smf_world.specs.Worked.{begun_items, emptied_items, held_items, knows}
 use Rattle.smf_world.specs.World.{World}
 
 -- a row in place of one of this number
@@ -32,6 +37,14 @@ change_behind w k n change asks.List a = listed k (statuses w.table)
 change_behind w k n change (asks.Adopt c) a = answered k n a
 change_behind w k n change (asks.Spawn cookie terms) a = answered k n a
 change_behind w k n change (asks.Kill c) a = change
+
+-- the same as what becomes of the restarters
+abbrev pub known_behind : World → Knowledge → ℕ → KnowledgeChange → Call → Answer → List Becomes
+known_behind w k n change call a = knows k (change_behind w k n change call a)
+
+-- what the trail shows of a turn: rows that are taken, methods that are begun in a contract, and what a call empties
+abbrev pub acted_items : World → Knowledge → List Known → Option ℕ → List Begun → ContractCall → List Item
+acted_items w k taken contract begun call = held_items k taken ++ begun_items contract begun ++ emptied_items w.table call
 
 abbrev pub is_named_kept : List ℕ → Kept → Bool
 is_named_kept name r = pointwise nat_eq r.known.name name

@@ -5,3 +5,4 @@ pub mod Faults
 pub mod Install
 pub mod Done
 pub mod Children
+pub mod Sound

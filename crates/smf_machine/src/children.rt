@@ -11,7 +11,7 @@ use smf_state::Duration;
 use smf_world::SpawnAnswer;
 
 /// A process that is asked for.
-#[derive(Debug, Drop)]
+#[derive(Drop)]
 pub struct Wanted {
     pub contract: Number,
     pub cookie: u64,

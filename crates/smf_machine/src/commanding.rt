@@ -196,6 +196,13 @@ impl<J: Journal> System<J> {
         })
     }
 
+    /// The same of a command that is not needed any more.
+    pub(crate) fn commanded_once(&self, command: Command) -> Result<Work, AllocError>
+        ensures { IfOk result (λ k. k ≡ commanded self.now command) }
+    {
+        self.commanded(&command)
+    }
+
     fn launched_as(
         &self,
         name: &InstanceFmri,

@@ -8,8 +8,8 @@ ghost use Rattle.smf_world.specs.Worked.{answer_to, answers_to, commanded, deliv
 use crate::commanding::{no_work, one, saying};
 use crate::parts::System;
 use smf_fmri::{InstanceFmri, Items};
-use smf_model::{Command, Instance, Journal, Reply, View};
-use smf_state::{Proposal, Row};
+use smf_model::{Command, Instance, Journal, Reply};
+use smf_state::{Proposal, Row, View};
 use smf_wire::{Known, Message};
 use smf_world::Work;
 use std::alloc::{AllocError, Global};
@@ -100,6 +100,14 @@ fn answers_to(
     }
 }
 
+/// The work of a proposal, with the answer to it.
+fn answered(alloc: Global, proposal: &Proposal, mut work: Work) -> Result<Work, AllocError>
+    ensures { IfOk result (λ k. k ≡ proposed proposal.now work) }
+{
+    work.messages = answers_to(alloc, proposal, work.reply.as_slice())?;
+    Ok(work)
+}
+
 /// The graph is shown a view.
 fn shown_to_graph(alloc: Global, view: &View) -> Result<Work, AllocError>
     ensures { IfOk result (λ k. k ≡ record no_work { seen = view.now ∷ [] }) }
@@ -128,10 +136,8 @@ impl<J: Journal> System<J> {
     fn proposed(&self, proposal: &Proposal) -> Result<Work, AllocError>
         ensures { IfOk result (λ k. k ≡ proposed proposal.now (commanded self.now (commands.Propose proposal.now))) }
     {
-        let command = Command::Propose(proposal.clone()?);
-        let mut work = self.commanded(&command)?;
-        work.messages = answers_to(self.alloc, proposal, work.reply.as_slice())?;
-        Ok(work)
+        let work = self.commanded_once(Command::Propose(proposal.clone()?))?;
+        answered(self.alloc, proposal, work)
     }
 
     /// The repository shows what it holds.

@@ -20,7 +20,7 @@ use smf_world::{Item, ProcessEvent};
 use std::alloc::AllocError;
 
 /// A process to which something happened.
-#[derive(Clone, Copy, Debug)]
+#[derive(Clone, Copy)]
 pub struct News {
     pub process: Number,
     pub what: ProcessEvent,

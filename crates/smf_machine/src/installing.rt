@@ -16,14 +16,15 @@ use crate::room::{make_room, place_of};
 use smf_contract::ContractCall;
 use smf_engine::Engine;
 use smf_fmri::{InstanceFmri, Items};
-use smf_model::{Command, Journal, Plain, Reply, View};
+use smf_model::{Command, Journal, Plain, Reply};
 use smf_restarter::{Change, Restarter};
+use smf_state::View;
 use smf_wire::Message;
 use smf_world::{Becomes, Item, Work};
 use std::alloc::{AllocError, Global};
 
 /// What an event makes, the repository aside.
-#[derive(Debug, Drop)]
+#[derive(Drop)]
 pub(crate) struct Rest {
     command: Items<Command>,
     items: Items<Item>,

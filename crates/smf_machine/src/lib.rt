@@ -2,7 +2,8 @@
 //! repository commits, and what is left to do cannot fail. So children are called once there is room for what comes of it.
 //! Modules: `parts` (the actors, seen as the world), `commanding` (what a command makes), `replying` (what the reply of
 //! a restarter makes), `delivering` (messages), `working` (events), `room`, `installing`, `children` (their calls),
-//! `hearing` (what they tell), `turning` (turns with their answers), `machine`, `fault`.
+//! `hearing` (what they tell), `turning` (turns with their answers), `seeing` (what the types let be held and asked),
+//! `machine`, `fault`.
 #![tactic(auto)]
 
 mod children;
@@ -15,6 +16,7 @@ mod machine;
 mod parts;
 mod replying;
 mod room;
+mod seeing;
 mod turning;
 mod working;
 

@@ -15,6 +15,7 @@ ghost use Rattle.smf_world.specs.declared.event.SpawnAnswer.TheVariants as spawn
 ghost use Rattle.smf_world.specs.Happens.{happens};
 ghost use Rattle.smf_world.specs.Reached.{IsReached};
 ghost use Rattle.smf_world.specs.Safe.{IsSafe};
+ghost use Rattle.smf_world.specs.Spelled.{AreSpelled};
 ghost use Rattle.smf_world.specs.Worked.{restarter, worked};
 ghost use Rattle.smf_world.specs.World.{found};
 
@@ -22,6 +23,7 @@ use crate::children::Wanted;
 use crate::commanding::is_done;
 use crate::fault::MachineFault;
 use crate::parts::{System, parts_of};
+use crate::seeing::{see_event, stored_in};
 use smf_contract::{Event as ContractEvent, Table};
 use smf_edge::Kids;
 use smf_fmri::{InstanceFmri, Items, Number};
@@ -33,21 +35,22 @@ use std::alloc::Global;
 use std::marker::Model;
 
 /// The repository, svc.startd's graph, the restarters, their messages, the contracts and the trail. Contracts see the
-/// world. A machine's world is always one that some events behind an accepted boot make.
+/// world. A machine's world is always one that some events behind an accepted boot make. What is held then has groups
+/// that a body may hold, and each message that was sent is read again from its line.
 #[derive(Drop)]
 pub struct Machine<J: Journal> {
     system: System<J>,
 }
 
 impl<J: Journal> Model for Machine<J> {
-    ghost use Rattle.smf_world.specs.Reached.{IsReached};
+    ghost use Rattle.smf_machine.specs.Sound.{IsSound};
     ghost use Rattle.smf_world.specs.World.{World};
 
     ghost Value = { World };
 
     ghost view = { λ m. m.system };
 
-    ghost invariant = { λ m. IsReached m.system };
+    ghost invariant = { λ m. IsSound m.system };
 }
 
 impl<J: Journal> System<J> {
@@ -83,14 +86,14 @@ impl<J: Journal> System<J> {
 
 impl<J: Journal> Machine<J> {
     /// Boots what was found. A fault hands the repository back, as it was; `Limit` where a row or a launch has no next
-    /// number.
+    /// number, and `Memory` also where an owner has 2^32 groups, which no body may hold.
     pub fn new(alloc: Global, repository: Plain<J>) -> Result<Machine<J>, (MachineFault, Plain<J>)>
         ensures ok { IfOk result (λ m. m ≡ happens (found repository.held) events.Boot) }
         ensures safe { IfOk result (λ m. IsSafe m) }
         ensures err { IfErr result (λ e. e.1.held ≡ repository.held) }
         ensures fault { IfErr result (λ e. IsUnbooted J.write_fails repository.held e.0) }
     {
-        let first = match repository.stored() {
+        let first = match stored_in(&repository) {
             Ok(first) => first,
             Err(_) => return Err((MachineFault::Memory, repository)),
         };
@@ -113,6 +116,7 @@ impl<J: Journal> Machine<J> {
         ensures safe { IsSafe self.new }
         ensures fault { IfErr result (λ e. IsUndone J.write_fails (worked self.old event.now).changes e) }
     {
+        see_event(event);
         self.system.happen(event)
     }
 
@@ -208,6 +212,8 @@ impl<J: Journal> Machine<J> {
         ensures shown { result.now ≡ reverse self.now.trail }
         ensures reached { IsReached self.now }
         ensures safe { IsSafe self.now }
+        // Each message that was sent is read again from its line.
+        ensures spelled { AreSpelled self.now }
     {
         &self.system.parts.trail
     }

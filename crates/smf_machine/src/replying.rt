@@ -2,7 +2,7 @@ ghost use Rattle.std.specs.Prelude.{◌≡◌, ◌∷◌, ◌++◌, [], map, opt
 ghost use Rattle.std.specs.Option.{option_copied};
 ghost use Rattle.smf_contract.specs.Calls.{adopted, is_inherited};
 ghost use Rattle.smf_contract.specs.Called.{emptied_by};
-ghost use Rattle.smf_machine.specs.Given.{change_behind};
+ghost use Rattle.smf_machine.specs.Given.{acted_items, change_behind, known_behind};
 ghost use Rattle.smf_restarter.specs.declared.reply.Reply.{Reply as AnyReply};
 ghost use Rattle.smf_world.specs.declared.item.Item.TheVariants.{Emptied as EmptiedItem};
 ghost use Rattle.smf_world.specs.Worked.{acted, adopt_answer, answer_of, begun_in, begun_item, begun_items, call_of, calling, change_after, emptied_items, heard_by, held_item, held_items, is_spawned, knowing, knows, own_ticked, restarter, spawn_answer, ticked_for, told};
@@ -296,6 +296,38 @@ impl<J: Journal> System<J> {
         }
     }
 
+    /// The same, as what becomes of the restarter.
+    fn known_behind(
+        &self,
+        restarter: &Restarter,
+        instance: u64,
+        change: Change,
+        call: &Call,
+        answer: &Answer,
+    ) -> Result<Items<Becomes>, AllocError>
+        ensures { IfOk result (λ all. all ≡ known_behind self.now restarter.now.known instance change call.now answer.now) }
+    {
+        let change = self.change_behind(restarter, instance, change, call, answer)?;
+        knows(self.alloc, restarter, change)
+    }
+
+    /// What the trail shows of a turn: the rows that are taken, the method that is begun in a contract, and what the call
+    /// empties.
+    fn acted_items(
+        &self,
+        restarter: &Restarter,
+        taken: &[Known],
+        contract: Option<u64>,
+        begun: &[Begun],
+        made: &ContractCall,
+    ) -> Result<Items<Item>, AllocError>
+        ensures { IfOk result (λ all. all ≡ acted_items self.now restarter.now.known taken.now contract begun.now made.now) }
+    {
+        let items = held_items(self.alloc, restarter, taken)?;
+        let items = begun_items(items, contract, begun)?;
+        emptied_items(items, self.table(), made)
+    }
+
     /// What a restarter makes of its turn, for itself (0) or for an instance.
     #[tactic(auto, unfolding(smf_world::specs::Worked::acted))]
     fn acted(
@@ -316,11 +348,15 @@ impl<J: Journal> System<J> {
         } = reply;
         let answer = answer_of(self.table(), restarter.actor(), spawn, &call);
         let made = call_of(restarter.actor(), &call, &answer);
-        let change = self.change_behind(restarter, instance, change, &call, &answer)?;
-        let becomes = knows(self.alloc, restarter, change)?;
-        let items = held_items(self.alloc, restarter, taken.as_slice())?;
-        let items = begun_items(items, begun_in(&call, &answer), begun.as_slice())?;
-        let items = emptied_items(items, self.table(), &made)?;
+        let becomes = self.known_behind(restarter, instance, change, &call, &answer)?;
+        let contract = begun_in(&call, &answer);
+        let items = self.acted_items(
+            restarter,
+            taken.as_slice(),
+            contract,
+            begun.as_slice(),
+            &made,
+        )?;
         Ok(Work {
             changes: Items::new(self.alloc),
             command: Items::new(self.alloc),

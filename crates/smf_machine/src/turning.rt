@@ -9,6 +9,7 @@ ghost use Rattle.smf_world.specs.declared.event.Event.TheVariants as events;
 ghost use Rattle.smf_world.specs.declared.event.SpawnAnswer.TheVariants as spawns;
 ghost use Rattle.smf_world.specs.Happens.{happens};
 ghost use Rattle.smf_world.specs.Reached.{IsReached};
+ghost use Rattle.smf_world.specs.Worked.{worked};
 
 use crate::children::{self, Wanted, is_made};
 use crate::fault::MachineFault;
@@ -19,7 +20,7 @@ use smf_contract::Event as ContractEvent;
 use smf_edge::Kids;
 use smf_fmri::{InstanceFmri, Number};
 use smf_model::Journal;
-use smf_world::{Event, SpawnAnswer, Work};
+use smf_world::{SpawnAnswer, Work};
 use std::alloc::{AllocError, Global};
 
 /// Children are asked for a process once there is room for a work, which is made where they made the process.
@@ -69,19 +70,20 @@ fn kill_with<K: Kids>(
     Ok(did)
 }
 
-/// The turn of a restarter for an instance.
-fn tick(name: &InstanceFmri, instance: u64, spawn: SpawnAnswer) -> Result<Event, AllocError>
-    ensures { IfOk result (λ e. e ≡ events.Tick name.now instance spawn) }
-{
-    let restarter = name.clone()?;
-    Ok(Event::Tick {
-        restarter,
-        instance,
-        spawn,
-    })
-}
-
 impl<J: Journal> System<J> {
+    /// What the turn of a restarter for an instance makes, with this answer to its spawn.
+    #[tactic(auto, unfolding(smf_world::specs::Worked::worked))]
+    fn turn_work(
+        &self,
+        name: &InstanceFmri,
+        instance: u64,
+        spawn: SpawnAnswer,
+    ) -> Result<Work, AllocError>
+        ensures { IfOk result (λ k. k ≡ worked self.now (events.Tick name.now instance spawn)) }
+    {
+        self.ticked(name, instance, spawn)
+    }
+
     #[tactic(auto, unfolding(crate::specs::Parts::world_of))]
     fn spawn_with<K: Kids>(
         &mut self,
@@ -134,8 +136,7 @@ impl<J: Journal> System<J> {
         ensures kept { OnErr result (K.ledger kids.new ≡ K.ledger kids.old) }
         ensures fault { IfErr result (λ e. e ≡ Memory) }
     {
-        let event = tick(name, instance, SpawnAnswer::Made)?;
-        let work = self.worked(&event)?;
+        let work = self.turn_work(name, instance, SpawnAnswer::Made)?;
         self.spawn_with(kids, name, wanted, work)
     }
 
@@ -151,8 +152,8 @@ impl<J: Journal> System<J> {
         ensures err { OnErr result (self.new ≡ self.old) }
         ensures fault { IfErr result (λ e. e ≡ Memory) }
     {
-        let event = tick(name, instance, spawn)?;
-        self.happen(&event)?;
+        let work = self.turn_work(name, instance, spawn)?;
+        self.take(work)?;
         Ok(())
     }
 
@@ -199,8 +200,7 @@ impl<J: Journal> System<J> {
         ensures kept { OnErr result (K.ledger kids.new ≡ K.ledger kids.old) }
         ensures fault { IfErr result (λ e. e ≡ Memory) }
     {
-        let event = tick(name, instance, SpawnAnswer::Made)?;
-        let work = self.worked(&event)?;
+        let work = self.turn_work(name, instance, SpawnAnswer::Made)?;
         self.kill_with(kids, id, work)
     }
 

@@ -63,8 +63,7 @@ impl<J: Journal> System<J> {
     fn client(&self, edit: &Edit) -> Result<Work, AllocError>
         ensures { IfOk result (λ k. k ≡ commanded self.now (commands.Edit edit.now)) }
     {
-        let command = Command::Edit(edit.clone()?);
-        self.commanded(&command)
+        self.commanded_once(Command::Edit(edit.clone()?))
     }
 
     /// The graph sends the orders of the view that it holds.
@@ -145,15 +144,14 @@ impl<J: Journal> System<J> {
         if self.is_launched(name) {
             return Ok(no_work(self.alloc));
         }
-        let command = Command::Launch(name.clone()?);
-        let work = self.commanded(&command)?;
+        let work = self.commanded_once(Command::Launch(name.clone()?))?;
         self.launched(name, work)
     }
 
     fn booting(&self) -> Result<Work, AllocError>
         ensures { IfOk result (λ k. k ≡ booted (commanded self.now commands.Boot)) }
     {
-        let work = self.commanded(&Command::Boot)?;
+        let work = self.commanded_once(Command::Boot)?;
         booted(self.alloc, work)
     }
 

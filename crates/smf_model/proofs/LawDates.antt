@@ -15,7 +15,7 @@ use Rattle.smf_model.specs.declared.held.Instance.{Instance}
 use Rattle.smf_model.specs.Holdings.{Holdings}
 use Rattle.smf_model.specs.Look.{empty, instance}
 use Rattle.smf_model.specs.Laws.{IsNumbered, Follows}
-use Rattle.smf_model.specs.Setting.{startd}
+use Rattle.smf_state.specs.OwnName.{startd}
 use Rattle.smf_model.specs.Next.{next}
 use Rattle.smf_model.specs.Dates.{EventKind, ErrorStop, OtherStop, Refreshed, Started, revision_of, IsDated}
 use Rattle.smf_model.specs.Events.{Ends, IsEventTo, IsEvent}

@@ -14,7 +14,6 @@ pub mod Lists
 pub mod Made
 pub mod Names
 pub mod Order
-pub mod OwnName
 pub mod Placing
 pub mod States
 pub mod ReadAnew

@@ -18,7 +18,7 @@ use Rattle.smf_model.specs.Holdings.{Holdings}
 use Rattle.smf_model.specs.Look.{bare, by_entry, by_instance, by_launch, by_name, by_service}
 use Rattle.smf_model.specs.Look.{by_snapshot, has_number, instance, named, snapshot}
 use Rattle.smf_model.specs.Next.{found, is_again, next}
-use Rattle.smf_model.specs.Setting.{startd}
+use Rattle.smf_state.specs.OwnName.{startd}
 
 -- ---- replies
 

@@ -40,8 +40,8 @@ use Rattle.smf_model.specs.declared.command.PropertyChange.TheVariants as proper
 use Rattle.smf_model.specs.declared.command.Reply.{Reply}
 use Rattle.smf_model.specs.declared.command.Reply.TheVariants.{Made, Granted, Done, NoSuch, InUse}
 use Rattle.smf_model.specs.declared.command.Reply.TheVariants.{NotInState, Exists, Denied, Limit, Stale}
-use Rattle.smf_model.specs.declared.command.Why.{Why}
-use Rattle.smf_model.specs.declared.command.Why.TheVariants as whys
+use Rattle.smf_state.specs.declared.refusal.Why.{Why}
+use Rattle.smf_state.specs.declared.refusal.Why.TheVariants as whys
 use Rattle.smf_model.specs.declared.change.Outcome.{Outcome}
 use Rattle.smf_model.specs.declared.held.Instance.{Instance}
 use Rattle.smf_model.specs.declared.held.InstanceEntry.{InstanceEntry}
@@ -56,7 +56,8 @@ use Rattle.smf_model.specs.declared.setting.Setting.TheVariants.{Unreadable}
 use Rattle.smf_model.specs.Holdings.{Holdings}
 use Rattle.smf_model.specs.Look.{service, instance, instances, named, groups_of, group, snapshot, launch_of, installed}
 use Rattle.smf_model.specs.Setting.{Groups, general, general_ovr, enabled_name, restarter_name, framework}
-use Rattle.smf_model.specs.Setting.{startd, service_fmri, service_owner, current, setting, owner_by}
+use Rattle.smf_state.specs.OwnName.{startd}
+use Rattle.smf_model.specs.Setting.{service_fmri, service_owner, current, setting, owner_by}
 
 -- what a command makes: the changes, and the reply
 abbrev pub Asked : Type 0

@@ -4,6 +4,7 @@ use Rattle.std.specs.Prelude.{if◌then◌else◌, codes, Option, Some, None, is
 use Rattle.smf_fmri.specs.declared.fault.FmriFault.{FmriFault}
 use Rattle.smf_fmri.specs.Name.{short, read}
 use Rattle.smf_fmri.specs.Matching.{service_of, instance_of}
+use Rattle.smf_state.specs.OwnName.{startd}
 use Rattle.smf_value.specs.declared.value.Value.{Value}
 use Rattle.smf_value.specs.declared.value.Value.TheVariants.{Boolean, Astring, Fmri}
 use Rattle.smf_value.specs.Groups.{PropertyRecord, GroupRecord, property_of}
@@ -28,9 +29,6 @@ restarter_name = codes "restarter"
 
 abbrev pub framework : List ℕ
 framework = codes "framework"
-
-abbrev pub startd : List ℕ
-startd = codes "svc:/system/svc/restarter:default"
 
 -- the name of an instance's service
 abbrev pub service_fmri : List ℕ → List ℕ

@@ -1,13 +1,14 @@
-ghost use Rattle.std.specs.Prelude.{◌≡◌, ◌==◌, ◌+◌, IfOk, Some, None};
+ghost use Rattle.std.specs.Prelude.{◌≡◌, ◌==◌, ◌+◌, true, IfOk, Some, None};
 ghost use Rattle.smf_model.specs.Next.{answer, answer_at, fresh_answer, granted, is_again, is_other_snapshot};
 ghost use Rattle.smf_model.specs.Next.{is_running, refused, snapshot_in, stale, started_by, takes_running, with_row};
 
 use crate::change::Change;
-use crate::command::{Reply, Why};
+use crate::command::Reply;
 use crate::held::Instance;
-use crate::planner::{Asked, Planner};
+use crate::planner::{Asked, Planner, with_change};
 use smf_fmri::{Items, Number};
-use smf_state::{Proposal, Row, State, Step, StepFault};
+use smf_state::{Proposal, Row, State, Step, StepFault, Why};
+use std::alloc::AllocError;
 
 /// The proposal that was granted last.
 fn is_again(row: &Row, proposal: &Proposal) -> bool
@@ -78,6 +79,15 @@ fn with_row(mut instance: Instance, row: Row) -> Instance
     instance
 }
 
+/// The change that gives an instance a row.
+fn put_row(instance: &Instance, row: &Row) -> Result<Change, AllocError>
+    ensures { IfOk result (λ c. c ≡ Change.PutInstance (with_row instance.now row.now)) }
+{
+    let row = row.clone()?;
+    let instance = instance.clone()?;
+    Ok(Change::PutInstance(with_row(instance, row)))
+}
+
 impl Planner<'_> {
     /// Why a proposal is refused before its step is looked at, the first reason.
     fn stale(&self, row: &Row, proposal: &Proposal) -> Option<Why>
@@ -96,18 +106,23 @@ impl Planner<'_> {
         }
     }
 
-    fn granted(&self, instance: &Instance, mut row: Row, takes: bool) -> Asked
+    fn granted(&self, instance: &Instance, row: Row, takes: bool) -> Asked
         ensures { IfOk result (λ r. r ≡ granted self.now instance.now row takes) }
     {
         if takes {
-            row.running = Some(self.tables.next_snapshot().get());
-            let after = with_row(instance.clone()?, row.clone()?);
-            let mut changes = Items::new(self.alloc);
-            changes.push(Change::PutInstance(after))?;
-            return self.with_snapshot(instance, changes, Reply::Granted(row));
+            return self.granted_with_snapshot(instance, row);
         }
-        let after = with_row(instance.clone()?, row.clone()?);
-        self.one(Change::PutInstance(after), Reply::Granted(row))
+        let change = put_row(instance, &row)?;
+        self.one(change, Reply::Granted(row))
+    }
+
+    fn granted_with_snapshot(&self, instance: &Instance, mut row: Row) -> Asked
+        ensures { IfOk result (λ r. r ≡ granted self.now instance.now row true) }
+    {
+        row.running = Some(self.tables.next_snapshot().get());
+        let change = put_row(instance, &row)?;
+        let changes = with_change(Items::new(self.alloc), change)?;
+        self.with_snapshot(instance, changes, Reply::Granted(row))
     }
 
     /// Takes the step of a proposal, whose reasons to be refused were looked at.

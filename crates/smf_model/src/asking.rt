@@ -1,18 +1,17 @@
-ghost use Rattle.std.specs.Prelude.{◌≡◌, ◌≤◌, ◌+◌, IfOk};
+ghost use Rattle.std.specs.Prelude.{◌≡◌, ◌≤◌, ◌+◌, ◌∷◌, [], IfOk};
 ghost use Rattle.smf_model.specs.Next.{added_at, asked_add_instance, asked_add_service, asked_clear};
 ghost use Rattle.smf_model.specs.Next.{asked_delete_instance, asked_if, asked_launch, asked_mark};
 ghost use Rattle.smf_model.specs.Next.{asked_restart, asked_where, asking, found, greatest_instance};
-ghost use Rattle.smf_model.specs.Next.{is_in_use, is_made, is_there, joining, leaving, marked};
+ghost use Rattle.smf_model.specs.Next.{is_in_use, is_made, is_there, joining, leaving, marked, new_entry, new_instance};
 ghost use Rattle.smf_model.specs.Look.{named, service};
 
 use crate::change::Change;
 use crate::command::{Mark, Reply};
 use crate::held::{Instance, InstanceEntry, InstanceName, Launch, Owner, Service};
-use crate::planner::{Asked, Planner};
-use crate::setting::startd;
+use crate::planner::{Asked, Planner, with_change};
 use bitflags::Flags;
 use smf_fmri::{InstanceFmri, Items, Number, Ordered, ServiceFmri};
-use smf_state::{Asks, Row, State};
+use smf_state::{Asks, Row, State, startd};
 use smf_value::Name;
 use std::alloc::{AllocError, Global};
 
@@ -33,11 +32,9 @@ fn is_in_use(row: &Row) -> bool
 fn leaving(alloc: Global, instance: Instance) -> Result<Items<Change>, AllocError>
     ensures { IfOk result (λ all. all ≡ leaving instance) }
 {
-    let mut changes = Items::new(alloc);
-    changes.push(Change::DropSnapshots(instance.number))?;
-    changes.push(Change::DropName(instance.name))?;
-    changes.push(Change::DropInstance(instance.number))?;
-    Ok(changes)
+    let changes = with_change(Items::new(alloc), Change::DropSnapshots(instance.number))?;
+    let changes = with_change(changes, Change::DropName(instance.name))?;
+    with_change(changes, Change::DropInstance(instance.number))
 }
 
 /// The group `restarter` of an instance is made from its row.
@@ -66,7 +63,7 @@ impl Planner<'_> {
         match self.tables.instance(number) {
             None => Ok(None),
             Some(instance) => {
-                let instance = self.current(instance.clone()?)?;
+                let instance = self.read(instance)?;
                 Ok(Some(instance))
             }
         }
@@ -98,14 +95,14 @@ impl Planner<'_> {
         text.push_str(name.as_str())?;
         match InstanceFmri::read_short(self.alloc, &text)? {
             None => self.refused(Reply::Limit),
-            Some(name) => self.add_at(name),
+            Some(name) => self.add_at(&name),
         }
     }
 
-    fn add_at(&self, name: InstanceFmri) -> Asked
-        ensures { IfOk result (λ r. r ≡ added_at self.now name (named self.now name)) }
+    fn add_at(&self, name: &InstanceFmri) -> Asked
+        ensures { IfOk result (λ r. r ≡ added_at self.now name.now (named self.now name.now)) }
     {
-        if self.tables.named(&name).is_some() {
+        if self.tables.named(name).is_some() {
             return self.refused(Reply::Exists);
         }
         let number = self.tables.next_instance().get();
@@ -116,32 +113,42 @@ impl Planner<'_> {
         self.accepted(changes, Reply::Made(number))
     }
 
+    /// The instance of the number that comes next, svc.startd's own.
+    fn new_instance(&self, name: &InstanceFmri) -> Result<Instance, AllocError>
+        ensures { IfOk result (λ i. i ≡ new_instance self.now name.now) }
+    {
+        let owner = startd(self.alloc)?;
+        let name = name.clone()?;
+        Ok(Instance {
+            number: self.tables.next_instance(),
+            name,
+            row: Row::new(owner),
+            start: None,
+            previous: None,
+        })
+    }
+
+    /// The change that adds it.
+    fn new_entry(&self, name: &InstanceFmri) -> Result<Items<Change>, AllocError>
+        ensures { IfOk result (λ all. all ≡ Change.AddInstance (new_entry self.now name.now) ∷ []) }
+    {
+        let instance = self.new_instance(name)?;
+        let groups = Ordered::new(self.alloc);
+        let entry = InstanceEntry { instance, groups };
+        with_change(Items::new(self.alloc), Change::AddInstance(entry))
+    }
+
     /// The changes that add an instance of the number that comes next.
-    fn joining(&self, name: InstanceFmri) -> Result<Items<Change>, AllocError>
+    fn joining(&self, name: &InstanceFmri) -> Result<Items<Change>, AllocError>
         requires { self.now.next_instance ≤ greatest_instance }
-        ensures { IfOk result (λ all. all ≡ joining self.now name) }
+        ensures { IfOk result (λ all. all ≡ joining self.now name.now) }
     {
         let number = self.tables.next_instance();
         let next = Number::new(number.get() + 1).unwrap();
-        let entry = InstanceName {
-            name: name.clone()?,
-            number,
-        };
-        let instance = Instance {
-            number,
-            name,
-            row: Row::new(startd(self.alloc)?),
-            start: None,
-            previous: None,
-        };
-        let mut changes = Items::new(self.alloc);
-        changes.push(Change::AddInstance(InstanceEntry {
-            instance,
-            groups: Ordered::new(self.alloc),
-        }))?;
-        changes.push(Change::PutName(entry))?;
-        changes.push(Change::NextInstance(next))?;
-        Ok(changes)
+        let changes = self.new_entry(name)?;
+        let name = name.clone()?;
+        let changes = with_change(changes, Change::PutName(InstanceName { name, number }))?;
+        with_change(changes, Change::NextInstance(next))
     }
 
     pub(crate) fn delete_instance(&self, number: u64) -> Asked

@@ -3,8 +3,8 @@ ghost use Rattle.std.specs.List.{list_any};
 ghost use Rattle.std.specs.Option.{option_copied};
 ghost use Rattle.smf_model.specs.Look.{bare, group_in, groups_of, service};
 ghost use Rattle.smf_model.specs.Next.{all_booted, asked_boot, asked_delete_service, booted, booted_row, booting};
-ghost use Rattle.smf_model.specs.Next.{has_dropped, is_instance_of, is_last_launch, is_last_number, kept_groups};
-ghost use Rattle.smf_model.specs.Next.{kept_of_instances, kept_of_services, may_not_boot, persistent, relaunched};
+ghost use Rattle.smf_model.specs.Next.{has_dropped, instance_kept, is_instance_of, is_last_launch, is_last_number, kept_groups};
+ghost use Rattle.smf_model.specs.Next.{kept_of_instances, kept_of_services, may_not_boot, persistent, relaunched, service_kept};
 ghost use Rattle.smf_model.specs.Setting.{setting};
 ghost use Rattle.smf_state.specs.Rows.{greatest_number};
 
@@ -82,6 +82,23 @@ fn has_dropped(groups: &Ordered<Group>) -> bool
         .any(|group| group.is_non_persistent())
 }
 
+/// The change by which the groups of a service that are not persistent go.
+fn service_kept(alloc: Global, service: &Service) -> Result<Change, AllocError>
+    ensures { IfOk result (λ c. c ≡ service_kept service.now) }
+{
+    let kept = kept_groups(alloc, &service.groups)?;
+    let name = service.name.clone()?;
+    Ok(Change::PutGroups(Owner::Service(name), kept))
+}
+
+/// The change by which the groups of an instance that are not persistent go.
+fn instance_kept(alloc: Global, entry: &InstanceEntry) -> Result<Change, AllocError>
+    ensures { IfOk result (λ c. c ≡ instance_kept entry.now) }
+{
+    let kept = kept_groups(alloc, &entry.groups)?;
+    Ok(Change::PutGroups(Owner::Instance(entry.instance.number), kept))
+}
+
 /// The groups of services that are not persistent go.
 fn keep_of_services(
     alloc: Global,
@@ -92,9 +109,7 @@ fn keep_of_services(
 {
     for service in services {
         if has_dropped(&service.groups) {
-            let owner = Owner::Service(service.name.clone()?);
-            let kept = kept_groups(alloc, &service.groups)?;
-            changes.push(Change::PutGroups(owner, kept))?;
+            changes.push(service_kept(alloc, service)?)?;
         }
     }
     Ok(changes)
@@ -110,9 +125,7 @@ fn keep_of_instances(
 {
     for entry in entries {
         if has_dropped(&entry.groups) {
-            let owner = Owner::Instance(entry.instance.number);
-            let kept = kept_groups(alloc, &entry.groups)?;
-            changes.push(Change::PutGroups(owner, kept))?;
+            changes.push(instance_kept(alloc, entry)?)?;
         }
     }
     Ok(changes)

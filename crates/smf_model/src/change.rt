@@ -31,7 +31,7 @@ pub enum Change {
 }
 
 /// What a command makes: the changes, in the order in which they are made, and the reply.
-#[derive(Debug, Drop)]
+#[derive(Drop)]
 pub struct Outcome {
     pub changes: Items<Change>,
     pub reply: Reply,

@@ -4,7 +4,7 @@ ghost use Rattle.std.specs.Prelude.{◌≡◌, IfOk};
 use crate::held::Owner;
 use smf_fmri::{InstanceFmri, Items, ServiceFmri, Text};
 use smf_snap::SnapshotName;
-use smf_state::{Proposal, Row, StepFault};
+use smf_state::{Proposal, Row, Why};
 use smf_value::{GroupFault, Kind, Name};
 use std::alloc::AllocError;
 
@@ -96,17 +96,6 @@ pub enum Mark {
     MaintenanceNow,
 }
 
-/// Why a proposal is refused, in the order in which the reasons are looked for.
-#[derive(Clone, Copy, Debug, PartialEq, Eq)]
-pub enum Why {
-    NoSuch,
-    Launch,
-    Owner,
-    Number,
-    Snapshot,
-    Step(StepFault),
-}
-
 /// What a command is answered with. All but the first three are refusals, which change nothing.
 #[derive(Debug, Drop)]
 pub enum Reply {
@@ -175,9 +164,9 @@ fn copy_of_add_group(
 ) -> Result<Edit, AllocError>
     ensures { IfOk result (λ copy. copy ≡ AddGroup owner.now name.now group_type.now non_persistent) }
 {
-    let owner = owner.clone()?;
     let name = name.clone()?;
     let group_type = group_type.clone()?;
+    let owner = owner.clone()?;
     Ok(Edit::AddGroup {
         owner,
         name,
@@ -193,8 +182,8 @@ fn copy_of_property(
 ) -> Result<Edit, AllocError>
     ensures { IfOk result (λ copy. copy ≡ Property owner.now group.now change.now) }
 {
-    let owner = owner.clone()?;
     let group = group.clone()?;
+    let owner = owner.clone()?;
     let change = change.clone()?;
     Ok(Edit::Property {
         owner,

@@ -2,7 +2,6 @@ ghost use Rattle.std.specs.Prelude.{◌≡◌, IfOk};
 ghost use Rattle.smf_model.specs.Next.{asked, asked_edit};
 
 use crate::command::{Command, Edit};
-use crate::grouping::new_group;
 use crate::planner::{Asked, Planner};
 
 impl Planner<'_> {
@@ -21,15 +20,7 @@ impl Planner<'_> {
                 name,
                 group_type,
                 non_persistent,
-            } => {
-                let new = new_group(
-                    self.alloc,
-                    name.clone()?,
-                    group_type.clone()?,
-                    *non_persistent,
-                );
-                self.add_group(owner, new)
-            }
+            } => self.add_new_group(owner, name, group_type, *non_persistent),
             Edit::DeleteGroup { owner, name } => self.delete_group(owner, name),
             Edit::Property {
                 owner,

@@ -1,9 +1,12 @@
 ghost use Rattle.std.specs.Prelude.{◌≡◌, ◌∷◌, [], IfOk, None, count_by, Ok};
-ghost use Rattle.smf_value.specs.Edits.{Answers};
+ghost use Rattle.smf_fmri.specs.ByKey.{without};
+ghost use Rattle.smf_model.specs.Setting.{general_ovr};
+ghost use Rattle.smf_value.specs.Groups.{by_group};
+ghost use Rattle.smf_value.specs.Edits.{Answers, Leaves};
 ghost use Rattle.smf_model.specs.Look.{group, groups_of};
 ghost use Rattle.smf_model.specs.Next.{accepted, added_group, asked_add_group, asked_delete_group};
 ghost use Rattle.smf_model.specs.Next.{asked_for_good, asked_for_now, asked_property, asked_enable};
-ghost use Rattle.smf_model.specs.Next.{enabled_for_good, enabled_for_now, enabling_of, found};
+ghost use Rattle.smf_model.specs.Next.{enabled_for_good, enabled_for_now, enabled_property, enabling_of, found};
 ghost use Rattle.smf_model.specs.Next.{group_dropped, group_enabled, group_or_new, group_put};
 ghost use Rattle.smf_model.specs.Next.{has_room, is_other_group, new_group, property_changed};
 
@@ -34,6 +37,19 @@ fn other_count(groups: &[Group], first: &str, second: &str) -> usize
         .count()
 }
 
+fn make_change(alloc: Global, of: &mut Group, change: &PropertyChange) -> Result<(), GroupFault>
+    ensures { Leaves result (property_changed change.now of.old) of.old of.new }
+{
+    match change {
+        PropertyChange::Set { name, kind, values } => of.set(alloc, name, *kind, values.as_slice()),
+        PropertyChange::AddValue { name, kind, value } => {
+            of.add_value(alloc, name, *kind, value.as_str())
+        }
+        PropertyChange::DeleteValue { name, value } => of.del_value(alloc, name, value.as_str()),
+        PropertyChange::Delete { name } => of.del(name),
+    }
+}
+
 fn property_changed(
     alloc: Global,
     mut of: Group,
@@ -41,28 +57,22 @@ fn property_changed(
 ) -> Result<Group, GroupFault>
     ensures { Answers (λ g. g) result (property_changed change.now of) }
 {
-    match change {
-        PropertyChange::Set { name, kind, values } => of.set(
-            alloc,
-            name,
-            *kind,
-            values.as_slice(),
-        )?,
-        PropertyChange::AddValue { name, kind, value } => {
-            of.add_value(alloc, name, *kind, value.as_str())?
-        }
-        PropertyChange::DeleteValue { name, value } => of.del_value(alloc, name, value.as_str())?,
-        PropertyChange::Delete { name } => of.del(name)?,
-    }
+    make_change(alloc, &mut of, change)?;
     Ok(of)
+}
+
+fn enabled_property(alloc: Global, enabled: bool) -> Result<Property, AllocError>
+    ensures { IfOk result (λ p. p ≡ enabled_property enabled) }
+{
+    let name = Name::new(alloc, "enabled")?;
+    Property::single(alloc, name, Value::Boolean(enabled))
 }
 
 /// The property `enabled`, put into a group.
 fn with_enabled(alloc: Global, mut into: Group, enabled: bool) -> Result<Group, GroupFault>
     ensures { Answers (λ g. g) result (group_enabled enabled into) }
 {
-    let name = Name::new(alloc, "enabled")?;
-    let property = Property::single(alloc, name, Value::Boolean(enabled))?;
+    let property = enabled_property(alloc, enabled)?;
     into.put(property)?;
     Ok(into)
 }
@@ -97,6 +107,13 @@ impl Planner<'_> {
         self.has_room(owner, name, name)
     }
 
+    /// Whether an instance has room for a group of one of two names.
+    fn has_own_room(&self, number: Number, first: &str, second: &str) -> bool
+        ensures { result ≡ has_room self.now (Owner.Instance number) first.now second.now }
+    {
+        self.has_room(&Owner::Instance(number), first, second)
+    }
+
     /// A copy of the groups of an owner.
     #[tactic(auto, unfolding(crate::specs::Look::groups_of))]
     pub(crate) fn groups_of(&self, owner: &Owner) -> Result<Ordered<Group>, AllocError>
@@ -108,7 +125,26 @@ impl Planner<'_> {
         }
     }
 
-    pub(crate) fn add_group(&self, owner: &Owner, new: Group) -> Asked
+    /// Adds a group without properties.
+    pub(crate) fn add_new_group(
+        &self,
+        owner: &Owner,
+        name: &Name,
+        group_type: &Name,
+        non_persistent: bool,
+    ) -> Asked
+        ensures { IfOk result (λ r. r ≡
+            asked_add_group self.now owner.now (new_group name.now group_type.now non_persistent)) }
+    {
+        let name = name.clone()?;
+        let group_type = group_type.clone()?;
+        self.add_group(
+            owner,
+            new_group(self.alloc, name, group_type, non_persistent),
+        )
+    }
+
+    fn add_group(&self, owner: &Owner, new: Group) -> Asked
         ensures { IfOk result (λ r. r ≡ asked_add_group self.now owner.now new) }
     {
         if !self.is_there(owner) {
@@ -201,8 +237,7 @@ impl Planner<'_> {
     ) -> Result<Group, AllocError>
         ensures { IfOk result (λ g. g ≡ group_or_new self.now number name non_persistent) }
     {
-        let owner = Owner::Instance(number);
-        match self.group_of(&owner, name.as_str()) {
+        match self.own_group(number, name.as_str()) {
             Some(group) => group.clone(),
             None => {
                 let framework = Name::new(self.alloc, "framework")?;
@@ -227,23 +262,31 @@ impl Planner<'_> {
     fn put_for_good(&self, number: Number, general: Group) -> Asked
         ensures { IfOk result (λ r. r ≡ enabled_for_good self.now number (Ok general)) }
     {
-        let owner = Owner::Instance(number);
-        if !self.has_room(&owner, "general", "general_ovr") {
+        if !self.has_own_room(number, "general", "general_ovr") {
             return self.refused(Reply::Limit);
         }
-        let change = self.enabling(owner, general)?;
+        let change = self.enabling(number, general)?;
         self.one(change, Reply::Done)
     }
 
-    /// A group put in its place, and `general_ovr` gone.
-    fn enabling(&self, owner: Owner, group: Group) -> Result<Change, AllocError>
-        ensures { IfOk result (λ c. c ≡ enabling_of self.now owner group) }
+    /// A copy of the groups of an instance but for `general_ovr`.
+    fn lasting_groups(&self, number: Number) -> Result<Ordered<Group>, AllocError>
+        ensures { IfOk result (λ gs. gs ≡
+            without by_group general_ovr (groups_of self.now (Owner.Instance number))) }
     {
-        let mut groups = self.groups_of(&owner)?;
         let name = Name::new(self.alloc, "general_ovr")?;
+        let mut groups = self.groups_of(&Owner::Instance(number))?;
         groups.remove(&name);
+        Ok(groups)
+    }
+
+    /// A group put in its place, and `general_ovr` gone.
+    fn enabling(&self, number: Number, group: Group) -> Result<Change, AllocError>
+        ensures { IfOk result (λ c. c ≡ enabling_of self.now (Owner.Instance number) group) }
+    {
+        let mut groups = self.lasting_groups(number)?;
         groups.put(group)?;
-        Ok(Change::PutGroups(owner, groups))
+        Ok(Change::PutGroups(Owner::Instance(number), groups))
     }
 
     /// Enables or disables an instance until the next boot: `general_ovr/enabled`.
@@ -268,11 +311,10 @@ impl Planner<'_> {
     fn put_for_now(&self, number: Number, ovr: Group) -> Asked
         ensures { IfOk result (λ r. r ≡ enabled_for_now self.now number (Ok ovr)) }
     {
-        let owner = Owner::Instance(number);
-        if !self.has_room(&owner, "general_ovr", "general_ovr") {
+        if !self.has_own_room(number, "general_ovr", "general_ovr") {
             return self.refused(Reply::Limit);
         }
-        self.put(&owner, ovr)
+        self.put(&Owner::Instance(number), ovr)
     }
 
     pub(crate) fn enable(&self, number: u64, enabled: bool, temporary: bool) -> Asked

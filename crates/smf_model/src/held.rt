@@ -1,8 +1,8 @@
 ghost use Rattle.smf_fmri.specs.ByKey.{by_number, by_text};
 ghost use Rattle.std.specs.Prelude.{◌≡◌, IfOk, refl};
 
-use smf_fmri::{ExactClone, HasPart, InstanceFmri, Items, Keyed, Number, Ordered, ServiceFmri};
-use smf_state::{Row, ViewItem};
+use smf_fmri::{ExactClone, HasPart, InstanceFmri, Keyed, Number, Ordered, ServiceFmri};
+use smf_state::Row;
 use smf_value::Group;
 use std::alloc::AllocError;
 
@@ -66,7 +66,7 @@ pub struct Launch {
 }
 
 /// What takes the place of a part of an entry.
-#[derive(Debug, Drop)]
+#[derive(Drop)]
 pub enum EntryPart {
     /// The instance, which keeps its number.
     Instance(Instance),
@@ -270,31 +270,4 @@ impl ExactClone for Snapshot {
 
 impl ExactClone for Launch {
     ghost exact = { λ s copy same. same };
-}
-
-/// What svc.startd's graph sees of the repository.
-#[derive(Debug, Drop)]
-pub struct View {
-    pub revision: Number,
-    /// One for each instance, in number order.
-    pub items: Items<ViewItem>,
-}
-
-impl Clone for View {
-    ghost is_clone = { λ s copy. copy ≡ s };
-
-    fn clone(&self) -> Result<View, AllocError> {
-        let items = copy_of_items(&self.items)?;
-        Ok(View {
-            revision: self.revision,
-            items,
-        })
-    }
-}
-
-#[tactic(auto, using(crate::proofs::Lists::same_items))]
-fn copy_of_items(items: &Items<ViewItem>) -> Result<Items<ViewItem>, AllocError>
-    ensures { IfOk result (λ copy. copy ≡ items.now) }
-{
-    items.clone()
 }

@@ -27,9 +27,9 @@ mod tables;
 mod viewing;
 
 pub use change::{Change, Outcome};
-pub use command::{Command, Edit, Mark, PropertyChange, Reply, Why};
+pub use command::{Command, Edit, Mark, PropertyChange, Reply};
 pub use held::{
-    EntryPart, Instance, InstanceEntry, InstanceName, Launch, Owner, Service, Snapshot, View,
+    EntryPart, Instance, InstanceEntry, InstanceName, Launch, Owner, Service, Snapshot,
 };
 pub use journal::{Journal, NoJournal, RepoFault};
 pub use law::{
@@ -38,5 +38,5 @@ pub use law::{
     rows_never_fall_back, snapshots_stay,
 };
 pub use plain::Plain;
-pub use setting::{Setting, is_startd, startd};
+pub use setting::Setting;
 pub use tables::Tables;

@@ -12,13 +12,13 @@ ghost use Rattle.smf_model.specs.Tables.{held_in};
 
 use crate::change::{Change, Outcome};
 use crate::command::{Command, Reply};
-use crate::held::{Instance, InstanceName, Owner, Service, Snapshot, View};
+use crate::held::{Instance, InstanceName, Owner, Service, Snapshot};
 use crate::journal::{Journal, RepoFault};
 use crate::planner::Planner;
 use crate::tables::{Lists, Tables, install, reserve};
 use smf_fmri::{InstanceFmri, Items, Number, Ordered, ServiceFmri, Table};
 use smf_snap::SnapshotName;
-use smf_state::ViewItem;
+use smf_state::{View, ViewItem};
 use smf_value::Group;
 use std::alloc::{AllocError, Global};
 use std::marker::Model;

@@ -1,4 +1,4 @@
-ghost use Rattle.std.specs.Prelude.{◌≡◌, ◌∷◌, [], IfOk};
+ghost use Rattle.std.specs.Prelude.{◌≡◌, ◌∷◌, ◌++◌, [], IfOk};
 ghost use Rattle.smf_model.specs.Next.{accepted, refused};
 
 use crate::change::{Change, Outcome};
@@ -26,6 +26,20 @@ impl<'a> Model for Planner<'a> {
     ghost view = { λ p. p.tables.now };
 }
 
+/// Changes, and one more behind them.
+pub(crate) fn with_change(
+    mut changes: Items<Change>,
+    change: Change,
+) -> Result<Items<Change>, AllocError>
+    ensures { IfOk result (λ all. all ≡ changes ++ change ∷ []) }
+{
+    changes.push(change)?;
+    Ok(changes)
+}
+
+/// Lets go of a reply in whose place a refusal or a fault comes, which costs a proof once, and not at each exit.
+pub(crate) fn let_go(_reply: Reply) {}
+
 impl<'a> Planner<'a> {
     pub(crate) fn over(alloc: Global, tables: &'a Tables) -> Planner<'a>
         ensures { result ≡ tables.now }
@@ -44,15 +58,21 @@ impl<'a> Planner<'a> {
     }
 
     /// An accepted command makes one revision, where one is left.
-    pub(crate) fn accepted(&self, mut changes: Items<Change>, reply: Reply) -> Asked
+    pub(crate) fn accepted(&self, changes: Items<Change>, reply: Reply) -> Asked
         ensures { IfOk result (λ r. r ≡ accepted self.now changes reply) }
     {
         match self.tables.revision().next() {
-            None => self.refused(Reply::Limit),
-            Some(next) => {
-                changes.push(Change::SetRevision(next))?;
-                Ok(Outcome { changes, reply })
+            None => {
+                let_go(reply);
+                self.refused(Reply::Limit)
             }
+            Some(next) => match with_change(changes, Change::SetRevision(next)) {
+                Ok(changes) => Ok(Outcome { changes, reply }),
+                Err(fault) => {
+                    let_go(reply);
+                    Err(fault)
+                }
+            },
         }
     }
 
@@ -60,8 +80,12 @@ impl<'a> Planner<'a> {
     pub(crate) fn one(&self, change: Change, reply: Reply) -> Asked
         ensures { IfOk result (λ r. r ≡ accepted self.now (change ∷ []) reply) }
     {
-        let mut changes = Items::new(self.alloc);
-        changes.push(change)?;
-        self.accepted(changes, reply)
+        match with_change(Items::new(self.alloc), change) {
+            Ok(changes) => self.accepted(changes, reply),
+            Err(fault) => {
+                let_go(reply);
+                Err(fault)
+            }
+        }
     }
 }

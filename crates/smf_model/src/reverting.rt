@@ -1,15 +1,16 @@
-ghost use Rattle.std.specs.Prelude.{◌≡◌, IfOk};
+ghost use Rattle.std.specs.Prelude.{◌≡◌, ◌∷◌, [], Some, IfOk};
 ghost use Rattle.std.specs.Option.{option_copied};
 ghost use Rattle.smf_model.specs.Look.{groups_of};
 ghost use Rattle.smf_model.specs.Next.{asked_revert, found, named_snapshot};
 ghost use Rattle.smf_model.specs.Next.{number_of, reverted, reverted_to, reverting};
+ghost use Rattle.smf_model.specs.Setting.{service_owner as owner_of_service};
 ghost use Rattle.smf_snap.specs.Taking.{restored};
 
 use crate::change::Change;
 use crate::command::Reply;
 use crate::grouping::MAX_GROUPS;
 use crate::held::{Instance, Owner, Snapshot};
-use crate::planner::{Asked, Planner};
+use crate::planner::{Asked, Planner, with_change};
 use crate::setting::service_owner;
 use smf_fmri::{Items, Number, Ordered};
 use smf_snap::{SnapshotName, restore};
@@ -46,39 +47,46 @@ impl Planner<'_> {
         }
     }
 
+    /// The change that notes the snapshot of a revert.
+    fn with_previous(&self, instance: &Instance) -> Result<Items<Change>, AllocError>
+        ensures { IfOk result (λ all. all ≡
+            Change.PutInstance (record instance.now { previous = Some self.now.next_snapshot }) ∷ []) }
+    {
+        let mut instance = instance.clone()?;
+        instance.previous = Some(self.tables.next_snapshot());
+        with_change(Items::new(self.alloc), Change::PutInstance(instance))
+    }
+
     /// The changes of a revert: what is noted of the instance, and the groups of both owners.
     fn reverting(
         &self,
-        mut instance: Instance,
+        instance: &Instance,
         service_groups: Ordered<Group>,
         instance_groups: Ordered<Group>,
     ) -> Result<Items<Change>, AllocError>
-        ensures { IfOk result (λ all. all ≡ reverting self.now instance service_groups instance_groups) }
+        ensures { IfOk result (λ all. all ≡ reverting self.now instance.now service_groups instance_groups) }
     {
+        let changes = self.with_previous(instance)?;
         let service = service_owner(self.alloc, &instance.name)?;
+        let mut changes = with_change(changes, Change::PutGroups(service, service_groups))?;
         let own = Owner::Instance(instance.number);
-        instance.previous = Some(self.tables.next_snapshot());
-        let mut changes = Items::new(self.alloc);
-        changes.push(Change::PutInstance(instance))?;
-        changes.push(Change::PutGroups(service, service_groups))?;
         changes.push(Change::PutGroups(own, instance_groups))?;
         Ok(changes)
     }
 
     fn revert_to(
         &self,
-        instance: Instance,
+        instance: &Instance,
         service_groups: Ordered<Group>,
         instance_groups: Ordered<Group>,
     ) -> Asked
-        ensures { IfOk result (λ r. r ≡ reverted_to self.now instance service_groups instance_groups) }
+        ensures { IfOk result (λ r. r ≡ reverted_to self.now instance.now service_groups instance_groups) }
     {
         if service_groups.len() > MAX_GROUPS || instance_groups.len() > MAX_GROUPS {
             return self.refused(Reply::Limit);
         }
-        let old = instance.clone()?;
         let changes = self.reverting(instance, service_groups, instance_groups)?;
-        self.with_snapshot(&old, changes, Reply::Done)
+        self.with_snapshot(instance, changes, Reply::Done)
     }
 
     /// What a revert makes of an owner's groups.
@@ -92,16 +100,38 @@ impl Planner<'_> {
         }
     }
 
-    fn reverted(&self, instance: Instance, to: Option<&Snapshot>) -> Asked
-        ensures { IfOk result (λ r. r ≡ reverted self.now instance (option_copied to.entry)) }
+    /// What a revert makes of the groups of an instance's service.
+    fn restored_of_service(
+        &self,
+        instance: &Instance,
+        groups: &Ordered<Group>,
+    ) -> Result<Ordered<Group>, AllocError>
+        ensures { IfOk result (λ gs. gs ≡ restored (groups_of self.now (owner_of_service instance.now)) groups.now) }
+    {
+        let service = service_owner(self.alloc, &instance.name)?;
+        self.restored(&service, groups)
+    }
+
+    /// What a revert makes of the groups of an instance.
+    fn restored_of_instance(
+        &self,
+        instance: &Instance,
+        groups: &Ordered<Group>,
+    ) -> Result<Ordered<Group>, AllocError>
+        ensures { IfOk result (λ gs. gs ≡
+            restored (groups_of self.now (Owner.Instance instance.now.number)) groups.now) }
+    {
+        self.restored(&Owner::Instance(instance.number), groups)
+    }
+
+    fn reverted(&self, instance: &Instance, to: Option<&Snapshot>) -> Asked
+        ensures { IfOk result (λ r. r ≡ reverted self.now instance.now (option_copied to.entry)) }
     {
         let Some(snapshot) = to else {
             return self.refused(Reply::NoSuch);
         };
-        let service = service_owner(self.alloc, &instance.name)?;
-        let own = Owner::Instance(instance.number);
-        let service_groups = self.restored(&service, &snapshot.service_groups)?;
-        let instance_groups = self.restored(&own, &snapshot.instance_groups)?;
+        let service_groups = self.restored_of_service(instance, &snapshot.service_groups)?;
+        let instance_groups = self.restored_of_instance(instance, &snapshot.instance_groups)?;
         self.revert_to(instance, service_groups, instance_groups)
     }
 
@@ -113,6 +143,6 @@ impl Planner<'_> {
             return self.refused(Reply::NoSuch);
         };
         let to = self.named_snapshot(number_of(&instance, name));
-        self.reverted(instance, to)
+        self.reverted(&instance, to)
     }
 }

@@ -1,46 +1,27 @@
 ghost use Rattle.std.specs.Option.{option_copied};
-ghost use Rattle.std.specs.Cmp.Lexicographic.{pointwise};
-ghost use Rattle.std.specs.Prelude.{◌≡◌, ◌==◌, if◌then◌else◌, length, nat_eq, IfOk, Ok};
+ghost use Rattle.std.specs.Prelude.{◌≡◌, ◌==◌, if◌then◌else◌, length, IfOk, Ok};
 ghost use Rattle.smf_fmri.specs.Name.{read};
 ghost use Rattle.smf_model.specs.Look.{group, groups_of};
 ghost use Rattle.smf_model.specs.Setting.{current, enabled, enabled_property, is_readable, is_true};
 ghost use Rattle.smf_model.specs.Setting.{named_restarter, owner_by, property_in, property_of_either};
-ghost use Rattle.smf_model.specs.Setting.{service_fmri, set_by, setting, setting_by, setting_of, startd, truth_of};
+ghost use Rattle.smf_state.specs.OwnName.{startd};
+ghost use Rattle.smf_model.specs.Setting.{service_fmri, set_by, setting, setting_by, setting_of, truth_of};
 
 use crate::held::{Instance, Owner};
 use crate::planner::Planner;
-use smf_fmri::{Fmri, FmriFault, InstanceFmri};
+use smf_fmri::{Fmri, FmriFault, InstanceFmri, Number};
+use smf_state::startd;
 use smf_value::{Group, Property, Value};
 use std::alloc::{AllocError, Global};
 
 /// What `general/restarter` says.
-#[derive(Debug, Drop)]
+#[derive(Drop)]
 pub enum Setting {
     /// Nothing, so svc.startd runs the instance.
     Unset,
     Restarter(InstanceFmri),
     /// Something that is no instance: a fault of the instance, which svc.startd runs.
     Unreadable,
-}
-
-/// The name of svc.startd's own restarter, which needs no instance.
-const STARTD: &str = "svc:/system/svc/restarter:default";
-
-pub fn startd(alloc: Global) -> Result<InstanceFmri, AllocError>
-    ensures { IfOk result (λ name. name ≡ startd) }
-{
-    let found = InstanceFmri::read_short(alloc, STARTD)?;
-    match found {
-        Some(name) => Ok(name),
-        None => unreachable!(),
-    }
-}
-
-/// Whether it is svc.startd's own restarter.
-pub fn is_startd(name: &InstanceFmri) -> bool
-    ensures { result ≡ pointwise nat_eq name.now startd }
-{
-    name.print() == STARTD
 }
 
 /// A property of a group, where it is there.
@@ -191,15 +172,21 @@ impl Planner<'_> {
         }
     }
 
+    /// The group of a name of an instance.
+    pub(crate) fn own_group(&self, number: Number, name: &str) -> Option<&Group>
+        ensures { option_copied result ≡ group self.now (Owner.Instance number) name.now }
+    {
+        self.group_of(&Owner::Instance(number), name)
+    }
+
     /// Whether an instance is enabled: by `general_ovr/enabled`, else by `general/enabled`.
     #[tactic(auto, unfolding(crate::specs::Setting::enabled))]
     pub(crate) fn enabled(&self, instance: &Instance) -> Result<bool, AllocError>
         ensures { IfOk result (λ b. b ≡ enabled (groups_of self.now) instance.now) }
     {
-        let own = Owner::Instance(instance.number);
         let service = service_owner(self.alloc, &instance.name)?;
-        let ovr = self.group_of(&own, "general_ovr");
-        let general = self.group_of(&own, "general");
+        let ovr = self.own_group(instance.number, "general_ovr");
+        let general = self.own_group(instance.number, "general");
         let services_own = self.group_of(&service, "general");
         Ok(is_true(enabled_property(ovr, general, services_own)))
     }
@@ -209,22 +196,35 @@ impl Planner<'_> {
     pub(crate) fn setting_for(&self, instance: &Instance) -> Result<Setting, AllocError>
         ensures { IfOk result (λ s. s ≡ setting (groups_of self.now) instance.now) }
     {
-        let own = Owner::Instance(instance.number);
         let service = service_owner(self.alloc, &instance.name)?;
-        let general = self.group_of(&own, "general");
+        let general = self.own_group(instance.number, "general");
         let services_own = self.group_of(&service, "general");
         setting_by(self.alloc, general, services_own)
     }
 
+    /// The restarter that `general/restarter` of an instance names.
+    fn owner_set(&self, instance: &Instance) -> Result<InstanceFmri, AllocError>
+        ensures { IfOk result (λ name. name ≡ owner_by (setting (groups_of self.now) instance.now)) }
+    {
+        let setting = self.setting_for(instance)?;
+        owner_by(self.alloc, setting)
+    }
+
     /// The instance as it is read: while its row number is 0 its owner is what `general/restarter` says.
     #[tactic(auto, unfolding(crate::specs::Setting::current))]
-    pub(crate) fn current(&self, mut instance: Instance) -> Result<Instance, AllocError>
+    fn current(&self, mut instance: Instance) -> Result<Instance, AllocError>
         ensures { IfOk result (λ i. i ≡ current (groups_of self.now) instance) }
     {
         if instance.row.number == 0 {
-            let setting = self.setting_for(&instance)?;
-            instance.row.owner = owner_by(self.alloc, setting)?;
+            instance.row.owner = self.owner_set(&instance)?;
         }
         Ok(instance)
+    }
+
+    /// A copy of an instance that is held, as it is read.
+    pub(crate) fn read(&self, instance: &Instance) -> Result<Instance, AllocError>
+        ensures { IfOk result (λ i. i ≡ current (groups_of self.now) instance.now) }
+    {
+        self.current(instance.clone()?)
     }
 }

@@ -6,7 +6,7 @@ ghost use Rattle.smf_model.specs.Look.{bare, groups_of};
 ghost use Rattle.smf_model.specs.Shown.{all_read, children, composed_groups, composed_of, is_run_by};
 ghost use Rattle.smf_model.specs.Shown.{made_group, next_text, rows_of, shown_groups, text_property};
 ghost use Rattle.smf_model.specs.Next.{is_instance_of, new_group};
-ghost use Rattle.smf_model.specs.Setting.{current, framework, restarter_name};
+ghost use Rattle.smf_model.specs.Setting.{current, framework, restarter_name, service_owner as owner_of_service};
 ghost use Rattle.smf_state.specs.States.{state_text};
 ghost use Rattle.smf_value.specs.Texts.{is_astring};
 
@@ -131,7 +131,7 @@ impl Planner<'_> {
     {
         let mut all = Vec::new(self.alloc);
         for entry in entries {
-            all.push(self.current(entry.instance.clone()?)?)?;
+            all.push(self.read(&entry.instance)?)?;
         }
         Ok(all)
     }
@@ -142,7 +142,7 @@ impl Planner<'_> {
     {
         let mut all = Items::new(self.alloc);
         for entry in entries {
-            let shown = self.current(entry.instance.clone()?)?;
+            let shown = self.read(&entry.instance)?;
             all.push(Change::PutInstance(shown))?;
         }
         Ok(all)
@@ -194,13 +194,20 @@ impl Planner<'_> {
         }
     }
 
+    /// A copy of the groups of an instance's service.
+    fn services_groups(&self, instance: &Instance) -> Result<Ordered<Group>, AllocError>
+        ensures { IfOk result (λ gs. gs ≡ groups_of self.now (owner_of_service instance.now)) }
+    {
+        let service = service_owner(self.alloc, &instance.name)?;
+        self.groups_of(&service)
+    }
+
     /// The groups that an instance has: its own, else those of its service.
     fn composed_of(&self, instance: &Instance) -> Result<Ordered<Group>, AllocError>
         ensures { IfOk result (λ gs. gs ≡ composed_of self.now instance.now) }
     {
-        let service = service_owner(self.alloc, &instance.name)?;
         let own = self.groups_of(&Owner::Instance(instance.number))?;
-        let services_own = self.groups_of(&service)?;
+        let services_own = self.services_groups(instance)?;
         put_copies(services_own, own.as_slice())
     }
 

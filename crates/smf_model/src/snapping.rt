@@ -1,8 +1,9 @@
-ghost use Rattle.std.specs.Prelude.{◌≡◌, ◌||◌, ◌<◌, IfOk};
+ghost use Rattle.std.specs.Prelude.{◌≡◌, ◌||◌, ◌<◌, ◌++◌, [], IfOk};
 ghost use Rattle.smf_model.specs.Look.{groups_of};
 ghost use Rattle.smf_model.specs.Next.{asked_refresh, behind_snapshot, found, may_be_moved};
 ghost use Rattle.smf_model.specs.Next.{moved, moved_row, refreshed, refreshed_row, snapshot_of};
 ghost use Rattle.smf_model.specs.Next.{target_by, with_row_and_snapshot, with_snapshot};
+ghost use Rattle.smf_model.specs.Setting.{service_owner as owner_of_service};
 ghost use Rattle.smf_state.specs.Rows.{same_state};
 ghost use Rattle.smf_snap.specs.Taking.{taken};
 
@@ -10,7 +11,7 @@ use crate::asking::MAX_COUNT;
 use crate::change::Change;
 use crate::command::Reply;
 use crate::held::{Instance, Owner, Snapshot};
-use crate::planner::{Asked, Planner};
+use crate::planner::{Asked, Planner, let_go, with_change};
 use crate::setting::{Setting, owner_by, service_owner};
 use bitflags::Flags;
 use smf_fmri::{InstanceFmri, Items, Number, Ordered};
@@ -84,6 +85,16 @@ fn moved_row(mut row: Row, running: u64, owner: InstanceFmri) -> Row
     row
 }
 
+/// Changes, and others behind them.
+fn append(mut changes: Items<Change>, others: Items<Change>) -> Result<Items<Change>, AllocError>
+    ensures { IfOk result (λ all. all ≡ changes ++ others) }
+{
+    for change in others.into_vec() {
+        changes.push(change)?;
+    }
+    Ok(changes)
+}
+
 impl Planner<'_> {
     /// What a snapshot keeps of an owner's groups now.
     #[tactic(auto, unfolding(crate::specs::Look::groups_of))]
@@ -96,17 +107,25 @@ impl Planner<'_> {
         }
     }
 
+    /// What a snapshot keeps of the groups of an instance's service now.
+    fn taken_of_service(&self, instance: &Instance) -> Result<Ordered<Group>, AllocError>
+        ensures { IfOk result (λ gs. gs ≡ taken (groups_of self.now (owner_of_service instance.now))) }
+    {
+        let service = service_owner(self.alloc, &instance.name)?;
+        self.taken(&service)
+    }
+
     /// What a snapshot of an instance holds now.
     fn snapshot_of(&self, instance: &Instance) -> Result<Snapshot, AllocError>
         ensures { IfOk result (λ s. s ≡ snapshot_of self.now instance.now) }
     {
-        let service = service_owner(self.alloc, &instance.name)?;
-        let own = Owner::Instance(instance.number);
+        let service_groups = self.taken_of_service(instance)?;
+        let instance_groups = self.taken(&Owner::Instance(instance.number))?;
         Ok(Snapshot {
             number: self.tables.next_snapshot(),
             instance: instance.number,
-            service_groups: self.taken(&service)?,
-            instance_groups: self.taken(&own)?,
+            service_groups,
+            instance_groups,
         })
     }
 
@@ -121,11 +140,30 @@ impl Planner<'_> {
     {
         let number = self.tables.next_snapshot().get();
         if number > MAX_SNAPSHOT {
+            let_go(reply);
             return self.refused(Reply::Limit);
         }
         let next = Number::new(number + 1).unwrap();
-        let changes = self.behind_snapshot(instance, changes, next)?;
-        self.accepted(changes, reply)
+        match self.behind_snapshot(instance, changes, next) {
+            Ok(changes) => self.accepted(changes, reply),
+            Err(fault) => {
+                let_go(reply);
+                Err(fault)
+            }
+        }
+    }
+
+    /// The changes that take a snapshot.
+    fn snapshot_changes(
+        &self,
+        instance: &Instance,
+        next: Number,
+    ) -> Result<Items<Change>, AllocError>
+        ensures { IfOk result (λ all. all ≡ behind_snapshot self.now instance.now next []) }
+    {
+        let first = Change::AddSnapshot(self.snapshot_of(instance)?);
+        let changes = with_change(Items::new(self.alloc), first)?;
+        with_change(changes, Change::NextSnapshot(next))
     }
 
     /// The changes behind those that take a snapshot.
@@ -137,28 +175,22 @@ impl Planner<'_> {
     ) -> Result<Items<Change>, AllocError>
         ensures { IfOk result (λ all. all ≡ behind_snapshot self.now instance.now next changes) }
     {
-        let mut all = Items::new(self.alloc);
-        all.push(Change::AddSnapshot(self.snapshot_of(instance)?))?;
-        all.push(Change::NextSnapshot(next))?;
-        for change in changes.into_vec() {
-            all.push(change)?;
-        }
-        Ok(all)
+        let all = self.snapshot_changes(instance, next)?;
+        append(all, changes)
     }
 
     /// Puts a new row of an instance behind a snapshot of it.
-    fn with_row_and_snapshot(&self, mut instance: Instance, row: Row) -> Asked
-        ensures { IfOk result (λ r. r ≡ with_row_and_snapshot self.now instance row) }
+    fn with_row_and_snapshot(&self, instance: &Instance, row: Row) -> Asked
+        ensures { IfOk result (λ r. r ≡ with_row_and_snapshot self.now instance.now row) }
     {
-        let old = instance.clone()?;
-        instance.row = row;
-        let mut changes = Items::new(self.alloc);
-        changes.push(Change::PutInstance(instance))?;
-        self.with_snapshot(&old, changes, Reply::Done)
+        let mut after = instance.clone()?;
+        after.row = row;
+        let changes = with_change(Items::new(self.alloc), Change::PutInstance(after))?;
+        self.with_snapshot(instance, changes, Reply::Done)
     }
 
-    fn moved(&self, instance: Instance, owner: InstanceFmri) -> Asked
-        ensures { IfOk result (λ r. r ≡ moved self.now instance owner) }
+    fn moved(&self, instance: &Instance, owner: InstanceFmri) -> Asked
+        ensures { IfOk result (λ r. r ≡ moved self.now instance.now owner) }
     {
         if !may_be_moved(&instance.row) {
             return self.refused(Reply::InUse);
@@ -172,8 +204,8 @@ impl Planner<'_> {
         self.with_row_and_snapshot(instance, row)
     }
 
-    fn refreshed(&self, instance: Instance, target: Option<InstanceFmri>) -> Asked
-        ensures { IfOk result (λ r. r ≡ refreshed self.now instance target) }
+    fn refreshed(&self, instance: &Instance, target: Option<InstanceFmri>) -> Asked
+        ensures { IfOk result (λ r. r ≡ refreshed self.now instance.now target) }
     {
         match target {
             Some(owner) => self.moved(instance, owner),
@@ -200,6 +232,6 @@ impl Planner<'_> {
         };
         let setting = self.setting_for(&instance)?;
         let target = target_by(self.alloc, setting, &instance.row.owner)?;
-        self.refreshed(instance, target)
+        self.refreshed(&instance, target)
     }
 }

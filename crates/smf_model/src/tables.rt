@@ -84,6 +84,13 @@ impl Tables {
         &self.lists.names
     }
 
+    /// The snapshots, by number.
+    pub fn snapshots(&self) -> &[Snapshot]
+        ensures { result.now ≡ self.now.snapshots }
+    {
+        self.lists.snapshots.as_slice()
+    }
+
     pub fn launches(&self) -> &[Launch]
         ensures { result.now ≡ self.now.launches }
     {

@@ -1,16 +1,17 @@
 ghost use Rattle.std.specs.Prelude.{◌≡◌, map, option_map, IfOk};
-ghost use Rattle.smf_model.specs.Look.{bare};
+ghost use Rattle.smf_model.specs.Look.{bare, groups_of};
+ghost use Rattle.smf_model.specs.Setting.{current, is_readable, setting};
 ghost use Rattle.smf_model.specs.Next.{named_snapshot};
 ghost use Rattle.smf_model.specs.Shown.{body_of, row_item, rows, snapshot_names};
 ghost use Rattle.smf_model.specs.Shown.{snapshot_number, snapshots_of, view, view_item};
 
-use crate::held::{Instance, InstanceEntry, View};
+use crate::held::{Instance, InstanceEntry};
 use crate::planner::Planner;
 use crate::reverting::number_of;
 use crate::setting::is_readable;
 use smf_fmri::{Bytes, Items};
 use smf_snap::{SnapshotName, encode_both, names};
-use smf_state::ViewItem;
+use smf_state::{Row, View, ViewItem};
 use std::alloc::{AllocError, Global};
 
 fn snapshot_names(alloc: Global, instance: &Instance) -> Result<Items<SnapshotName>, AllocError>
@@ -65,21 +66,36 @@ impl Planner<'_> {
         }
     }
 
+    /// Whether `general/restarter` of an instance can be read.
+    fn can_be_read(&self, instance: &Instance) -> Result<bool, AllocError>
+        ensures { IfOk result (λ b. b ≡ is_readable (setting (groups_of self.now) instance.now)) }
+    {
+        let setting = self.setting_for(instance)?;
+        Ok(is_readable(&setting))
+    }
+
+    /// The row of an instance as it is read.
+    fn current_row(&self, instance: &Instance) -> Result<Row, AllocError>
+        ensures { IfOk result (λ row. row ≡ (current (groups_of self.now) instance.now).row) }
+    {
+        let shown = self.read(instance)?;
+        Ok(shown.row)
+    }
+
     /// An instance as it is read, without the bytes of a snapshot.
     fn row_item(&self, instance: &Instance) -> Result<ViewItem, AllocError>
         ensures { IfOk result (λ item. item ≡ row_item self.now instance.now) }
     {
         let is_enabled = self.enabled(instance)?;
-        let setting = self.setting_for(instance)?;
-        let can_be_read = is_readable(&setting);
+        let can_be_read = self.can_be_read(instance)?;
         let name = instance.name.clone()?;
-        let shown = self.current(instance.clone()?)?;
+        let row = self.current_row(instance)?;
         Ok(ViewItem {
             instance: instance.number.get(),
             name,
             enabled: is_enabled,
             readable: can_be_read,
-            row: shown.row,
+            row,
             body: None,
         })
     }

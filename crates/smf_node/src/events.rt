@@ -35,6 +35,9 @@ fn first(replies: Items<Reply>) -> Option<Reply>
     all.next()
 }
 
+/// An event that happened or could not is not needed any more.
+fn let_go(_event: Event) {}
+
 fn revision<J: Journal>(machine: &Machine<J>) -> u64
     ensures { result ≡ machine.now.now.revision }
 {
@@ -151,18 +154,20 @@ impl<J: Journal> Node<J> {
         ensures err { OnErr result (self.new ≡ self.old) }
         ensures fault { IfErr result (λ e. IsLack J.write_fails self.old.world event e) }
     {
-        self.happen(&event)?;
+        let replies = self.happen(&event);
+        let_go(event);
+        replies?;
         Ok(())
     }
 
-    fn admit(&mut self, event: Event) -> Result<Option<Reply>, NodeFault>
-        ensures ok { IfOk result (λ reply. IsStep self.old event self.new reply) }
+    fn admit(&mut self, event: &Event) -> Result<Option<Reply>, NodeFault>
+        ensures ok { IfOk result (λ reply. IsStep self.old event.now self.new reply) }
         ensures err { OnErr result (self.new ≡ self.old) }
-        ensures fault { IfErr result (λ e. IsFault J.write_fails self.old.world event e) }
+        ensures fault { IfErr result (λ e. IsFault J.write_fails self.old.world event.now e) }
     {
-        self.expect(&event)?;
-        let replies = self.happen(&event)?;
-        Ok(reply_of(&event, replies))
+        self.expect(event)?;
+        let replies = self.happen(event)?;
+        Ok(reply_of(event, replies))
     }
 
     /// An event happens, and gives the reply to a client's command. `NoSuchMessage` where no message was sent with that
@@ -174,7 +179,8 @@ impl<J: Journal> Node<J> {
         ensures err { OnErr result (self.new ≡ self.old) }
         ensures fault { IfErr result (λ e. IsFault J.write_fails self.old.world event e) }
     {
-        let reply = self.admit(event);
+        let reply = self.admit(&event);
+        let_go(event);
         let _shown = self.trail();
         reply
     }
@@ -186,8 +192,9 @@ impl<J: Journal> Node<J> {
         ensures fault { IfErr result (λ e. IsLack J.write_fails self.old.world (events.Client edit) e) }
     {
         let event = Event::Client(edit);
-        let replies = self.happen(&event)?;
-        match first(replies) {
+        let replies = self.happen(&event);
+        let_go(event);
+        match first(replies?) {
             Some(reply) => Ok(reply),
             None => unreachable!(),
         }
@@ -212,7 +219,9 @@ impl<J: Journal> Node<J> {
         ensures err { OnErr result (self.new ≡ self.old) }
         ensures fault { IfErr result (λ e. IsFault J.write_fails self.old.world event e) }
     {
-        self.admit(event)?;
+        let reply = self.admit(&event);
+        let_go(event);
+        reply?;
         Ok(())
     }
 

@@ -1,12 +1,13 @@
 ghost use Rattle.smf_fmri.specs.ByKey.{put, put_all};
-ghost use Rattle.smf_model.specs.Setting.{startd as the_startd};
+ghost use Rattle.smf_state.specs.OwnName.{startd as the_startd};
 ghost use Rattle.smf_world.specs.Schedule.{by_name, in_order};
 ghost use Rattle.std.specs.Cmp.Lexicographic.{pointwise};
 ghost use Rattle.std.specs.Prelude.{◌≡◌, ◌∷◌, ◌++◌, [], filter, map, nat_eq, not, refl, IfOk, OnOk};
 
 use smf_fmri::{InstanceFmri, Keyed, Ordered};
-use smf_model::{Instance, startd};
+use smf_model::Instance;
 use smf_restarter::Restarter;
+use smf_state::startd;
 use std::alloc::{AllocError, Global};
 use std::marker::Model;
 

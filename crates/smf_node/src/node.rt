@@ -10,7 +10,7 @@ ghost use Rattle.smf_world.specs.Happens.{happens};
 ghost use Rattle.smf_world.specs.Reached.{IsReached};
 ghost use Rattle.smf_world.specs.Safe.{IsSafe};
 ghost use Rattle.smf_world.specs.Schedule.{begun_at};
-ghost use Rattle.smf_world.specs.Spelled.{HasBodies};
+ghost use Rattle.smf_world.specs.Spelled.{AreSpelled};
 ghost use Rattle.smf_world.specs.Worked.{is_launched, restarter, sent_at};
 ghost use Rattle.smf_world.specs.World.{found};
 ghost use Rattle.std.specs.Option.{option_copied};
@@ -30,7 +30,7 @@ use std::marker::Model;
 
 /// The repository, svc.startd's graph, the restarters, their messages, the contracts and the trail, and a schedule by
 /// which they act. Contracts see the world with the marks of the schedule. A node's world is always one that some events
-/// behind an accepted boot make.
+/// behind an accepted boot make, and each message that was sent in it is read again from its line.
 #[derive(Drop)]
 pub struct Node<J: Journal> {
     pub(crate) alloc: Global,
@@ -67,7 +67,7 @@ pub(crate) fn is_past_limit<J: Journal>(
 
 impl<J: Journal> Node<J> {
     /// Boots what was found. A fault hands the repository back, as it was; `Limit` where a row or a launch has no next
-    /// number.
+    /// number, and `Memory` also where an owner has 2^32 groups, which no body may hold.
     pub fn new(alloc: Global, repository: Plain<J>) -> Result<Node<J>, (NodeFault, Plain<J>)>
         ensures ok { IfOk result (λ node. node ≡ begun_at (happens (found repository.held) events.Boot)) }
         ensures safe { IfOk result (λ node. IsSafe node.world) }
@@ -112,6 +112,8 @@ impl<J: Journal> Node<J> {
         ensures shown { result.now ≡ reverse self.now.world.trail }
         ensures reached { IsReached self.now.world }
         ensures safe { IsSafe self.now.world }
+        // Each message that was sent is read again from its line.
+        ensures spelled { AreSpelled self.now.world }
     {
         self.machine.trail()
     }
@@ -150,9 +152,9 @@ impl<J: Journal> Node<J> {
     pub fn line(&self, place: u64) -> Result<Option<Text>, AllocError>
         ensures line { IfOk result (λ line. line ≡ option_map line_text (sent_at self.now.world place)) }
         // It is read again as that message.
-        ensures again { OnOk result (IfSome (sent_at self.now.world place) (λ m. HasBodies m → read_line (line_text m) ≡ Ok m)) }
+        ensures again { OnOk result (IfSome (sent_at self.now.world place) (λ m. read_line (line_text m) ≡ Ok m)) }
     {
-        let _reached = self.trail();
+        let _spelled = self.trail();
         self.line_at(place)
     }
 

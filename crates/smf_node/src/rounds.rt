@@ -13,8 +13,9 @@ use crate::node::Node;
 use smf_contract::Event as ContractEvent;
 use smf_engine::orders;
 use smf_fmri::InstanceFmri;
-use smf_model::{Journal, View};
+use smf_model::Journal;
 use smf_restarter::Restarter;
+use smf_state::View;
 use smf_world::{Deed, Settled, Turn};
 use std::alloc::{AllocError, Global};
 use std::mem::replace;
@@ -220,14 +221,16 @@ impl<J: Journal> Node<J> {
         all_rest(self.machine.restarters())
     }
 
-    /// Whether nothing is left to do.
+    /// Whether nothing is left to do. What is ordered is looked at only where all restarters are at rest.
     #[tactic(auto, unfolding(smf_world::specs::Schedule::is_quiet))]
     pub fn is_quiet(&self) -> Result<bool, AllocError>
         ensures { IfOk result (λ b. b ≡ is_quiet self.now.world) }
     {
+        if !self.all_rest() {
+            return Ok(false);
+        }
         let none = self.has_no_orders()?;
-        let rest = self.all_rest();
-        Ok(none && rest)
+        Ok(none)
     }
 
     fn settle_rounds(&mut self, rounds: u64) -> Result<Settled, NodeFault>

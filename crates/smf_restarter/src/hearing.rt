@@ -11,8 +11,7 @@ use crate::reply::Reply;
 use crate::restarter::Restarter;
 use crate::running::known_run;
 use smf_fmri::Items;
-use smf_model::Why;
-use smf_state::{Proposal, Row, Step};
+use smf_state::{Proposal, Row, Step, Why};
 use smf_wire::{Known, Message, Order};
 use std::alloc::{AllocError, Global};
 

@@ -21,9 +21,9 @@ use Rattle.smf_run.specs.Scripts.{HasRun, Leaves, Runs, Stops}
 use Rattle.smf_run.proofs.Parting.{Apart, effect_apart, fails_apart}
 use Rattle.smf_script.specs.declared.fault.ScriptFault.{ScriptFault}
 use Rattle.smf_script.specs.declared.fault.ScriptFault.TheVariants.{Node, Lines, Output}
-use Rattle.smf_script.specs.declared.request.Request.{Request}
-use Rattle.smf_script.specs.declared.request.Request.TheVariants as requests
-use Rattle.smf_script.specs.Request.{request_of}
+use Rattle.smf_words.specs.declared.request.Request.{Request}
+use Rattle.smf_words.specs.declared.request.Request.TheVariants as requests
+use Rattle.smf_words.specs.Request.{request_of}
 use Rattle.smf_script.specs.Script.{begun, joined, silent}
 use Rattle.smf_script.specs.Session.{Deed, Effect, Session, effect_of}
 use Rattle.smf_world.specs.declared.event.Event.TheVariants as events

@@ -11,8 +11,8 @@ use Rattle.smf_node.specs.Faults.{refused}
 use Rattle.smf_run.specs.Asks.{HasAsked, Seen, to_act, to_reboot}
 use Rattle.smf_run.specs.Failing.{LineFails, fails_alone, fails_together}
 use Rattle.smf_run.specs.Lines.{AskedBy, DoesWith, HasBooted, HasDone, HasPut, booted, deed, effect, happening, together}
-use Rattle.smf_script.specs.declared.request.Request.{Request}
-use Rattle.smf_script.specs.declared.request.Request.TheVariants as requests
+use Rattle.smf_words.specs.declared.request.Request.{Request}
+use Rattle.smf_words.specs.declared.request.Request.TheVariants as requests
 use Rattle.smf_script.specs.Failing.{MayEnd}
 use Rattle.smf_script.specs.Session.{Session}
 use Rattle.smf_world.specs.declared.event.Event.TheVariants as events

@@ -19,7 +19,7 @@ use Rattle.smf_run.specs.Lines.{HasDone, effect}
 use Rattle.smf_run.specs.Scripts.{HasRun, HasWritten, IsCut, IsSplit, Runs, Stops}
 use Rattle.smf_script.specs.declared.fault.ScriptFault.{ScriptFault}
 use Rattle.smf_script.specs.declared.fault.ScriptFault.TheVariants.{Node, Lines, Output}
-use Rattle.smf_script.specs.Request.{request_in, request_of}
+use Rattle.smf_words.specs.Request.{request_in, request_of}
 use Rattle.smf_script.specs.Script.{IsWithin, begun, joined, max_lines, silent, status_of}
 use Rattle.smf_script.specs.Session.{Effect, Session}
 use Rattle.smf_svccfg.specs.declared.selection.Selection.{Selection}

@@ -18,8 +18,8 @@ use Rattle.smf_model.specs.Next.{found as instance_found}
 use Rattle.smf_node.specs.declared.fault.NodeFault.{NodeFault}
 use Rattle.smf_node.specs.Marks.{last_delivered}
 use Rattle.smf_run.specs.Lines.{asks_children}
-use Rattle.smf_script.specs.declared.request.Request.{Request}
-use Rattle.smf_script.specs.declared.request.Request.TheVariants as requests
+use Rattle.smf_words.specs.declared.request.Request.{Request}
+use Rattle.smf_words.specs.declared.request.Request.TheVariants as requests
 use Rattle.smf_script.specs.Failing.{Leaves, RequestFails}
 use Rattle.smf_script.specs.Session.{Deed, Session, asked, asked_all, behind, crash_if, crash_in, crashed, done, effect_of, given, given_selected, repeated, replied, restarter_in, svcadm, svcadm_by, svcadm_name, svccfg, svccfg_by, svccfg_name, svcs, svcs_by, timed_out, timeout_if, timeout_in, timeout_on}
 use Rattle.smf_svccfg.specs.Judged.{judged}

@@ -7,7 +7,7 @@ use Rattle.smf_edge.specs.Answers.{MayNotAnswer, MayNotDo, Skills}
 use Rattle.smf_edge.specs.Ledgers.{Ledger, left}
 use Rattle.smf_edge.specs.Steps.{IsJoined, IsKilled, happened, restarted}
 use Rattle.smf_script.specs.Session.{Deed, no_member, not_here}
-use Rattle.smf_script.specs.Text.{line_end}
+use Rattle.smf_words.specs.Text.{line_end}
 use Rattle.smf_world.specs.Schedule.{Progress}
 
 -- what is known of children: what they keep, and how often their device failed

@@ -8,8 +8,8 @@ use Rattle.smf_node.specs.declared.fault.NodeFault.{NodeFault}
 use Rattle.smf_node.specs.declared.fault.NodeFault.TheVariants.{Memory}
 use Rattle.smf_run.specs.Asks.{Seen}
 use Rattle.smf_run.specs.Lines.{asks_children}
-use Rattle.smf_script.specs.declared.request.Request.{Request}
-use Rattle.smf_script.specs.declared.request.Request.TheVariants as requests
+use Rattle.smf_words.specs.declared.request.Request.{Request}
+use Rattle.smf_words.specs.declared.request.Request.TheVariants as requests
 use Rattle.smf_script.specs.Failing.{MayEnd, RequestFails}
 use Rattle.smf_script.specs.Session.{Session}
 use Rattle.smf_world.specs.Schedule.{Progress}

@@ -15,8 +15,8 @@ use Rattle.smf_edge.specs.Answers.{Skills}
 use Rattle.smf_edge.specs.Ledgers.{Ledger}
 use Rattle.smf_node.specs.Faults.{refused}
 use Rattle.smf_run.specs.Asks.{Ask, HasAsked, Seen, said, to_act, to_join, to_reboot, why_text}
-use Rattle.smf_script.specs.declared.request.Request.{Request}
-use Rattle.smf_script.specs.declared.request.Request.TheVariants as requests
+use Rattle.smf_words.specs.declared.request.Request.{Request}
+use Rattle.smf_words.specs.declared.request.Request.TheVariants as requests
 use Rattle.smf_script.specs.Session.{Deed, Effect, Session, done, effect_of, failed, latest, script_name, settled_text}
 use Rattle.smf_world.specs.declared.event.Event.TheVariants as events
 use Rattle.smf_world.specs.declared.event.ProcessEvent.{ProcessEvent}

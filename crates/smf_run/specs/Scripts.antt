@@ -12,7 +12,7 @@ use Rattle.smf_run.specs.Lines.{HasDone, effect}
 use Rattle.smf_script.specs.declared.fault.ScriptFault.{ScriptFault}
 use Rattle.smf_script.specs.declared.fault.ScriptFault.TheVariants.{Node, Lines, Output}
 use Rattle.smf_script.specs.Faults.{IsPast}
-use Rattle.smf_script.specs.Request.{request_of}
+use Rattle.smf_words.specs.Request.{request_of}
 use Rattle.smf_script.specs.Script.{Ends, Wrote, joined, max_lines, silent}
 use Rattle.smf_script.specs.Session.{Effect, Session}
 use Rattle.smf_world.specs.Schedule.{Progress}

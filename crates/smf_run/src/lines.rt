@@ -4,7 +4,7 @@ ghost use Rattle.smf_run.specs.Asks.{seen};
 ghost use Rattle.smf_run.specs.Failing.{LineFails};
 ghost use Rattle.smf_run.specs.Lines.{HasDone, HasPut, HasSettled, asks_children, deed, effect};
 ghost use Rattle.smf_script.specs.Failing.{MayEnd};
-ghost use Rattle.smf_script.specs.Request.{request_of};
+ghost use Rattle.smf_words.specs.Request.{request_of};
 ghost use Rattle.smf_world.specs.Reached.{IsLater};
 
 use crate::acting::{boot, join, process};
@@ -12,8 +12,9 @@ use smf_drive::drive;
 use smf_edge::Kids;
 use smf_model::Journal;
 use smf_node::{Node, NodeFault};
-use smf_script::{Request, request_of, run_request, settled_text};
+use smf_script::{run_request, settled_text};
 use smf_svccfg::Selection;
+use smf_words::{Request, request_of};
 use std::alloc::Global;
 
 /// Rounds happen with the answers of children.

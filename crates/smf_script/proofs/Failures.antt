@@ -7,7 +7,7 @@ use Rattle.smf_node.specs.declared.fault.NodeFault.{NodeFault}
 use Rattle.smf_node.specs.Partly.{SettleFails}
 use Rattle.smf_script.specs.Failing.{DeedFails, MayEnd, RequestFails}
 use Rattle.smf_script.specs.Session.{Session, effect_of, given, given_selected, settle, svccfg, svccfg_by, svccfg_name}
-use Rattle.smf_script.specs.declared.request.Request.TheVariants as requests
+use Rattle.smf_words.specs.declared.request.Request.TheVariants as requests
 use Rattle.smf_svccfg.specs.Judged.{judged}
 use Rattle.smf_svccfg.specs.declared.selection.Judged.TheVariants as judgements
 use Rattle.smf_svccfg.specs.declared.selection.Selection.{Selection}

@@ -9,10 +9,10 @@ use Rattle.smf_node.specs.declared.fault.NodeFault.TheVariants.{Memory, Database
 use Rattle.smf_node.specs.Marks.{last_delivered}
 use Rattle.smf_node.specs.Partly.{SettleFails}
 use Rattle.smf_node.specs.Runs.{RepeatsUntilFault}
-use Rattle.smf_script.specs.Request.{request_of}
+use Rattle.smf_words.specs.Request.{request_of}
 use Rattle.smf_script.specs.Session.{Deed, Session, asked_all, done, effect_of}
-use Rattle.smf_script.specs.declared.request.Request.{Request}
-use Rattle.smf_script.specs.declared.request.Request.TheVariants as requests
+use Rattle.smf_words.specs.declared.request.Request.{Request}
+use Rattle.smf_words.specs.declared.request.Request.TheVariants as requests
 use Rattle.smf_world.specs.Schedule.{Progress}
 
 -- with which faults a line may end: memory ran out, the journal could not be written, or a launch or a boot needs a number

@@ -1,5 +1,3 @@
-pub mod Request
-pub mod Text
 pub mod Session
 pub mod Failing
 pub mod Faults

@@ -27,10 +27,10 @@ use Rattle.smf_node.specs.Marks.{last_delivered}
 use Rattle.smf_model.specs.declared.command.Edit.{Edit}
 use Rattle.smf_model.specs.declared.command.Reply.{Reply}
 use Rattle.smf_repo.specs.Refusals.{refusal}
-use Rattle.smf_script.specs.Request.{request_of}
-use Rattle.smf_script.specs.Text.{line_end, trail_text}
-use Rattle.smf_script.specs.declared.request.Request.{Request}
-use Rattle.smf_script.specs.declared.request.Request.TheVariants as requests
+use Rattle.smf_words.specs.Request.{request_of}
+use Rattle.smf_words.specs.Text.{line_end, trail_text}
+use Rattle.smf_words.specs.declared.request.Request.{Request}
+use Rattle.smf_words.specs.declared.request.Request.TheVariants as requests
 use Rattle.smf_svccfg.specs.Judged.{fault_text, judged}
 use Rattle.smf_svccfg.specs.declared.fault.CfgFault.{CfgFault}
 use Rattle.smf_svccfg.specs.declared.selection.Judged.{Judged}

@@ -6,7 +6,7 @@ use smf_node::NodeFault;
 use std::io;
 
 /// Why a script ended before its last line.
-#[derive(Debug, Drop)]
+#[derive(Drop)]
 pub enum ScriptFault {
     /// The node failed at a line.
     Node(NodeFault),

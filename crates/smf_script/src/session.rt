@@ -2,15 +2,13 @@ ghost use Rattle.std.specs.Prelude.{◌≡◌, ◌⊎◌, [], ◌++◌, ◌∷�
 ghost use Rattle.smf_admin.specs.Asking.{commands_of};
 ghost use Rattle.smf_node.specs.Partly.{SettleFails};
 ghost use Rattle.smf_repo.specs.Refusals.{refusal};
-ghost use Rattle.smf_script.specs.declared.request.Request.TheVariants as requests;
+ghost use Rattle.smf_words.specs.declared.request.Request.TheVariants as requests;
 ghost use Rattle.smf_script.specs.Session.{IsDeed, IsEffect, asked, asked_all, done, effect, effect_of, given, given_selected, listing_of, settle, settled_text, svcadm, svccfg, svccfg_name, svcs, told_text};
 ghost use Rattle.smf_script.specs.Failing.{AreDone, DeedFails, LineFails, MayEnd, RequestFails, SvcadmLeaves};
-ghost use Rattle.smf_script.specs.Text.{trail_text};
+ghost use Rattle.smf_words.specs.Text.{trail_text};
 ghost use Rattle.smf_world.specs.Reached.{IsLater};
 
 use crate::acting::{crash, happen, join, process, refuse, time_out};
-use crate::request::{Request, request_of};
-use crate::text::trail_text;
 use smf_admin::{
     Asked, Listing, Options, commands_of, no_match_text, options_of, several_text, svcadm_usage,
     svcs_text, svcs_usage,
@@ -20,6 +18,7 @@ use smf_model::{Edit, Journal, Reply};
 use smf_node::{Node, NodeFault};
 use smf_repo::refusal_text;
 use smf_svccfg::{CfgFault, Judged, Selection, fault_text, judge};
+use smf_words::{Request, request_of, trail_text};
 use smf_world::{Event, Settled};
 use std::alloc::{AllocError, Global};
 

@@ -1,3 +1,2 @@
-pub mod Unbooted
 pub mod Told
 pub mod Ended

@@ -1,41 +1,20 @@
--- What a script in memory prints, and how it ends.
-use Rattle.std.specs.Prelude.{◌≡◌, ℕ, List, Option, IfSome}
-use Rattle.std.specs.Io.KnownBytes.{Appends}
+-- What a script in memory prints over children of its services, and how it ends.
+use Rattle.std.specs.Prelude.{ℕ, List, Option}
 use Rattle.std_io.specs.declared.io.error.Error.{Error}
-use Rattle.smf_cfg.specs.Serving.{IsTold}
-use Rattle.smf_lines.specs.Reading.{lines_of}
+use Rattle.smf_edge.specs.Answers.{Skills}
 use Rattle.smf_model.specs.declared.journal.RepoFault.{RepoFault}
 use Rattle.smf_model.specs.Look.{empty}
-use Rattle.smf_script.specs.Faults.{IsWhy}
-use Rattle.smf_script.specs.Script.{Stops, begun, script, status_of}
-use Rattle.smf_script.specs.Session.{Effect}
-use Rattle.smf_script.specs.declared.fault.ScriptFault.{ScriptFault}
-use Rattle.smf_serve.specs.Telling.{fault_text}
-use Rattle.smf_world.specs.declared.event.Event.TheVariants as events
-use Rattle.smf_world.specs.Happens.{happens}
-use Rattle.smf_world.specs.Schedule.{Progress, begun_at}
-use Rattle.smf_world.specs.World.{found}
-
--- the node over a repository that holds nothing, behind its boot
-abbrev pub first : Progress
-first = begun_at (happens (found empty) events.Boot)
-
--- what lines give, from there
-unfoldable pub served : List (List ℕ) → Effect
-served lines = script (begun first) lines
-
--- their text and nothing else was written, and the status is theirs
-pub record Prints (e : Effect) (old new : Option (List ℕ)) (status : ℕ) : Type 0 where
-  pub text : Appends old new e.text
-  pub exit : status ≡ status_of e.fine
+use Rattle.smf_run.specs.Asks.{Seen}
+use Rattle.smf_serve.specs.Runs.{HasRunOver, IsCut}
 
 -- nothing can fail to be written in a journal
 abbrev pub NoneFails : RepoFault → Type 0
 NoneFails fault = ⊥
 
--- a fault ended the run, and was told: some of the lines were done, and their text was written
-pub record IsFaulted (reads writes tells : Error → Type 0) (input old new told_old told_new : Option (List ℕ)) : Type 0 where
-  pub fault : ScriptFault
-  pub ended : IsWhy NoneFails reads writes fault
-  pub stops : IfSome input (λ bytes. (after : Progress) × Stops NoneFails fault (begun first) (lines_of bytes) after old new)
-  pub told : IsTold tells told_old told_new (fault_text fault)
+-- no fault ended the run: the script was done over a repository that holds nothing
+abbrev pub IsSimulated : Skills → Option (List ℕ) → Seen → Seen → Option (List ℕ) → Option (List ℕ) → ℕ → Type 0
+IsSimulated k input old new was is status = HasRunOver k empty input old new was is status
+
+-- a fault ended it, and was told
+abbrev pub IsSimulationCut : Skills → (Error → Type 0) → (Error → Type 0) → (Error → Type 0) → Option (List ℕ) → Seen → Seen → Option (List ℕ) → Option (List ℕ) → Option (List ℕ) → Option (List ℕ) → Type 0
+IsSimulationCut k reads writes tells input old new was is told_old told_new = IsCut k NoneFails reads writes tells empty input old new was is told_old told_new

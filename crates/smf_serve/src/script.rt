@@ -43,7 +43,7 @@ fn run_over<J: Journal + Drop, R: LineReader, W: TextWriter, K: Kids>(
 }
 
 /// Does a script over a repository and the children of its services, and gives the status of the run.
-fn serve_over<J: Journal + Drop, R: LineReader, W: TextWriter, E: TextWriter, K: Kids>(
+pub(crate) fn serve_over<J: Journal + Drop, R: LineReader, W: TextWriter, E: TextWriter, K: Kids>(
     alloc: Global,
     repository: Plain<J>,
     reader: &mut R,

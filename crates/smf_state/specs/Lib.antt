@@ -2,3 +2,4 @@ pub mod States
 pub mod Rows
 pub mod Fields
 pub mod Texts
+pub mod OwnName

@@ -1,10 +1,13 @@
 //! States of instances, their rows, the steps that change them, and the texts of both.
-//! Modules: `state`, `flags` (asks, failures left out), `step`, `row`, `fields` (readers of a line), `text`, `view`, `fault`.
+//! Modules: `state`, `flags` (asks, failures left out), `step`, `refusal` (why a step is not granted), `row`, `fields`
+//! (readers of a line), `text`, `view` (what svc.startd's graph sees), `own_name` (that of svc.startd's restarter), `fault`.
 #![tactic(auto)]
 
 mod fault;
 mod fields;
 mod flags;
+mod own_name;
+mod refusal;
 mod row;
 mod state;
 mod step;
@@ -17,8 +20,10 @@ pub use fields::{
     optional_cause_at, optional_number_at, optional_state_at, state_at,
 };
 pub use flags::{Asks, Failures, Ignore};
+pub use own_name::{is_startd, startd};
+pub use refusal::Why;
 pub use row::{MAX_NUMBER, MAX_RUN, Row, steps_go_along_the_diagram};
 pub use state::{Cause, Duration, State, edge};
 pub use step::{Proposal, Step, Verb};
 pub use text::{row_at, step_at};
-pub use view::ViewItem;
+pub use view::{View, ViewItem};

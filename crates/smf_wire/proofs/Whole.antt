@@ -6,7 +6,7 @@ use Rattle.std.specs.Option.{option_to_list}
 use Rattle.std.specs.Prelude.{is_some}
 use Rattle.smf_fmri.specs.Counts.{read_count}
 use Rattle.smf_fmri.specs.Matching.{read_short}
-use Rattle.smf_model.specs.declared.held.View.{View}
+use Rattle.smf_state.specs.declared.view.View.{View}
 use Rattle.smf_state.specs.Fields.{◌>>=◌, taken}
 use Rattle.smf_state.specs.Texts.{IsRow, row_at, row_text, step_at, step_text}
 use Rattle.smf_state.specs.declared.row.Row.{Row}

@@ -4,8 +4,8 @@ use Rattle.std.specs.Cmp.Lexicographic.{pointwise}
 use Rattle.std.specs.Prelude.{nat_eq}
 use Rattle.smf_fmri.specs.Counts.{no_space}
 use Rattle.smf_fmri.proofs.Matching.{same_text}
-use Rattle.smf_model.specs.declared.command.Why.{Why}
-use Rattle.smf_model.specs.declared.command.Why.TheVariants as reasons
+use Rattle.smf_state.specs.declared.refusal.Why.{Why}
+use Rattle.smf_state.specs.declared.refusal.Why.TheVariants as reasons
 use Rattle.smf_state.specs.declared.fault.StepFault.{StepFault}
 use Rattle.smf_state.specs.declared.fault.StepFault.TheVariants.{Exhausted, StillLive, NotLive, NoEdge}
 use Rattle.smf_state.proofs.Lines.{IsSpelling}

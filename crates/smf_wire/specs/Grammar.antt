@@ -6,8 +6,8 @@ use Rattle.smf_fmri.specs.Matching.{read_short}
 use Rattle.smf_method.specs.Commands.{command_of}
 use Rattle.smf_method.specs.Timeouts.{timeout_of}
 use Rattle.smf_method.specs.declared.call.MethodCall.{MethodCall}
-use Rattle.smf_model.specs.declared.command.Why.{Why}
-use Rattle.smf_model.specs.declared.held.View.{View}
+use Rattle.smf_state.specs.declared.refusal.Why.{Why}
+use Rattle.smf_state.specs.declared.view.View.{View}
 use Rattle.smf_state.specs.Fields.{◌>>=◌, read_flag, read_ignore, read_optional, taken}
 use Rattle.smf_state.specs.declared.fault.FieldFault.{FieldFault}
 use Rattle.smf_state.specs.declared.fault.FieldFault.TheVariants as fields

@@ -9,9 +9,9 @@ use Rattle.smf_fmri.specs.Matching.{IsInstanceName}
 use Rattle.smf_method.specs.Commands.{IsCommand}
 use Rattle.smf_method.specs.Timeouts.{IsTimeout}
 use Rattle.smf_method.specs.declared.call.MethodCall.{MethodCall}
-use Rattle.smf_model.specs.declared.command.Why.{Why}
-use Rattle.smf_model.specs.declared.command.Why.TheVariants as reasons
-use Rattle.smf_model.specs.declared.held.View.{View}
+use Rattle.smf_state.specs.declared.refusal.Why.{Why}
+use Rattle.smf_state.specs.declared.refusal.Why.TheVariants as reasons
+use Rattle.smf_state.specs.declared.view.View.{View}
 use Rattle.smf_snap.specs.Body.{decoded_snapshot}
 use Rattle.smf_snap.specs.declared.body.Snapshot.{Snapshot}
 use Rattle.smf_state.specs.Fields.{flag_text, optional_text}

@@ -1,8 +1,8 @@
 -- The words of messages.
 use Rattle.std.specs.Prelude.{ℕ, List, nat_eq, codes, if◌then◌else◌, Option, Some, None}
 use Rattle.std.specs.Cmp.Lexicographic.{pointwise}
-use Rattle.smf_model.specs.declared.command.Why.{Why}
-use Rattle.smf_model.specs.declared.command.Why.TheVariants as reasons
+use Rattle.smf_state.specs.declared.refusal.Why.{Why}
+use Rattle.smf_state.specs.declared.refusal.Why.TheVariants as reasons
 use Rattle.smf_state.specs.declared.fault.StepFault.{StepFault}
 use Rattle.smf_state.specs.declared.fault.StepFault.TheVariants.{Exhausted, StillLive, NotLive, NoEdge}
 use Rattle.smf_wire.specs.declared.message.Message.{Message}

@@ -18,11 +18,10 @@ use crate::order::{Order, What};
 use crate::word::{MessageWord, OrderWord, read_why};
 use smf_fmri::{Bytes, Items, Number, read_count};
 use smf_method::{Command, MethodCall, Timeout};
-use smf_model::{View, Why};
 use smf_snap::decode_snapshot;
 use smf_state::{
-    FieldFault, Ignore, Proposal, Row, ViewItem, WrongField, cause_at, duration_at, field_at,
-    flag_at, ignore_at, left_of, name_at, number_at, row_at, state_at, step_at,
+    FieldFault, Ignore, Proposal, Row, View, ViewItem, Why, WrongField, cause_at, duration_at,
+    field_at, flag_at, ignore_at, left_of, name_at, number_at, row_at, state_at, step_at,
 };
 use smf_value::BodyFault;
 use std::alloc::{AllocError, Global};

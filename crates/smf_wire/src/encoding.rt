@@ -20,8 +20,7 @@ use crate::order::{Order, What};
 use crate::word::why_text;
 use smf_fmri::{Bytes, InstanceFmri, Items, Text};
 use smf_method::{MethodCall, Timeout};
-use smf_model::{View, Why};
-use smf_state::{Cause, Duration, Ignore, Proposal, Row, State, ViewItem};
+use smf_state::{Cause, Duration, Ignore, Proposal, Row, State, View, ViewItem, Why};
 use std::alloc::{AllocError, Global};
 use std::fmt::Write;
 

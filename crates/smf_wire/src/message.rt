@@ -2,8 +2,7 @@ ghost use Rattle.std.specs.Prelude.{◌≡◌, IfOk};
 
 use crate::order::Order;
 use smf_fmri::{InstanceFmri, Items};
-use smf_model::{View, Why};
-use smf_state::{Proposal, Row};
+use smf_state::{Proposal, Row, View, Why};
 use std::alloc::AllocError;
 
 /// An instance as a restarter knows it.

@@ -1,8 +1,7 @@
 ghost use Rattle.std.specs.Prelude.{◌≡◌};
 ghost use Rattle.smf_wire.specs.Words.{read_message_word, read_order_word, read_step_fault, read_why, why_text};
 
-use smf_model::Why;
-use smf_state::StepFault;
+use smf_state::{StepFault, Why};
 
 /// The word that the line of a message begins with.
 #[derive(Clone, Copy, Debug, PartialEq, Eq)]

@@ -7,7 +7,7 @@ use Rattle.smf_state.specs.declared.view.ViewItem.{ViewItem}
 use Rattle.smf_method.specs.declared.call.ReadMethod.{ReadMethod}
 use Rattle.smf_dep.specs.Members.{member_of, members}
 use Rattle.smf_dep.specs.Places.{finding_of}
-use Rattle.smf_model.specs.declared.held.View.{View}
+use Rattle.smf_state.specs.declared.view.View.{View}
 use Rattle.smf_model.specs.History.{History, value_at}
 use Rattle.smf_model.specs.Holdings.{Holdings}
 use Rattle.smf_model.specs.Laws.{IsNumbered}

@@ -18,7 +18,7 @@ use Rattle.smf_method.specs.declared.call.ReadMethod.{ReadMethod}
 use Rattle.smf_method.specs.Methods.{method_of}
 use Rattle.smf_method.specs.Tokens.{names_of}
 use Rattle.smf_model.specs.declared.held.Instance.{Instance}
-use Rattle.smf_model.specs.declared.held.View.{View}
+use Rattle.smf_state.specs.declared.view.View.{View}
 use Rattle.smf_model.specs.Holdings.{Holdings}
 use Rattle.smf_model.specs.History.{History, value_at}
 use Rattle.smf_model.specs.Laws.{IsNumbered}

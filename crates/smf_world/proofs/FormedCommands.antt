@@ -30,7 +30,7 @@ use Rattle.smf_model.specs.declared.command.PropertyChange.{PropertyChange}
 use Rattle.smf_model.specs.declared.command.PropertyChange.TheVariants as properties
 use Rattle.smf_model.specs.declared.command.Reply.{Reply}
 use Rattle.smf_model.specs.declared.command.Reply.TheVariants as replies
-use Rattle.smf_model.specs.declared.command.Why.{Why}
+use Rattle.smf_state.specs.declared.refusal.Why.{Why}
 use Rattle.smf_model.specs.declared.held.Instance.{Instance}
 use Rattle.smf_model.specs.declared.held.Launch.{Launch}
 use Rattle.smf_model.specs.declared.held.Owner.{Owner}

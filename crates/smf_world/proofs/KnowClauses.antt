@@ -13,8 +13,8 @@ use Rattle.smf_state.specs.declared.step.Step.TheVariants.{Move, Start, Stop, Re
 use Rattle.smf_state.specs.Rows.{is_stopped, run_of}
 use Rattle.smf_state.specs.States.{runs}
 use Rattle.smf_method.specs.declared.call.ReadMethod.{ReadMethod}
-use Rattle.smf_model.specs.declared.command.Why.{Why}
-use Rattle.smf_model.specs.declared.command.Why.TheVariants as whys
+use Rattle.smf_state.specs.declared.refusal.Why.{Why}
+use Rattle.smf_state.specs.declared.refusal.Why.TheVariants as whys
 use Rattle.smf_model.specs.declared.held.Instance.{Instance}
 use Rattle.smf_model.specs.History.{History}
 use Rattle.smf_model.specs.Holdings.{Holdings}

@@ -7,7 +7,7 @@ use Rattle.smf_state.specs.declared.state.State.TheVariants.{Online}
 use Rattle.smf_state.specs.declared.step.Proposal.{Proposal}
 use Rattle.smf_state.specs.declared.state.Duration.{Duration}
 use Rattle.smf_state.specs.declared.state.Duration.TheVariants.{Contract, Transient, Child}
-use Rattle.smf_model.specs.declared.command.Why.{Why}
+use Rattle.smf_state.specs.declared.refusal.Why.{Why}
 use Rattle.smf_model.specs.History.{History}
 use Rattle.smf_model.specs.Holdings.{Holdings}
 use Rattle.smf_wire.specs.declared.message.Message.{Message}

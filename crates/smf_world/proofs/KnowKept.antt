@@ -5,7 +5,7 @@ use Rattle.smf_fmri.specs.ByKey.{Rises, with_answer}
 use Rattle.smf_fmri.proofs.Lookups.{key_cases, same_key, with_answer_cases, with_answer_other}
 use Rattle.smf_state.specs.declared.row.Row.{Row}
 use Rattle.smf_state.specs.declared.step.Proposal.{Proposal}
-use Rattle.smf_model.specs.declared.command.Why.{Why}
+use Rattle.smf_state.specs.declared.refusal.Why.{Why}
 use Rattle.smf_model.specs.declared.held.Instance.{Instance}
 use Rattle.smf_model.specs.History.{History}
 use Rattle.smf_model.specs.Holdings.{Holdings}

@@ -11,7 +11,7 @@ use Rattle.smf_state.specs.declared.step.Step.{Step}
 use Rattle.smf_state.specs.declared.step.Step.TheVariants.{Move, Start, Stop, Refresh, End, Note}
 use Rattle.smf_method.specs.declared.call.MethodCall.{MethodCall}
 use Rattle.smf_state.specs.declared.state.Duration.{Duration}
-use Rattle.smf_model.specs.declared.command.Why.{Why}
+use Rattle.smf_state.specs.declared.refusal.Why.{Why}
 use Rattle.smf_model.specs.declared.held.Instance.{Instance}
 use Rattle.smf_model.specs.History.{History}
 use Rattle.smf_model.specs.Holdings.{Holdings}

@@ -9,8 +9,8 @@ use Rattle.smf_state.specs.declared.state.Duration.{Duration}
 use Rattle.smf_state.specs.declared.step.Step.{Step}
 use Rattle.smf_state.specs.declared.step.Step.TheVariants as steps
 use Rattle.smf_method.specs.declared.call.MethodCall.{MethodCall}
-use Rattle.smf_model.specs.declared.command.Why.{Why}
-use Rattle.smf_model.specs.declared.command.Why.TheVariants as whys
+use Rattle.smf_state.specs.declared.refusal.Why.{Why}
+use Rattle.smf_state.specs.declared.refusal.Why.TheVariants as whys
 use Rattle.smf_model.specs.History.{History}
 use Rattle.smf_wire.specs.declared.message.Known.{Known}
 use Rattle.smf_wire.specs.declared.message.Message.{Message}

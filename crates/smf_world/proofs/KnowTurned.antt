@@ -4,8 +4,8 @@ use Rattle.smf_fmri.specs.ByKey.{Rises}
 use Rattle.smf_fmri.proofs.Rising.{rises_amend, rises_without}
 use Rattle.smf_state.specs.declared.row.Row.{Row}
 use Rattle.smf_state.specs.declared.step.Proposal.{Proposal}
-use Rattle.smf_model.specs.declared.command.Why.{Why}
-use Rattle.smf_model.specs.declared.command.Why.TheVariants as whys
+use Rattle.smf_state.specs.declared.refusal.Why.{Why}
+use Rattle.smf_state.specs.declared.refusal.Why.TheVariants as whys
 use Rattle.smf_model.specs.History.{History}
 use Rattle.smf_model.specs.Holdings.{Holdings}
 use Rattle.smf_wire.specs.declared.message.Message.{Message}

@@ -90,3 +90,4 @@ pub mod SpelledShown
 pub mod SpelledMessages
 pub mod SpelledRuns
 pub mod TablesInherit
+pub mod LawStops

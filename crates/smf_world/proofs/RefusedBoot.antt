@@ -9,7 +9,8 @@ use Rattle.smf_model.specs.declared.held.Instance.{Instance}
 use Rattle.smf_model.specs.Dates.{IsDated, revision_of}
 use Rattle.smf_model.specs.Laws.{IsIndexed, IsNumbered}
 use Rattle.smf_model.specs.Look.{bare, groups_of, installed}
-use Rattle.smf_model.specs.Setting.{current, enabled, setting, startd}
+use Rattle.smf_state.specs.OwnName.{startd}
+use Rattle.smf_model.specs.Setting.{current, enabled, setting}
 use Rattle.smf_model.specs.Shown.{view, rows_of}
 use Rattle.smf_model.specs.Next.{answer, asked, asked_boot, asked_edit, asked_launch, greatest, next}
 use Rattle.smf_model.proofs.LawDates.{fresh_date}

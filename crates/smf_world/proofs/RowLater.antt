@@ -15,7 +15,7 @@ use Rattle.smf_model.specs.Holdings.{Holdings}
 use Rattle.smf_model.specs.Laws.{IsNumbered, Stays}
 use Rattle.smf_model.specs.Look.{instance, launch_of}
 use Rattle.smf_model.specs.Next.{booted_row}
-use Rattle.smf_model.specs.Setting.{startd}
+use Rattle.smf_state.specs.OwnName.{startd}
 use Rattle.smf_model.proofs.LawLists.{some_same}
 use Rattle.smf_model.proofs.LawOutcomes.{stays_on}
 use Rattle.smf_world.proofs.RowClauses.{AreFit, HasRuns, IsBefore, IsFit, IsLeft, IsShaped, IsUnbegun, WasRow}

@@ -25,7 +25,7 @@ use Rattle.smf_model.specs.declared.command.Mark.TheVariants as marks
 use Rattle.smf_model.specs.declared.command.PropertyChange.{PropertyChange}
 use Rattle.smf_model.specs.declared.command.Reply.{Reply}
 use Rattle.smf_model.specs.declared.command.Reply.TheVariants as replies
-use Rattle.smf_model.specs.declared.command.Why.{Why}
+use Rattle.smf_state.specs.declared.refusal.Why.{Why}
 use Rattle.smf_model.specs.declared.held.Instance.{Instance}
 use Rattle.smf_model.specs.declared.held.InstanceEntry.{InstanceEntry}
 use Rattle.smf_model.specs.declared.held.Launch.{Launch}

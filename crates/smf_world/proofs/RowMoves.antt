@@ -11,14 +11,15 @@ use Rattle.smf_model.specs.declared.command.Command.{Command}
 use Rattle.smf_model.specs.declared.command.Command.TheVariants as commands
 use Rattle.smf_model.specs.declared.command.Edit.TheVariants as edits
 use Rattle.smf_model.specs.declared.command.Reply.TheVariants as replies
-use Rattle.smf_model.specs.declared.command.Why.{Why}
-use Rattle.smf_model.specs.declared.command.Why.TheVariants as whys
+use Rattle.smf_state.specs.declared.refusal.Why.{Why}
+use Rattle.smf_state.specs.declared.refusal.Why.TheVariants as whys
 use Rattle.smf_model.specs.declared.held.Instance.{Instance}
 use Rattle.smf_model.specs.Holdings.{Holdings}
 use Rattle.smf_model.specs.Laws.{Stays}
 use Rattle.smf_model.specs.Look.{by_instance, installed, instance, instances, launch_of, put_over}
 use Rattle.smf_model.specs.Next.{booted, booted_row, is_again, is_other_snapshot, moved_row, new_instance}
-use Rattle.smf_model.specs.Setting.{Groups, startd}
+use Rattle.smf_state.specs.OwnName.{startd}
+use Rattle.smf_model.specs.Setting.{Groups}
 use Rattle.smf_model.proofs.LawOutcomes.{put_each}
 use Rattle.smf_world.proofs.RowClauses.{fits}
 

@@ -6,8 +6,8 @@ use Rattle.smf_model.specs.declared.change.Change.{Change}
 use Rattle.smf_model.specs.declared.change.Outcome.{Outcome}
 use Rattle.smf_model.specs.declared.command.Reply.{Reply}
 use Rattle.smf_model.specs.declared.command.Reply.TheVariants as replies
-use Rattle.smf_model.specs.declared.command.Why.{Why}
-use Rattle.smf_model.specs.declared.command.Why.TheVariants as whys
+use Rattle.smf_state.specs.declared.refusal.Why.{Why}
+use Rattle.smf_state.specs.declared.refusal.Why.TheVariants as whys
 use Rattle.smf_model.specs.declared.held.Instance.{Instance}
 use Rattle.smf_model.specs.Holdings.{Holdings}
 use Rattle.smf_model.specs.Laws.{IsNumbered, Stays}

@@ -4,8 +4,8 @@ use Rattle.smf_state.specs.declared.row.Row.{Row}
 use Rattle.smf_state.specs.declared.step.Proposal.{Proposal}
 use Rattle.smf_state.specs.declared.step.Step.{Step}
 use Rattle.smf_state.specs.declared.step.Step.TheVariants.{Start}
-use Rattle.smf_model.specs.declared.command.Why.{Why}
-use Rattle.smf_model.specs.declared.command.Why.TheVariants as whys
+use Rattle.smf_state.specs.declared.refusal.Why.{Why}
+use Rattle.smf_state.specs.declared.refusal.Why.TheVariants as whys
 use Rattle.smf_model.specs.declared.held.Instance.{Instance}
 use Rattle.smf_model.specs.History.{History, made}
 use Rattle.smf_model.specs.Holdings.{Holdings}

@@ -13,8 +13,8 @@ use Rattle.smf_model.specs.declared.command.Command.{Command}
 use Rattle.smf_model.specs.declared.command.Command.TheVariants as commands
 use Rattle.smf_model.specs.declared.command.Reply.{Reply as CommandReply}
 use Rattle.smf_model.specs.declared.command.Reply.TheVariants as replies
-use Rattle.smf_model.specs.declared.command.Why.{Why}
-use Rattle.smf_model.specs.declared.command.Why.TheVariants as whys
+use Rattle.smf_state.specs.declared.refusal.Why.{Why}
+use Rattle.smf_state.specs.declared.refusal.Why.TheVariants as whys
 use Rattle.smf_model.specs.Holdings.{Holdings}
 use Rattle.smf_model.specs.Laws.{IsNumbered}
 use Rattle.smf_model.specs.Look.{launch_of}

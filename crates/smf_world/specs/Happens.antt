@@ -1,7 +1,7 @@
 -- What each event makes of the world: its work is done.
 use Rattle.std.specs.Prelude.{not, List, [], ◌∷◌, ◌++◌, map, filter, reverse, Bool, true, false, if◌then◌else◌, Option, None}
 use Rattle.smf_contract.specs.Called.{called}
-use Rattle.smf_model.specs.declared.held.View.{View}
+use Rattle.smf_state.specs.declared.view.View.{View}
 use Rattle.smf_model.specs.Look.{installed}
 use Rattle.smf_engine.specs.Orders.{newer}
 use Rattle.smf_restarter.specs.Changes.{changed}

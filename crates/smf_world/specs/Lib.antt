@@ -8,3 +8,4 @@ pub mod Safe
 pub mod Formed
 pub mod Spelled
 pub mod Schedule
+pub mod MustStop

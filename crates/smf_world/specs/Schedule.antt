@@ -6,8 +6,8 @@ use Rattle.smf_fmri.specs.ByKey.{By, by_text, put_all}
 use Rattle.smf_contract.specs.declared.event.Event.{Event as ContractEvent}
 use Rattle.smf_contract.specs.Entries.{contract}
 use Rattle.smf_contract.specs.declared.contract.Contract.{Contract}
-use Rattle.smf_model.specs.declared.held.View.{View}
-use Rattle.smf_model.specs.Setting.{startd}
+use Rattle.smf_state.specs.declared.view.View.{View}
+use Rattle.smf_state.specs.OwnName.{startd}
 use Rattle.smf_model.specs.Shown.{all_read, view}
 use Rattle.smf_engine.specs.Orders.{orders}
 use Rattle.smf_wire.specs.declared.message.Message.{Message}

@@ -2,7 +2,7 @@
 -- of it all.
 use Rattle.std.specs.Prelude.{List, [], Option, None}
 use Rattle.smf_contract.specs.Entries.{Contracts, empty}
-use Rattle.smf_model.specs.declared.held.View.{View}
+use Rattle.smf_state.specs.declared.view.View.{View}
 use Rattle.smf_model.specs.History.{History}
 use Rattle.smf_model.specs.Holdings.{Holdings}
 use Rattle.smf_restarter.specs.Knowledge.{Knowledge}

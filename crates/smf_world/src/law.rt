@@ -4,11 +4,13 @@ ghost use Rattle.smf_model.specs.Laws.{IsNumbered};
 ghost use Rattle.smf_model.specs.Look.{empty, installed};
 ghost use Rattle.smf_model.specs.Next.{next};
 ghost use Rattle.smf_model.specs.declared.command.Command.{Command as AnyCommand};
+ghost use Rattle.smf_dep.specs.declared.dependency.Dependency.{Dependency as AnyDependency};
 ghost use Rattle.smf_wire.specs.Lines.{IsSpelled};
 ghost use Rattle.smf_wire.specs.declared.message.Message.{Message as AnyMessage};
 ghost use Rattle.smf_world.specs.declared.event.Event.{Event as AnyEvent};
 ghost use Rattle.smf_world.specs.Formed.{IsFormed, IsFormedCommand};
 ghost use Rattle.smf_world.specs.Happens.{happens};
+ghost use Rattle.smf_world.specs.MustStop.{IsShown, IsTold};
 ghost use Rattle.smf_world.specs.Reached.{CanFail, IsAlways, IsLater, IsReached};
 ghost use Rattle.smf_world.specs.Runs.{run};
 ghost use Rattle.smf_world.specs.Safe.{AlongTheDiagram, CommitsFollowHistory as FollowsHistory, CommittedOnce, HeldWereCommitted};
@@ -20,6 +22,13 @@ ghost use Rattle.smf_world.specs.Worked.{sent_at, worked};
 ghost use Rattle.smf_world.specs.World.{World, found};
 ghost use Rattle.smf_world.specs.declared.schedule.Deed.{Deed as AnyDeed};
 ghost use Rattle.smf_world.specs.declared.schedule.Turn.{Turn as AnyTurn};
+
+/// By the revisions in the rows of a view a dependency stops an instance exactly where, after the base, an event that
+/// counts happened to an instance that is there and that the dependency cites.
+pub fn rows_tell_what_stops()
+    ensures told { (h : Holdings) (cs : List AnyCommand) (d : AnyDependency) (base : ℕ) → IsTold d base h cs }
+    ensures happened { (h : Holdings) (cs : List AnyCommand) (d : AnyDependency) (base : ℕ) → IsShown d base h cs }
+{}
 
 /// What the trail shows as committed is the history of the repository, whatever happens: the boots, and the rows that
 /// are new or have another number, in number order.

@@ -1,7 +1,8 @@
 use crate::item::Item;
 use smf_contract::ContractCall;
 use smf_fmri::{InstanceFmri, Items};
-use smf_model::{Command, Reply, View};
+use smf_model::{Command, Reply};
+use smf_state::View;
 use smf_wire::Message;
 
 /// What becomes of the restarters.

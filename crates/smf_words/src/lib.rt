@@ -1,0 +1,9 @@
+//! The words of scripts: what a line asks for, and what the trail looks like.
+//! Modules: `request` (what a line asks for), `text` (the trail).
+#![tactic(auto)]
+
+mod request;
+mod text;
+
+pub use request::{Request, request_of};
+pub use text::trail_text;

@@ -1,0 +1,94 @@
+ghost use Rattle.std.specs.Prelude.{◌≡◌, ◌++◌, IfOk, OnOk, string_bytes};
+ghost use Rattle.std.specs.List.{flat_map};
+ghost use Rattle.smf_words.specs.Text.{item_text, method_text, next_text, trail_text};
+
+use smf_contract::Method;
+use smf_fmri::Text;
+use smf_state::State;
+use smf_world::Item;
+use std::alloc::{AllocError, Global};
+use std::fmt::Write;
+
+fn next_text(next: Option<State>) -> &'static str
+    ensures { result.now ≡ next_text next }
+{
+    match next {
+        None => "none",
+        Some(state) => state.text(),
+    }
+}
+
+fn method_text(method: Method) -> &'static str
+    ensures { result.now ≡ method_text method }
+{
+    match method {
+        Method::Start => "start",
+        Method::Stop => "stop",
+        Method::Refresh => "refresh",
+    }
+}
+
+/// Puts an item of the trail, and the end of its line.
+fn put_item(out: &mut String, item: &Item) -> Result<(), AllocError>
+    ensures { OnOk result (string_bytes out.new ≡ string_bytes out.old ++ item_text item.now) }
+{
+    match item {
+        Item::Boot => out.push_str("boot\n"),
+        Item::Emptied(contract) => writeln!(out, "emptied {contract}"),
+        Item::Committed {
+            instance,
+            number,
+            state,
+            next,
+        } => {
+            let state = state.text();
+            let next = next_text(*next);
+            writeln!(out, "committed {instance} {number} {state} {next}")
+        }
+        Item::Held {
+            name,
+            launch,
+            instance,
+            number,
+            state,
+        } => {
+            let name = name.print();
+            let state = state.text();
+            write!(out, "held {name} {launch} {instance}")?;
+            writeln!(out, " {number} {state}")
+        }
+        Item::Spawned {
+            contract,
+            instance,
+            run,
+            method,
+            revision,
+            command,
+        } => {
+            let method = method_text(*method);
+            let command = command.as_str();
+            write!(out, "spawned {contract} {instance} {run}")?;
+            write!(out, " {method} {revision} ")?;
+            writeln!(out, "{command}")
+        }
+    }
+}
+
+fn put_items(out: &mut String, items: &[Item]) -> Result<(), AllocError>
+    ensures { OnOk result (string_bytes out.new ≡ string_bytes out.old ++ flat_map item_text items.now) }
+{
+    for item in items {
+        put_item(out, item)?;
+    }
+    Ok(())
+}
+
+/// The trail, a line for each item.
+#[tactic(auto, unfolding(crate::specs::Text::trail_text))]
+pub fn trail_text(alloc: Global, trail: &[Item]) -> Result<Text, AllocError>
+    ensures { IfOk result (λ text. text ≡ trail_text trail.now) }
+{
+    let mut out = String::new(alloc);
+    put_items(&mut out, trail)?;
+    Ok(Text::from_string(out))
+}
