@@ -17,21 +17,20 @@ fn refusal_of(fault: Error) -> &'static str {
 /// Does a script over the database in a file, with processes of the system.
 pub(crate) fn run_over(rt: &HostRuntime, database: &str) -> io::Result<u8> {
     let alloc = rt.alloc();
-    let mut errors = rt.stderr();
-    let conn = match Connection::open(rt, database) {
-        Ok(conn) => conn,
-        Err(fault) => return Ok(tell(&mut errors, refusal_of(fault))),
-    };
     let mut reader = NotedReader::new(BufReader::new(alloc, rt.reader())?);
+    let mut errors = rt.stderr();
     let mut kids = OsKids::new(alloc, rt, rt.stderr());
-    Ok(serve(
-        alloc,
-        conn,
-        &mut reader,
-        &mut io::writer(rt),
-        &mut errors,
-        &mut kids,
-    ))
+    Ok(match Connection::open(rt, database) {
+        Ok(conn) => serve(
+            alloc,
+            conn,
+            &mut reader,
+            &mut io::writer(rt),
+            &mut errors,
+            &mut kids,
+        ),
+        Err(fault) => tell(&mut errors, refusal_of(fault)),
+    })
 }
 
 /// Does lines of svccfg over the database in a file: those of another file, or of standard input.

@@ -10,7 +10,7 @@ use smf_model::{Edit, InstanceName, Mark};
 use std::alloc::{AllocError, Global};
 
 /// What svcadm is to do with each instance that it is given.
-#[derive(Clone, Copy, Debug, PartialEq, Eq)]
+#[derive(Clone, Copy, PartialEq, Eq)]
 pub enum AdminCommand {
     /// Until the next boot alone, where temporary.
     Enable { temporary: bool },
@@ -22,14 +22,14 @@ pub enum AdminCommand {
 }
 
 /// A command of svcadm, with the words that stand for instances, one or more.
-#[derive(Debug, Drop)]
+#[derive(Drop)]
 pub struct AdminWords {
     pub command: AdminCommand,
     pub names: Items<Text>,
 }
 
 /// What one word that stands for an instance asks for.
-#[derive(Debug, Drop)]
+#[derive(Drop)]
 pub enum Asked {
     Edit(Edit),
     /// The word matches no instance.

@@ -8,7 +8,7 @@ use smf_fmri::{Items, Text};
 use std::alloc::{AllocError, Global};
 
 /// How instances stand to those that are named.
-#[derive(Clone, Copy, Debug, PartialEq, Eq)]
+#[derive(Clone, Copy, PartialEq, Eq)]
 pub enum Relation {
     /// The named depend on them.
     Dependencies,
@@ -17,7 +17,7 @@ pub enum Relation {
 }
 
 /// Which instances svcs shows.
-#[derive(Clone, Copy, Debug, PartialEq, Eq)]
+#[derive(Clone, Copy, PartialEq, Eq)]
 pub enum Chosen {
     /// Those that are enabled or run.
     Listed,
@@ -28,7 +28,7 @@ pub enum Chosen {
 }
 
 /// What the words of svcs ask for.
-#[derive(Debug, Drop)]
+#[derive(Drop)]
 pub struct Options {
     pub header: bool,
     pub chosen: Chosen,

@@ -8,7 +8,7 @@ use smf_model::InstanceName;
 use std::alloc::{AllocError, Global};
 
 /// Which instance a word stands for.
-#[derive(Debug, Drop)]
+#[derive(Drop)]
 pub enum Found {
     /// The only one that it matches, by its number.
     One(u64),

@@ -16,7 +16,7 @@ use smf_state::{State, ViewItem};
 use std::alloc::{AllocError, Global};
 
 /// What svcs prints.
-#[derive(Debug, Drop)]
+#[derive(Drop)]
 pub struct Listing {
     pub text: Text,
     /// Whether each pattern matches an instance.
@@ -24,7 +24,7 @@ pub struct Listing {
 }
 
 /// What svcs prints of an instance.
-#[derive(Debug, Drop)]
+#[derive(Drop)]
 struct Entry {
     name: InstanceFmri,
     state: State,

@@ -10,11 +10,12 @@ use std::alloc::{AllocError, Global};
 
 /// What a call of lines answers, or none where the word is no such call.
 pub(crate) fn answer(alloc: Global, call: &str, text: &str) -> Result<Option<String>, CallFault> {
-    Ok(Some(match call {
-        "words" => barred(alloc, text)?,
-        "cfg" => line(alloc, text)?,
+    let answer = match call {
+        "words" => barred(alloc, text),
+        "cfg" => line(alloc, text),
         _ => return Ok(None),
-    }))
+    };
+    Ok(Some(answer?))
 }
 
 /// The words of a text, each behind a bar.

@@ -7,11 +7,12 @@ use std::alloc::Global;
 
 /// What a call of cookies answers, or none where the word is no such call.
 pub(crate) fn answer(alloc: Global, call: &str, text: &str) -> Result<Option<String>, CallFault> {
-    Ok(Some(match call {
-        "cookie" => packed(alloc, text)?,
-        "unpack" => unpacked(alloc, count_of(text)?)?,
+    let answer = match call {
+        "cookie" => packed(alloc, text),
+        "unpack" => unpacked(alloc, count_of(text)?),
         _ => return Ok(None),
-    }))
+    };
+    Ok(Some(answer?))
 }
 
 pub(crate) fn method_of(word: &str) -> Result<Method, CallFault> {

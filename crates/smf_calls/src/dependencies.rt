@@ -17,12 +17,13 @@ pub(crate) fn answer(
     call: &str,
     text: &str,
 ) -> Result<Option<String>, CallFault> {
-    Ok(Some(match call {
-        "dependency" => read(alloc, group)?,
-        "verdict" => verdict(alloc, items, text)?,
-        "found" => found(alloc, items)?,
+    let answer = match call {
+        "dependency" => read(alloc, group),
+        "verdict" => verdict(alloc, items, text),
+        "found" => found(alloc, items),
         _ => return Ok(None),
-    }))
+    };
+    Ok(Some(answer?))
 }
 
 fn grouping_text(grouping: Grouping) -> &'static str {

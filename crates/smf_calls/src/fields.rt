@@ -30,30 +30,32 @@ fn line_of(text: &str) -> Option<&str> {
 }
 
 fn numbers(alloc: Global, kind: &str, line: Option<&str>) -> Result<Option<String>, CallFault> {
-    Ok(Some(match kind {
-        "left" => number_text(alloc, left_of(line) as u64, None)?,
-        "number" => number(alloc, line)?,
-        "optional_number" => optional_number(alloc, line)?,
-        "asks" => asks(alloc, line)?,
-        "ignore" => ignore(alloc, line)?,
-        "flag" => flag(alloc, line)?,
+    let answer = match kind {
+        "left" => number_text(alloc, left_of(line) as u64, None),
+        "number" => number(alloc, line),
+        "optional_number" => optional_number(alloc, line),
+        "asks" => asks(alloc, line),
+        "ignore" => ignore(alloc, line),
+        "flag" => flag(alloc, line),
         _ => return Ok(None),
-    }))
+    };
+    Ok(Some(answer?))
 }
 
 fn words(alloc: Global, kind: &str, line: Option<&str>) -> Result<Option<String>, CallFault> {
-    Ok(Some(match kind {
-        "any" => any(alloc, line)?,
-        "state" => state(alloc, line)?,
-        "optional_state" => optional_state(alloc, line)?,
-        "cause" => cause(alloc, line)?,
-        "optional_cause" => optional_cause(alloc, line)?,
-        "duration" => duration(alloc, line)?,
-        "name" => name(alloc, line)?,
-        "row" => row(alloc, line)?,
-        "step" => step(alloc, line)?,
+    let answer = match kind {
+        "any" => any(alloc, line),
+        "state" => state(alloc, line),
+        "optional_state" => optional_state(alloc, line),
+        "cause" => cause(alloc, line),
+        "optional_cause" => optional_cause(alloc, line),
+        "duration" => duration(alloc, line),
+        "name" => name(alloc, line),
+        "row" => row(alloc, line),
+        "step" => step(alloc, line),
         _ => return Ok(None),
-    }))
+    };
+    Ok(Some(answer?))
 }
 
 /// What was read, and what is left where something is.

@@ -17,11 +17,12 @@ pub(crate) fn answer(
     call: &str,
     text: &str,
 ) -> Result<Option<String>, CallFault> {
-    Ok(Some(match call {
-        "judge" => judged(alloc, text)?,
-        "method" => read(alloc, group, text)?,
+    let answer = match call {
+        "judge" => judged(alloc, text),
+        "method" => read(alloc, group, text),
         _ => return Ok(None),
-    }))
+    };
+    Ok(Some(answer?))
 }
 
 /// A code, or `killed`.

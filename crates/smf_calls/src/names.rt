@@ -11,23 +11,24 @@ use std::alloc::Global;
 
 /// What a call of names answers, or none where the word is no such call.
 pub(crate) fn answer(alloc: Global, call: &str, text: &str) -> Result<Option<String>, CallFault> {
-    Ok(Some(match call {
-        "fmri" => printed(alloc, text)?,
-        "parts" => parts(alloc, text)?,
-        "instance" => instance(alloc, text)?,
-        "short" => short(alloc, text)?,
-        "service" => service(alloc, text)?,
-        "service_of" => service_of(alloc, text)?,
-        "pattern" => matched(alloc, text)?,
-        "pick" => picked(alloc, text)?,
-        "compare" => compared(alloc, text)?,
-        "count" => count(alloc, text)?,
-        "decimal" => copied(alloc, truth(is_decimal(text.as_bytes())))?,
-        "strip" => stripped(alloc, text)?,
-        "next" => next(alloc, text)?,
-        "items" => items(alloc, text)?,
+    let answer = match call {
+        "fmri" => printed(alloc, text),
+        "parts" => parts(alloc, text),
+        "instance" => instance(alloc, text),
+        "short" => short(alloc, text),
+        "service" => service(alloc, text),
+        "service_of" => service_of(alloc, text),
+        "pattern" => matched(alloc, text),
+        "pick" => picked(alloc, text),
+        "compare" => compared(alloc, text),
+        "count" => count(alloc, text),
+        "decimal" => copied(alloc, truth(is_decimal(text.as_bytes()))),
+        "strip" => stripped(alloc, text),
+        "next" => next(alloc, text),
+        "items" => items(alloc, text),
         _ => return Ok(None),
-    }))
+    };
+    Ok(Some(answer?))
 }
 
 fn printed(alloc: Global, text: &str) -> Result<String, CallFault> {

@@ -10,16 +10,17 @@ use std::fmt::Write;
 
 /// What a call of rows answers, or none where the word is no such call.
 pub(crate) fn answer(alloc: Global, call: &str, text: &str) -> Result<Option<String>, CallFault> {
-    Ok(Some(match call {
-        "row" => printed(alloc, text)?,
-        "fresh" => fresh(alloc, text)?,
-        "row_fields" => fields(alloc, text)?,
-        "item" => copied_item(alloc, text)?,
-        "edge" => edge_between(alloc, text)?,
-        "runs" => copied(alloc, truth(state_of(text)?.runs()))?,
-        "ignore" => ignored(alloc, text)?,
+    let answer = match call {
+        "row" => printed(alloc, text),
+        "fresh" => fresh(alloc, text),
+        "row_fields" => fields(alloc, text),
+        "item" => copied_item(alloc, text),
+        "edge" => edge_between(alloc, text),
+        "runs" => copied(alloc, truth(state_of(text)?.runs())),
+        "ignore" => ignored(alloc, text),
         _ => return Ok(None),
-    }))
+    };
+    Ok(Some(answer?))
 }
 
 pub(crate) fn state_of(word: &str) -> Result<State, CallFault> {

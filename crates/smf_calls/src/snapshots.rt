@@ -13,16 +13,17 @@ use std::alloc::{AllocError, Global};
 
 /// What a call of snapshots answers, or none where the word is no such call.
 pub(crate) fn answer(alloc: Global, call: &str, text: &str) -> Result<Option<String>, CallFault> {
-    Ok(Some(match call {
-        "take" => taken(alloc, text)?,
-        "restore" => restored(alloc, text)?,
-        "composed" => found(alloc, text)?,
-        "is_snapped" => copied(alloc, truth(is_snapped(&group_of(alloc, text)?)))?,
-        "snapshot" => bytes_again(alloc, text)?,
-        "snapshot_names" => names_text(alloc, text)?,
-        "snapshot_name" => name_again(alloc, text)?,
+    let answer = match call {
+        "take" => taken(alloc, text),
+        "restore" => restored(alloc, text),
+        "composed" => found(alloc, text),
+        "is_snapped" => copied(alloc, truth(is_snapped(&group_of(alloc, text)?))),
+        "snapshot" => bytes_again(alloc, text),
+        "snapshot_names" => names_text(alloc, text),
+        "snapshot_name" => name_again(alloc, text),
         _ => return Ok(None),
-    }))
+    };
+    Ok(Some(answer?))
 }
 
 /// The group of a word, and whether it is persistent.

@@ -11,13 +11,14 @@ const PROPOSER: &str = "svc:/system/svc/restarter:default";
 
 /// What a call of steps answers, or none where the word is no such call.
 pub(crate) fn answer(alloc: Global, call: &str, text: &str) -> Result<Option<String>, CallFault> {
-    Ok(Some(match call {
-        "step_text" => printed(alloc, text)?,
-        "run_of" => run(alloc, text)?,
-        "verb" => verb(alloc, text)?,
-        "step" => stepped(alloc, text)?,
+    let answer = match call {
+        "step_text" => printed(alloc, text),
+        "run_of" => run(alloc, text),
+        "verb" => verb(alloc, text),
+        "step" => stepped(alloc, text),
         _ => return Ok(None),
-    }))
+    };
+    Ok(Some(answer?))
 }
 
 /// The text of the step that a text is.

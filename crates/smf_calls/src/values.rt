@@ -9,13 +9,14 @@ use std::alloc::Global;
 
 /// What a call of values answers, or none where the word is no such call.
 pub(crate) fn answer(alloc: Global, call: &str, text: &str) -> Result<Option<String>, CallFault> {
-    Ok(Some(match call {
-        "value" => printed(alloc, text)?,
-        "name" => copied(alloc, Name::parse(alloc, text)?.as_str())?,
-        "body" => body_again(alloc, text)?,
-        "groups" => groups_of(alloc, text)?,
+    let answer = match call {
+        "value" => printed(alloc, text),
+        "name" => copied(alloc, Name::parse(alloc, text)?.as_str()),
+        "body" => body_again(alloc, text),
+        "groups" => groups_of(alloc, text),
         _ => return Ok(None),
-    }))
+    };
+    Ok(Some(answer?))
 }
 
 /// The kind of a word.

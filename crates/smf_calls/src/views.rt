@@ -62,14 +62,15 @@ fn shown(
     call: &str,
     text: &str,
 ) -> Result<Option<String>, CallFault> {
-    Ok(Some(match call {
-        "svcs" => svcs(alloc, &views.items, text)?,
-        "svcadm" => svcadm(alloc, &views.items, text)?,
-        "orders" => all_orders(alloc, &views.items, text)?,
-        "decide" => decided(alloc, &views.engine, text)?,
-        "decide_all" => decided_all(alloc, &views.engine)?,
+    let answer = match call {
+        "svcs" => svcs(alloc, &views.items, text),
+        "svcadm" => svcadm(alloc, &views.items, text),
+        "orders" => all_orders(alloc, &views.items, text),
+        "decide" => decided(alloc, &views.engine, text),
+        "decide_all" => decided_all(alloc, &views.engine),
         _ => return Ok(None),
-    }))
+    };
+    Ok(Some(answer?))
 }
 
 /// A row of a restarter's in a state; the next state may be `-`.

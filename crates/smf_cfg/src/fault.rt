@@ -10,7 +10,7 @@ use std::alloc::AllocError;
 use std::io;
 
 /// Why a line failed. What is held and what is selected are as they were.
-#[derive(Debug, Drop)]
+#[derive(Drop)]
 pub enum SessionFault {
     /// It is no line, or it is one that cannot be done where this is selected.
     Line(CfgFault),
@@ -21,7 +21,7 @@ pub enum SessionFault {
 }
 
 /// Why a run ended before its last line.
-#[derive(Debug, Drop)]
+#[derive(Drop)]
 pub enum RunFault {
     Lines(ReadFault),
     Repo(RepoFault),

@@ -1,7 +1,7 @@
 use smf_fmri::Text;
 
 /// What a line gave that did not fail.
-#[derive(Debug, Drop)]
+#[derive(Drop)]
 pub struct Output {
     pub text: Text,
     /// svccfg ends with this line.
@@ -9,7 +9,7 @@ pub struct Output {
 }
 
 /// How a line ended that was done, or that failed.
-#[derive(Clone, Copy, Debug, PartialEq, Eq)]
+#[derive(Clone, Copy, PartialEq, Eq)]
 pub struct LineEnd {
     pub is_fine: bool,
     /// svccfg ends with this line.

@@ -18,7 +18,7 @@ use std::alloc::Global;
 use std::marker::Model;
 
 /// A session of svccfg: what is selected in it.
-#[derive(Debug, Drop)]
+#[derive(Drop)]
 pub struct Session {
     selection: Selection,
 }

@@ -4,7 +4,7 @@ use smf_fmri::Number;
 
 /// What is asked of a table that has room for it, or nothing. What the table refuses leaves it as
 /// it was.
-#[derive(Clone, Copy, Debug, PartialEq, Eq)]
+#[derive(Clone, Copy, PartialEq, Eq)]
 pub enum ContractCall {
     Nothing,
     Spawn {

@@ -3,7 +3,7 @@ use crate::terms::Terms;
 use smf_fmri::{Items, Number};
 
 /// Who holds a contract.
-#[derive(Clone, Copy, Debug, PartialEq, Eq)]
+#[derive(Clone, Copy, PartialEq, Eq)]
 pub enum Holder {
     /// This actor.
     Held(u64),
@@ -14,7 +14,7 @@ pub enum Holder {
 }
 
 /// What the table keeps of a contract, its members and events aside.
-#[derive(Clone, Copy, Debug, PartialEq, Eq)]
+#[derive(Clone, Copy, PartialEq, Eq)]
 pub struct Contract {
     /// From 1, and never used again.
     pub id: Number,
@@ -29,21 +29,21 @@ pub struct Contract {
 }
 
 /// A process, and the contract that it is in.
-#[derive(Clone, Copy, Debug, PartialEq, Eq)]
+#[derive(Clone, Copy, PartialEq, Eq)]
 pub struct Member {
     pub process: Number,
     pub contract: Number,
 }
 
 /// An event of a contract, and the contract as it is when that is reported.
-#[derive(Clone, Copy, Debug, PartialEq, Eq)]
+#[derive(Clone, Copy, PartialEq, Eq)]
 pub struct Report {
     pub contract: Contract,
     pub event: Event,
 }
 
 /// A contract with its members, by their numbers, and all its events, the newest last.
-#[derive(Debug, Drop)]
+#[derive(Drop)]
 pub struct Status {
     pub contract: Contract,
     pub members: Items<Number>,

@@ -10,7 +10,7 @@ const MAX_INSTANCE: u64 = 16_777_215;
 const MAX_RUN: u64 = 274_877_906_943;
 
 /// What a start, stop or refresh method is.
-#[derive(Clone, Copy, Debug, PartialEq, Eq)]
+#[derive(Clone, Copy, PartialEq, Eq)]
 pub enum Method {
     Start,
     Stop,
@@ -19,7 +19,7 @@ pub enum Method {
 
 /// What a restarter writes into the cookie of a contract, so as to know it again:
 /// which run of which instance it is, and of which method.
-#[derive(Clone, Copy, Debug, PartialEq, Eq)]
+#[derive(Clone, Copy, PartialEq, Eq)]
 pub struct Cookie {
     pub instance: u64,
     pub run: u64,

@@ -5,14 +5,14 @@ use crate::terms::EventSet;
 use smf_fmri::Number;
 
 /// How a process ended.
-#[derive(Clone, Copy, Debug, PartialEq, Eq)]
+#[derive(Clone, Copy, PartialEq, Eq)]
 pub enum Exit {
     Code(u8),
     Killed,
 }
 
 /// What happened, and to which process.
-#[derive(Clone, Copy, Debug, PartialEq, Eq)]
+#[derive(Clone, Copy, PartialEq, Eq)]
 pub enum EventKind {
     /// The last member ended.
     Empty,
@@ -58,7 +58,7 @@ impl EventKind {
 }
 
 /// An event of a contract. Each contract numbers its own from 1.
-#[derive(Clone, Copy, Debug, PartialEq, Eq)]
+#[derive(Clone, Copy, PartialEq, Eq)]
 pub struct Event {
     pub contract: Number,
     pub number: Number,
@@ -68,7 +68,7 @@ pub struct Event {
 }
 
 /// What ends a member from outside.
-#[derive(Clone, Copy, Debug, PartialEq, Eq)]
+#[derive(Clone, Copy, PartialEq, Eq)]
 pub enum Failure {
     Core,
     Signal,

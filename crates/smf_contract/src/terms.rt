@@ -3,7 +3,7 @@ ghost use Rattle.std.specs.Prelude.{⊤, [], ◌∷◌, codes};
 use bitflags::{Flag, Flags, bitflag_items};
 
 /// Kinds of events, with the bits of process(4).
-#[derive(Clone, Copy, PartialEq, Eq, Debug)]
+#[derive(Clone, Copy, PartialEq, Eq)]
 pub struct EventSet(u8);
 
 bitflag_items! {
@@ -47,7 +47,7 @@ impl Flags for EventSet {
 }
 
 /// The terms of a contract, as in contract(4) and process(4).
-#[derive(Clone, Copy, PartialEq, Eq, Debug)]
+#[derive(Clone, Copy, PartialEq, Eq)]
 pub struct Terms {
     /// Kinds that the holder is told of.
     pub informative: EventSet,

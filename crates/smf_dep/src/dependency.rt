@@ -5,7 +5,7 @@ use smf_fmri::{Fmri, Items};
 use std::alloc::AllocError;
 
 /// How many of the entities of a group have to run.
-#[derive(Clone, Copy, Debug, PartialEq, Eq)]
+#[derive(Clone, Copy, PartialEq, Eq)]
 pub enum Grouping {
     RequireAll,
     RequireAny,
@@ -16,7 +16,7 @@ pub enum Grouping {
 }
 
 /// After which events of the entities a running instance is stopped.
-#[derive(Clone, Copy, Debug, PartialEq, Eq)]
+#[derive(Clone, Copy, PartialEq, Eq)]
 pub enum RestartOn {
     Nothing,
     /// A stop by an error.
@@ -28,7 +28,7 @@ pub enum RestartOn {
 }
 
 /// What a dependency group asks.
-#[derive(Debug, Drop)]
+#[derive(Drop)]
 pub struct Dependency {
     pub grouping: Grouping,
     pub restart_on: RestartOn,

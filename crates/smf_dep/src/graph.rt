@@ -15,7 +15,7 @@ use std::alloc::{AllocError, Global};
 use std::marker::Model;
 
 /// How a dependency group stands.
-#[derive(Clone, Copy, Debug, PartialEq, Eq)]
+#[derive(Clone, Copy, PartialEq, Eq)]
 pub enum Verdict {
     Met,
     Waiting,
@@ -24,7 +24,7 @@ pub enum Verdict {
 }
 
 /// What is found of an instance.
-#[derive(Clone, Copy, Debug, PartialEq, Eq)]
+#[derive(Clone, Copy, PartialEq, Eq)]
 pub struct Finding {
     /// Whether each of its dependency groups can be read.
     pub readable: bool,
@@ -37,7 +37,7 @@ pub struct Finding {
 }
 
 /// Instances and what is found of each.
-#[derive(Debug, Drop)]
+#[derive(Drop)]
 pub struct Graph {
     members: Items<Member>,
     findings: Items<Finding>,

@@ -8,7 +8,7 @@ use smf_fmri::{Fmri, Items};
 use std::alloc::{AllocError, Global};
 
 /// A dependency, with the places of the instances that each of its entities stands for.
-#[derive(Debug, Drop)]
+#[derive(Drop)]
 pub struct Link {
     pub grouping: Grouping,
     pub restart_on: RestartOn,
@@ -16,7 +16,7 @@ pub struct Link {
 }
 
 /// An instance, with what it depends on: nothing where a group can't be read.
-#[derive(Debug, Drop)]
+#[derive(Drop)]
 pub struct Node {
     pub idle: bool,
     pub waiting: bool,
@@ -27,7 +27,7 @@ pub struct Node {
 }
 
 /// What the instances are, one flag for each.
-#[derive(Debug, Drop)]
+#[derive(Drop)]
 pub struct Flags {
     pub running: Items<bool>,
     /// Disabled, or in maintenance.
@@ -38,10 +38,11 @@ pub struct Flags {
 fn places(alloc: Global, members: &[Member], entity: &Fmri) -> Result<Items<usize>, AllocError>
     ensures { IfOk result (λ ps. ps ≡ places members.now entity.now) }
 {
+    let is_instance = entity.instance().is_some();
     let mut places = Items::new(alloc);
     let mut place = 0;
     for member in members {
-        if member.is_cited(entity) {
+        if member.is_cited_by(is_instance, entity) {
             places.push(place)?;
         }
         place += 1;

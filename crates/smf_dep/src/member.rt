@@ -2,7 +2,7 @@ ghost use Rattle.std.specs.Prelude.{◌≡◌, IfOk};
 ghost use Rattle.smf_value.specs.Reading.{Gives};
 ghost use Rattle.smf_dep.specs.Requirements.{read_groups};
 ghost use Rattle.smf_dep.specs.Members.{composed, implicit, member_of, member_with, members, snapshot_in, when_there, with_implicit};
-ghost use Rattle.smf_dep.specs.Verdicts.{is_cited, is_idle, is_off, is_running, is_waiting};
+ghost use Rattle.smf_dep.specs.Verdicts.{cites_by, is_cited, is_idle, is_off, is_running, is_waiting};
 
 use crate::dependency::{Dependency, Grouping, RestartOn};
 use crate::fault::DependencyFault;
@@ -14,7 +14,7 @@ use smf_value::{BodyFault, Group};
 use std::alloc::{AllocError, Global};
 
 /// What a verdict looks at of an instance.
-#[derive(Debug, Drop)]
+#[derive(Drop)]
 pub struct Member {
     pub instance: u64,
     pub name: InstanceFmri,
@@ -140,15 +140,22 @@ pub fn members(alloc: Global, items: &[ViewItem]) -> Result<Items<Member>, Alloc
 }
 
 impl Member {
-    /// Whether an entity stands for it.
-    pub fn is_cited(&self, entity: &Fmri) -> bool
-        ensures { result ≡ is_cited entity.now self.now }
+    /// Whether a name, which is that of an instance or that of a service, stands for it.
+    pub(crate) fn is_cited_by(&self, is_instance: bool, entity: &Fmri) -> bool
+        ensures { result ≡ cites_by is_instance entity.now self.now }
     {
-        if entity.instance().is_some() {
+        if is_instance {
             self.name.as_fmri() == entity
         } else {
             self.name.as_fmri().service() == entity.service()
         }
+    }
+
+    /// Whether an entity stands for it.
+    pub fn is_cited(&self, entity: &Fmri) -> bool
+        ensures { result ≡ is_cited entity.now self.now }
+    {
+        self.is_cited_by(entity.instance().is_some(), entity)
     }
 
     /// Online or degraded.

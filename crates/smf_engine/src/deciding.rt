@@ -11,7 +11,7 @@ use smf_wire::What;
 use std::alloc::{AllocError, Global};
 
 /// What is to be done with an instance.
-#[derive(Clone, Copy, Debug, PartialEq, Eq)]
+#[derive(Clone, Copy, PartialEq, Eq)]
 pub(crate) enum Decision {
     /// To another state at once.
     To(State),

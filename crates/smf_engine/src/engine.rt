@@ -9,7 +9,7 @@ use std::alloc::{AllocError, Global};
 use std::marker::Model;
 
 /// svc.startd's graph, which contracts see as the view that it holds.
-#[derive(Debug, Drop)]
+#[derive(Drop)]
 pub struct Engine {
     seen: Option<View>,
 }

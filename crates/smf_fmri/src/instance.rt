@@ -13,7 +13,7 @@ use std::marker::Model;
 
 /// The name of an instance, which contracts see as its short text: what a restarter, the owner of
 /// a row and a dependency's instance are named by.
-#[derive(Debug, Drop)]
+#[derive(Drop)]
 pub struct InstanceFmri {
     name: Fmri,
 }

@@ -12,7 +12,7 @@ use std::marker::Model;
 
 /// What a user types for a name: a full name, or an abbreviation of one, as svcadm(1M) reads them.
 /// Contracts see it as its text, a full name in the short form.
-#[derive(Debug, Drop)]
+#[derive(Drop)]
 pub struct Pattern {
     text: String,
 }

@@ -9,7 +9,7 @@ pub const MAX: usize = 512;
 const MAX_INSTANCE: usize = 255;
 
 /// Where a reader stands in a name.
-#[derive(Clone, Copy, Debug)]
+#[derive(Clone, Copy)]
 pub enum Place {
     /// Before the first byte of an abbreviation, where an instance may follow at once.
     Start,

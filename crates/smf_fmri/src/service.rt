@@ -11,7 +11,7 @@ use std::fmt;
 use std::marker::Model;
 
 /// The name of a service, which contracts see as its short text.
-#[derive(Debug, Drop)]
+#[derive(Drop)]
 pub struct ServiceFmri {
     name: Fmri,
 }

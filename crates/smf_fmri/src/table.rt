@@ -12,7 +12,7 @@ use std::marker::Model;
 
 /// A list in the order of its keys, with room that is made beforehand, so that a put cannot fail. Contracts see the
 /// items and the room.
-#[derive(Debug, Drop)]
+#[derive(Drop)]
 pub struct Table<T: Keyed> {
     items: Vec<T>,
 }

@@ -5,7 +5,7 @@ use std::alloc::{AllocError, AllocFailed};
 use std::io;
 
 /// Why no line was read.
-#[derive(Debug, Drop)]
+#[derive(Drop)]
 pub enum ReadFault {
     Memory,
     Input(io::Error),

@@ -10,7 +10,7 @@ use crate::turns::Turns;
 use std::alloc::{AllocError, Global};
 
 /// What a look at a reader took.
-#[derive(Clone, Copy, Debug)]
+#[derive(Clone, Copy)]
 pub enum Part {
     /// Nothing, since the read was interrupted.
     Interrupted,

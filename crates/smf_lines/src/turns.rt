@@ -10,7 +10,7 @@ use crate::text::MAX_LINE;
 const MAX_LINES: u32 = 1_000_000;
 
 /// How many lines may still be read, and how many reads were interrupted.
-#[derive(Debug, Drop)]
+#[derive(Drop)]
 pub struct Turns {
     pub left: u32,
     pub interrupted: u32,

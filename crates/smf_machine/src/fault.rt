@@ -6,7 +6,7 @@ use smf_model::RepoFault;
 use std::alloc::{AllocError, AllocFailed};
 
 /// Why an event did not happen. The world is as it was before it.
-#[derive(Clone, Copy, Debug, PartialEq, Eq)]
+#[derive(Clone, Copy, PartialEq, Eq)]
 pub enum MachineFault {
     Memory,
     /// The journal of the repository failed.

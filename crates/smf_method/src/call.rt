@@ -19,14 +19,14 @@ use smf_value::Group;
 use std::alloc::{AllocError, Global};
 
 /// A method as it is run: the tokens of its command are replaced.
-#[derive(Debug, Drop)]
+#[derive(Drop)]
 pub struct MethodCall {
     pub timeout: Option<Timeout>,
     pub command: Command,
 }
 
 /// All that an instance's groups say of a method, for one restarter and one instance.
-#[derive(Debug, Drop)]
+#[derive(Drop)]
 pub struct ReadMethod {
     pub call: MethodCall,
     pub duration: Duration,

@@ -14,7 +14,7 @@ use std::fmt;
 use std::marker::Model;
 
 /// What a method runs: a text of ASCII without control characters, of any length, which contracts see as its bytes.
-#[derive(Debug, Drop)]
+#[derive(Drop)]
 pub struct Command {
     text: String,
 }
@@ -32,7 +32,7 @@ impl Model for Command {
 }
 
 /// A command that is run without a process of its own.
-#[derive(Clone, Copy, Debug, PartialEq, Eq)]
+#[derive(Clone, Copy, PartialEq, Eq)]
 pub enum Builtin {
     /// It succeeds.
     True,

@@ -19,7 +19,7 @@ use std::alloc::{AllocError, Global};
 use std::marker::Model;
 
 /// What groups say of a method, whose tokens are good and not replaced yet.
-#[derive(Debug, Drop)]
+#[derive(Drop)]
 pub struct MethodDefinition {
     method: Method,
     exec: Command,

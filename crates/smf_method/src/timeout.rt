@@ -4,7 +4,7 @@ ghost use Rattle.smf_method.specs.Timeouts.{IsTimeout, timeout_of};
 use std::marker::Model;
 
 /// How long a method may run, in seconds: neither 0 nor 2^64 - 1, which stand for no timeout.
-#[derive(Clone, Copy, PartialEq, Eq, Debug)]
+#[derive(Clone, Copy, PartialEq, Eq)]
 pub struct Timeout {
     seconds: u64,
 }

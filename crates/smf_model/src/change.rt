@@ -6,7 +6,7 @@ use smf_fmri::{InstanceFmri, Items, Number, Ordered, ServiceFmri};
 use smf_value::Group;
 
 /// One change of a record. A list of them is what a command makes.
-#[derive(Debug, Drop)]
+#[derive(Drop)]
 pub enum Change {
     AddService(Service),
     /// A service with its groups.

@@ -9,7 +9,7 @@ use smf_value::{GroupFault, Kind, Name};
 use std::alloc::AllocError;
 
 /// What is asked of the repository.
-#[derive(Debug, Drop)]
+#[derive(Drop)]
 pub enum Command {
     /// What a client may give.
     Edit(Edit),
@@ -20,7 +20,7 @@ pub enum Command {
 }
 
 /// A change of the configuration, or something asked of an instance, as svccfg(1M) and svcadm(1M) give them.
-#[derive(Debug, Drop)]
+#[derive(Drop)]
 pub enum Edit {
     AddService(ServiceFmri),
     /// An instance of a present service.
@@ -66,7 +66,7 @@ pub enum Edit {
 }
 
 /// A change of one property of a group.
-#[derive(Debug, Drop)]
+#[derive(Drop)]
 pub enum PropertyChange {
     Set {
         name: Name,
@@ -88,7 +88,7 @@ pub enum PropertyChange {
 }
 
 /// What svcadm mark asks for.
-#[derive(Clone, Copy, Debug, PartialEq, Eq)]
+#[derive(Clone, Copy, PartialEq, Eq)]
 pub enum Mark {
     Degraded,
     Maintenance,
@@ -97,7 +97,7 @@ pub enum Mark {
 }
 
 /// What a command is answered with. All but the first three are refusals, which change nothing.
-#[derive(Debug, Drop)]
+#[derive(Drop)]
 pub enum Reply {
     /// The number of an instance that was added, or of a launch.
     Made(u64),

@@ -7,7 +7,7 @@ use smf_value::Group;
 use std::alloc::AllocError;
 
 /// What groups belong to.
-#[derive(Debug, Drop)]
+#[derive(Drop)]
 pub enum Owner {
     Service(ServiceFmri),
     /// An instance, by its number.
@@ -15,14 +15,14 @@ pub enum Owner {
 }
 
 /// A service, with its groups by name.
-#[derive(Debug, Drop)]
+#[derive(Drop)]
 pub struct Service {
     pub name: ServiceFmri,
     pub groups: Ordered<Group>,
 }
 
 /// An instance, its groups aside. The snapshot `running` stands in its row.
-#[derive(Debug, Drop)]
+#[derive(Drop)]
 pub struct Instance {
     /// From 1 to 2^24 - 1, never given again.
     pub number: Number,
@@ -35,21 +35,21 @@ pub struct Instance {
 }
 
 /// An instance, with its groups by name.
-#[derive(Debug, Drop)]
+#[derive(Drop)]
 pub struct InstanceEntry {
     pub instance: Instance,
     pub groups: Ordered<Group>,
 }
 
 /// Which instance has a name.
-#[derive(Debug, Drop)]
+#[derive(Drop)]
 pub struct InstanceName {
     pub name: InstanceFmri,
     pub number: Number,
 }
 
 /// What an instance's configuration was: the groups of its service and its own.
-#[derive(Debug, Drop)]
+#[derive(Drop)]
 pub struct Snapshot {
     /// From 1, never given again.
     pub number: Number,
@@ -59,7 +59,7 @@ pub struct Snapshot {
 }
 
 /// How often a restarter was launched.
-#[derive(Debug, Drop)]
+#[derive(Drop)]
 pub struct Launch {
     pub restarter: InstanceFmri,
     pub count: Number,

@@ -8,7 +8,7 @@ use crate::change::Change;
 use std::alloc::AllocError;
 
 /// Why a command has no reply. Nothing has changed then.
-#[derive(Clone, Copy, Debug, PartialEq, Eq)]
+#[derive(Clone, Copy, PartialEq, Eq)]
 pub enum RepoFault {
     Memory,
     /// The journal could not write.

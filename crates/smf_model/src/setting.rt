@@ -3,14 +3,14 @@ ghost use Rattle.std.specs.Prelude.{◌≡◌, ◌==◌, if◌then◌else◌, le
 ghost use Rattle.smf_fmri.specs.Name.{read};
 ghost use Rattle.smf_model.specs.Look.{group, groups_of};
 ghost use Rattle.smf_model.specs.Setting.{current, enabled, enabled_property, is_readable, is_true};
-ghost use Rattle.smf_model.specs.Setting.{named_restarter, owner_by, property_in, property_of_either};
+ghost use Rattle.smf_model.specs.Setting.{named_restarter, owned_by_setting, owner_by, property_in, property_of_either};
 ghost use Rattle.smf_state.specs.OwnName.{startd};
 ghost use Rattle.smf_model.specs.Setting.{service_fmri, set_by, setting, setting_by, setting_of, truth_of};
 
 use crate::held::{Instance, Owner};
 use crate::planner::Planner;
 use smf_fmri::{Fmri, FmriFault, InstanceFmri, Number};
-use smf_state::startd;
+use smf_state::{Row, startd};
 use smf_value::{Group, Property, Value};
 use std::alloc::{AllocError, Global};
 
@@ -58,7 +58,7 @@ pub(crate) fn service_owner(alloc: Global, name: &InstanceFmri) -> Result<Owner,
 }
 
 /// The property that says whether an instance is enabled.
-fn enabled_property<'a>(
+pub(crate) fn enabled_property<'a>(
     ovr: Option<&'a Group>,
     own: Option<&'a Group>,
     services_own: Option<&'a Group>,
@@ -73,7 +73,7 @@ fn enabled_property<'a>(
 }
 
 /// One boolean says so; anything else is false.
-fn is_true(property: Option<&Property>) -> bool
+pub(crate) fn is_true(property: Option<&Property>) -> bool
     ensures { result ≡ is_true (option_copied property.entry) }
 {
     match property {
@@ -158,6 +158,22 @@ pub(crate) fn owner_by(alloc: Global, setting: Setting) -> Result<InstanceFmri, 
         Setting::Restarter(name) => Ok(name),
         _ => startd(alloc),
     }
+}
+
+/// The row of an instance as it is read: while its number is 0 its owner is what a setting says.
+pub(crate) fn row_by(
+    alloc: Global,
+    instance: &Instance,
+    setting: Setting,
+) -> Result<Row, AllocError>
+    ensures { IfOk result (λ row.
+        row ≡ (owned_by_setting (instance.now.row.number == 0) setting instance.now).row) }
+{
+    let mut row = instance.row.clone()?;
+    if row.number == 0 {
+        row.owner = owner_by(alloc, setting)?;
+    }
+    Ok(row)
 }
 
 impl Planner<'_> {

@@ -1,6 +1,5 @@
 ghost use Rattle.std.specs.Prelude.{◌≡◌, map, option_map, IfOk};
-ghost use Rattle.smf_model.specs.Look.{bare, groups_of};
-ghost use Rattle.smf_model.specs.Setting.{current, is_readable, setting};
+ghost use Rattle.smf_model.specs.Look.{bare};
 ghost use Rattle.smf_model.specs.Next.{named_snapshot};
 ghost use Rattle.smf_model.specs.Shown.{body_of, row_item, rows, snapshot_names};
 ghost use Rattle.smf_model.specs.Shown.{snapshot_number, snapshots_of, view, view_item};
@@ -8,10 +7,10 @@ ghost use Rattle.smf_model.specs.Shown.{snapshot_number, snapshots_of, view, vie
 use crate::held::{Instance, InstanceEntry};
 use crate::planner::Planner;
 use crate::reverting::number_of;
-use crate::setting::is_readable;
+use crate::setting::{enabled_property, is_readable, is_true, row_by, service_owner, setting_by};
 use smf_fmri::{Bytes, Items};
 use smf_snap::{SnapshotName, encode_both, names};
-use smf_state::{Row, View, ViewItem};
+use smf_state::{View, ViewItem};
 use std::alloc::{AllocError, Global};
 
 fn snapshot_names(alloc: Global, instance: &Instance) -> Result<Items<SnapshotName>, AllocError>
@@ -66,30 +65,20 @@ impl Planner<'_> {
         }
     }
 
-    /// Whether `general/restarter` of an instance can be read.
-    fn can_be_read(&self, instance: &Instance) -> Result<bool, AllocError>
-        ensures { IfOk result (λ b. b ≡ is_readable (setting (groups_of self.now) instance.now)) }
-    {
-        let setting = self.setting_for(instance)?;
-        Ok(is_readable(&setting))
-    }
-
-    /// The row of an instance as it is read.
-    fn current_row(&self, instance: &Instance) -> Result<Row, AllocError>
-        ensures { IfOk result (λ row. row ≡ (current (groups_of self.now) instance.now).row) }
-    {
-        let shown = self.read(instance)?;
-        Ok(shown.row)
-    }
-
-    /// An instance as it is read, without the bytes of a snapshot.
+    /// An instance as it is read, without the bytes of a snapshot. The groups `general` are looked for once.
+    #[tactic(auto, unfolding(crate::specs::Setting::enabled, crate::specs::Setting::setting, crate::specs::Setting::current))]
     fn row_item(&self, instance: &Instance) -> Result<ViewItem, AllocError>
         ensures { IfOk result (λ item. item ≡ row_item self.now instance.now) }
     {
-        let is_enabled = self.enabled(instance)?;
-        let can_be_read = self.can_be_read(instance)?;
+        let service = service_owner(self.alloc, &instance.name)?;
+        let ovr = self.own_group(instance.number, "general_ovr");
+        let own = self.own_group(instance.number, "general");
+        let services_own = self.group_of(&service, "general");
+        let is_enabled = is_true(enabled_property(ovr, own, services_own));
+        let setting = setting_by(self.alloc, own, services_own)?;
+        let can_be_read = is_readable(&setting);
+        let row = row_by(self.alloc, instance, setting)?;
         let name = instance.name.clone()?;
-        let row = self.current_row(instance)?;
         Ok(ViewItem {
             instance: instance.number.get(),
             name,

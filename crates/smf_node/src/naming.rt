@@ -12,7 +12,7 @@ use std::alloc::{AllocError, Global};
 use std::marker::Model;
 
 /// The name of a restarter, by which it is put in byte order.
-#[derive(Debug, Drop)]
+#[derive(Drop)]
 pub(crate) struct Named {
     name: InstanceFmri,
 }

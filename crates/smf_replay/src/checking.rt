@@ -5,7 +5,7 @@ use smf_state::{State, edge};
 use smf_world::Item;
 
 /// What an item of a trail breaks.
-#[derive(Clone, Copy, Debug)]
+#[derive(Clone, Copy)]
 pub(crate) enum Broken {
     /// An instance has two live starts.
     TwoLive,
@@ -35,7 +35,7 @@ impl Broken {
 }
 
 /// What was committed of an instance.
-#[derive(Clone, Copy, Debug)]
+#[derive(Clone, Copy)]
 struct Commit {
     number: u64,
     state: State,

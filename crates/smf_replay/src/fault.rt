@@ -2,7 +2,7 @@ use smf_node::NodeFault;
 use std::io;
 
 /// Why a replay ended before its last line.
-#[derive(Debug, Drop)]
+#[derive(Drop)]
 pub(crate) enum ReplayFault {
     Node(NodeFault),
     Io(io::Error),

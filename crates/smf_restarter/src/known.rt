@@ -7,7 +7,7 @@ use smf_state::{Cause, Proposal, Row, State};
 use std::alloc::AllocError;
 
 /// How far a restarter has come since its launch.
-#[derive(Clone, Copy, Debug, PartialEq, Eq)]
+#[derive(Clone, Copy, PartialEq, Eq)]
 pub enum Stage {
     /// It has not been told its rows.
     Joining,
@@ -17,7 +17,7 @@ pub enum Stage {
 }
 
 /// The runs whose contracts have to be empty before an end is proposed.
-#[derive(Clone, Copy, Debug, PartialEq, Eq)]
+#[derive(Clone, Copy, PartialEq, Eq)]
 pub enum Drain {
     Nothing,
     Live,
@@ -26,7 +26,7 @@ pub enum Drain {
 }
 
 /// A method that is to be begun.
-#[derive(Debug, Drop)]
+#[derive(Drop)]
 pub struct Owed {
     pub method: Method,
     pub run: u64,
@@ -36,7 +36,7 @@ pub struct Owed {
 }
 
 /// A method that runs in a contract.
-#[derive(Clone, Copy, Debug)]
+#[derive(Clone, Copy)]
 pub struct RunningMethod {
     pub method: Method,
     pub run: u64,
@@ -45,7 +45,7 @@ pub struct RunningMethod {
 }
 
 /// An end that is to be proposed.
-#[derive(Clone, Copy, Debug)]
+#[derive(Clone, Copy)]
 pub struct Ending {
     pub to: State,
     /// Starts that failed in a row; 0 unless it leads to offline.
@@ -55,7 +55,7 @@ pub struct Ending {
 }
 
 /// What follows when a proposal is granted.
-#[derive(Debug, Drop)]
+#[derive(Drop)]
 pub enum After {
     Idle,
     Owes(Owed),
@@ -63,7 +63,7 @@ pub enum After {
 }
 
 /// What a restarter does about an instance.
-#[derive(Debug, Drop)]
+#[derive(Drop)]
 pub enum Phase {
     Idle,
     /// It waits for the answer to a proposal.
@@ -74,7 +74,7 @@ pub enum Phase {
 }
 
 /// An instance, its row as it was last told, and what is done about it.
-#[derive(Debug, Drop)]
+#[derive(Drop)]
 pub struct KnownInstance {
     pub instance: u64,
     pub name: InstanceFmri,
@@ -83,14 +83,14 @@ pub struct KnownInstance {
 }
 
 /// A run of an instance.
-#[derive(Clone, Copy, Debug, PartialEq, Eq, PartialOrd, Ord)]
+#[derive(Clone, Copy, PartialEq, Eq, PartialOrd, Ord)]
 pub struct RunKey {
     pub instance: u64,
     pub run: u64,
 }
 
 /// A run that has a contract.
-#[derive(Clone, Copy, Debug)]
+#[derive(Clone, Copy)]
 pub struct KnownRun {
     pub key: RunKey,
     pub contract: Number,

@@ -5,7 +5,7 @@ use smf_method::Command;
 use smf_wire::{Known, Message};
 
 /// A method that is begun.
-#[derive(Debug, Drop)]
+#[derive(Drop)]
 pub struct Begun {
     pub instance: u64,
     pub run: u64,
@@ -16,7 +16,7 @@ pub struct Begun {
 }
 
 /// What a restarter asks of the contracts.
-#[derive(Clone, Copy, Debug, PartialEq, Eq)]
+#[derive(Clone, Copy, PartialEq, Eq)]
 pub enum Call {
     Nothing,
     /// The list of all contracts.
@@ -28,7 +28,7 @@ pub enum Call {
 }
 
 /// What becomes of a call. That of a kill says nothing: that the contract is empty is an event of it.
-#[derive(Clone, Copy, Debug)]
+#[derive(Clone, Copy)]
 pub enum Answer {
     Nothing,
     Adopted(Number),
@@ -41,21 +41,21 @@ pub enum Answer {
 }
 
 /// What is done about an instance from now on, where that needs no row.
-#[derive(Clone, Copy, Debug)]
+#[derive(Clone, Copy)]
 pub enum Course {
     Running(RunningMethod),
     Ending(Ending),
 }
 
 /// An instance that takes another course.
-#[derive(Clone, Copy, Debug)]
+#[derive(Clone, Copy)]
 pub struct Turn {
     pub instance: u64,
     pub course: Course,
 }
 
 /// What a step makes of what a restarter knows.
-#[derive(Debug, Drop)]
+#[derive(Drop)]
 pub struct Change {
     pub stage: Option<Stage>,
     /// The serial of the last proposal.
@@ -71,7 +71,7 @@ pub struct Change {
 
 /// What a restarter does on an input: what changes, what it says, the rows that it takes, the method that it begins,
 /// and what it asks of the contracts. A method whose call is a spawn begins if that is made; any other is built in.
-#[derive(Debug, Drop)]
+#[derive(Drop)]
 pub struct Reply {
     pub change: Change,
     /// None or one.

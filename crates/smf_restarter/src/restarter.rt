@@ -20,7 +20,7 @@ use std::marker::Model;
 
 /// A restarter from one launch on, svc.startd's own or a delegated one. Contracts see what it knows, and how much room
 /// it has for more.
-#[derive(Debug, Drop)]
+#[derive(Drop)]
 pub struct Restarter {
     alloc: Global,
     pub(crate) name: InstanceFmri,

@@ -9,7 +9,7 @@ use smf_value::{BodyFault, Group, decode, decode_first, encode};
 use std::alloc::{AllocError, Global};
 
 /// The groups that a snapshot holds of an instance and of its service.
-#[derive(Debug, Drop)]
+#[derive(Drop)]
 pub struct Snapshot {
     pub service: Ordered<Group>,
     pub instance: Ordered<Group>,

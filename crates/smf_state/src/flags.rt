@@ -5,7 +5,7 @@ use bitflags::{Flag, Flags, bitflag_items};
 use std::marker::Model;
 
 /// What is asked of an instance: by svcadm(1M), or by a note of its restarter (failed, exited).
-#[derive(Clone, Copy, PartialEq, Eq, Debug)]
+#[derive(Clone, Copy, PartialEq, Eq)]
 pub struct Asks(u8);
 
 bitflag_items! {
@@ -67,7 +67,7 @@ impl Flags for Asks {
 }
 
 /// Kinds of failure of a process.
-#[derive(Clone, Copy, PartialEq, Eq, Debug)]
+#[derive(Clone, Copy, PartialEq, Eq)]
 pub struct Failures(u8);
 
 bitflag_items! {
@@ -101,7 +101,7 @@ impl Flags for Failures {
 
 /// The kinds of failure that a method leaves out of account (`startd/ignore_error` of svc.startd(1M)),
 /// which contracts see as their bits: 1 for core, 2 for signal.
-#[derive(Clone, Copy, PartialEq, Eq, Debug)]
+#[derive(Clone, Copy, PartialEq, Eq)]
 pub struct Ignore {
     bits: u8,
 }

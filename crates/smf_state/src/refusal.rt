@@ -1,7 +1,7 @@
 use crate::fault::StepFault;
 
 /// Why a proposal is refused, in the order in which the reasons are looked for.
-#[derive(Clone, Copy, Debug, PartialEq, Eq)]
+#[derive(Clone, Copy, PartialEq, Eq)]
 pub enum Why {
     NoSuch,
     Launch,

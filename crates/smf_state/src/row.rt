@@ -18,7 +18,7 @@ pub const MAX_RUN: u64 = 0x3f_ffff_ffff;
 pub const MAX_NUMBER: u64 = 0x7fff_ffff_ffff_ffff;
 
 /// What the repository holds of an instance's state.
-#[derive(Debug, Drop)]
+#[derive(Drop)]
 pub struct Row {
     /// The restarter of the instance.
     pub owner: InstanceFmri,

@@ -4,7 +4,7 @@ ghost use Rattle.smf_state.specs.States.{edge, runs, state_text, read_state, cau
 use std::fmt;
 
 /// The state of an instance, as smf(5) has them.
-#[derive(Clone, Copy, Debug, PartialEq, Eq)]
+#[derive(Clone, Copy, PartialEq, Eq)]
 pub enum State {
     Uninitialized,
     Disabled,
@@ -15,7 +15,7 @@ pub enum State {
 }
 
 /// Why an instance stops.
-#[derive(Clone, Copy, Debug, PartialEq, Eq)]
+#[derive(Clone, Copy, PartialEq, Eq)]
 pub enum Cause {
     Error,
     NonError,
@@ -25,7 +25,7 @@ pub enum Cause {
 
 /// What a running instance is: processes of a contract, nothing, or one child, as svc.startd(1M)
 /// reads `startd/duration`.
-#[derive(Clone, Copy, Debug, PartialEq, Eq)]
+#[derive(Clone, Copy, PartialEq, Eq)]
 pub enum Duration {
     Contract,
     Transient,

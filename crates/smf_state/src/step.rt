@@ -6,7 +6,7 @@ use smf_fmri::InstanceFmri;
 use std::alloc::AllocError;
 
 /// What a restarter proposes to do with an instance.
-#[derive(Clone, Copy, Debug)]
+#[derive(Clone, Copy)]
 pub enum Step {
     /// To another state at once.
     Move(State),
@@ -43,7 +43,7 @@ pub enum Step {
 }
 
 /// The word that a step begins with in a text.
-#[derive(Clone, Copy, Debug, PartialEq, Eq)]
+#[derive(Clone, Copy, PartialEq, Eq)]
 pub enum Verb {
     Move,
     Start,
@@ -54,7 +54,7 @@ pub enum Verb {
 }
 
 /// A step that a restarter proposes, with what the answer is matched by.
-#[derive(Debug, Drop)]
+#[derive(Drop)]
 pub struct Proposal {
     pub proposer: InstanceFmri,
     /// The launch of the proposer.

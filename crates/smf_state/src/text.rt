@@ -374,7 +374,7 @@ impl Step {
 }
 
 /// A number, or `-`.
-#[derive(Clone, Copy, Debug)]
+#[derive(Clone, Copy)]
 struct NumberOrNone(Option<u64>);
 
 fn number_or_none(number: Option<u64>) -> NumberOrNone
@@ -399,7 +399,7 @@ impl fmt::Display for NumberOrNone {
 }
 
 /// A state, or `-`.
-#[derive(Clone, Copy, Debug)]
+#[derive(Clone, Copy)]
 struct StateOrNone(Option<State>);
 
 impl fmt::Display for StateOrNone {
@@ -414,7 +414,7 @@ impl fmt::Display for StateOrNone {
 }
 
 /// A cause, or `-`.
-#[derive(Clone, Copy, Debug)]
+#[derive(Clone, Copy)]
 struct CauseOrNone(Option<Cause>);
 
 impl fmt::Display for CauseOrNone {
@@ -429,7 +429,7 @@ impl fmt::Display for CauseOrNone {
 }
 
 /// A flag as 0 or 1.
-#[derive(Clone, Copy, Debug)]
+#[derive(Clone, Copy)]
 struct Flag(bool);
 
 impl fmt::Display for Flag {

@@ -5,7 +5,7 @@ use smf_fmri::{Bytes, InstanceFmri, Items, Number};
 use std::alloc::AllocError;
 
 /// What svc.startd's graph sees of an instance.
-#[derive(Debug, Drop)]
+#[derive(Drop)]
 pub struct ViewItem {
     pub instance: u64,
     pub name: InstanceFmri,
@@ -45,7 +45,7 @@ fn copy_of(body: &Option<Bytes>) -> Result<Option<Bytes>, AllocError>
 }
 
 /// What svc.startd's graph sees of the repository.
-#[derive(Debug, Drop)]
+#[derive(Drop)]
 pub struct View {
     pub revision: Number,
     /// One for each instance, in number order.

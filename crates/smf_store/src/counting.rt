@@ -15,7 +15,7 @@ use sqlite::Row;
 use std::alloc::{AllocError, Global};
 
 /// The versions of a store that are read here. Only the second has a layout, and is written.
-#[derive(Clone, Copy, Debug, PartialEq, Eq)]
+#[derive(Clone, Copy, PartialEq, Eq)]
 pub(crate) enum StoreVersion {
     First,
     Second,

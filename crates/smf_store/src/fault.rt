@@ -7,7 +7,7 @@ use sqlite::{Error, ErrorCode};
 use std::alloc::AllocError;
 
 /// Why changes are not written.
-#[derive(Clone, Copy, Debug, PartialEq, Eq)]
+#[derive(Clone, Copy, PartialEq, Eq)]
 pub(crate) enum WriteFault {
     Memory,
     /// A statement failed, or a change that no command makes was told.

@@ -7,7 +7,7 @@ use sqlite::{Error, ErrorCode};
 use std::alloc::AllocError;
 
 /// The tables of a store, in the order in which they are looked at.
-#[derive(Clone, Copy, Debug, PartialEq, Eq)]
+#[derive(Clone, Copy, PartialEq, Eq)]
 pub enum StoreTable {
     Meta,
     Service,
@@ -18,7 +18,7 @@ pub enum StoreTable {
 }
 
 /// Why a database is not opened.
-#[derive(Clone, Copy, Debug, PartialEq, Eq)]
+#[derive(Clone, Copy, PartialEq, Eq)]
 pub enum OpenFault {
     Memory,
     /// A statement failed.

@@ -13,7 +13,7 @@ use smf_value::Name;
 use std::alloc::Global;
 
 /// What a line asks for.
-#[derive(Debug, Drop)]
+#[derive(Drop)]
 pub enum Line {
     Nothing,
     /// A child of what is selected, or an entity by its full name.

@@ -15,7 +15,7 @@ use smf_value::{Kind, Name, NameFault};
 use std::alloc::{AllocError, Global};
 
 /// The group and the property that a word names.
-#[derive(Debug, Drop)]
+#[derive(Drop)]
 pub(crate) struct Target {
     group: Name,
     property: Name,

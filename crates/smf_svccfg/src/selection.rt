@@ -6,7 +6,7 @@ use smf_snap::SnapshotName;
 use std::alloc::AllocError;
 
 /// What lines speak of. Nothing tells a selection that its service or instance was deleted by another.
-#[derive(Debug, Drop)]
+#[derive(Drop)]
 pub enum Selection {
     Nothing,
     Service(ServiceFmri),
@@ -20,7 +20,7 @@ pub enum Selection {
 }
 
 /// What a line comes to.
-#[derive(Debug, Drop)]
+#[derive(Drop)]
 pub enum Judged {
     Nothing,
     /// This is selected from now on.

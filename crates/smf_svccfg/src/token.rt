@@ -13,7 +13,7 @@ use std::marker::Model;
 use std::str;
 
 /// What a line is made of.
-#[derive(Debug, Drop)]
+#[derive(Drop)]
 pub enum Token {
     /// `(`
     Open,
@@ -25,7 +25,7 @@ pub enum Token {
 }
 
 /// Where a reader of tokens stands.
-#[derive(Clone, Copy, Debug)]
+#[derive(Clone, Copy)]
 enum Place {
     /// Where a word may begin.
     Between,

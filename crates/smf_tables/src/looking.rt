@@ -7,7 +7,7 @@ ghost use Rattle.smf_tables.specs.Statements.{FindsService, ReadsName};
 use sqlite::{Alter, Error, Row, Transaction, params};
 
 /// The name of an instance, in two columns.
-#[derive(Debug, Drop)]
+#[derive(Drop)]
 pub struct NameColumns {
     pub service: String,
     pub name: String,

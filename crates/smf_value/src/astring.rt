@@ -12,7 +12,7 @@ use std::marker::Model;
 const MAX: usize = 4096;
 
 /// A text of ASCII without control characters, of at most 4,096 bytes.
-#[derive(Debug, Drop)]
+#[derive(Drop)]
 pub struct Astring {
     text: String,
 }

@@ -18,6 +18,9 @@ use crate::value::Value;
 use smf_fmri::{Bytes, Ordered};
 use std::alloc::{AllocError, Global};
 
+/// The room with which a body begins, in bytes: most bodies need no more.
+const FIRST_ROOM: usize = 256;
+
 /// A length in two bytes, and the bytes of a name.
 fn put_name(out: &mut Vec<u8>, name: &Name) -> Result<(), AllocError>
     ensures put { OnOk result (out.new.items ≡ out.old.items ++ spelled_text w16 name.now) }
@@ -109,7 +112,7 @@ fn body_of(alloc: Global, groups: &[Group]) -> Result<Bytes, AllocError>
     let Ok(count) = u32::try_from(groups.len()) else {
         return Err(AllocError);
     };
-    let mut out = Vec::new(alloc);
+    let mut out = Vec::with_capacity(alloc, FIRST_ROOM)?;
     out.extend_from_slice(&count.to_be_bytes())?;
     for group in groups {
         put_group(alloc, &mut out, group)?;

@@ -16,7 +16,7 @@ use std::alloc::{AllocError, Global};
 use std::marker::Model;
 
 /// A group: a name, a type, whether it is kept over a boot, and at most 1,000 properties in the order of their names.
-#[derive(Debug, Drop)]
+#[derive(Drop)]
 pub struct Group {
     name: Name,
     group_type: Name,

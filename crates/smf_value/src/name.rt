@@ -16,7 +16,7 @@ const MAX: usize = 255;
 
 /// The name of a group, of its type, or of a property: one component of at most 255 bytes, which
 /// contracts see as its bytes.
-#[derive(Debug, Drop)]
+#[derive(Drop)]
 pub struct Name {
     text: String,
 }

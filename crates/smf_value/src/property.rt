@@ -13,7 +13,7 @@ use std::alloc::{AllocError, Global};
 use std::marker::Model;
 
 /// A property: a name, a kind, and at most 1,000 values of that kind.
-#[derive(Debug, Drop)]
+#[derive(Drop)]
 pub struct Property {
     name: Name,
     kind: Kind,

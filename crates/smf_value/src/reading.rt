@@ -27,7 +27,7 @@ use std::str;
 
 /// Why a reader stops: no memory, or a field that is wrong or missing, by how many bytes there are from where it
 /// begins to the end.
-#[derive(Clone, Copy, Debug)]
+#[derive(Clone, Copy)]
 enum ReadFault {
     Memory,
     Left(usize),

@@ -4,7 +4,7 @@ ghost use Rattle.std.specs.Prelude.{◌≡◌, ◌<◌, Some, None, ◌&&◌, na
 use std::marker::Model;
 
 /// A time: seconds from 0 to 2^63 - 1, and nanoseconds below 10^9.
-#[derive(Clone, Copy, Debug, PartialEq, Eq)]
+#[derive(Clone, Copy, PartialEq, Eq)]
 pub struct Time {
     seconds: u64,
     nanoseconds: u32,

@@ -13,7 +13,7 @@ use std::{fmt, str};
 const MAX: usize = 4096;
 
 /// A text without the control characters of ASCII (U+0000 to U+001F, U+007F), of at most 4,096 bytes.
-#[derive(Debug, Drop)]
+#[derive(Drop)]
 pub struct Ustring {
     text: String,
 }

@@ -9,7 +9,7 @@ use smf_fmri::Fmri;
 use std::alloc::AllocError;
 
 /// A value of one of the seven kinds.
-#[derive(Debug, Drop, PartialEq, Eq)]
+#[derive(Drop, PartialEq, Eq)]
 pub enum Value {
     Boolean(bool),
     Count(u64),

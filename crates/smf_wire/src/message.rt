@@ -6,7 +6,7 @@ use smf_state::{Proposal, Row, View, Why};
 use std::alloc::AllocError;
 
 /// An instance as a restarter knows it.
-#[derive(Debug, Drop)]
+#[derive(Drop)]
 pub struct Known {
     pub instance: u64,
     pub name: InstanceFmri,
@@ -14,7 +14,7 @@ pub struct Known {
 }
 
 /// What the actors send to one another. Launches and serials are those of the restarter that is named.
-#[derive(Debug, Drop)]
+#[derive(Drop)]
 pub enum Message {
     /// A restarter asks for the rows that it owns.
     Join {

@@ -6,7 +6,7 @@ use smf_state::{Cause, Duration, Ignore, Row, State};
 use std::alloc::AllocError;
 
 /// What is to be done with an instance.
-#[derive(Debug, Drop)]
+#[derive(Drop)]
 pub enum What {
     /// To another state at once.
     To(State),
@@ -26,7 +26,7 @@ pub enum What {
 }
 
 /// What svc.startd's graph tells the restarter of an instance to do.
-#[derive(Debug, Drop)]
+#[derive(Drop)]
 pub struct Order {
     /// The owner of the row.
     pub restarter: InstanceFmri,

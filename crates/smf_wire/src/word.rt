@@ -4,7 +4,7 @@ ghost use Rattle.smf_wire.specs.Words.{read_message_word, read_order_word, read_
 use smf_state::{StepFault, Why};
 
 /// The word that the line of a message begins with.
-#[derive(Clone, Copy, Debug, PartialEq, Eq)]
+#[derive(Clone, Copy, PartialEq, Eq)]
 pub(crate) enum MessageWord {
     Join,
     Rows,
@@ -17,7 +17,7 @@ pub(crate) enum MessageWord {
 }
 
 /// The word that begins what an order says.
-#[derive(Clone, Copy, Debug, PartialEq, Eq)]
+#[derive(Clone, Copy, PartialEq, Eq)]
 pub(crate) enum OrderWord {
     To,
     Start,

@@ -3,7 +3,7 @@ use smf_fmri::{InstanceFmri, Number};
 use smf_model::Edit;
 
 /// What becomes of a spawn that a tick asks for.
-#[derive(Clone, Copy, Debug, PartialEq, Eq)]
+#[derive(Clone, Copy, PartialEq, Eq)]
 pub enum SpawnAnswer {
     Made,
     Refused,
@@ -12,7 +12,7 @@ pub enum SpawnAnswer {
 }
 
 /// What happens to a process, as in process(4).
-#[derive(Clone, Copy, Debug, PartialEq, Eq)]
+#[derive(Clone, Copy, PartialEq, Eq)]
 pub enum ProcessEvent {
     Fork,
     Exit(Exit),
@@ -21,7 +21,7 @@ pub enum ProcessEvent {
 
 /// What can happen to the world. A launch of what is launched, an event of a restarter that is not, of a process that
 /// is in no contract, and of a contract that nobody holds do nothing.
-#[derive(Debug, Drop)]
+#[derive(Drop)]
 pub enum Event {
     /// The message at a place of all that were ever sent is delivered, for the first time or again.
     Deliver(u64),

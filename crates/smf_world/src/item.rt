@@ -4,7 +4,7 @@ use smf_method::Command;
 use smf_state::State;
 
 /// What the trail shows, in the order in which it happened.
-#[derive(Debug, Drop)]
+#[derive(Drop)]
 pub enum Item {
     /// A row that the repository committed: an instance was added, a proposal granted, or a boot or a move reset it.
     Committed {

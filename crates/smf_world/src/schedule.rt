@@ -2,7 +2,7 @@ use smf_contract::Event as ContractEvent;
 use smf_fmri::InstanceFmri;
 
 /// How a number of rounds ended.
-#[derive(Clone, Copy, Debug, PartialEq, Eq)]
+#[derive(Clone, Copy, PartialEq, Eq)]
 pub enum Settled {
     /// Nothing is left to do.
     Quiet,
@@ -11,7 +11,7 @@ pub enum Settled {
 }
 
 /// One thing that a schedule does: at most one event.
-#[derive(Debug, Drop)]
+#[derive(Drop)]
 pub enum Deed {
     Launch(InstanceFmri),
     /// The next message in the order of sending is delivered, unless it is lost.
@@ -31,7 +31,7 @@ pub enum Deed {
 }
 
 /// A part of a round, whose deeds are known when it begins.
-#[derive(Debug, Drop)]
+#[derive(Drop)]
 pub enum Turn {
     /// Each owner of a row is launched that is not.
     Launches,

@@ -6,7 +6,7 @@ use smf_state::View;
 use smf_wire::Message;
 
 /// What becomes of the restarters.
-#[derive(Debug, Drop)]
+#[derive(Drop)]
 pub enum Becomes {
     /// A launched one knows more.
     Knows {
@@ -24,7 +24,7 @@ pub enum Becomes {
 }
 
 /// What an event makes, worked out before anything changes.
-#[derive(Debug, Drop)]
+#[derive(Drop)]
 pub struct Work {
     /// Of what the repository holds.
     pub changes: Items<smf_model::Change>,
