@@ -1,15 +1,13 @@
 -- Rounds by flags are the rounds of the definition, and a round that changes nothing is the last.
 use Rattle.std.proofs.Common.{◌≡◌, ◌≤◌, ℕ, zero, suc, ◌+◌, ◌-◌, List, [], ◌∷◌, map, drop, length, Bool, true, false, ◌||◌, ◌&&◌, Option, Some, None, refl, sym, ap, ◌∙◌, subst, arith}
-use Rattle.std.specs.Prelude.{is_some, slice_get}
+use Rattle.std.specs.Prelude.{is_some}
 use Rattle.std.specs.List.{list_all, list_any}
 use Rattle.std.specs.Cmp.Lexicographic.{pointwise}
 use Rattle.std.proofs.lemmas.List.{length-map}
 use Rattle.std.proofs.Math.Bool.{beq}
 use Rattle.std.proofs.Math.Numerals.{suc-eq-add-one}
 use Rattle.smf_dep.specs.declared.dependency.Dependency.{Dependency}
-use Rattle.smf_dep.specs.declared.graph.Finding.{Finding}
 use Rattle.smf_dep.specs.declared.link.Flags.{Flags}
-use Rattle.smf_dep.specs.declared.link.Link.{Link}
 use Rattle.smf_dep.specs.declared.link.Node.{Node}
 use Rattle.smf_dep.specs.declared.member.Member.{Member}
 use Rattle.smf_dep.specs.Places.{AreCycles, finding_at, finding_of, findings, findings_from, flag_at, flags_of, is_link_blocked, is_link_met, link_of, link_stops, links_of, node_of, node_parked, nodes_of, round, rounds}

@@ -1,4 +1,5 @@
 pub mod Requirements
+pub mod Methods
 pub mod Members
 pub mod Verdicts
 pub mod Cycles

@@ -1,5 +1,5 @@
 -- What a verdict looks at: of each instance its state, its revisions, and what it depends on.
-use Rattle.std.specs.Prelude.{ℕ, nat_eq, List, [], ◌∷◌, ◌++◌, map, Bool, true, false, if◌then◌else◌, Option, Some, None, Result, Ok, Err}
+use Rattle.std.specs.Prelude.{◌≡◌, ℕ, nat_eq, List, [], ◌∷◌, ◌++◌, map, Bool, if◌then◌else◌, Option, Some, None, Result, Ok, Err}
 use Rattle.std.specs.Cmp.Lexicographic.{pointwise}
 use Rattle.smf_fmri.specs.ByKey.{put_all}
 use Rattle.smf_state.specs.declared.view.ViewItem.{ViewItem}
@@ -13,6 +13,7 @@ use Rattle.smf_dep.specs.declared.dependency.Grouping.TheVariants.{RequireAll}
 use Rattle.smf_dep.specs.declared.dependency.RestartOn.TheVariants as restarts
 use Rattle.smf_dep.specs.declared.fault.DependencyFault.{DependencyFault}
 use Rattle.smf_dep.specs.declared.member.Member.{Member}
+use Rattle.smf_dep.specs.Methods.{has_unfit_methods}
 use Rattle.smf_dep.specs.Requirements.{read_groups}
 
 -- the groups of the running snapshot, each by name the instance's own, else the service's, as a whole
@@ -69,6 +70,22 @@ member_by i snapshot = member_with i (composed_in snapshot) (dependencies_in i.r
 
 unfoldable pub member_of : ViewItem → Member
 member_of i = member_by i (snapshot_in i.body)
+
+-- what of a member says where its dependencies lead
+abbrev pub wires : Member → List ℕ × Option (List Dependency)
+wires m = (m.name, m.dependencies)
+
+-- the groups and the dependencies of a member are those of this restarter and this body
+pub record IsReadFrom (owner : List ℕ) (body : Option (List ℕ)) (unfit : Bool) (m : Member) : Type 0 where
+  pub groups : m.composed ≡ composed_in (snapshot_in body)
+  pub needs : m.dependencies ≡ dependencies_in owner (snapshot_in body)
+  pub methods : unfit ≡ has_unfit_methods owner m.name m.composed
+
+-- it has the name of an item, and the groups and dependencies that are read of it
+pub record IsOfItem (i : ViewItem) (m : Member) : Type 0 where
+  pub name : m.name ≡ i.name
+  pub groups : m.composed ≡ composed_in (snapshot_in i.body)
+  pub needs : m.dependencies ≡ dependencies_in i.row.owner (snapshot_in i.body)
 
 abbrev pub members : List ViewItem → List Member
 members items = map member_of items

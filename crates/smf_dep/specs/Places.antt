@@ -1,5 +1,5 @@
 -- Dependencies by the places of instances in a list, so that a name is looked for once.
-use Rattle.std.specs.Prelude.{◌≡◌, ℕ, zero, suc, ◌+◌, List, [], ◌∷◌, ◌++◌, map, length, Bool, true, false, not, ◌&&◌, ◌||◌, if◌then◌else◌, Option, Some, None, unwrap_or, is_some, slice_get}
+use Rattle.std.specs.Prelude.{◌≡◌, ℕ, zero, suc, ◌+◌, List, [], ◌∷◌, ◌++◌, map, Bool, false, not, ◌&&◌, ◌||◌, if◌then◌else◌, Option, Some, None, unwrap_or, is_some, slice_get}
 use Rattle.std.specs.List.{list_all, list_any}
 use Rattle.std.specs.Option.{option_map_or}
 use Rattle.smf_dep.specs.declared.dependency.Dependency.{Dependency}
@@ -34,6 +34,14 @@ node_of ms m = record { idle = is_idle m; waiting = is_waiting m; readable = is_
 
 abbrev pub nodes_of : List Member → List Node
 nodes_of ms = map (node_of ms) ms
+
+-- the dependencies of each instance by places
+abbrev pub all_links : List Node → List (List Link)
+all_links nodes = map (λ (n : Node). n.links) nodes
+
+-- the same, of instances among all
+abbrev pub links_among : List Member → List Member → List (List Link)
+links_among all ms = map (λ (m : Member). links_of all m.dependencies) ms
 
 -- ---- flags, one for each instance
 
@@ -139,8 +147,20 @@ findings_from at ms f parked cycles [] = []
 findings_from at ms f parked cycles (n ∷ ns) =
     finding_at ms f parked (flag_at cycles at) n ∷ findings_from (at + 1) ms f parked cycles ns
 
+-- the same of all instances with these edges
+pub record AreCyclesOf (nodes : List Node) (flags : List Bool) : Type 0 where
+  pub cycles : (ms : List Member) → edges_of nodes ≡ edges_of (nodes_of ms) → AreCycles ms flags
+
+-- the one is what the other begins with
+abbrev pub IsBeginning : List (List Link) → List (List Link) → Type 0
+IsBeginning [] ys = Unit
+IsBeginning (x ∷ xs) [] = ⊥
+IsBeginning (x ∷ xs) (y ∷ ys) = (x ≡ y) × IsBeginning xs ys
+
 -- what a graph keeps beside its instances
-pub record IsGraph (ms : List Member) (fs : List Finding) (flags : Flags) (parked : List Bool) : Type 0 where
+pub record IsGraph (ms : List Member) (ns : List Node) (cycles : List Bool) (fs : List Finding) (flags : Flags) (parked : List Bool) : Type 0 where
+  pub linked : ns ≡ nodes_of ms
+  pub turning : AreCyclesOf ns cycles
   pub found : fs ≡ findings ms
   pub states : flags ≡ flags_of ms
   pub rounds : parked ≡ map (is_parked ms) ms

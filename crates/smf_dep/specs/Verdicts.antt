@@ -1,5 +1,5 @@
 -- When a dependency group is met, when it is blocked, and when it stops a running instance, by smf(5).
-use Rattle.std.specs.Prelude.{ℕ, zero, suc, nat_lt, nat_eq, List, [], ◌∷◌, length, filter, Bool, true, false, not, ◌&&◌, ◌||◌, if◌then◌else◌, Option, Some, None, is_some, is_none}
+use Rattle.std.specs.Prelude.{ℕ, zero, suc, nat_lt, nat_eq, List, length, filter, Bool, true, false, not, ◌&&◌, ◌||◌, Option, Some, None, is_some, is_none}
 use Rattle.std.specs.Cmp.Lexicographic.{pointwise}
 use Rattle.std.specs.List.{list_all, list_any}
 use Rattle.smf_fmri.specs.Matching.{service_of, instance_of}

@@ -1,6 +1,5 @@
-ghost use Rattle.std.specs.Prelude.{◌≡◌, ◌++◌, IfOk, List};
-ghost use Rattle.smf_dep.specs.Places.{AreCycles, edges_in, edges_of, joined, nodes_of};
-ghost use Rattle.smf_dep.specs.declared.member.Member.{Member as AnyMember};
+ghost use Rattle.std.specs.Prelude.{◌≡◌, ◌++◌, IfOk};
+ghost use Rattle.smf_dep.specs.Places.{AreCyclesOf, edges_in, edges_of, joined};
 
 use crate::dependency::Grouping;
 use crate::link::{Link, Node};
@@ -47,7 +46,7 @@ fn edges_of(alloc: Global, nodes: &[Node]) -> Result<Vec<Places>, AllocError>
 
 /// Which instances depend on themselves.
 pub(crate) fn on_cycles(alloc: Global, nodes: &[Node]) -> Result<Vec<bool>, AllocError>
-    ensures { IfOk result (λ flags. (ms : List AnyMember) → nodes.now ≡ nodes_of ms → AreCycles ms flags.items) }
+    ensures { IfOk result (λ flags. AreCyclesOf nodes.now flags.items) }
 {
     let edges = edges_of(alloc, nodes)?;
     let flags = places_on_cycles(alloc, edges.as_slice())?;

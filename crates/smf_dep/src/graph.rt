@@ -1,13 +1,14 @@
 ghost use Rattle.std.specs.List.{list_all, list_any};
+ghost use Rattle.std.specs.Option.{option_copied};
 ghost use Rattle.std.specs.Prelude.{◌≡◌, IfOk, map, option_map, slice_get};
 ghost use Rattle.smf_dep.specs.Members.{members};
-ghost use Rattle.smf_dep.specs.Places.{event_at, finding_at, finding_of, findings, findings_from, flags_of, is_link_met, link_stops, nodes_of};
+ghost use Rattle.smf_dep.specs.Places.{AreCyclesOf, event_at, finding_at, finding_of, findings_from, flags_of, is_link_met, link_stops, nodes_of};
 ghost use Rattle.smf_dep.specs.Verdicts.{is_parked, must_stop, stops_by, verdict, verdict_by};
 
 use crate::cycle::on_cycles;
 use crate::dependency::{Dependency, Grouping, RestartOn};
-use crate::link::{Flags, Link, Node, flags_of, link_of, nodes};
-use crate::member::{Member, members};
+use crate::link::{Flags, Link, Node, flags_of, link_of, nodes_of};
+use crate::member::{Member, ReadMember, RenewedMembers, renewed_members};
 use crate::parking::{flag_at, is_link_blocked, is_link_met, parked};
 use smf_fmri::Items;
 use smf_state::ViewItem;
@@ -39,7 +40,9 @@ pub struct Finding {
 /// Instances and what is found of each.
 #[derive(Drop)]
 pub struct Graph {
-    members: Items<Member>,
+    members: Items<ReadMember>,
+    nodes: Items<Node>,
+    cycles: Vec<bool>,
     findings: Items<Finding>,
     flags: Flags,
     parked: Items<bool>,
@@ -54,7 +57,7 @@ impl Model for Graph {
 
     ghost view = { λ g. g.members };
 
-    ghost invariant = { λ g. IsGraph g.members g.findings g.flags g.parked };
+    ghost invariant = { λ g. IsGraph g.members g.nodes g.cycles.items g.findings g.flags g.parked };
 }
 
 /// Whether the events after a revision of an instance that is cited stop the one that cites it.
@@ -72,16 +75,16 @@ fn is_event(member: &Member, link: &Link, base: u64) -> bool
     }
 }
 
-fn event_at(members: &[Member], link: &Link, base: u64, place: usize) -> bool
+fn event_at(members: &[ReadMember], link: &Link, base: u64, place: usize) -> bool
     ensures { result ≡ event_at (stops_by link.now.grouping link.now.restart_on base) members.now place }
 {
     match members.get(place) {
-        Some(member) => is_event(member, link, base),
+        Some(member) => is_event(member.member(), link, base),
         None => false,
     }
 }
 
-fn any_event(members: &[Member], link: &Link, base: u64, places: &[usize]) -> bool
+fn any_event(members: &[ReadMember], link: &Link, base: u64, places: &[usize]) -> bool
     ensures { result ≡ list_any (event_at (stops_by link.now.grouping link.now.restart_on base) members.now) places.now }
 {
     places
@@ -89,7 +92,7 @@ fn any_event(members: &[Member], link: &Link, base: u64, places: &[usize]) -> bo
         .any(|place| event_at(members, link, base, *place))
 }
 
-fn link_stops(members: &[Member], link: &Link, base: u64) -> bool
+fn link_stops(members: &[ReadMember], link: &Link, base: u64) -> bool
     ensures { result ≡ link_stops members.now base link.now }
 {
     link.cited
@@ -98,7 +101,7 @@ fn link_stops(members: &[Member], link: &Link, base: u64) -> bool
         .any(|places| any_event(members, link, base, places.as_slice()))
 }
 
-fn any_stops(members: &[Member], links: &[Link], base: u64) -> bool
+fn any_stops(members: &[ReadMember], links: &[Link], base: u64) -> bool
     ensures { result ≡ list_any (link_stops members.now base) links.now }
 {
     links.iter().any(|link| link_stops(members, link, base))
@@ -111,7 +114,7 @@ fn each_is_met(links: &[Link], flags: &Flags, parked: &[bool]) -> bool
 }
 
 fn finding_at(
-    members: &[Member],
+    members: &[ReadMember],
     flags: &Flags,
     parked: &[bool],
     on_cycle: bool,
@@ -130,7 +133,7 @@ fn finding_at(
 
 fn findings_from(
     alloc: Global,
-    members: &[Member],
+    members: &[ReadMember],
     flags: &Flags,
     parked: &[bool],
     cycles: &[bool],
@@ -146,24 +149,6 @@ fn findings_from(
         place += 1;
     }
     Ok(all)
-}
-
-/// What is found of each instance of a list, given what they are and which of them won't run.
-fn findings(
-    alloc: Global,
-    members: &[Member],
-    flags: &Flags,
-    parked: &[bool],
-    nodes: &[Node],
-) -> Result<Items<Finding>, AllocError>
-    requires states { flags.now ≡ flags_of members.now }
-    requires rounds { parked.now ≡ map (is_parked members.now) members.now }
-    requires nodes { nodes.now ≡ nodes_of members.now }
-    ensures { IfOk result (λ fs. fs ≡ findings members.now) }
-{
-    let cycles = on_cycles(alloc, nodes)?;
-    let findings = findings_from(alloc, members, flags, parked, cycles.as_slice(), nodes)?;
-    Ok(findings)
 }
 
 fn verdict_by(met: bool, blocked: bool) -> Verdict
@@ -183,30 +168,73 @@ impl Graph {
     pub fn of(alloc: Global, items: &[ViewItem]) -> Result<Graph, AllocError>
         ensures { IfOk result (λ g. g ≡ members items.now) }
     {
-        let members = members(alloc, items)?;
+        let RenewedMembers { all, .. } = renewed_members(alloc, Items::new(alloc), items)?;
+        Graph::linked(alloc, all)
+    }
+
+    /// The graph of the items of another view. What this one read and found is not read or looked for again.
+    pub fn renewed(self, alloc: Global, items: &[ViewItem]) -> Result<Graph, AllocError>
+        ensures { IfOk result (λ g. g ≡ members items.now) }
+    {
+        let Graph {
+            members,
+            nodes,
+            cycles,
+            ..
+        } = self;
+        let RenewedMembers { all, are_alike } = renewed_members(alloc, members, items)?;
+        if !are_alike {
+            return Graph::linked(alloc, all);
+        }
+        let nodes = nodes_of(alloc, all.as_slice(), nodes)?;
+        Graph::found(alloc, all, nodes, cycles)
+    }
+
+    /// The graph of instances whose dependencies have to be looked for.
+    fn linked(alloc: Global, members: Items<ReadMember>) -> Result<Graph, AllocError>
+        ensures { IfOk result (λ g. g ≡ members) }
+    {
+        let nodes = nodes_of(alloc, members.as_slice(), Items::new(alloc))?;
+        let cycles = on_cycles(alloc, nodes.as_slice())?;
+        Graph::found(alloc, members, nodes, cycles)
+    }
+
+    /// The graph of instances whose dependencies by places are known, and which of them depend on themselves.
+    fn found(
+        alloc: Global,
+        members: Items<ReadMember>,
+        nodes: Items<Node>,
+        cycles: Vec<bool>,
+    ) -> Result<Graph, AllocError>
+        requires nodes { nodes ≡ nodes_of members }
+        requires cycles { AreCyclesOf nodes cycles.items }
+        ensures { IfOk result (λ g. g ≡ members) }
+    {
         let flags = flags_of(alloc, members.as_slice())?;
-        let nodes = nodes(alloc, members.as_slice())?;
         let parked = parked(alloc, nodes.as_slice(), &flags)?;
-        let findings = findings(
+        let findings = findings_from(
             alloc,
             members.as_slice(),
             &flags,
             parked.as_slice(),
+            &cycles,
             nodes.as_slice(),
         )?;
         Ok(Graph {
             members,
+            nodes,
+            cycles,
             findings,
             flags,
             parked,
         })
     }
 
-    /// The instances, in the order of the items.
-    pub fn members(&self) -> &[Member]
-        ensures { result.now ≡ self.now }
+    /// The instance at a place in the order of the items.
+    pub fn member(&self, place: usize) -> Option<&ReadMember>
+        ensures { option_copied result ≡ slice_get self.now place }
     {
-        self.members.as_slice()
+        self.members.as_slice().get(place)
     }
 
     /// What is found of the instance at a place.

@@ -1,9 +1,10 @@
-ghost use Rattle.std.specs.Prelude.{◌≡◌, IfOk, map};
-ghost use Rattle.smf_dep.specs.Places.{flags_of, link_of, links_of, node_of, nodes_of, places};
+ghost use Rattle.std.specs.Prelude.{◌≡◌, IfOk, IfSome, List, map};
+ghost use Rattle.smf_dep.specs.Places.{IsBeginning, all_links, flags_of, link_of, links_among, links_of, node_of, nodes_of, places};
+ghost use Rattle.smf_dep.specs.declared.member.Member.{Member as AnyMember};
 ghost use Rattle.smf_dep.specs.Verdicts.{is_off, is_running};
 
 use crate::dependency::{Dependency, Grouping, RestartOn};
-use crate::member::Member;
+use crate::member::{Member, ReadMember};
 use smf_fmri::{Fmri, Items};
 use std::alloc::{AllocError, Global};
 
@@ -35,14 +36,14 @@ pub struct Flags {
 }
 
 #[tactic(auto, unfolding(crate::specs::Places::places))]
-fn places(alloc: Global, members: &[Member], entity: &Fmri) -> Result<Items<usize>, AllocError>
+fn places(alloc: Global, members: &[ReadMember], entity: &Fmri) -> Result<Items<usize>, AllocError>
     ensures { IfOk result (λ ps. ps ≡ places members.now entity.now) }
 {
     let is_instance = entity.instance().is_some();
     let mut places = Items::new(alloc);
     let mut place = 0;
     for member in members {
-        if member.is_cited_by(is_instance, entity) {
+        if member.member().is_cited_by(is_instance, entity) {
             places.push(place)?;
         }
         place += 1;
@@ -52,7 +53,7 @@ fn places(alloc: Global, members: &[Member], entity: &Fmri) -> Result<Items<usiz
 
 fn cited(
     alloc: Global,
-    members: &[Member],
+    members: &[ReadMember],
     entities: &[Fmri],
 ) -> Result<Items<Items<usize>>, AllocError>
     ensures { IfOk result (λ pss. pss ≡ map (places members.now) entities.now) }
@@ -67,7 +68,7 @@ fn cited(
 /// A dependency by the places of what it cites.
 pub(crate) fn link_of(
     alloc: Global,
-    members: &[Member],
+    members: &[ReadMember],
     dependency: &Dependency,
 ) -> Result<Link, AllocError>
     ensures { IfOk result (λ l. l ≡ link_of members.now dependency.now) }
@@ -82,7 +83,7 @@ pub(crate) fn link_of(
 
 fn links(
     alloc: Global,
-    members: &[Member],
+    members: &[ReadMember],
     dependencies: &[Dependency],
 ) -> Result<Items<Link>, AllocError>
     ensures { IfOk result (λ ls. ls ≡ map (link_of members.now) dependencies.now) }
@@ -96,7 +97,7 @@ fn links(
 
 fn links_of(
     alloc: Global,
-    members: &[Member],
+    members: &[ReadMember],
     dependencies: &Option<Items<Dependency>>,
 ) -> Result<Items<Link>, AllocError>
     ensures { IfOk result (λ ls. ls ≡ links_of members.now dependencies.now) }
@@ -107,52 +108,77 @@ fn links_of(
     }
 }
 
-fn node_of(alloc: Global, members: &[Member], member: &Member) -> Result<Node, AllocError>
-    ensures { IfOk result (λ n. n ≡ node_of members.now member.now) }
+/// An instance, with its dependencies by places.
+fn node_with(member: &Member, links: Items<Link>) -> Node
+    ensures { (ms : List AnyMember) → links ≡ links_of ms member.now.dependencies → result ≡ node_of ms member.now }
 {
-    let links = links_of(alloc, members, &member.dependencies)?;
-    Ok(Node {
+    Node {
         idle: member.is_idle(),
         waiting: member.is_waiting(),
         readable: member.dependencies.is_some(),
         base: member.base,
         links,
-    })
+    }
 }
 
-/// Each instance with what it depends on by places.
-pub(crate) fn nodes(alloc: Global, members: &[Member]) -> Result<Items<Node>, AllocError>
+/// An instance with what it depends on by places, which is looked for where none was kept.
+fn node_of(
+    alloc: Global,
+    members: &[ReadMember],
+    member: &Member,
+    kept: Option<Node>,
+) -> Result<Node, AllocError>
+    requires { IfSome kept (λ n. n.links ≡ links_of members.now member.now.dependencies) }
+    ensures { IfOk result (λ n. n ≡ node_of members.now member.now) }
+{
+    match kept {
+        Some(kept) => Ok(node_with(member, kept.links)),
+        None => {
+            let links = links_of(alloc, members, &member.dependencies)?;
+            Ok(node_with(member, links))
+        }
+    }
+}
+
+/// Each instance with what it depends on by places, of which the first may have been kept.
+pub(crate) fn nodes_of(
+    alloc: Global,
+    members: &[ReadMember],
+    kept: Items<Node>,
+) -> Result<Items<Node>, AllocError>
+    requires { IsBeginning (all_links kept) (links_among members.now members.now) }
     ensures { IfOk result (λ ns. ns ≡ nodes_of members.now) }
 {
+    let mut kept = kept.into_vec().into_iter();
     let mut nodes = Items::new(alloc);
     for member in members {
-        nodes.push(node_of(alloc, members, member)?)?;
+        nodes.push(node_of(alloc, members, member.member(), kept.next())?)?;
     }
     Ok(nodes)
 }
 
-fn running(alloc: Global, members: &[Member]) -> Result<Items<bool>, AllocError>
+fn running(alloc: Global, members: &[ReadMember]) -> Result<Items<bool>, AllocError>
     ensures { IfOk result (λ fs. fs ≡ map is_running members.now) }
 {
     let mut flags = Items::new(alloc);
     for member in members {
-        flags.push(member.is_running())?;
+        flags.push(member.member().is_running())?;
     }
     Ok(flags)
 }
 
-fn off(alloc: Global, members: &[Member]) -> Result<Items<bool>, AllocError>
+fn off(alloc: Global, members: &[ReadMember]) -> Result<Items<bool>, AllocError>
     ensures { IfOk result (λ fs. fs ≡ map is_off members.now) }
 {
     let mut flags = Items::new(alloc);
     for member in members {
-        flags.push(member.is_off())?;
+        flags.push(member.member().is_off())?;
     }
     Ok(flags)
 }
 
 /// What each instance is by its state.
-pub(crate) fn flags_of(alloc: Global, members: &[Member]) -> Result<Flags, AllocError>
+pub(crate) fn flags_of(alloc: Global, members: &[ReadMember]) -> Result<Flags, AllocError>
     ensures { IfOk result (λ f. f ≡ flags_of members.now) }
 {
     let running = running(alloc, members)?;

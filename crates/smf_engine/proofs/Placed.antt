@@ -1,9 +1,8 @@
 -- What a graph finds at a place is what is found of the item there.
-use Rattle.std.proofs.Common.{◌≡◌, ◌<◌, ℕ, List, map, length, get_or, Option, Some, None, refl, sym, ap, ◌∙◌, subst}
+use Rattle.std.proofs.Common.{◌≡◌, ◌<◌, ℕ, List, length, get_or, Some, refl, ap, ◌∙◌}
 use Rattle.std.specs.Prelude.{slice_get, option_map}
 use Rattle.std.proofs.lemmas.Option.{slice_get-map, slice_get_read}
 use Rattle.smf_state.specs.declared.view.ViewItem.{ViewItem}
-use Rattle.smf_wire.specs.declared.order.Order.{Order}
 use Rattle.smf_dep.specs.declared.member.Member.{Member}
 use Rattle.smf_dep.specs.Members.{member_of, members}
 use Rattle.smf_dep.specs.Places.{finding_of}

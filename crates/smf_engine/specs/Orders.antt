@@ -1,5 +1,5 @@
 -- What svc.startd's graph orders, by what it sees of the instances.
-use Rattle.std.specs.Prelude.{ℕ, ◌==◌, ◌&&◌, ◌||◌, not, nat_lt, List, [], ◌∷◌, Bool, true, false, if◌then◌else◌, Option, Some, None, find, option_map, slice_get, Result, Ok, Err}
+use Rattle.std.specs.Prelude.{ℕ, ◌==◌, ◌||◌, not, nat_lt, List, [], ◌∷◌, Bool, true, false, if◌then◌else◌, Option, Some, None, find, option_map, slice_get, Ok, Err}
 use Rattle.std.specs.Int.RustNames.{bit_and}
 use Rattle.std.specs.List.{filter_map}
 use Rattle.smf_contract.specs.declared.cookie.Method.{Method}
@@ -12,14 +12,11 @@ use Rattle.smf_state.specs.declared.state.Cause.TheVariants.{Error, NonError, Ad
 use Rattle.smf_state.specs.declared.view.ViewItem.{ViewItem}
 use Rattle.smf_state.specs.Rows.{same_state}
 use Rattle.smf_state.specs.States.{runs}
-use Rattle.smf_method.specs.declared.fault.MethodFault.{MethodFault}
 use Rattle.smf_method.specs.declared.call.MethodCall.{MethodCall}
-use Rattle.smf_method.specs.declared.call.ReadMethod.{ReadMethod}
-use Rattle.smf_method.specs.Methods.{method_of}
-use Rattle.smf_method.specs.Tokens.{names_of}
 use Rattle.smf_dep.specs.declared.graph.Finding.{Finding}
 use Rattle.smf_dep.specs.declared.member.Member.{Member}
 use Rattle.smf_dep.specs.Members.{member_of, members}
+use Rattle.smf_dep.specs.Methods.{MethodRead, has_unfit_methods, method_by}
 use Rattle.smf_dep.specs.Places.{finding_of}
 use Rattle.smf_wire.specs.declared.order.Order.{Order}
 use Rattle.smf_wire.specs.declared.order.What.{What}
@@ -30,28 +27,15 @@ use Rattle.smf_state.specs.declared.view.View.{View}
 
 -- ---- methods
 
-abbrev pub MethodRead : Type 0
-MethodRead = Result (Option ReadMethod) MethodFault
-
 -- a method of the running snapshot, as it is read
 abbrev pub method_in : ViewItem → Member → Method → MethodRead
-method_in i m method = method_of m.composed (names_of i.row.owner method i.name)
+method_in i m method = method_by i.row.owner i.name m.composed method
 
 -- one that can't be read counts as none
 abbrev pub call_in : MethodRead → Option MethodCall
 call_in (Ok (Some read)) = Some read.call
 call_in (Ok None) = None
 call_in (Err fault) = None
-
-abbrev pub is_unreadable : MethodRead → Bool
-is_unreadable (Err fault) = true
-is_unreadable (Ok read) = false
-
--- there is a start method, and it can be read
-abbrev pub can_start : MethodRead → Bool
-can_start (Ok (Some read)) = true
-can_start (Ok None) = false
-can_start (Err fault) = false
 
 -- ---- decisions
 
@@ -93,10 +77,7 @@ disabling _ = None
 -- or it depends on itself
 abbrev pub has_fault : ViewItem → Member → Finding → Bool
 has_fault i m f =
-    not i.readable || not f.readable || f.on_cycle
-    || not (can_start (method_in i m methods.Start))
-    || is_unreadable (method_in i m methods.Stop)
-    || is_unreadable (method_in i m methods.Refresh)
+    not i.readable || not f.readable || f.on_cycle || has_unfit_methods i.row.owner i.name m.composed
 
 -- what its dependencies decide of an enabled instance without a fault
 abbrev pub by_dependencies : Finding → State → Option Decision
@@ -183,6 +164,14 @@ newer (Some held) seen = if nat_lt held.revision seen.revision then Some seen el
 abbrev pub orders_seen : Option View → List Order
 orders_seen None = []
 orders_seen (Some seen) = orders seen.revision seen.items
+
+abbrev pub is_none_left : List Order → Bool
+is_none_left [] = true
+is_none_left (o ∷ os) = false
+
+-- nothing is ordered of a view
+abbrev pub has_no_orders : View → Bool
+has_no_orders v = is_none_left (orders v.revision v.items)
 
 abbrev pub is_about : ℕ → ViewItem → Bool
 is_about instance i = i.instance == instance

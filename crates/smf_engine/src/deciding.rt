@@ -1,10 +1,10 @@
 ghost use Rattle.std.specs.Prelude.{◌≡◌, IfOk};
-ghost use Rattle.smf_engine.specs.Orders.{asked, asks, by_dependencies, call_if, call_in, can_start, cleared, decision, disabling, enabling, first_state, has_fault, is_unreadable, judged, method_in, starting, stop_or_move, unasked, what_of};
+ghost use Rattle.smf_engine.specs.Orders.{asked, asks, by_dependencies, call_if, call_in, cleared, decision, disabling, enabling, first_state, has_fault, judged, method_in, starting, stop_or_move, unasked, what_of};
 ghost use Rattle.smf_method.specs.Faults.{Gives};
 
 use bitflags::Flags;
 use smf_contract::Method;
-use smf_dep::{Finding, Member};
+use smf_dep::{Finding, ReadMember};
 use smf_method::{MethodCall, MethodFault, ReadMethod};
 use smf_state::{Asks, Cause, State, ViewItem};
 use smf_wire::What;
@@ -117,44 +117,25 @@ fn disabling(state: State) -> Option<Decision>
 fn method_in(
     alloc: Global,
     item: &ViewItem,
-    member: &Member,
+    member: &ReadMember,
     method: Method,
 ) -> Result<Option<ReadMethod>, MethodFault>
     ensures { Gives result (method_in item.now member.now method) }
 {
-    ReadMethod::of(alloc, &member.composed, method, &item.row.owner, &item.name)
-}
-
-fn can_start(alloc: Global, item: &ViewItem, member: &Member) -> Result<bool, AllocError>
-    ensures { IfOk result (λ b. b ≡ can_start (method_in item.now member.now Method.Start)) }
-{
-    match method_in(alloc, item, member, Method::Start) {
-        Ok(read) => Ok(read.is_some()),
-        Err(MethodFault::Memory) => Err(AllocError),
-        Err(_) => Ok(false),
-    }
-}
-
-fn is_unreadable(
-    alloc: Global,
-    item: &ViewItem,
-    member: &Member,
-    method: Method,
-) -> Result<bool, AllocError>
-    ensures { IfOk result (λ b. b ≡ is_unreadable (method_in item.now member.now method)) }
-{
-    match method_in(alloc, item, member, method) {
-        Ok(_) => Ok(false),
-        Err(MethodFault::Memory) => Err(AllocError),
-        Err(_) => Ok(true),
-    }
+    ReadMethod::of(
+        alloc,
+        &member.member().composed,
+        method,
+        &item.row.owner,
+        &item.name,
+    )
 }
 
 /// Whether an instance can't be run as it is configured.
 fn has_fault(
     alloc: Global,
     item: &ViewItem,
-    member: &Member,
+    member: &ReadMember,
     finding: &Finding,
 ) -> Result<bool, AllocError>
     ensures { IfOk result (λ b. b ≡ has_fault item.now member.now finding.now) }
@@ -162,13 +143,7 @@ fn has_fault(
     if !item.readable || !finding.readable || finding.on_cycle {
         return Ok(true);
     }
-    if !can_start(alloc, item, member)? {
-        return Ok(true);
-    }
-    if is_unreadable(alloc, item, member, Method::Stop)? {
-        return Ok(true);
-    }
-    is_unreadable(alloc, item, member, Method::Refresh)
+    member.has_unfit_methods(alloc, &item.row.owner, &item.name)
 }
 
 /// What dependencies decide of an enabled instance without a fault.
@@ -192,7 +167,7 @@ fn by_dependencies(finding: &Finding, state: State) -> Option<Decision>
 fn judged(
     alloc: Global,
     item: &ViewItem,
-    member: &Member,
+    member: &ReadMember,
     finding: &Finding,
 ) -> Result<Option<Decision>, AllocError>
     ensures { IfOk result (λ d. d ≡ judged (has_fault item.now member.now finding.now) finding.now item.now.row.state) }
@@ -208,7 +183,7 @@ fn judged(
 fn enabling(
     alloc: Global,
     item: &ViewItem,
-    member: &Member,
+    member: &ReadMember,
     finding: &Finding,
 ) -> Result<Option<Decision>, AllocError>
     ensures { IfOk result (λ d. d ≡ enabling item.now member.now finding.now item.now.row.state) }
@@ -224,7 +199,7 @@ fn enabling(
 pub(crate) fn decide_instance(
     alloc: Global,
     item: &ViewItem,
-    member: &Member,
+    member: &ReadMember,
     finding: &Finding,
 ) -> Result<Option<Decision>, AllocError>
     ensures { IfOk result (λ d. d ≡ decision item.now member.now finding.now) }
@@ -246,7 +221,7 @@ pub(crate) fn decide_instance(
 fn call_in(
     alloc: Global,
     item: &ViewItem,
-    member: &Member,
+    member: &ReadMember,
     method: Method,
 ) -> Result<Option<MethodCall>, AllocError>
     ensures { IfOk result (λ call. call ≡ call_in (method_in item.now member.now method)) }
@@ -259,7 +234,7 @@ fn call_in(
     }
 }
 
-fn starting(alloc: Global, item: &ViewItem, member: &Member) -> Result<Option<What>, AllocError>
+fn starting(alloc: Global, item: &ViewItem, member: &ReadMember) -> Result<Option<What>, AllocError>
     ensures { IfOk result (λ what. what ≡ starting (method_in item.now member.now Method.Start)) }
 {
     match method_in(alloc, item, member, Method::Start) {
@@ -278,7 +253,7 @@ fn starting(alloc: Global, item: &ViewItem, member: &Member) -> Result<Option<Wh
 fn stop_call(
     alloc: Global,
     item: &ViewItem,
-    member: &Member,
+    member: &ReadMember,
     by_method: bool,
 ) -> Result<Option<MethodCall>, AllocError>
     ensures { IfOk result (λ call. call ≡ call_if by_method (method_in item.now member.now Method.Stop)) }
@@ -294,7 +269,7 @@ fn stop_call(
 pub(crate) fn what_of(
     alloc: Global,
     item: &ViewItem,
-    member: &Member,
+    member: &ReadMember,
     decision: Decision,
 ) -> Result<Option<What>, AllocError>
     ensures { IfOk result (λ what. what ≡ what_of item.now member.now decision) }

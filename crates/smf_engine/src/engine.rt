@@ -1,17 +1,22 @@
 ghost use Rattle.std.specs.Prelude.{◌≡◌, IfOk, None};
-ghost use Rattle.smf_engine.specs.Orders.{decided, newer, orders_seen};
+ghost use Rattle.smf_dep.specs.Members.{members};
+ghost use Rattle.smf_engine.specs.Orders.{decided, has_no_orders, newer, orders, orders_seen};
 
-use crate::ordering::{order_of, orders};
+use crate::ordering::{has_no_orders_by, order_of, orders_by};
+use smf_dep::Graph;
 use smf_fmri::Items;
-use smf_state::View;
+use smf_state::{View, ViewItem};
 use smf_wire::Order;
 use std::alloc::{AllocError, Global};
+use std::cell::Cell;
 use std::marker::Model;
 
 /// svc.startd's graph, which contracts see as the view that it holds.
 #[derive(Drop)]
 pub struct Engine {
     seen: Option<View>,
+    /// The graph of the items that were looked at last: what it read of them is not read again. Nothing else comes of it.
+    last: Cell<Option<Graph>>,
 }
 
 impl Model for Engine {
@@ -28,7 +33,10 @@ impl Engine {
     pub fn new() -> Engine
         ensures { result ≡ None }
     {
-        Engine { seen: None }
+        Engine {
+            seen: None,
+            last: Cell::new(None),
+        }
     }
 
     /// Takes the first view, and then each of a greater revision than that of the one held. Any other is let go.
@@ -57,7 +65,37 @@ impl Engine {
     {
         match &self.seen {
             None => Ok(Items::new(alloc)),
-            Some(seen) => orders(alloc, seen.revision.get(), seen.items.as_slice()),
+            Some(seen) => self.orders_of(alloc, seen),
         }
+    }
+
+    fn graph_of(&self, alloc: Global, items: &[ViewItem]) -> Result<Graph, AllocError>
+        ensures { IfOk result (λ g. g ≡ members items.now) }
+    {
+        match self.last.replace(None) {
+            Some(last) => last.renewed(alloc, items),
+            None => Graph::of(alloc, items),
+        }
+    }
+
+    fn orders_of(&self, alloc: Global, view: &View) -> Result<Items<Order>, AllocError>
+        ensures { IfOk result (λ os. os ≡ orders view.now.revision view.now.items) }
+    {
+        let items = view.items.as_slice();
+        let graph = self.graph_of(alloc, items)?;
+        let orders = orders_by(alloc, view.revision.get(), &graph, items)?;
+        self.last.set(Some(graph));
+        Ok(orders)
+    }
+
+    /// Whether nothing would be ordered of a view, whatever view is held.
+    pub fn orders_nothing(&self, alloc: Global, view: &View) -> Result<bool, AllocError>
+        ensures { IfOk result (λ b. b ≡ has_no_orders view.now) }
+    {
+        let items = view.items.as_slice();
+        let graph = self.graph_of(alloc, items)?;
+        let is_nothing = has_no_orders_by(alloc, view.revision.get(), &graph, items)?;
+        self.last.set(Some(graph));
+        Ok(is_nothing)
     }
 }

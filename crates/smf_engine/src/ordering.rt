@@ -1,9 +1,9 @@
 ghost use Rattle.std.specs.Prelude.{◌≡◌, IfOk, Some, find, slice_get};
 ghost use Rattle.smf_dep.specs.Members.{members};
-ghost use Rattle.smf_engine.specs.Orders.{decision, is_about, order, order_in, order_to, order_under, order_placed, orders, what_by};
+ghost use Rattle.smf_engine.specs.Orders.{decision, is_about, is_none_left, order, order_in, order_to, order_under, order_placed, orders, what_by};
 
 use crate::deciding::{decide_instance, what_of};
-use smf_dep::{Finding, Graph, Member};
+use smf_dep::{Finding, Graph, ReadMember};
 use smf_fmri::Items;
 use smf_state::ViewItem;
 use smf_wire::{Order, What};
@@ -26,7 +26,7 @@ fn order_to(revision: u64, item: &ViewItem, what: What) -> Result<Order, AllocEr
 fn what_to_do(
     alloc: Global,
     item: &ViewItem,
-    member: &Member,
+    member: &ReadMember,
     finding: &Finding,
 ) -> Result<Option<What>, AllocError>
     ensures { IfOk result (λ what. what ≡ what_by item.now member.now (decision item.now member.now finding.now)) }
@@ -42,7 +42,7 @@ pub(crate) fn order_under(
     alloc: Global,
     revision: u64,
     item: &ViewItem,
-    member: &Member,
+    member: &ReadMember,
     finding: &Finding,
 ) -> Result<Option<Order>, AllocError>
     ensures { IfOk result (λ o. o ≡ order_under revision item.now member.now finding.now item.now.row.next) }
@@ -66,7 +66,7 @@ fn order_with(
 ) -> Result<Option<Order>, AllocError>
     ensures { IfOk result (λ o. o ≡ order_placed revision item.now graph.now place) }
 {
-    let Some(member) = graph.members().get(place) else {
+    let Some(member) = graph.member(place) else {
         return Ok(None);
     };
     let Some(finding) = graph.finding(place) else {
@@ -94,7 +94,7 @@ fn order_at(
 }
 
 #[tactic(auto, using(crate::proofs::Placed::placed_item))]
-fn orders_by(
+pub(crate) fn orders_by(
     alloc: Global,
     revision: u64,
     graph: &Graph,
@@ -112,6 +112,27 @@ fn orders_by(
         place += 1;
     }
     Ok(Items::from_vec(all))
+}
+
+/// Whether there is no order for any instance.
+#[tactic(auto, using(crate::proofs::Placed::placed_item))]
+pub(crate) fn has_no_orders_by(
+    alloc: Global,
+    revision: u64,
+    graph: &Graph,
+    items: &[ViewItem],
+) -> Result<bool, AllocError>
+    requires { graph.now ≡ members items.now }
+    ensures { IfOk result (λ b. b ≡ is_none_left (orders revision items.now)) }
+{
+    let mut place = 0;
+    for item in items {
+        if order_at(alloc, revision, graph, items, item, place)?.is_some() {
+            return Ok(false);
+        }
+        place += 1;
+    }
+    Ok(true)
 }
 
 /// The orders for all instances of a view, in their order.

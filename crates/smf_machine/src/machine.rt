@@ -1,5 +1,7 @@
 ghost use Rattle.std.specs.Prelude.{◌≡◌, map, option_map, reverse, IfErr, IfOk, OnErr, OnOk};
 ghost use Rattle.std.specs.Option.{option_copied};
+ghost use Rattle.smf_engine.specs.Orders.{has_no_orders};
+ghost use Rattle.smf_model.specs.Shown.{view};
 ghost use Rattle.smf_machine.specs.Children.{HasGiven, HasKilled, HasSpawned, happens_if, heard};
 ghost use Rattle.smf_machine.specs.declared.fault.MachineFault.TheVariants.{Memory};
 ghost use Rattle.smf_machine.specs.Faults.{IsUnbooted, IsUndone};
@@ -31,7 +33,7 @@ use smf_model::{Journal, Plain, Reply};
 use smf_restarter::Restarter;
 use smf_wire::Message;
 use smf_world::{Event, Item, SpawnAnswer};
-use std::alloc::Global;
+use std::alloc::{AllocError, Global};
 use std::marker::Model;
 
 /// The repository, svc.startd's graph, the restarters, their messages, the contracts and the trail. Contracts see the
@@ -174,6 +176,13 @@ impl<J: Journal> Machine<J> {
         ensures { result.now.held ≡ self.now.now }
     {
         &self.system.repository
+    }
+
+    /// Whether svc.startd's graph would order nothing of what is held.
+    pub fn has_no_orders(&self) -> Result<bool, AllocError>
+        ensures { IfOk result (λ b. b ≡ has_no_orders (view self.now.now)) }
+    {
+        self.system.has_no_orders()
     }
 
     /// The launched restarter of a name.

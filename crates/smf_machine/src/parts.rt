@@ -1,7 +1,7 @@
 ghost use Rattle.std.specs.Option.{option_copied};
 ghost use Rattle.std.specs.Prelude.{◌≡◌, ◌+◌, ◌<◌, find, length, map, option_map, position, IfOk, IfSome};
 ghost use Rattle.smf_contract.specs.Entries.{statuses};
-ghost use Rattle.smf_engine.specs.Orders.{orders_seen};
+ghost use Rattle.smf_engine.specs.Orders.{has_no_orders, orders_seen};
 ghost use Rattle.smf_machine.specs.Given.{is_actor_kept, is_named_kept};
 ghost use Rattle.smf_machine.specs.Parts.{knowledge, world_of};
 ghost use Rattle.smf_model.specs.Look.{instance, launch_of};
@@ -144,6 +144,14 @@ impl<J: Journal> System<J> {
         ensures { IfOk result (λ all. all ≡ orders_seen self.now.seen) }
     {
         self.parts.engine.decide_all(self.alloc)
+    }
+
+    /// Whether nothing is ordered of what is held.
+    pub(crate) fn has_no_orders(&self) -> Result<bool, AllocError>
+        ensures { IfOk result (λ b. b ≡ has_no_orders (view self.now.now)) }
+    {
+        let view = self.view()?;
+        self.parts.engine.orders_nothing(self.alloc, &view)
     }
 
     /// The launched restarter of a name.

@@ -1,21 +1,20 @@
 ghost use Rattle.smf_node.specs.Marks.{progress_of};
 ghost use Rattle.smf_node.specs.Partly.{DeedOfTurnFails, DeedsFail, RestartersFail, RoundFails, SettleFails, TurnFails, TurnOfManyFails, TurnsFail};
 ghost use Rattle.smf_restarter.specs.Ticks.{at_rest};
+ghost use Rattle.smf_engine.specs.Orders.{has_no_orders};
 ghost use Rattle.smf_model.specs.Shown.{view};
 ghost use Rattle.smf_world.specs.declared.schedule.Turn.TheVariants as turns;
 ghost use Rattle.smf_world.specs.Safe.{IsSafe};
-ghost use Rattle.smf_world.specs.Schedule.{IsSettled, all_turned, all_went, deliveries, deeds_of, entering, first_turns, has_no_orders, is_quiet, launched_names, restarter_turns, round, turned, turns_of, turns_of_all};
+ghost use Rattle.smf_world.specs.Schedule.{IsSettled, all_turned, all_went, deliveries, deeds_of, entering, first_turns, is_quiet, launched_names, restarter_turns, round, turned, turns_of, turns_of_all};
 ghost use Rattle.std.specs.List.{list_all};
 ghost use Rattle.std.specs.Prelude.{◌≡◌, ◌++◌, IfErr, IfOk, OnOk};
 
 use crate::fault::NodeFault;
 use crate::node::Node;
 use smf_contract::Event as ContractEvent;
-use smf_engine::orders;
 use smf_fmri::InstanceFmri;
 use smf_model::Journal;
 use smf_restarter::Restarter;
-use smf_state::View;
 use smf_world::{Deed, Settled, Turn};
 use std::alloc::{AllocError, Global};
 use std::mem::replace;
@@ -68,13 +67,6 @@ fn all_rest(restarters: &[Restarter]) -> bool
     ensures { result ≡ list_all (λ k. at_rest k.known) restarters.now }
 {
     restarters.iter().all(|restarter| restarter.is_at_rest())
-}
-
-fn has_no_orders(alloc: Global, view: &View) -> Result<bool, AllocError>
-    ensures { IfOk result (λ b. b ≡ has_no_orders view.now) }
-{
-    let orders = orders(alloc, view.revision.get(), view.items.as_slice())?;
-    Ok(orders.is_empty())
 }
 
 /// Marks of reports, which are put back where a report fails.
@@ -210,8 +202,7 @@ impl<J: Journal> Node<J> {
     fn has_no_orders(&self) -> Result<bool, AllocError>
         ensures { IfOk result (λ b. b ≡ has_no_orders (view self.now.world.now)) }
     {
-        let view = self.machine.repository().view()?;
-        has_no_orders(self.alloc, &view)
+        self.machine.has_no_orders()
     }
 
     #[tactic(auto, unfolding(crate::specs::Marks::progress_of), using(crate::proofs::Found::all_known))]

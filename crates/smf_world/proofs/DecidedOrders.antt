@@ -34,7 +34,8 @@ use Rattle.smf_dep.specs.Places.{finding_of}
 use Rattle.smf_wire.specs.declared.order.Order.{Order}
 use Rattle.smf_wire.specs.declared.order.What.{What}
 use Rattle.smf_wire.specs.declared.order.What.TheVariants as whats
-use Rattle.smf_engine.specs.Orders.{MethodRead, asked, asked_or, asks, decided, decision, disabling, enabling, first_state, has_fault, is_about, judged, method_in, order, order_in, order_to, order_under, orders, orders_seen, starting, stop_or_move, unasked, what_by, what_of}
+use Rattle.smf_dep.specs.Methods.{MethodRead}
+use Rattle.smf_engine.specs.Orders.{asked, asked_or, asks, decided, decision, disabling, enabling, first_state, has_fault, is_about, judged, method_in, order, order_in, order_to, order_under, orders, orders_seen, starting, stop_or_move, unasked, what_by, what_of}
 use Rattle.smf_engine.proofs.Shape.{order_shape}
 use Rattle.smf_world.proofs.CommitLists.{AreFound, found_all, has_other, number_is, same}
 use Rattle.smf_world.proofs.DecidedClauses.{IsOrderIn, IsReadyAt, IsViewIn, ViewSeen}

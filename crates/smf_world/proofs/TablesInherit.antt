@@ -1,6 +1,6 @@
 -- Each contract of a world that was reached waits to be adopted where its holder is gone, since no restarter asks for
 -- another.
-use Rattle.std.proofs.Common.{◌≡◌, ◌&&◌, nat_lt, ℕ, zero, suc, Bool, true, false, if◌then◌else◌, List, [], ◌∷◌, ◌++◌, map, position, slice_set, Option, Some, None, Result, Ok, Err, refl, subst}
+use Rattle.std.proofs.Common.{◌≡◌, ◌&&◌, nat_lt, ℕ, zero, suc, Bool, true, false, if◌then◌else◌, List, [], ◌∷◌, map, position, slice_set, Option, Some, None, Result, Ok, Err, refl, subst}
 use Rattle.std.specs.List.{slice_get}
 use Rattle.std.specs.Option.{option_map_or}
 use Rattle.smf_contract.specs.declared.call.ContractCall.{ContractCall}
@@ -26,7 +26,6 @@ use Rattle.smf_model.specs.declared.command.Reply.TheVariants as replies
 use Rattle.smf_wire.specs.declared.message.Known.{Known}
 use Rattle.smf_wire.specs.declared.message.Message.{Message}
 use Rattle.smf_wire.specs.declared.message.Message.TheVariants as messages
-use Rattle.smf_model.specs.Look.{launch_of}
 use Rattle.smf_restarter.specs.declared.known.After.{After}
 use Rattle.smf_restarter.specs.declared.known.Drain.{Drain}
 use Rattle.smf_restarter.specs.declared.known.Drain.TheVariants as drains

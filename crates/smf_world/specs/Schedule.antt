@@ -6,12 +6,10 @@ use Rattle.smf_fmri.specs.ByKey.{By, by_text, put_all}
 use Rattle.smf_contract.specs.declared.event.Event.{Event as ContractEvent}
 use Rattle.smf_contract.specs.Entries.{contract}
 use Rattle.smf_contract.specs.declared.contract.Contract.{Contract}
-use Rattle.smf_state.specs.declared.view.View.{View}
 use Rattle.smf_state.specs.OwnName.{startd}
 use Rattle.smf_model.specs.Shown.{all_read, view}
-use Rattle.smf_engine.specs.Orders.{orders}
+use Rattle.smf_engine.specs.Orders.{has_no_orders}
 use Rattle.smf_wire.specs.declared.message.Message.{Message}
-use Rattle.smf_wire.specs.declared.order.Order.{Order}
 use Rattle.smf_restarter.specs.declared.reply.Call.{Call}
 use Rattle.smf_restarter.specs.declared.reply.Call.TheVariants as asks
 use Rattle.smf_restarter.specs.Knowledge.{Knowledge}
@@ -206,13 +204,6 @@ unfoldable pub round : Progress → Progress
 round p = restarter_turns (all_turned first_turns p)
 
 -- ---- until it is quiet
-
-abbrev pub is_none_left : List Order → Bool
-is_none_left [] = true
-is_none_left (o ∷ os) = false
-
-abbrev pub has_no_orders : View → Bool
-has_no_orders v = is_none_left (orders v.revision v.items)
 
 -- nothing is ordered of what is held, and no restarter awaits or owes anything
 unfoldable pub is_quiet : World → Bool

@@ -1,4 +1,4 @@
-use Rattle.std.proofs.Common.{◌≡◌, ◌≤◌, ◌∙◌, length, sym, ap, arith}
+use Rattle.std.proofs.Common.{◌≤◌, ◌∙◌, length, sym, ap, arith}
 use Rattle.smf_dep.specs.Places.{round}
 use Rattle.smf_dep.proofs.Round.{rounds_end, rounds_first, rounds_next}
 use Rattle.smf_dep.proofs.parking.parked.Goals as goal

@@ -1,4 +1,4 @@
-use Rattle.std.proofs.Common.{◌≡◌, ◌≤◌, length}
+use Rattle.std.proofs.Common.{◌≡◌}
 use Rattle.smf_dep.specs.Places.{rounds}
 use Rattle.smf_dep.proofs.parking.parked.Given as goal
 

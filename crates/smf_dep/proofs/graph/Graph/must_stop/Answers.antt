@@ -1,4 +1,4 @@
-use Rattle.std.proofs.Common.{◌≡◌, ◌∙◌, ap}
+use Rattle.std.proofs.Common.{◌∙◌, ap}
 use Rattle.smf_dep.specs.Places.{link_of, link_stops}
 use Rattle.smf_dep.specs.Verdicts.{must_stop}
 use Rattle.smf_dep.proofs.Flagged.{link_stops_is}

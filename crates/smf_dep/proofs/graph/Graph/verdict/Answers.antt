@@ -1,4 +1,4 @@
-use Rattle.std.proofs.Common.{◌≡◌, ◌∙◌, Bool, sym, ap}
+use Rattle.std.proofs.Common.{◌∙◌, ap}
 use Rattle.smf_dep.specs.Places.{is_link_blocked, is_link_met, link_of}
 use Rattle.smf_dep.specs.Verdicts.{verdict, verdict_by}
 use Rattle.smf_dep.proofs.Flagged.{verdict_is}
