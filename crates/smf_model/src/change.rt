@@ -1,7 +1,7 @@
 ghost use Rattle.std.specs.Prelude.{◌≡◌};
 
 use crate::command::Reply;
-use crate::held::{Instance, InstanceEntry, InstanceName, Launch, Owner, Service, Snapshot};
+use crate::held::{Instance, InstanceEntry, InstanceName, Launch, Owner, Service, StoredSnapshot};
 use smf_fmri::{InstanceFmri, Items, Number, Ordered, ServiceFmri};
 use smf_value::Group;
 
@@ -20,7 +20,7 @@ pub enum Change {
     DropName(InstanceFmri),
     /// In place of all groups of an owner.
     PutGroups(Owner, Ordered<Group>),
-    AddSnapshot(Snapshot),
+    AddSnapshot(StoredSnapshot),
     /// All snapshots of an instance.
     DropSnapshots(Number),
     /// In place of the launch of this restarter.

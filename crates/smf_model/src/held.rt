@@ -1,10 +1,14 @@
 ghost use Rattle.smf_fmri.specs.ByKey.{by_number, by_text};
+ghost use Rattle.smf_snap.specs.Body.{spelled_both};
+ghost use Rattle.smf_value.specs.Body.{AreGroups};
 ghost use Rattle.std.specs.Prelude.{◌≡◌, IfOk, refl};
 
-use smf_fmri::{ExactClone, HasPart, InstanceFmri, Keyed, Number, Ordered, ServiceFmri};
+use smf_fmri::{Bytes, ExactClone, HasPart, InstanceFmri, Keyed, Number, Ordered, ServiceFmri};
+use smf_snap::encode_both;
 use smf_state::Row;
 use smf_value::Group;
-use std::alloc::AllocError;
+use std::alloc::{AllocError, Global};
+use std::marker::Model;
 
 /// What groups belong to.
 #[derive(Drop)]
@@ -58,6 +62,13 @@ pub struct Snapshot {
     pub instance_groups: Ordered<Group>,
 }
 
+/// A snapshot with its bytes, which are written once. Contracts see the snapshot.
+#[derive(Drop)]
+pub struct StoredSnapshot {
+    snapshot: Snapshot,
+    body: Bytes,
+}
+
 /// How often a restarter was launched.
 #[derive(Drop)]
 pub struct Launch {
@@ -71,6 +82,46 @@ pub enum EntryPart {
     /// The instance, which keeps its number.
     Instance(Instance),
     Groups(Ordered<Group>),
+}
+
+impl Model for StoredSnapshot {
+    ghost use Rattle.smf_model.specs.declared.held.Snapshot.{Snapshot};
+    ghost use Rattle.smf_snap.specs.Body.{spelled_both};
+    ghost use Rattle.smf_value.specs.Body.{AreGroups};
+    ghost use Rattle.std.specs.Prelude.{◌≡◌};
+
+    ghost Value = { Snapshot };
+
+    ghost view = { λ s. s.snapshot };
+
+    ghost invariant = { λ s.
+        (s.body ≡ spelled_both s.snapshot.service_groups s.snapshot.instance_groups)
+        × AreGroups s.snapshot.service_groups
+        × AreGroups s.snapshot.instance_groups };
+}
+
+impl StoredSnapshot {
+    /// A snapshot, and the bytes that are written of it.
+    pub fn new(alloc: Global, snapshot: Snapshot) -> Result<StoredSnapshot, AllocError>
+        ensures { IfOk result (λ s. s ≡ snapshot) }
+    {
+        let body = encode_both(alloc, &snapshot.service_groups, &snapshot.instance_groups)?;
+        Ok(StoredSnapshot { snapshot, body })
+    }
+
+    pub fn snapshot(&self) -> &Snapshot
+        ensures { result.now ≡ self.now }
+    {
+        &self.snapshot
+    }
+
+    /// The bytes of the snapshot.
+    pub fn body(&self) -> &Bytes
+        ensures spelled { result.now ≡ spelled_both self.now.service_groups self.now.instance_groups }
+        ensures formed { AreGroups self.now.service_groups × AreGroups self.now.instance_groups }
+    {
+        &self.body
+    }
 }
 
 impl Keyed for Service {
@@ -142,13 +193,13 @@ impl Keyed for InstanceName {
     ghost same = { refl };
 }
 
-impl Keyed for Snapshot {
+impl Keyed for StoredSnapshot {
     type Key = u64;
 
     ghost by = { by_number (λ s. s.number) };
 
     fn key(&self) -> &u64 {
-        self.number.as_u64()
+        self.snapshot.number.as_u64()
     }
 
     ghost same = { refl };
@@ -264,7 +315,17 @@ impl Clone for Snapshot {
     }
 }
 
-impl ExactClone for Snapshot {
+impl Clone for StoredSnapshot {
+    ghost is_clone = { λ s copy. copy ≡ s };
+
+    fn clone(&self) -> Result<StoredSnapshot, AllocError> {
+        let snapshot = self.snapshot.clone()?;
+        let body = self.body.clone()?;
+        Ok(StoredSnapshot { snapshot, body })
+    }
+}
+
+impl ExactClone for StoredSnapshot {
     ghost exact = { λ s copy same. same };
 }
 

@@ -30,6 +30,7 @@ pub use change::{Change, Outcome};
 pub use command::{Command, Edit, Mark, PropertyChange, Reply};
 pub use held::{
     EntryPart, Instance, InstanceEntry, InstanceName, Launch, Owner, Service, Snapshot,
+    StoredSnapshot,
 };
 pub use journal::{Journal, NoJournal, RepoFault};
 pub use law::{

@@ -229,7 +229,10 @@ impl<J: Journal> Plain<J> {
     pub fn snapshot(&self, number: u64) -> Option<&Snapshot>
         ensures { option_copied result ≡ snapshot self.now.held number }
     {
-        self.tables.snapshot(number)
+        match self.tables.snapshot(number) {
+            None => None,
+            Some(stored) => Some(stored.snapshot()),
+        }
     }
 
     /// The names of the snapshots that an instance has, in byte order; none where there is no such instance.

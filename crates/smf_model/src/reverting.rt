@@ -9,7 +9,7 @@ ghost use Rattle.smf_snap.specs.Taking.{restored};
 use crate::change::Change;
 use crate::command::Reply;
 use crate::grouping::MAX_GROUPS;
-use crate::held::{Instance, Owner, Snapshot};
+use crate::held::{Instance, Owner, StoredSnapshot};
 use crate::planner::{Asked, Planner, with_change};
 use crate::setting::service_owner;
 use smf_fmri::{Items, Number, Ordered};
@@ -38,7 +38,7 @@ pub(crate) fn number_of(instance: &Instance, name: SnapshotName) -> Option<u64>
 }
 
 impl Planner<'_> {
-    pub(crate) fn named_snapshot(&self, number: Option<u64>) -> Option<&Snapshot>
+    pub(crate) fn named_snapshot(&self, number: Option<u64>) -> Option<&StoredSnapshot>
         ensures { option_copied result ≡ named_snapshot self.now number }
     {
         match number {
@@ -124,12 +124,13 @@ impl Planner<'_> {
         self.restored(&Owner::Instance(instance.number), groups)
     }
 
-    fn reverted(&self, instance: &Instance, to: Option<&Snapshot>) -> Asked
+    fn reverted(&self, instance: &Instance, to: Option<&StoredSnapshot>) -> Asked
         ensures { IfOk result (λ r. r ≡ reverted self.now instance.now (option_copied to.entry)) }
     {
-        let Some(snapshot) = to else {
+        let Some(stored) = to else {
             return self.refused(Reply::NoSuch);
         };
+        let snapshot = stored.snapshot();
         let service_groups = self.restored_of_service(instance, &snapshot.service_groups)?;
         let instance_groups = self.restored_of_instance(instance, &snapshot.instance_groups)?;
         self.revert_to(instance, service_groups, instance_groups)

@@ -10,7 +10,7 @@ ghost use Rattle.smf_snap.specs.Taking.{taken};
 use crate::asking::MAX_COUNT;
 use crate::change::Change;
 use crate::command::Reply;
-use crate::held::{Instance, Owner, Snapshot};
+use crate::held::{Instance, Owner, Snapshot, StoredSnapshot};
 use crate::planner::{Asked, Planner, let_go, with_change};
 use crate::setting::{Setting, owner_by, service_owner};
 use bitflags::Flags;
@@ -115,18 +115,20 @@ impl Planner<'_> {
         self.taken(&service)
     }
 
-    /// What a snapshot of an instance holds now.
-    fn snapshot_of(&self, instance: &Instance) -> Result<Snapshot, AllocError>
+    /// What a snapshot of an instance holds now, with its bytes.
+    fn snapshot_of(&self, instance: &Instance) -> Result<StoredSnapshot, AllocError>
         ensures { IfOk result (λ s. s ≡ snapshot_of self.now instance.now) }
     {
         let service_groups = self.taken_of_service(instance)?;
         let instance_groups = self.taken(&Owner::Instance(instance.number))?;
-        Ok(Snapshot {
+        let snapshot = Snapshot {
             number: self.tables.next_snapshot(),
             instance: instance.number,
             service_groups,
             instance_groups,
-        })
+        };
+        let stored = StoredSnapshot::new(self.alloc, snapshot)?;
+        Ok(stored)
     }
 
     /// A snapshot of an instance is taken, where a number is left for it.

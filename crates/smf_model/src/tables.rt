@@ -7,7 +7,7 @@ ghost use Rattle.smf_model.specs.Tables.{HasRoom, held_in};
 
 use crate::change::Change;
 use crate::held::{
-    EntryPart, Instance, InstanceEntry, InstanceName, Launch, Owner, Service, Snapshot,
+    EntryPart, Instance, InstanceEntry, InstanceName, Launch, Owner, Service, StoredSnapshot,
 };
 use smf_fmri::{InstanceFmri, Items, Number, Ordered, ServiceFmri, Table};
 use smf_value::Group;
@@ -26,7 +26,7 @@ pub(crate) struct Lists {
     pub(crate) services: Table<Service>,
     pub(crate) instances: Table<InstanceEntry>,
     pub(crate) names: Table<InstanceName>,
-    pub(crate) snapshots: Table<Snapshot>,
+    pub(crate) snapshots: Table<StoredSnapshot>,
     pub(crate) launches: Table<Launch>,
     pub(crate) next_instance: Number,
     pub(crate) next_snapshot: Number,
@@ -84,8 +84,8 @@ impl Tables {
         &self.lists.names
     }
 
-    /// The snapshots, by number.
-    pub fn snapshots(&self) -> &[Snapshot]
+    /// The snapshots with their bytes, by number.
+    pub fn snapshots(&self) -> &[StoredSnapshot]
         ensures { result.now ≡ self.now.snapshots }
     {
         self.lists.snapshots.as_slice()
@@ -153,7 +153,7 @@ impl Tables {
         }
     }
 
-    pub fn snapshot(&self, number: u64) -> Option<&Snapshot>
+    pub fn snapshot(&self, number: u64) -> Option<&StoredSnapshot>
         ensures { option_copied result ≡ snapshot self.now number }
     {
         self.lists.snapshots.get(&number)
@@ -192,20 +192,21 @@ impl Tables {
     }
 }
 
-fn drop_snapshots(snapshots: &mut Table<Snapshot>, instance: Number)
+fn drop_snapshots(snapshots: &mut Table<StoredSnapshot>, instance: Number)
     ensures dropped { snapshots.new.items ≡ others_of instance snapshots.old.items }
     ensures room { snapshots.old.room ≤ snapshots.new.room }
 {
-    snapshots.retain(|s| s.instance != instance);
+    snapshots.retain(|s| s.snapshot().instance != instance);
 }
 
 /// Puts a snapshot in its place, where none has its number.
-fn add_snapshot(snapshots: &mut Table<Snapshot>, snapshot: Snapshot)
+fn add_snapshot(snapshots: &mut Table<StoredSnapshot>, snapshot: StoredSnapshot)
     requires { 0 < snapshots.old.room }
     ensures put { snapshots.new.items ≡ put_new by_snapshot snapshot snapshots.old.items }
     ensures room { snapshots.old.room ≤ snapshots.new.room + 1 }
 {
-    if snapshots.get(snapshot.number.as_u64()).is_none() {
+    let number = snapshot.snapshot().number;
+    if snapshots.get(number.as_u64()).is_none() {
         snapshots.put(snapshot);
     }
 }

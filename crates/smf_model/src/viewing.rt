@@ -9,7 +9,7 @@ use crate::planner::Planner;
 use crate::reverting::number_of;
 use crate::setting::{enabled_property, is_readable, is_true, row_by, service_owner, setting_by};
 use smf_fmri::{Bytes, Items};
-use smf_snap::{SnapshotName, encode_both, names};
+use smf_snap::{SnapshotName, names};
 use smf_state::{View, ViewItem};
 use std::alloc::{AllocError, Global};
 
@@ -58,8 +58,7 @@ impl Planner<'_> {
         match self.named_snapshot(number) {
             None => Ok(None),
             Some(snapshot) => {
-                let service = &snapshot.service_groups;
-                let body = encode_both(self.alloc, service, &snapshot.instance_groups)?;
+                let body = snapshot.body().clone()?;
                 Ok(Some(body))
             }
         }

@@ -22,7 +22,8 @@ ghost use Rattle.smf_store.specs.Gathered.{AddsGroupOf, AddsInstanceRow, AddsLau
 use crate::cells::{bytes_at, count_at, number_at, optional_at, text_at};
 use smf_fmri::{Fmri, FmriFault, InstanceFmri, Items, Number, Ordered, ServiceFmri};
 use smf_model::{
-    Change, Instance, InstanceEntry, InstanceName, Launch, Owner, Service, Snapshot, Tables,
+    Change, Instance, InstanceEntry, InstanceName, Launch, Owner, Service, Snapshot,
+    StoredSnapshot, Tables,
 };
 use smf_snap::decode_snapshot;
 use smf_state::{MAX_NUMBER, MAX_RUN, Row as StateRow, RowFault};
@@ -417,7 +418,8 @@ fn add_snapshot(alloc: Global, row: &Row, tables: &mut Tables) -> Result<bool, A
     if tables.snapshot(number).is_some() || tables.instance(instance).is_none() {
         return Ok(false);
     }
-    make_one(alloc, tables, Change::AddSnapshot(snapshot))?;
+    let stored = StoredSnapshot::new(alloc, snapshot)?;
+    make_one(alloc, tables, Change::AddSnapshot(stored))?;
     Ok(true)
 }
 

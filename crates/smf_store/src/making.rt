@@ -7,7 +7,9 @@ use crate::fault::WriteFault;
 use crate::fields::{are_same, integer_of, key_of, split};
 use crate::rows::{insert_groups, insert_instance, insert_snapshot};
 use smf_fmri::{InstanceFmri, Number, Ordered, ServiceFmri};
-use smf_model::{Change, Instance, InstanceEntry, InstanceName, Launch, Owner, Service, Snapshot};
+use smf_model::{
+    Change, Instance, InstanceEntry, InstanceName, Launch, Owner, Service, StoredSnapshot,
+};
 use smf_tables::{
     add_launch, add_meta, add_service, drop_groups, drop_instance, drop_launch, drop_meta,
     drop_service, drop_service_groups, drop_snapshots, has_service, name_of,
@@ -163,9 +165,8 @@ fn put_instance_groups<S: Alter>(
 
 /// Puts in a snapshot, whose number no other has.
 fn put_snapshot<S: Alter>(
-    alloc: Global,
     tx: &mut Transaction<'_, S>,
-    snapshot: &Snapshot,
+    snapshot: &StoredSnapshot,
 ) -> Result<(), WriteFault>
     requires { IsInside S.Store tx.old.conn.now }
     ensures same_reference { tx.new.conn.ghost_name ≡ tx.old.conn.ghost_name }
@@ -173,7 +174,7 @@ fn put_snapshot<S: Alter>(
     ensures err { CommitsNone S.Store tx.old.conn.now tx.new.conn.now result }
     ensures crash { LeavesAsBefore S.Store tx.old.conn.now tx.new.conn.now }
 {
-    insert_snapshot(alloc, tx, snapshot)?;
+    insert_snapshot(tx, snapshot)?;
     Ok(())
 }
 
@@ -313,7 +314,7 @@ pub(crate) fn write_change<S: Alter>(
         Change::PutName(name) => put_name(tx, name),
         Change::DropName(name) => take_name(tx, name),
         Change::PutGroups(owner, groups) => put_groups(alloc, tx, owner, groups),
-        Change::AddSnapshot(snapshot) => put_snapshot(alloc, tx, snapshot),
+        Change::AddSnapshot(snapshot) => put_snapshot(tx, snapshot),
         Change::DropSnapshots(number) => take_snapshots(tx, *number),
         Change::PutLaunch(launch) => put_launch(tx, launch),
         Change::NextInstance(number) => set_next_instance(tx, *number),

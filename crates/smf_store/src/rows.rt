@@ -8,8 +8,7 @@ ghost use Rattle.smf_store.specs.Steps.{AddsRow, GrowsBy};
 use crate::fault::WriteFault;
 use crate::fields::{body_of, integer_of, key_of, optional_of, split};
 use smf_fmri::Number;
-use smf_model::{Instance, Snapshot};
-use smf_snap::encode_both;
+use smf_model::{Instance, StoredSnapshot};
 use smf_tables::{InstanceRow, add_group, add_instance, add_snapshot};
 use smf_value::Group;
 use sqlite::{Alter, Transaction};
@@ -46,9 +45,8 @@ pub(crate) fn insert_instance<S: Alter>(
 
 /// Puts in the row of a snapshot.
 pub(crate) fn insert_snapshot<S: Alter>(
-    alloc: Global,
     tx: &mut Transaction<'_, S>,
-    s: &Snapshot,
+    s: &StoredSnapshot,
 ) -> Result<(), WriteFault>
     requires { IsInside S.Store tx.old.conn.now }
     ensures same_reference { tx.new.conn.ghost_name ≡ tx.old.conn.ghost_name }
@@ -56,10 +54,10 @@ pub(crate) fn insert_snapshot<S: Alter>(
     ensures err { CommitsNone S.Store tx.old.conn.now tx.new.conn.now result }
     ensures crash { LeavesAsBefore S.Store tx.old.conn.now tx.new.conn.now }
 {
-    let id = integer_of(s.number);
-    let instance = integer_of(s.instance);
-    let body = encode_both(alloc, &s.service_groups, &s.instance_groups)?;
-    add_snapshot(tx, id, instance, body.as_slice())?;
+    let snapshot = s.snapshot();
+    let id = integer_of(snapshot.number);
+    let instance = integer_of(snapshot.instance);
+    add_snapshot(tx, id, instance, s.body().as_slice())?;
     Ok(())
 }
 

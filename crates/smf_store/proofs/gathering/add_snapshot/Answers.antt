@@ -1,5 +1,7 @@
-use Rattle.std.proofs.Common.{◌≡◌, ◌<◌, None, sym, subst, rules}
-use Rattle.smf_model.specs.Look.{snapshot}
+use Rattle.std.proofs.Common.{◌≡◌, ◌<◌, ◌∙◌, None, ap, sym, subst, rules}
+use Rattle.smf_model.specs.declared.change.Change.TheVariants.{AddSnapshot}
+use Rattle.smf_model.specs.declared.held.Snapshot.{Snapshot}
+use Rattle.smf_model.specs.Look.{changed, snapshot}
 use Rattle.smf_store.specs.Gathered.{AddsSnapshotRow}
 use Rattle.smf_store.specs.Shown.{ShowsSnapshot}
 use Rattle.smf_store.proofs.Gathers.{reads_snapshot}
@@ -12,4 +14,5 @@ returns-clause-added c =
     let none : snapshot k s.number ≡ None = search rules in
     let below : s.number < k.next_snapshot = search rules in
     let shows : ShowsSnapshot s c.args.row.now = search rules in
-    λ taken. subst (AddsSnapshotRow c.args.row.now k) (sym c.in_ok-make_one.ensures) (reads_snapshot k s below none c.args.row.now shows)
+    let put = c.in_ok-make_one.ensures ∙ ap (λ (t : Snapshot). changed k (AddSnapshot t)) c.in_ok-stored.ensures in
+    λ taken. subst (AddsSnapshotRow c.args.row.now k) (sym put) (reads_snapshot k s below none c.args.row.now shows)
