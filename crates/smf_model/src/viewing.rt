@@ -1,10 +1,10 @@
 ghost use Rattle.std.specs.Prelude.{◌≡◌, map, option_map, IfOk};
-ghost use Rattle.smf_model.specs.Look.{bare};
+ghost use Rattle.smf_model.specs.Look.{groups_of, instances};
 ghost use Rattle.smf_model.specs.Next.{named_snapshot};
 ghost use Rattle.smf_model.specs.Shown.{body_of, row_item, rows, snapshot_names};
 ghost use Rattle.smf_model.specs.Shown.{snapshot_number, snapshots_of, view, view_item};
 
-use crate::held::{Instance, InstanceEntry};
+use crate::held::{Instance, InstanceEntry, Owner};
 use crate::planner::Planner;
 use crate::reverting::number_of;
 use crate::setting::{enabled_property, is_readable, is_true, row_by, service_owner, setting_by};
@@ -66,12 +66,14 @@ impl Planner<'_> {
 
     /// An instance as it is read, without the bytes of a snapshot. The groups `general` are looked for once.
     #[tactic(auto, unfolding(crate::specs::Setting::enabled, crate::specs::Setting::setting, crate::specs::Setting::current))]
-    fn row_item(&self, instance: &Instance) -> Result<ViewItem, AllocError>
-        ensures { IfOk result (λ item. item ≡ row_item self.now instance.now) }
+    fn row_item(&self, entry: &InstanceEntry) -> Result<ViewItem, AllocError>
+        requires { entry.now.groups ≡ groups_of self.now (Owner.Instance entry.now.instance.number) }
+        ensures { IfOk result (λ item. item ≡ row_item self.now entry.now.instance) }
     {
+        let instance = &entry.instance;
         let service = service_owner(self.alloc, &instance.name)?;
-        let ovr = self.own_group(instance.number, "general_ovr");
-        let own = self.own_group(instance.number, "general");
+        let ovr = entry.groups.get_text("general_ovr");
+        let own = entry.groups.get_text("general");
         let services_own = self.group_of(&service, "general");
         let is_enabled = is_true(enabled_property(ovr, own, services_own));
         let setting = setting_by(self.alloc, own, services_own)?;
@@ -88,12 +90,13 @@ impl Planner<'_> {
         })
     }
 
-    fn row_items(&self, entries: &[InstanceEntry]) -> Result<Vec<ViewItem>, AllocError>
-        ensures { IfOk result (λ all. all.items ≡ map (row_item self.now) (bare entries.now)) }
+    fn row_items(&self) -> Result<Vec<ViewItem>, AllocError>
+        ensures { IfOk result (λ all. all.items ≡ map (row_item self.now) (instances self.now)) }
     {
+        let entries = self.tables.entries();
         let mut all = Vec::new(self.alloc);
         for entry in entries {
-            all.push(self.row_item(&entry.instance)?)?;
+            all.push(self.row_item(entry)?)?;
         }
         Ok(all)
     }
@@ -103,24 +106,27 @@ impl Planner<'_> {
     pub(crate) fn rows(&self) -> Result<Items<ViewItem>, AllocError>
         ensures { IfOk result (λ all. all ≡ rows self.now) }
     {
-        let items = self.row_items(self.tables.entries())?;
+        let items = self.row_items()?;
         Ok(Items::from_vec(items))
     }
 
-    fn view_item(&self, instance: &Instance) -> Result<ViewItem, AllocError>
-        ensures { IfOk result (λ item. item ≡ view_item self.now instance.now) }
+    fn view_item(&self, entry: &InstanceEntry) -> Result<ViewItem, AllocError>
+        requires { entry.now.groups ≡ groups_of self.now (Owner.Instance entry.now.instance.number) }
+        ensures { IfOk result (λ item. item ≡ view_item self.now entry.now.instance) }
     {
-        let mut item = self.row_item(instance)?;
+        let instance = &entry.instance;
+        let mut item = self.row_item(entry)?;
         item.body = self.body_at(instance.row.running)?;
         Ok(item)
     }
 
-    fn view_items(&self, entries: &[InstanceEntry]) -> Result<Vec<ViewItem>, AllocError>
-        ensures { IfOk result (λ all. all.items ≡ map (view_item self.now) (bare entries.now)) }
+    fn view_items(&self) -> Result<Vec<ViewItem>, AllocError>
+        ensures { IfOk result (λ all. all.items ≡ map (view_item self.now) (instances self.now)) }
     {
+        let entries = self.tables.entries();
         let mut all = Vec::new(self.alloc);
         for entry in entries {
-            all.push(self.view_item(&entry.instance)?)?;
+            all.push(self.view_item(entry)?)?;
         }
         Ok(all)
     }
@@ -130,7 +136,7 @@ impl Planner<'_> {
     pub(crate) fn view(&self) -> Result<View, AllocError>
         ensures { IfOk result (λ v. v ≡ view self.now) }
     {
-        let items = self.view_items(self.tables.entries())?;
+        let items = self.view_items()?;
         Ok(View {
             revision: self.tables.revision(),
             items: Items::from_vec(items),

@@ -1,0 +1,5 @@
+use Rattle.smf_model.proofs.Members.{groups_there}
+use Rattle.smf_model.proofs.planner.Planner.row_items.Goals as goal
+
+pub row_item-requires : goal.row_item-requires
+row_item-requires c = groups_there c.self.inside.tables.now c.args.self.now c.entries-entries.result.now c.loop-entry.entry-index c.entry-item.result c.self.view_is c.entries-entries.ensures.all c.entries-entries.ensures.rises c.loop-entry-test.true c.entry-item.is
