@@ -1,5 +1,5 @@
 -- What is read of the six tables stands in them.
-use Rattle.std.proofs.Common.{◌≡◌, ◌⊎◌, inl, inr, ℕ, pos, codes, Some, None, true, false, List, [], ◌∷◌, Result, Ok, Err, IsTrue, refl, sym, ap, subst, ◌∙◌}
+use Rattle.std.proofs.Common.{◌≡◌, ◌⊎◌, inl, inr, ℕ, pos, codes, Some, None, false, List, [], ◌∷◌, Result, Ok, Err, IsTrue, refl, sym, ap, subst, ◌∙◌}
 use Rattle.std.specs.Prelude.{IfErr}
 use Rattle.std.specs.Result.{IsErrAnd}
 use Rattle.sqlite.specs.Order.{Row}
@@ -7,7 +7,6 @@ use Rattle.sqlite.specs.Tree.{Trees}
 use Rattle.sqlite.specs.Effect.{Database, IsDatabase}
 use Rattle.sqlite.specs.State.{State, Shows, IsLive, Survives}
 use Rattle.sqlite.proofs.StateLemmas.{survives_weaker}
-use Rattle.sqlite_rules.specs.Lists.{Has}
 use Rattle.sqlite.specs.Schema.{Schema}
 use Rattle.smf_tables.specs.Layout.{Begins, Rest}
 use Rattle.smf_tables.specs.Reading.{AreShown, Looks, LooksAtMeta, LooksAtServices, LooksAtInstances, LooksAtGroups, LooksAtSnapshots, LooksAtLaunches, shown}
@@ -30,7 +29,7 @@ use Rattle.smf_store.specs.declared.refusal.OpenFault.{OpenFault}
 use Rattle.smf_store.specs.declared.refusal.OpenFault.TheVariants.{Memory, Database as Failed, Version as OtherVersion, Damaged, TooManyInstances}
 use Rattle.smf_store.specs.Judged.{IsJudged, judged}
 use Rattle.smf_store.specs.Shown.{Counter, Version, Layout, Revision, NextInstance, NextSnapshot, Count, count_of, counter_text, first_count_of, HasCount, HasCountIn, ShowsCount, ShowsInstance, OwnedGroup, ShowsGroup, ShowsSnapshot, ShowsLaunch}
-use Rattle.smf_store.specs.Stages.{AreAllKeyed, AreListed, IsFailure, IsRaised, IsRefused, IsSaid, Lists, MayRead, Opened, Raises, RaisesFrom, Reads, Says, raised, stayed}
+use Rattle.smf_store.specs.Stages.{AreAllKeyed, AreListed, IsFailure, IsRaised, IsSaid, Lists, MayRead, Opened, Raises, RaisesFrom, Reads, Says, raised, stayed}
 use Rattle.smf_store.proofs.Makes.{shows_then}
 use Rattle.smf_store.proofs.Six.{Six, Presents, holds, six_of}
 use Rattle.smf_store.proofs.Statements as step
@@ -136,9 +135,9 @@ looks_on {begun} {tree} {places} {rows} a b c has is sound l =
 same_on : {begun : Rest → Schema} {tree : ℕ} {places : List ℕ} {rows : List Row} (a b c : State) → b.now ≡ a.now → Looks begun tree places b c rows → Begins begun a.now.schema → c.now ≡ a.now
 same_on {begun} a b c is l has = l.same (subst (λ (d : Database). Begins begun d.schema) (sym is) has) ∙ is
 
-pub lists_all : (a b c d e f g : State) (rows : StoreRows) → rows.knows_snapshots ≡ true → AreAllKeyed rows → LooksAtMeta a b rows.counts.items → LooksAtServices b c rows.services.items
+pub lists_all : (a b c d e f g : State) (rows : StoreRows) → AreAllKeyed rows → LooksAtMeta a b rows.counts.items → LooksAtServices b c rows.services.items
     → LooksAtInstances c d rows.instances.items → LooksAtGroups d e rows.groups.items → LooksAtSnapshots e f rows.snapshots.items → LooksAtLaunches f g rows.launches.items → Lists a g rows
-lists_all a b c d e f g rows known keyed one two three four five six =
+lists_all a b c d e f g rows keyed one two three four five six =
     let o = of_store a.now.schema in
     let sb : a.now.schema ≡ store_schema → b.now ≡ a.now = λ has. one.same (o has).one in
     let sc : a.now.schema ≡ store_schema → c.now ≡ a.now = λ has. same_on a b c (sb has) two (o has).two in
@@ -149,7 +148,6 @@ lists_all a b c d e f g rows known keyed one two three four five six =
       shows = shows_then a f g (shows_then a e f (shows_then a d e (shows_then a c d (shows_then a b c one.shows two.shows) three.shows) four.shows) five.shows) six.shows;
       same = λ has. same_on a f g (sf has) six (o has).six;
       listed = λ has sound. record {
-        known = known;
         counts = record { shown = one.seen (o has).one sound; keyed = keyed.counts };
         services = record { shown = looks_on a b c (o has).two (sb has) sound two; keyed = keyed.services };
         instances = record { shown = looks_on a c d (o has).three (sc has) sound three; keyed = keyed.instances };

@@ -3,14 +3,14 @@ use Rattle.std.proofs.Common.{◌≡◌, Option, Some, None, Result, Ok, Err, re
 use Rattle.smf_model.specs.Holdings.{Holdings}
 use Rattle.smf_store.specs.declared.counting.Counters.{Counters}
 use Rattle.smf_store.specs.declared.counting.StoreVersion.{StoreVersion}
-use Rattle.smf_store.specs.declared.judging.Judgement.{Judgement}
 use Rattle.smf_store.specs.declared.judging.StoreRows.{StoreRows}
 use Rattle.smf_store.specs.declared.refusal.OpenFault.{OpenFault}
 use Rattle.smf_store.specs.declared.refusal.OpenFault.TheVariants.{Memory, Database, Version, Damaged, TooManyInstances}
 use Rattle.smf_store.specs.declared.refusal.StoreTable.{StoreTable}
 use Rattle.smf_store.specs.declared.refusal.StoreTable.TheVariants as tables
 use Rattle.smf_store.specs.Begun.{begun}
-use Rattle.smf_store.specs.Judged.{IsBroken, IsJudged, IsRead, broken_by, first_broken, add_all, add_group, add_instance, add_launch, add_service, add_snapshot, counters_said, fitting, instances_seen, judged, tables_said, version_said}
+use Rattle.smf_store.specs.FirstOther.{told_for}
+use Rattle.smf_store.specs.Judged.{IsBroken, IsJudged, IsRead, broken_by, first_broken, add_all, add_group, add_launch, add_service, add_snapshot, counters_said, fitting, instances_said, judged, tables_said, version_said}
 
 module _ (rows : StoreRows) (h : Holdings) where
   pub no_services : add_all add_service h rows.services.items ≡ None → tables_said rows h ≡ Err (Damaged tables.Service)
@@ -18,11 +18,11 @@ module _ (rows : StoreRows) (h : Holdings) where
   no_services a = rw (a) refl
 
   module _ (h1 : Holdings) (a : add_all add_service h rows.services.items ≡ Some h1) where
-    pub no_instances : instances_seen rows.knows_snapshots rows.instances.items rows.snapshots.items h1 ≡ None → tables_said rows h ≡ Err (Damaged tables.Instance)
+    pub no_instances : instances_said rows.instances.items rows.snapshots.items h1 ≡ None → tables_said rows h ≡ Err (Damaged tables.Instance)
     unfolding tables_said
     no_instances b = rw (a, b) refl
 
-    module _ (h2 : Holdings) (b : instances_seen rows.knows_snapshots rows.instances.items rows.snapshots.items h1 ≡ Some h2) where
+    module _ (h2 : Holdings) (b : instances_said rows.instances.items rows.snapshots.items h1 ≡ Some h2) where
       pub no_groups : add_all add_group h2 rows.groups.items ≡ None → tables_said rows h ≡ Err (Damaged tables.Group)
       unfolding tables_said
       no_groups d = rw (a, b, d) refl
@@ -79,15 +79,15 @@ module _ (rows : StoreRows) where
 
 -- ---- where a table is absent or another
 
-pub broken_none : (other : StoreTable) (x : Holdings) (given : Result Holdings OpenFault) → given ≡ Ok x → Damaged other ≡ first_broken other given
+pub broken_none : (other : Option StoreTable) (x : Holdings) (given : Result Holdings OpenFault) → given ≡ Ok x → Damaged (told_for other) ≡ first_broken other given
 unfolding first_broken
 broken_none other x given is = sym (ap (first_broken other) is)
 
-told_by : (other : StoreTable) (e : OpenFault) (given : Result Holdings OpenFault) → given ≡ Err e → broken_by other e ≡ first_broken other given
+told_by : (other : Option StoreTable) (e : OpenFault) (given : Result Holdings OpenFault) → given ≡ Err e → broken_by other e ≡ first_broken other given
 unfolding first_broken
 told_by other e given is = sym (ap (first_broken other) is)
 
-pub broken_some : (other : StoreTable) (e : OpenFault) (given : Result Holdings OpenFault) → IsJudged (Err e) given → IsBroken (broken_by other e) (first_broken other given)
+pub broken_some : (other : Option StoreTable) (e : OpenFault) (given : Result Holdings OpenFault) → IsJudged (Err e) given → IsBroken (broken_by other e) (first_broken other given)
 broken_some other Memory given j = tt
 broken_some other Database given j = told_by other Database given j
 broken_some other (Version n) given j = told_by other (Version n) given j

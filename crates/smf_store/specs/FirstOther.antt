@@ -1,5 +1,5 @@
 -- Which of the six tables is not there as a store has it.
-use Rattle.std.specs.Prelude.{Bool, true, nat_lt, ℕ, Option, Some, None}
+use Rattle.std.specs.Prelude.{Bool, true, nat_lt, ℕ, Option, Some, None, if◌then◌else◌}
 use Rattle.sqlite.specs.Schema.{Schema}
 use Rattle.sqlite.specs.Table.{Table}
 use Rattle.smf_tables.specs.Layout.{StandsAt}
@@ -46,6 +46,21 @@ IsFirstOther schema (Some other) = AreBefore schema other × (IsThere schema oth
 abbrev pub is_before : StoreTable → Option StoreTable → Bool
 is_before table None = true
 is_before table (Some other) = nat_lt (place_of table) (place_of other)
+
+-- the snapshots are read where they stand before that one. Where it is that of the groups, which stands before them, they
+-- are read where the first table of their name is as a store has it
+abbrev pub reads_snapshots : Option StoreTable → Bool → Bool
+reads_snapshots (Some Group) are_there = are_there
+reads_snapshots other are_there = is_before Snapshot other
+
+-- the first of two tables
+abbrev pub earlier : StoreTable → StoreTable → StoreTable
+earlier a b = if nat_lt (place_of a) (place_of b) then a else b
+
+-- what is told where this table has a row that breaks a rule
+abbrev pub told_before : Option StoreTable → StoreTable → StoreTable
+told_before None table = table
+told_before (Some other) table = earlier table other
 
 -- what is told of the schema where no row breaks a rule: where something stands beside the six, the first of all
 abbrev pub told_for : Option StoreTable → StoreTable

@@ -30,6 +30,7 @@ use Rattle.smf_store.specs.declared.refusal.OpenFault.TheVariants.{Memory, Datab
 use Rattle.smf_store.specs.declared.refusal.StoreTable.{StoreTable}
 use Rattle.smf_store.specs.declared.refusal.StoreTable.TheVariants as tables
 use Rattle.smf_store.specs.Begun.{begun}
+use Rattle.smf_store.specs.FirstOther.{told_before, told_for}
 use Rattle.smf_store.specs.Readings.{◌>>=◌, given, integer_in, count_in, number_in, text_in, greatest, short_service, service_said, instance_said, group_said, snapshot_said, launch_said}
 
 -- ---- the counters
@@ -196,16 +197,11 @@ unfoldable pub instances_said : List Row → List Row → Holdings → Option Ho
 instances_said rows snapshots h =
     add_all add_instance h rows >>= (λ k. given (list_all (names_held (has_row snapshots)) k.instances) k)
 
--- the same, and the snapshots are looked for where it is known which are there
-abbrev pub instances_seen : Bool → List Row → List Row → Holdings → Option Holdings
-instances_seen true rows snapshots h = instances_said rows snapshots h
-instances_seen false rows snapshots h = add_all add_instance h rows
-
 -- the tables behind that of the counters
 unfoldable pub tables_said : StoreRows → Holdings → Result Holdings OpenFault
 tables_said rows h =
     told tables.Service (add_all add_service h rows.services.items) (λ h1.
-    told tables.Instance (instances_seen rows.knows_snapshots rows.instances.items rows.snapshots.items h1) (λ h2.
+    told tables.Instance (instances_said rows.instances.items rows.snapshots.items h1) (λ h2.
     told tables.Group (add_all add_group h2 rows.groups.items) (λ h3.
     told tables.Snapshot (add_all add_snapshot h3 rows.snapshots.items) (λ h4.
     told tables.Restarter (add_all add_launch h4 rows.launches.items) (λ h5. Ok h5)))))
@@ -228,15 +224,16 @@ judged_as rows (Ok version) =
 unfoldable pub judged : StoreRows → Result Holdings OpenFault
 judged rows = judged_as rows (version_said rows.counts.items)
 
--- what is told where a table is absent or another: a fault of the tables before it, or that one
-abbrev pub broken_by : StoreTable → OpenFault → OpenFault
+-- what is told where the first table that is absent or another is this one, or where something stands beside the six: a
+-- fault of the tables before it, or that one
+abbrev pub broken_by : Option StoreTable → OpenFault → OpenFault
 broken_by other Memory = Memory
 broken_by other (Version n) = Version n
-broken_by other (Damaged table) = Damaged table
-broken_by other _ = Damaged other
+broken_by other (Damaged table) = Damaged (told_before other table)
+broken_by other _ = Damaged (told_for other)
 
-unfoldable pub first_broken : StoreTable → Result Holdings OpenFault → OpenFault
-first_broken other (Ok h) = Damaged other
+unfoldable pub first_broken : Option StoreTable → Result Holdings OpenFault → OpenFault
+first_broken other (Ok h) = Damaged (told_for other)
 first_broken other (Err e) = broken_by other e
 
 -- a call tells this, unless memory ran out

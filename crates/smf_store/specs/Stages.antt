@@ -1,12 +1,13 @@
 -- What the reading of a store does.
-use Rattle.std.specs.Prelude.{◌≡◌, ◌⊎◌, ℕ, Bool, true, false, List, [], ◌∷◌, IsTrue, Option, Result, Ok, Err}
+use Rattle.std.specs.Prelude.{◌≡◌, ◌⊎◌, ℕ, Bool, true, false, List, [], ◌∷◌, IsTrue, Option, Some, Result, Ok, Err}
 use Rattle.sqlite.specs.Order.{Row}
 use Rattle.sqlite.specs.Tree.{Trees}
 use Rattle.sqlite.specs.Effect.{Database, IsDatabase}
 use Rattle.sqlite.specs.State.{State, Shows}
+use Rattle.smf_tables.specs.Layout.{StandsNamed, StandsSomewhere}
 use Rattle.smf_tables.specs.Reading.{AreShown}
 use Rattle.smf_tables.specs.Rows.{IsKeyed}
-use Rattle.smf_tables.specs.Schema.{store_schema}
+use Rattle.smf_tables.specs.Schema.{snap_at, store_schema}
 use Rattle.smf_model.specs.Holdings.{Holdings}
 use Rattle.smf_store.specs.declared.counting.StoreVersion.{StoreVersion}
 use Rattle.smf_store.specs.declared.counting.StoreVersion.TheVariants as versions
@@ -15,7 +16,7 @@ use Rattle.smf_store.specs.declared.refusal.OpenFault.{OpenFault}
 use Rattle.smf_store.specs.declared.refusal.OpenFault.TheVariants.{Memory, Database as Failed, Version, Damaged, TooManyInstances}
 use Rattle.smf_store.specs.declared.refusal.StoreTable.{StoreTable}
 use Rattle.smf_store.specs.declared.refusal.StoreTable.TheVariants as tables
-use Rattle.smf_store.specs.FirstOther.{IsFirstOther, is_before, told_for}
+use Rattle.smf_store.specs.FirstOther.{IsFirstOther, is_before}
 use Rattle.smf_store.specs.Holds.{Keeps, Stands, StandsFirst}
 use Rattle.smf_store.specs.Judged.{first_broken, judged}
 
@@ -26,7 +27,6 @@ pub record IsListed (tree : ℕ) (places : List ℕ) (trees : Trees) (rows : Lis
 
 -- the same of the six tables; a number that is a rowid stands twice, so that each other column has its own place
 pub record AreListed (rows : StoreRows) (trees : Trees) : Type 0 where
-  pub known : rows.knows_snapshots ≡ true
   pub counts : IsListed 0 (0 ∷ 1 ∷ 2 ∷ []) trees rows.counts.items
   pub services : IsListed 2 (0 ∷ 1 ∷ []) trees rows.services.items
   pub instances : IsListed 4 (0 ∷ 0 ∷ 2 ∷ 3 ∷ 4 ∷ 5 ∷ 6 ∷ []) trees rows.instances.items
@@ -39,16 +39,25 @@ abbrev pub ListedIf : Bool → ℕ → List ℕ → Trees → List Row → Type 
 ListedIf true tree places trees rows = IsListed tree places trees rows
 ListedIf false tree places trees rows = rows ≡ []
 
--- these are the rows of the tables before the first that is absent or another; whether a snapshot is there is known where
--- the table before theirs stands
-pub record AreListedBefore (other : Option StoreTable) (rows : StoreRows) (trees : Trees) : Type 0 where
-  pub known : rows.knows_snapshots ≡ is_before tables.Group other
-  pub counts : ListedIf (is_before tables.Meta other) 0 (0 ∷ 1 ∷ 2 ∷ []) trees rows.counts.items
-  pub services : ListedIf (is_before tables.Service other) 2 (0 ∷ 1 ∷ []) trees rows.services.items
-  pub instances : ListedIf (is_before tables.Instance other) 4 (0 ∷ 0 ∷ 2 ∷ 3 ∷ 4 ∷ 5 ∷ 6 ∷ []) trees rows.instances.items
-  pub groups : ListedIf (is_before tables.Group other) 6 (0 ∷ 1 ∷ 2 ∷ 3 ∷ 4 ∷ []) trees rows.groups.items
-  pub snapshots : ListedIf (is_before tables.Snapshot other) 8 (0 ∷ 0 ∷ 2 ∷ 3 ∷ []) trees rows.snapshots.items
-  pub launches : ListedIf (is_before tables.Restarter other) 9 (0 ∷ 1 ∷ 2 ∷ []) trees rows.launches.items
+-- the rows of the first table that has the name of that of snapshots, if it is one, and else none
+pub record AreLookedFor (db : Database) (rows : List Row) : Type 0 where
+  pub listed : (tree : ℕ) → StandsNamed db.schema (snap_at tree) → IsListed tree (0 ∷ 0 ∷ 2 ∷ 3 ∷ []) db.trees rows
+  pub none : (StandsSomewhere db.schema snap_at → ⊥) → rows ≡ []
+
+-- the rows of the snapshots, by which it is known which are there: where the groups, which stand before them, are absent or
+-- others, they are looked for by the name of their table
+abbrev pub AreSnapshots : Option StoreTable → Database → List Row → Type 0
+AreSnapshots (Some tables.Group) db rows = AreLookedFor db rows
+AreSnapshots other db rows = ListedIf (is_before tables.Snapshot other) 8 (0 ∷ 0 ∷ 2 ∷ 3 ∷ []) db.trees rows
+
+-- these are the rows of the tables before the first that is absent or another
+pub record AreListedBefore (other : Option StoreTable) (rows : StoreRows) (db : Database) : Type 0 where
+  pub counts : ListedIf (is_before tables.Meta other) 0 (0 ∷ 1 ∷ 2 ∷ []) db.trees rows.counts.items
+  pub services : ListedIf (is_before tables.Service other) 2 (0 ∷ 1 ∷ []) db.trees rows.services.items
+  pub instances : ListedIf (is_before tables.Instance other) 4 (0 ∷ 0 ∷ 2 ∷ 3 ∷ 4 ∷ 5 ∷ 6 ∷ []) db.trees rows.instances.items
+  pub groups : ListedIf (is_before tables.Group other) 6 (0 ∷ 1 ∷ 2 ∷ 3 ∷ 4 ∷ []) db.trees rows.groups.items
+  pub snapshots : AreSnapshots other db rows.snapshots.items
+  pub launches : ListedIf (is_before tables.Restarter other) 9 (0 ∷ 1 ∷ 2 ∷ []) db.trees rows.launches.items
 
 -- a table was looked at, or it was not
 abbrev pub LooksIf : Bool → (State → State → List Row → Type 0) → State → State → List Row → Type 0
@@ -92,18 +101,18 @@ IsSaid trees (Damaged table) = Says trees (Err (Damaged table))
 IsSaid trees TooManyInstances = Says trees (Err TooManyInstances)
 
 -- what the rows of the tables before the first that is absent or another say, or that one
-pub record SaysBefore (other : Option StoreTable) (trees : Trees) (e : OpenFault) : Type 0 where
+pub record SaysBefore (other : Option StoreTable) (db : Database) (e : OpenFault) : Type 0 where
   pub rows : StoreRows
-  pub listed : AreListedBefore other rows trees
-  pub said : e ≡ first_broken (told_for other) (judged rows)
+  pub listed : AreListedBefore other rows db
+  pub said : e ≡ first_broken other (judged rows)
 
 -- a fault that says something of the store is what is told so
-abbrev pub IsSaidBefore : Option StoreTable → Trees → OpenFault → Type 0
-IsSaidBefore other trees e = IsFailure e ⊎ SaysBefore other trees e
+abbrev pub IsSaidBefore : Option StoreTable → Database → OpenFault → Type 0
+IsSaidBefore other db e = IsFailure e ⊎ SaysBefore other db e
 
 -- the tables of the schema are not those of a store, and this is told of them
 abbrev pub IsOther : Database → OpenFault → Type 0
-IsOther db e = (db.schema ≡ store_schema → ⊥) × (other : Option StoreTable) × IsFirstOther db.schema other × SaysBefore other db.trees e
+IsOther db e = (db.schema ≡ store_schema → ⊥) × (other : Option StoreTable) × IsFirstOther db.schema other × SaysBefore other db e
 
 -- a fault that names a table or a version: the first table, in their order, that is absent, or another, or has a row that
 -- breaks a rule

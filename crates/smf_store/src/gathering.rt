@@ -16,7 +16,7 @@ ghost use Rattle.smf_value.specs.Groups.{by_group};
 ghost use Rattle.smf_model.specs.Look.{by_launch, group_in as group_among};
 ghost use Rattle.smf_model.specs.Next.{most_groups};
 ghost use Rattle.smf_store.specs.Readings.{group_said, instance_said, joined_name, launch_said, name_said, number_in, only, service_said, short_service, snapshot_said, state_said};
-ghost use Rattle.smf_store.specs.Judged.{Takes, add_all, add_group, add_instance, add_launch, add_service, add_snapshot, has_row, instances_said, instances_seen, is_new, is_right, is_there, is_up_to, names_held, names_snapshots, owner_said, put_group, with_instance};
+ghost use Rattle.smf_store.specs.Judged.{Takes, add_all, add_group, add_instance, add_launch, add_service, add_snapshot, has_row, instances_said, is_new, is_right, is_there, is_up_to, names_held, names_snapshots, owner_said, put_group, with_instance};
 ghost use Rattle.smf_store.specs.Gathered.{AddsGroupOf, AddsInstanceRow, AddsLaunchRow, AddsServiceRow, AddsSnapshotRow, GathersGroups, GathersInstances, GathersLaunches, GathersServices, GathersSnapshots};
 
 use crate::cells::{bytes_at, count_at, number_at, optional_at, text_at};
@@ -655,7 +655,7 @@ fn have_rows(alloc: Global, tables: &Tables, snapshots: &[Row]) -> Result<bool, 
 
 /// The instances that the rows show, if all of them may stand there and each snapshot that they name has a row.
 #[tactic(auto, unfolding(crate::specs::Judged::instances_said))]
-fn gather_named(
+pub(crate) fn gather_named(
     alloc: Global,
     rows: &[Row],
     snapshots: &[Row],
@@ -673,22 +673,4 @@ fn gather_named(
         return Ok(false);
     }
     Ok(true)
-}
-
-/// The instances that the rows show, if all of them may stand there, and if each snapshot that they name has a row where
-/// it is known which are there.
-pub(crate) fn gather_seen(
-    alloc: Global,
-    knows_snapshots: bool,
-    rows: &[Row],
-    snapshots: &[Row],
-    tables: &mut Tables,
-) -> Result<bool, AllocError>
-    ensures exact { IfOk result (λ taken. Takes taken (instances_seen knows_snapshots rows.now snapshots.now tables.old) tables.new) }
-    ensures gathered { IfOk result (λ taken. IsTrue taken → GathersInstances rows.now tables.old tables.new) }
-{
-    match knows_snapshots {
-        true => gather_named(alloc, rows, snapshots, tables),
-        false => gather_instances(alloc, rows, tables),
-    }
 }

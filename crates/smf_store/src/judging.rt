@@ -5,8 +5,9 @@ ghost use Rattle.smf_store.specs.Judged.{IsBroken, IsJudged, IsRead, broken_by, 
 
 use crate::counting::{MAX_NEXT_INSTANCE, StoreVersion, begin, counters_said, version_said};
 use crate::gathering::{
-    gather_groups, gather_launches, gather_seen, gather_services, gather_snapshots,
+    gather_groups, gather_launches, gather_named, gather_services, gather_snapshots,
 };
+use crate::places::{told_before, told_for};
 use crate::refusal::{OpenFault, StoreTable};
 use smf_model::Tables;
 use sqlite::Row;
@@ -21,8 +22,6 @@ pub(crate) struct StoreRows {
     pub(crate) groups: Vec<Row>,
     pub(crate) snapshots: Vec<Row>,
     pub(crate) launches: Vec<Row>,
-    /// Whether it is known which snapshots are there.
-    pub(crate) knows_snapshots: bool,
 }
 
 /// What stands in a store, and in which version.
@@ -44,13 +43,7 @@ fn read_tables(alloc: Global, rows: &StoreRows, tables: &mut Tables) -> Result<(
     if !services {
         return Err(OpenFault::Damaged(StoreTable::Service));
     }
-    let Ok(instances) = gather_seen(
-        alloc,
-        rows.knows_snapshots,
-        &rows.instances,
-        &rows.snapshots,
-        tables,
-    ) else {
+    let Ok(instances) = gather_named(alloc, &rows.instances, &rows.snapshots, tables) else {
         return Err(OpenFault::Memory);
     };
     if !instances {
@@ -116,25 +109,26 @@ pub(crate) fn judge(alloc: Global, rows: &StoreRows) -> Result<Judgement, OpenFa
     Ok(Judgement { version, tables })
 }
 
-/// What is told of a fault where this table is absent or another.
-fn broken_by(fault: OpenFault, other: StoreTable) -> OpenFault
+/// What is told of a fault where the first table that is absent or another is this one.
+fn broken_by(fault: OpenFault, other: Option<StoreTable>) -> OpenFault
     ensures { result ≡ broken_by other fault }
 {
     match fault {
         OpenFault::Memory => OpenFault::Memory,
         OpenFault::Version(version) => OpenFault::Version(version),
-        OpenFault::Damaged(table) => OpenFault::Damaged(table),
-        _ => OpenFault::Damaged(other),
+        OpenFault::Damaged(table) => OpenFault::Damaged(told_before(other, table)),
+        _ => OpenFault::Damaged(told_for(other)),
     }
 }
 
-/// The first table that breaks a rule, where this one is absent or another and the tables before it have these rows.
+/// The first table that breaks a rule, where the first that is absent or another is this one and those before it have these
+/// rows.
 #[tactic(auto, using(crate::proofs::Verdicts::broken_none, crate::proofs::Verdicts::broken_some))]
-pub(crate) fn find_broken(alloc: Global, rows: &StoreRows, other: StoreTable) -> OpenFault
+pub(crate) fn find_broken(alloc: Global, rows: &StoreRows, other: Option<StoreTable>) -> OpenFault
     ensures { IsBroken result (first_broken other (judged rows.now)) }
 {
     let fault = match judge(alloc, rows) {
-        Ok(_) => return OpenFault::Damaged(other),
+        Ok(_) => return OpenFault::Damaged(told_for(other)),
         Err(fault) => fault,
     };
     broken_by(fault, other)

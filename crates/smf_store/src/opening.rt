@@ -1,10 +1,11 @@
-ghost use Rattle.std.specs.Prelude.{◌≡◌, false, IfErr, IfOk};
+ghost use Rattle.std.specs.Prelude.{◌≡◌, ◌↔◌, false, IfErr, IfOk, IsTrue};
 ghost use Rattle.sqlite.specs.Held.{state};
 ghost use Rattle.sqlite.specs.State.{HasCleanDisk, IsLive, KeepsCommit};
 ghost use Rattle.smf_model.specs.Laws.{IsNumbered};
 ghost use Rattle.smf_tables.specs.Calls.{CommitsNone, Does, IsInside, LeavesAsBefore};
 ghost use Rattle.smf_tables.specs.Calls.{Finds as Gives};
-ghost use Rattle.smf_tables.specs.Schema.{store_schema};
+ghost use Rattle.smf_tables.specs.Layout.{StandsSomewhere};
+ghost use Rattle.smf_tables.specs.Schema.{snap_at, store_schema};
 ghost use Rattle.smf_store.specs.Ends.{Fails, LeavesOr};
 ghost use Rattle.smf_store.specs.FirstOther.{IsFirstOther};
 ghost use Rattle.smf_store.specs.Stages.{IsRefused, IsSaid, IsSaidBefore, MayRead, Opened, Raises, Reads};
@@ -13,12 +14,12 @@ ghost use Rattle.smf_store.specs.Steps.{Kept};
 use crate::counting::StoreVersion;
 use crate::fault::WriteFault;
 use crate::judging::{Judgement, find_broken, judge};
-use crate::reading::{read_before, read_rows, told_for};
+use crate::reading::{read_before, read_rows};
 use crate::refusal::{OpenFault, StoreTable};
 use smf_model::Tables;
 use smf_tables::{
     add_meta, drop_meta, has_grp_table, has_instance_table, has_meta_table, has_restarter_table,
-    has_service_table, has_snap_table, is_store,
+    has_service_table, has_snap_table, has_snapshots, is_store,
 };
 use sqlite::{Alter, Connection, Transaction};
 use sqlite_schema::schema::Schema;
@@ -110,19 +111,20 @@ fn find_fault<S: Alter>(
     alloc: Global,
     tx: &mut Transaction<'_, S>,
     other: Option<StoreTable>,
+    are_there: bool,
 ) -> OpenFault
     requires { IsInside S.Store tx.old.conn.now }
     ensures same_reference { tx.new.conn.ghost_name ≡ tx.old.conn.ghost_name }
     ensures kept { HasCleanDisk (state S.Store tx.new.conn.now) → KeepsCommit (state S.Store tx.old.conn.now) (state S.Store tx.new.conn.now) }
     ensures crash { LeavesAsBefore S.Store tx.old.conn.now tx.new.conn.now }
-    ensures said { HasCleanDisk (state S.Store tx.new.conn.now) → IsFirstOther (state S.Store tx.old.conn.now).now.schema other → IsLive (state S.Store tx.old.conn.now)
-        → IsSaidBefore other (state S.Store tx.old.conn.now).now.trees result }
+    ensures said { HasCleanDisk (state S.Store tx.new.conn.now) → IsFirstOther (state S.Store tx.old.conn.now).now.schema other → (IsTrue are_there ↔ StandsSomewhere (state S.Store tx.old.conn.now).now.schema snap_at)
+        → IsLive (state S.Store tx.old.conn.now) → IsSaidBefore other (state S.Store tx.old.conn.now).now result }
 {
-    let rows = match read_before(alloc, tx, other) {
+    let rows = match read_before(alloc, tx, other, are_there) {
         Ok(rows) => rows,
         Err(fault) => return fault,
     };
-    find_broken(alloc, &rows, told_for(other))
+    find_broken(alloc, &rows, other)
 }
 
 /// The same, of a database that stays as it is.
@@ -135,8 +137,9 @@ fn refuse<S: Alter>(alloc: Global, conn: &mut Connection<S>) -> OpenFault
     ensures crash { LeavesOr MayRead S.Store conn.old conn.new }
 {
     let other = first_other(conn.schema());
+    let are_there = has_snapshots(conn.schema());
     let mut tx = conn.transaction();
-    find_fault(alloc, &mut tx, other)
+    find_fault(alloc, &mut tx, other, are_there)
 }
 
 /// What the tables of a store hold. The database stays as it is, but for one of the first version.

@@ -1,13 +1,16 @@
-ghost use Rattle.std.specs.Prelude.{◌≡◌, IfErr, IfOk, IsTrue};
+ghost use Rattle.std.specs.Prelude.{◌≡◌, ◌↔◌, IfErr, IfOk, IsTrue};
 ghost use Rattle.sqlite.specs.Held.{state};
 ghost use Rattle.sqlite.specs.State.{HasCleanDisk, IsLive, KeepsCommit};
 ghost use Rattle.smf_tables.specs.Calls.{CommitsNone, IsInside, LeavesAsBefore};
 ghost use Rattle.smf_tables.specs.Calls.{Finds as Reads};
-ghost use Rattle.smf_tables.specs.Reading.{LooksAtGroups, LooksAtInstances, LooksAtLaunches, LooksAtMeta, LooksAtServices, LooksAtSnapshots};
-ghost use Rattle.smf_store.specs.FirstOther.{IsFirstOther, is_before, place_of, told_for};
+ghost use Rattle.smf_tables.specs.Layout.{StandsSomewhere};
+ghost use Rattle.smf_tables.specs.Reading.{LooksAtGroups, LooksAtInstances, LooksAtLaunches, LooksAtMeta, LooksAtServices, LooksAtSnapshots, LooksForSnapshots};
+ghost use Rattle.smf_tables.specs.Schema.{snap_at};
+ghost use Rattle.smf_store.specs.FirstOther.{IsFirstOther, is_before, reads_snapshots};
 ghost use Rattle.smf_store.specs.Stages.{AreAllKeyed, AreListedBefore, IsFailure, Lists, LooksIf};
 
 use crate::judging::StoreRows;
+use crate::places::{is_before, reads_snapshots};
 use crate::refusal::{OpenFault, StoreTable};
 use smf_tables::{
     all_groups, all_instances, all_launches, all_meta, all_services, all_snapshots, are_keyed,
@@ -47,46 +50,11 @@ pub(crate) fn read_rows<S: Alter>(tx: &mut Transaction<'_, S>) -> Result<StoreRo
         groups,
         snapshots,
         launches,
-        knows_snapshots: true,
     };
     if !are_all_keyed(&rows) {
         return Err(OpenFault::Database);
     }
     Ok(rows)
-}
-
-/// The place of a table among the six, counted from 0.
-fn place_of(table: StoreTable) -> usize
-    ensures { result ≡ place_of table }
-{
-    match table {
-        StoreTable::Meta => 0,
-        StoreTable::Service => 1,
-        StoreTable::Instance => 2,
-        StoreTable::Group => 3,
-        StoreTable::Snapshot => 4,
-        StoreTable::Restarter => 5,
-    }
-}
-
-/// Whether a table stands before the first that is absent or another.
-fn is_before(table: StoreTable, other: Option<StoreTable>) -> bool
-    ensures { result ≡ is_before table other }
-{
-    match other {
-        None => true,
-        Some(other) => place_of(table) < place_of(other),
-    }
-}
-
-/// What is told of the schema where no row breaks a rule.
-pub(crate) fn told_for(other: Option<StoreTable>) -> StoreTable
-    ensures { result ≡ told_for other }
-{
-    match other {
-        None => StoreTable::Meta,
-        Some(other) => other,
-    }
 }
 
 /// All rows of the table of counters, if it is to be looked at.
@@ -178,6 +146,8 @@ fn snapshots_if<S: Alter>(
     requires { IsInside S.Store tx.old.conn.now }
     ensures same_reference { tx.new.conn.ghost_name ≡ tx.old.conn.ghost_name }
     ensures ok { Reads (λ old new rows. LooksIf looks LooksAtSnapshots old new rows.items) S.Store tx.old.conn.now tx.new.conn.now result }
+    // Also where the tables before it are others than those of a store.
+    ensures named { Reads (λ old new rows. LooksIf looks LooksForSnapshots old new rows.items) S.Store tx.old.conn.now tx.new.conn.now result }
     ensures kept { HasCleanDisk (state S.Store tx.new.conn.now) → KeepsCommit (state S.Store tx.old.conn.now) (state S.Store tx.new.conn.now) }
     ensures inside { IfOk result (λ _. IsInside S.Store tx.new.conn.now) }
     ensures crash { LeavesAsBefore S.Store tx.old.conn.now tx.new.conn.now }
@@ -209,25 +179,27 @@ fn launches_if<S: Alter>(
     }
 }
 
-/// All rows of the tables before the first that is absent or another.
+/// All rows of the tables before the first that is absent or another. Where it is that of the groups, the snapshots behind it
+/// are read too, if they are there, so that it is known which an instance may name.
 pub(crate) fn read_before<S: Alter>(
     alloc: Global,
     tx: &mut Transaction<'_, S>,
     other: Option<StoreTable>,
+    are_there: bool,
 ) -> Result<StoreRows, OpenFault>
     requires { IsInside S.Store tx.old.conn.now }
     ensures same_reference { tx.new.conn.ghost_name ≡ tx.old.conn.ghost_name }
     ensures kept { HasCleanDisk (state S.Store tx.new.conn.now) → KeepsCommit (state S.Store tx.old.conn.now) (state S.Store tx.new.conn.now) }
     ensures crash { LeavesAsBefore S.Store tx.old.conn.now tx.new.conn.now }
     ensures fault { IfErr result IsFailure }
-    ensures listed { HasCleanDisk (state S.Store tx.new.conn.now) → IfOk result (λ rows. IsFirstOther (state S.Store tx.old.conn.now).now.schema other → IsLive (state S.Store tx.old.conn.now)
-        → AreListedBefore other rows (state S.Store tx.old.conn.now).now.trees) }
+    ensures listed { HasCleanDisk (state S.Store tx.new.conn.now) → IfOk result (λ rows. IsFirstOther (state S.Store tx.old.conn.now).now.schema other → (IsTrue are_there ↔ StandsSomewhere (state S.Store tx.old.conn.now).now.schema snap_at)
+        → IsLive (state S.Store tx.old.conn.now) → AreListedBefore other rows (state S.Store tx.old.conn.now).now) }
 {
     let counts = counts_if(alloc, tx, is_before(StoreTable::Meta, other))?;
     let services = services_if(alloc, tx, is_before(StoreTable::Service, other))?;
     let instances = instances_if(alloc, tx, is_before(StoreTable::Instance, other))?;
     let groups = groups_if(alloc, tx, is_before(StoreTable::Group, other))?;
-    let snapshots = snapshots_if(alloc, tx, is_before(StoreTable::Snapshot, other))?;
+    let snapshots = snapshots_if(alloc, tx, reads_snapshots(other, are_there))?;
     let launches = launches_if(alloc, tx, is_before(StoreTable::Restarter, other))?;
     let rows = StoreRows {
         counts,
@@ -236,7 +208,6 @@ pub(crate) fn read_before<S: Alter>(
         groups,
         snapshots,
         launches,
-        knows_snapshots: is_before(StoreTable::Group, other),
     };
     if !are_all_keyed(&rows) {
         return Err(OpenFault::Database);

@@ -7,6 +7,7 @@ pub mod Statements
 pub mod Steps
 pub mod Looks
 pub mod Wholes
+pub mod Named
 pub mod Wide
 pub mod Rowed
 pub mod Sizes

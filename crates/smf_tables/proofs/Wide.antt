@@ -1,11 +1,11 @@
 -- What the queries of whole tables show.
-use Rattle.std.proofs.Common.{◌≡◌, ◌+◌, ◌<◌, ◌≤◌, ℕ, zero, suc, List, [], ◌∷◌, ◌&&◌, length, drop, codes, Option, Some, IsTrue, Bool, true, false, refl, sym, subst, ◌∙◌, arith}
+use Rattle.std.proofs.Common.{◌≡◌, ◌+◌, ◌<◌, ◌≤◌, ℕ, zero, suc, List, [], ◌∷◌, ◌&&◌, length, drop, codes, ◌==◌, ◌^◌, nat_lt, nat_le, find, position, cond, slice_get, Option, Some, None, IsTrue, Bool, true, false, refl, sym, ap, subst, ◌∙◌, arith}
 use Rattle.std.specs.List.{AllByRecursion}
 use Rattle.sqlite.specs.declared.types.Value.{Value}
 use Rattle.sqlite.specs.declared.types.Value.TheVariants.{Null, Int, Real, Text, Blob}
 use Rattle.sqlite.specs.Order.{Row, column}
 use Rattle.sqlite.specs.Term.{col}
-use Rattle.sqlite.specs.Effect.{Database}
+use Rattle.sqlite.specs.Effect.{Database, IsDatabase}
 use Rattle.sqlite.specs.State.{State, Shown}
 use Rattle.sqlite.specs.Table.{Table}
 use Rattle.sqlite_sql.specs.Ops.{is_null}
@@ -13,7 +13,16 @@ use Rattle.sqlite_schema.specs.declared.schema.Column.{Column}
 use Rattle.sqlite_schema.specs.declared.schema.Constraint.TheVariants.{Datatype}
 use Rattle.sqlite_schema.specs.Rules.{are_typed, passes}
 use Rattle.sqlite_rules.specs.Lists.{Has}
-use Rattle.sqlite_rules.proofs.ListLemmas.{all_has}
+use Rattle.sqlite_rules.proofs.ListLemmas.{all_has, has_got}
+use Rattle.sqlite_catalog.specs.Listing.{IsTableRow}
+use Rattle.sqlite_catalog.proofs.LayoutLemmas.{zipped_left}
+use Rattle.std.proofs.lemmas.Bool.{lt-leb}
+use Rattle.std.proofs.lemmas.List.Folds.{find_at}
+use Rattle.std.specs.List.{position_or_len}
+use Rattle.smf_tables.specs.Layout.{StandsNamed}
+use Rattle.smf_tables.specs.Reading.{LooksForSnapshots, LooksNamed}
+use Rattle.smf_tables.specs.Reading as reading
+use Rattle.smf_tables.proofs.Named.{snapshots_are, snapshots_plain, snapshots_unlisted}
 use Rattle.smf_tables.specs.Schema as tables
 use Rattle.smf_tables.specs.Layout.{Begins, begun_1, begun_2, begun_3, begun_4, begun_5, begun_6}
 use Rattle.smf_tables.specs.Rows.{SameColumns}
@@ -211,6 +220,50 @@ looks_at_snapshots old new rows on seen = record {
         };
       };
 }
+
+-- the first that passes, by its place
+found_at : {X : Type 0} (p : X → Bool) (xs : List X) (at : ℕ) (x : X) → position p xs ≡ Some at → slice_get xs at ≡ Some x → find p xs ≡ Some x
+found_at p xs at x is there = find_at p xs ∙ ap (slice_get xs) (place (nat_lt (position_or_len p xs) (length xs)) is) ∙ there
+  where
+    place : (b : Bool) → cond b (Some (position_or_len p xs)) None ≡ Some at → position_or_len p xs ≡ at
+    place true e = cc
+    place false e = absurd cc
+
+low_is : (tree : ℕ) → tree < 65536 → nat_le (2 ^ 31) tree ≡ false
+low_is tree low = lt-leb (2 ^ 31) tree (omega (arith, low))
+
+-- the same of the table of this name, whatever the tables before it are
+pub looks_for_snapshots : (old new : State) (rows : List Row) → IsTrue old.in_transaction → Shown Wholes.all_snapshots [] old new rows → LooksForSnapshots old new rows
+looks_for_snapshots old new rows on seen = record {
+  shows = shown_inside Wholes.all_snapshots [] old new rows on seen;
+  same = λ tree first db. (looked tree first db).0;
+  seen = λ tree first db. (looked tree first db).1;
+}
+  where
+    looked : (tree : ℕ) → StandsNamed old.now.schema (tables.snap_at tree) → IsDatabase old.now → (new.now ≡ old.now) × reading.AreShown (0 ∷ 0 ∷ 2 ∷ 3 ∷ []) (old.now.trees tree) rows
+    looked tree first db =
+        let table = tables.snap_at tree in
+        let listed = has_got old.now.schema.tables first.place table first.there in
+        let low = low_is tree (zipped_left IsTableRow _ old.now.schema.tables table db.lists.listed.tables listed).2.described.low in
+        let of_tree = found_at (λ t. t.tree == tree) old.now.schema.tables first.place table first.treed first.there in
+        let is = snapshots_are old.now.schema first.place tree first.named first.there low of_tree in
+        let plain = snapshots_plain old.now.schema first.place tree first.named first.there low of_tree in
+        let unlisted = snapshots_unlisted old.now.schema first.place tree first.named first.there low of_tree in
+        let columns = col 1 0 ∷ col 1 0 ∷ col 1 2 ∷ col 1 3 ∷ [] in
+        let names = codes "id" ∷ codes "id" ∷ codes "instance" ∷ codes "body" ∷ [] in
+        let all = shows_rows Wholes.all_snapshots [] old new answers.by_rowid tree [] columns names is plain unlisted refl rows seen in
+        let typed = all_has _ old.now.schema.tables table (db.obeys.rules Datatype) listed in (
+          same_database Wholes.all_snapshots [] old new answers.by_rowid tree [] columns names is plain unlisted refl rows seen,
+          record {
+            sound = λ x there. let s = all.sound x there in (s.0, s.1, s.3);
+            complete = λ r there. all.complete r there refl;
+            keyed = λ keyed. record {
+              ints = λ r there. keyed.ints (shown (0 ∷ 0 ∷ 2 ∷ 3 ∷ []) r) (all.complete r there refl);
+              one = λ a b ha hb e. snapshots_same a b (typed_row table old.now a typed ha) (typed_row table old.now b typed hb)
+                  (keyed.one (shown (0 ∷ 0 ∷ 2 ∷ 3 ∷ []) a) (shown (0 ∷ 0 ∷ 2 ∷ 3 ∷ []) b) (all.complete a ha refl) (all.complete b hb refl) e);
+            };
+          },
+        )
 
 -- ---- the table restarter
 

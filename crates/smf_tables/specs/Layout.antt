@@ -1,5 +1,5 @@
 -- When a table of a schema is one of the six.
-use Rattle.std.specs.Prelude.{◌≡◌, ℕ, List, [], ◌∷◌, codes, Option, Some, false, true}
+use Rattle.std.specs.Prelude.{◌≡◌, ◌==◌, ℕ, List, [], ◌∷◌, codes, position, Option, Some, false, true}
 use Rattle.std.specs.List.{slice_get}
 use Rattle.sqlite_value.specs.Keys.{plain}
 use Rattle.sqlite_schema.specs.declared.schema.Index.{Index}
@@ -8,6 +8,7 @@ use Rattle.sqlite_schema.specs.declared.schema.Reference.{Reference}
 use Rattle.sqlite.specs.Schema.{Schema}
 use Rattle.sqlite.specs.Table.{Table}
 use Rattle.sqlite_schema.specs.declared.schema.View.{View}
+use Rattle.sqlite_schema.specs.Names.{table_named}
 use Rattle.smf_tables.specs.Schema as stored
 
 -- the table has no rule beside its columns and keys
@@ -42,6 +43,17 @@ to_service = record { columns = 2 ∷ []; parent = codes "service"; parent_colum
 -- the table at this place of a schema, counted from 0, is this one
 abbrev pub StandsAt : Schema → ℕ → Table → Type 0
 StandsAt schema place table = slice_get schema.tables place ≡ Some table
+
+-- this table is the first of its name, and the first of its tree, at whichever place
+pub record StandsNamed (schema : Schema) (table : Table) : Type 0 where
+  pub place : ℕ
+  pub named : table_named schema table.name ≡ Some place
+  pub treed : position (λ t. t.tree == table.tree) schema.tables ≡ Some place
+  pub there : StandsAt schema place table
+
+-- the same, with whichever tree
+abbrev pub StandsSomewhere : Schema → (ℕ → Table) → Type 0
+StandsSomewhere schema table = (tree : ℕ) × StandsNamed schema (table tree)
 
 -- what stands in a schema behind its first tables
 pub record Rest : Type 0 where

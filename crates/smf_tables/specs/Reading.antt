@@ -6,7 +6,9 @@ use Rattle.sqlite.specs.State.{State, Shows}
 use Rattle.sqlite_rules.specs.Lists.{Has}
 use Rattle.smf_tables.specs.Rows.{IsKeyed}
 use Rattle.sqlite.specs.Schema.{Schema}
-use Rattle.smf_tables.specs.Layout.{Begins, Rest, begun_1, begun_2, begun_3, begun_4, begun_5, begun_6}
+use Rattle.sqlite.specs.Table.{Table}
+use Rattle.smf_tables.specs.Schema.{snap_at}
+use Rattle.smf_tables.specs.Layout.{Begins, Rest, StandsNamed, begun_1, begun_2, begun_3, begun_4, begun_5, begun_6}
 
 -- the columns at these places
 abbrev pub shown : List ℕ → Row → Row
@@ -25,6 +27,12 @@ pub record Looks (begun : Rest → Schema) (tree : ℕ) (places : List ℕ) (old
   pub same : Begins begun old.now.schema → new.now ≡ old.now
   pub seen : Begins begun old.now.schema → IsDatabase old.now → AreShown places (old.now.trees tree) rows
 
+-- the same, where the table is the first of its name, whatever stands before it and behind it
+pub record LooksNamed (table : ℕ → Table) (places : List ℕ) (old new : State) (rows : List Row) : Type 0 where
+  pub shows : Shows old new new.now old.committed true
+  pub same : (tree : ℕ) → StandsNamed old.now.schema (table tree) → IsDatabase old.now → new.now ≡ old.now
+  pub seen : (tree : ℕ) → StandsNamed old.now.schema (table tree) → IsDatabase old.now → AreShown places (old.now.trees tree) rows
+
 abbrev pub LooksAtMeta : State → State → List Row → Type 0
 LooksAtMeta = Looks begun_1 0 (0 ∷ 1 ∷ 2 ∷ [])
 
@@ -40,6 +48,9 @@ LooksAtGroups = Looks begun_4 6 (0 ∷ 1 ∷ 2 ∷ 3 ∷ 4 ∷ [])
 
 abbrev pub LooksAtSnapshots : State → State → List Row → Type 0
 LooksAtSnapshots = Looks begun_5 8 (0 ∷ 0 ∷ 2 ∷ 3 ∷ [])
+
+abbrev pub LooksForSnapshots : State → State → List Row → Type 0
+LooksForSnapshots = LooksNamed snap_at (0 ∷ 0 ∷ 2 ∷ 3 ∷ [])
 
 abbrev pub LooksAtLaunches : State → State → List Row → Type 0
 LooksAtLaunches = Looks begun_6 9 (0 ∷ 1 ∷ 2 ∷ [])

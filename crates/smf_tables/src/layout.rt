@@ -1,9 +1,9 @@
-ghost use Rattle.std.specs.Prelude.{◌≡◌, ◌↔◌, [], ◌∷◌, IsTrue};
+ghost use Rattle.std.specs.Prelude.{◌≡◌, ◌↔◌, ◌==◌, [], ◌∷◌, IsTrue, Some, position};
 ghost use Rattle.std.specs.List.{slice_get};
 ghost use Rattle.std.specs.Option.{option_copied};
 ghost use Rattle.sqlite_value.specs.Keys.{plain};
-ghost use Rattle.smf_tables.specs.Layout.{HasKeys, HasNoMore, HasRowKey, StandsAt, index, to_service};
-ghost use Rattle.smf_tables.specs.Schema.{column, grp, meta, restarter, service, snap, store_schema};
+ghost use Rattle.smf_tables.specs.Layout.{HasKeys, HasNoMore, HasRowKey, StandsAt, StandsSomewhere, index, to_service};
+ghost use Rattle.smf_tables.specs.Schema.{column, grp, meta, restarter, service, snap, snap_at, store_schema};
 ghost use Rattle.smf_tables.specs.Schema.{instance as instance_table};
 
 use sqlite_items::Items;
@@ -281,17 +281,24 @@ fn are_snap_columns(columns: &[Column]) -> bool
     true
 }
 
-/// Whether this is the table of snapshots.
-fn is_snap(table: &Table) -> bool
-    ensures { IsTrue result ↔ (table.now ≡ snap) }
+/// Whether this is the table of snapshots, with this tree.
+fn is_snap_of(table: &Table, tree: u32) -> bool
+    ensures { IsTrue result ↔ (table.now ≡ snap_at tree) }
 {
-    if !has_no_more(table, "snap", 8) || !has_row_key(table) {
+    if !has_no_more(table, "snap", tree) || !has_row_key(table) {
         return false;
     }
     if !are_snap_columns(table.columns.as_slice()) {
         return false;
     }
     table.references.is_empty()
+}
+
+/// Whether this is the table of snapshots.
+fn is_snap(table: &Table) -> bool
+    ensures { IsTrue result ↔ (table.now ≡ snap) }
+{
+    is_snap_of(table, 8)
 }
 
 /// Whether these are the columns of the table of restarters.
@@ -452,4 +459,38 @@ pub fn has_restarter_table(schema: &Schema) -> bool
         return false;
     };
     is_restarter(table)
+}
+
+/// The place of the first table that has this tree.
+fn place_of_tree(schema: &Schema, tree: u32) -> Option<usize>
+    ensures { result ≡ position (λ t. t.tree == tree) schema.now.tables }
+{
+    schema
+        .tables
+        .as_slice()
+        .iter()
+        .position(|table| table.tree == tree)
+}
+
+/// Whether the first table that has this tree stands at this place.
+fn is_first_of_tree(schema: &Schema, place: usize, tree: u32) -> bool
+    ensures { IsTrue result ↔ (position (λ t. t.tree == tree) schema.now.tables ≡ Some place) }
+{
+    place_of_tree(schema, tree) == Some(place)
+}
+
+/// Whether the first table that has the name of that of snapshots is one, wherever it stands.
+pub fn has_snapshots(schema: &Schema) -> bool
+    ensures { IsTrue result ↔ StandsSomewhere schema.now snap_at }
+{
+    let Some(place) = schema.table_named("snap".as_bytes()) else {
+        return false;
+    };
+    let Some(table) = table_at(schema, place) else {
+        return false;
+    };
+    if !is_snap_of(table, table.tree) {
+        return false;
+    }
+    is_first_of_tree(schema, place, table.tree)
 }

@@ -10,7 +10,7 @@ mod writing;
 
 pub use layout::{
     has_grp_table, has_instance_table, has_meta_table, has_restarter_table, has_service_table,
-    has_snap_table, is_store,
+    has_snap_table, has_snapshots, is_store,
 };
 pub use looking::{NameColumns, has_service, name_of};
 pub use reading::{

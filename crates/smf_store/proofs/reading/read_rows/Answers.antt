@@ -1,4 +1,4 @@
-use Rattle.std.proofs.Common.{arith, refl, true}
+use Rattle.std.proofs.Common.{arith, refl}
 use Rattle.sqlite.specs.Held.{state}
 use Rattle.sqlite.specs.State.{HasCleanDisk}
 use Rattle.smf_store.proofs.Stands.{lists_all}
@@ -19,8 +19,7 @@ returns-clause-ok g c clean =
     let second : HasCleanDisk two = omega (arith, third, c.all_instances.ensures.crash.clean) in
     let first : HasCleanDisk one = omega (arith, second, c.all_services.ensures.crash.clean) in
     lists_all old one two three four five six
-    (record { counts = c.in_ok-counts.counts; services = c.in_ok-services.services; instances = c.in_ok-instances.instances; groups = c.in_ok-groups.groups; snapshots = c.in_ok-snapshots.snapshots; launches = c.in_ok-launches.launches; knows_snapshots = true })
-    refl
+    (record { counts = c.in_ok-counts.counts; services = c.in_ok-services.services; instances = c.in_ok-instances.instances; groups = c.in_ok-groups.groups; snapshots = c.in_ok-snapshots.snapshots; launches = c.in_ok-launches.launches })
     (c.if-not-are_all_keyed.ensures refl)
     (c.in_ok-counts.ensures.ok first) (c.in_ok-services.ensures.ok second) (c.in_ok-instances.ensures.ok third) (c.in_ok-groups.ensures.ok fourth) (c.in_ok-snapshots.ensures.ok fifth)
     (c.in_ok-launches.ensures.ok clean)
