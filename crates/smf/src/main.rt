@@ -11,9 +11,9 @@ use crate::words::matches;
 use clap::error::ErrorKind;
 use clap::{ArgMatches, Error};
 use smf_edge::TableKids;
-use smf_lines::NotedReader;
+use smf_lines::{NotedReader, TextWriter};
 use smf_serve::{serve_sim, tell};
-use std::io::BufReader;
+use std::io::{BufReader, BufWriter, IsTerminal, Write};
 use std::process::ExitCode;
 use std::{env, io};
 
@@ -35,16 +35,29 @@ fn refuse(rt: &HostRuntime, e: &Error) -> u8 {
 }
 
 /// Does a script in memory, over processes that a contract table simulates.
-fn sim(rt: &HostRuntime) -> io::Result<u8> {
+fn sim_onto<W: TextWriter>(rt: &HostRuntime, writer: &mut W) -> io::Result<u8> {
     let alloc = rt.alloc();
     let mut reader = NotedReader::new(BufReader::new(alloc, rt.reader())?);
     Ok(serve_sim(
         alloc,
         &mut reader,
-        &mut io::writer(rt),
+        writer,
         &mut rt.stderr(),
         &mut TableKids::new(alloc),
     ))
+}
+
+/// Does a script in memory. A terminal shows each line at once; what goes elsewhere is gathered first.
+fn sim(rt: &HostRuntime) -> io::Result<u8> {
+    if rt.stdout().is_terminal() {
+        return sim_onto(rt, &mut io::writer(rt));
+    }
+    let mut writer = BufWriter::new(rt.alloc(), io::writer(rt))?;
+    let status = sim_onto(rt, &mut writer)?;
+    match writer.flush() {
+        Ok(()) => Ok(status),
+        Err(_) => Ok(tell(&mut rt.stderr(), "smf: output failed")),
+    }
 }
 
 /// Does what words ask for.
