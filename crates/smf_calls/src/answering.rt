@@ -1,4 +1,4 @@
-use crate::fault::CallFault;
+use crate::answers::Answer;
 use crate::views::Views;
 use crate::words::split_word;
 use crate::{
@@ -8,7 +8,7 @@ use crate::{
 use smf_contract::Table;
 use smf_model::{NoJournal, Plain};
 use smf_value::Group;
-use std::alloc::{AllocError, Global};
+use std::alloc::Global;
 
 /// What calls change from line to line.
 #[derive(Drop)]
@@ -31,96 +31,54 @@ impl Session {
     }
 }
 
-/// The answer of a call of names, rows or steps, or none where the word is no such call.
-fn row_answer(alloc: Global, call: &str, text: &str) -> Result<Option<String>, CallFault> {
-    if let Some(answer) = names::answer(alloc, call, text)? {
-        return Ok(Some(answer));
+/// Answers a call that needs no session; whether it is one.
+fn value_answer(alloc: Global, out: &mut Answer, call: &str, text: &str) -> bool {
+    match call {
+        "field" => fields::answer(alloc, out, text),
+        "message" => lines::again(alloc, out, text),
+        "refusal" => refusals::refusal(alloc, out, text),
+        _ => {
+            return names::answer(alloc, out, call, text)
+                || rows::answer(alloc, out, call, text)
+                || steps::answer(alloc, out, call, text)
+                || values::answer(alloc, out, call, text)
+                || snapshots::answer(alloc, out, call, text)
+                || cookies::answer(out, call, text)
+                || config::answer(alloc, out, call, text);
+        }
     }
-    if let Some(answer) = rows::answer(alloc, call, text)? {
-        return Ok(Some(answer));
-    }
-    if let Some(answer) = steps::answer(alloc, call, text)? {
-        return Ok(Some(answer));
-    }
-    fields::answer(alloc, call, text)
+    true
 }
 
-/// The same of a call of values, snapshots, cookies, lines of svccfg, messages or refusals.
-fn value_answer(alloc: Global, call: &str, text: &str) -> Result<Option<String>, CallFault> {
-    if let Some(answer) = values::answer(alloc, call, text)? {
-        return Ok(Some(answer));
-    }
-    if let Some(answer) = snapshots::answer(alloc, call, text)? {
-        return Ok(Some(answer));
-    }
-    if let Some(answer) = cookies::answer(alloc, call, text)? {
-        return Ok(Some(answer));
-    }
-    if let Some(answer) = config::answer(alloc, call, text)? {
-        return Ok(Some(answer));
-    }
-    if let Some(answer) = lines::answer(alloc, call, text)? {
-        return Ok(Some(answer));
-    }
-    refusals::answer(alloc, call, text)
-}
-
-/// The same of a call of methods or dependencies, by what the session has.
-fn service_answer(
-    alloc: Global,
-    session: &Session,
-    call: &str,
-    text: &str,
-) -> Result<Option<String>, CallFault> {
-    if let Some(answer) = methods::answer(alloc, &session.group, call, text)? {
-        return Ok(Some(answer));
-    }
-    let items = session.views.items();
-    dependencies::answer(alloc, &session.group, items, call, text)
-}
-
-/// The answer of a call that may change the session.
-fn session_answer(alloc: Global, session: &mut Session, line: &str) -> Result<String, CallFault> {
-    let (call, text) = split_word(line);
-    if let Some(answer) = groups::answer(alloc, &mut session.group, call, text)? {
-        return Ok(answer);
-    }
-    if let Some(answer) = views::answer(alloc, &mut session.views, call, text)? {
-        return Ok(answer);
-    }
-    if let Some(answer) = repository::answer(alloc, &mut session.repository, call, text)? {
-        return Ok(answer);
-    }
-    contracts::answer(alloc, &mut session.table, line)
-}
-
-/// The answer of a call.
-fn call_answer(alloc: Global, session: &mut Session, line: &str) -> Result<String, CallFault> {
-    let (call, text) = split_word(line);
-    if let Some(answer) = row_answer(alloc, call, text)? {
-        return Ok(answer);
-    }
-    if let Some(answer) = value_answer(alloc, call, text)? {
-        return Ok(answer);
-    }
-    if let Some(answer) = service_answer(alloc, session, call, text)? {
-        return Ok(answer);
-    }
-    session_answer(alloc, session, line)
-}
-
-/// The answer of a line: none of a blank one or a comment.
-pub(crate) fn answer(
+/// The same of a call that may change the session.
+fn session_answer(
     alloc: Global,
     session: &mut Session,
-    line: &str,
-) -> Result<Option<String>, AllocError> {
-    if line.is_empty() || line.starts_with('#') {
-        return Ok(None);
-    }
-    match call_answer(alloc, session, line) {
-        Ok(answer) => Ok(Some(answer)),
-        Err(CallFault::Memory) => Err(AllocError),
-        Err(fault) => Ok(Some(format!(in alloc; "{fault}")?)),
+    out: &mut Answer,
+    call: &str,
+    text: &str,
+) -> bool {
+    methods::answer(alloc, &session.group, out, call, text)
+        || dependencies::answer(
+            alloc,
+            &session.group,
+            session.views.items(),
+            out,
+            call,
+            text,
+        )
+        || groups::answer(alloc, &mut session.group, out, call, text)
+        || views::answer(alloc, &mut session.views, out, call, text)
+        || repository::answer(alloc, &mut session.repository, out, call, text)
+        || contracts::answer(alloc, &mut session.table, out, call, text)
+}
+
+/// Answers a line that is a call.
+pub(crate) fn answer(alloc: Global, session: &mut Session, out: &mut Answer, line: &str) {
+    let (call, text) = split_word(line);
+    let is_call = value_answer(alloc, out, call, text)
+        || session_answer(alloc, session, out, call, text);
+    if !is_call {
+        out.bad_line();
     }
 }

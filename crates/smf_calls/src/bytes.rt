@@ -1,19 +1,28 @@
 //! Bytes as two digits each.
 
-use crate::fault::CallFault;
+use crate::answers::Answer;
 use hex::FromHexError;
+use smf_fmri::Bytes;
 use std::alloc::{AllocError, Global};
 
 /// The bytes of digits.
-pub(crate) fn bytes_of(alloc: Global, text: &str) -> Result<Vec<u8>, CallFault> {
+pub(crate) fn bytes_of(alloc: Global, out: &mut Answer, text: &str) -> Option<Vec<u8>> {
     match hex::decode(alloc, text) {
-        Ok(bytes) => Ok(bytes),
-        Err(FromHexError::OutOfMemory) => Err(CallFault::Memory),
-        Err(_) => Err(CallFault::BadLine),
+        Ok(bytes) => Some(bytes),
+        Err(FromHexError::OutOfMemory) => out.made(Err(AllocError)),
+        Err(_) => out.found(None),
     }
 }
 
-/// The digits of bytes.
-pub(crate) fn digits_of(alloc: Global, bytes: &[u8]) -> Result<String, AllocError> {
-    hex::encode(alloc, bytes)
+/// The digits of bytes that a library made.
+pub(crate) fn put_bytes(alloc: Global, out: &mut Answer, bytes: Result<Bytes, AllocError>) {
+    if let Some(bytes) = out.made(bytes) {
+        put_digits(out, hex::encode(alloc, bytes.as_slice()));
+    }
+}
+
+fn put_digits(out: &mut Answer, digits: Result<String, AllocError>) {
+    if let Some(digits) = out.made(digits) {
+        out.put(digits.as_str());
+    }
 }

@@ -1,60 +1,85 @@
 //! What a table of contracts is asked, as words.
 
 use crate::events::terms_of;
-use crate::fault::CallFault;
-use crate::words::{byte_of, count_of, number_of};
-use smf_contract::{ContractCall, Exit, Failure};
+use crate::words::{byte_of, number_of, split_two, split_word};
+use smf_contract::{ContractCall, Exit, Failure, Terms};
+use smf_fmri::{Number, read_count};
 
 /// How a process ended: a status, or `killed`.
-pub(crate) fn exit_of(word: &str) -> Result<Exit, CallFault> {
+pub(crate) fn exit_of(word: &str) -> Option<Exit> {
     if word == "killed" {
-        return Ok(Exit::Killed);
+        return Some(Exit::Killed);
     }
-    Ok(Exit::Code(byte_of(word)?))
+    Some(Exit::Code(byte_of(word)?))
 }
 
-fn failure_of(word: &str) -> Result<Failure, CallFault> {
+fn failure_of(word: &str) -> Option<Failure> {
     match word {
-        "core" => Ok(Failure::Core),
-        "signal" => Ok(Failure::Signal),
-        "hwerr" => Ok(Failure::Hwerr),
-        _ => Err(CallFault::BadLine),
+        "core" => Some(Failure::Core),
+        "signal" => Some(Failure::Signal),
+        "hwerr" => Some(Failure::Hwerr),
+        _ => None,
     }
+}
+
+/// `ACTOR CONTRACT`.
+pub(crate) fn actor_of(text: &str) -> Option<(u64, Number)> {
+    let (actor, contract) = split_word(text);
+    Some((read_count(actor)?, number_of(contract)?))
+}
+
+/// `PROCESS HOW`.
+pub(crate) fn exit_call(text: &str) -> Option<(Number, Exit)> {
+    let (process, exit) = split_word(text);
+    Some((number_of(process)?, exit_of(exit)?))
+}
+
+/// `ACTOR COOKIE INFORMATIVE CRITICAL FATAL`, and then perhaps `inherit`, `noorphan`.
+pub(crate) fn spawn_call(text: &str) -> Option<(u64, u64, Terms)> {
+    let (actor, cookie, terms) = split_two(text);
+    Some((read_count(actor)?, read_count(cookie)?, terms_of(terms)?))
 }
 
 /// `fork PROCESS`, `exit PROCESS HOW` or `fail PROCESS KIND`.
-fn process_call(words: &[&str]) -> Result<ContractCall, CallFault> {
-    Ok(match words {
-        ["fork", process] => ContractCall::Fork(number_of(process)?),
-        ["exit", process, exit] => ContractCall::Exit(number_of(process)?, exit_of(exit)?),
-        ["fail", process, failure] => {
-            ContractCall::Fail(number_of(process)?, failure_of(failure)?)
-        }
-        _ => return Err(CallFault::BadLine),
-    })
+fn process_call(call: &str, text: &str) -> Option<ContractCall> {
+    let (process, how) = split_word(text);
+    let process = number_of(process)?;
+    match call {
+        "fork" if how.is_empty() => Some(ContractCall::Fork(process)),
+        "exit" => Some(ContractCall::Exit(process, exit_of(how)?)),
+        "fail" => Some(ContractCall::Fail(process, failure_of(how)?)),
+        _ => None,
+    }
+}
+
+/// `adopt ACTOR CONTRACT` or `kill ACTOR CONTRACT`.
+fn held_call(call: &str, text: &str) -> Option<ContractCall> {
+    let (actor, contract) = actor_of(text)?;
+    if call == "adopt" {
+        Some(ContractCall::Adopt { actor, contract })
+    } else {
+        Some(ContractCall::Kill { actor, contract })
+    }
 }
 
 /// The call that words name.
-pub(crate) fn call_of(words: &[&str]) -> Result<ContractCall, CallFault> {
-    Ok(match words {
-        ["nothing"] => ContractCall::Nothing,
-        ["reboot"] => ContractCall::Reboot,
-        ["spawn", actor, cookie, terms @ ..] => ContractCall::Spawn {
-            actor: count_of(actor)?,
-            cookie: count_of(cookie)?,
-            terms: terms_of(terms)?,
-        },
-        ["adopt", actor, contract] => ContractCall::Adopt {
-            actor: count_of(actor)?,
-            contract: number_of(contract)?,
-        },
-        ["kill", actor, contract] => ContractCall::Kill {
-            actor: count_of(actor)?,
-            contract: number_of(contract)?,
-        },
-        ["gone", actor] => ContractCall::Gone {
-            actor: count_of(actor)?,
-        },
-        words => process_call(words)?,
-    })
+pub(crate) fn call_of(text: &str) -> Option<ContractCall> {
+    let (call, text) = split_word(text);
+    match call {
+        "nothing" if text.is_empty() => Some(ContractCall::Nothing),
+        "reboot" if text.is_empty() => Some(ContractCall::Reboot),
+        "spawn" => {
+            let (actor, cookie, terms) = spawn_call(text)?;
+            Some(ContractCall::Spawn {
+                actor,
+                cookie,
+                terms,
+            })
+        }
+        "adopt" | "kill" => held_call(call, text),
+        "gone" => Some(ContractCall::Gone {
+            actor: read_count(text)?,
+        }),
+        _ => process_call(call, text),
+    }
 }

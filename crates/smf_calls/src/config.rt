@@ -1,139 +1,129 @@
 //! Words and lines of svccfg.
 
-use crate::fault::CallFault;
-use crate::words::copied;
-use smf_fmri::Text;
+use crate::answers::Answer;
+use smf_fmri::{Items, Text};
 use smf_model::PropertyChange;
-use smf_svccfg::{CfgCommand, Line, parse_line, quoted, words};
+use smf_svccfg::{CfgCommand, Line, LineFault, parse_line, quoted, words};
 use smf_value::{Kind, Name};
 use std::alloc::{AllocError, Global};
 
-/// What a call of lines answers, or none where the word is no such call.
-pub(crate) fn answer(alloc: Global, call: &str, text: &str) -> Result<Option<String>, CallFault> {
-    let answer = match call {
-        "words" => barred(alloc, text),
-        "cfg" => line(alloc, text),
-        _ => return Ok(None),
-    };
-    Ok(Some(answer?))
+/// Answers a call of lines; whether it is one.
+pub(crate) fn answer(alloc: Global, out: &mut Answer, call: &str, text: &str) -> bool {
+    match call {
+        "words" => put_barred(out, words(alloc, text)),
+        "cfg" => put_asked(alloc, out, parse_line(alloc, text)),
+        _ => return false,
+    }
+    true
 }
 
 /// The words of a text, each behind a bar.
-fn barred(alloc: Global, text: &str) -> Result<String, CallFault> {
-    let mut out = String::new(alloc);
-    for word in words(alloc, text)?.as_slice() {
-        out.push('|')?;
-        out.push_str(word.as_str())?;
+fn put_barred(out: &mut Answer, words: Result<Items<Text>, AllocError>) {
+    if let Some(words) = out.made(words) {
+        for word in words.as_slice() {
+            write!(out, "|{word}");
+        }
+        out.put_if_empty("none");
     }
-    if out.is_empty() {
-        return copied(alloc, "none");
-    }
-    Ok(out)
 }
 
 /// What a line asks for.
-fn line(alloc: Global, text: &str) -> Result<String, CallFault> {
-    Ok(line_text(alloc, &parse_line(alloc, text)?)?)
+fn put_asked(alloc: Global, out: &mut Answer, line: Result<Line, LineFault>) {
+    if let Some(line) = out.given(line) {
+        put_line(alloc, out, &line);
+    }
 }
 
-fn line_text(alloc: Global, line: &Line) -> Result<String, AllocError> {
+fn put_line(alloc: Global, out: &mut Answer, line: &Line) {
     match line {
-        Line::Nothing => String::from_str(alloc, "nothing"),
-        Line::Select(word) => word_text(alloc, CfgCommand::Select, word),
-        Line::Delete(word) => word_text(alloc, CfgCommand::Delete, word),
-        Line::Unselect => String::from_str(alloc, CfgCommand::Unselect.as_str()),
-        Line::List => String::from_str(alloc, CfgCommand::List.as_str()),
-        Line::ListGroups => String::from_str(alloc, CfgCommand::ListGroups.as_str()),
-        Line::ListProperties => String::from_str(alloc, CfgCommand::ListProperties.as_str()),
-        Line::ListSnapshots => String::from_str(alloc, CfgCommand::ListSnapshots.as_str()),
-        Line::Add(word) => word_text(alloc, CfgCommand::Add, word),
+        Line::Nothing => out.put("nothing"),
+        Line::Select(word) => put_word(alloc, out, CfgCommand::Select, word),
+        Line::Delete(word) => put_word(alloc, out, CfgCommand::Delete, word),
+        Line::Unselect => out.put(CfgCommand::Unselect.as_str()),
+        Line::List => out.put(CfgCommand::List.as_str()),
+        Line::ListGroups => out.put(CfgCommand::ListGroups.as_str()),
+        Line::ListProperties => out.put(CfgCommand::ListProperties.as_str()),
+        Line::ListSnapshots => out.put(CfgCommand::ListSnapshots.as_str()),
+        Line::Add(word) => put_word(alloc, out, CfgCommand::Add, word),
         Line::AddGroup {
             name,
             group_type,
             non_persistent,
-        } => add_group_text(alloc, name, group_type, *non_persistent),
-        Line::DeleteGroup(name) => {
-            let command = CfgCommand::DeleteGroup;
-            format!(in alloc; "{command} {name}")
-        }
-        Line::Property { group, change } => change_text(alloc, group, change),
-        Line::SelectSnapshot(word) => optional_text(alloc, CfgCommand::SelectSnapshot, word),
-        Line::Revert(word) => optional_text(alloc, CfgCommand::Revert, word),
-        Line::End => String::from_str(alloc, CfgCommand::End.as_str()),
+        } => put_add_group(out, name, group_type, *non_persistent),
+        Line::DeleteGroup(name) => put_delete_group(out, name),
+        Line::Property { group, change } => put_change(alloc, out, group, change),
+        Line::SelectSnapshot(word) => put_optional(alloc, out, CfgCommand::SelectSnapshot, word),
+        Line::Revert(word) => put_optional(alloc, out, CfgCommand::Revert, word),
+        Line::End => out.put(CfgCommand::End.as_str()),
     }
 }
 
-fn word_text(alloc: Global, command: CfgCommand, word: &Text) -> Result<String, AllocError> {
-    let word = quoted(alloc, word.as_str())?;
-    format!(in alloc; "{command} {word}")
-}
-
-fn optional_text(
-    alloc: Global,
-    command: CfgCommand,
-    word: &Option<Text>,
-) -> Result<String, AllocError> {
-    match word {
-        None => String::from_str(alloc, command.as_str()),
-        Some(word) => word_text(alloc, command, word),
+/// A text behind a space, in quotes where it needs them.
+fn put_quoted(alloc: Global, out: &mut Answer, word: &Text) {
+    if let Some(word) = out.made(quoted(alloc, word.as_str())) {
+        write!(out, " {word}");
     }
 }
 
-fn add_group_text(
-    alloc: Global,
-    name: &Name,
-    group_type: &Name,
-    non_persistent: bool,
-) -> Result<String, AllocError> {
+fn put_word(alloc: Global, out: &mut Answer, command: CfgCommand, word: &Text) {
+    out.put(command.as_str());
+    put_quoted(alloc, out, word);
+}
+
+fn put_optional(alloc: Global, out: &mut Answer, command: CfgCommand, word: &Option<Text>) {
+    out.put(command.as_str());
+    if let Some(word) = word {
+        put_quoted(alloc, out, word);
+    }
+}
+
+fn put_add_group(out: &mut Answer, name: &Name, group_type: &Name, non_persistent: bool) {
     let command = CfgCommand::AddGroup;
     let flag = if non_persistent { " P" } else { "" };
-    format!(in alloc; "{command} {name} {group_type}{flag}")
+    write!(out, "{command} {name} {group_type}{flag}");
 }
 
-/// The text of a kind, behind a space, if there is one.
-fn kind_text(alloc: Global, kind: Option<Kind>) -> Result<String, AllocError> {
-    match kind {
-        None => Ok(String::new(alloc)),
-        Some(kind) => format!(in alloc; " {kind}"),
-    }
+fn put_delete_group(out: &mut Answer, name: &Name) {
+    let command = CfgCommand::DeleteGroup;
+    write!(out, "{command} {name}");
 }
 
-fn change_text(alloc: Global, group: &Name, change: &PropertyChange) -> Result<String, AllocError> {
-    match change {
-        PropertyChange::Set { name, kind, values } => {
-            set_text(alloc, group, name, *kind, values.as_slice())
-        }
-        PropertyChange::AddValue { name, kind, value } => {
-            let command = CfgCommand::AddValue;
-            let kind = kind_text(alloc, *kind)?;
-            let value = quoted(alloc, value.as_str())?;
-            format!(in alloc; "{command} {group}/{name}{kind} {value}")
-        }
-        PropertyChange::DeleteValue { name, value } => {
-            let command = CfgCommand::DeleteValue;
-            let value = quoted(alloc, value.as_str())?;
-            format!(in alloc; "{command} {group}/{name} {value}")
-        }
-        PropertyChange::Delete { name } => {
-            let command = CfgCommand::DeleteProperty;
-            format!(in alloc; "{command} {group}/{name}")
-        }
-    }
-}
-
-fn set_text(
-    alloc: Global,
+/// A command, a property, and the text of a kind, if there is one.
+fn put_property(
+    out: &mut Answer,
+    command: CfgCommand,
     group: &Name,
     property: &Name,
     kind: Option<Kind>,
-    values: &[Text],
-) -> Result<String, AllocError> {
-    let command = CfgCommand::SetProperty;
-    let kind = kind_text(alloc, kind)?;
-    let mut out = format!(in alloc; "{command} {group}/{property}{kind}")?;
-    for value in values {
-        out.push(' ')?;
-        out.push_str(quoted(alloc, value.as_str())?.as_str())?;
+) {
+    write!(out, "{command} {group}/{property}");
+    if let Some(kind) = kind {
+        write!(out, " {kind}");
     }
-    Ok(out)
+}
+
+fn put_change(alloc: Global, out: &mut Answer, group: &Name, change: &PropertyChange) {
+    match change {
+        PropertyChange::Set { name, kind, values } => {
+            put_property(out, CfgCommand::SetProperty, group, name, *kind);
+            put_all_quoted(alloc, out, values.as_slice());
+        }
+        PropertyChange::AddValue { name, kind, value } => {
+            put_property(out, CfgCommand::AddValue, group, name, *kind);
+            put_quoted(alloc, out, value);
+        }
+        PropertyChange::DeleteValue { name, value } => {
+            put_property(out, CfgCommand::DeleteValue, group, name, None);
+            put_quoted(alloc, out, value);
+        }
+        PropertyChange::Delete { name } => {
+            put_property(out, CfgCommand::DeleteProperty, group, name, None);
+        }
+    }
+}
+
+fn put_all_quoted(alloc: Global, out: &mut Answer, values: &[Text]) {
+    for value in values {
+        put_quoted(alloc, out, value);
+    }
 }

@@ -1,250 +1,316 @@
 //! The contract table that lines change.
 
-use crate::calls::{call_of, exit_of};
-use crate::events::{put_event, put_events, put_terms, terms_of};
-use crate::fault::CallFault;
-use crate::words::{copied, count_of, number_of, truth, words_of};
-use smf_contract::{Contract, ContractFault, Holder, Made, Status, Table, Terms};
-use smf_fmri::Number;
+use crate::answers::Answer;
+use crate::calls::{actor_of, call_of, exit_call, spawn_call};
+use crate::events::{put_event, put_events, put_terms};
+use crate::words::{number_of, put_number, split_two, split_word, truth};
+use smf_contract::{Contract, ContractFault, Event, Holder, Made, Report, Status, Table, Terms};
+use smf_fmri::{Items, Number, read_count};
 use std::alloc::{AllocError, Global};
-use std::fmt::Write;
 
-/// What a call of the table answers.
-pub(crate) fn answer(alloc: Global, table: &mut Table, line: &str) -> Result<String, CallFault> {
-    let words = words_of(alloc, line)?;
-    match words.as_slice() {
-        ["table"] => {
-            *table = Table::new(alloc);
-            copied(alloc, "done")
+/// Answers a call of the table; whether it is one.
+pub(crate) fn answer(
+    alloc: Global,
+    table: &mut Table,
+    out: &mut Answer,
+    call: &str,
+    text: &str,
+) -> bool {
+    match call {
+        "call" => called(table, out, text),
+        "spawn" => spawned(table, out, text),
+        "fork" => forked(table, out, text),
+        "adopt" | "abandon" | "kill" => held(table, out, call, text),
+        "ack" => acknowledged(table, out, text),
+        "holder_gone" => left(table, out, text),
+        "exit" => ended(table, out, text),
+        "core" | "signal" | "hwerr" => failed(table, out, call, text),
+        "report" => report(table, out, text),
+        "emptied_by" => emptied(table, out, text),
+        "contract" | "status" | "home" | "has_members" | "first_member" => {
+            asked(table, out, call, text);
         }
-        ["spawn", actor, cookie, terms @ ..] => spawn(alloc, table, actor, cookie, terms),
-        ["fork", process] => fork(alloc, table, process),
-        ["events"] => all_events(alloc, table),
-        ["events", contract, number] => events(alloc, table, contract, number),
-        ["status", contract] => status(alloc, table, contract),
-        ["list"] => list(alloc, table),
-        ["emptied_by", call @ ..] => emptied_by(alloc, table, call),
-        words => match read(alloc, table, words)? {
-            Some(answer) => Ok(answer),
-            None => {
-                change(table, words)?;
-                copied(alloc, "done")
+        "events" if !text.is_empty() => events(table, out, text),
+        _ => return text.is_empty() && whole(alloc, table, out, call),
+    }
+    true
+}
+
+/// A call of the whole table.
+fn whole(alloc: Global, table: &mut Table, out: &mut Answer, call: &str) -> bool {
+    match call {
+        "table" => {
+            *table = Table::new(alloc);
+            out.put("done");
+        }
+        "reserve" => reserved(table, out),
+        "reboot" => {
+            table.reboot();
+            out.put("done");
+        }
+        "next_contract" => put_number(out, table.next_contract()),
+        "counts" => put_counts(out, table),
+        "events" => put_events(out, table.events()),
+        "list" => put_list(out, table.list()),
+        _ => return false,
+    }
+    true
+}
+
+fn reserved(table: &mut Table, out: &mut Answer) {
+    if out.made(table.reserve()).is_some() {
+        out.put("done");
+    }
+}
+
+/// A call for which room was made needs no memory.
+fn called(table: &mut Table, out: &mut Answer, text: &str) {
+    match call_of(text) {
+        None => out.bad_line(),
+        Some(call) => match table.reserve() {
+            Ok(()) => {
+                table.call(call);
+                out.put("done");
             }
+            Err(_) => out.want_memory(),
         },
     }
 }
 
-/// The calls that only read, or none where the word is no such call.
-fn read(alloc: Global, table: &Table, words: &[&str]) -> Result<Option<String>, CallFault> {
-    Ok(Some(match words {
-        ["report", contract, number] => report(alloc, table, contract, number)?,
-        ["next_contract"] => number_text(alloc, table.next_contract())?,
-        ["contract", contract] => contract_text(alloc, table, contract)?,
-        ["home", process] => number_text(alloc, table.home(number_of(process)?))?,
-        ["has_members", contract] => {
-            copied(alloc, truth(table.has_members(number_of(contract)?)))?
-        }
-        ["first_member", contract] => {
-            number_text(alloc, table.first_member(number_of(contract)?))?
-        }
-        ["counts"] => counts(alloc, table)?,
-        _ => return Ok(None),
-    }))
-}
-
-/// A number, or `none`.
-fn number_text(alloc: Global, number: Option<Number>) -> Result<String, CallFault> {
-    match number {
-        Some(number) => {
-            let number = number.get();
-            Ok(format!(in alloc; "{number}")?)
-        }
-        None => copied(alloc, "none"),
+fn spawned(table: &mut Table, out: &mut Answer, text: &str) {
+    match spawn_call(text) {
+        None => out.bad_line(),
+        Some((actor, cookie, terms)) => spawn(table, out, actor, cookie, terms),
     }
-}
-
-/// The calls that give nothing back.
-fn change(table: &mut Table, words: &[&str]) -> Result<(), CallFault> {
-    match words {
-        ["reserve"] => table.reserve()?,
-        ["reboot"] => table.reboot(),
-        ["call", call @ ..] => {
-            let call = call_of(call)?;
-            table.reserve()?;
-            table.call(call);
-        }
-        ["holder_gone", actor] => table.holder_gone(count_of(actor)?)?,
-        ["adopt", actor, contract] => table.adopt(count_of(actor)?, number_of(contract)?)?,
-        ["abandon", actor, contract] => table.abandon(count_of(actor)?, number_of(contract)?)?,
-        ["kill", actor, contract] => table.kill(count_of(actor)?, number_of(contract)?)?,
-        ["ack", actor, contract, number] => {
-            table.ack(count_of(actor)?, number_of(contract)?, number_of(number)?)?;
-        }
-        words => end_process(table, words)?,
-    }
-    Ok(())
-}
-
-/// What happens to a process.
-fn end_process(table: &mut Table, words: &[&str]) -> Result<(), CallFault> {
-    match words {
-        ["exit", process, exit] => table.exit(number_of(process)?, exit_of(exit)?)?,
-        ["core", process] => table.core(number_of(process)?)?,
-        ["signal", process] => table.signal(number_of(process)?)?,
-        ["hwerr", process] => table.hwerr(number_of(process)?)?,
-        _ => return Err(CallFault::BadLine),
-    }
-    Ok(())
 }
 
 /// A spawn for which room was made needs no memory.
-fn spawn_with_room(
-    table: &mut Table,
-    actor: u64,
-    cookie: u64,
-    terms: Terms,
-) -> Result<Made, CallFault> {
-    table.reserve()?;
-    match table.spawn(actor, cookie, terms) {
-        Ok(made) => Ok(made),
-        Err(ContractFault::Memory) => unreachable!(),
-        Err(fault) => Err(CallFault::Contract(fault)),
+fn spawn(table: &mut Table, out: &mut Answer, actor: u64, cookie: u64, terms: Terms) {
+    match table.reserve() {
+        Ok(()) => match table.spawn(actor, cookie, terms) {
+            Ok(made) => put_made(out, made),
+            Err(ContractFault::Memory) => unreachable!(),
+            Err(fault) => out.done(Err(fault)),
+        },
+        Err(_) => out.want_memory(),
     }
 }
 
-/// `ACTOR COOKIE INFORMATIVE CRITICAL FATAL`, and then perhaps `inherit`, `noorphan`.
-fn spawn(
-    alloc: Global,
-    table: &mut Table,
-    actor: &str,
-    cookie: &str,
-    terms: &[&str],
-) -> Result<String, CallFault> {
-    let terms = terms_of(terms)?;
-    let made = spawn_with_room(table, count_of(actor)?, count_of(cookie)?, terms)?;
+fn put_made(out: &mut Answer, made: Made) {
     let (contract, process) = (made.contract.get(), made.process.get());
-    Ok(format!(in alloc; "contract {contract} process {process}")?)
+    write!(out, "contract {contract} process {process}");
 }
 
-fn fork(alloc: Global, table: &mut Table, process: &str) -> Result<String, CallFault> {
-    let child = table.fork(number_of(process)?)?.get();
-    Ok(format!(in alloc; "process {child}")?)
+fn forked(table: &mut Table, out: &mut Answer, text: &str) {
+    match number_of(text) {
+        None => out.bad_line(),
+        Some(process) => {
+            if let Some(child) = out.given(table.fork(process)) {
+                let child = child.get();
+                write!(out, "process {child}");
+            }
+        }
+    }
 }
 
-fn all_events(alloc: Global, table: &Table) -> Result<String, CallFault> {
-    let mut out = String::new(alloc);
-    put_events(&mut out, table.events())?;
-    Ok(out)
+/// `ACTOR CONTRACT`.
+fn held(table: &mut Table, out: &mut Answer, call: &str, text: &str) {
+    match actor_of(text) {
+        None => out.bad_line(),
+        Some((actor, contract)) => out.done(match call {
+            "adopt" => table.adopt(actor, contract),
+            "abandon" => table.abandon(actor, contract),
+            _ => table.kill(actor, contract),
+        }),
+    }
 }
 
-fn events(alloc: Global, table: &Table, contract: &str, number: &str) -> Result<String, CallFault> {
-    let events = table.events_from(number_of(contract)?, number_of(number)?)?;
-    let mut out = String::new(alloc);
-    put_events(&mut out, events.as_slice())?;
-    Ok(out)
+/// `ACTOR CONTRACT NUMBER`.
+fn acknowledgement_of(text: &str) -> Option<(u64, Number, Number)> {
+    let (actor, contract, number) = split_two(text);
+    Some((read_count(actor)?, number_of(contract)?, number_of(number)?))
 }
 
-fn put_holder(out: &mut String, holder: Holder) -> Result<(), AllocError> {
+fn acknowledged(table: &mut Table, out: &mut Answer, text: &str) {
+    match acknowledgement_of(text) {
+        None => out.bad_line(),
+        Some((actor, contract, number)) => out.done(table.ack(actor, contract, number)),
+    }
+}
+
+fn left(table: &mut Table, out: &mut Answer, text: &str) {
+    match read_count(text) {
+        None => out.bad_line(),
+        Some(actor) => {
+            if out.made(table.holder_gone(actor)).is_some() {
+                out.put("done");
+            }
+        }
+    }
+}
+
+fn ended(table: &mut Table, out: &mut Answer, text: &str) {
+    match exit_call(text) {
+        None => out.bad_line(),
+        Some((process, exit)) => out.done(table.exit(process, exit)),
+    }
+}
+
+fn failed(table: &mut Table, out: &mut Answer, call: &str, text: &str) {
+    match number_of(text) {
+        None => out.bad_line(),
+        Some(process) => out.done(match call {
+            "core" => table.core(process),
+            "signal" => table.signal(process),
+            _ => table.hwerr(process),
+        }),
+    }
+}
+
+/// What is asked of a contract; `home` is asked of a process.
+fn asked(table: &Table, out: &mut Answer, call: &str, text: &str) {
+    match number_of(text) {
+        None => out.bad_line(),
+        Some(number) => match call {
+            "contract" => put_found(out, table.contract(number)),
+            "status" => put_status_of(out, table.status(number)),
+            "home" => put_number(out, table.home(number)),
+            "has_members" => out.put(truth(table.has_members(number))),
+            _ => put_number(out, table.first_member(number)),
+        },
+    }
+}
+
+/// `CONTRACT NUMBER`.
+fn place_of(text: &str) -> Option<(Number, Number)> {
+    let (contract, number) = split_word(text);
+    Some((number_of(contract)?, number_of(number)?))
+}
+
+fn events(table: &Table, out: &mut Answer, text: &str) {
+    match place_of(text) {
+        None => out.bad_line(),
+        Some((contract, number)) => put_given(out, table.events_from(contract, number)),
+    }
+}
+
+fn put_given(out: &mut Answer, events: Result<Items<Event>, AllocError>) {
+    if let Some(events) = out.made(events) {
+        put_events(out, events.as_slice());
+    }
+}
+
+fn put_holder(out: &mut Answer, holder: Holder) {
     match holder {
         Holder::Held(actor) => write!(out, "held {actor}"),
-        Holder::Inherited => out.push_str("inherited"),
-        Holder::Abandoned => out.push_str("abandoned"),
+        Holder::Inherited => out.put("inherited"),
+        Holder::Abandoned => out.put("abandoned"),
     }
 }
 
-fn put_numbers(out: &mut String, numbers: &[Number]) -> Result<(), AllocError> {
+fn put_contract(out: &mut Answer, contract: &Contract) {
+    let (id, cookie) = (contract.id.get(), contract.cookie);
+    let (first, acknowledged) = (contract.first.get(), contract.acknowledged.get());
+    write!(out, "contract {id} cookie {cookie} ");
+    put_holder(out, contract.holder);
+    out.put(" terms ");
+    put_terms(out, &contract.terms);
+    write!(out, " first {first} acknowledged {acknowledged}");
+}
+
+/// Numbers, each behind a space; `-` where there is none.
+fn put_numbers(out: &mut Answer, numbers: &[Number]) {
     if numbers.is_empty() {
-        out.push_str(" -")?;
+        out.put(" -");
     }
     for number in numbers {
         let number = number.get();
-        write!(out, " {number}")?;
+        write!(out, " {number}");
     }
-    Ok(())
 }
 
-fn put_contract(out: &mut String, contract: &Contract) -> Result<(), AllocError> {
-    let (id, cookie) = (contract.id.get(), contract.cookie);
-    let (first, acknowledged) = (contract.first.get(), contract.acknowledged.get());
-    write!(out, "contract {id} cookie {cookie} ")?;
-    put_holder(out, contract.holder)?;
-    out.push_str(" terms ")?;
-    put_terms(out, &contract.terms)?;
-    write!(out, " first {first} acknowledged {acknowledged}")
+fn put_status(out: &mut Answer, status: &Status) {
+    put_contract(out, &status.contract);
+    out.put(" members");
+    put_numbers(out, status.members.as_slice());
+    out.put(" events ");
+    put_events(out, status.events.as_slice());
 }
 
-fn put_status(out: &mut String, status: &Status) -> Result<(), AllocError> {
-    put_contract(out, &status.contract)?;
-    out.push_str(" members")?;
-    put_numbers(out, status.members.as_slice())?;
-    out.push_str(" events ")?;
-    put_events(out, status.events.as_slice())
-}
-
-fn status(alloc: Global, table: &Table, contract: &str) -> Result<String, CallFault> {
-    let Some(status) = table.status(number_of(contract)?)? else {
-        return copied(alloc, "none");
-    };
-    let mut out = String::new(alloc);
-    put_status(&mut out, &status)?;
-    Ok(out)
+fn put_status_of(out: &mut Answer, status: Result<Option<Status>, AllocError>) {
+    match out.made(status) {
+        Some(Some(status)) => put_status(out, &status),
+        Some(None) => out.put("none"),
+        None => {}
+    }
 }
 
 /// The contract of an id, without its members and events.
-fn contract_text(alloc: Global, table: &Table, contract: &str) -> Result<String, CallFault> {
-    let Some(contract) = table.contract(number_of(contract)?) else {
-        return copied(alloc, "none");
-    };
-    let mut out = String::new(alloc);
-    put_contract(&mut out, &contract)?;
-    Ok(out)
+fn put_found(out: &mut Answer, contract: Option<Contract>) {
+    match contract {
+        Some(contract) => put_contract(out, &contract),
+        None => out.put("none"),
+    }
+}
+
+fn counts_of(text: &str) -> Option<(u64, u64)> {
+    let (contract, number) = split_word(text);
+    Some((read_count(contract)?, read_count(number)?))
 }
 
 /// An event of a contract, behind the contract.
-fn report(alloc: Global, table: &Table, contract: &str, number: &str) -> Result<String, CallFault> {
-    let Some(report) = table.report(count_of(contract)?, count_of(number)?) else {
-        return copied(alloc, "none");
-    };
-    let mut out = String::new(alloc);
-    put_contract(&mut out, &report.contract)?;
-    out.push_str(" event ")?;
-    put_event(&mut out, &report.event)?;
-    Ok(out)
+fn report(table: &Table, out: &mut Answer, text: &str) {
+    match counts_of(text) {
+        None => out.bad_line(),
+        Some((contract, number)) => put_report(out, table.report(contract, number)),
+    }
+}
+
+fn put_report(out: &mut Answer, report: Option<Report>) {
+    match report {
+        None => out.put("none"),
+        Some(report) => {
+            put_contract(out, &report.contract);
+            out.put(" event ");
+            put_event(out, &report.event);
+        }
+    }
 }
 
 /// The contracts that a call would empty.
-fn emptied_by(alloc: Global, table: &Table, call: &[&str]) -> Result<String, CallFault> {
-    let ids = table.emptied_by(call_of(call)?)?;
-    let mut out = String::from_str(alloc, "contracts")?;
-    put_numbers(&mut out, ids.as_slice())?;
-    Ok(out)
+fn emptied(table: &Table, out: &mut Answer, text: &str) {
+    match call_of(text) {
+        None => out.bad_line(),
+        Some(call) => put_ids(out, table.emptied_by(call)),
+    }
+}
+
+fn put_ids(out: &mut Answer, ids: Result<Items<Number>, AllocError>) {
+    if let Some(ids) = out.made(ids) {
+        out.put("contracts");
+        put_numbers(out, ids.as_slice());
+    }
 }
 
 /// How many contracts, members and events there are, and the last numbers that were given.
-fn counts(alloc: Global, table: &Table) -> Result<String, CallFault> {
+fn put_counts(out: &mut Answer, table: &Table) {
     let (contracts, members) = (table.contracts().len(), table.members().len());
     let events = table.events().len();
     let (contract, process) = (table.last_contract().get(), table.last_process().get());
-    let mut out = String::new(alloc);
     write!(
         out,
         "contracts {contracts} members {members} events {events} "
-    )?;
-    write!(out, "last contract {contract} process {process}")?;
-    Ok(out)
+    );
+    write!(out, "last contract {contract} process {process}");
 }
 
 /// All contracts with a bar between two; `-` where there is none.
-fn list(alloc: Global, table: &Table) -> Result<String, CallFault> {
-    let mut out = String::new(alloc);
-    for status in table.list()?.as_slice() {
-        if !out.is_empty() {
-            out.push_str(" | ")?;
+fn put_list(out: &mut Answer, list: Result<Items<Status>, AllocError>) {
+    if let Some(list) = out.made(list) {
+        for status in list.as_slice() {
+            out.put_between(" | ");
+            put_status(out, status);
         }
-        put_status(&mut out, status)?;
+        out.put_if_empty("-");
     }
-    if out.is_empty() {
-        out.push('-')?;
-    }
-    Ok(out)
 }

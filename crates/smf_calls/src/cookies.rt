@@ -1,58 +1,66 @@
 //! Cookies of contracts.
 
-use crate::fault::CallFault;
-use crate::words::{copied, count_of, words_of};
-use smf_contract::{Cookie, Method};
-use std::alloc::Global;
+use crate::answers::Answer;
+use crate::words::split_two;
+use smf_contract::{Cookie, CookieFault, Method};
+use smf_fmri::read_count;
+use smf_method::method_text;
 
-/// What a call of cookies answers, or none where the word is no such call.
-pub(crate) fn answer(alloc: Global, call: &str, text: &str) -> Result<Option<String>, CallFault> {
-    let answer = match call {
-        "cookie" => packed(alloc, text),
-        "unpack" => unpacked(alloc, count_of(text)?),
-        _ => return Ok(None),
-    };
-    Ok(Some(answer?))
-}
-
-pub(crate) fn method_of(word: &str) -> Result<Method, CallFault> {
-    match word {
-        "start" => Ok(Method::Start),
-        "stop" => Ok(Method::Stop),
-        "refresh" => Ok(Method::Refresh),
-        _ => Err(CallFault::BadLine),
+/// Answers a call of cookies; whether it is one.
+pub(crate) fn answer(out: &mut Answer, call: &str, text: &str) -> bool {
+    match call {
+        "cookie" => packed(out, text),
+        "unpack" => unpacked(out, text),
+        _ => return false,
     }
+    true
 }
 
-fn method_text(method: Method) -> &'static str {
-    match method {
-        Method::Start => "start",
-        Method::Stop => "stop",
-        Method::Refresh => "refresh",
+pub(crate) fn method_of(word: &str) -> Option<Method> {
+    match word {
+        "start" => Some(Method::Start),
+        "stop" => Some(Method::Stop),
+        "refresh" => Some(Method::Refresh),
+        _ => None,
     }
 }
 
 /// `INSTANCE RUN METHOD`.
-fn cookie_of(alloc: Global, text: &str) -> Result<Cookie, CallFault> {
-    match words_of(alloc, text)?.as_slice() {
-        [instance, run, method] => Ok(Cookie {
-            instance: count_of(instance)?,
-            run: count_of(run)?,
-            method: method_of(method)?,
-        }),
-        _ => Err(CallFault::BadLine),
+fn cookie_of(text: &str) -> Option<Cookie> {
+    let (instance, run, method) = split_two(text);
+    Some(Cookie {
+        instance: read_count(instance)?,
+        run: read_count(run)?,
+        method: method_of(method)?,
+    })
+}
+
+fn packed(out: &mut Answer, text: &str) {
+    match cookie_of(text) {
+        Some(cookie) => put_bits(out, cookie.pack()),
+        None => out.bad_line(),
     }
 }
 
-fn packed(alloc: Global, text: &str) -> Result<String, CallFault> {
-    let bits = cookie_of(alloc, text)?.pack()?;
-    Ok(format!(in alloc; "{bits}")?)
+fn put_bits(out: &mut Answer, bits: Result<u64, CookieFault>) {
+    if let Some(bits) = out.given(bits) {
+        write!(out, "{bits}");
+    }
 }
 
-fn unpacked(alloc: Global, bits: u64) -> Result<String, CallFault> {
-    let Some(cookie) = Cookie::unpack(bits) else {
-        return copied(alloc, "none");
-    };
-    let (instance, run, method) = (cookie.instance, cookie.run, method_text(cookie.method));
-    Ok(format!(in alloc; "{instance} {run} {method}")?)
+fn unpacked(out: &mut Answer, text: &str) {
+    match read_count(text) {
+        Some(bits) => put_cookie(out, Cookie::unpack(bits)),
+        None => out.bad_line(),
+    }
+}
+
+fn put_cookie(out: &mut Answer, cookie: Option<Cookie>) {
+    match cookie {
+        None => out.put("none"),
+        Some(cookie) => {
+            let (instance, run, method) = (cookie.instance, cookie.run, method_text(cookie.method));
+            write!(out, "{instance} {run} {method}");
+        }
+    }
 }

@@ -1,29 +1,33 @@
 //! Dependencies: what the group that lines made asks, and how one stands over the view.
 
-use crate::fault::CallFault;
-use crate::methods::groups_of;
-use crate::words::{copied, words_of};
-use smf_dep::{Dependency, Graph, Grouping, RestartOn, Verdict, read_groups};
-use smf_fmri::{Fmri, Items};
+use crate::answers::Answer;
+use crate::groups::alone;
+use crate::names::names_of;
+use crate::words::split_word;
+use smf_dep::{
+    Dependency, DependencyFault, Finding, Graph, Grouping, RestartOn, Verdict, read_groups,
+};
+use smf_fmri::Items;
 use smf_state::ViewItem;
 use smf_value::Group;
-use std::alloc::Global;
+use std::alloc::{AllocError, Global};
 
-/// What a call of dependencies answers, or none where the word is no such call.
+/// Answers a call of dependencies; whether it is one.
 pub(crate) fn answer(
     alloc: Global,
     group: &Option<Group>,
     items: &[ViewItem],
+    out: &mut Answer,
     call: &str,
     text: &str,
-) -> Result<Option<String>, CallFault> {
-    let answer = match call {
-        "dependency" => read(alloc, group),
-        "verdict" => verdict(alloc, items, text),
-        "found" => found(alloc, items),
-        _ => return Ok(None),
-    };
-    Ok(Some(answer?))
+) -> bool {
+    match call {
+        "dependency" => read(alloc, group, out),
+        "verdict" => judged(alloc, items, out, text),
+        "found" => found(alloc, items, out),
+        _ => return false,
+    }
+    true
 }
 
 fn grouping_text(grouping: Grouping) -> &'static str {
@@ -45,25 +49,28 @@ fn restart_text(restart_on: RestartOn) -> &'static str {
 }
 
 /// Its grouping, what it restarts on, and its entities.
-fn dependency_text(alloc: Global, dependency: &Dependency) -> Result<String, CallFault> {
-    let mut out = String::new(alloc);
-    out.push_str(grouping_text(dependency.grouping))?;
-    out.push(' ')?;
-    out.push_str(restart_text(dependency.restart_on))?;
+fn put_dependency(out: &mut Answer, dependency: &Dependency) {
+    out.put(grouping_text(dependency.grouping));
+    out.put(" ");
+    out.put(restart_text(dependency.restart_on));
     for entity in dependency.entities.as_slice() {
-        out.push(' ')?;
-        out.push_str(entity.print())?;
+        write!(out, " {entity}");
     }
-    Ok(out)
+}
+
+fn put_first(out: &mut Answer, dependencies: Result<Items<Dependency>, DependencyFault>) {
+    if let Some(dependencies) = out.given(dependencies) {
+        match dependencies.as_slice() {
+            [dependency, ..] => put_dependency(out, dependency),
+            [] => out.put("none"),
+        }
+    }
 }
 
 /// What the group that lines made asks, where it is of type `dependency`.
-fn read(alloc: Global, group: &Option<Group>) -> Result<String, CallFault> {
-    let groups = groups_of(alloc, group)?;
-    let dependencies = read_groups(alloc, &groups)?;
-    match dependencies.as_slice() {
-        [dependency, ..] => dependency_text(alloc, dependency),
-        [] => copied(alloc, "none"),
+fn read(alloc: Global, group: &Option<Group>, out: &mut Answer) {
+    if let Some(groups) = out.made(alone(alloc, group)) {
+        put_first(out, read_groups(alloc, &groups));
     }
 }
 
@@ -75,49 +82,47 @@ fn verdict_text(verdict: Verdict) -> &'static str {
     }
 }
 
-fn dependency_of(
-    alloc: Global,
-    grouping: &str,
-    entities: &[&str],
-) -> Result<Dependency, CallFault> {
-    let Some(grouping) = Grouping::parse(grouping) else {
-        return Err(CallFault::BadLine);
-    };
-    let mut names = Items::new(alloc);
-    for entity in entities {
-        names.push(Fmri::parse(alloc, entity)?)?;
-    }
-    Ok(Dependency {
+fn dependency_of(alloc: Global, out: &mut Answer, text: &str) -> Option<Dependency> {
+    let (grouping, entities) = split_word(text);
+    let grouping = out.found(Grouping::parse(grouping))?;
+    let entities = names_of(alloc, out, entities)?;
+    Some(Dependency {
         grouping,
         restart_on: RestartOn::Nothing,
-        entities: names,
+        entities,
     })
 }
 
-/// `GROUPING ENTITY..`: how such a group stands over the view.
-fn verdict(alloc: Global, items: &[ViewItem], text: &str) -> Result<String, CallFault> {
-    match words_of(alloc, text)?.as_slice() {
-        [grouping, entities @ ..] => {
-            let dependency = dependency_of(alloc, grouping, entities)?;
-            let graph = Graph::of(alloc, items)?;
-            copied(alloc, verdict_text(graph.verdict(alloc, &dependency)?))
-        }
-        [] => Err(CallFault::BadLine),
+fn put_verdict(out: &mut Answer, verdict: Result<Verdict, AllocError>) {
+    if let Some(verdict) = out.made(verdict) {
+        out.put(verdict_text(verdict));
     }
+}
+
+/// `GROUPING ENTITY..`: how such a group stands over the view.
+fn judged(alloc: Global, items: &[ViewItem], out: &mut Answer, text: &str) {
+    if let Some(dependency) = dependency_of(alloc, out, text)
+        && let Some(graph) = out.made(Graph::of(alloc, items))
+    {
+        put_verdict(out, graph.verdict(alloc, &dependency));
+    }
+}
+
+fn put_finding(out: &mut Answer, finding: Finding) {
+    out.put(if finding.readable { "-" } else { "u" });
+    out.put(if finding.all_met { "m" } else { "-" });
+    out.put(if finding.must_stop { "s" } else { "-" });
+    out.put(if finding.on_cycle { "c|" } else { "-|" });
 }
 
 /// What is found of each instance of the view: `u` where its groups can't be read, `m` where all are met, `s` where one
 /// stops it, `c` where it is on a cycle.
-fn found(alloc: Global, items: &[ViewItem]) -> Result<String, CallFault> {
-    let graph = Graph::of(alloc, items)?;
-    let mut out = String::new(alloc);
-    for place in 0..items.len() {
-        if let Some(finding) = graph.finding(place) {
-            out.push_str(if finding.readable { "-" } else { "u" })?;
-            out.push_str(if finding.all_met { "m" } else { "-" })?;
-            out.push_str(if finding.must_stop { "s" } else { "-" })?;
-            out.push_str(if finding.on_cycle { "c|" } else { "-|" })?;
+fn found(alloc: Global, items: &[ViewItem], out: &mut Answer) {
+    if let Some(graph) = out.made(Graph::of(alloc, items)) {
+        for place in 0..items.len() {
+            if let Some(finding) = graph.finding(place) {
+                put_finding(out, finding);
+            }
         }
     }
-    Ok(out)
 }

@@ -1,10 +1,9 @@
 //! Sets of kinds of events, terms of contracts, and events, as words.
 
-use crate::fault::CallFault;
+use crate::answers::Answer;
+use crate::words::{split_two, split_word};
 use bitflags::Flags;
 use smf_contract::{Event, EventKind, EventSet, Exit, Terms};
-use std::alloc::AllocError;
-use std::fmt::Write;
 
 /// The kinds of events, and their words.
 const KINDS: [(&str, EventSet); 6] = [
@@ -16,40 +15,47 @@ const KINDS: [(&str, EventSet); 6] = [
     ("hwerr", EventSet::HWERR),
 ];
 
-fn kind_of(word: &str) -> Result<EventSet, CallFault> {
-    for (text, kind) in KINDS {
-        if text == word {
-            return Ok(kind);
-        }
+fn kind_of(word: &str) -> Option<EventSet> {
+    match word {
+        "empty" => Some(EventSet::EMPTY),
+        "fork" => Some(EventSet::FORK),
+        "exit" => Some(EventSet::EXIT),
+        "core" => Some(EventSet::CORE),
+        "signal" => Some(EventSet::SIGNAL),
+        "hwerr" => Some(EventSet::HWERR),
+        _ => None,
     }
-    Err(CallFault::BadLine)
 }
 
 /// The kinds that stand between commas; `-` is none.
-fn set_of(text: &str) -> Result<EventSet, CallFault> {
+fn set_of(text: &str) -> Option<EventSet> {
     let mut set = EventSet::NONE;
     if text == "-" {
-        return Ok(set);
+        return Some(set);
     }
     for word in text.split(',') {
         set = set.union(kind_of(word)?);
     }
-    Ok(set)
+    Some(set)
+}
+
+/// Whether contracts are inherited, and whether they are not left.
+fn flags_of(text: &str) -> Option<(bool, bool)> {
+    match text {
+        "" => Some((false, false)),
+        "inherit" => Some((true, false)),
+        "noorphan" => Some((false, true)),
+        "inherit noorphan" => Some((true, true)),
+        _ => None,
+    }
 }
 
 /// `INFORMATIVE CRITICAL FATAL`, and then perhaps `inherit`, `noorphan`.
-pub(crate) fn terms_of(words: &[&str]) -> Result<Terms, CallFault> {
-    let [informative, critical, fatal, rest @ ..] = words else {
-        return Err(CallFault::BadLine);
-    };
-    let (inherit, noorphan) = match rest {
-        [] => (false, false),
-        ["inherit"] => (true, false),
-        ["noorphan"] => (false, true),
-        ["inherit", "noorphan"] => (true, true),
-        _ => return Err(CallFault::BadLine),
-    };
-    Ok(Terms {
+pub(crate) fn terms_of(text: &str) -> Option<Terms> {
+    let (informative, critical, rest) = split_two(text);
+    let (fatal, flags) = split_word(rest);
+    let (inherit, noorphan) = flags_of(flags)?;
+    Some(Terms {
         informative: set_of(informative)?,
         critical: set_of(critical)?,
         fatal: set_of(fatal)?,
@@ -58,81 +64,66 @@ pub(crate) fn terms_of(words: &[&str]) -> Result<Terms, CallFault> {
     })
 }
 
-/// A text behind a mark, but where it is the first one.
-fn put_behind(out: &mut String, is_first: bool, mark: &str, text: &str) -> Result<(), AllocError> {
-    if !is_first {
-        out.push_str(mark)?;
-    }
-    out.push_str(text)
-}
-
-/// `-`, where there is nothing.
-fn put_none(out: &mut String, is_empty: bool) -> Result<(), AllocError> {
-    if is_empty {
-        out.push('-')?;
-    }
-    Ok(())
-}
-
-fn put_set(out: &mut String, set: EventSet) -> Result<(), AllocError> {
+/// A set of kinds; `-` where it is empty.
+fn put_set(out: &mut Answer, set: EventSet) {
     let mut is_empty = true;
     for (text, kind) in KINDS {
         if set.contains(kind) {
-            put_behind(out, is_empty, ",", text)?;
+            out.put(if is_empty { "" } else { "," });
+            out.put(text);
             is_empty = false;
         }
     }
-    put_none(out, is_empty)
+    put_if(out, is_empty, "-");
 }
 
-pub(crate) fn put_terms(out: &mut String, terms: &Terms) -> Result<(), AllocError> {
-    put_set(out, terms.informative)?;
-    out.push(' ')?;
-    put_set(out, terms.critical)?;
-    out.push(' ')?;
-    put_set(out, terms.fatal)?;
-    if terms.inherit {
-        out.push_str(" inherit")?;
+/// A word where something is so.
+fn put_if(out: &mut Answer, is_so: bool, word: &str) {
+    if is_so {
+        out.put(word);
     }
-    if terms.noorphan {
-        out.push_str(" noorphan")?;
-    }
-    Ok(())
+}
+
+pub(crate) fn put_terms(out: &mut Answer, terms: &Terms) {
+    put_set(out, terms.informative);
+    out.put(" ");
+    put_set(out, terms.critical);
+    out.put(" ");
+    put_set(out, terms.fatal);
+    put_if(out, terms.inherit, " inherit");
+    put_if(out, terms.noorphan, " noorphan");
 }
 
 /// How a process ended.
-fn put_exit(out: &mut String, kind: EventKind) -> Result<(), AllocError> {
+fn put_exit(out: &mut Answer, kind: EventKind) {
     match kind {
-        EventKind::Exit(_, Exit::Killed) => out.push_str(" killed"),
+        EventKind::Exit(_, Exit::Killed) => out.put(" killed"),
         EventKind::Exit(_, Exit::Code(code)) => write!(out, " {code}"),
-        _ => Ok(()),
+        _ => {}
     }
 }
 
 /// `CONTRACT/NUMBER KIND`, and then the process that it happened to, how it ended, and `left` where
 /// a member is left.
-pub(crate) fn put_event(out: &mut String, event: &Event) -> Result<(), AllocError> {
+pub(crate) fn put_event(out: &mut Answer, event: &Event) {
     let (contract, number) = (event.contract.get(), event.number.get());
-    write!(out, "{contract}/{number} ")?;
-    put_set(out, event.kind.set())?;
+    write!(out, "{contract}/{number} ");
+    put_set(out, event.kind.set());
     if let Some(process) = event.kind.process() {
         let process = process.get();
-        write!(out, " {process}")?;
+        write!(out, " {process}");
     }
-    put_exit(out, event.kind)?;
-    if event.left {
-        out.push_str(" left")?;
-    }
-    Ok(())
+    put_exit(out, event.kind);
+    put_if(out, event.left, " left");
 }
 
 /// Events with commas between; `-` where there is none.
-pub(crate) fn put_events(out: &mut String, events: &[Event]) -> Result<(), AllocError> {
-    let mut is_first = true;
+pub(crate) fn put_events(out: &mut Answer, events: &[Event]) {
+    let mut is_empty = true;
     for event in events {
-        put_behind(out, is_first, ", ", "")?;
-        put_event(out, event)?;
-        is_first = false;
+        out.put(if is_empty { "" } else { ", " });
+        put_event(out, event);
+        is_empty = false;
     }
-    put_none(out, is_first)
+    put_if(out, is_empty, "-");
 }

@@ -1,24 +1,33 @@
 //! Fields of lines: what is read, and behind a slash what is left.
 
-use crate::fault::CallFault;
-use crate::words::{copied, split_word, truth};
+use crate::answers::Answer;
+use crate::rows::{cause_text, state_text};
+use crate::words::{put_count, put_text, split_word, truth};
+use smf_fmri::InstanceFmri;
 use smf_state::{
-    asks_at, cause_at, duration_at, field_at, flag_at, ignore_at, left_of, name_at, number_at,
-    optional_cause_at, optional_number_at, optional_state_at, row_at, state_at, step_at,
+    FieldFault, Row, WrongField, asks_at, cause_at, duration_at, field_at, flag_at, ignore_at,
+    left_of, name_at, number_at, optional_cause_at, optional_number_at, optional_state_at, row_at,
+    state_at, step_at,
 };
 use std::alloc::Global;
 
-/// What a call of fields answers, or none where the word is no such call.
-pub(crate) fn answer(alloc: Global, call: &str, text: &str) -> Result<Option<String>, CallFault> {
-    if call != "field" {
-        return Ok(None);
-    }
+/// Answers a call of fields.
+pub(crate) fn answer(alloc: Global, out: &mut Answer, text: &str) {
     let (kind, _) = split_word(text);
     let line = line_of(text);
-    if let Some(answer) = numbers(alloc, kind, line)? {
-        return Ok(Some(answer));
+    match kind {
+        "left" | "number" | "optional_number" | "asks" | "ignore" => {
+            put_number(out, number_of(kind, line));
+        }
+        "any" => put_field(out, field_at(line)),
+        "name" => put_name(out, name_at(alloc, line)),
+        "row" => put_row(alloc, out, row_at(alloc, line)),
+        "step" => put_step(alloc, out, line),
+        "flag" | "state" | "optional_state" | "cause" | "optional_cause" | "duration" => {
+            put_word(out, word_of(kind, line));
+        }
+        _ => out.bad_line(),
     }
-    words(alloc, kind, line)
 }
 
 /// What stands behind the kind of a field: nothing where the kind stands alone.
@@ -29,121 +38,113 @@ fn line_of(text: &str) -> Option<&str> {
     }
 }
 
-fn numbers(alloc: Global, kind: &str, line: Option<&str>) -> Result<Option<String>, CallFault> {
-    let answer = match kind {
-        "left" => number_text(alloc, left_of(line) as u64, None),
-        "number" => number(alloc, line),
-        "optional_number" => optional_number(alloc, line),
-        "asks" => asks(alloc, line),
-        "ignore" => ignore(alloc, line),
-        "flag" => flag(alloc, line),
-        _ => return Ok(None),
-    };
-    Ok(Some(answer?))
-}
-
-fn words(alloc: Global, kind: &str, line: Option<&str>) -> Result<Option<String>, CallFault> {
-    let answer = match kind {
-        "any" => any(alloc, line),
-        "state" => state(alloc, line),
-        "optional_state" => optional_state(alloc, line),
-        "cause" => cause(alloc, line),
-        "optional_cause" => optional_cause(alloc, line),
-        "duration" => duration(alloc, line),
-        "name" => name(alloc, line),
-        "row" => row(alloc, line),
-        "step" => step(alloc, line),
-        _ => return Ok(None),
-    };
-    Ok(Some(answer?))
-}
-
-/// What was read, and what is left where something is.
-fn word_text(alloc: Global, word: &str, rest: Option<&str>) -> Result<String, CallFault> {
-    match rest {
-        None => copied(alloc, word),
-        Some(rest) => Ok(format!(in alloc; "{word} / {rest}")?),
+fn put_rest(out: &mut Answer, rest: Option<&str>) {
+    if let Some(rest) = rest {
+        write!(out, " / {rest}");
     }
 }
 
-fn number_text(alloc: Global, number: u64, rest: Option<&str>) -> Result<String, CallFault> {
-    let word = format!(in alloc; "{number}")?;
-    word_text(alloc, word.as_str(), rest)
-}
-
-fn any(alloc: Global, line: Option<&str>) -> Result<String, CallFault> {
-    match field_at(line) {
-        None => copied(alloc, "none"),
-        Some((word, rest)) => word_text(alloc, word, rest),
+/// A number, and what is left.
+fn number_of<'a>(
+    kind: &str,
+    line: Option<&'a str>,
+) -> Result<(Option<u64>, Option<&'a str>), WrongField> {
+    match kind {
+        "left" => Ok((Some(left_of(line) as u64), None)),
+        "number" => {
+            let (number, rest) = number_at(line)?;
+            Ok((Some(number), rest))
+        }
+        "optional_number" => optional_number_at(line),
+        "asks" => {
+            let (asks, rest) = asks_at(line)?;
+            Ok((Some(u64::from(asks.number())), rest))
+        }
+        _ => {
+            let (bits, rest) = ignore_at(line)?;
+            Ok((Some(u64::from(bits)), rest))
+        }
     }
 }
 
-fn number(alloc: Global, line: Option<&str>) -> Result<String, CallFault> {
-    let (number, rest) = number_at(line)?;
-    number_text(alloc, number, rest)
-}
-
-fn optional_number(alloc: Global, line: Option<&str>) -> Result<String, CallFault> {
-    match optional_number_at(line)? {
-        (Some(number), rest) => number_text(alloc, number, rest),
-        (None, rest) => word_text(alloc, "none", rest),
+fn put_number(out: &mut Answer, read: Result<(Option<u64>, Option<&str>), WrongField>) {
+    if let Some((number, rest)) = out.given(read) {
+        put_count(out, number);
+        put_rest(out, rest);
     }
 }
 
-fn asks(alloc: Global, line: Option<&str>) -> Result<String, CallFault> {
-    let (asks, rest) = asks_at(line)?;
-    number_text(alloc, u64::from(asks.number()), rest)
+/// A word, and what is left.
+fn word_of<'a>(
+    kind: &str,
+    line: Option<&'a str>,
+) -> Result<(&'static str, Option<&'a str>), WrongField> {
+    match kind {
+        "flag" => {
+            let (flag, rest) = flag_at(line)?;
+            Ok((truth(flag), rest))
+        }
+        "state" => {
+            let (state, rest) = state_at(line)?;
+            Ok((state.text(), rest))
+        }
+        "optional_state" => {
+            let (state, rest) = optional_state_at(line)?;
+            Ok((state_text(state, "none"), rest))
+        }
+        "cause" => {
+            let (cause, rest) = cause_at(line)?;
+            Ok((cause.text(), rest))
+        }
+        "optional_cause" => {
+            let (cause, rest) = optional_cause_at(line)?;
+            Ok((cause_text(cause, "none"), rest))
+        }
+        _ => {
+            let (duration, rest) = duration_at(line)?;
+            Ok((duration.text(), rest))
+        }
+    }
 }
 
-fn ignore(alloc: Global, line: Option<&str>) -> Result<String, CallFault> {
-    let (bits, rest) = ignore_at(line)?;
-    number_text(alloc, u64::from(bits), rest)
+fn put_word(out: &mut Answer, read: Result<(&'static str, Option<&str>), WrongField>) {
+    if let Some((word, rest)) = out.given(read) {
+        out.put(word);
+        put_rest(out, rest);
+    }
 }
 
-fn flag(alloc: Global, line: Option<&str>) -> Result<String, CallFault> {
-    let (flag, rest) = flag_at(line)?;
-    word_text(alloc, truth(flag), rest)
+/// A field of any kind.
+fn put_field(out: &mut Answer, field: Option<(&str, Option<&str>)>) {
+    match field {
+        None => out.put("none"),
+        Some((word, rest)) => {
+            out.put(word);
+            put_rest(out, rest);
+        }
+    }
 }
 
-fn state(alloc: Global, line: Option<&str>) -> Result<String, CallFault> {
-    let (state, rest) = state_at(line)?;
-    word_text(alloc, state.text(), rest)
+fn put_name(out: &mut Answer, read: Result<(InstanceFmri, Option<&str>), FieldFault>) {
+    if let Some((name, rest)) = out.given(read) {
+        out.put(name.print());
+        put_rest(out, rest);
+    }
 }
 
-fn optional_state(alloc: Global, line: Option<&str>) -> Result<String, CallFault> {
-    let (state, rest) = optional_state_at(line)?;
-    word_text(alloc, state.map_or("none", |state| state.text()), rest)
+fn put_row(alloc: Global, out: &mut Answer, read: Result<(Row, Option<&str>), FieldFault>) {
+    if let Some((row, rest)) = out.given(read) {
+        put_text(out, row.print(alloc));
+        put_rest(out, rest);
+    }
 }
 
-fn cause(alloc: Global, line: Option<&str>) -> Result<String, CallFault> {
-    let (cause, rest) = cause_at(line)?;
-    word_text(alloc, cause.text(), rest)
-}
-
-fn optional_cause(alloc: Global, line: Option<&str>) -> Result<String, CallFault> {
-    let (cause, rest) = optional_cause_at(line)?;
-    word_text(alloc, cause.map_or("none", |cause| cause.text()), rest)
-}
-
-fn duration(alloc: Global, line: Option<&str>) -> Result<String, CallFault> {
-    let (duration, rest) = duration_at(line)?;
-    word_text(alloc, duration.text(), rest)
-}
-
-fn name(alloc: Global, line: Option<&str>) -> Result<String, CallFault> {
-    let (name, rest) = name_at(alloc, line)?;
-    word_text(alloc, name.print(), rest)
-}
-
-fn row(alloc: Global, line: Option<&str>) -> Result<String, CallFault> {
-    let (row, rest) = row_at(alloc, line)?;
-    let text = row.print(alloc)?;
-    word_text(alloc, text.as_str(), rest)
-}
-
-fn step(alloc: Global, line: Option<&str>) -> Result<String, CallFault> {
+fn put_step(alloc: Global, out: &mut Answer, line: Option<&str>) {
     match step_at(line) {
-        Ok((step, rest)) => word_text(alloc, step.print(alloc)?.as_str(), rest),
-        Err(wrong) => Err(CallFault::Field(wrong)),
+        Ok((step, rest)) => {
+            put_text(out, step.print(alloc));
+            put_rest(out, rest);
+        }
+        Err(wrong) => out.done(Err(wrong)),
     }
 }

@@ -1,147 +1,180 @@
-//! The group that lines make and change.
+//! The group that lines make and change, and how groups are written.
 
-use crate::bytes::digits_of;
-use crate::fault::CallFault;
+use crate::answers::Answer;
+use crate::bytes::put_bytes;
 use crate::values::kind_of;
-use crate::words::{copied, split_word, texts_of};
+use crate::words::{put_text, split_two, split_word, texts_of};
 use smf_fmri::Ordered;
-use smf_value::{Group, GroupFlags, Kind, Name, Property, encode};
+use smf_value::{Group, GroupFlags, Kind, Name, Property, Value, encode};
 use std::alloc::{AllocError, Global};
 
-/// What a call of the group answers, or none where the word is no such call.
+/// Answers a call of the group; whether it is one.
 pub(crate) fn answer(
     alloc: Global,
     group: &mut Option<Group>,
+    out: &mut Answer,
     call: &str,
     text: &str,
-) -> Result<Option<String>, CallFault> {
-    if call == "group" {
-        *group = Some(new_group(alloc, text)?);
-        return Ok(Some(copied(alloc, "done")?));
-    }
-    match group {
-        None => Ok(None),
-        Some(group) => answer_of(alloc, group, call, text),
-    }
-}
-
-fn answer_of(
-    alloc: Global,
-    group: &mut Group,
-    call: &str,
-    text: &str,
-) -> Result<Option<String>, CallFault> {
+) -> bool {
     match call {
-        "show" => return Ok(Some(group_text(alloc, group)?)),
-        "encode" => return Ok(Some(encoded(alloc, group)?)),
-        "set" => set(alloc, group, text)?,
-        "add" => add(alloc, group, text)?,
-        "del_value" => del_value(alloc, group, text)?,
-        "del" => group.del(&Name::parse(alloc, text)?)?,
-        _ => return Ok(None),
+        "group" => set_group(alloc, group, out, text),
+        "encode" => encoded(alloc, group, out),
+        "show" | "set" | "add" | "del_value" | "del" => match group {
+            None => out.bad_line(),
+            Some(group) => answer_of(alloc, group, out, call, text),
+        },
+        _ => return false,
     }
-    Ok(Some(copied(alloc, "done")?))
+    true
 }
 
-/// `NAME TYPE` or `NAME TYPE P`: a group without properties, with P one that is not persistent.
-fn new_group(alloc: Global, text: &str) -> Result<Group, CallFault> {
-    let (name, rest) = split_word(text);
-    let (group_type, flag) = split_word(rest);
-    let flags = match flag {
-        "" => GroupFlags::NONE,
-        "P" => GroupFlags::NON_PERSISTENT,
-        _ => return Err(CallFault::BadLine),
-    };
-    let name = Name::parse(alloc, name)?;
-    let group_type = Name::parse(alloc, group_type)?;
-    Ok(Group::new(alloc, name, group_type, flags))
+fn answer_of(alloc: Global, group: &mut Group, out: &mut Answer, call: &str, text: &str) {
+    match call {
+        "show" => put_group(alloc, out, group),
+        "del" => delete(alloc, group, out, text),
+        _ => change(alloc, group, out, call, text),
+    }
+}
+
+/// The name of a group, a type or a property.
+pub(crate) fn word_of(alloc: Global, out: &mut Answer, text: &str) -> Option<Name> {
+    out.given(Name::parse(alloc, text))
+}
+
+/// A group without properties.
+pub(crate) fn empty_group(
+    alloc: Global,
+    out: &mut Answer,
+    name: &str,
+    group_type: &str,
+    flags: GroupFlags,
+) -> Option<Group> {
+    let name = word_of(alloc, out, name)?;
+    let group_type = word_of(alloc, out, group_type)?;
+    Some(Group::new(alloc, name, group_type, flags))
+}
+
+/// The flags of a group: with `P` it is not persistent.
+fn flags_of(word: &str) -> Option<GroupFlags> {
+    match word {
+        "" => Some(GroupFlags::NONE),
+        "P" => Some(GroupFlags::NON_PERSISTENT),
+        _ => None,
+    }
+}
+
+/// `NAME TYPE` or `NAME TYPE P`: a group without properties.
+fn new_group(alloc: Global, out: &mut Answer, text: &str) -> Option<Group> {
+    let (name, group_type, flag) = split_two(text);
+    let flags = out.found(flags_of(flag))?;
+    empty_group(alloc, out, name, group_type, flags)
+}
+
+fn set_group(alloc: Global, group: &mut Option<Group>, out: &mut Answer, text: &str) {
+    if let Some(new) = new_group(alloc, out, text) {
+        *group = Some(new);
+        out.put("done");
+    }
 }
 
 /// A kind, or `-` where none is given.
-fn optional_kind(word: &str) -> Result<Option<Kind>, CallFault> {
+fn optional_kind(word: &str) -> Option<Option<Kind>> {
     if word == "-" {
-        return Ok(None);
+        return Some(None);
     }
-    Ok(Some(kind_of(word)?))
+    Some(Some(kind_of(word)?))
 }
 
-/// `PROPERTY KIND TEXT..`.
-fn set(alloc: Global, group: &mut Group, text: &str) -> Result<(), CallFault> {
-    let (property, rest) = split_word(text);
-    let (kind, texts) = split_word(rest);
-    let property = Name::parse(alloc, property)?;
-    let kind = optional_kind(kind)?;
-    let texts = texts_of(alloc, texts)?;
-    group.set(alloc, &property, kind, texts.as_slice())?;
-    Ok(())
-}
-
-/// `PROPERTY KIND TEXT`, the text with its spaces.
-fn add(alloc: Global, group: &mut Group, text: &str) -> Result<(), CallFault> {
-    let (property, rest) = split_word(text);
-    let (kind, text) = split_word(rest);
-    let property = Name::parse(alloc, property)?;
-    group.add_value(alloc, &property, optional_kind(kind)?, text)?;
-    Ok(())
-}
-
-/// `PROPERTY TEXT`.
-fn del_value(alloc: Global, group: &mut Group, text: &str) -> Result<(), CallFault> {
+/// `PROPERTY KIND TEXT..`, `PROPERTY KIND TEXT`, the text with its spaces, or `PROPERTY TEXT`.
+fn change(alloc: Global, group: &mut Group, out: &mut Answer, call: &str, text: &str) {
     let (property, text) = split_word(text);
-    let property = Name::parse(alloc, property)?;
-    group.del_value(alloc, &property, text)?;
-    Ok(())
+    if let Some(property) = word_of(alloc, out, property) {
+        match call {
+            "set" => set(alloc, group, out, &property, text),
+            "add" => add(alloc, group, out, &property, text),
+            _ => out.done(group.del_value(alloc, &property, text)),
+        }
+    }
+}
+
+fn set(alloc: Global, group: &mut Group, out: &mut Answer, property: &Name, text: &str) {
+    let (kind, texts) = split_word(text);
+    if let Some(kind) = out.found(optional_kind(kind))
+        && let Some(texts) = out.made(texts_of(alloc, texts))
+    {
+        out.done(group.set(alloc, property, kind, texts.as_slice()));
+    }
+}
+
+fn add(alloc: Global, group: &mut Group, out: &mut Answer, property: &Name, text: &str) {
+    let (kind, text) = split_word(text);
+    if let Some(kind) = out.found(optional_kind(kind)) {
+        out.done(group.add_value(alloc, property, kind, text));
+    }
+}
+
+fn delete(alloc: Global, group: &mut Group, out: &mut Answer, text: &str) {
+    if let Some(property) = word_of(alloc, out, text) {
+        out.done(group.del(&property));
+    }
+}
+
+/// The groups that an instance has, with the one that lines made alone.
+pub(crate) fn alone(alloc: Global, group: &Option<Group>) -> Result<Ordered<Group>, AllocError> {
+    let mut groups = Ordered::new(alloc);
+    if let Some(group) = group {
+        groups.put(group.clone()?)?;
+    }
+    Ok(groups)
 }
 
 /// The bytes of this group alone.
-fn encoded(alloc: Global, group: &Group) -> Result<String, AllocError> {
-    let mut groups = Ordered::new(alloc);
-    groups.put(group.clone()?)?;
-    let bytes = encode(alloc, &groups)?;
-    digits_of(alloc, bytes.as_slice())
+fn encoded(alloc: Global, group: &Option<Group>, out: &mut Answer) {
+    if group.is_none() {
+        out.bad_line();
+    } else if let Some(groups) = out.made(alone(alloc, group)) {
+        put_bytes(alloc, out, encode(alloc, &groups));
+    }
 }
 
-fn put_property(alloc: Global, out: &mut String, property: &Property) -> Result<(), AllocError> {
-    out.push(' ')?;
-    out.push_str(property.name().as_str())?;
-    out.push(' ')?;
-    out.push_str(property.kind().as_str())?;
-    for value in property.values() {
-        out.push(' ')?;
-        out.push_str(value.print(alloc)?.as_str())?;
+/// Values, each behind a mark.
+fn put_values(alloc: Global, out: &mut Answer, mark: &str, values: &[Value]) {
+    for value in values {
+        out.put(mark);
+        put_text(out, value.print(alloc));
     }
-    out.push(';')
 }
 
-fn put_group(alloc: Global, out: &mut String, group: &Group) -> Result<(), AllocError> {
-    out.push_str(group.name().as_str())?;
-    out.push(' ')?;
-    out.push_str(group.group_type().as_str())?;
-    if group.is_non_persistent() {
-        out.push_str(" P")?;
-    }
-    out.push(':')?;
-    for property in group.properties() {
-        put_property(alloc, out, property)?;
-    }
-    Ok(())
+fn put_property(alloc: Global, out: &mut Answer, property: &Property) {
+    let (name, kind) = (property.name(), property.kind());
+    write!(out, " {name} {kind}");
+    put_values(alloc, out, " ", property.values());
+    out.put(";");
 }
 
 /// The name and the type of a group, and its properties.
-fn group_text(alloc: Global, group: &Group) -> Result<String, AllocError> {
-    let mut out = String::new(alloc);
-    put_group(alloc, &mut out, group)?;
-    Ok(out)
+fn put_group(alloc: Global, out: &mut Answer, group: &Group) {
+    let (name, group_type) = (group.name(), group.group_type());
+    let flag = if group.is_non_persistent() { " P" } else { "" };
+    write!(out, "{name} {group_type}{flag}:");
+    for property in group.properties() {
+        put_property(alloc, out, property);
+    }
 }
 
 /// Groups with a bar between two.
-pub(crate) fn groups_text(alloc: Global, groups: &[Group]) -> Result<String, AllocError> {
-    let mut out = String::new(alloc);
+pub(crate) fn put_groups(alloc: Global, out: &mut Answer, groups: &[Group]) {
     for group in groups {
-        if !out.is_empty() {
-            out.push_str(" | ")?;
-        }
-        put_group(alloc, &mut out, group)?;
+        out.put_between(" | ");
+        put_group(alloc, out, group);
     }
-    Ok(out)
+}
+
+/// A group's name, and the values of its properties.
+pub(crate) fn put_short(alloc: Global, out: &mut Answer, group: &Group, flag: &str) {
+    out.put(group.name().as_str());
+    out.put(flag);
+    for property in group.properties() {
+        put_values(alloc, out, "=", property.values());
+    }
 }

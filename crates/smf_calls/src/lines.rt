@@ -1,19 +1,13 @@
 //! Messages: a line that is read and written again.
 
-use crate::fault::CallFault;
+use crate::answers::Answer;
+use crate::words::put_text;
 use smf_wire::{decode, encode};
 use std::alloc::Global;
 
-/// What a call of messages answers, or none where the word is no such call.
-pub(crate) fn answer(alloc: Global, call: &str, text: &str) -> Result<Option<String>, CallFault> {
-    Ok(Some(match call {
-        "message" => again(alloc, text)?,
-        _ => return Ok(None),
-    }))
-}
-
 /// The line of the message that a line is.
-fn again(alloc: Global, line: &str) -> Result<String, CallFault> {
-    let message = decode(alloc, line)?;
-    Ok(encode(alloc, &message)?.into_string())
+pub(crate) fn again(alloc: Global, out: &mut Answer, line: &str) {
+    if let Some(message) = out.given(decode(alloc, line)) {
+        put_text(out, encode(alloc, &message));
+    }
 }

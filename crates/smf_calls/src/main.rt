@@ -1,10 +1,11 @@
 //! `smf_calls`: reads lines that each name a call of the pure crates with its arguments, and prints what it answers.
 //! Modules: `answering` (which family a line is of); the families `names`, `rows`, `steps`, `fields`, `values`, `groups`,
 //! `snapshots`, `contracts`, `cookies`, `methods`, `dependencies`, `config`, `views`, `refusals`, `repository`, `lines` (messages); `calls`,
-//! `events`, `bytes`, `words`, `fault`.
+//! `events`, `bytes`, `words`, `answers` (what is written).
 #![tactic(auto)]
 
 mod answering;
+mod answers;
 mod bytes;
 mod calls;
 mod config;
@@ -12,7 +13,6 @@ mod contracts;
 mod cookies;
 mod dependencies;
 mod events;
-mod fault;
 mod fields;
 mod groups;
 mod lines;
@@ -28,37 +28,85 @@ mod views;
 mod words;
 
 use crate::answering::{Session, answer};
-use crate::fault::RunFault;
+use crate::answers::Answer;
 use std::alloc::Global;
+use std::io;
 use std::io::{BufRead, BufReader};
 use std::process::ExitCode;
 
 /// The status of a run that was ended by a fault.
 const FAULT: u8 = 3;
 
-/// Prints the answer of a line, where it has one.
+/// Why the program ends before its input does.
+#[derive(Clone, Copy)]
+enum RunFault {
+    Memory,
+    Input,
+    Output,
+}
+
+fn fault_text(fault: RunFault) -> &'static str {
+    match fault {
+        RunFault::Memory => "no memory",
+        RunFault::Input => "input failed",
+        RunFault::Output => "output failed",
+    }
+}
+
+fn print(rt: &HostRuntime, text: String) -> Result<(), RunFault> {
+    match rt.println(text) {
+        Ok(()) => Ok(()),
+        Err(_) => Err(RunFault::Output),
+    }
+}
+
+/// Prints the answer of a line: none of a blank one or a comment.
 fn answer_line(rt: &HostRuntime, session: &mut Session, line: &str) -> Result<(), RunFault> {
-    match answer(rt.alloc(), session, line)? {
-        None => Ok(()),
-        Some(text) => rt.println(text).map_err(|_| RunFault::Output),
+    if line.is_empty() || line.starts_with('#') {
+        return Ok(());
+    }
+    let mut out = Answer::new(rt.alloc());
+    answer(rt.alloc(), session, &mut out, line);
+    match out.into_text() {
+        Some(text) => print(rt, text),
+        None => Err(RunFault::Memory),
+    }
+}
+
+fn answer_read(
+    rt: &HostRuntime,
+    session: &mut Session,
+    line: io::Result<String>,
+) -> Result<(), RunFault> {
+    match line {
+        Ok(line) => answer_line(rt, session, line.as_str()),
+        Err(_) => Err(RunFault::Input),
     }
 }
 
 /// Answers every line of standard input.
+fn answer_all(rt: &HostRuntime, alloc: Global, session: &mut Session) -> Result<(), RunFault> {
+    match BufReader::new(alloc, rt.reader()) {
+        Ok(reader) => {
+            for line in reader.lines(alloc) {
+                answer_read(rt, session, line)?;
+            }
+            Ok(())
+        }
+        Err(_) => Err(RunFault::Memory),
+    }
+}
+
 fn run(rt: &HostRuntime, alloc: Global) -> Result<(), RunFault> {
     let mut session = Session::new(alloc);
-    let reader = BufReader::new(alloc, rt.reader()).map_err(|_| RunFault::Memory)?;
-    for line in reader.lines(alloc) {
-        let line = line.map_err(|_| RunFault::Input)?;
-        answer_line(rt, &mut session, line.as_str())?;
-    }
-    Ok(())
+    answer_all(rt, alloc, &mut session)
 }
 
 fn main(rt: HostRuntime) -> ExitCode {
     match run(&rt, rt.alloc()) {
         Ok(()) => ExitCode::from(0),
         Err(fault) => {
+            let fault = fault_text(fault);
             let _ = eprintln!(rt; "smf_calls: {fault}");
             ExitCode::from(FAULT)
         }

@@ -1,197 +1,256 @@
 //! Names of services and instances, patterns, numbers and the small types.
 
+use crate::answers::Answer;
 use crate::bytes::bytes_of;
-use crate::fault::CallFault;
-use crate::words::{copied, ordering_text, split_word, texts_of, truth, words_of};
+use crate::words::{ordering_text, put_count, put_number, split_two, split_word, texts_of, truth};
 use smf_fmri::{
-    Bytes, Fmri, InstanceFmri, Number, Pattern, ServiceFmri, Text, is_decimal, pick, read_count,
-    strip,
+    Bytes, Fmri, InstanceFmri, Items, Number, Pattern, PickFault, ServiceFmri, Text, is_decimal,
+    pick, read_count, strip,
 };
-use std::alloc::Global;
+use std::alloc::{AllocError, Global};
 
-/// What a call of names answers, or none where the word is no such call.
-pub(crate) fn answer(alloc: Global, call: &str, text: &str) -> Result<Option<String>, CallFault> {
-    let answer = match call {
-        "fmri" => printed(alloc, text),
-        "parts" => parts(alloc, text),
-        "instance" => instance(alloc, text),
-        "short" => short(alloc, text),
-        "service" => service(alloc, text),
-        "service_of" => service_of(alloc, text),
-        "pattern" => matched(alloc, text),
-        "pick" => picked(alloc, text),
-        "compare" => compared(alloc, text),
-        "count" => count(alloc, text),
-        "decimal" => copied(alloc, truth(is_decimal(text.as_bytes()))),
-        "strip" => stripped(alloc, text),
-        "next" => next(alloc, text),
-        "items" => items(alloc, text),
-        _ => return Ok(None),
-    };
-    Ok(Some(answer?))
-}
-
-fn printed(alloc: Global, text: &str) -> Result<String, CallFault> {
-    let name = Fmri::parse(alloc, text)?;
-    Ok(format!(in alloc; "{name}")?)
-}
-
-fn parts(alloc: Global, text: &str) -> Result<String, CallFault> {
-    let name = Fmri::parse(alloc, text)?;
-    let service = name.service();
-    let instance = name.instance().unwrap_or("-");
-    Ok(format!(in alloc; "{service} {instance}")?)
-}
-
-fn instance(alloc: Global, text: &str) -> Result<String, CallFault> {
-    match InstanceFmri::of(Fmri::parse(alloc, text)?) {
-        Some(name) => copied(alloc, name.as_fmri().print()),
-        None => copied(alloc, "none"),
+/// Answers a call of names; whether it is one.
+pub(crate) fn answer(alloc: Global, out: &mut Answer, call: &str, text: &str) -> bool {
+    match call {
+        "fmri" | "parts" | "instance" | "service" | "service_of" => {
+            name_answer(alloc, out, call, text)
+        }
+        "short" => put_short(out, InstanceFmri::read_short(alloc, text)),
+        "pattern" => matched(alloc, out, text),
+        "pick" => picked(alloc, out, text),
+        "compare" => compared(alloc, out, text),
+        "items" => items(alloc, out, text),
+        "count" => put_count(out, read_count(text)),
+        "decimal" => out.put(truth(is_decimal(text.as_bytes()))),
+        "strip" => stripped(out, text),
+        "next" => next(out, text),
+        _ => return false,
     }
+    true
 }
 
-fn short(alloc: Global, text: &str) -> Result<String, CallFault> {
-    match InstanceFmri::read_short(alloc, text)? {
-        Some(name) => Ok(format!(in alloc; "{name}")?),
-        None => copied(alloc, "none"),
-    }
-}
-
-fn service(alloc: Global, text: &str) -> Result<String, CallFault> {
-    match ServiceFmri::of(Fmri::parse(alloc, text)?) {
-        Some(name) => copied(alloc, name.into_fmri().print()),
-        None => copied(alloc, "none"),
-    }
-}
-
-fn service_of(alloc: Global, text: &str) -> Result<String, CallFault> {
-    let service = Fmri::parse(alloc, text)?.service_fmri(alloc)?;
-    Ok(format!(in alloc; "{service}")?)
-}
-
-fn matched(alloc: Global, text: &str) -> Result<String, CallFault> {
-    let (pattern, name) = split_word(text);
-    let pattern = Pattern::parse(alloc, pattern)?;
-    let name = Fmri::parse(alloc, name)?;
-    copied(alloc, truth(pattern.matches(&name)))
-}
-
-/// Names that stand between spaces.
-fn names_of(alloc: Global, text: &str) -> Result<Vec<Fmri>, CallFault> {
-    let mut names = Vec::new(alloc);
-    for word in words_of(alloc, text)? {
-        names.push(Fmri::parse(alloc, word)?)?;
-    }
-    Ok(names)
-}
-
-fn picked(alloc: Global, text: &str) -> Result<String, CallFault> {
-    let (pattern, names) = split_word(text);
-    let pattern = Pattern::parse(alloc, pattern)?;
-    let names = names_of(alloc, names)?;
-    let place = pick(&pattern, &names)?;
-    Ok(format!(in alloc; "at {place}")?)
-}
-
-/// How a copy of the first of two words stands to the second.
-fn compared(alloc: Global, text: &str) -> Result<String, CallFault> {
-    let (kind, text) = split_word(text);
-    let (first, second) = split_word(text);
-    let answer = match kind {
-        "fmri" => compared_names(alloc, first, second)?,
-        "instance" => compared_instances(alloc, first, second)?,
-        "service" => compared_services(alloc, first, second)?,
-        "text" => compared_texts(alloc, first, second)?,
-        "bytes" => truth(are_same_bytes(alloc, first, second)?),
-        _ => return Err(CallFault::BadLine),
-    };
-    copied(alloc, answer)
-}
-
-fn compared_names(alloc: Global, first: &str, second: &str) -> Result<&'static str, CallFault> {
-    let first = Fmri::parse(alloc, first)?;
-    let second = Fmri::parse(alloc, second)?;
-    let first = first.clone()?;
-    if first == second {
-        return Ok("equal");
-    }
-    Ok(ordering_text(first.cmp(&second)))
-}
-
-/// The name of an instance.
-pub(crate) fn instance_of(alloc: Global, text: &str) -> Result<InstanceFmri, CallFault> {
-    InstanceFmri::of(Fmri::parse(alloc, text)?).ok_or(CallFault::BadLine)
-}
-
-fn compared_instances(alloc: Global, first: &str, second: &str) -> Result<&'static str, CallFault> {
-    let first = instance_of(alloc, first)?;
-    let second = instance_of(alloc, second)?;
-    let first = first.clone()?;
-    if first == second {
-        return Ok("equal");
-    }
-    Ok(ordering_text(first.cmp(&second)))
-}
-
-fn compared_services(alloc: Global, first: &str, second: &str) -> Result<&'static str, CallFault> {
-    let first = Fmri::parse(alloc, first)?.service_fmri(alloc)?;
-    let second = Fmri::parse(alloc, second)?.service_fmri(alloc)?;
-    let first = first.clone()?;
-    if first == second {
-        return Ok("equal");
-    }
-    Ok(ordering_text(first.cmp(&second)))
-}
-
-fn compared_texts(alloc: Global, first: &str, second: &str) -> Result<&'static str, CallFault> {
-    let first = Text::copy_of(alloc, first)?;
-    let second = Text::copy_of(alloc, second)?;
-    let first = first.clone()?;
-    Ok(ordering_text(first.cmp(&second)))
-}
-
-fn are_same_bytes(alloc: Global, first: &str, second: &str) -> Result<bool, CallFault> {
-    let first = Bytes::from_vec(bytes_of(alloc, first)?);
-    let second = bytes_of(alloc, second)?;
-    let second = Bytes::copy_of(alloc, &second)?;
-    Ok(first.clone()? == second)
-}
-
-fn count(alloc: Global, text: &str) -> Result<String, CallFault> {
-    match read_count(text) {
-        Some(number) => Ok(format!(in alloc; "{number}")?),
-        None => copied(alloc, "none"),
-    }
-}
-
-fn stripped(alloc: Global, text: &str) -> Result<String, CallFault> {
+fn stripped(out: &mut Answer, text: &str) {
     let (prefix, text) = split_word(text);
-    copied(alloc, strip(prefix, text).unwrap_or("none"))
+    out.put(strip(prefix, text).unwrap_or("none"));
 }
 
 /// The number behind a number of rows and revisions.
-fn next(alloc: Global, text: &str) -> Result<String, CallFault> {
-    let value = read_count(text).ok_or(CallFault::BadLine)?;
-    let Some(number) = Number::new(value) else {
-        return copied(alloc, "no number");
-    };
-    match number.next() {
-        Some(next) => {
-            let next = next.get();
-            Ok(format!(in alloc; "{next}")?)
+fn next(out: &mut Answer, text: &str) {
+    match read_count(text) {
+        None => out.bad_line(),
+        Some(number) => match Number::new(number) {
+            Some(number) => put_number(out, number.next()),
+            None => out.put("no number"),
+        },
+    }
+}
+
+/// The name that a text is.
+pub(crate) fn name_of(alloc: Global, out: &mut Answer, text: &str) -> Option<Fmri> {
+    out.given(Fmri::parse(alloc, text))
+}
+
+/// The name of an instance.
+pub(crate) fn instance_of(alloc: Global, out: &mut Answer, text: &str) -> Option<InstanceFmri> {
+    let name = name_of(alloc, out, text)?;
+    out.found(InstanceFmri::of(name))
+}
+
+/// What a call says of one name.
+fn name_answer(alloc: Global, out: &mut Answer, call: &str, text: &str) {
+    if let Some(name) = name_of(alloc, out, text) {
+        put_name(alloc, out, call, name);
+    }
+}
+
+fn put_name(alloc: Global, out: &mut Answer, call: &str, name: Fmri) {
+    match call {
+        "fmri" => write!(out, "{name}"),
+        "parts" => {
+            let (service, instance) = (name.service(), name.instance().unwrap_or("-"));
+            write!(out, "{service} {instance}");
         }
-        None => copied(alloc, "none"),
+        "instance" => put_instance(out, InstanceFmri::of(name)),
+        "service" => put_service(out, ServiceFmri::of(name)),
+        _ => put_service_of(out, name.service_fmri(alloc)),
+    }
+}
+
+fn put_instance(out: &mut Answer, name: Option<InstanceFmri>) {
+    match name {
+        Some(name) => out.put(name.as_fmri().print()),
+        None => out.put("none"),
+    }
+}
+
+fn put_short(out: &mut Answer, name: Result<Option<InstanceFmri>, AllocError>) {
+    if let Some(name) = out.made(name) {
+        put_instance(out, name);
+    }
+}
+
+fn put_service(out: &mut Answer, name: Option<ServiceFmri>) {
+    match name {
+        Some(name) => out.put(name.into_fmri().print()),
+        None => out.put("none"),
+    }
+}
+
+fn put_service_of(out: &mut Answer, service: Result<ServiceFmri, AllocError>) {
+    if let Some(service) = out.made(service) {
+        write!(out, "{service}");
+    }
+}
+
+fn pattern_of(alloc: Global, out: &mut Answer, text: &str) -> Option<Pattern> {
+    out.given(Pattern::parse(alloc, text))
+}
+
+fn matched(alloc: Global, out: &mut Answer, text: &str) {
+    let (pattern, name) = split_word(text);
+    if let Some(pattern) = pattern_of(alloc, out, pattern)
+        && let Some(name) = name_of(alloc, out, name)
+    {
+        out.put(truth(pattern.matches(&name)));
+    }
+}
+
+/// Names that stand between spaces.
+pub(crate) fn names_of(alloc: Global, out: &mut Answer, text: &str) -> Option<Items<Fmri>> {
+    let mut names = Items::new(alloc);
+    for word in text.split(' ') {
+        if !word.is_empty() {
+            let name = name_of(alloc, out, word)?;
+            out.made(names.push(name))?;
+        }
+    }
+    Some(names)
+}
+
+fn picked(alloc: Global, out: &mut Answer, text: &str) {
+    let (pattern, names) = split_word(text);
+    if let Some(pattern) = pattern_of(alloc, out, pattern)
+        && let Some(names) = names_of(alloc, out, names)
+    {
+        put_place(out, pick(&pattern, names.as_slice()));
+    }
+}
+
+fn put_place(out: &mut Answer, place: Result<usize, PickFault>) {
+    if let Some(place) = out.given(place) {
+        write!(out, "at {place}");
+    }
+}
+
+/// How a copy of the first of two words stands to the second.
+fn compared(alloc: Global, out: &mut Answer, text: &str) {
+    let (kind, first, second) = split_two(text);
+    match kind {
+        "fmri" | "instance" | "service" => compared_names(alloc, out, kind, first, second),
+        "text" => compared_texts(
+            out,
+            Text::copy_of(alloc, first),
+            Text::copy_of(alloc, second),
+        ),
+        "bytes" => compared_bytes(alloc, out, first, second),
+        _ => out.bad_line(),
+    }
+}
+
+fn compared_names(alloc: Global, out: &mut Answer, kind: &str, first: &str, second: &str) {
+    if let Some(first) = name_of(alloc, out, first)
+        && let Some(second) = name_of(alloc, out, second)
+    {
+        match kind {
+            "fmri" => put_ordering(out, ordering_of(&first, &second)),
+            "instance" => {
+                compared_instances(out, InstanceFmri::of(first), InstanceFmri::of(second));
+            }
+            _ => compared_services(out, first.service_fmri(alloc), second.service_fmri(alloc)),
+        }
+    }
+}
+
+fn compared_instances(out: &mut Answer, first: Option<InstanceFmri>, second: Option<InstanceFmri>) {
+    match (first, second) {
+        (Some(first), Some(second)) => put_ordering(out, ordering_of(&first, &second)),
+        _ => out.bad_line(),
+    }
+}
+
+fn compared_services(
+    out: &mut Answer,
+    first: Result<ServiceFmri, AllocError>,
+    second: Result<ServiceFmri, AllocError>,
+) {
+    if let Some(first) = out.made(first)
+        && let Some(second) = out.made(second)
+    {
+        put_ordering(out, ordering_of(&first, &second));
+    }
+}
+
+fn compared_texts(
+    out: &mut Answer,
+    first: Result<Text, AllocError>,
+    second: Result<Text, AllocError>,
+) {
+    if let Some(first) = out.made(first)
+        && let Some(second) = out.made(second)
+    {
+        put_ordering(out, ordering_of(&first, &second));
+    }
+}
+
+/// How a copy of a value stands to another.
+fn ordering_of<T: Clone + Ord + Drop>(first: &T, second: &T) -> Result<&'static str, AllocError> {
+    let first = first.clone()?;
+    if first == *second {
+        return Ok("equal");
+    }
+    Ok(ordering_text(first.cmp(second)))
+}
+
+fn put_ordering(out: &mut Answer, ordering: Result<&'static str, AllocError>) {
+    if let Some(ordering) = out.made(ordering) {
+        out.put(ordering);
+    }
+}
+
+/// Whether a copy of bytes is the same as a copy of others.
+fn compared_bytes(alloc: Global, out: &mut Answer, first: &str, second: &str) {
+    if let Some(first) = bytes_of(alloc, out, first)
+        && let Some(second) = bytes_of(alloc, out, second)
+    {
+        let second = Bytes::copy_of(alloc, &second);
+        put_sameness(out, Bytes::from_vec(first).clone(), second);
+    }
+}
+
+fn put_sameness(
+    out: &mut Answer,
+    first: Result<Bytes, AllocError>,
+    second: Result<Bytes, AllocError>,
+) {
+    if let Some(first) = out.made(first)
+        && let Some(second) = out.made(second)
+    {
+        out.put(truth(first == second));
     }
 }
 
 /// The words of a text in a list: their count, and the words of a copy.
-fn items(alloc: Global, text: &str) -> Result<String, CallFault> {
-    let items = texts_of(alloc, text)?;
-    let len = items.len();
-    let mut out = format!(in alloc; "{len}")?;
-    for word in items.clone()?.as_slice() {
-        out.push(' ')?;
-        out.push_str(word.as_str())?;
+fn items(alloc: Global, out: &mut Answer, text: &str) {
+    if let Some(items) = out.made(texts_of(alloc, text)) {
+        put_items(out, items.len(), items.clone());
     }
-    Ok(out)
+}
+
+fn put_items(out: &mut Answer, count: usize, items: Result<Items<Text>, AllocError>) {
+    if let Some(items) = out.made(items) {
+        write!(out, "{count}");
+        for word in items.as_slice() {
+            write!(out, " {word}");
+        }
+    }
 }

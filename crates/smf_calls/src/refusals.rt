@@ -1,50 +1,55 @@
 //! The words of the repository's refusals.
 
-use crate::fault::CallFault;
+use crate::answers::Answer;
 use crate::values::kind_of;
-use crate::words::{copied, split_word};
+use smf_fmri::Text;
 use smf_model::Reply;
 use smf_repo::refusal_text;
 use smf_state::Why;
 use smf_value::GroupFault;
-use std::alloc::Global;
+use std::alloc::{AllocError, Global};
 
-/// What a call of refusals answers, or none where the word is no such call.
-pub(crate) fn answer(alloc: Global, call: &str, text: &str) -> Result<Option<String>, CallFault> {
-    if call != "refusal" {
-        return Ok(None);
-    }
-    let reply = reply_of(text)?;
-    match refusal_text(alloc, &reply)? {
-        Some(text) => Ok(Some(text.into_string())),
-        None => Ok(Some(copied(alloc, "none")?)),
+/// The words of a refusal; `none` where a reply is no refusal.
+pub(crate) fn refusal(alloc: Global, out: &mut Answer, text: &str) {
+    if let Some(reply) = out.found(reply_of(text)) {
+        put_refusal(out, refusal_text(alloc, &reply));
     }
 }
 
-fn reply_of(text: &str) -> Result<Reply, CallFault> {
-    match split_word(text) {
-        ("made", "") => Ok(Reply::Made(1)),
-        ("done", "") => Ok(Reply::Done),
-        ("no_such", "") => Ok(Reply::NoSuch),
-        ("in_use", "") => Ok(Reply::InUse),
-        ("not_in_state", "") => Ok(Reply::NotInState),
-        ("exists", "") => Ok(Reply::Exists),
-        ("limit", "") => Ok(Reply::Limit),
-        ("stale", "") => Ok(Reply::Stale(Why::NoSuch, None)),
-        ("denied", fault) => Ok(Reply::Denied(fault_of(fault)?)),
-        _ => Err(CallFault::BadLine),
+fn put_refusal(out: &mut Answer, text: Result<Option<Text>, AllocError>) {
+    match out.made(text) {
+        Some(Some(text)) => out.put(text.as_str()),
+        Some(None) => out.put("none"),
+        None => {}
     }
 }
 
-fn fault_of(text: &str) -> Result<GroupFault, CallFault> {
-    match split_word(text) {
-        ("no_such", "") => Ok(GroupFault::NoSuch),
-        ("needs_kind", "") => Ok(GroupFault::NeedsKind),
-        ("kind_differs", "") => Ok(GroupFault::KindDiffers),
-        ("too_long", "") => Ok(GroupFault::TooLong),
-        ("not_a", kind) => Ok(GroupFault::NotA(kind_of(kind)?)),
-        ("range", "") => Ok(GroupFault::Range),
-        ("full", "") => Ok(GroupFault::Full),
-        _ => Err(CallFault::BadLine),
+fn reply_of(text: &str) -> Option<Reply> {
+    match text {
+        "made" => Some(Reply::Made(1)),
+        "done" => Some(Reply::Done),
+        "no_such" => Some(Reply::NoSuch),
+        "in_use" => Some(Reply::InUse),
+        "not_in_state" => Some(Reply::NotInState),
+        "exists" => Some(Reply::Exists),
+        "limit" => Some(Reply::Limit),
+        "stale" => Some(Reply::Stale(Why::NoSuch, None)),
+        _ => Some(Reply::Denied(fault_of(text)?)),
+    }
+}
+
+/// `denied FAULT`.
+fn fault_of(text: &str) -> Option<GroupFault> {
+    match text {
+        "denied no_such" => Some(GroupFault::NoSuch),
+        "denied needs_kind" => Some(GroupFault::NeedsKind),
+        "denied kind_differs" => Some(GroupFault::KindDiffers),
+        "denied too_long" => Some(GroupFault::TooLong),
+        "denied range" => Some(GroupFault::Range),
+        "denied full" => Some(GroupFault::Full),
+        _ => {
+            let kind = text.strip_prefix("denied not_a ")?;
+            Some(GroupFault::NotA(kind_of(kind)?))
+        }
     }
 }

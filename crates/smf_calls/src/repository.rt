@@ -1,47 +1,72 @@
 //! One repository that lines change and read. OWNER is a service's name, or the number of an instance.
 
-use crate::fault::CallFault;
-use crate::names::instance_of;
+use crate::answers::Answer;
+use crate::groups::{put_short, word_of};
+use crate::names::{instance_of, name_of};
+use crate::snapshots::put_names;
+use crate::steps::{proposal_of, step_of};
 use crate::values::kind_of;
-use crate::words::{copied, count_of, number_of, truth, words_of};
-use smf_fmri::{Fmri, Items, ServiceFmri, Text};
+use crate::words::{number_of, put_count, split_two, split_word, truth};
+use smf_fmri::{Items, Ordered, ServiceFmri, Text, read_count};
 use smf_model::{Command, Edit, Instance, Mark, NoJournal, Owner, Plain, PropertyChange, Reply};
 use smf_snap::SnapshotName;
-use smf_state::{Proposal, Step};
-use smf_value::{Group, Name};
+use smf_state::{View, ViewItem};
+use smf_value::Group;
 use std::alloc::{AllocError, Global};
 
-/// Who proposes the steps of these lines.
-const PROPOSER: &str = "svc:/system/svc/restarter:default";
-
-/// What a call of the repository answers, or none where the word is no such call.
+/// Answers a call of the repository; whether it is one.
 pub(crate) fn answer(
     alloc: Global,
     repository: &mut Plain<NoJournal>,
+    out: &mut Answer,
     call: &str,
     text: &str,
-) -> Result<Option<String>, CallFault> {
+) -> bool {
     match call {
         "repository" => {
             *repository = Plain::new(alloc, NoJournal {});
-            Ok(Some(copied(alloc, "done")?))
+            out.put("done");
         }
-        "edit" => Ok(Some(edited(alloc, repository, text)?)),
-        "propose" => Ok(Some(proposed(alloc, repository, text)?)),
-        "held" => Ok(Some(held(alloc, repository, text)?)),
-        _ => Ok(None),
+        "edit" => edited(alloc, repository, out, text),
+        "propose" => proposed(alloc, repository, out, text),
+        "held" => held(alloc, repository, out, text),
+        _ => return false,
     }
+    true
 }
 
-fn service_of(alloc: Global, word: &str) -> Result<ServiceFmri, CallFault> {
-    Ok(Fmri::parse(alloc, word)?.service_fmri(alloc)?)
+fn service_of(alloc: Global, out: &mut Answer, word: &str) -> Option<ServiceFmri> {
+    let name = name_of(alloc, out, word)?;
+    out.made(name.service_fmri(alloc))
 }
 
-fn owner_of(alloc: Global, word: &str) -> Result<Owner, CallFault> {
+fn owner_of(alloc: Global, out: &mut Answer, word: &str) -> Option<Owner> {
     match number_of(word) {
-        Ok(number) => Ok(Owner::Instance(number)),
-        Err(_) => Ok(Owner::Service(service_of(alloc, word)?)),
+        Some(number) => Some(Owner::Instance(number)),
+        None => Some(Owner::Service(service_of(alloc, out, word)?)),
     }
+}
+
+/// `SERVICE NAME`.
+fn new_instance(alloc: Global, out: &mut Answer, text: &str) -> Option<Edit> {
+    let (service, name) = split_word(text);
+    let service = service_of(alloc, out, service)?;
+    let name = word_of(alloc, out, name)?;
+    Some(Edit::AddInstance { service, name })
+}
+
+/// `OWNER NAME TYPE`.
+fn new_group(alloc: Global, out: &mut Answer, text: &str) -> Option<Edit> {
+    let (owner, name, group_type) = split_two(text);
+    let name = word_of(alloc, out, name)?;
+    let group_type = word_of(alloc, out, group_type)?;
+    let owner = owner_of(alloc, out, owner)?;
+    Some(Edit::AddGroup {
+        owner,
+        name,
+        group_type,
+        non_persistent: false,
+    })
 }
 
 fn one_value(alloc: Global, word: &str) -> Result<Items<Text>, AllocError> {
@@ -50,337 +75,262 @@ fn one_value(alloc: Global, word: &str) -> Result<Items<Text>, AllocError> {
     Ok(values)
 }
 
-/// An edit that adds or deletes what has a name, or none where the words are of another.
-fn naming_edit(alloc: Global, words: &[&str]) -> Result<Option<Edit>, CallFault> {
-    Ok(Some(match words {
-        ["add_service", name] => Edit::AddService(service_of(alloc, name)?),
-        ["delete_service", name] => Edit::DeleteService(service_of(alloc, name)?),
-        ["add_instance", service, name] => Edit::AddInstance {
-            service: service_of(alloc, service)?,
-            name: Name::parse(alloc, name)?,
-        },
-        ["delete_instance", number] => Edit::DeleteInstance(count_of(number)?),
-        _ => return Ok(None),
-    }))
-}
-
-/// The same of an edit of groups; `set` gives a property one value.
-fn group_edit(alloc: Global, words: &[&str]) -> Result<Option<Edit>, CallFault> {
-    match words {
-        ["add_group", owner, name, group_type] => new_group(alloc, owner, name, group_type),
-        ["set", owner, group, name, kind, value] => {
-            let change = set_change(alloc, name, kind, value)?;
-            Ok(Some(property_edit(alloc, owner, group, change)?))
-        }
-        _ => Ok(None),
-    }
-}
-
-fn new_group(
-    alloc: Global,
-    owner: &str,
-    name: &str,
-    group_type: &str,
-) -> Result<Option<Edit>, CallFault> {
-    Ok(Some(Edit::AddGroup {
-        owner: owner_of(alloc, owner)?,
-        name: Name::parse(alloc, name)?,
-        group_type: Name::parse(alloc, group_type)?,
-        non_persistent: false,
-    }))
-}
-
-fn set_change(
-    alloc: Global,
-    name: &str,
-    kind: &str,
-    value: &str,
-) -> Result<PropertyChange, CallFault> {
-    Ok(PropertyChange::Set {
-        name: Name::parse(alloc, name)?,
-        kind: Some(kind_of(kind)?),
-        values: one_value(alloc, value)?,
+/// `NAME KIND VALUE`: gives a property one value.
+fn set_change(alloc: Global, out: &mut Answer, text: &str) -> Option<PropertyChange> {
+    let (name, kind, value) = split_two(text);
+    let kind = out.found(kind_of(kind))?;
+    let name = word_of(alloc, out, name)?;
+    let values = out.made(one_value(alloc, value))?;
+    Some(PropertyChange::Set {
+        name,
+        kind: Some(kind),
+        values,
     })
 }
 
-fn property_edit(
-    alloc: Global,
-    owner: &str,
-    group: &str,
-    change: PropertyChange,
-) -> Result<Edit, CallFault> {
-    let owner = owner_of(alloc, owner)?;
-    let group = Name::parse(alloc, group)?;
-    Ok(Edit::Property {
+/// `OWNER GROUP NAME KIND VALUE`.
+fn set_edit(alloc: Global, out: &mut Answer, text: &str) -> Option<Edit> {
+    let (owner, group, rest) = split_two(text);
+    let group = word_of(alloc, out, group)?;
+    let owner = owner_of(alloc, out, owner)?;
+    let change = set_change(alloc, out, rest)?;
+    Some(Edit::Property {
         owner,
         group,
         change,
     })
 }
 
-/// The same of what svcadm asks of an instance.
-fn instance_edit(words: &[&str]) -> Result<Option<Edit>, CallFault> {
-    match words {
-        ["revert", number, name] => Ok(Some(Edit::Revert {
-            instance: count_of(number)?,
-            snapshot: SnapshotName::parse(name).ok_or(CallFault::BadLine)?,
-        })),
-        [verb, number] => Ok(asked_edit(verb, count_of(number)?)),
-        _ => Ok(None),
-    }
-}
-
-fn asked_edit(verb: &str, instance: u64) -> Option<Edit> {
-    Some(match verb {
-        "restart" => Edit::Restart(instance),
-        "refresh" => Edit::Refresh(instance),
-        "clear" => Edit::Clear(instance),
-        "mark_degraded" => Edit::Mark {
-            instance,
-            mark: Mark::Degraded,
-        },
-        _ => return enabling_edit(verb, instance),
-    })
-}
-
-fn enabling_edit(verb: &str, instance: u64) -> Option<Edit> {
-    let (enabled, temporary) = match verb {
-        "enable" => (true, false),
-        "disable" => (false, false),
-        "enable_for_now" => (true, true),
-        "disable_for_now" => (false, true),
-        _ => return None,
-    };
-    Some(Edit::Enable {
+fn enable_edit(instance: u64, enabled: bool, temporary: bool) -> Edit {
+    Edit::Enable {
         instance,
         enabled,
         temporary,
-    })
+    }
 }
 
-fn edit_of(alloc: Global, words: &[&str]) -> Result<Edit, CallFault> {
-    if let Some(edit) = naming_edit(alloc, words)? {
-        return Ok(edit);
+/// What svcadm asks of an instance.
+fn asked_edit(verb: &str, instance: u64) -> Option<Edit> {
+    match verb {
+        "delete_instance" => Some(Edit::DeleteInstance(instance)),
+        "restart" => Some(Edit::Restart(instance)),
+        "refresh" => Some(Edit::Refresh(instance)),
+        "clear" => Some(Edit::Clear(instance)),
+        "mark_degraded" => Some(Edit::Mark {
+            instance,
+            mark: Mark::Degraded,
+        }),
+        "enable" => Some(enable_edit(instance, true, false)),
+        "disable" => Some(enable_edit(instance, false, false)),
+        "enable_for_now" => Some(enable_edit(instance, true, true)),
+        "disable_for_now" => Some(enable_edit(instance, false, true)),
+        _ => None,
     }
-    if let Some(edit) = group_edit(alloc, words)? {
-        return Ok(edit);
+}
+
+/// `NUMBER`, or behind `revert` the name of a snapshot too.
+fn number_edit(verb: &str, text: &str) -> Option<Edit> {
+    let (number, name) = split_word(text);
+    let instance = read_count(number)?;
+    if verb == "revert" {
+        let snapshot = SnapshotName::parse(name)?;
+        return Some(Edit::Revert { instance, snapshot });
     }
-    instance_edit(words)?.ok_or(CallFault::BadLine)
+    asked_edit(verb, instance)
+}
+
+/// An edit; `set` gives a property one value.
+fn edit_of(alloc: Global, out: &mut Answer, verb: &str, text: &str) -> Option<Edit> {
+    match verb {
+        "add_service" => Some(Edit::AddService(service_of(alloc, out, text)?)),
+        "delete_service" => Some(Edit::DeleteService(service_of(alloc, out, text)?)),
+        "add_instance" => new_instance(alloc, out, text),
+        "add_group" => new_group(alloc, out, text),
+        "set" => set_edit(alloc, out, text),
+        _ => out.found(number_edit(verb, text)),
+    }
 }
 
 /// `boot`, `launch NAME`, or an edit.
-fn command_of(alloc: Global, words: &[&str]) -> Result<Command, CallFault> {
-    match words {
-        ["boot"] => Ok(Command::Boot),
-        ["launch", name] => Ok(Command::Launch(instance_of(alloc, name)?)),
-        _ => Ok(Command::Edit(edit_of(alloc, words)?)),
+fn command_of(alloc: Global, out: &mut Answer, text: &str) -> Option<Command> {
+    let (verb, rest) = split_word(text);
+    match verb {
+        "boot" => Some(Command::Boot),
+        "launch" => Some(Command::Launch(instance_of(alloc, out, rest)?)),
+        _ => Some(Command::Edit(edit_of(alloc, out, verb, rest)?)),
     }
 }
 
-fn reply_text(alloc: Global, reply: &Reply) -> Result<String, AllocError> {
-    let word = match reply {
-        Reply::Made(number) => return format!(in alloc; "made {number}"),
-        Reply::Granted(_) => "granted",
-        Reply::Done => "done",
-        Reply::NoSuch => "no such",
-        Reply::InUse => "in use",
-        Reply::NotInState => "not in state",
-        Reply::Exists => "exists",
-        Reply::Denied(_) => "denied",
-        Reply::Limit => "limit",
-        Reply::Stale(_, _) => "stale",
-    };
-    String::from_str(alloc, word)
+fn put_reply(out: &mut Answer, reply: &Reply) {
+    match reply {
+        Reply::Made(number) => write!(out, "made {number}"),
+        Reply::Granted(_) => out.put("granted"),
+        Reply::Done => out.put("done"),
+        Reply::NoSuch => out.put("no such"),
+        Reply::InUse => out.put("in use"),
+        Reply::NotInState => out.put("not in state"),
+        Reply::Exists => out.put("exists"),
+        Reply::Denied(_) => out.put("denied"),
+        Reply::Limit => out.put("limit"),
+        Reply::Stale(_, _) => out.put("stale"),
+    }
 }
 
 /// The reply to a command. Over no journal nothing but want of memory can fail.
-fn applied(
-    alloc: Global,
-    repository: &mut Plain<NoJournal>,
-    command: &Command,
-) -> Result<String, CallFault> {
+fn apply(repository: &mut Plain<NoJournal>, out: &mut Answer, command: &Command) {
     match repository.apply(command) {
-        Ok(reply) => Ok(reply_text(alloc, &reply)?),
-        Err(_) => Err(CallFault::Memory),
+        Ok(reply) => put_reply(out, &reply),
+        Err(_) => out.want_memory(),
     }
 }
 
-fn edited(
-    alloc: Global,
-    repository: &mut Plain<NoJournal>,
-    text: &str,
-) -> Result<String, CallFault> {
-    let command = command_of(alloc, words_of(alloc, text)?.as_slice())?;
-    applied(alloc, repository, &command)
+/// The same of a command that is done with, if there is one.
+fn applied(repository: &mut Plain<NoJournal>, out: &mut Answer, command: Option<Command>) {
+    if let Some(command) = command {
+        apply(repository, out, &command);
+    }
+}
+
+fn edited(alloc: Global, repository: &mut Plain<NoJournal>, out: &mut Answer, text: &str) {
+    let command = command_of(alloc, out, text);
+    applied(repository, out, command);
 }
 
 /// `NUMBER STEP`: a step of instance 1, by the proposer's first launch; the serial is the number.
-fn proposed(
-    alloc: Global,
-    repository: &mut Plain<NoJournal>,
-    text: &str,
-) -> Result<String, CallFault> {
-    let Some((number, step)) = text.split_once(' ') else {
-        return Err(CallFault::BadLine);
-    };
-    let number = count_of(number)?;
-    let step = Step::read(step)?;
-    let proposal = Proposal {
-        proposer: instance_of(alloc, PROPOSER)?,
-        launch: 1,
-        serial: number,
-        instance: 1,
-        number,
-        step,
-    };
-    applied(alloc, repository, &Command::Propose(proposal))
+fn proposed(alloc: Global, repository: &mut Plain<NoJournal>, out: &mut Answer, text: &str) {
+    let (number, step) = split_word(text);
+    if let Some(number) = out.found(read_count(number))
+        && let Some(step) = step_of(out, step)
+        && let Some(proposal) = proposal_of(alloc, out, 1, number, number, step)
+    {
+        applied(repository, out, Some(Command::Propose(proposal)));
+    }
 }
 
 /// What a read shows.
-fn held(alloc: Global, repository: &Plain<NoJournal>, text: &str) -> Result<String, CallFault> {
-    match words_of(alloc, text)?.as_slice() {
-        ["revision"] => {
-            let revision = repository.revision().get();
-            Ok(format!(in alloc; "{revision}")?)
-        }
-        ["row", number] => row_text(alloc, repository, count_of(number)?),
-        ["groups", owner] => {
-            let groups = repository.groups(&owner_of(alloc, owner)?)?;
-            Ok(groups_text(alloc, groups.as_slice())?)
-        }
-        ["snapshot", number] => snapshot_text(alloc, repository, count_of(number)?),
-        ["snapshots", number] => names_text(alloc, repository, count_of(number)?),
-        ["number", number, name] => number_text(alloc, repository, count_of(number)?, name),
-        ["rows_of", name] => {
-            let rows = repository.rows_of(&instance_of(alloc, name)?)?;
-            numbers_text(alloc, rows.as_slice())
-        }
-        ["children", name] => {
-            let rows = repository.children(&service_of(alloc, name)?)?;
-            numbers_text(alloc, rows.as_slice())
-        }
-        ["view"] => view_text(alloc, repository),
-        _ => Err(CallFault::BadLine),
+fn held(alloc: Global, repository: &Plain<NoJournal>, out: &mut Answer, text: &str) {
+    let (what, text) = split_word(text);
+    match what {
+        "revision" => put_count(out, Some(repository.revision().get())),
+        "groups" => groups(alloc, repository, out, text),
+        "rows_of" => rows_of(alloc, repository, out, text),
+        "children" => children(alloc, repository, out, text),
+        "view" => put_view(out, repository.view()),
+        _ => match read_count(split_word(text).0) {
+            Some(number) => numbered(alloc, repository, out, what, number, text),
+            None => out.bad_line(),
+        },
+    }
+}
+
+/// The same of what has a number.
+fn numbered(
+    alloc: Global,
+    repository: &Plain<NoJournal>,
+    out: &mut Answer,
+    what: &str,
+    number: u64,
+    text: &str,
+) {
+    match what {
+        "row" => put_row(out, repository.instance(number)),
+        "snapshot" => match repository.snapshot(number) {
+            None => out.put("none"),
+            Some(snapshot) => put_groups(alloc, out, snapshot.instance_groups.as_slice()),
+        },
+        "snapshots" => put_snapshots(out, repository.snapshots(number)),
+        "number" => match SnapshotName::parse(split_word(text).1) {
+            Some(name) => put_count(out, repository.snapshot_number(number, name)),
+            None => out.bad_line(),
+        },
+        _ => out.bad_line(),
     }
 }
 
 /// The number and the state of the row of an instance.
-fn row_text(
-    alloc: Global,
-    repository: &Plain<NoJournal>,
-    number: u64,
-) -> Result<String, CallFault> {
-    match repository.instance(number)? {
-        None => copied(alloc, "none"),
-        Some(instance) => {
+fn put_row(out: &mut Answer, instance: Result<Option<Instance>, AllocError>) {
+    match out.made(instance) {
+        Some(Some(instance)) => {
             let (number, state) = (instance.row.number, instance.row.state);
-            Ok(format!(in alloc; "{number} {state}")?)
+            write!(out, "{number} {state}");
         }
+        Some(None) => out.put("none"),
+        None => {}
     }
-}
-
-fn put_values(alloc: Global, out: &mut String, group: &Group) -> Result<(), AllocError> {
-    for property in group.properties() {
-        for value in property.values() {
-            out.push('=')?;
-            out.push_str(value.print(alloc)?.as_str())?;
-        }
-    }
-    Ok(())
 }
 
 /// Each group's name, with the values of its properties behind it.
-fn groups_text(alloc: Global, groups: &[Group]) -> Result<String, AllocError> {
-    let mut out = String::new(alloc);
+fn put_groups(alloc: Global, out: &mut Answer, groups: &[Group]) {
     for group in groups {
-        if !out.is_empty() {
-            out.push(' ')?;
-        }
-        out.push_str(group.name().as_str())?;
-        put_values(alloc, &mut out, group)?;
+        out.put_between(" ");
+        put_short(alloc, out, group, "");
     }
-    if out.is_empty() {
-        out.push_str("none")?;
-    }
-    Ok(out)
+    out.put_if_empty("none");
 }
 
-/// The groups of the instance in a snapshot.
-fn snapshot_text(
-    alloc: Global,
-    repository: &Plain<NoJournal>,
-    number: u64,
-) -> Result<String, CallFault> {
-    match repository.snapshot(number) {
-        None => copied(alloc, "none"),
-        Some(snapshot) => Ok(groups_text(alloc, snapshot.instance_groups.as_slice())?),
+fn put_shown(alloc: Global, out: &mut Answer, groups: Result<Ordered<Group>, AllocError>) {
+    if let Some(groups) = out.made(groups) {
+        put_groups(alloc, out, groups.as_slice());
+    }
+}
+
+fn groups(alloc: Global, repository: &Plain<NoJournal>, out: &mut Answer, owner: &str) {
+    if let Some(owner) = owner_of(alloc, out, owner) {
+        put_shown(alloc, out, repository.groups(&owner));
     }
 }
 
 /// The names of the snapshots of an instance.
-fn names_text(
-    alloc: Global,
-    repository: &Plain<NoJournal>,
-    number: u64,
-) -> Result<String, CallFault> {
-    let Some(names) = repository.snapshots(number)? else {
-        return copied(alloc, "no such");
-    };
-    let mut out = String::new(alloc);
-    for name in names.as_slice() {
-        if !out.is_empty() {
-            out.push(' ')?;
-        }
-        out.push_str(name.as_str())?;
-    }
-    Ok(out)
-}
-
-/// Which snapshot a name means of an instance.
-fn number_text(
-    alloc: Global,
-    repository: &Plain<NoJournal>,
-    number: u64,
-    name: &str,
-) -> Result<String, CallFault> {
-    let name = SnapshotName::parse(name).ok_or(CallFault::BadLine)?;
-    match repository.snapshot_number(number, name) {
-        None => copied(alloc, "none"),
-        Some(snapshot) => Ok(format!(in alloc; "{snapshot}")?),
+fn put_snapshots(out: &mut Answer, names: Result<Option<Items<SnapshotName>>, AllocError>) {
+    match out.made(names) {
+        Some(Some(names)) => put_names(out, names),
+        Some(None) => out.put("no such"),
+        None => {}
     }
 }
 
-fn numbers_text(alloc: Global, rows: &[Instance]) -> Result<String, CallFault> {
-    let mut out = String::new(alloc);
-    for row in rows {
-        if !out.is_empty() {
-            out.push(' ')?;
+fn put_rows(out: &mut Answer, rows: Result<Items<Instance>, AllocError>) {
+    if let Some(rows) = out.made(rows) {
+        for row in rows.as_slice() {
+            let number = row.number.get();
+            out.put_between(" ");
+            write!(out, "{number}");
         }
-        let number = row.number.get();
-        out.push_str(format!(in alloc; "{number}")?.as_str())?;
+        out.put_if_empty("none");
     }
-    if out.is_empty() {
-        out.push_str("none")?;
-    }
-    Ok(out)
 }
 
-/// The revision, and of each instance: its number, name, whether it is enabled, whether its restarter can be read, its
-/// row's number, and how long the bytes of its running snapshot are.
-fn view_text(alloc: Global, repository: &Plain<NoJournal>) -> Result<String, CallFault> {
-    let view = repository.view()?;
-    let revision = view.revision.get();
-    let mut out = format!(in alloc; "{revision}:")?;
-    for item in view.items.as_slice() {
-        let (instance, name, number) = (item.instance, &item.name, item.row.number);
-        let (enabled, readable) = (truth(item.enabled), truth(item.readable));
-        out.push_str(format!(in alloc;
-            " {instance} {name} {enabled} {readable} {number}"
-        )?.as_str())?;
-        if let Some(body) = &item.body {
-            let length = body.as_slice().len();
-            out.push_str(format!(in alloc; " {length}")?.as_str())?;
+fn rows_of(alloc: Global, repository: &Plain<NoJournal>, out: &mut Answer, name: &str) {
+    if let Some(name) = instance_of(alloc, out, name) {
+        put_rows(out, repository.rows_of(&name));
+    }
+}
+
+fn children(alloc: Global, repository: &Plain<NoJournal>, out: &mut Answer, name: &str) {
+    if let Some(name) = service_of(alloc, out, name) {
+        put_rows(out, repository.children(&name));
+    }
+}
+
+/// Of an instance: its number, name, whether it is enabled, whether its restarter can be read, its row's number, and
+/// how long the bytes of its running snapshot are.
+fn put_item(out: &mut Answer, item: &ViewItem) {
+    let (instance, name, number) = (item.instance, &item.name, item.row.number);
+    let (enabled, readable) = (truth(item.enabled), truth(item.readable));
+    write!(out, " {instance} {name} {enabled} {readable} {number}");
+    if let Some(body) = &item.body {
+        let length = body.as_slice().len();
+        write!(out, " {length}");
+    }
+}
+
+/// The revision, and each instance.
+fn put_view(out: &mut Answer, view: Result<View, AllocError>) {
+    if let Some(view) = out.made(view) {
+        let revision = view.revision.get();
+        write!(out, "{revision}:");
+        for item in view.items.as_slice() {
+            put_item(out, item);
         }
     }
-    Ok(out)
 }

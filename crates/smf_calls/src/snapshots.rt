@@ -1,143 +1,165 @@
 //! What snapshots keep of groups, what a revert makes of groups, and the bytes and names of snapshots.
 //! A group stands as `NAME=TEXT`, or as `NAME!=TEXT` where it is not persistent: its one property has that text.
 
-use crate::bytes::{bytes_of, digits_of};
-use crate::fault::CallFault;
-use crate::words::{copied, optional_of, split_halves, split_word, truth, words_of};
-use smf_fmri::Ordered;
+use crate::answers::Answer;
+use crate::bytes::{bytes_of, put_bytes};
+use crate::groups::{empty_group, put_short, word_of};
+use crate::words::{split_halves, split_two, split_word, truth};
+use smf_fmri::{Items, Ordered, read_count};
 use smf_snap::{
-    SnapshotName, composed, decode_snapshot, encode_snapshot, is_snapped, names, restore, take,
+    Snapshot, SnapshotName, composed, decode_snapshot, encode_snapshot, is_snapped, names, restore,
+    take,
 };
-use smf_value::{Group, GroupFlags, Kind, Name, Property};
+use smf_value::{Group, GroupFlags, Kind};
 use std::alloc::{AllocError, Global};
 
-/// What a call of snapshots answers, or none where the word is no such call.
-pub(crate) fn answer(alloc: Global, call: &str, text: &str) -> Result<Option<String>, CallFault> {
-    let answer = match call {
-        "take" => taken(alloc, text),
-        "restore" => restored(alloc, text),
-        "composed" => found(alloc, text),
-        "is_snapped" => copied(alloc, truth(is_snapped(&group_of(alloc, text)?))),
-        "snapshot" => bytes_again(alloc, text),
-        "snapshot_names" => names_text(alloc, text),
-        "snapshot_name" => name_again(alloc, text),
-        _ => return Ok(None),
-    };
-    Ok(Some(answer?))
+/// Answers a call of snapshots; whether it is one.
+pub(crate) fn answer(alloc: Global, out: &mut Answer, call: &str, text: &str) -> bool {
+    match call {
+        "take" => taken(alloc, out, text),
+        "restore" => restored(alloc, out, text),
+        "composed" => found(alloc, out, text),
+        "is_snapped" => snapped(alloc, out, text),
+        "snapshot" => bytes_again(alloc, out, text),
+        "snapshot_names" => all_names(alloc, out, text),
+        "snapshot_name" => put_name(out, SnapshotName::parse(text)),
+        _ => return false,
+    }
+    true
+}
+
+/// A name, and the flags of a group, which is not persistent behind `!`.
+fn flagged(word: &str) -> (&str, GroupFlags) {
+    match word.strip_suffix('!') {
+        Some(name) => (name, GroupFlags::NON_PERSISTENT),
+        None => (word, GroupFlags::NONE),
+    }
 }
 
 /// The group of a word, and whether it is persistent.
-fn group_of(alloc: Global, word: &str) -> Result<Group, CallFault> {
-    let Some((name, text)) = word.split_once('=') else {
-        return Err(CallFault::BadLine);
-    };
-    let (name, flags) = match name.strip_suffix('!') {
-        Some(name) => (name, GroupFlags::NON_PERSISTENT),
-        None => (name, GroupFlags::NONE),
-    };
-    let name = Name::parse(alloc, name)?;
-    let group_type = Name::parse(alloc, "application")?;
-    let mut group = Group::new(alloc, name, group_type, flags);
-    group.add_value(alloc, &Name::parse(alloc, "p")?, Some(Kind::Astring), text)?;
-    Ok(group)
+fn group_of(alloc: Global, out: &mut Answer, word: &str) -> Option<Group> {
+    let (name, text) = out.found(word.split_once('='))?;
+    let (name, flags) = flagged(name);
+    let property = word_of(alloc, out, "p")?;
+    let mut group = empty_group(alloc, out, name, "application", flags)?;
+    out.given(group.add_value(alloc, &property, Some(Kind::Astring), text))?;
+    Some(group)
 }
 
 /// The groups of words, in the order of their names.
-fn groups_of(alloc: Global, text: &str) -> Result<Ordered<Group>, CallFault> {
+fn groups_of(alloc: Global, out: &mut Answer, text: &str) -> Option<Ordered<Group>> {
     let mut groups = Ordered::new(alloc);
-    for word in words_of(alloc, text)? {
-        groups.put(group_of(alloc, word)?)?;
-    }
-    Ok(groups)
-}
-
-fn put_values(alloc: Global, out: &mut String, property: &Property) -> Result<(), AllocError> {
-    for value in property.values() {
-        out.push('=')?;
-        out.push_str(value.print(alloc)?.as_str())?;
-    }
-    Ok(())
-}
-
-fn put_group(alloc: Global, out: &mut String, group: &Group) -> Result<(), AllocError> {
-    out.push_str(group.name().as_str())?;
-    if group.is_non_persistent() {
-        out.push('!')?;
-    }
-    for property in group.properties() {
-        put_values(alloc, out, property)?;
-    }
-    Ok(())
-}
-
-/// Groups as the words that they are read from.
-fn groups_text(alloc: Global, groups: &[Group]) -> Result<String, AllocError> {
-    let mut out = String::new(alloc);
-    for group in groups {
-        if !out.is_empty() {
-            out.push(' ')?;
+    for word in text.split(' ') {
+        if !word.is_empty() {
+            let group = group_of(alloc, out, word)?;
+            out.made(groups.put(group))?;
         }
-        put_group(alloc, &mut out, group)?;
     }
-    Ok(out)
+    Some(groups)
 }
 
-fn taken(alloc: Global, text: &str) -> Result<String, CallFault> {
-    let groups = groups_of(alloc, text)?;
-    let taken = take(alloc, &groups)?;
-    Ok(groups_text(alloc, taken.as_slice())?)
+/// A group as the word that it is read from.
+fn put_word(alloc: Global, out: &mut Answer, group: &Group) {
+    let flag = if group.is_non_persistent() { "!" } else { "" };
+    put_short(alloc, out, group, flag);
+}
+
+fn put_groups(alloc: Global, out: &mut Answer, groups: Result<Ordered<Group>, AllocError>) {
+    if let Some(groups) = out.made(groups) {
+        for group in groups.as_slice() {
+            out.put_between(" ");
+            put_word(alloc, out, group);
+        }
+    }
+}
+
+fn taken(alloc: Global, out: &mut Answer, text: &str) {
+    if let Some(groups) = groups_of(alloc, out, text) {
+        put_groups(alloc, out, take(alloc, &groups));
+    }
+}
+
+fn snapped(alloc: Global, out: &mut Answer, text: &str) {
+    if let Some(group) = group_of(alloc, out, text) {
+        out.put(truth(is_snapped(&group)));
+    }
 }
 
 /// `CURRENT.. / SNAPSHOT..`.
-fn restored(alloc: Global, text: &str) -> Result<String, CallFault> {
+fn restored(alloc: Global, out: &mut Answer, text: &str) {
     let (current, snapshot) = split_halves(text);
-    let current = groups_of(alloc, current)?;
-    let snapshot = groups_of(alloc, snapshot)?;
-    let restored = restore(alloc, &current, &snapshot)?;
-    Ok(groups_text(alloc, restored.as_slice())?)
+    if let Some(current) = groups_of(alloc, out, current)
+        && let Some(snapshot) = groups_of(alloc, out, snapshot)
+    {
+        put_groups(alloc, out, restore(alloc, &current, &snapshot));
+    }
 }
 
 /// `NAME INSTANCE.. / SERVICE..`.
-fn found(alloc: Global, text: &str) -> Result<String, CallFault> {
+fn found(alloc: Global, out: &mut Answer, text: &str) {
     let (name, text) = split_word(text);
     let (instance, service) = split_halves(text);
-    let instance = groups_of(alloc, instance)?;
-    let service = groups_of(alloc, service)?;
-    let mut out = String::new(alloc);
-    match composed(&instance, &service, name) {
-        None => out.push_str("none")?,
-        Some(group) => put_group(alloc, &mut out, group)?,
+    if let Some(instance) = groups_of(alloc, out, instance)
+        && let Some(service) = groups_of(alloc, out, service)
+    {
+        match composed(&instance, &service, name) {
+            None => out.put("none"),
+            Some(group) => put_word(alloc, out, group),
+        }
     }
-    Ok(out)
+}
+
+/// The snapshot that bytes are.
+fn snapshot_of(alloc: Global, out: &mut Answer, text: &str) -> Option<Snapshot> {
+    let bytes = bytes_of(alloc, out, text)?;
+    out.given(decode_snapshot(alloc, &bytes))
 }
 
 /// The bytes of the snapshot that bytes are.
-fn bytes_again(alloc: Global, text: &str) -> Result<String, CallFault> {
-    let bytes = bytes_of(alloc, text)?;
-    let snapshot = decode_snapshot(alloc, &bytes)?;
-    let again = encode_snapshot(alloc, &snapshot)?;
-    Ok(digits_of(alloc, again.as_slice())?)
-}
-
-/// `PREVIOUS RUNNING START`, each a snapshot's number or `-`: the names that these have.
-fn names_text(alloc: Global, text: &str) -> Result<String, CallFault> {
-    let (previous, rest) = split_word(text);
-    let (running, start) = split_word(rest);
-    let (previous, running) = (optional_of(previous)?, optional_of(running)?);
-    let all = names(alloc, previous, running, optional_of(start)?)?;
-    let mut out = String::new(alloc);
-    for name in all.as_slice() {
-        if !out.is_empty() {
-            out.push(' ')?;
-        }
-        out.push_str(name.as_str())?;
+fn bytes_again(alloc: Global, out: &mut Answer, text: &str) {
+    if let Some(snapshot) = snapshot_of(alloc, out, text) {
+        put_bytes(alloc, out, encode_snapshot(alloc, &snapshot));
     }
-    Ok(out)
 }
 
-fn name_again(alloc: Global, text: &str) -> Result<String, CallFault> {
-    match SnapshotName::parse(text) {
-        Some(name) => Ok(format!(in alloc; "{name}")?),
-        None => copied(alloc, "none"),
+/// Names with a space between two.
+pub(crate) fn put_names(out: &mut Answer, names: Items<SnapshotName>) {
+    for name in names.as_slice() {
+        out.put_between(" ");
+        out.put(name.as_str());
+    }
+}
+
+/// A snapshot's number, or `-`.
+fn optional_of(word: &str) -> Option<Option<u64>> {
+    if word == "-" {
+        return Some(None);
+    }
+    Some(Some(read_count(word)?))
+}
+
+/// `PREVIOUS RUNNING START`, each a snapshot's number or `-`.
+fn numbers_of(text: &str) -> Option<(Option<u64>, Option<u64>, Option<u64>)> {
+    let (previous, running, start) = split_two(text);
+    Some((
+        optional_of(previous)?,
+        optional_of(running)?,
+        optional_of(start)?,
+    ))
+}
+
+/// The names that these have.
+fn all_names(alloc: Global, out: &mut Answer, text: &str) {
+    if let Some((previous, running, start)) = out.found(numbers_of(text))
+        && let Some(names) = out.made(names(alloc, previous, running, start))
+    {
+        put_names(out, names);
+    }
+}
+
+fn put_name(out: &mut Answer, name: Option<SnapshotName>) {
+    match name {
+        Some(name) => write!(out, "{name}"),
+        None => out.put("none"),
     }
 }

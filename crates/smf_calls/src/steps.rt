@@ -1,42 +1,47 @@
 //! Steps, and what they make of rows.
 
-use crate::fault::CallFault;
+use crate::answers::Answer;
 use crate::names::instance_of;
-use crate::words::copied;
-use smf_state::{Proposal, Row, Step, Verb, field_at, number_at, row_at};
+use crate::words::{put_count, put_text};
+use smf_state::{Proposal, Row, Step, Verb, WrongField, field_at, number_at, row_at};
 use std::alloc::Global;
 
-/// Who proposes the steps of these lines: a row does not ask.
-const PROPOSER: &str = "svc:/system/svc/restarter:default";
+/// Who proposes steps, and whose rows are: svc.startd.
+pub(crate) const STARTD: &str = "svc:/system/svc/restarter:default";
 
-/// What a call of steps answers, or none where the word is no such call.
-pub(crate) fn answer(alloc: Global, call: &str, text: &str) -> Result<Option<String>, CallFault> {
-    let answer = match call {
-        "step_text" => printed(alloc, text),
-        "run_of" => run(alloc, text),
-        "verb" => verb(alloc, text),
-        "step" => stepped(alloc, text),
-        _ => return Ok(None),
-    };
-    Ok(Some(answer?))
+/// Answers a call of steps; whether it is one.
+pub(crate) fn answer(alloc: Global, out: &mut Answer, call: &str, text: &str) -> bool {
+    match call {
+        "step_text" => printed(alloc, out, text),
+        "run_of" => run(out, text),
+        "verb" => out.put(verb_text(Verb::read(text))),
+        "step" => stepped(alloc, out, text),
+        _ => return false,
+    }
+    true
+}
+
+/// The step that a text is.
+pub(crate) fn step_of(out: &mut Answer, text: &str) -> Option<Step> {
+    out.given(Step::read(text))
 }
 
 /// The text of the step that a text is.
-fn printed(alloc: Global, text: &str) -> Result<String, CallFault> {
-    let step = Step::read(text)?;
-    Ok(step.print(alloc)?.into_string())
-}
-
-/// The run that a step begins.
-fn run(alloc: Global, text: &str) -> Result<String, CallFault> {
-    match Step::read(text)?.run() {
-        Some(run) => Ok(format!(in alloc; "{run}")?),
-        None => copied(alloc, "none"),
+fn printed(alloc: Global, out: &mut Answer, text: &str) {
+    if let Some(step) = step_of(out, text) {
+        put_text(out, step.print(alloc));
     }
 }
 
-fn verb(alloc: Global, text: &str) -> Result<String, CallFault> {
-    let word = match Verb::read(text) {
+/// The run that a step begins.
+fn run(out: &mut Answer, text: &str) {
+    if let Some(step) = step_of(out, text) {
+        put_count(out, step.run());
+    }
+}
+
+fn verb_text(verb: Option<Verb>) -> &'static str {
+    match verb {
         Some(Verb::Move) => "move",
         Some(Verb::Start) => "start",
         Some(Verb::Stop) => "stop",
@@ -44,47 +49,58 @@ fn verb(alloc: Global, text: &str) -> Result<String, CallFault> {
         Some(Verb::End) => "end",
         Some(Verb::Note) => "note",
         None => "none",
-    };
-    copied(alloc, word)
+    }
 }
 
-/// `REVISION LAUNCH SERIAL ROW / STEP`: the row behind the step, which that launch proposes at that revision.
-fn stepped(alloc: Global, text: &str) -> Result<String, CallFault> {
-    let (revision, rest) = number_at(Some(text))?;
-    let (launch, rest) = number_at(rest)?;
-    let (serial, rest) = number_at(rest)?;
-    let (row, rest) = row_at(alloc, rest)?;
-    let proposal = proposal_of(alloc, launch, serial, rest)?;
-    applied(alloc, row, &proposal, revision)
-}
-
-/// The proposal of the step that stands behind a slash.
-fn proposal_of(
+/// A step of instance 1, as svc.startd proposes it.
+pub(crate) fn proposal_of(
     alloc: Global,
+    out: &mut Answer,
     launch: u64,
     serial: u64,
-    rest: Option<&str>,
-) -> Result<Proposal, CallFault> {
-    let Some(("/", Some(text))) = field_at(rest) else {
-        return Err(CallFault::BadLine);
-    };
-    let step = Step::read(text)?;
-    Ok(Proposal {
-        proposer: instance_of(alloc, PROPOSER)?,
+    number: u64,
+    step: Step,
+) -> Option<Proposal> {
+    let proposer = instance_of(alloc, out, STARTD)?;
+    Some(Proposal {
+        proposer,
         launch,
         serial,
         instance: 1,
-        number: 1,
+        number,
         step,
     })
 }
 
-fn applied(
-    alloc: Global,
-    mut row: Row,
-    proposal: &Proposal,
-    revision: u64,
-) -> Result<String, CallFault> {
-    row.apply(proposal, revision)?;
-    Ok(row.print(alloc)?.into_string())
+/// `REVISION LAUNCH SERIAL`, and what is left.
+fn numbers_of(text: &str) -> Result<(u64, u64, u64, Option<&str>), WrongField> {
+    let (revision, rest) = number_at(Some(text))?;
+    let (launch, rest) = number_at(rest)?;
+    let (serial, rest) = number_at(rest)?;
+    Ok((revision, launch, serial, rest))
+}
+
+/// The step that stands behind a slash.
+fn step_behind(out: &mut Answer, rest: Option<&str>) -> Option<Step> {
+    match field_at(rest) {
+        Some(("/", Some(text))) => step_of(out, text),
+        _ => out.found(None),
+    }
+}
+
+/// `REVISION LAUNCH SERIAL ROW / STEP`: the row behind the step, which that launch proposes at that revision.
+fn stepped(alloc: Global, out: &mut Answer, text: &str) {
+    if let Some((revision, launch, serial, rest)) = out.given(numbers_of(text))
+        && let Some((row, rest)) = out.given(row_at(alloc, rest))
+        && let Some(step) = step_behind(out, rest)
+        && let Some(proposal) = proposal_of(alloc, out, launch, serial, 1, step)
+    {
+        applied(alloc, out, row, &proposal, revision);
+    }
+}
+
+fn applied(alloc: Global, out: &mut Answer, mut row: Row, proposal: &Proposal, revision: u64) {
+    if out.given(row.apply(proposal, revision)).is_some() {
+        put_text(out, row.print(alloc));
+    }
 }

@@ -1,54 +1,65 @@
 //! Values, names of properties, and the bytes of groups.
 
-use crate::bytes::{bytes_of, digits_of};
-use crate::fault::CallFault;
-use crate::groups::groups_text;
-use crate::words::{copied, split_word};
-use smf_value::{Kind, Name, Value, decode, encode};
+use crate::answers::Answer;
+use crate::bytes::{bytes_of, put_bytes};
+use crate::groups::{put_groups, word_of};
+use crate::words::{put_text, split_word};
+use smf_fmri::Ordered;
+use smf_value::{Group, Kind, Value, decode, encode};
 use std::alloc::Global;
 
-/// What a call of values answers, or none where the word is no such call.
-pub(crate) fn answer(alloc: Global, call: &str, text: &str) -> Result<Option<String>, CallFault> {
-    let answer = match call {
-        "value" => printed(alloc, text),
-        "name" => copied(alloc, Name::parse(alloc, text)?.as_str()),
-        "body" => body_again(alloc, text),
-        "groups" => groups_of(alloc, text),
-        _ => return Ok(None),
-    };
-    Ok(Some(answer?))
+/// Answers a call of values; whether it is one.
+pub(crate) fn answer(alloc: Global, out: &mut Answer, call: &str, text: &str) -> bool {
+    match call {
+        "value" => printed(alloc, out, text),
+        "name" => name(alloc, out, text),
+        "body" | "groups" => read(alloc, out, call, text),
+        _ => return false,
+    }
+    true
 }
 
 /// The kind of a word.
-pub(crate) fn kind_of(word: &str) -> Result<Kind, CallFault> {
+pub(crate) fn kind_of(word: &str) -> Option<Kind> {
     for code in 0..7 {
         if let Some(kind) = Kind::from_code(code)
             && kind.as_str() == word
         {
-            return Ok(kind);
+            return Some(kind);
         }
     }
-    Err(CallFault::BadLine)
+    None
 }
 
 /// The text of the value of a kind that a text is.
-fn printed(alloc: Global, text: &str) -> Result<String, CallFault> {
+fn printed(alloc: Global, out: &mut Answer, text: &str) {
     let (kind, text) = split_word(text);
-    let value = Value::read(alloc, kind_of(kind)?, text)?;
-    Ok(value.print(alloc)?.into_string())
+    if let Some(kind) = out.found(kind_of(kind))
+        && let Some(value) = out.given(Value::read(alloc, kind, text))
+    {
+        put_text(out, value.print(alloc));
+    }
 }
 
-/// The bytes of the groups that bytes are.
-fn body_again(alloc: Global, text: &str) -> Result<String, CallFault> {
-    let bytes = bytes_of(alloc, text)?;
-    let groups = decode(alloc, &bytes)?;
-    let again = encode(alloc, &groups)?;
-    Ok(digits_of(alloc, again.as_slice())?)
+fn name(alloc: Global, out: &mut Answer, text: &str) {
+    if let Some(name) = word_of(alloc, out, text) {
+        out.put(name.as_str());
+    }
 }
 
-/// The groups that bytes are, as texts.
-fn groups_of(alloc: Global, text: &str) -> Result<String, CallFault> {
-    let bytes = bytes_of(alloc, text)?;
-    let groups = decode(alloc, &bytes)?;
-    Ok(groups_text(alloc, groups.as_slice())?)
+/// The groups that bytes are.
+fn groups_in(alloc: Global, out: &mut Answer, text: &str) -> Option<Ordered<Group>> {
+    let bytes = bytes_of(alloc, out, text)?;
+    out.given(decode(alloc, &bytes))
+}
+
+/// The groups that bytes are, as bytes again or as texts.
+fn read(alloc: Global, out: &mut Answer, call: &str, text: &str) {
+    if let Some(groups) = groups_in(alloc, out, text) {
+        if call == "body" {
+            put_bytes(alloc, out, encode(alloc, &groups));
+        } else {
+            put_groups(alloc, out, groups.as_slice());
+        }
+    }
 }

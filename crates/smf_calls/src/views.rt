@@ -1,35 +1,32 @@
 //! A view that lines make, item by item: what svcs and svcadm say of it, and what svc.startd's graph orders.
 
+use crate::answers::Answer;
 use crate::bytes::bytes_of;
-use crate::fault::CallFault;
 use crate::names::instance_of;
-use crate::rows::state_of;
-use crate::words::{copied, count_of, number_of, texts_of, words_of};
+use crate::steps::STARTD;
+use crate::words::{number_of, split_two, texts_of};
 use smf_admin::{
-    Asked, commands_of, no_match_text, options_of, several_text, svcadm_usage, svcs_text,
-    svcs_usage,
+    Asked, Listing, Options, commands_of, no_match_text, options_of, several_text, svcadm_usage,
+    svcs_text, svcs_usage,
 };
 use smf_engine::{Engine, orders};
-use smf_fmri::{Bytes, Items, Number, Table};
+use smf_fmri::{Bytes, Items, Number, Table, Text, read_count};
 use smf_model::{Edit, InstanceName, Mark};
-use smf_state::{Row, View, ViewItem};
+use smf_state::{Row, State, View, ViewItem};
 use smf_wire::{Order, What};
 use std::alloc::{AllocError, Global};
-
-/// The restarter in the rows of the view.
-const RESTARTER: &str = "svc:/system/svc/restarter:default";
 
 /// A view, and a graph that views are given to.
 #[derive(Drop)]
 pub(crate) struct Views {
-    items: Vec<ViewItem>,
+    items: Items<ViewItem>,
     engine: Engine,
 }
 
 impl Views {
     pub(crate) fn new(alloc: Global) -> Views {
         Views {
-            items: Vec::new(alloc),
+            items: Items::new(alloc),
             engine: Engine::new(),
         }
     }
@@ -39,122 +36,151 @@ impl Views {
     }
 }
 
-/// What a call of the view answers, or none where the word is no such call.
+/// Answers a call of the view; whether it is one.
 pub(crate) fn answer(
     alloc: Global,
     views: &mut Views,
+    out: &mut Answer,
     call: &str,
     text: &str,
-) -> Result<Option<String>, CallFault> {
+) -> bool {
     match call {
-        "view" => views.items = Vec::new(alloc),
-        "view_item" => views.items.push(item_of(alloc, text)?)?,
-        "take_view" => take_view(alloc, views, text)?,
-        _ => return shown(alloc, views, call, text),
+        "view" => {
+            views.items = Items::new(alloc);
+            out.put("done");
+        }
+        "view_item" => add_item(alloc, views, out, text),
+        "take_view" => take_view(views, out, text),
+        "svcs" => svcs(alloc, views.items.as_slice(), out, text),
+        "svcadm" => svcadm(alloc, views.items.as_slice(), out, text),
+        "orders" => all_orders(alloc, views.items.as_slice(), out, text),
+        "decide" => decided(alloc, &views.engine, out, text),
+        "decide_all" => put_orders(out, views.engine.decide_all(alloc)),
+        _ => return false,
     }
-    Ok(Some(copied(alloc, "done")?))
+    true
 }
 
-/// The same of the calls that change nothing.
-fn shown(
-    alloc: Global,
-    views: &Views,
-    call: &str,
-    text: &str,
-) -> Result<Option<String>, CallFault> {
-    let answer = match call {
-        "svcs" => svcs(alloc, &views.items, text),
-        "svcadm" => svcadm(alloc, &views.items, text),
-        "orders" => all_orders(alloc, &views.items, text),
-        "decide" => decided(alloc, &views.engine, text),
-        "decide_all" => decided_all(alloc, &views.engine),
-        _ => return Ok(None),
-    };
-    Ok(Some(answer?))
-}
-
-/// A row of a restarter's in a state; the next state may be `-`.
-fn row_of(alloc: Global, owner: &str, state: &str, next: &str) -> Result<Row, CallFault> {
-    let mut row = Row::new(instance_of(alloc, owner)?);
-    row.state = state_of(state)?;
-    if next != "-" {
-        row.next = Some(state_of(next)?);
+/// The next state; `-` is none.
+fn next_of(word: &str) -> Option<Option<State>> {
+    if word == "-" {
+        return Some(None);
     }
-    Ok(row)
+    Some(Some(State::read(word)?))
 }
 
 /// The bytes of the running snapshot; `-` is none.
-fn body_of(alloc: Global, word: &str) -> Result<Option<Bytes>, CallFault> {
+fn body_of(alloc: Global, out: &mut Answer, word: &str) -> Option<Option<Bytes>> {
     if word == "-" {
-        return Ok(None);
+        return Some(None);
     }
-    Ok(Some(Bytes::from_vec(bytes_of(alloc, word)?)))
+    Some(Some(Bytes::from_vec(bytes_of(alloc, out, word)?)))
 }
 
-fn is_enabled(word: &str) -> Result<bool, CallFault> {
+fn is_enabled(word: &str) -> Option<bool> {
     match word {
-        "enabled" => Ok(true),
-        "disabled" => Ok(false),
-        _ => Err(CallFault::BadLine),
+        "enabled" => Some(true),
+        "disabled" => Some(false),
+        _ => None,
     }
 }
 
-/// An item of a restarter's, of the words `NUMBER NAME enabled|disabled STATE NEXT BODY`.
-fn item_of_owner(alloc: Global, words: &[&str], owner: &str) -> Result<ViewItem, CallFault> {
-    match words {
-        [number, name, enabled, state, next, body] => Ok(ViewItem {
-            instance: count_of(number)?,
-            enabled: is_enabled(enabled)?,
-            readable: true,
-            name: instance_of(alloc, name)?,
-            row: row_of(alloc, owner, state, next)?,
-            body: body_of(alloc, body)?,
-        }),
-        _ => Err(CallFault::BadLine),
-    }
+/// A row of a restarter's in a state: svc.startd's, where no other is named.
+fn row_of(
+    alloc: Global,
+    out: &mut Answer,
+    owner: &str,
+    state: State,
+    next: Option<State>,
+) -> Option<Row> {
+    let owner = if owner.is_empty() { STARTD } else { owner };
+    let mut row = Row::new(instance_of(alloc, out, owner)?);
+    row.state = state;
+    row.next = next;
+    Some(row)
+}
+
+/// `STATE NEXT`.
+fn states_of(state: &str, next: &str) -> Option<(State, Option<State>)> {
+    Some((State::read(state)?, next_of(next)?))
+}
+
+/// `NUMBER`, and whether it is enabled.
+fn number_and_flag(number: &str, flag: &str) -> Option<(u64, bool)> {
+    Some((read_count(number)?, is_enabled(flag)?))
 }
 
 /// `NUMBER NAME enabled|disabled STATE NEXT BODY`, and where it is another than svc.startd the restarter behind it.
-fn item_of(alloc: Global, text: &str) -> Result<ViewItem, CallFault> {
-    match words_of(alloc, text)?.as_slice() {
-        [front @ .., owner] if front.len() == 6 => item_of_owner(alloc, front, owner),
-        words => item_of_owner(alloc, words, RESTARTER),
+fn item_of(alloc: Global, out: &mut Answer, text: &str) -> Option<ViewItem> {
+    let (number, name, rest) = split_two(text);
+    let (flag, state, rest) = split_two(rest);
+    let (next, body, owner) = split_two(rest);
+    let (instance, enabled) = out.found(number_and_flag(number, flag))?;
+    let (state, next) = out.found(states_of(state, next))?;
+    let name = instance_of(alloc, out, name)?;
+    let row = row_of(alloc, out, owner, state, next)?;
+    let body = body_of(alloc, out, body)?;
+    Some(ViewItem {
+        instance,
+        name,
+        enabled,
+        readable: true,
+        row,
+        body,
+    })
+}
+
+fn add_item(alloc: Global, views: &mut Views, out: &mut Answer, text: &str) {
+    if let Some(item) = item_of(alloc, out, text)
+        && out.made(views.items.push(item)).is_some()
+    {
+        out.put("done");
     }
 }
 
 /// The lines of a text, with a bar at the end of each.
-fn put_lines(out: &mut String, text: &str) -> Result<(), AllocError> {
+fn put_lines(out: &mut Answer, text: &str) {
     for line in text.split('\n') {
         if !line.is_empty() {
-            out.push_str(line)?;
-            out.push('|')?;
+            out.put(line);
+            out.put("|");
         }
     }
-    Ok(())
 }
 
-/// What svcs prints, and `failed` where a pattern matches nothing.
-fn svcs(alloc: Global, items: &[ViewItem], text: &str) -> Result<String, CallFault> {
-    let words = texts_of(alloc, text)?;
-    let mut out = String::new(alloc);
-    let Some(options) = options_of(alloc, words.as_slice())? else {
-        put_lines(&mut out, svcs_usage())?;
-        return Ok(out);
-    };
-    let listing = svcs_text(alloc, items, &options)?;
-    put_lines(&mut out, listing.text.as_str())?;
-    if !listing.all_matched {
-        out.push_str("failed")?;
+/// The lines of a text that a library made.
+fn put_told(out: &mut Answer, text: Result<Text, AllocError>) {
+    if let Some(text) = out.made(text) {
+        put_lines(out, text.as_str());
     }
-    Ok(out)
 }
 
-fn enable_word(enabled: bool) -> &'static str {
-    if enabled { "enable" } else { "disable" }
+/// A listing, and `failed` where a pattern matches nothing.
+fn put_listing(out: &mut Answer, listing: Result<Listing, AllocError>) {
+    if let Some(listing) = out.made(listing) {
+        put_lines(out, listing.text.as_str());
+        out.put(if listing.all_matched { "" } else { "failed" });
+    }
 }
 
-fn temporary_text(temporary: bool) -> &'static str {
-    if temporary { " temporary" } else { "" }
+fn put_listed(
+    alloc: Global,
+    items: &[ViewItem],
+    out: &mut Answer,
+    options: Result<Option<Options>, AllocError>,
+) {
+    match out.made(options) {
+        Some(Some(options)) => put_listing(out, svcs_text(alloc, items, &options)),
+        Some(None) => put_lines(out, svcs_usage()),
+        None => {}
+    }
+}
+
+/// What svcs prints.
+fn svcs(alloc: Global, items: &[ViewItem], out: &mut Answer, text: &str) {
+    if let Some(words) = out.made(texts_of(alloc, text)) {
+        put_listed(alloc, items, out, options_of(alloc, words.as_slice()));
+    }
 }
 
 fn mark_word(mark: Mark) -> &'static str {
@@ -165,133 +191,142 @@ fn mark_word(mark: Mark) -> &'static str {
     }
 }
 
-fn edit_text(alloc: Global, edit: &Edit) -> Result<String, AllocError> {
+fn put_edit(out: &mut Answer, edit: &Edit) {
     match edit {
         Edit::Enable {
             instance,
             enabled,
             temporary,
         } => {
-            let (word, until) = (enable_word(*enabled), temporary_text(*temporary));
-            format!(in alloc; "{word} {instance}{until}\n")
+            let word = if *enabled { "enable" } else { "disable" };
+            let until = if *temporary { " temporary" } else { "" };
+            write!(out, "{word} {instance}{until}|");
         }
-        Edit::Restart(instance) => format!(in alloc; "restart {instance}\n"),
-        Edit::Refresh(instance) => format!(in alloc; "refresh {instance}\n"),
-        Edit::Clear(instance) => format!(in alloc; "clear {instance}\n"),
+        Edit::Restart(instance) => write!(out, "restart {instance}|"),
+        Edit::Refresh(instance) => write!(out, "refresh {instance}|"),
+        Edit::Clear(instance) => write!(out, "clear {instance}|"),
         Edit::Mark { instance, mark } => {
             let word = mark_word(*mark);
-            format!(in alloc; "mark {instance} {word}\n")
+            write!(out, "mark {instance} {word}|");
         }
-        _ => String::from_str(alloc, "another edit\n"),
+        _ => out.put("another edit|"),
     }
 }
 
 /// What a word of svcadm asks for.
-fn asked_text(alloc: Global, asked: &Asked) -> Result<String, AllocError> {
+fn put_asked(alloc: Global, out: &mut Answer, asked: &Asked) {
     match asked {
-        Asked::Edit(edit) => edit_text(alloc, edit),
-        Asked::NoMatch(word) => { Ok(no_match_text(alloc, "svcadm", word.as_str())?.into_string()) }
+        Asked::Edit(edit) => put_edit(out, edit),
+        Asked::NoMatch(word) => put_told(out, no_match_text(alloc, "svcadm", word.as_str())),
         Asked::Several(word, count) => {
-            Ok(several_text(alloc, "svcadm", word.as_str(), *count)?.into_string())
+            put_told(out, several_text(alloc, "svcadm", word.as_str(), *count));
         }
     }
 }
 
-fn put_asked(alloc: Global, out: &mut String, all: &[Asked]) -> Result<(), AllocError> {
+fn put_all_asked(alloc: Global, out: &mut Answer, all: &[Asked]) {
     for asked in all {
-        put_lines(out, asked_text(alloc, asked)?.as_str())?;
+        put_asked(alloc, out, asked);
     }
-    Ok(())
+}
+
+fn put_commands(
+    alloc: Global,
+    out: &mut Answer,
+    commands: Result<Option<Items<Asked>>, AllocError>,
+) {
+    match out.made(commands) {
+        Some(Some(all)) => put_all_asked(alloc, out, all.as_slice()),
+        Some(None) => put_lines(out, svcadm_usage()),
+        None => {}
+    }
 }
 
 /// The names of a view, with their numbers.
 fn names_of(alloc: Global, items: &[ViewItem]) -> Result<Table<InstanceName>, AllocError> {
     let mut names = Table::new(alloc);
     for item in items {
-        let Some(number) = Number::new(item.instance) else {
-            continue;
-        };
-        let name = item.name.clone()?;
-        names.reserve(1)?;
-        names.put(InstanceName { name, number });
+        if let Some(number) = Number::new(item.instance) {
+            names.reserve(1)?;
+            let name = item.name.clone()?;
+            names.put(InstanceName { name, number });
+        }
     }
     Ok(names)
 }
 
-fn svcadm(alloc: Global, items: &[ViewItem], text: &str) -> Result<String, CallFault> {
-    let words = texts_of(alloc, text)?;
-    let names = names_of(alloc, items)?;
-    let mut out = String::new(alloc);
-    match commands_of(alloc, words.as_slice(), &names)? {
-        None => put_lines(&mut out, svcadm_usage())?,
-        Some(all) => put_asked(alloc, &mut out, all.as_slice())?,
+fn svcadm(alloc: Global, items: &[ViewItem], out: &mut Answer, text: &str) {
+    if let Some(words) = out.made(texts_of(alloc, text))
+        && let Some(names) = out.made(names_of(alloc, items))
+    {
+        put_commands(alloc, out, commands_of(alloc, words.as_slice(), &names));
     }
-    Ok(out)
 }
 
-fn what_text(alloc: Global, what: &What) -> Result<String, AllocError> {
+fn put_what(out: &mut Answer, what: &What) {
     match what {
-        What::To(state) => String::from_str(alloc, state.text()),
+        What::To(state) => out.put(state.text()),
         What::Start {
             method,
             duration,
             ..
         } => {
             let command = &method.command;
-            format!(in alloc; "start {command} {duration}")
+            write!(out, "start {command} {duration}");
         }
-        What::Stop { to, .. } => format!(in alloc; "stop {to}"),
-        What::Refresh { .. } => String::from_str(alloc, "refresh"),
+        What::Stop { to, .. } => write!(out, "stop {to}"),
+        What::Refresh { .. } => out.put("refresh"),
     }
 }
 
 /// The instance of an order, the revision that it was decided on, and what it says.
-fn order_text(alloc: Global, order: &Order) -> Result<String, AllocError> {
-    let what = what_text(alloc, &order.what)?;
+fn put_order(out: &mut Answer, order: &Order) {
     let (instance, revision) = (order.instance, order.revision);
-    format!(in alloc; "{instance} at {revision}: {what}")
+    write!(out, "{instance} at {revision}: ");
+    put_what(out, &order.what);
 }
 
-fn orders_text(alloc: Global, orders: &[Order]) -> Result<String, AllocError> {
-    let mut out = String::new(alloc);
-    for order in orders {
-        if !out.is_empty() {
-            out.push_str(", ")?;
+/// Orders for instances of the view.
+fn put_orders(out: &mut Answer, orders: Result<Items<Order>, AllocError>) {
+    if let Some(orders) = out.made(orders) {
+        for order in orders.as_slice() {
+            out.put_between(", ");
+            put_order(out, order);
         }
-        out.push_str(order_text(alloc, order)?.as_str())?;
+        out.put_if_empty("nothing");
     }
-    if out.is_empty() {
-        out.push_str("nothing")?;
-    }
-    Ok(out)
 }
 
 /// `REVISION`: the orders for the instances of the view.
-fn all_orders(alloc: Global, items: &[ViewItem], text: &str) -> Result<String, CallFault> {
-    let orders = orders(alloc, count_of(text)?, items)?;
-    Ok(orders_text(alloc, orders.as_slice())?)
+fn all_orders(alloc: Global, items: &[ViewItem], out: &mut Answer, text: &str) {
+    match read_count(text) {
+        Some(revision) => put_orders(out, orders(alloc, revision, items)),
+        None => out.bad_line(),
+    }
 }
 
-/// `REVISION`: gives a copy of the view to the graph, as that of this revision.
-fn take_view(alloc: Global, views: &mut Views, text: &str) -> Result<(), CallFault> {
-    let revision = number_of(text)?;
-    let mut items = Items::new(alloc);
-    for item in &views.items {
-        items.push(item.clone()?)?;
+fn put_decided(out: &mut Answer, order: Result<Option<Order>, AllocError>) {
+    match out.made(order) {
+        Some(Some(order)) => put_order(out, &order),
+        Some(None) => out.put("nothing"),
+        None => {}
     }
-    views.engine.take_view(View { revision, items });
-    Ok(())
 }
 
 /// `NUMBER`: the order for one instance, by the view that the graph holds.
-fn decided(alloc: Global, engine: &Engine, text: &str) -> Result<String, CallFault> {
-    match engine.decide(alloc, count_of(text)?)? {
-        None => copied(alloc, "nothing"),
-        Some(order) => Ok(order_text(alloc, &order)?),
+fn decided(alloc: Global, engine: &Engine, out: &mut Answer, text: &str) {
+    match read_count(text) {
+        Some(number) => put_decided(out, engine.decide(alloc, number)),
+        None => out.bad_line(),
     }
 }
 
-fn decided_all(alloc: Global, engine: &Engine) -> Result<String, CallFault> {
-    let orders = engine.decide_all(alloc)?;
-    Ok(orders_text(alloc, orders.as_slice())?)
+/// `REVISION`: gives a copy of the view to the graph, as that of this revision.
+fn take_view(views: &mut Views, out: &mut Answer, text: &str) {
+    if let Some(revision) = out.found(number_of(text))
+        && let Some(items) = out.made(views.items.clone())
+    {
+        views.engine.take_view(View { revision, items });
+        out.put("done");
+    }
 }

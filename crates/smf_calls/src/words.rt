@@ -1,6 +1,6 @@
 //! Words of lines, and the words of small answers.
 
-use crate::fault::CallFault;
+use crate::answers::Answer;
 use smf_fmri::{Items, Number, Text, read_count};
 use std::alloc::{AllocError, Global};
 use std::cmp::Ordering;
@@ -13,6 +13,13 @@ pub(crate) fn split_word(text: &str) -> (&str, &str) {
     }
 }
 
+/// The first two words, and what stands behind them.
+pub(crate) fn split_two(text: &str) -> (&str, &str, &str) {
+    let (first, rest) = split_word(text);
+    let (second, rest) = split_word(rest);
+    (first, second, rest)
+}
+
 /// What stands before the word `/`, and what stands behind it. Words have one space between.
 pub(crate) fn split_halves(text: &str) -> (&str, &str) {
     match text.split_once(" / ") {
@@ -21,43 +28,25 @@ pub(crate) fn split_halves(text: &str) -> (&str, &str) {
     }
 }
 
-/// The words of a text, which stand between spaces.
-pub(crate) fn words_of<'a>(alloc: Global, text: &'a str) -> Result<Vec<&'a str>, AllocError> {
-    text.split(' ')
-        .filter(|word| !word.is_empty())
-        .collect(alloc)
-}
-
-/// The same with memory of their own.
+/// The words of a text, which stand between spaces, with memory of their own.
 pub(crate) fn texts_of(alloc: Global, text: &str) -> Result<Items<Text>, AllocError> {
     let mut texts = Items::new(alloc);
-    for word in words_of(alloc, text)? {
-        texts.push(Text::copy_of(alloc, word)?)?;
+    for word in text.split(' ') {
+        if !word.is_empty() {
+            texts.push(Text::copy_of(alloc, word)?)?;
+        }
     }
     Ok(texts)
 }
 
-/// The number that a word is in decimal.
-pub(crate) fn count_of(word: &str) -> Result<u64, CallFault> {
-    read_count(word).ok_or(CallFault::BadLine)
+/// The number that a word is in decimal, at most 2^63 - 1.
+pub(crate) fn number_of(word: &str) -> Option<Number> {
+    Number::new(read_count(word)?)
 }
 
-/// The same of a number that is at most 2^63 - 1.
-pub(crate) fn number_of(word: &str) -> Result<Number, CallFault> {
-    Number::new(count_of(word)?).ok_or(CallFault::BadLine)
-}
-
-/// The same of a byte.
-pub(crate) fn byte_of(word: &str) -> Result<u8, CallFault> {
-    u8::try_from(count_of(word)?).map_err(|_| CallFault::BadLine)
-}
-
-/// A number, or `-`.
-pub(crate) fn optional_of(word: &str) -> Result<Option<u64>, CallFault> {
-    if word == "-" {
-        return Ok(None);
-    }
-    Ok(Some(count_of(word)?))
+/// The byte that a word is in decimal.
+pub(crate) fn byte_of(word: &str) -> Option<u8> {
+    u8::try_from(read_count(word)?).ok()
 }
 
 /// The text of a truth.
@@ -73,7 +62,25 @@ pub(crate) fn ordering_text(ordering: Ordering) -> &'static str {
     }
 }
 
-/// A text with memory of its own.
-pub(crate) fn copied(alloc: Global, text: &str) -> Result<String, CallFault> {
-    Ok(String::from_str(alloc, text)?)
+/// A number, or `none`.
+pub(crate) fn put_count(out: &mut Answer, number: Option<u64>) {
+    match number {
+        Some(number) => write!(out, "{number}"),
+        None => out.put("none"),
+    }
+}
+
+/// The same of a number that is at most 2^63 - 1.
+pub(crate) fn put_number(out: &mut Answer, number: Option<Number>) {
+    match number {
+        Some(number) => put_count(out, Some(number.get())),
+        None => out.put("none"),
+    }
+}
+
+/// A text that a library made.
+pub(crate) fn put_text(out: &mut Answer, text: Result<Text, AllocError>) {
+    if let Some(text) = out.made(text) {
+        out.put(text.as_str());
+    }
 }
