@@ -130,13 +130,11 @@ fn asked_edit(verb: &str, instance: u64) -> Option<Edit> {
 
 /// `NUMBER`, or behind `revert` the name of a snapshot too.
 fn number_edit(verb: &str, text: &str) -> Option<Edit> {
-    let (number, name) = split_word(text);
-    let instance = read_count(number)?;
     if verb == "revert" {
-        let snapshot = SnapshotName::parse(name)?;
+        let (instance, snapshot) = snapshot_of(text)?;
         return Some(Edit::Revert { instance, snapshot });
     }
-    asked_edit(verb, instance)
+    asked_edit(verb, read_count(text)?)
 }
 
 /// An edit; `set` gives a property one value.
@@ -155,7 +153,7 @@ fn edit_of(alloc: Global, out: &mut Answer, verb: &str, text: &str) -> Option<Ed
 fn command_of(alloc: Global, out: &mut Answer, text: &str) -> Option<Command> {
     let (verb, rest) = split_word(text);
     match verb {
-        "boot" => Some(Command::Boot),
+        "boot" if rest.is_empty() => Some(Command::Boot),
         "launch" => Some(Command::Launch(instance_of(alloc, out, rest)?)),
         _ => Some(Command::Edit(edit_of(alloc, out, verb, rest)?)),
     }
@@ -211,13 +209,14 @@ fn proposed(alloc: Global, repository: &mut Plain<NoJournal>, out: &mut Answer, 
 fn held(alloc: Global, repository: &Plain<NoJournal>, out: &mut Answer, text: &str) {
     let (what, text) = split_word(text);
     match what {
-        "revision" => put_count(out, Some(repository.revision().get())),
+        "revision" if text.is_empty() => put_count(out, Some(repository.revision().get())),
         "groups" => groups(alloc, repository, out, text),
         "rows_of" => rows_of(alloc, repository, out, text),
         "children" => children(alloc, repository, out, text),
-        "view" => put_view(out, repository.view()),
-        _ => match read_count(split_word(text).0) {
-            Some(number) => numbered(alloc, repository, out, what, number, text),
+        "view" if text.is_empty() => put_view(out, repository.view()),
+        "number" => snapshot_number(repository, out, text),
+        _ => match read_count(text) {
+            Some(number) => numbered(alloc, repository, out, what, number),
             None => out.bad_line(),
         },
     }
@@ -230,7 +229,6 @@ fn numbered(
     out: &mut Answer,
     what: &str,
     number: u64,
-    text: &str,
 ) {
     match what {
         "row" => put_row(out, repository.instance(number)),
@@ -239,11 +237,21 @@ fn numbered(
             Some(snapshot) => put_groups(alloc, out, snapshot.instance_groups.as_slice()),
         },
         "snapshots" => put_snapshots(out, repository.snapshots(number)),
-        "number" => match SnapshotName::parse(split_word(text).1) {
-            Some(name) => put_count(out, repository.snapshot_number(number, name)),
-            None => out.bad_line(),
-        },
         _ => out.bad_line(),
+    }
+}
+
+/// `NUMBER NAME`.
+fn snapshot_of(text: &str) -> Option<(u64, SnapshotName)> {
+    let (number, name) = split_word(text);
+    Some((read_count(number)?, SnapshotName::parse(name)?))
+}
+
+/// Which snapshot a name means of an instance.
+fn snapshot_number(repository: &Plain<NoJournal>, out: &mut Answer, text: &str) {
+    match snapshot_of(text) {
+        Some((number, name)) => put_count(out, repository.snapshot_number(number, name)),
+        None => out.bad_line(),
     }
 }
 
