@@ -223,7 +223,9 @@ fn compared_bytes(alloc: Global, out: &mut Answer, first: &str, second: &str) {
         && let Some(second) = bytes_of(alloc, out, second)
     {
         let second = Bytes::copy_of(alloc, &second);
-        put_sameness(out, Bytes::from_vec(first).clone(), second);
+        if let Some(first) = out.made(Bytes::from_vec(alloc, first)) {
+            put_sameness(out, first.clone(), second);
+        }
     }
 }
 

@@ -10,7 +10,7 @@ use smf_admin::{
     svcs_text, svcs_usage,
 };
 use smf_engine::{Engine, orders};
-use smf_fmri::{Bytes, Items, Number, Table, Text, read_count};
+use smf_fmri::{Bytes, Items, Number, Shared, Table, Text, read_count};
 use smf_model::{Edit, InstanceName, Mark};
 use smf_state::{Row, State, View, ViewItem};
 use smf_wire::{Order, What};
@@ -50,7 +50,7 @@ pub(crate) fn answer(
             out.put("done");
         }
         "view_item" => add_item(alloc, views, out, text),
-        "take_view" => take_view(views, out, text),
+        "take_view" => take_view(alloc, views, out, text),
         "svcs" => svcs(alloc, views.items.as_slice(), out, text),
         "svcadm" => svcadm(alloc, views.items.as_slice(), out, text),
         "orders" => all_orders(alloc, views.items.as_slice(), out, text),
@@ -74,7 +74,8 @@ fn body_of(alloc: Global, out: &mut Answer, word: &str) -> Option<Option<Bytes>>
     if word == "-" {
         return Some(None);
     }
-    Some(Some(Bytes::from_vec(bytes_of(alloc, out, word)?)))
+    let bytes = bytes_of(alloc, out, word)?;
+    Some(Some(out.made(Bytes::from_vec(alloc, bytes))?))
 }
 
 fn is_enabled(word: &str) -> Option<bool> {
@@ -322,9 +323,10 @@ fn decided(alloc: Global, engine: &Engine, out: &mut Answer, text: &str) {
 }
 
 /// `REVISION`: gives a copy of the view to the graph, as that of this revision.
-fn take_view(views: &mut Views, out: &mut Answer, text: &str) {
+fn take_view(alloc: Global, views: &mut Views, out: &mut Answer, text: &str) {
     if let Some(revision) = out.found(number_of(text))
         && let Some(items) = out.made(views.items.clone())
+        && let Some(items) = out.made(Shared::of(alloc, items))
     {
         views.engine.take_view(View { revision, items });
         out.put("done");

@@ -15,7 +15,7 @@ use Rattle.smf_world.specs.World.{World}
 use Rattle.smf_drive.specs.declared.asking.Ask.{Ask}
 use Rattle.smf_drive.specs.declared.asking.Ask.TheVariants.{Nothing, Unnumbered, Spawn, Kill}
 use Rattle.smf_machine.specs.declared.children.Wanted.{Wanted}
-use Rattle.smf_drive.specs.Answered.{IsAnswered}
+use Rattle.smf_drive.specs.Answered.{IsAnswered, TickedIf}
 use Rattle.smf_drive.specs.Answered.IsAnswered.{goes, is_refused, is_not_followed, is_owed}
 use Rattle.smf_drive.specs.Asking.{asked}
 use Rattle.smf_machine.specs.Children.{HasKilled, HasSpawned}
@@ -37,6 +37,10 @@ still_moved w l m same = subst (λ (x : Ledger). Moves w w l x) (sym same) (move
 
 pub same_moved : (p q : Progress) (l m : Ledger) → q ≡ p → m ≡ l → Moves p.world q.world l m
 same_moved p q l m here same = subst (λ (x : Progress). Moves p.world x.world l m) (sym here) (still_moved p.world l m same)
+
+pub rested_ticked : (b : Bool) (p : Progress) (name : List ℕ) (n : ℕ) → went (deeds.Tick name n) p ≡ p → TickedIf b name n p p
+rested_ticked true p name n e = sym e
+rested_ticked false p name n e = goes (sym e)
 
 -- ---- a call that moved, or left everything where it failed
 

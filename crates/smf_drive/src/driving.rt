@@ -68,6 +68,7 @@ fn drive_rounds<J: Journal, K: Kids>(
 {
     for _ in 0..rounds {
         round(node, kids)?;
+        node.keep_view()?;
         let is_done = node.is_quiet()?;
         if is_done {
             return Ok(Settled::Quiet);

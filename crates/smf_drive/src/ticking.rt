@@ -120,6 +120,10 @@ fn tick_one<J: Journal, K: Kids>(
     ensures moves { Moves node.old.world node.new.world (K.ledger kids.old) (K.ledger kids.new) }
     ensures fault { IfErr result (λ e. MayStop J.write_fails e) }
 {
+    let is_at_rest = node.rests_on(name, instance);
+    if is_at_rest {
+        return Ok(());
+    }
     if node.refuses(name, instance)? {
         go(node, name, instance)
     } else {

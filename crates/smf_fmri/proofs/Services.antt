@@ -1,7 +1,12 @@
 -- The name of an instance's service is a name.
-use Rattle.std.proofs.Common.{◌≡◌, ℕ, zero, suc, ◌+◌, ◌≤◌, List, [], ◌∷◌, ◌++◌, length, drop, take, Bool, true, false, cond, nat_lt, Option, Some, None, is_some, Ok, refl, sym, ap, subst, arith, eqb-true, le-ltb, ltb-false}
+use Rattle.std.proofs.Common.{◌≡◌, ℕ, zero, suc, ◌+◌, ◌≤◌, List, [], ◌∷◌, ◌++◌, length, drop, take, Bool, true, false, cond, nat_lt, Option, Some, None, is_some, Ok, refl, sym, ap, subst, arith, eqb-true, le-ltb, ltb-false, ◌∙◌}
 use Rattle.std.specs.List.{position_or_len, before_first, after_first}
 use Rattle.std.specs.Option.{option_map_or}
+use Rattle.std.specs.Str.{IsAscii, IsCharBoundary, IsUtf8}
+use Rattle.std.proofs.lemmas.Str.Ascii.{IsAscii-cons, IsAscii-nil}
+use Rattle.std.proofs.lemmas.List.{append-nil, take-append-drop}
+use Rattle.std.proofs.lemmas.Str.{IsCharBoundary-from_take, IsUtf8-append, IsUtf8-from_ascii}
+use Rattle.std.proofs.Math.Seq.{take-append-add, take-append_seam}
 use Rattle.smf_fmri.specs.declared.reader.Place.{Place}
 use Rattle.smf_fmri.specs.declared.reader.Place.TheVariants.{Start, Begin, Service, BeginInstance, Instance}
 use Rattle.smf_fmri.specs.Name.{next, wrong_at, end_wrong_at, short, read}
@@ -108,3 +113,48 @@ shown_service inside shown h e = subst (λ (t : List ℕ). IsServiceName (short 
 
 pub is_named_service : (name : List ℕ) → IsServiceName name → named_service name ≡ Some name
 is_named_service name h = rw h.names refl
+
+-- ---- the text of the service stands in front of a name
+
+record IsFront (whole front : List ℕ) : Type 0 where
+  rest : List ℕ
+  is : whole ≡ front ++ rest
+
+front_by : (v : Bool) (rest : List ℕ) → IsFront rest (cond {A = List ℕ × Option (List ℕ)} v (before_first is_colon rest, Some (after_first is_colon rest)) (rest, None)).0
+front_by true rest = record { rest = drop (position_or_len is_colon rest) rest; is = sym (take-append-drop (position_or_len is_colon rest) rest) }
+front_by false rest = record { rest = []; is = sym (append-nil rest) }
+
+cut_front : (name : List ℕ) → read name ≡ Ok name → take (5 + length (service_of name)) name ≡ short ++ service_of name
+cut_front name h =
+    let s = name_is_short name h in
+    let service : List ℕ = (parts_of s.rest).0 in
+    let f : IsFront s.rest (parts_of s.rest).0 = front_by _ s.rest in
+    let same : service_of name ≡ (parts_of s.rest).0 = ap (λ t. (parts_of (drop 5 t)).0) s.shown in
+    let whole : name ≡ short ++ ((parts_of s.rest).0 ++ f.rest) = s.shown ∙ ap (λ (t : List ℕ). short ++ t) f.is in
+    let step : take (5 + length (parts_of s.rest).0) (short ++ ((parts_of s.rest).0 ++ f.rest)) ≡ short ++ (parts_of s.rest).0 =
+    take-append-add short ((parts_of s.rest).0 ++ f.rest) (length (parts_of s.rest).0) ∙ ap (λ (t : List ℕ). short ++ t) (take-append_seam (parts_of s.rest).0 f.rest) in
+    rw same (ap (take (5 + length (parts_of s.rest).0)) whole ∙ step)
+
+cut_within : (name : List ℕ) → read name ≡ Ok name → 5 + length (service_of name) ≤ length name
+cut_within name h =
+    let s = name_is_short name h in
+    let part : IsServiceIn s.rest (parts_of s.rest).0 = service_by _ s.rest refl s.body in
+    let same : service_of name ≡ (parts_of s.rest).0 = ap (λ t. (parts_of (drop 5 t)).0) s.shown in
+    let long : 5 + length (parts_of s.rest).0 ≤ length (short ++ s.rest) = let b = part.bounded in omega arith in
+    rw same (subst (λ (t : List ℕ). 5 + length (parts_of s.rest).0 ≤ length t) (sym s.shown) long)
+
+pub front_is : (name service : List ℕ) → read name ≡ Ok name → service ≡ service_of name → take (5 + length service) name ≡ short ++ service
+front_is name service h e = rw e (cut_front name h)
+
+short_is_ascii : IsAscii short
+short_is_ascii =
+    IsAscii-cons 115 (118 ∷ 99 ∷ 58 ∷ 47 ∷ []) (omega arith)
+    (IsAscii-cons 118 (99 ∷ 58 ∷ 47 ∷ []) (omega arith)
+    (IsAscii-cons 99 (58 ∷ 47 ∷ []) (omega arith)
+    (IsAscii-cons 58 (47 ∷ []) (omega arith)
+    (IsAscii-cons 47 [] (omega arith) IsAscii-nil))))
+
+pub is_cut : (name service : List ℕ) → read name ≡ Ok name → service ≡ service_of name → IsUtf8 name → IsUtf8 service → IsCharBoundary name (5 + length service)
+is_cut name service h e whole front =
+    IsCharBoundary-from_take name (5 + length service) whole (rw e (cut_within name h))
+    (subst IsUtf8 (sym (front_is name service h e)) (IsUtf8-append short service (IsUtf8-from_ascii short short_is_ascii) front))

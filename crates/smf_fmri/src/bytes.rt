@@ -4,11 +4,12 @@ ghost use Rattle.std.specs.Prelude.{◌≡◌, [], IfOk, nat_eq};
 
 use std::alloc::{AllocError, Global};
 use std::marker::Model;
+use std::rc::Rc;
 
-/// Bytes of any form, which contracts see as their list.
+/// Bytes of any form, which contracts see as their list. Copies share them.
 #[derive(Drop)]
 pub struct Bytes {
-    bytes: Vec<u8>,
+    bytes: Rc<Vec<u8>>,
 }
 
 impl Model for Bytes {
@@ -16,16 +17,14 @@ impl Model for Bytes {
 
     ghost Value = { List ℕ };
 
-    ghost view = { λ b. b.bytes.items };
+    ghost view = { λ b. b.bytes.value.items };
 }
 
 impl Bytes {
-    pub fn new(alloc: Global) -> Bytes
-        ensures { result ≡ [] }
+    pub fn new(alloc: Global) -> Result<Bytes, AllocError>
+        ensures { IfOk result (λ b. b ≡ []) }
     {
-        Bytes {
-            bytes: Vec::new(alloc),
-        }
+        Bytes::from_vec(alloc, Vec::new(alloc))
     }
 
     /// A copy of bytes.
@@ -33,19 +32,23 @@ impl Bytes {
         ensures { IfOk result (λ b. b ≡ bytes.now) }
     {
         let bytes = bytes.to_vec(alloc)?;
-        Ok(Bytes { bytes })
+        Bytes::from_vec(alloc, bytes)
     }
 
-    pub fn from_vec(bytes: Vec<u8>) -> Bytes
-        ensures { result ≡ bytes.items }
+    pub fn from_vec(alloc: Global, bytes: Vec<u8>) -> Result<Bytes, AllocError>
+        ensures { IfOk result (λ b. b ≡ bytes.items) }
     {
-        Bytes { bytes }
+        match Rc::new(alloc, bytes) {
+            Ok(bytes) => Ok(Bytes { bytes }),
+            Err(_bytes) => Err(AllocError),
+        }
     }
 
-    pub fn into_vec(self) -> Vec<u8>
-        ensures { result.items ≡ self }
+    /// A copy that can be added to.
+    pub fn to_vec(&self, alloc: Global) -> Result<Vec<u8>, AllocError>
+        ensures { IfOk result (λ v. v.items ≡ self.now) }
     {
-        self.bytes
+        self.as_slice().to_vec(alloc)
     }
 
     pub fn as_slice(&self) -> &[u8]
@@ -70,7 +73,7 @@ impl PartialEq for Bytes {
     ghost laws = { Cmp.partial_equiv_from_equiv nat_list_eq_equiv };
 
     fn eq(&self, other: &Bytes) -> bool {
-        self.bytes == other.bytes
+        self.as_slice() == other.as_slice()
     }
 }
 

@@ -58,6 +58,15 @@ impl InstanceFmri {
         }
     }
 
+    /// The name of an instance whose short text is known to be one.
+    pub fn known(alloc: Global, text: &str) -> Result<InstanceFmri, AllocError>
+        requires { IsInstanceName text.now }
+        ensures { IfOk result (λ i. i ≡ text.now) }
+    {
+        let name = Fmri::known(alloc, text)?;
+        Ok(InstanceFmri { name })
+    }
+
     pub fn as_fmri(&self) -> &Fmri
         ensures { result.now ≡ self.now }
     {

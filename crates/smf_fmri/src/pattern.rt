@@ -80,34 +80,35 @@ impl Pattern {
     fn is_match(&self, name: &Fmri) -> bool
         ensures { result ≡ matches self.now name.now }
     {
+        let parts = name.parts();
         match strip("svc:/", &self.text) {
-            Some(body) => is_of(parts_of(body), name),
-            None => abbreviates(parts_of(&self.text), name),
+            Some(body) => is_of(parts_of(body), parts),
+            None => abbreviates(parts_of(&self.text), parts),
         }
     }
 }
 
 /// Whether a full name, by its parts, names this or the service that this is of.
-fn is_of(parts: (&str, Option<&str>), name: &Fmri) -> bool
-    ensures { result ≡ is_of (parts.entry.0.now, option_map (λ x. x.now) parts.entry.1) (parts_of_name name.now) }
+fn is_of(parts: (&str, Option<&str>), name: (&str, Option<&str>)) -> bool
+    ensures { result ≡ is_of (parts.entry.0.now, option_map (λ x. x.now) parts.entry.1) (name.entry.0.now, option_map (λ x. x.now) name.entry.1) }
 {
-    let same_service = name.service() == parts.0;
+    let same_service = name.0 == parts.0;
     match parts.1 {
         None => same_service,
-        Some(instance) => same_service && is_instance(name.instance(), instance),
+        Some(instance) => same_service && is_instance(name.1, instance),
     }
 }
 
 /// Whether an abbreviation, by its parts, stands for this.
-fn abbreviates(parts: (&str, Option<&str>), name: &Fmri) -> bool
-    ensures { result ≡ abbreviates (parts.entry.0.now, option_map (λ x. x.now) parts.entry.1) (parts_of_name name.now) }
+fn abbreviates(parts: (&str, Option<&str>), name: (&str, Option<&str>)) -> bool
+    ensures { result ≡ abbreviates (parts.entry.0.now, option_map (λ x. x.now) parts.entry.1) (name.entry.0.now, option_map (λ x. x.now) name.entry.1) }
 {
+    let (service, instance) = name;
     let suffix = parts.0;
     match parts.1 {
-        None => is_instance(name.instance(), suffix) || ends_service(suffix, name.service()),
-        Some(instance) => {
-            is_instance(name.instance(), instance)
-                && (suffix.is_empty() || ends_service(suffix, name.service()))
+        None => is_instance(instance, suffix) || ends_service(suffix, service),
+        Some(wanted) => {
+            is_instance(instance, wanted) && (suffix.is_empty() || ends_service(suffix, service))
         }
     }
 }

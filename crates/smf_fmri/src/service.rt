@@ -39,6 +39,14 @@ impl ServiceFmri {
         Some(ServiceFmri { name })
     }
 
+    /// The name of a service that is known to be one.
+    pub(crate) fn known(name: Fmri) -> ServiceFmri
+        requires { IsServiceName name }
+        ensures { result ≡ name }
+    {
+        ServiceFmri { name }
+    }
+
     pub fn as_fmri(&self) -> &Fmri
         ensures { result.now ≡ self.now }
     {

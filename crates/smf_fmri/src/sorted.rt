@@ -4,7 +4,7 @@ ghost use Rattle.std.specs.Cmp.Lexicographic.{slice_cmp};
 ghost use Rattle.std.specs.Option.{option_copied};
 ghost use Rattle.std.specs.Ordering.{nat_cmp};
 ghost use Rattle.std.specs.Prelude.{◌≡◌, ◌+◌, ◌<◌, ◌≤◌, vec_len, vec_capacity};
-ghost use Rattle.smf_fmri.specs.ByKey.{IsPlaced, Rises, amend, by_text, lookup, put, without};
+ghost use Rattle.smf_fmri.specs.ByKey.{IsPlaced, Rises, amend, by_text, has_key, lookup, put, without};
 
 use crate::keyed::{HasPart, Keyed, TextKeyed};
 use std::cmp::Ordering;
@@ -47,7 +47,33 @@ fn place_of_text<T: TextKeyed>(items: &[T], text: &str) -> Result<usize, usize>
     items.binary_search_by(|item| compare_text(item, text))
 }
 
+/// Of so many items the one that has a text is sooner found one after another than by halves.
+const FEW: usize = 8;
+
+fn has_text<T: TextKeyed>(item: &T, text: &str) -> bool
+    ensures { result ≡ has_key (by_text T.text) text.now item.now }
+{
+    item.key_text() == text
+}
+
+fn find_among_few<'a, T: TextKeyed>(items: &'a [T], text: &str) -> Option<&'a T>
+    ensures { option_copied result ≡ lookup (by_text T.text) items.now text.now }
+{
+    items.iter().find(|item| has_text(*item, text))
+}
+
 pub(crate) fn find_text_in<'a, T: TextKeyed>(items: &'a [T], text: &str) -> Option<&'a T>
+    requires { Rises (by_text T.text) items.now }
+    ensures { option_copied result ≡ lookup (by_text T.text) items.now text.now }
+{
+    if items.len() <= FEW {
+        find_among_few(items, text)
+    } else {
+        find_by_halves(items, text)
+    }
+}
+
+fn find_by_halves<'a, T: TextKeyed>(items: &'a [T], text: &str) -> Option<&'a T>
     requires { Rises (by_text T.text) items.now }
     ensures { option_copied result ≡ lookup (by_text T.text) items.now text.now }
 {

@@ -10,7 +10,6 @@ use Rattle.std.proofs.Math.Seq.{map-set_same}
 use Rattle.std.proofs.lemmas.Option.{none-some}
 use Rattle.smf_world.specs.declared.work.Becomes.TheVariants.{Knows}
 use Rattle.smf_world.specs.Happens.{becoming}
-use Rattle.smf_state.proofs.OwnName.{some_is}
 use Rattle.smf_machine.specs.Install.{FitsIn, RoomOf}
 use Rattle.std.specs.Prelude.{if◌then◌else◌}
 use Rattle.smf_restarter.specs.declared.reply.Change.{Change}
@@ -21,6 +20,9 @@ use Rattle.smf_machine.specs.Given.{is_named_kept}
 use Rattle.smf_machine.proofs.Places.{found_first, found_none, same_name}
 use Rattle.smf_machine.specs.Lists.{NoneNamed, NoTwins}
 use Rattle.smf_machine.specs.Parts.{knowledge}
+
+some_is : {X : Type 0} (x y : X) → ◌≡◌ {A = Option X} (Some x) (Some y) → x ≡ y
+some_is x y h = cc
 
 place_known : (name : List ℕ) (rs : List Kept) → position_or_len (is_named_kept name) rs ≡ position_or_len (is_named name) (map knowledge rs)
 place_known name [] = refl

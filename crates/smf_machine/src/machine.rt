@@ -178,6 +178,13 @@ impl<J: Journal> Machine<J> {
         &self.system.repository
     }
 
+    /// Keeps what the graph sees of what is held until something changes, so that it is worked out once.
+    pub fn keep_view(&mut self) -> Result<(), AllocError>
+        ensures { self.new ≡ self.old }
+    {
+        self.system.keep_view()
+    }
+
     /// Whether svc.startd's graph would order nothing of what is held.
     pub fn has_no_orders(&self) -> Result<bool, AllocError>
         ensures { IfOk result (λ b. b ≡ has_no_orders (view self.now.now)) }

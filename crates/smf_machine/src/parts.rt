@@ -139,6 +139,13 @@ impl<J: Journal> System<J> {
         self.repository.view()
     }
 
+    /// Keeps the view until something changes.
+    pub(crate) fn keep_view(&mut self) -> Result<(), AllocError>
+        ensures { self.new ≡ self.old }
+    {
+        self.repository.keep_view()
+    }
+
     /// The orders of the view that the graph holds.
     pub(crate) fn orders(&self) -> Result<Items<Order>, AllocError>
         ensures { IfOk result (λ all. all ≡ orders_seen self.now.seen) }

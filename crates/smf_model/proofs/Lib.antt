@@ -16,5 +16,6 @@ pub mod Members
 pub mod Names
 pub mod Order
 pub mod Placing
+pub mod Services
 pub mod States
 pub mod ReadAnew

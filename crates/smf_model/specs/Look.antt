@@ -1,6 +1,7 @@
 -- How what is held is looked up, and how it is changed.
 use Rattle.std.specs.Prelude.{ℕ, List, [], ◌∷◌, ◌==◌, not, Bool, Option}
-use Rattle.std.specs.Prelude.{Some, None, option_map, unwrap_or, filter, map, if◌then◌else◌}
+use Rattle.std.specs.List.{list_all}
+use Rattle.std.specs.Prelude.{Some, None, is_some, option_map, unwrap_or, filter, map, if◌then◌else◌}
 use Rattle.std.specs.Option.{option_map_or}
 use Rattle.smf_fmri.specs.ByKey.{By, amend, by_number, by_text, has_key, lookup, put, without}
 use Rattle.smf_value.specs.Groups.{GroupRecord, by_group}
@@ -100,6 +101,13 @@ group_in gs name = lookup by_group gs name
 
 abbrev pub group : Holdings → Owner → List ℕ → Option GroupRecord
 group h owner name = group_in (groups_of h owner) name
+
+-- a service without a group of a name, and whether all are
+abbrev pub lacks : List ℕ → Service → Bool
+lacks name s = not (is_some (group_in s.groups name))
+
+abbrev pub no_service_has : List Service → List ℕ → Bool
+no_service_has ss name = list_all (lacks name) ss
 
 abbrev pub snapshot : Holdings → ℕ → Option Snapshot
 snapshot h n = lookup by_snapshot h.snapshots n

@@ -3,7 +3,9 @@ ghost use Rattle.smf_snap.specs.Body.{spelled_both};
 ghost use Rattle.smf_value.specs.Body.{AreGroups};
 ghost use Rattle.std.specs.Prelude.{◌≡◌, IfOk, refl};
 
-use smf_fmri::{Bytes, ExactClone, HasPart, InstanceFmri, Keyed, Number, Ordered, ServiceFmri};
+use smf_fmri::{
+    Bytes, ExactClone, HasPart, InstanceFmri, Keyed, Number, Ordered, ServiceFmri, TextKeyed,
+};
 use smf_snap::encode_both;
 use smf_state::Row;
 use smf_value::Group;
@@ -134,6 +136,16 @@ impl Keyed for Service {
     }
 
     ghost same = { refl };
+}
+
+impl TextKeyed for Service {
+    ghost text = { λ s. s.name };
+
+    fn key_text(&self) -> &str {
+        self.name.print()
+    }
+
+    ghost same_order = { λ ss rises. rises };
 }
 
 impl HasPart for Service {

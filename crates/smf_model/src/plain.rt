@@ -5,14 +5,14 @@ ghost use Rattle.smf_model.specs.Copied.{copied};
 ghost use Rattle.smf_model.specs.Laws.{IsNumbered, is_refusal};
 ghost use Rattle.smf_model.specs.Look.{empty, groups_of, installed, instance, launch_of, named, service, snapshot};
 ghost use Rattle.smf_model.specs.Next.{asked, found, next};
-ghost use Rattle.smf_model.specs.Setting.{enabled};
+ghost use Rattle.smf_model.specs.Setting.{enabled, owner_by, setting};
 ghost use Rattle.smf_model.specs.Shown.{all_read, children, composed_groups, rows, rows_of};
 ghost use Rattle.smf_model.specs.Shown.{shown_groups, snapshot_number, snapshots_of, view};
 ghost use Rattle.smf_model.specs.Tables.{held_in};
 
 use crate::change::{Change, Outcome};
 use crate::command::{Command, Reply};
-use crate::held::{Instance, InstanceName, Owner, Service, Snapshot};
+use crate::held::{Instance, InstanceEntry, InstanceName, Owner, Service, Snapshot};
 use crate::journal::{Journal, RepoFault};
 use crate::planner::Planner;
 use crate::tables::{Lists, Tables, install, reserve};
@@ -29,6 +29,8 @@ pub struct Plain<J: Journal> {
     alloc: Global,
     tables: Tables,
     journal: J,
+    /// The view of what is held, where it was asked to be kept.
+    shown: Option<View>,
 }
 
 impl<J: Journal> Model for Plain<J> {
@@ -39,7 +41,9 @@ impl<J: Journal> Model for Plain<J> {
 
     ghost view = { λ r. record { held = r.tables; journal = r.journal } };
 
-    ghost invariant = { λ r. J.stands r.journal r.tables × IsNumbered r.tables };
+    ghost use Rattle.smf_model.specs.Shown.{IsKept};
+
+    ghost invariant = { λ r. J.stands r.journal r.tables × IsNumbered r.tables × IsKept r.shown r.tables };
 }
 
 impl<J: Journal> Plain<J> {
@@ -54,6 +58,7 @@ impl<J: Journal> Plain<J> {
             alloc,
             tables,
             journal,
+            shown: None,
         }
     }
 
@@ -67,6 +72,7 @@ impl<J: Journal> Plain<J> {
             alloc,
             tables: Tables::new(alloc),
             journal,
+            shown: None,
         }
     }
 
@@ -109,6 +115,7 @@ impl<J: Journal> Plain<J> {
         ensures settled { J.is_sound self.new.journal → LeavesOnly J.could self.new.journal self.new.held }
         ensures fault { IfErr result (IsUnwritten J.write_fails changes) }
     {
+        self.shown = None;
         let tables = &mut self.tables;
         commit(&mut self.journal, &mut tables.lists, changes.into_vec())
     }
@@ -136,6 +143,13 @@ impl<J: Journal> Plain<J> {
         self.planner().found(number)
     }
 
+    /// The instances as they are stored, with their groups, in number order.
+    pub fn entries(&self) -> &[InstanceEntry]
+        ensures { result.now ≡ self.now.held.instances }
+    {
+        self.tables.entries()
+    }
+
     /// All instances in number order, their owners as they are read now.
     pub fn instances(&self) -> Result<Items<Instance>, AllocError>
         ensures { IfOk result (λ all. all ≡ all_read self.now.held) }
@@ -156,6 +170,13 @@ impl<J: Journal> Plain<J> {
         ensures { result.now ≡ self.now.held.services }
     {
         self.tables.services()
+    }
+
+    /// The restarter that `general/restarter` of an instance names: svc.startd's own where it names none.
+    pub fn owner_set(&self, instance: &Instance) -> Result<InstanceFmri, AllocError>
+        ensures { IfOk result (λ name. name ≡ owner_by (setting (groups_of self.now.held) instance.now)) }
+    {
+        self.planner().owner_set(instance)
     }
 
     /// The instances that a restarter runs, in number order.
@@ -249,11 +270,25 @@ impl<J: Journal> Plain<J> {
         self.planner().snapshot_number(instance, name)
     }
 
-    /// What svc.startd's graph sees.
+    /// What svc.startd's graph sees. It is worked out where it is not kept.
     pub fn view(&self) -> Result<View, AllocError>
         ensures { IfOk result (λ v. v ≡ view self.now.held) }
     {
-        self.planner().view()
+        match &self.shown {
+            Some(shown) => shown.clone(),
+            None => self.planner().view(),
+        }
+    }
+
+    /// Keeps the view until something changes.
+    pub fn keep_view(&mut self) -> Result<(), AllocError>
+        ensures { self.new ≡ self.old }
+    {
+        if self.shown.is_none() {
+            let view = self.planner().view()?;
+            self.shown = Some(view);
+        }
+        Ok(())
     }
 
     /// Whether an instance that is there is enabled.

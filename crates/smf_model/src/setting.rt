@@ -188,6 +188,18 @@ impl Planner<'_> {
         }
     }
 
+    /// The group of a name of the service of an instance.
+    #[tactic(auto, unfolding(crate::specs::Look::groups_of))]
+    pub(crate) fn services_group(&self, instance: &InstanceFmri, name: &str) -> Option<&Group>
+        ensures { option_copied result ≡
+            group self.now (Owner.Service (service_fmri instance.now)) name.now }
+    {
+        match self.tables.service_named(instance.as_fmri().service_text()) {
+            None => None,
+            Some(service) => service.groups.get_text(name),
+        }
+    }
+
     /// The group of a name of an instance.
     pub(crate) fn own_group(&self, number: Number, name: &str) -> Option<&Group>
         ensures { option_copied result ≡ group self.now (Owner.Instance number) name.now }
@@ -200,10 +212,9 @@ impl Planner<'_> {
     pub(crate) fn enabled(&self, instance: &Instance) -> Result<bool, AllocError>
         ensures { IfOk result (λ b. b ≡ enabled (groups_of self.now) instance.now) }
     {
-        let service = service_owner(self.alloc, &instance.name)?;
         let ovr = self.own_group(instance.number, "general_ovr");
         let general = self.own_group(instance.number, "general");
-        let services_own = self.group_of(&service, "general");
+        let services_own = self.services_group(&instance.name, "general");
         Ok(is_true(enabled_property(ovr, general, services_own)))
     }
 
@@ -212,14 +223,13 @@ impl Planner<'_> {
     pub(crate) fn setting_for(&self, instance: &Instance) -> Result<Setting, AllocError>
         ensures { IfOk result (λ s. s ≡ setting (groups_of self.now) instance.now) }
     {
-        let service = service_owner(self.alloc, &instance.name)?;
         let general = self.own_group(instance.number, "general");
-        let services_own = self.group_of(&service, "general");
+        let services_own = self.services_group(&instance.name, "general");
         setting_by(self.alloc, general, services_own)
     }
 
     /// The restarter that `general/restarter` of an instance names.
-    fn owner_set(&self, instance: &Instance) -> Result<InstanceFmri, AllocError>
+    pub(crate) fn owner_set(&self, instance: &Instance) -> Result<InstanceFmri, AllocError>
         ensures { IfOk result (λ name. name ≡ owner_by (setting (groups_of self.now) instance.now)) }
     {
         let setting = self.setting_for(instance)?;

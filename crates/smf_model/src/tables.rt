@@ -2,7 +2,7 @@ ghost use Rattle.std.specs.Option.{option_copied};
 ghost use Rattle.std.specs.Prelude.{◌≡◌, ◌+◌, ◌<◌, ◌≤◌, length, ℕ, IfOk, OnErr, OnOk};
 ghost use Rattle.smf_fmri.specs.ByKey.{Rises, lookup};
 ghost use Rattle.smf_model.specs.Look.{by_entry, by_name, by_snapshot, changed, empty, installed, instance};
-ghost use Rattle.smf_model.specs.Look.{launch_of, named, others_of, owned, put_new, service, snapshot, with_groups};
+ghost use Rattle.smf_model.specs.Look.{lacks, launch_of, named, no_service_has, others_of, owned, put_new, service, snapshot, with_groups};
 ghost use Rattle.smf_model.specs.Tables.{HasRoom, held_in};
 
 use crate::change::Change;
@@ -40,6 +40,12 @@ impl Model for Tables {
     ghost Value = { Holdings };
 
     ghost view = { λ t. held_in t.lists };
+}
+
+fn lacks(service: &Service, name: &str) -> bool
+    ensures { result ≡ lacks name.now service.now }
+{
+    service.groups.get_text(name).is_none()
 }
 
 impl Tables {
@@ -120,6 +126,21 @@ impl Tables {
         ensures { option_copied result ≡ service self.now name.now }
     {
         self.lists.services.get(name)
+    }
+
+    /// The service that has a text as its name.
+    pub(crate) fn service_named(&self, text: &str) -> Option<&Service>
+        ensures { option_copied result ≡ service self.now text.now }
+    {
+        self.lists.services.get_text(text)
+    }
+
+    /// Whether no service has a group of a name.
+    pub(crate) fn no_service_has(&self, name: &str) -> bool
+        ensures { result ≡ no_service_has self.now.services name.now }
+    {
+        let services = self.services();
+        services.iter().all(|service| lacks(service, name))
     }
 
     /// An instance with its groups.

@@ -1,16 +1,19 @@
-ghost use Rattle.std.specs.Prelude.{◌≡◌, map, option_map, IfOk};
-ghost use Rattle.smf_model.specs.Look.{groups_of, instances};
+ghost use Rattle.std.specs.Option.{option_copied};
+ghost use Rattle.std.specs.Prelude.{◌≡◌, map, option_map, true, IfOk};
+ghost use Rattle.smf_model.specs.Look.{group, groups_of, instances, no_service_has};
 ghost use Rattle.smf_model.specs.Next.{named_snapshot};
+ghost use Rattle.smf_model.specs.Setting.{general, service_fmri};
 ghost use Rattle.smf_model.specs.Shown.{body_of, row_item, rows, snapshot_names};
 ghost use Rattle.smf_model.specs.Shown.{snapshot_number, snapshots_of, view, view_item};
 
 use crate::held::{Instance, InstanceEntry, Owner};
 use crate::planner::Planner;
 use crate::reverting::number_of;
-use crate::setting::{enabled_property, is_readable, is_true, row_by, service_owner, setting_by};
-use smf_fmri::{Bytes, Items};
+use crate::setting::{enabled_property, is_readable, is_true, row_by, setting_by};
+use smf_fmri::{Bytes, InstanceFmri, Items, Shared};
 use smf_snap::{SnapshotName, names};
 use smf_state::{View, ViewItem};
+use smf_value::Group;
 use std::alloc::{AllocError, Global};
 
 fn snapshot_names(alloc: Global, instance: &Instance) -> Result<Items<SnapshotName>, AllocError>
@@ -64,17 +67,31 @@ impl Planner<'_> {
         }
     }
 
+    /// The group `general` of the service of an instance, which is not looked for where no service has one.
+    #[tactic(auto, using(crate::proofs::Services::none_of_it))]
+    fn services_general(&self, instance: &InstanceFmri, none_has: bool) -> Option<&Group>
+        requires { none_has ≡ true → no_service_has self.now.services general ≡ true }
+        ensures { option_copied result ≡
+            group self.now (Owner.Service (service_fmri instance.now)) general }
+    {
+        if none_has {
+            None
+        } else {
+            self.services_group(instance, "general")
+        }
+    }
+
     /// An instance as it is read, without the bytes of a snapshot. The groups `general` are looked for once.
     #[tactic(auto, unfolding(crate::specs::Setting::enabled, crate::specs::Setting::setting, crate::specs::Setting::current))]
-    fn row_item(&self, entry: &InstanceEntry) -> Result<ViewItem, AllocError>
-        requires { entry.now.groups ≡ groups_of self.now (Owner.Instance entry.now.instance.number) }
+    fn row_item(&self, entry: &InstanceEntry, none_has: bool) -> Result<ViewItem, AllocError>
+        requires known { none_has ≡ true → no_service_has self.now.services general ≡ true }
+        requires own { entry.now.groups ≡ groups_of self.now (Owner.Instance entry.now.instance.number) }
         ensures { IfOk result (λ item. item ≡ row_item self.now entry.now.instance) }
     {
         let instance = &entry.instance;
-        let service = service_owner(self.alloc, &instance.name)?;
         let ovr = entry.groups.get_text("general_ovr");
         let own = entry.groups.get_text("general");
-        let services_own = self.group_of(&service, "general");
+        let services_own = self.services_general(&instance.name, none_has);
         let is_enabled = is_true(enabled_property(ovr, own, services_own));
         let setting = setting_by(self.alloc, own, services_own)?;
         let can_be_read = is_readable(&setting);
@@ -94,9 +111,10 @@ impl Planner<'_> {
         ensures { IfOk result (λ all. all.items ≡ map (row_item self.now) (instances self.now)) }
     {
         let entries = self.tables.entries();
-        let mut all = Vec::new(self.alloc);
+        let none_has = self.tables.no_service_has("general");
+        let mut all = Vec::with_capacity(self.alloc, entries.len())?;
         for entry in entries {
-            all.push(self.row_item(entry)?)?;
+            all.push(self.row_item(entry, none_has)?)?;
         }
         Ok(all)
     }
@@ -110,12 +128,13 @@ impl Planner<'_> {
         Ok(Items::from_vec(items))
     }
 
-    fn view_item(&self, entry: &InstanceEntry) -> Result<ViewItem, AllocError>
-        requires { entry.now.groups ≡ groups_of self.now (Owner.Instance entry.now.instance.number) }
+    fn view_item(&self, entry: &InstanceEntry, none_has: bool) -> Result<ViewItem, AllocError>
+        requires known { none_has ≡ true → no_service_has self.now.services general ≡ true }
+        requires own { entry.now.groups ≡ groups_of self.now (Owner.Instance entry.now.instance.number) }
         ensures { IfOk result (λ item. item ≡ view_item self.now entry.now.instance) }
     {
         let instance = &entry.instance;
-        let mut item = self.row_item(entry)?;
+        let mut item = self.row_item(entry, none_has)?;
         item.body = self.body_at(instance.row.running)?;
         Ok(item)
     }
@@ -124,9 +143,10 @@ impl Planner<'_> {
         ensures { IfOk result (λ all. all.items ≡ map (view_item self.now) (instances self.now)) }
     {
         let entries = self.tables.entries();
-        let mut all = Vec::new(self.alloc);
+        let none_has = self.tables.no_service_has("general");
+        let mut all = Vec::with_capacity(self.alloc, entries.len())?;
         for entry in entries {
-            all.push(self.view_item(entry)?)?;
+            all.push(self.view_item(entry, none_has)?)?;
         }
         Ok(all)
     }
@@ -139,7 +159,7 @@ impl Planner<'_> {
         let items = self.view_items()?;
         Ok(View {
             revision: self.tables.revision(),
-            items: Items::from_vec(items),
+            items: Shared::of(self.alloc, Items::from_vec(items))?,
         })
     }
 }

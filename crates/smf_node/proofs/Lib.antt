@@ -1,6 +1,7 @@
 mod Faulting
 mod Found
 mod Marking
+mod Owners
 mod Places
 mod Running
 mod Settling
@@ -8,3 +9,4 @@ mod UpTo
 mod Giving
 mod Answering
 pub mod Lining
+pub mod Resting

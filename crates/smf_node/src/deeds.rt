@@ -184,6 +184,17 @@ impl<J: Journal> Node<J> {
         self.marks.refuse
     }
 
+    /// Whether it is found at once that the turn of a restarter for an instance changes nothing.
+    #[tactic(auto, using(crate::proofs::Resting::none_rests, crate::proofs::Resting::some_rests))]
+    pub fn rests_on(&self, name: &InstanceFmri, instance: u64) -> bool
+        ensures { result ≡ true → went (deeds.Tick name.now instance) self.now ≡ self.now }
+    {
+        match self.restarter(name) {
+            None => true,
+            Some(restarter) => restarter.rests_on(instance),
+        }
+    }
+
     /// Whether the turn of a restarter for an instance asks for a spawn that is to be refused.
     pub fn refuses(&self, name: &InstanceFmri, instance: u64) -> Result<bool, AllocError>
         ensures { IfOk result (λ b. b ≡ refuses self.now name.now instance) }

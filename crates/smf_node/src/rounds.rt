@@ -224,6 +224,14 @@ impl<J: Journal> Node<J> {
         Ok(none)
     }
 
+    /// Keeps what the graph sees of what is held until something changes, for `is_quiet` and the next round.
+    #[tactic(auto, unfolding(crate::specs::Marks::progress_of))]
+    pub fn keep_view(&mut self) -> Result<(), AllocError>
+        ensures { self.new ≡ self.old }
+    {
+        self.machine.keep_view()
+    }
+
     fn settle_rounds(&mut self, rounds: u64) -> Result<Settled, NodeFault>
         ensures ok { IfOk result (λ how. IsSettled rounds self.old self.new how) }
         ensures err { IfErr result (λ e. SettleFails J.write_fails rounds self.old self.new e) }

@@ -1,15 +1,20 @@
 ghost use Rattle.smf_node.specs.Marks.{progress_of};
+ghost use Rattle.smf_model.specs.Look.{groups_of};
+ghost use Rattle.smf_model.specs.Setting.{owner_by, setting};
+ghost use Rattle.smf_node.specs.Owners.{has_all_owners, has_launched_owner};
 ghost use Rattle.smf_world.specs.declared.schedule.Deed.TheVariants as deeds;
 ghost use Rattle.smf_world.specs.Schedule.{deeds_of, in_order, launch_deeds, launched_names, numbers_known, owners, unreported, waiting_count};
 ghost use Rattle.smf_world.specs.Worked.{is_launched, restarter};
+ghost use Rattle.std.specs.List.{list_all};
 ghost use Rattle.std.specs.Prelude.{◌≡◌, ◌∷◌, ◌++◌, [], drop, filter, map, not, replicate, IfOk, OnOk};
 
 use crate::naming::{names_in_order, owners_in_order};
 use crate::node::Node;
 use smf_contract::Event as ContractEvent;
 use smf_fmri::InstanceFmri;
-use smf_model::Journal;
+use smf_model::{Instance, InstanceEntry, Journal};
 use smf_restarter::KnownInstance;
+use smf_state::startd;
 use smf_world::{Deed, Turn};
 use std::alloc::{AllocError, Global};
 
@@ -137,12 +142,75 @@ impl<J: Journal> Node<J> {
         names_in_order(self.alloc, self.machine.restarters())
     }
 
-    fn launch_deeds(&self) -> Result<Vec<Deed>, AllocError>
+    #[tactic(auto, unfolding(crate::specs::Marks::progress_of))]
+    fn owner_set(&self, instance: &Instance) -> Result<InstanceFmri, AllocError>
+        ensures { IfOk result (λ name. name ≡ owner_by (setting (groups_of self.now.world.now) instance.now)) }
+    {
+        self.machine.repository().owner_set(instance)
+    }
+
+    /// Whether the owner of an instance, as it is read, is launched.
+    #[tactic(auto, unfolding(smf_model::specs::Setting::current))]
+    fn has_launched_owner(&self, entry: &InstanceEntry) -> Result<bool, AllocError>
+        ensures { IfOk result (λ b. b ≡ has_launched_owner self.now.world entry.now) }
+    {
+        let row = &entry.instance.row;
+        if row.number == 0 {
+            let owner = self.owner_set(&entry.instance)?;
+            return Ok(self.is_launched(&owner));
+        }
+        Ok(self.is_launched(&row.owner))
+    }
+
+    #[tactic(auto, unfolding(crate::specs::Marks::progress_of))]
+    fn entries(&self) -> &[InstanceEntry]
+        ensures { result.now ≡ self.now.world.now.instances }
+    {
+        self.machine.repository().entries()
+    }
+
+    fn have_launched_owners(&self, entries: &[InstanceEntry]) -> Result<bool, AllocError>
+        ensures { IfOk result (λ b. b ≡ list_all (has_launched_owner self.now.world) entries.now) }
+    {
+        for entry in entries {
+            if !self.has_launched_owner(entry)? {
+                return Ok(false);
+            }
+        }
+        Ok(true)
+    }
+
+    /// Whether the owners of all instances are launched, and svc.startd's own restarter.
+    #[tactic(auto, unfolding(crate::specs::Owners::has_all_owners))]
+    fn has_all_owners(&self) -> Result<bool, AllocError>
+        ensures { IfOk result (λ b. b ≡ has_all_owners self.now.world) }
+    {
+        let first = startd(self.alloc)?;
+        if !self.is_launched(&first) {
+            return Ok(false);
+        }
+        let all = self.have_launched_owners(self.entries())?;
+        Ok(all)
+    }
+
+    fn owners_to_launch(&self) -> Result<Vec<Deed>, AllocError>
         ensures { IfOk result (λ ds. ds.items ≡ launch_deeds self.now.world (in_order (owners self.now.world))) }
     {
         let owners = self.owners()?;
         let names = self.not_launched(&owners)?;
         launches(self.alloc, &names)
+    }
+
+    /// The owners are put in order only where one may have to be launched.
+    #[tactic(auto, using(crate::proofs::Owners::none_to_launch))]
+    fn launch_deeds(&self) -> Result<Vec<Deed>, AllocError>
+        ensures { IfOk result (λ ds. ds.items ≡ launch_deeds self.now.world (in_order (owners self.now.world))) }
+    {
+        if self.has_all_owners()? {
+            Ok(Vec::new(self.alloc))
+        } else {
+            self.owners_to_launch()
+        }
     }
 
     /// How many messages wait.

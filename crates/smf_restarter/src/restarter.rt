@@ -1,8 +1,8 @@
 ghost use Rattle.std.specs.Option.{option_copied};
-ghost use Rattle.std.specs.Prelude.{◌≡◌, ◌+◌, ◌≤◌, length, option_to_list, IfOk, OnOk};
+ghost use Rattle.std.specs.Prelude.{◌≡◌, ◌+◌, ◌≤◌, length, option_to_list, true, IfOk, OnOk};
 ghost use Rattle.smf_fmri.specs.ByKey.{put_all};
 ghost use Rattle.smf_restarter.specs.Answers.{answered, listed, reported, timed_out};
-ghost use Rattle.smf_restarter.specs.Changes.{changed, forgotten, phase_on, turned};
+ghost use Rattle.smf_restarter.specs.Changes.{changed, forgotten, nothing, phase_on, turned};
 ghost use Rattle.smf_restarter.specs.Knowledge.{at_first, by_run, known};
 ghost use Rattle.smf_restarter.specs.Replies.{heard};
 ghost use Rattle.smf_restarter.specs.Ticks.{at_rest, own_tick, ticked};
@@ -11,7 +11,7 @@ use crate::answering::{answered, listed, reported, timed_out};
 use crate::hearing::heard;
 use crate::known::{KnownInstance, KnownRun, Phase, Stage};
 use crate::reply::{Answer, Change, Course, Reply, Turn};
-use crate::ticking::{is_at_rest, own_tick, ticked};
+use crate::ticking::{is_at_rest, own_tick, rests_on, ticked};
 use smf_contract::{Report, Status};
 use smf_fmri::{InstanceFmri, Items, Keyed, Number, Table};
 use smf_wire::Message;
@@ -129,6 +129,13 @@ impl Restarter {
         ensures { IfOk result (λ r. r ≡ ticked self.now.known instance) }
     {
         ticked(self.alloc, self, instance)
+    }
+
+    /// Whether it is found at once that a tick of an instance does nothing.
+    pub fn rests_on(&self, instance: u64) -> bool
+        ensures { result ≡ true → ticked self.now.known instance ≡ nothing }
+    {
+        rests_on(self, instance)
     }
 
     /// What becomes of it when it is told which contracts there are.

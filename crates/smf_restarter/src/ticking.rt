@@ -2,8 +2,9 @@
 
 ghost use Rattle.std.specs.List.{list_all};
 ghost use Rattle.std.specs.Option.{option_copied};
-ghost use Rattle.std.specs.Prelude.{◌≡◌, IfOk};
+ghost use Rattle.std.specs.Prelude.{◌≡◌, true, IfOk};
 ghost use Rattle.smf_method.specs.Commands.{builtin};
+ghost use Rattle.smf_restarter.specs.Changes.{nothing};
 ghost use Rattle.smf_restarter.specs.Ticks.{at_rest, begun_by, begun_of, built_in, drain_call, end_step, ending, fatal_bits, fatal_if, fatal_of, first_call, is_ended, is_failed, is_refresh_end, keeps, keeps_run, kill_of, leads_to, note, note_bits, note_due, own_tick, rests, rests_idle, rests_in, spawning, terms_of, ticked, ticked_in};
 
 use crate::changing::{beginning, calling, nothing, sending, turning, unchanged};
@@ -416,6 +417,20 @@ fn rests(restarter: &Restarter, known: &KnownInstance) -> bool
     ensures { result ≡ rests restarter.now.known known.now }
 {
     rests_in(restarter, known, &known.phase)
+}
+
+/// Whether it is found at once that a tick of an instance does nothing.
+#[tactic(auto, unfolding(crate::specs::Ticks::ticked), using(crate::proofs::Resting::rested))]
+pub(crate) fn rests_on(restarter: &Restarter, instance: u64) -> bool
+    ensures { result ≡ true → ticked restarter.now.known instance ≡ nothing }
+{
+    if restarter.stage != Stage::Up {
+        return true;
+    }
+    match restarter.known(instance) {
+        None => true,
+        Some(known) => rests(restarter, known),
+    }
 }
 
 fn all_rest(restarter: &Restarter, instances: &[KnownInstance]) -> bool

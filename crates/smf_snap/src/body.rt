@@ -32,10 +32,10 @@ pub fn encode_both(
     ensures spelled { IfOk result (λ b. b ≡ spelled_both service.now instance.now) }
     ensures formed { IfOk result (λ _. AreGroups service.now × AreGroups instance.now) }
 {
-    let mut bytes = encode(alloc, service)?.into_vec();
+    let mut bytes = encode(alloc, service)?.to_vec(alloc)?;
     let instance = encode(alloc, instance)?;
     bytes.extend_from_slice(instance.as_slice())?;
-    Ok(Bytes::from_vec(bytes))
+    Bytes::from_vec(alloc, bytes)
 }
 
 /// The snapshot of such bytes. A place is counted from the start of the first body.

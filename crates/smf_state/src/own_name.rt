@@ -11,11 +11,7 @@ const STARTD: &str = "svc:/system/svc/restarter:default";
 pub fn startd(alloc: Global) -> Result<InstanceFmri, AllocError>
     ensures { IfOk result (λ name. name ≡ startd) }
 {
-    let found = InstanceFmri::read_short(alloc, STARTD)?;
-    match found {
-        Some(name) => Ok(name),
-        None => unreachable!(),
-    }
+    InstanceFmri::known(alloc, STARTD)
 }
 
 /// Whether it is svc.startd's own restarter.

@@ -1,7 +1,7 @@
 ghost use Rattle.std.specs.Prelude.{◌≡◌, IfOk};
 
 use crate::row::Row;
-use smf_fmri::{Bytes, InstanceFmri, Items, Number};
+use smf_fmri::{Bytes, InstanceFmri, Number, Shared};
 use std::alloc::AllocError;
 
 /// What svc.startd's graph sees of an instance.
@@ -49,24 +49,17 @@ fn copy_of(body: &Option<Bytes>) -> Result<Option<Bytes>, AllocError>
 pub struct View {
     pub revision: Number,
     /// One for each instance, in number order.
-    pub items: Items<ViewItem>,
+    pub items: Shared<ViewItem>,
 }
 
 impl Clone for View {
     ghost is_clone = { λ s copy. copy ≡ s };
 
     fn clone(&self) -> Result<View, AllocError> {
-        let items = copy_of_items(&self.items)?;
+        let items = self.items.clone()?;
         Ok(View {
             revision: self.revision,
             items,
         })
     }
-}
-
-#[tactic(auto, using(crate::proofs::Copies::same_items))]
-fn copy_of_items(items: &Items<ViewItem>) -> Result<Items<ViewItem>, AllocError>
-    ensures { IfOk result (λ copy. copy ≡ items.now) }
-{
-    items.clone()
 }

@@ -117,7 +117,7 @@ fn body_of(alloc: Global, groups: &[Group]) -> Result<Bytes, AllocError>
     for group in groups {
         put_group(alloc, &mut out, group)?;
     }
-    Ok(Bytes::from_vec(out))
+    Bytes::from_vec(alloc, out)
 }
 
 /// The body of groups.

@@ -16,7 +16,7 @@ use crate::fault::WireFault;
 use crate::message::{Known, Message};
 use crate::order::{Order, What};
 use crate::word::{MessageWord, OrderWord, read_why};
-use smf_fmri::{Bytes, Items, Number, read_count};
+use smf_fmri::{Bytes, Items, Number, Shared, read_count};
 use smf_method::{Command, MethodCall, Timeout};
 use smf_snap::decode_snapshot;
 use smf_state::{
@@ -490,6 +490,7 @@ fn view_at(alloc: Global, rest: Option<&str>) -> Result<(View, Option<&str>), Fi
     let (count, rest) = number_at(rest)?;
     let (items, rest) = items_at(alloc, count, rest)?;
     let revision = Number::new(revision).unwrap();
+    let items = Shared::of(alloc, items)?;
     Ok((View { revision, items }, rest))
 }
 

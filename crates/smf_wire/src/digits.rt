@@ -34,7 +34,7 @@ fn decoded(alloc: Global, text: &str) -> Result<Option<Bytes>, AllocError>
     ensures { IfOk result (λ bytes. bytes ≡ result_ok (decode_of text.now)) }
 {
     match hex::decode(alloc, text) {
-        Ok(bytes) => Ok(Some(Bytes::from_vec(bytes))),
+        Ok(bytes) => Ok(Some(Bytes::from_vec(alloc, bytes)?)),
         Err(FromHexError::OutOfMemory) => Err(AllocError),
         Err(_) => Ok(None),
     }
@@ -46,7 +46,7 @@ pub(crate) fn read_hex(alloc: Global, text: &str) -> Result<Option<Bytes>, Alloc
     ensures { IfOk result (λ bytes. bytes ≡ read_hex text.now) }
 {
     if text == "-" {
-        return Ok(Some(Bytes::new(alloc)));
+        return Ok(Some(Bytes::new(alloc)?));
     }
     let Some(bytes) = decoded(alloc, text)? else {
         return Ok(None);

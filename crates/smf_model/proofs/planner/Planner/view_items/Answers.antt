@@ -1,5 +1,13 @@
+use Rattle.std.proofs.Common.{ap, sym, ◌∙◌}
+use Rattle.smf_model.specs.Holdings.{Holdings}
+use Rattle.smf_model.specs.Look.{no_service_has}
+use Rattle.smf_model.specs.Setting.{general}
 use Rattle.smf_model.proofs.Members.{groups_there}
 use Rattle.smf_model.proofs.planner.Planner.view_items.Goals as goal
 
 pub view_item-requires : goal.view_item-requires
-view_item-requires c = groups_there c.self.inside.tables.now c.args.self.now c.entries-entries.result.now c.loop-entry.entry-index c.entry-item.result c.self.view_is c.entries-entries.ensures.all c.entries-entries.ensures.rises c.loop-entry-test.true c.entry-item.is
+view_item-requires c =
+    record {
+      known = λ e. ap (λ (h : Holdings). no_service_has h.services general) (sym c.self.view_is) ∙ sym c.no_service_has-none_has.ensures ∙ e;
+      own = groups_there c.self.inside.tables.now c.args.self.now c.entries-entries.result.now c.loop-entry.entry-index c.entry-item.result c.self.view_is c.entries-entries.ensures.all c.entries-entries.ensures.rises c.loop-entry-test.true c.entry-item.is;
+    }

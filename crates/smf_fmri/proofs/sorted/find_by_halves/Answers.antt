@@ -1,7 +1,7 @@
 use Rattle.std.proofs.Common.{◌<◌, length, Some, sym, ◌∙◌, ap, arith}
 use Rattle.smf_fmri.specs.ByKey.{by_text}
 use Rattle.smf_fmri.proofs.Places.{lookup_at, lookup_before, stands_within}
-use Rattle.smf_fmri.proofs.sorted.find_text_in.Goals as goal
+use Rattle.smf_fmri.proofs.sorted.find_by_halves.Goals as goal
 
 pub bounds-items-at : goal.bounds-items-at
 bounds-items-at g c = stands_within (by_text g.T.TextKeyed.text) _ _ _ c.in-Ok.ensures.found

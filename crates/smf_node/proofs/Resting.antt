@@ -1,0 +1,65 @@
+-- A turn for an instance in which a restarter does nothing leaves all as it is.
+use Rattle.std.proofs.Common.{◌≡◌, ℕ, List, [], ◌∷◌, Bool, true, false, Option, Some, None, map, refl, ap, sym, ◌∙◌, if◌then◌else◌}
+use Rattle.std.specs.Prelude.{◌&&◌, nat_lt}
+use Rattle.smf_contract.proofs.EmptiedBy.{nothing_empties}
+use Rattle.smf_contract.specs.Called.{called}
+use Rattle.smf_model.specs.Look.{installed}
+use Rattle.smf_restarter.specs.Changes.{changed, nothing, unchanged}
+use Rattle.smf_restarter.specs.Knowledge.{Knowledge}
+use Rattle.smf_restarter.specs.Ticks.{ticked}
+use Rattle.smf_restarter.specs.declared.reply.Reply.{Reply}
+use Rattle.smf_world.specs.declared.event.Event.TheVariants as events
+use Rattle.smf_world.specs.declared.event.SpawnAnswer.TheVariants as spawns
+use Rattle.smf_world.specs.declared.schedule.Deed.TheVariants as deeds
+use Rattle.smf_world.specs.declared.item.Item.TheVariants.{Emptied}
+use Rattle.smf_world.specs.declared.work.Becomes.TheVariants as becomes
+use Rattle.smf_world.specs.Happens.{becoming, done, happens}
+use Rattle.smf_world.specs.Schedule.{Progress, asks_spawn, is_spawn, refuses, tick_by, tick_one, went}
+use Rattle.smf_world.specs.Worked.{acted, answer_of, call_of, is_named, knows, no_work, restarter, ticked_for, worked}
+use Rattle.smf_world.specs.World.{World}
+
+none_turned : (name : List ℕ) (ks : List Knowledge) → becoming (becomes.Knows name unchanged) ks ≡ ks
+unfolding changed
+none_turned name [] = refl
+none_turned name (k ∷ ks) = ap (λ (x : Knowledge). x ∷ becoming (becomes.Knows name unchanged) ks) (by (is_named name k)) ∙ ap (λ (xs : List Knowledge). k ∷ xs) (none_turned name ks)
+  where
+    by : (b : Bool) → (if b then changed k unchanged else k) ≡ k
+    by true = refl
+    by false = refl
+
+nothing_done : (w : World) → done w no_work ≡ w
+unfolding done called installed
+nothing_done w = refl
+
+nothing_acted : (w : World) (k : Knowledge) (n : ℕ) → done w (acted w k n spawns.Made nothing) ≡ w
+unfolding done acted answer_of call_of called installed
+nothing_acted w k n =
+    ap (λ (es : List ℕ). done w (record no_work { items = map (λ c. Emptied c) es; becomes = knows k unchanged })) (nothing_empties w.table)
+    ∙ ap (λ (ks : List Knowledge). record w { restarters = ks }) (none_turned k.name w.restarters)
+
+nothing_ticked : (w : World) (n : ℕ) (o : Option Knowledge) → ((k : Knowledge) → o ≡ Some k → ticked k n ≡ nothing) → done w (ticked_for w n spawns.Made o) ≡ w
+nothing_ticked w n None f = nothing_done w
+nothing_ticked w n (Some k) f = ap (λ (r : Reply). done w (acted w k n spawns.Made r)) (f k refl) ∙ nothing_acted w k n
+
+none_spawned : (n : ℕ) (o : Option Knowledge) → ((k : Knowledge) → o ≡ Some k → ticked k n ≡ nothing) → asks_spawn o n ≡ false
+none_spawned n None f = refl
+none_spawned n (Some k) f = ap (λ (r : Reply). is_spawn r.call) (f k refl)
+
+and_false : (a b : Bool) → b ≡ false → (a && b) ≡ false
+and_false true b e = e
+and_false false b e = refl
+
+went_by : (p : Progress) (name : List ℕ) (n : ℕ) → ((k : Knowledge) → restarter p.world name ≡ Some k → ticked k n ≡ nothing)
+    → went (deeds.Tick name n) p ≡ p
+unfolding went tick_one happens worked
+went_by p name n f =
+    let made : refuses p name n ≡ false = and_false (nat_lt 0 p.refuse) (asks_spawn (restarter p.world name) n) (none_spawned n (restarter p.world name) f) in
+    ap (λ (b : Bool). tick_by b name n p) made
+    ∙ ap (λ (w : World). record p { world = w }) (nothing_ticked p.world n (restarter p.world name) f)
+
+pub none_rests : (p : Progress) (name : List ℕ) (n : ℕ) → restarter p.world name ≡ None → went (deeds.Tick name n) p ≡ p
+none_rests p name n e = went_by p name n (λ k f. cc)
+
+pub some_rests : (p : Progress) (name : List ℕ) (n : ℕ) (k : Knowledge) → restarter p.world name ≡ Some k → ticked k n ≡ nothing
+    → went (deeds.Tick name n) p ≡ p
+some_rests p name n k e t = went_by p name n (λ j f. let same : k ≡ j = cc in ap (λ (x : Knowledge). ticked x n) (sym same) ∙ t)
