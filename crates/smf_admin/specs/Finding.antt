@@ -48,3 +48,15 @@ IsAnswer pattern word view (finds.Several w count) = (w ≡ word) × (length (ma
 abbrev pub Answers : Result (List ℕ) FmriFault → List ℕ → List InstanceName → Found → Type 0
 Answers (Ok pattern) word view one = IsAnswer pattern word view one
 Answers (Err fault) word view one = one ≡ finds.NoMatch word
+
+-- the answer by the instances that match
+abbrev pub found_among : List ℕ → List InstanceName → Found
+found_among word [] = finds.NoMatch word
+found_among word (i ∷ []) = finds.One i.number
+found_among word (i ∷ j ∷ is) = finds.Several word (length (i ∷ j ∷ is))
+
+-- a number, or that of the first of instances
+abbrev pub first_or : Option ℕ → List InstanceName → Option ℕ
+first_or (Some n) is = Some n
+first_or None [] = None
+first_or None (i ∷ is) = Some i.number

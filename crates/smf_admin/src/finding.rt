@@ -1,9 +1,10 @@
 ghost use Rattle.std.specs.Option.{option_copied, option_to_list};
-ghost use Rattle.std.specs.Prelude.{◌≡◌, IfOk, IfSome, Ok};
+ghost use Rattle.std.specs.Prelude.{◌≡◌, ◌∷◌, [], List, None, IfOk, IfSome, Ok, length};
 ghost use Rattle.smf_fmri.specs.Name.{read_pattern};
-ghost use Rattle.smf_admin.specs.Finding.{found_at, found_by, found_of, matching, names_of};
+ghost use Rattle.smf_admin.specs.Finding.{first_or, found_among, found_at, found_of, matching};
+ghost use Rattle.smf_model.specs.declared.held.InstanceName.{InstanceName as AnyName};
 
-use smf_fmri::{Fmri, FmriFault, InstanceFmri, Pattern, PickFault, Table, Text, pick};
+use smf_fmri::{Fmri, FmriFault, InstanceFmri, Pattern, Table, Text};
 use smf_model::InstanceName;
 use std::alloc::{AllocError, Global};
 
@@ -17,14 +18,37 @@ pub enum Found {
     Several(Text, usize),
 }
 
-fn names_of(alloc: Global, view: &[InstanceName]) -> Result<Vec<Fmri>, AllocError>
-    ensures { IfOk result (λ names. names.items ≡ names_of view.now) }
+/// What a pattern matches among names.
+#[derive(Clone, Copy)]
+struct Matches {
+    /// The number of the first instance that it matches.
+    first: Option<u64>,
+    count: usize,
+}
+
+fn first_or(first: Option<u64>, item: &InstanceName) -> Option<u64>
+    ensures { result ≡ first_or first (item.now ∷ []) }
 {
-    let mut names = Vec::new(alloc);
-    for item in view {
-        names.push(item.name.as_fmri().clone()?)?;
+    match first {
+        Some(number) => Some(number),
+        None => Some(item.number.get()),
     }
-    Ok(names)
+}
+
+/// What a pattern matches, by one look at all names.
+fn matches_of(pattern: &Pattern, view: &[InstanceName]) -> Matches
+    ensures first { result.first ≡ first_or None (matching pattern.now view.now) }
+    ensures count { result.count ≡ length (matching pattern.now view.now) }
+{
+    let mut first = None;
+    let mut count = 0;
+    for item in view {
+        if pattern.matches(item.name.as_fmri()) {
+            first = first_or(first, item);
+            count += 1;
+        }
+    }
+    Matches { first, count }
 }
 
 fn found_at(word: &Text, item: Option<&InstanceName>) -> Result<Found, AllocError>
@@ -36,25 +60,25 @@ fn found_at(word: &Text, item: Option<&InstanceName>) -> Result<Found, AllocErro
     }
 }
 
-fn found_by(
-    word: &Text,
-    view: &[InstanceName],
-    picked: Result<usize, PickFault>,
-) -> Result<Found, AllocError>
-    ensures { IfOk result (λ one. one ≡ found_by word.now view.now picked) }
+/// Which instance a word stands for, by what it matches.
+#[tactic(auto, using(crate::proofs::Among::none_among, crate::proofs::Among::one_among, crate::proofs::Among::several_among))]
+fn found_among(word: &Text, matches: Matches) -> Result<Found, AllocError>
+    ensures { (is : List AnyName) → matches.first ≡ first_or None is → matches.count ≡ length is → IfOk result (λ one. one ≡ found_among word.now is) }
 {
-    match picked {
-        Ok(place) => match view.get(place) {
-            Some(item) => Ok(Found::One(item.number.get())),
-            None => Ok(Found::NoMatch(word.clone()?)),
-        },
-        Err(PickFault::NoMatch) => Ok(Found::NoMatch(word.clone()?)),
-        Err(PickFault::Several(count)) => Ok(Found::Several(word.clone()?, count)),
+    match matches.first {
+        None => Ok(Found::NoMatch(word.clone()?)),
+        Some(number) => {
+            if matches.count == 1 {
+                Ok(Found::One(number))
+            } else {
+                Ok(Found::Several(word.clone()?, matches.count))
+            }
+        }
     }
 }
 
 /// Which instance a word stands for, by a look at all names.
-#[tactic(auto, unfolding(crate::specs::Finding::found_of))]
+#[tactic(auto, unfolding(crate::specs::Finding::found_of), using(crate::proofs::Among::picked_among))]
 fn found_of_all(alloc: Global, view: &[InstanceName], word: &Text) -> Result<Found, AllocError>
     ensures { IfOk result (λ one. one ≡ found_of view.now word.now) }
 {
@@ -63,8 +87,8 @@ fn found_of_all(alloc: Global, view: &[InstanceName], word: &Text) -> Result<Fou
         Err(FmriFault::Memory) => return Err(AllocError),
         Err(_) => return Ok(Found::NoMatch(word.clone()?)),
     };
-    let names = names_of(alloc, view)?;
-    found_by(word, view, pick(&pattern, &names))
+    let found = found_among(word, matches_of(&pattern, view))?;
+    Ok(found)
 }
 
 /// The instance that a word names in full.

@@ -1,3 +1,4 @@
+pub mod Edgeless
 pub mod Membership
 pub mod Flags
 pub mod Falling

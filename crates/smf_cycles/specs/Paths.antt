@@ -7,6 +7,11 @@ use Rattle.std.specs.Option.{unwrap_or}
 unfoldable pub edges_at : List (List ℕ) → ℕ → List ℕ
 edges_at edges a = unwrap_or (slice_get edges a) []
 
+-- a list of edges that is empty
+abbrev pub leads_nowhere : List ℕ → Bool
+leads_nowhere [] = true
+leads_nowhere (b ∷ places) = false
+
 unfoldable pub is_among : List ℕ → ℕ → Bool
 is_among places b = list_any (λ q. q == b) places
 

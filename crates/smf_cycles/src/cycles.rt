@@ -1,6 +1,7 @@
-ghost use Rattle.std.specs.Prelude.{◌≡◌, ◌<◌, ◌↔◌, ℕ, IfOk, IsTrue, length};
+ghost use Rattle.std.specs.List.{list_all};
+ghost use Rattle.std.specs.Prelude.{◌≡◌, ◌<◌, ◌↔◌, ℕ, IfOk, IsTrue, false, length, replicate};
 ghost use Rattle.smf_cycles.specs.Components.{FlagsSay};
-ghost use Rattle.smf_cycles.specs.Paths.{IsOnCycle, flag_at};
+ghost use Rattle.smf_cycles.specs.Paths.{IsOnCycle, flag_at, leads_nowhere};
 ghost use Rattle.smf_cycles.specs.Ranks.{NeverRises};
 
 use crate::graph::{edges_of, is_flagged, number_at};
@@ -10,6 +11,27 @@ use crate::ranks::{all_below, checked};
 use crate::search::is_on_cycle;
 use crate::walk::Walk;
 use std::alloc::{AllocError, Global};
+
+fn leads_nowhere(places: &Places) -> bool
+    ensures { result ≡ leads_nowhere places.now }
+{
+    places.as_slice().is_empty()
+}
+
+/// Whether there is no edge.
+fn all_lead_nowhere(edges: &[Places]) -> bool
+    ensures { result ≡ list_all leads_nowhere edges.now }
+{
+    edges.iter().all(|places| leads_nowhere(places))
+}
+
+/// Flags of which none is set.
+fn no_flags(alloc: Global, count: usize) -> Result<Vec<bool>, AllocError>
+    ensures { IfOk result (λ flags. flags.items ≡ replicate count false) }
+{
+    let flags = vec![in alloc; false; count]?;
+    Ok(flags)
+}
 
 /// Whether a place is on a cycle, by what is known of it, or else by a search.
 fn settle(
@@ -37,6 +59,10 @@ pub fn places_on_cycles(alloc: Global, edges: &[Places]) -> Result<Vec<bool>, Al
     ensures length { IfOk result (λ flags. length flags.items ≡ length edges.now) }
     ensures exact { IfOk result (λ flags. (a : ℕ) → a < length edges.now → IsTrue (flag_at flags.items a) ↔ IsOnCycle edges.now a) }
 {
+    if all_lead_nowhere(edges) {
+        let none = no_flags(alloc, edges.len())?;
+        return Ok(none);
+    }
     let mut walk = Walk::new(alloc, edges.len())?;
     walk.run(edges)?;
     let known = members_of(alloc, edges, &walk)?;

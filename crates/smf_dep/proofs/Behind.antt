@@ -9,7 +9,7 @@ use Rattle.smf_dep.specs.declared.fault.DependencyFault.{DependencyFault}
 use Rattle.smf_dep.specs.declared.fault.DependencyFault.TheVariants as faults
 use Rattle.smf_dep.specs.Requirements.{Fails, before, behind, dependency_of, entities_of, entity_of, is_dependency, read_groups, with_first, with_group}
 
-drop_all : {X : Type 0} (xs : List X) (i : ℕ) → length xs ≤ i → drop i xs ≡ []
+pub drop_all : {X : Type 0} (xs : List X) (i : ℕ) → length xs ≤ i → drop i xs ≡ []
 drop_all [] zero le = refl
 drop_all [] (suc i) le = refl
 drop_all (x ∷ xs) zero le = absurd (omega arith)

@@ -1,19 +1,21 @@
 -- What was kept of an earlier view is that of a later one, where it was read from the same.
-use Rattle.std.proofs.Common.{◌≡◌, ℕ, ◌+◌, List, [], ◌∷◌, ◌++◌, map, Bool, true, false, if◌then◌else◌, Option, Some, None, refl, sym, ap, ◌∙◌, subst}
+use Rattle.std.proofs.Common.{◌≡◌, ℕ, ◌+◌, ◌<◌, ◌≤◌, List, [], ◌∷◌, map, length, drop, get_or, Bool, true, false, if◌then◌else◌, Option, Some, None, refl, sym, ap, ◌∙◌, subst}
 use Rattle.std.proofs.Math.Path.{fun_ext}
-use Rattle.std.specs.Prelude.{option_map, nat_eq}
-use Rattle.std.specs.Option.{option_to_list}
+use Rattle.std.specs.List.{AllZip}
+use Rattle.std.specs.Prelude.{nat_eq}
 use Rattle.std.specs.Cmp.Lexicographic.{pointwise}
 use Rattle.smf_fmri.specs.Matching.{service_of}
 use Rattle.smf_state.specs.declared.view.ViewItem.{ViewItem}
+use Rattle.smf_value.proofs.EditLoops.{left_at}
 use Rattle.smf_dep.specs.declared.dependency.Dependency.{Dependency}
 use Rattle.smf_dep.specs.declared.link.Link.{Link}
 use Rattle.smf_dep.specs.declared.link.Node.{Node}
 use Rattle.smf_dep.specs.declared.member.Member.{Member}
-use Rattle.smf_dep.specs.Members.{IsOfItem, IsReadFrom, composed_in, dependencies_in, member_of, member_with, snapshot_in, wires}
+use Rattle.smf_dep.specs.Members.{HasNumbersOf, HasStateOf, IsOfItem, IsReadFrom, composed_in, dependencies_in, member_of, member_with, members, snapshot_in, wires}
 use Rattle.smf_dep.specs.Methods.{has_unfit_methods}
 use Rattle.smf_dep.specs.Places.{AreCyclesOf, IsBeginning, all_links, edges_in, edges_of, links_among, links_of, node_of, nodes_of, places, places_from}
 use Rattle.smf_dep.specs.Verdicts.{cites_by, is_cited}
+use Rattle.smf_dep.proofs.Behind.{drop_all}
 
 -- ---- members
 
@@ -43,33 +45,55 @@ read_again i owner body unfit m now r h e =
       methods = r.methods ∙ (λ j. has_unfit_methods owner (name j) (groups j));
     }
 
-pub alike : (i : ViewItem) (k m : Member) → IsOfItem i k → m ≡ member_of i → wires k ≡ wires m
+-- with the state of the item too it is what is read of the item
+pub of_state : (i : ViewItem) (m : Member) → IsOfItem i m → HasStateOf i m → HasNumbersOf i.row m → m ≡ member_of i
 unfolding member_of
-alike i k m h e = (λ j. (h.name j, h.needs j)) ∙ ap wires (sym e)
+of_state i m h s n =
+    λ j. record {
+      instance = s.instance j;
+      name = h.name j;
+      enabled = s.enabled j;
+      state = s.state j;
+      next = s.next j;
+      base = n.base j;
+      err = n.err j;
+      stop = n.stop j;
+      refresh = n.refresh j;
+      start = n.start j;
+      composed = h.groups j;
+      dependencies = h.needs j;
+    }
+
+alike : (i : ViewItem) (k : Member) → IsOfItem i k → wires (member_of i) ≡ wires k
+unfolding member_of
+alike i k h = λ j. (sym h.name j, sym h.needs j)
 
 -- ---- a list of members, one after another
 
+pub all_alike : (items : List ViewItem) (ks : List Member) → AllZip IsOfItem items ks → map wires (members items) ≡ map wires ks
+all_alike [] [] h = refl
+all_alike [] (k ∷ ks) h = absurd h
+all_alike (i ∷ items) [] h = absurd h
+all_alike (i ∷ items) (k ∷ ks) h = λ j. alike i k h.0 j ∷ all_alike items ks h.1 j
+
+pub zip_more : {A B : Type 0} (R : A → B → Type 0) (xs : List A) (ys : List B) (i : ℕ) (x : A) (y : B) → i < length xs → x ≡ get_or xs i x
+    → i < length ys → y ≡ get_or ys i y → R x y → AllZip R (drop (i + 1) xs) (drop (i + 1) ys) → AllZip R (drop i xs) (drop i ys)
+zip_more R xs ys i x y lt e less g r rest =
+    subst (λ l. AllZip R l (drop i ys)) (sym (left_at xs i x lt e)) (subst (λ l. AllZip R (x ∷ drop (i + 1) xs) l) (sym (left_at ys i y less g)) (r, rest))
+
+pub map_more : {A B : Type 0} (f : A → B) (xs : List A) (ys : List B) (i : ℕ) (x : A) (y : B) → i < length xs → x ≡ get_or xs i x
+    → i < length ys → y ≡ get_or ys i y → y ≡ f x → drop (i + 1) ys ≡ map f (drop (i + 1) xs) → drop i ys ≡ map f (drop i xs)
+map_more f xs ys i x y lt e less g r rest =
+    left_at ys i y less g ∙ (λ j. r j ∷ rest j) ∙ sym (ap (map f) (left_at xs i x lt e))
+
+pub zip_end : {A B : Type 0} (R : A → B → Type 0) (xs : List A) (ys : List B) (i : ℕ) → length xs ≤ i → length ys ≤ i → AllZip R (drop i xs) (drop i ys)
+zip_end R xs ys i le less = subst (λ l. AllZip R l (drop i ys)) (sym (drop_all xs i le)) (subst (λ l. AllZip R [] l) (sym (drop_all ys i less)) tt)
+
+pub map_end : {A B : Type 0} (f : A → B) (xs : List A) (ys : List B) (i : ℕ) → length xs ≤ i → length ys ≤ i → drop i ys ≡ map f (drop i xs)
+map_end f xs ys i le less = drop_all ys i less ∙ sym (ap (map f) (drop_all xs i le))
+
 abbrev pub Wires : Type 0
 Wires = List ℕ × Option (List Dependency)
-
-pushed : (all : List Member) (k m : Member) (rest : List Member) → wires k ≡ wires m
-    → map wires (all ++ m ∷ []) ++ map wires rest ≡ map wires all ++ map wires (k ∷ rest)
-pushed [] k m rest e = λ i. sym e i ∷ map wires rest
-pushed (x ∷ all) k m rest e = ap (λ l. wires x ∷ l) (pushed all k m rest e)
-
-some_same : (x y : Wires) → Some x ≡ Some y → x ≡ y
-some_same x y e = cc
-
-next_by : (all : List Member) (m : Member) (o : Option Member) (rest : List Member) (keys : List Wires) → option_map wires o ≡ Some (wires m)
-    → map wires all ++ map wires (option_to_list o ++ rest) ≡ keys → map wires (all ++ m ∷ []) ++ map wires rest ≡ keys
-next_by all m None rest keys e h = absurd cc
-next_by all m (Some k) rest keys e h = pushed all k m rest (some_same (wires k) (wires m) e) ∙ h
-
-pub alike_next : (all old rest : List Member) (m : Member) (o : Option Member) (keys : List Wires) (a b : Bool)
-    → (a ≡ true → map wires all ++ map wires old ≡ keys) → old ≡ option_to_list o ++ rest → (b ≡ true → option_map wires o ≡ Some (wires m))
-    → (a ≡ true) × (b ≡ true) → map wires (all ++ m ∷ []) ++ map wires rest ≡ keys
-alike_next all old rest m o keys a b h e g both =
-    next_by all m o rest keys (g both.1) (ap (λ l. map wires all ++ map wires l) (sym e) ∙ h both.0)
 
 -- ---- dependencies by places
 

@@ -15,6 +15,14 @@ use Rattle.smf_dep.specs.Verdicts.{all_met, all_met_in, any_blocked, any_must_st
 use Rattle.smf_dep.specs.Cycles.{on_cycle}
 use Rattle.smf_dep.proofs.Flagged.{all_mapped, any_mapped, at_front, link_blocked, link_met, link_stops_is, next_front}
 
+neither : (a b : Bool) → (a || b) ≡ false → (a ≡ false) × (b ≡ false)
+neither true b e = absurd cc
+neither false b e = (refl, e)
+
+or_false : (a : Bool) → (a || false) ≡ a
+or_false true = refl
+or_false false = refl
+
 -- ---- one after another
 
 map_map : {X Y Z : Type 0} (f : Y → Z) (g : X → Y) (h : X → Z) → ((x : X) → f (g x) ≡ h x) → (xs : List X) → map f (map g xs) ≡ map h xs
@@ -52,6 +60,19 @@ rounds_first f ns flags e = e
 pub rounds_next : (k : ℕ) (f : Flags) (ns : List Node) (flags next : List Bool) → flags ≡ rounds k f ns → next ≡ round f ns flags → next ≡ rounds (k + 1) f ns
 unfolding rounds
 rounds_next k f ns flags next e step = step ∙ ap (round f ns) e ∙ ap (λ j. rounds j f ns) (suc-eq-add-one k)
+
+-- where nobody waits, no round parks more
+still : (f : Flags) (parked : List Bool) (ns : List Node) → list_any (λ (n : Node). n.waiting) ns ≡ false → round f ns parked ≡ map (λ (n : Node). n.idle) ns
+still f parked [] h = refl
+still f parked (n ∷ ns) h =
+    let two = neither n.waiting (list_any (λ (x : Node). x.waiting) ns) h in
+    λ i. ((ap (λ w. n.idle || (w && list_any (is_link_blocked f parked) n.links)) two.0 ∙ or_false n.idle) i) ∷ still f parked ns two.1 i
+
+pub still_rounds : (f : Flags) (ns : List Node) (k : ℕ) (flags : List Bool) → list_any (λ (n : Node). n.waiting) ns ≡ false → flags ≡ map (λ (n : Node). n.idle) ns
+    → flags ≡ rounds k f ns
+unfolding rounds
+still_rounds f ns zero flags h e = e
+still_rounds f ns (suc k) flags h e = e ∙ sym (still f (rounds k f ns) ns h)
 
 pub parked_are : (ms : List Member) (f : Flags) (ns : List Node) (flags : List Bool) → f ≡ flags_of ms → ns ≡ nodes_of ms
     → flags ≡ rounds (length ns) f ns → flags ≡ map (is_parked ms) ms

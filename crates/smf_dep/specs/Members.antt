@@ -2,6 +2,7 @@
 use Rattle.std.specs.Prelude.{◌≡◌, ℕ, nat_eq, List, [], ◌∷◌, ◌++◌, map, Bool, if◌then◌else◌, Option, Some, None, Result, Ok, Err}
 use Rattle.std.specs.Cmp.Lexicographic.{pointwise}
 use Rattle.smf_fmri.specs.ByKey.{put_all}
+use Rattle.smf_state.specs.declared.row.Row.{Row}
 use Rattle.smf_state.specs.declared.view.ViewItem.{ViewItem}
 use Rattle.smf_value.specs.declared.fault.BodyFault.{BodyFault}
 use Rattle.smf_value.specs.Groups.{GroupRecord, by_group}
@@ -86,6 +87,21 @@ pub record IsOfItem (i : ViewItem) (m : Member) : Type 0 where
   pub name : m.name ≡ i.name
   pub groups : m.composed ≡ composed_in (snapshot_in i.body)
   pub needs : m.dependencies ≡ dependencies_in i.row.owner (snapshot_in i.body)
+
+-- what it is and is to be are those of an item
+pub record HasStateOf (i : ViewItem) (m : Member) : Type 0 where
+  pub instance : m.instance ≡ i.instance
+  pub enabled : m.enabled ≡ i.enabled
+  pub state : m.state ≡ i.row.state
+  pub next : m.next ≡ i.row.next
+
+-- the revisions of what happened to it are those of a row
+pub record HasNumbersOf (r : Row) (m : Member) : Type 0 where
+  pub base : m.base ≡ r.base
+  pub err : m.err ≡ r.err
+  pub stop : m.stop ≡ r.stop
+  pub refresh : m.refresh ≡ r.refresh
+  pub start : m.start ≡ r.start
 
 abbrev pub members : List ViewItem → List Member
 members items = map member_of items

@@ -1,15 +1,16 @@
-ghost use Rattle.std.specs.List.{list_all, list_any};
+ghost use Rattle.std.specs.List.{AllZip, list_all, list_any};
 ghost use Rattle.std.specs.Option.{option_copied};
 ghost use Rattle.std.specs.Prelude.{◌≡◌, IfOk, map, option_map, slice_get};
-ghost use Rattle.smf_dep.specs.Members.{members};
+ghost use Rattle.smf_dep.specs.Members.{IsOfItem, members};
 ghost use Rattle.smf_dep.specs.Places.{AreCyclesOf, event_at, finding_at, finding_of, findings_from, flags_of, is_link_met, link_stops, nodes_of};
 ghost use Rattle.smf_dep.specs.Verdicts.{is_parked, must_stop, stops_by, verdict, verdict_by};
 
 use crate::cycle::on_cycles;
 use crate::dependency::{Dependency, Grouping, RestartOn};
 use crate::link::{Flags, Link, Node, flags_of, link_of, nodes_of};
-use crate::member::{Member, ReadMember, RenewedMembers, renewed_members};
+use crate::member::{Member, ReadMember, Standing, members_again, renewed_members, standing_of};
 use crate::parking::{flag_at, is_link_blocked, is_link_met, parked};
+use crate::room::with_room;
 use smf_fmri::Items;
 use smf_state::ViewItem;
 use std::alloc::{AllocError, Global};
@@ -141,7 +142,7 @@ fn findings_from(
 ) -> Result<Items<Finding>, AllocError>
     ensures { IfOk result (λ fs. fs ≡ findings_from 0 members.now flags.now parked.now cycles.now nodes.now) }
 {
-    let mut all = Items::new(alloc);
+    let mut all = with_room(alloc, nodes.len())?;
     let mut place = 0;
     for node in nodes {
         let on_cycle = flag_at(cycles, place);
@@ -168,12 +169,27 @@ impl Graph {
     pub fn of(alloc: Global, items: &[ViewItem]) -> Result<Graph, AllocError>
         ensures { IfOk result (λ g. g ≡ members items.now) }
     {
-        let RenewedMembers { all, .. } = renewed_members(alloc, Items::new(alloc), items)?;
+        let all = renewed_members(alloc, Items::new(alloc), items)?;
         Graph::linked(alloc, all)
     }
 
     /// The graph of the items of another view. What this one read and found is not read or looked for again.
     pub fn renewed(self, alloc: Global, items: &[ViewItem]) -> Result<Graph, AllocError>
+        ensures { IfOk result (λ g. g ≡ members items.now) }
+    {
+        match standing_of(self.members.as_slice(), items) {
+            Standing::Same => Ok(self),
+            Standing::Alike => self.again(alloc, items),
+            Standing::Other => {
+                let all = renewed_members(alloc, self.members, items)?;
+                Graph::linked(alloc, all)
+            }
+        }
+    }
+
+    /// The graph of the same instances in another view, whose dependencies are what they were.
+    fn again(self, alloc: Global, items: &[ViewItem]) -> Result<Graph, AllocError>
+        requires { AllZip IsOfItem items.now self }
         ensures { IfOk result (λ g. g ≡ members items.now) }
     {
         let Graph {
@@ -182,10 +198,7 @@ impl Graph {
             cycles,
             ..
         } = self;
-        let RenewedMembers { all, are_alike } = renewed_members(alloc, members, items)?;
-        if !are_alike {
-            return Graph::linked(alloc, all);
-        }
+        let all = members_again(alloc, members, items)?;
         let nodes = nodes_of(alloc, all.as_slice(), nodes)?;
         Graph::found(alloc, all, nodes, cycles)
     }

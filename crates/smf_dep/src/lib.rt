@@ -2,7 +2,7 @@
 //! them depend on themselves, as smf(5) has them.
 //! Modules: `dependency`, `reading` (groups as dependencies), `member` (what a verdict looks at of an instance),
 //! `methods` (whether its methods let it be run), `link` (dependencies by places), `parking` (which instances won't run), `cycle`, `graph`, `law` (laws of the
-//! definitions), `fault`.
+//! definitions), `room` (lists whose room is made beforehand), `fault`.
 #![tactic(auto)]
 
 mod cycle;
@@ -15,6 +15,7 @@ mod member;
 mod methods;
 mod parking;
 mod reading;
+mod room;
 
 pub use dependency::{Dependency, Grouping, RestartOn};
 pub use fault::DependencyFault;

@@ -5,6 +5,7 @@ ghost use Rattle.smf_dep.specs.Verdicts.{is_off, is_running};
 
 use crate::dependency::{Dependency, Grouping, RestartOn};
 use crate::member::{Member, ReadMember};
+use crate::room::with_room;
 use smf_fmri::{Fmri, Items};
 use std::alloc::{AllocError, Global};
 
@@ -150,7 +151,7 @@ pub(crate) fn nodes_of(
     ensures { IfOk result (λ ns. ns ≡ nodes_of members.now) }
 {
     let mut kept = kept.into_vec().into_iter();
-    let mut nodes = Items::new(alloc);
+    let mut nodes = with_room(alloc, members.len())?;
     for member in members {
         nodes.push(node_of(alloc, members, member.member(), kept.next())?)?;
     }
@@ -160,7 +161,7 @@ pub(crate) fn nodes_of(
 fn running(alloc: Global, members: &[ReadMember]) -> Result<Items<bool>, AllocError>
     ensures { IfOk result (λ fs. fs ≡ map is_running members.now) }
 {
-    let mut flags = Items::new(alloc);
+    let mut flags = with_room(alloc, members.len())?;
     for member in members {
         flags.push(member.member().is_running())?;
     }
@@ -170,7 +171,7 @@ fn running(alloc: Global, members: &[ReadMember]) -> Result<Items<bool>, AllocEr
 fn off(alloc: Global, members: &[ReadMember]) -> Result<Items<bool>, AllocError>
     ensures { IfOk result (λ fs. fs ≡ map is_off members.now) }
 {
-    let mut flags = Items::new(alloc);
+    let mut flags = with_room(alloc, members.len())?;
     for member in members {
         flags.push(member.member().is_off())?;
     }

@@ -1,7 +1,8 @@
-ghost use Rattle.std.specs.Prelude.{◌≡◌, map, option_map, true, IfOk, Some};
+ghost use Rattle.std.specs.List.{AllZip};
+ghost use Rattle.std.specs.Prelude.{◌≡◌, true, IfOk};
 ghost use Rattle.smf_value.specs.Reading.{Gives};
 ghost use Rattle.smf_dep.specs.Requirements.{read_groups};
-ghost use Rattle.smf_dep.specs.Members.{IsOfItem, composed, implicit, member_of, member_with, members, snapshot_in, when_there, wires, with_implicit};
+ghost use Rattle.smf_dep.specs.Members.{HasNumbersOf, HasStateOf, IsOfItem, composed, implicit, member_of, member_with, members, snapshot_in, when_there, with_implicit};
 ghost use Rattle.smf_dep.specs.Methods.{has_unfit_methods};
 ghost use Rattle.smf_dep.specs.Verdicts.{cites_by, is_cited, is_idle, is_off, is_running, is_waiting};
 
@@ -9,9 +10,10 @@ use crate::dependency::{Dependency, Grouping, RestartOn};
 use crate::fault::DependencyFault;
 use crate::methods::has_unfit_methods;
 use crate::reading::read_groups;
+use crate::room::with_room;
 use smf_fmri::{Bytes, Fmri, InstanceFmri, Items, Ordered};
 use smf_snap::{Snapshot, decode_snapshot};
-use smf_state::{State, ViewItem, is_startd};
+use smf_state::{Row, State, ViewItem, is_startd};
 use smf_value::{BodyFault, Group};
 use std::alloc::{AllocError, Global};
 use std::marker::Model;
@@ -178,6 +180,27 @@ fn member_of(alloc: Global, item: &ViewItem) -> Result<Member, AllocError>
     member_with(item, composed, dependencies)
 }
 
+/// Whether what an instance is and is to be are those of an item.
+fn has_state_of(member: &Member, item: &ViewItem) -> bool
+    ensures { result ≡ true → HasStateOf item.now member.now }
+{
+    member.instance == item.instance
+        && member.enabled == item.enabled
+        && member.state == item.row.state
+        && member.next == item.row.next
+}
+
+/// Whether the revisions of what happened to an instance are those of a row.
+fn has_numbers_of(member: &Member, row: &Row) -> bool
+    ensures { result ≡ true → HasNumbersOf row.now member.now }
+{
+    member.base == row.base
+        && member.err == row.err
+        && member.stop == row.stop
+        && member.refresh == row.refresh
+        && member.start == row.start
+}
+
 fn copy_of(body: &Option<Bytes>) -> Result<Option<Bytes>, AllocError>
     ensures { IfOk result (λ copy. copy ≡ body.now) }
 {
@@ -246,6 +269,14 @@ impl ReadMember {
             && is_body(&self.body, &item.body)
     }
 
+    /// Whether its state is that of an item from which its groups would be read the same.
+    fn has_state_of(&self, item: &ViewItem) -> bool
+        requires { IsOfItem item.now self.now }
+        ensures { result ≡ true → self.now ≡ member_of item.now }
+    {
+        has_state_of(&self.member, item) && has_numbers_of(&self.member, &item.row)
+    }
+
     /// The same instance in a later view.
     fn again(self, item: &ViewItem) -> ReadMember
         requires { IsOfItem item.now self }
@@ -266,44 +297,76 @@ impl ReadMember {
     }
 }
 
-/// What was read of an item, and whether its name and its dependencies are those of what was kept.
-#[derive(Drop)]
-struct Renewal {
-    member: ReadMember,
-    is_alike: bool,
+/// How what is kept of instances stands to the items of a view.
+#[derive(Clone, Copy, PartialEq, Eq)]
+pub(crate) enum Standing {
+    /// It is what verdicts look at of these items.
+    Same,
+    /// It was read from the same, but states may be others.
+    Alike,
+    Other,
 }
 
-fn renewal_of(
+fn standing_with(standing: Standing, is_same: bool) -> Standing
+    ensures same { result ≡ Standing.Same → (standing ≡ Standing.Same) × (is_same ≡ true) }
+    ensures other { result ≡ Standing.Other → standing ≡ Standing.Other }
+{
+    if is_same { standing } else { Standing::Alike }
+}
+
+/// How what is kept of instances stands to the items of a view, the first of the first and so on.
+pub(crate) fn standing_of(kept: &[ReadMember], items: &[ViewItem]) -> Standing
+    ensures same { result ≡ Standing.Same → kept.now ≡ members items.now }
+    ensures alike { result ≡ Standing.Alike → AllZip IsOfItem items.now kept.now }
+{
+    if kept.len() != items.len() {
+        return Standing::Other;
+    }
+    let mut standing = Standing::Same;
+    let mut place = 0;
+    for item in items {
+        let member = &kept[place];
+        if !member.is_read_from(item) {
+            return Standing::Other;
+        }
+        standing = standing_with(standing, member.has_state_of(item));
+        place += 1;
+    }
+    standing
+}
+
+/// The same instances in a later view.
+pub(crate) fn members_again(
+    alloc: Global,
+    kept: Items<ReadMember>,
+    items: &[ViewItem],
+) -> Result<Items<ReadMember>, AllocError>
+    requires { AllZip IsOfItem items.now kept }
+    ensures { IfOk result (λ all. all ≡ members items.now) }
+{
+    let mut kept = kept.into_vec().into_iter();
+    let mut all = with_room(alloc, items.len())?;
+    for item in items {
+        let Some(member) = kept.next() else {
+            unreachable!()
+        };
+        all.push(member.again(item))?;
+    }
+    Ok(all)
+}
+
+/// What verdicts look at of an item, of which something may have been kept.
+fn renewed_member(
     alloc: Global,
     kept: Option<ReadMember>,
     item: &ViewItem,
-) -> Result<Renewal, AllocError>
-    ensures read { IfOk result (λ r. r.member ≡ member_of item.now) }
-    ensures alike { IfOk result (λ r. r.is_alike ≡ true → option_map wires kept ≡ Some (wires r.member)) }
+) -> Result<ReadMember, AllocError>
+    ensures { IfOk result (λ m. m ≡ member_of item.now) }
 {
     match kept {
-        Some(kept) if kept.is_read_from(item) => Ok(Renewal {
-            member: kept.again(item),
-            is_alike: true,
-        }),
-        _ => Ok(Renewal {
-            member: ReadMember::read(alloc, item)?,
-            is_alike: false,
-        }),
+        Some(kept) if kept.is_read_from(item) => Ok(kept.again(item)),
+        _ => ReadMember::read(alloc, item),
     }
-}
-
-/// What verdicts look at, of each item of a view, and whether the names and the dependencies are those that were kept.
-#[derive(Drop)]
-pub(crate) struct RenewedMembers {
-    pub(crate) all: Items<ReadMember>,
-    pub(crate) are_alike: bool,
-}
-
-fn are_both(one: bool, other: bool) -> bool
-    ensures { result ≡ true → (one ≡ true) × (other ≡ true) }
-{
-    one && other
 }
 
 /// What verdicts look at, of each item of a view, where other such members were kept, of an earlier view perhaps.
@@ -311,23 +374,15 @@ pub(crate) fn renewed_members(
     alloc: Global,
     kept: Items<ReadMember>,
     items: &[ViewItem],
-) -> Result<RenewedMembers, AllocError>
-    ensures read { IfOk result (λ r. r.all ≡ members items.now) }
-    ensures alike { IfOk result (λ r. r.are_alike ≡ true → map wires r.all ≡ map wires kept) }
+) -> Result<Items<ReadMember>, AllocError>
+    ensures { IfOk result (λ all. all ≡ members items.now) }
 {
     let mut kept = kept.into_vec().into_iter();
-    let mut all = Items::new(alloc);
-    let mut are_alike = true;
+    let mut all = with_room(alloc, items.len())?;
     for item in items {
-        let Renewal { member, is_alike } = renewal_of(alloc, kept.next(), item)?;
-        all.push(member)?;
-        are_alike = are_both(are_alike, is_alike);
+        all.push(renewed_member(alloc, kept.next(), item)?)?;
     }
-    let is_whole = kept.next().is_none();
-    Ok(RenewedMembers {
-        all,
-        are_alike: are_both(are_alike, is_whole),
-    })
+    Ok(all)
 }
 
 /// What verdicts look at, of each item of a view.

@@ -4,6 +4,7 @@ ghost use Rattle.smf_dep.specs.Places.{all_settled, flag_at, has_flag, has_flags
 
 use crate::dependency::Grouping;
 use crate::link::{Flags, Link, Node};
+use crate::room::with_room;
 use smf_fmri::Items;
 use std::alloc::{AllocError, Global};
 
@@ -133,7 +134,7 @@ fn round(
 ) -> Result<Items<bool>, AllocError>
     ensures { IfOk result (λ fs. fs ≡ round flags.now nodes.now parked.now) }
 {
-    let mut next = Items::new(alloc);
+    let mut next = with_room(alloc, nodes.len())?;
     for node in nodes {
         next.push(is_parked(node, flags, parked))?;
     }
@@ -144,7 +145,7 @@ fn round(
 fn idle(alloc: Global, nodes: &[Node]) -> Result<Items<bool>, AllocError>
     ensures { IfOk result (λ fs. fs ≡ map (λ n. n.idle) nodes.now) }
 {
-    let mut flags = Items::new(alloc);
+    let mut flags = with_room(alloc, nodes.len())?;
     for node in nodes {
         flags.push(node.idle)?;
     }
@@ -158,6 +159,13 @@ fn are_same(next: &[bool], parked: &[bool]) -> bool
     next == parked
 }
 
+/// Whether an instance waits, so that its dependencies may park it.
+fn any_waits(nodes: &[Node]) -> bool
+    ensures { result ≡ list_any (λ n. n.waiting) nodes.now }
+{
+    nodes.iter().any(|node| node.waiting)
+}
+
 /// Which instances are parked, in as many rounds as there are instances. A round that changes nothing is the last.
 pub(crate) fn parked(
     alloc: Global,
@@ -167,6 +175,9 @@ pub(crate) fn parked(
     ensures { IfOk result (λ fs. fs ≡ rounds (length nodes.now) flags.now nodes.now) }
 {
     let mut parked = idle(alloc, nodes)?;
+    if !any_waits(nodes) {
+        return Ok(parked);
+    }
     for _ in 0..nodes.len() {
         let next = round(alloc, nodes, flags, parked.as_slice())?;
         if are_same(next.as_slice(), parked.as_slice()) {

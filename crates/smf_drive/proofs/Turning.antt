@@ -1,5 +1,5 @@
 -- What the calls behind a turn for an instance leave, by how they ended.
-use Rattle.std.proofs.Common.{◌≡◌, ℕ, Bool, true, false, List, Result, Ok, Err, IfErr, OnOk, OnErr, refl, sym, ap, ◌∙◌, subst}
+use Rattle.std.proofs.Common.{◌≡◌, ℕ, Bool, true, false, List, [], ◌∷◌, map, Result, Ok, Err, IfErr, OnOk, OnErr, refl, sym, ap, ◌∙◌, subst}
 use Rattle.smf_edge.specs.Ledgers.{Ledger}
 use Rattle.smf_model.specs.declared.journal.RepoFault.{RepoFault}
 use Rattle.smf_node.specs.declared.fault.NodeFault.{NodeFault}
@@ -9,13 +9,14 @@ use Rattle.smf_world.specs.declared.event.SpawnAnswer.{SpawnAnswer}
 use Rattle.smf_world.specs.declared.event.SpawnAnswer.TheVariants as spawns
 use Rattle.smf_world.specs.declared.schedule.Deed.TheVariants as deeds
 use Rattle.smf_world.specs.declared.schedule.Turn.{Turn}
-use Rattle.smf_world.specs.Schedule.{Progress, asks_spawn, on, refuses, turned, went}
+use Rattle.smf_world.specs.declared.schedule.Turn.TheVariants as turns
+use Rattle.smf_world.specs.Schedule.{Progress, asks_spawn, deeds_of, numbers_known, on, refuses, turned, went}
 use Rattle.smf_world.specs.Worked.{restarter}
 use Rattle.smf_world.specs.World.{World}
 use Rattle.smf_drive.specs.declared.asking.Ask.{Ask}
 use Rattle.smf_drive.specs.declared.asking.Ask.TheVariants.{Nothing, Unnumbered, Spawn, Kill}
 use Rattle.smf_machine.specs.declared.children.Wanted.{Wanted}
-use Rattle.smf_drive.specs.Answered.{IsAnswered, TickedIf}
+use Rattle.smf_drive.specs.Answered.{HaveGone, IsAnswered, TickedIf}
 use Rattle.smf_drive.specs.Answered.IsAnswered.{goes, is_refused, is_not_followed, is_owed}
 use Rattle.smf_drive.specs.Asking.{asked}
 use Rattle.smf_machine.specs.Children.{HasKilled, HasSpawned}
@@ -41,6 +42,15 @@ same_moved p q l m here same = subst (λ (x : Progress). Moves p.world x.world l
 pub rested_ticked : (b : Bool) (p : Progress) (name : List ℕ) (n : ℕ) → went (deeds.Tick name n) p ≡ p → TickedIf b name n p p
 rested_ticked true p name n e = sym e
 rested_ticked false p name n e = goes (sym e)
+
+-- turns for instances, each of which changes nothing
+all_rested : (p : Progress) (name : List ℕ) (ns : List ℕ) → ((n : ℕ) → went (deeds.Tick name n) p ≡ p) → HaveGone (map (λ n. deeds.Tick name n) ns) p p
+all_rested p name [] f = refl
+all_rested p name (n ∷ ns) f = (p, rested_ticked (refuses p name n) p name n (f n), all_rested p name ns f)
+
+pub ticks_rested : (p : Progress) (name : List ℕ) → ((n : ℕ) → went (deeds.Tick name n) p ≡ p) → HaveGone (deeds_of p (turns.Ticks name)) p p
+unfolding deeds_of
+ticks_rested p name f = all_rested p name (numbers_known (restarter p.world name)) f
 
 -- ---- a call that moved, or left everything where it failed
 

@@ -166,7 +166,7 @@ fn tick_all<J: Journal, K: Kids>(
     Ok(())
 }
 
-/// The turns of a restarter for all instances that it knows.
+/// The turns of a restarter for all instances that it knows. They are not looked at one by one where it is at rest.
 fn ticks<J: Journal, K: Kids>(
     node: &mut Node<J>,
     kids: &mut K,
@@ -176,6 +176,10 @@ fn ticks<J: Journal, K: Kids>(
     ensures moves { Moves node.old.world node.new.world (K.ledger kids.old) (K.ledger kids.new) }
     ensures fault { IfErr result (λ e. MayStop J.write_fails e) }
 {
+    let is_at_rest = node.rests_on_all(name);
+    if is_at_rest {
+        return Ok(());
+    }
     let deeds = node.deeds_of(&Turn::Ticks(name.clone()?))?;
     tick_all(node, kids, &deeds)
 }

@@ -39,6 +39,13 @@ impl Engine {
         }
     }
 
+    /// Lets the view go. What was read of instances is kept, so that it need not be read again.
+    pub fn forget(&mut self)
+        ensures { self.new ≡ None }
+    {
+        self.seen = None;
+    }
+
     /// Takes the first view, and then each of a greater revision than that of the one held. Any other is let go.
     pub fn take_view(&mut self, view: View)
         ensures { self.new ≡ newer self.old view }

@@ -1,4 +1,4 @@
-ghost use Rattle.std.specs.Prelude.{◌≡◌, IfOk, Some, find, slice_get};
+ghost use Rattle.std.specs.Prelude.{◌≡◌, ℕ, IfOk, None, Some, false, find, is_some, slice_get};
 ghost use Rattle.smf_dep.specs.Members.{members};
 ghost use Rattle.smf_engine.specs.Orders.{decision, is_about, is_none_left, order, order_in, order_to, order_under, order_placed, orders, what_by};
 
@@ -75,6 +75,45 @@ fn order_with(
     order_under(alloc, revision, item, member, &finding)
 }
 
+/// Whether something is to be done with an item, by what a graph has at a place.
+fn has_decision(
+    alloc: Global,
+    graph: &Graph,
+    item: &ViewItem,
+    place: usize,
+) -> Result<bool, AllocError>
+    ensures { IfOk result (λ b. b ≡ false → (revision : ℕ) → order_placed revision item.now graph.now place ≡ None) }
+{
+    let is_under_way = item.row.next.is_some();
+    if is_under_way {
+        return Ok(false);
+    }
+    let Some(member) = graph.member(place) else {
+        return Ok(false);
+    };
+    let Some(finding) = graph.finding(place) else {
+        return Ok(false);
+    };
+    let decision = decide_instance(alloc, item, member, &finding)?;
+    Ok(decision.is_some())
+}
+
+/// Whether something is to be done with the item at a place. Where nothing is, there is no order for it.
+fn is_decided(
+    alloc: Global,
+    graph: &Graph,
+    items: &[ViewItem],
+    item: &ViewItem,
+    place: usize,
+) -> Result<bool, AllocError>
+    requires graph { graph.now ≡ members items.now }
+    requires place { slice_get items.now place ≡ Some item.now }
+    ensures { IfOk result (λ b. b ≡ false → (revision : ℕ) → order revision items.now item.now ≡ None) }
+{
+    let is_so = has_decision(alloc, graph, item, place)?;
+    Ok(is_so)
+}
+
 /// The order for the item at a place.
 #[tactic(auto, using(crate::proofs::Placed::placed))]
 fn order_at(
@@ -106,12 +145,34 @@ pub(crate) fn orders_by(
     let mut all = Vec::new(alloc);
     let mut place = 0;
     for item in items {
-        if let Some(order) = order_at(alloc, revision, graph, items, item, place)? {
-            all.push(order)?;
+        if is_decided(alloc, graph, items, item, place)? {
+            if let Some(order) = order_at(alloc, revision, graph, items, item, place)? {
+                all.push(order)?;
+            }
         }
         place += 1;
     }
     Ok(Items::from_vec(all))
+}
+
+/// Whether there is an order for the item at a place.
+fn is_ordered(
+    alloc: Global,
+    revision: u64,
+    graph: &Graph,
+    items: &[ViewItem],
+    item: &ViewItem,
+    place: usize,
+) -> Result<bool, AllocError>
+    requires graph { graph.now ≡ members items.now }
+    requires place { slice_get items.now place ≡ Some item.now }
+    ensures { IfOk result (λ b. b ≡ is_some (order revision items.now item.now)) }
+{
+    if !is_decided(alloc, graph, items, item, place)? {
+        return Ok(false);
+    }
+    let order = order_at(alloc, revision, graph, items, item, place)?;
+    Ok(order.is_some())
 }
 
 /// Whether there is no order for any instance.
@@ -127,7 +188,7 @@ pub(crate) fn has_no_orders_by(
 {
     let mut place = 0;
     for item in items {
-        if order_at(alloc, revision, graph, items, item, place)?.is_some() {
+        if is_ordered(alloc, revision, graph, items, item, place)? {
             return Ok(false);
         }
         place += 1;

@@ -1,3 +1,4 @@
+pub mod Beginning
 pub mod Given
 pub mod Find
 pub mod Places

@@ -1,6 +1,8 @@
 -- That an event happened.
-use Rattle.std.specs.Prelude.{◌≡◌, List}
+use Rattle.std.specs.Prelude.{◌≡◌, List, Bool, false, not, Option, Some, None}
 use Rattle.smf_model.specs.declared.command.Reply.{Reply}
+use Rattle.smf_restarter.specs.Knowledge.{Knowledge}
+use Rattle.smf_restarter.specs.Ticks.{is_up}
 use Rattle.smf_world.specs.declared.event.Event.{Event}
 use Rattle.smf_world.specs.Happens.{happens}
 use Rattle.smf_world.specs.Worked.{worked}
@@ -10,3 +12,8 @@ use Rattle.smf_world.specs.World.{World}
 pub record IsDone (before : World) (event : Event) (after : World) (reply : List Reply) : Type 0 where
   pub made : after ≡ happens before event
   pub said : reply ≡ (worked before event).reply
+
+-- a restarter that is launched, and does not take orders yet
+abbrev pub is_beginning : Option Knowledge → Bool
+is_beginning None = false
+is_beginning (Some k) = not (is_up k.stage)

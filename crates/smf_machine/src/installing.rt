@@ -117,7 +117,7 @@ fn see(engine: &mut Engine, forgets: bool, views: Items<View>)
     ensures { engine.new ≡ seen_after forgets engine.old views }
 {
     if forgets {
-        *engine = Engine::new();
+        engine.forget();
     } else {
         take_views(engine, views);
     }

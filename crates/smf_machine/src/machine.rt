@@ -1,11 +1,11 @@
-ghost use Rattle.std.specs.Prelude.{◌≡◌, map, option_map, reverse, IfErr, IfOk, OnErr, OnOk};
+ghost use Rattle.std.specs.Prelude.{◌≡◌, [], map, option_map, reverse, true, IfErr, IfOk, OnErr, OnOk};
 ghost use Rattle.std.specs.Option.{option_copied};
 ghost use Rattle.smf_engine.specs.Orders.{has_no_orders};
 ghost use Rattle.smf_model.specs.Shown.{view};
 ghost use Rattle.smf_machine.specs.Children.{HasGiven, HasKilled, HasSpawned, happens_if, heard};
 ghost use Rattle.smf_machine.specs.declared.fault.MachineFault.TheVariants.{Memory};
 ghost use Rattle.smf_machine.specs.Faults.{IsUnbooted, IsUndone};
-ghost use Rattle.smf_machine.specs.Done.{IsDone};
+ghost use Rattle.smf_machine.specs.Done.{IsDone, is_beginning};
 ghost use Rattle.smf_machine.specs.Lists.{NoTwins};
 ghost use Rattle.smf_machine.specs.Parts.{knowledge};
 ghost use Rattle.smf_model.specs.declared.command.Command.TheVariants as commands;
@@ -30,7 +30,7 @@ use smf_contract::{Event as ContractEvent, Table};
 use smf_edge::Kids;
 use smf_fmri::{InstanceFmri, Items, Number};
 use smf_model::{Journal, Plain, Reply};
-use smf_restarter::Restarter;
+use smf_restarter::{Restarter, Stage};
 use smf_wire::Message;
 use smf_world::{Event, Item, SpawnAnswer};
 use std::alloc::{AllocError, Global};
@@ -73,6 +73,29 @@ impl<J: Journal> System<J> {
         Ok(())
     }
 
+    /// Whether the restarter of a name is launched, and does not take orders yet.
+    fn is_beginning(&self, name: &InstanceFmri) -> bool
+        ensures { result ≡ is_beginning (restarter self.now name.now) }
+    {
+        match self.restarter(name) {
+            None => false,
+            Some(restarter) => !matches!(restarter.stage(), Stage::Up),
+        }
+    }
+
+    /// Whether an event is the delivery of an order that its restarter lets go, since it does not take orders yet.
+    fn is_let_go(&self, event: &Event) -> bool
+        ensures { result ≡ true → IsDone self.now event.now self.now [] }
+    {
+        let Event::Deliver(place) = event else {
+            return false;
+        };
+        match self.message_at(*place) {
+            Some(Message::Order(order)) => self.is_beginning(&order.restarter),
+            _ => false,
+        }
+    }
+
     /// An event happens.
     #[tactic(auto, unfolding(smf_world::specs::Happens::happens))]
     pub(crate) fn happen(&mut self, event: &Event) -> Result<Items<Reply>, MachineFault>
@@ -81,6 +104,9 @@ impl<J: Journal> System<J> {
         ensures err { OnErr result (self.new ≡ self.old) }
         ensures fault { IfErr result (λ e. IsUndone J.write_fails (worked self.old event.now).changes e) }
     {
+        if self.is_let_go(event) {
+            return Ok(Items::new(self.alloc));
+        }
         let work = self.worked(event)?;
         self.take(work)
     }

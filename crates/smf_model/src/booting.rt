@@ -1,11 +1,11 @@
-ghost use Rattle.std.specs.Prelude.{◌≡◌, ◌<◌, ◌++◌, false, IfOk, map};
+ghost use Rattle.std.specs.Prelude.{◌≡◌, ◌<◌, ◌++◌, false, true, IfOk, map};
 ghost use Rattle.std.specs.List.{list_any};
 ghost use Rattle.std.specs.Option.{option_copied};
-ghost use Rattle.smf_model.specs.Look.{bare, group_in, groups_of, service};
+ghost use Rattle.smf_model.specs.Look.{bare, group_in, groups_of, instances, no_service_has, service};
 ghost use Rattle.smf_model.specs.Next.{all_booted, asked_boot, asked_delete_service, booted, booted_row, booting};
 ghost use Rattle.smf_model.specs.Next.{has_dropped, instance_kept, is_instance_of, is_last_launch, is_last_number, kept_groups};
 ghost use Rattle.smf_model.specs.Next.{kept_of_instances, kept_of_services, may_not_boot, persistent, relaunched, service_kept};
-ghost use Rattle.smf_model.specs.Setting.{setting};
+ghost use Rattle.smf_model.specs.Setting.{general, service_fmri, setting};
 ghost use Rattle.smf_state.specs.Rows.{greatest_number};
 
 use crate::asking::MAX_COUNT;
@@ -13,7 +13,7 @@ use crate::change::Change;
 use crate::command::Reply;
 use crate::held::{Instance, InstanceEntry, Launch, Owner, Service};
 use crate::planner::{Asked, Planner};
-use crate::setting::{Setting, owner_by, service_owner, setting_by};
+use crate::setting::{Setting, owner_by, setting_by};
 use bitflags::Flags;
 use smf_fmri::{InstanceFmri, Items, Ordered, ServiceFmri};
 use smf_state::{Asks, Row, State};
@@ -196,51 +196,57 @@ fn has_instance(
 }
 
 impl Planner<'_> {
-    /// The group of a name of an owner, where it outlasts a boot.
-    #[tactic(auto, unfolding(crate::specs::Look::groups_of))]
-    fn persistent_group(&self, owner: &Owner, name: &str) -> Option<&Group>
-        ensures { option_copied result ≡ group_in (persistent (groups_of self.now) owner.now) name.now }
+    /// The group `general` of the service of an instance, where it outlasts a boot. It is not looked for where no service
+    /// has one.
+    #[tactic(auto, unfolding(crate::specs::Look::groups_of), using(crate::proofs::Kept::none_at_boot))]
+    fn services_general_at_boot(&self, instance: &InstanceFmri, none_has: bool) -> Option<&Group>
+        requires { none_has ≡ true → no_service_has self.now.services general ≡ true }
+        ensures { option_copied result ≡
+            group_in (persistent (groups_of self.now) (Owner.Service (service_fmri instance.now))) general }
     {
-        match self.tables.owned(owner) {
+        if none_has {
+            return None;
+        }
+        match self.tables.service_named(instance.as_fmri().service_text()) {
             None => None,
-            Some(groups) => kept_of_name(groups, name),
+            Some(service) => kept_of_name(&service.groups, "general"),
         }
     }
 
     /// What `general/restarter` says of an instance once a boot has dropped groups.
     #[tactic(auto, unfolding(crate::specs::Setting::setting))]
-    fn setting_at_boot(&self, instance: &Instance) -> Result<Setting, AllocError>
-        ensures { IfOk result (λ s. s ≡ setting (persistent (groups_of self.now)) instance.now) }
+    fn setting_at_boot(&self, entry: &InstanceEntry, none_has: bool) -> Result<Setting, AllocError>
+        requires known { none_has ≡ true → no_service_has self.now.services general ≡ true }
+        requires own { entry.now.groups ≡ groups_of self.now (Owner.Instance entry.now.instance.number) }
+        ensures { IfOk result (λ s. s ≡ setting (persistent (groups_of self.now)) entry.now.instance) }
     {
-        let own = Owner::Instance(instance.number);
-        let service = service_owner(self.alloc, &instance.name)?;
-        let general = self.persistent_group(&own, "general");
-        let services_own = self.persistent_group(&service, "general");
-        setting_by(self.alloc, general, services_own)
+        let own = kept_of_name(&entry.groups, "general");
+        let services_own = self.services_general_at_boot(&entry.instance.name, none_has);
+        setting_by(self.alloc, own, services_own)
     }
 
-    fn booted(&self, instance: &Instance) -> Result<Instance, AllocError>
-        requires { instance.now.row.number < greatest_number }
-        ensures { IfOk result (λ i. i ≡ booted (persistent (groups_of self.now)) instance.now) }
+    fn booted(&self, entry: &InstanceEntry, none_has: bool) -> Result<Instance, AllocError>
+        requires number { entry.now.instance.row.number < greatest_number }
+        requires known { none_has ≡ true → no_service_has self.now.services general ≡ true }
+        requires own { entry.now.groups ≡ groups_of self.now (Owner.Instance entry.now.instance.number) }
+        ensures { IfOk result (λ i. i ≡ booted (persistent (groups_of self.now)) entry.now.instance) }
     {
-        let owner = owner_by(self.alloc, self.setting_at_boot(instance)?)?;
-        let mut instance = instance.clone()?;
+        let owner = owner_by(self.alloc, self.setting_at_boot(entry, none_has)?)?;
+        let mut instance = entry.instance.clone()?;
         instance.row = booted_row(instance.row, owner);
         Ok(instance)
     }
 
     /// Every instance begins anew.
-    fn boot_all(
-        &self,
-        mut changes: Items<Change>,
-        entries: &[InstanceEntry],
-    ) -> Result<Items<Change>, AllocError>
-        requires { list_any is_last_number (bare entries.now) ≡ false }
+    fn boot_all(&self, mut changes: Items<Change>) -> Result<Items<Change>, AllocError>
+        requires { list_any is_last_number (instances self.now) ≡ false }
         ensures { IfOk result (λ all. all ≡
-            changes ++ all_booted (persistent (groups_of self.now)) (bare entries.now)) }
+            changes ++ all_booted (persistent (groups_of self.now)) (instances self.now)) }
     {
+        let entries = self.tables.entries();
+        let none_has = self.tables.no_service_has("general");
         for entry in entries {
-            let next = self.booted(&entry.instance)?;
+            let next = self.booted(entry, none_has)?;
             changes.push(Change::PutInstance(next))?;
         }
         Ok(changes)
@@ -254,10 +260,10 @@ impl Planner<'_> {
         let changes = relaunch(Items::new(self.alloc), self.tables.launches())?;
         let changes = keep_of_services(self.alloc, changes, self.tables.services())?;
         let changes = keep_of_instances(self.alloc, changes, self.tables.entries())?;
-        self.boot_all(changes, self.tables.entries())
+        self.boot_all(changes)
     }
 
-    fn may_not_boot(&self) -> bool
+    pub(crate) fn may_not_boot(&self) -> bool
         ensures { result ≡ may_not_boot self.now }
     {
         any_last_launch(self.tables.launches()) || any_last_number(self.tables.entries())

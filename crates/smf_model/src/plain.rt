@@ -4,9 +4,10 @@ ghost use Rattle.smf_model.specs.Journals.{IsTold, IsUntold, IsUnwritten, Leaves
 ghost use Rattle.smf_model.specs.Copied.{copied};
 ghost use Rattle.smf_model.specs.Laws.{IsNumbered, is_refusal};
 ghost use Rattle.smf_model.specs.Look.{empty, groups_of, installed, instance, launch_of, named, service, snapshot};
-ghost use Rattle.smf_model.specs.Next.{asked, found, next};
+ghost use Rattle.smf_model.specs.Next.{asked, found, may_not_boot, next};
 ghost use Rattle.smf_model.specs.Setting.{enabled, owner_by, setting};
-ghost use Rattle.smf_model.specs.Shown.{all_read, children, composed_groups, rows, rows_of};
+ghost use Rattle.smf_model.specs.Holdings.{Holdings as AnyHoldings};
+ghost use Rattle.smf_model.specs.Shown.{IsKept, all_read, children, composed_groups, rows, rows_of};
 ghost use Rattle.smf_model.specs.Shown.{shown_groups, snapshot_number, snapshots_of, view};
 ghost use Rattle.smf_model.specs.Tables.{held_in};
 
@@ -91,6 +92,13 @@ impl<J: Journal> Plain<J> {
         Planner::over(self.alloc, &self.tables)
     }
 
+    /// Whether a boot is refused, since a launch or a row has no next number.
+    pub fn may_not_boot(&self) -> bool
+        ensures { result ≡ may_not_boot self.now.held }
+    {
+        self.planner().may_not_boot()
+    }
+
     /// What a command changes, and its reply. It changes nothing itself.
     pub fn asked(&self, command: &Command) -> Result<Outcome, AllocError>
         ensures exact { IfOk result (λ r. r ≡ asked self.now.held command.now) }
@@ -115,7 +123,7 @@ impl<J: Journal> Plain<J> {
         ensures settled { J.is_sound self.new.journal → LeavesOnly J.could self.new.journal self.new.held }
         ensures fault { IfErr result (IsUnwritten J.write_fails changes) }
     {
-        self.shown = None;
+        let_go_if(&mut self.shown, &changes);
         let tables = &mut self.tables;
         commit(&mut self.journal, &mut tables.lists, changes.into_vec())
     }
@@ -318,6 +326,16 @@ impl<J: Journal> Plain<J> {
         ensures { result ≡ self.now.held.revision }
     {
         self.tables.revision()
+    }
+}
+
+/// A view that is kept is let go where something changes.
+fn let_go_if(shown: &mut Option<View>, changes: &Items<Change>)
+    ensures changed { (h : AnyHoldings) → IsKept shown.old h → IsKept shown.new (installed h changes.now) }
+    ensures unchanged { (h : AnyHoldings) → IsKept shown.old h → IsKept shown.new h }
+{
+    if !changes.is_empty() {
+        *shown = None;
     }
 }
 

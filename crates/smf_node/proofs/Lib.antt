@@ -8,5 +8,6 @@ mod Settling
 mod UpTo
 mod Giving
 mod Answering
+mod Booting
 pub mod Lining
 pub mod Resting

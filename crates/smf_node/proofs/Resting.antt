@@ -1,14 +1,19 @@
 -- A turn for an instance in which a restarter does nothing leaves all as it is.
 use Rattle.std.proofs.Common.{◌≡◌, ℕ, List, [], ◌∷◌, Bool, true, false, Option, Some, None, map, refl, ap, sym, ◌∙◌, if◌then◌else◌}
+use Rattle.std.specs.List.{list_all}
 use Rattle.std.specs.Prelude.{◌&&◌, nat_lt}
+use Rattle.smf_fmri.specs.ByKey.{has_key, lookup}
 use Rattle.smf_contract.proofs.EmptiedBy.{nothing_empties}
 use Rattle.smf_contract.specs.Called.{called}
 use Rattle.smf_model.specs.Look.{installed}
 use Rattle.smf_restarter.specs.Changes.{changed, nothing, unchanged}
-use Rattle.smf_restarter.specs.Knowledge.{Knowledge}
-use Rattle.smf_restarter.specs.Ticks.{ticked}
+use Rattle.smf_restarter.specs.declared.known.KnownInstance.{KnownInstance}
+use Rattle.smf_restarter.specs.declared.known.Stage.{Stage}
+use Rattle.smf_restarter.specs.declared.known.Stage.TheVariants.{Joining, Listing, Up}
+use Rattle.smf_restarter.specs.Knowledge.{Knowledge, by_instance}
+use Rattle.smf_restarter.specs.Ticks.{at_rest, is_up, rests, ticked, ticked_in, ticked_known, ticked_up}
+use Rattle.smf_restarter.proofs.Resting.{rested}
 use Rattle.smf_restarter.specs.declared.reply.Reply.{Reply}
-use Rattle.smf_world.specs.declared.event.Event.TheVariants as events
 use Rattle.smf_world.specs.declared.event.SpawnAnswer.TheVariants as spawns
 use Rattle.smf_world.specs.declared.schedule.Deed.TheVariants as deeds
 use Rattle.smf_world.specs.declared.item.Item.TheVariants.{Emptied}
@@ -63,3 +68,36 @@ none_rests p name n e = went_by p name n (λ k f. cc)
 pub some_rests : (p : Progress) (name : List ℕ) (n : ℕ) (k : Knowledge) → restarter p.world name ≡ Some k → ticked k n ≡ nothing
     → went (deeds.Tick name n) p ≡ p
 some_rests p name n k e t = went_by p name n (λ j f. let same : k ≡ j = cc in ap (λ (x : Knowledge). ticked x n) (sym same) ∙ t)
+
+-- ---- a restarter at rest
+
+both : (a b : Bool) → (a && b) ≡ true → (a ≡ true) × (b ≡ true)
+both true true e = (refl, refl)
+both true false e = cc
+both false b e = cc
+
+known_rests : (k : Knowledge) (n : ℕ) (is : List KnownInstance) → list_all (rests k) is ≡ true → ticked_known k (lookup by_instance is n) ≡ nothing
+known_rests k n [] e = refl
+known_rests k n (i ∷ is) e =
+    let two = both (rests k i) (list_all (rests k) is) e in by (has_key by_instance n i) (rested k i two.0) (known_rests k n is two.1)
+  where
+    by : (b : Bool) → ticked_in k i i.phase ≡ nothing → ticked_known k (lookup by_instance is n) ≡ nothing
+        → ticked_known k (if b then Some i else lookup by_instance is n) ≡ nothing
+    by true here rest = here
+    by false here rest = rest
+
+rests_at : (k : Knowledge) (n : ℕ) (s : Stage) → (is_up s && list_all (rests k) k.instances) ≡ true → ticked_up k n s ≡ nothing
+rests_at k n Joining e = refl
+rests_at k n Listing e = refl
+rests_at k n Up e = known_rests k n k.instances e
+
+ticks_nothing : (k : Knowledge) (n : ℕ) → at_rest k ≡ true → ticked k n ≡ nothing
+unfolding at_rest ticked
+ticks_nothing k n e = rests_at k n k.stage e
+
+pub all_rest : (p : Progress) (name : List ℕ) (k : Knowledge) → restarter p.world name ≡ Some k → at_rest k ≡ true
+    → (n : ℕ) → went (deeds.Tick name n) p ≡ p
+all_rest p name k e h n = some_rests p name n k e (ticks_nothing k n h)
+
+pub none_left : (p : Progress) (name : List ℕ) → restarter p.world name ≡ None → (n : ℕ) → went (deeds.Tick name n) p ≡ p
+none_left p name e n = none_rests p name n e

@@ -7,7 +7,7 @@ ghost use Rattle.smf_world.specs.Schedule.{asks_spawn, deliver_next, heard_of, i
 ghost use Rattle.smf_world.specs.Worked.{is_actor, restarter, sent_at};
 ghost use Rattle.smf_contract.specs.Entries.{contract};
 ghost use Rattle.std.specs.List.{list_any};
-ghost use Rattle.std.specs.Prelude.{◌≡◌, ◌∷◌, ◌++◌, ◌<◌, ◌+◌, ◌^◌, [], ◌==◌, find, is_some, true, IfErr, IfOk, OnErr, OnOk};
+ghost use Rattle.std.specs.Prelude.{◌≡◌, ◌∷◌, ◌++◌, ◌<◌, ◌+◌, ◌^◌, [], ◌==◌, ℕ, find, is_some, true, IfErr, IfOk, OnErr, OnOk};
 
 use crate::fault::NodeFault;
 use crate::node::Node;
@@ -192,6 +192,16 @@ impl<J: Journal> Node<J> {
         match self.restarter(name) {
             None => true,
             Some(restarter) => restarter.rests_on(instance),
+        }
+    }
+
+    /// Whether it is found at once that the turns of a restarter for all its instances change nothing.
+    pub fn rests_on_all(&self, name: &InstanceFmri) -> bool
+        ensures { result ≡ true → (instance : ℕ) → went (deeds.Tick name.now instance) self.now ≡ self.now }
+    {
+        match self.restarter(name) {
+            None => true,
+            Some(restarter) => restarter.is_at_rest(),
         }
     }
 

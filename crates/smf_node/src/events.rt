@@ -11,7 +11,7 @@ ghost use Rattle.smf_world.specs.Worked.{worked};
 ghost use Rattle.std.specs.Prelude.{◌≡◌, ◌∷◌, ◌<◌, ◌^◌, [], length, slice_get, None, IfErr, IfOk, OnErr, OnOk};
 
 use crate::fault::NodeFault;
-use crate::node::{Node, is_past_limit};
+use crate::node::{Node, is_past_boot, is_past_limit};
 use smf_fmri::{InstanceFmri, Items};
 use smf_machine::Machine;
 use smf_model::{Command, Edit, Journal, Reply};
@@ -111,7 +111,7 @@ impl<J: Journal> Node<J> {
     {
         match event {
             Event::Launch(name) => self.may_not_launch(name),
-            Event::Boot => self.is_past_limit(&Command::Boot),
+            Event::Boot => Ok(is_past_boot(self.repository())),
             _ => Ok(false),
         }
     }

@@ -65,6 +65,16 @@ pub(crate) fn is_past_limit<J: Journal>(
     Ok(is_limit(&outcome.reply))
 }
 
+/// Whether a boot is refused, since a number that it needs has no next one. What a boot changes is not worked out for it.
+pub(crate) fn is_past_boot<J: Journal>(repository: &Plain<J>) -> bool
+    ensures { result ≡ is_past_limit repository.now.held commands.Boot }
+{
+    match repository.revision().next() {
+        None => true,
+        Some(_) => repository.may_not_boot(),
+    }
+}
+
 impl<J: Journal> Node<J> {
     /// Boots what was found. A fault hands the repository back, as it was; `Limit` where a row or a launch has no next
     /// number, and `Memory` also where an owner has 2^32 groups, which no body may hold.
@@ -75,10 +85,8 @@ impl<J: Journal> Node<J> {
         ensures accepted { IfOk result (λ node. is_past_limit repository.held commands.Boot ≡ false) }
         ensures fault { IfErr result (λ e. IsUnbooted J.write_fails repository.held e.0) }
     {
-        match is_past_limit(&repository, &Command::Boot) {
-            Ok(false) => {}
-            Ok(true) => return Err((NodeFault::Limit, repository)),
-            Err(_) => return Err((NodeFault::Memory, repository)),
+        if is_past_boot(&repository) {
+            return Err((NodeFault::Limit, repository));
         }
         match Machine::new(alloc, repository) {
             Ok(machine) => Ok(Node {

@@ -1,6 +1,7 @@
-use Rattle.std.proofs.Common.{ℕ, ◌+◌, length, ap, ◌∙◌, arith}
+use Rattle.std.proofs.Common.{ℕ, ◌+◌, length, ap, sym, ◌∙◌, arith}
 use Rattle.std.proofs.lemmas.List.{length_push}
 use Rattle.smf_cycles.specs.Paths.{IsOnCycle}
+use Rattle.smf_cycles.proofs.Edgeless.{none_on_cycle}
 use Rattle.smf_cycles.proofs.Flags.{flags_more}
 use Rattle.smf_cycles.proofs.cycles.places_on_cycles.Goals as goal
 
@@ -13,3 +14,8 @@ loop-place-preserved c =
 
 pub returns-clause-exact : goal.returns-clause-exact
 returns-clause-exact c = λ a low. c.loop-place.invariant.exact a (omega arith)
+
+pub returns-then-all_lead_nowhere-clause-exact : goal.returns-then-all_lead_nowhere-clause-exact
+returns-then-all_lead_nowhere-clause-exact c = λ a low.
+    none_on_cycle c.args.edges.now c.in_ok-none.none.items (length c.args.edges.now)
+    (sym c.all_lead_nowhere.ensures ∙ c.if-all_lead_nowhere.true) c.in_ok-none.ensures a
