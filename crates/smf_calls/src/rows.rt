@@ -5,7 +5,7 @@ use crate::names::instance_of;
 use crate::words::{byte_of, put_text, split_word, truth};
 use bitflags::Flags;
 use smf_fmri::InstanceFmri;
-use smf_state::{Cause, Failures, Ignore, Row, State, ViewItem, edge};
+use smf_state::{Cause, Failures, Ignore, Row, SharedRow, State, ViewItem, edge};
 use std::alloc::{AllocError, Global};
 
 /// Answers a call of rows; whether it is one.
@@ -107,7 +107,7 @@ fn put_optional(out: &mut Answer, name: &str, number: Option<u64>) {
 }
 
 /// A view's item of a name and a row.
-fn item_of(name: InstanceFmri, row: Row) -> ViewItem {
+fn item_of(name: InstanceFmri, row: SharedRow) -> ViewItem {
     ViewItem {
         instance: 1,
         name,
@@ -123,6 +123,7 @@ fn copied_item(alloc: Global, out: &mut Answer, text: &str) {
     let (name, row) = split_word(text);
     if let Some(name) = instance_of(alloc, out, name)
         && let Some(row) = row_of(alloc, out, row)
+        && let Some(row) = out.made(SharedRow::of(alloc, row))
     {
         let item = item_of(name, row);
         put_item(alloc, out, item.clone());

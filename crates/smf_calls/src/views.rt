@@ -12,7 +12,7 @@ use smf_admin::{
 use smf_engine::{Engine, orders};
 use smf_fmri::{Bytes, Items, Number, Shared, Table, Text, read_count};
 use smf_model::{Edit, InstanceName, Mark};
-use smf_state::{Row, State, View, ViewItem};
+use smf_state::{Row, SharedRow, State, View, ViewItem};
 use smf_wire::{Order, What};
 use std::alloc::{AllocError, Global};
 
@@ -120,6 +120,7 @@ fn item_of(alloc: Global, out: &mut Answer, text: &str) -> Option<ViewItem> {
     let (state, next) = out.found(states_of(state, next))?;
     let name = instance_of(alloc, out, name)?;
     let row = row_of(alloc, out, owner, state, next)?;
+    let row = out.made(SharedRow::of(alloc, row))?;
     let body = body_of(alloc, out, body)?;
     Some(ViewItem {
         instance,

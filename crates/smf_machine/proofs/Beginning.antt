@@ -19,7 +19,8 @@ use Rattle.smf_world.specs.Worked.{delivered, delivered_if, heard_by, is_named, 
 use Rattle.smf_world.specs.World.{World}
 use Rattle.smf_machine.specs.Done.{IsDone, is_beginning}
 
-none_turned : (name : List ℕ) (ks : List Knowledge) → becoming (becomes.Knows name unchanged) ks ≡ ks
+-- a restarter that learns nothing leaves all as they are
+pub none_turned : (name : List ℕ) (ks : List Knowledge) → becoming (becomes.Knows name unchanged) ks ≡ ks
 unfolding changed
 none_turned name [] = refl
 none_turned name (k ∷ ks) =

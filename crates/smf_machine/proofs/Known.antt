@@ -17,7 +17,8 @@ use Rattle.smf_restarter.specs.Changes.{changed}
 use Rattle.smf_restarter.specs.Knowledge.{Kept, Knowledge}
 use Rattle.smf_world.specs.Worked.{is_named}
 use Rattle.smf_machine.specs.Given.{is_named_kept}
-use Rattle.smf_machine.proofs.Places.{found_first, found_none, same_name}
+use Rattle.smf_edge.proofs.Firsts.{found_first, found_none}
+use Rattle.smf_value.proofs.Decimals.{same_text}
 use Rattle.smf_machine.specs.Lists.{NoneNamed, NoTwins}
 use Rattle.smf_machine.specs.Parts.{knowledge}
 
@@ -75,7 +76,7 @@ named_none name (x ∷ xs) (suc place) k h e = named_none name xs place k h.1 e
 first_other : (name : List ℕ) (x k : Knowledge) (ks : List Knowledge) (place : ℕ) (b : Bool) → is_named name x ≡ b → NoneNamed x.name ks → slice_get ks place ≡ Some k → is_named name k ≡ true → is_named name x ≡ false
 first_other name x k ks place false e h there named = e
 first_other name x k ks place true e h there named =
-    let none : NoneNamed name ks = alone_under name x.name ks (same_name x.name name e) h in
+    let none : NoneNamed name ks = alone_under name x.name ks (same_text x.name name e) h in
     let never : true ≡ false = sym named ∙ named_none name ks place k none there in absurd cc
 
 -- the one of a name learns, and so all of that name do
@@ -86,7 +87,7 @@ learned_at name c (x ∷ xs) zero k apart there named =
     let same : x ≡ k = some_is x k there in
     let named_x : is_named name x ≡ true = subst (λ y. is_named name y ≡ true) (sym same) named in
     let head : changed k c ≡ learning name c x = ap (λ y. changed y c) (sym same) ∙ sym (learned_by (is_named name x) x (changed x c) named_x) in
-    let tail : xs ≡ map (learning name c) xs = sym (none_learn name c xs (alone_under name x.name xs (same_name x.name name named_x) apart.0)) in
+    let tail : xs ≡ map (learning name c) xs = sym (none_learn name c xs (alone_under name x.name xs (same_text x.name name named_x) apart.0)) in
     both_same head tail
 learned_at name c (x ∷ xs) (suc place) k apart there named =
     let other : is_named name x ≡ false = first_other name x k xs place (is_named name x) refl apart.0 there named in

@@ -1,7 +1,6 @@
 pub mod Beginning
 pub mod Given
 pub mod Find
-pub mod Places
 pub mod Known
 pub mod Worlds
 pub mod Asking

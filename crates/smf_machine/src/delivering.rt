@@ -9,7 +9,7 @@ use crate::commanding::{no_work, one, saying};
 use crate::parts::System;
 use smf_fmri::{InstanceFmri, Items};
 use smf_model::{Command, Instance, Journal, Reply};
-use smf_state::{Proposal, Row, View};
+use smf_state::{Proposal, SharedRow, View};
 use smf_wire::{Known, Message};
 use smf_world::Work;
 use std::alloc::{AllocError, Global};
@@ -36,7 +36,7 @@ fn all_known(alloc: Global, instances: &[Instance]) -> Result<Items<Known>, Allo
     Ok(all)
 }
 
-fn copy_of_row(row: &Option<Row>) -> Result<Option<Row>, AllocError>
+fn copy_of_row(row: &Option<SharedRow>) -> Result<Option<SharedRow>, AllocError>
     ensures { IfOk result (λ copy. copy ≡ row.now) }
 {
     match row {

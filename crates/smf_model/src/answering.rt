@@ -7,7 +7,7 @@ use crate::command::Reply;
 use crate::held::Instance;
 use crate::planner::{Asked, Planner, with_change};
 use smf_fmri::{Items, Number};
-use smf_state::{Proposal, Row, State, Step, StepFault, Why};
+use smf_state::{Proposal, Row, SharedRow, State, Step, StepFault, Why};
 use std::alloc::AllocError;
 
 /// The proposal that was granted last.
@@ -71,7 +71,7 @@ fn takes_running(before: &Row, after: &Row) -> bool
         && before.running.is_none()
 }
 
-fn with_row(mut instance: Instance, row: Row) -> Instance
+fn with_row(mut instance: Instance, row: SharedRow) -> Instance
     ensures { result ≡ with_row instance row }
 {
     instance.start = started_by(&instance.row, &row, instance.start);
@@ -80,7 +80,7 @@ fn with_row(mut instance: Instance, row: Row) -> Instance
 }
 
 /// The change that gives an instance a row.
-fn put_row(instance: &Instance, row: &Row) -> Result<Change, AllocError>
+fn put_row(instance: &Instance, row: &SharedRow) -> Result<Change, AllocError>
     ensures { IfOk result (λ c. c ≡ Change.PutInstance (with_row instance.now row.now)) }
 {
     let row = row.clone()?;
@@ -112,6 +112,7 @@ impl Planner<'_> {
         if takes {
             return self.granted_with_snapshot(instance, row);
         }
+        let row = SharedRow::of(self.alloc, row)?;
         let change = put_row(instance, &row)?;
         self.one(change, Reply::Granted(row))
     }
@@ -120,6 +121,7 @@ impl Planner<'_> {
         ensures { IfOk result (λ r. r ≡ granted self.now instance.now row true) }
     {
         row.running = Some(self.tables.next_snapshot().get());
+        let row = SharedRow::of(self.alloc, row)?;
         let change = put_row(instance, &row)?;
         let changes = with_change(Items::new(self.alloc), change)?;
         self.with_snapshot(instance, changes, Reply::Granted(row))
@@ -129,7 +131,7 @@ impl Planner<'_> {
     fn step_answer(&self, instance: &Instance, proposal: &Proposal) -> Asked
         ensures { IfOk result (λ r. r ≡ fresh_answer self.now instance.now proposal.now None) }
     {
-        let mut row = instance.row.clone()?;
+        let mut row = instance.row.to_row()?;
         let revision = self.tables.revision().get() + 1;
         match row.apply(proposal, revision) {
             Err(fault) => self.refused_step(instance, fault),

@@ -11,7 +11,7 @@ use crate::held::{Instance, InstanceEntry, InstanceName, Launch, Owner, Service}
 use crate::planner::{Asked, Planner, with_change};
 use bitflags::Flags;
 use smf_fmri::{InstanceFmri, Items, Number, Ordered, ServiceFmri};
-use smf_state::{Asks, Row, State, startd};
+use smf_state::{Asks, Row, SharedRow, State, startd};
 use smf_value::Name;
 use std::alloc::{AllocError, Global};
 
@@ -48,11 +48,13 @@ pub(crate) fn is_made(owner: &Owner, name: &Name) -> bool
 }
 
 /// Asks for something of an instance, by one bit.
-fn asking(mut instance: Instance, ask: Asks) -> Instance
-    ensures { result ≡ asking instance ask.0 }
+fn asking(alloc: Global, mut instance: Instance, ask: Asks) -> Result<Instance, AllocError>
+    ensures { IfOk result (λ i. i ≡ asking instance ask.0) }
 {
-    instance.row.asks.insert(ask);
-    instance
+    let mut row = instance.row.to_row()?;
+    row.asks.insert(ask);
+    instance.row = SharedRow::of(alloc, row)?;
+    Ok(instance)
 }
 
 impl Planner<'_> {
@@ -118,11 +120,12 @@ impl Planner<'_> {
         ensures { IfOk result (λ i. i ≡ new_instance self.now name.now) }
     {
         let owner = startd(self.alloc)?;
+        let row = SharedRow::of(self.alloc, Row::new(owner))?;
         let name = name.clone()?;
         Ok(Instance {
             number: self.tables.next_instance(),
             name,
-            row: Row::new(owner),
+            row,
             start: None,
             previous: None,
         })
@@ -177,7 +180,8 @@ impl Planner<'_> {
         ensures { IfOk result (λ r. r ≡ asked_if self.now applies instance ask.0) }
     {
         if applies {
-            self.one(Change::PutInstance(asking(instance, ask)), Reply::Done)
+            let after = asking(self.alloc, instance, ask)?;
+            self.one(Change::PutInstance(after), Reply::Done)
         } else {
             self.accepted(Items::new(self.alloc), Reply::Done)
         }
@@ -187,7 +191,8 @@ impl Planner<'_> {
         ensures { IfOk result (λ r. r ≡ asked_where self.now applies instance ask.0) }
     {
         if applies {
-            self.one(Change::PutInstance(asking(instance, ask)), Reply::Done)
+            let after = asking(self.alloc, instance, ask)?;
+            self.one(Change::PutInstance(after), Reply::Done)
         } else {
             self.refused(Reply::NotInState)
         }

@@ -16,7 +16,7 @@ use crate::planner::{Asked, Planner};
 use crate::setting::{Setting, owner_by, setting_by};
 use bitflags::Flags;
 use smf_fmri::{InstanceFmri, Items, Ordered, ServiceFmri};
-use smf_state::{Asks, Row, State};
+use smf_state::{Asks, Row, SharedRow, State};
 use smf_value::Group;
 use std::alloc::{AllocError, Global};
 
@@ -233,7 +233,8 @@ impl Planner<'_> {
     {
         let owner = owner_by(self.alloc, self.setting_at_boot(entry, none_has)?)?;
         let mut instance = entry.instance.clone()?;
-        instance.row = booted_row(instance.row, owner);
+        let row = booted_row(instance.row.to_row()?, owner);
+        instance.row = SharedRow::of(self.alloc, row)?;
         Ok(instance)
     }
 

@@ -4,7 +4,7 @@ ghost use Rattle.std.specs.Prelude.{◌≡◌, IfOk};
 use crate::held::Owner;
 use smf_fmri::{InstanceFmri, Items, ServiceFmri, Text};
 use smf_snap::SnapshotName;
-use smf_state::{Proposal, Row, Why};
+use smf_state::{Proposal, SharedRow, Why};
 use smf_value::{GroupFault, Kind, Name};
 use std::alloc::AllocError;
 
@@ -102,7 +102,7 @@ pub enum Reply {
     /// The number of an instance that was added, or of a launch.
     Made(u64),
     /// The row that a proposal led to.
-    Granted(Row),
+    Granted(SharedRow),
     Done,
     NoSuch,
     InUse,
@@ -110,7 +110,7 @@ pub enum Reply {
     Exists,
     Denied(GroupFault),
     Limit,
-    Stale(Why, Option<Row>),
+    Stale(Why, Option<SharedRow>),
 }
 
 #[tactic(auto, using(crate::proofs::Lists::same_items))]

@@ -7,7 +7,7 @@ use smf_fmri::{
     Bytes, ExactClone, HasPart, InstanceFmri, Keyed, Number, Ordered, ServiceFmri, TextKeyed,
 };
 use smf_snap::encode_both;
-use smf_state::Row;
+use smf_state::SharedRow;
 use smf_value::Group;
 use std::alloc::{AllocError, Global};
 use std::marker::Model;
@@ -33,7 +33,7 @@ pub struct Instance {
     /// From 1 to 2^24 - 1, never given again.
     pub number: Number,
     pub name: InstanceFmri,
-    pub row: Row,
+    pub row: SharedRow,
     /// The snapshot by which it last came online.
     pub start: Option<Number>,
     /// The snapshot that the last revert took.

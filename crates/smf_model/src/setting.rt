@@ -10,7 +10,7 @@ ghost use Rattle.smf_model.specs.Setting.{service_fmri, set_by, setting, setting
 use crate::held::{Instance, Owner};
 use crate::planner::Planner;
 use smf_fmri::{Fmri, FmriFault, InstanceFmri, Number};
-use smf_state::{Row, startd};
+use smf_state::{SharedRow, startd};
 use smf_value::{Group, Property, Value};
 use std::alloc::{AllocError, Global};
 
@@ -160,20 +160,29 @@ pub(crate) fn owner_by(alloc: Global, setting: Setting) -> Result<InstanceFmri, 
     }
 }
 
+/// A row with another owner.
+fn owned_by(alloc: Global, row: &SharedRow, owner: InstanceFmri) -> Result<SharedRow, AllocError>
+    ensures { IfOk result (λ r. r ≡ record row.now { owner = owner }) }
+{
+    let mut row = row.to_row()?;
+    row.owner = owner;
+    SharedRow::of(alloc, row)
+}
+
 /// The row of an instance as it is read: while its number is 0 its owner is what a setting says.
 pub(crate) fn row_by(
     alloc: Global,
     instance: &Instance,
     setting: Setting,
-) -> Result<Row, AllocError>
+) -> Result<SharedRow, AllocError>
     ensures { IfOk result (λ row.
         row ≡ (owned_by_setting (instance.now.row.number == 0) setting instance.now).row) }
 {
-    let mut row = instance.row.clone()?;
-    if row.number == 0 {
-        row.owner = owner_by(alloc, setting)?;
+    if instance.row.number != 0 {
+        return instance.row.clone();
     }
-    Ok(row)
+    let owner = owner_by(alloc, setting)?;
+    owned_by(alloc, &instance.row, owner)
 }
 
 impl Planner<'_> {
@@ -241,9 +250,11 @@ impl Planner<'_> {
     fn current(&self, mut instance: Instance) -> Result<Instance, AllocError>
         ensures { IfOk result (λ i. i ≡ current (groups_of self.now) instance) }
     {
-        if instance.row.number == 0 {
-            instance.row.owner = self.owner_set(&instance)?;
+        if instance.row.number != 0 {
+            return Ok(instance);
         }
+        let owner = self.owner_set(&instance)?;
+        instance.row = owned_by(self.alloc, &instance.row, owner)?;
         Ok(instance)
     }
 

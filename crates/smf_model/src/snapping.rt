@@ -16,7 +16,7 @@ use crate::setting::{Setting, owner_by, service_owner};
 use bitflags::Flags;
 use smf_fmri::{InstanceFmri, Items, Number, Ordered};
 use smf_snap::take;
-use smf_state::{Asks, Row, State};
+use smf_state::{Asks, Row, SharedRow, State};
 use smf_value::Group;
 use std::alloc::{AllocError, Global};
 
@@ -186,7 +186,7 @@ impl Planner<'_> {
         ensures { IfOk result (λ r. r ≡ with_row_and_snapshot self.now instance.now row) }
     {
         let mut after = instance.clone()?;
-        after.row = row;
+        after.row = SharedRow::of(self.alloc, row)?;
         let changes = with_change(Items::new(self.alloc), Change::PutInstance(after))?;
         self.with_snapshot(instance, changes, Reply::Done)
     }
@@ -202,7 +202,7 @@ impl Planner<'_> {
             return self.refused(Reply::Limit);
         }
         let running = self.tables.next_snapshot().get();
-        let row = moved_row(instance.row.clone()?, running, owner);
+        let row = moved_row(instance.row.to_row()?, running, owner);
         self.with_row_and_snapshot(instance, row)
     }
 
@@ -215,7 +215,7 @@ impl Planner<'_> {
                 let runs = instance.row.state.runs();
                 let revision = self.tables.revision().get() + 1;
                 let row = refreshed_row(
-                    instance.row.clone()?,
+                    instance.row.to_row()?,
                     self.tables.next_snapshot().get(),
                     revision,
                     runs,

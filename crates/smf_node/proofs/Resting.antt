@@ -6,31 +6,22 @@ use Rattle.smf_fmri.specs.ByKey.{has_key, lookup}
 use Rattle.smf_contract.proofs.EmptiedBy.{nothing_empties}
 use Rattle.smf_contract.specs.Called.{called}
 use Rattle.smf_model.specs.Look.{installed}
-use Rattle.smf_restarter.specs.Changes.{changed, nothing, unchanged}
+use Rattle.smf_restarter.specs.Changes.{nothing, unchanged}
 use Rattle.smf_restarter.specs.declared.known.KnownInstance.{KnownInstance}
 use Rattle.smf_restarter.specs.declared.known.Stage.{Stage}
 use Rattle.smf_restarter.specs.declared.known.Stage.TheVariants.{Joining, Listing, Up}
 use Rattle.smf_restarter.specs.Knowledge.{Knowledge, by_instance}
 use Rattle.smf_restarter.specs.Ticks.{at_rest, is_up, rests, ticked, ticked_in, ticked_known, ticked_up}
+use Rattle.smf_machine.proofs.Beginning.{none_turned}
 use Rattle.smf_restarter.proofs.Resting.{rested}
 use Rattle.smf_restarter.specs.declared.reply.Reply.{Reply}
 use Rattle.smf_world.specs.declared.event.SpawnAnswer.TheVariants as spawns
 use Rattle.smf_world.specs.declared.schedule.Deed.TheVariants as deeds
 use Rattle.smf_world.specs.declared.item.Item.TheVariants.{Emptied}
-use Rattle.smf_world.specs.declared.work.Becomes.TheVariants as becomes
-use Rattle.smf_world.specs.Happens.{becoming, done, happens}
+use Rattle.smf_world.specs.Happens.{done, happens}
 use Rattle.smf_world.specs.Schedule.{Progress, asks_spawn, is_spawn, refuses, tick_by, tick_one, went}
-use Rattle.smf_world.specs.Worked.{acted, answer_of, call_of, is_named, knows, no_work, restarter, ticked_for, worked}
+use Rattle.smf_world.specs.Worked.{acted, answer_of, call_of, knows, no_work, restarter, ticked_for, worked}
 use Rattle.smf_world.specs.World.{World}
-
-none_turned : (name : List ℕ) (ks : List Knowledge) → becoming (becomes.Knows name unchanged) ks ≡ ks
-unfolding changed
-none_turned name [] = refl
-none_turned name (k ∷ ks) = ap (λ (x : Knowledge). x ∷ becoming (becomes.Knows name unchanged) ks) (by (is_named name k)) ∙ ap (λ (xs : List Knowledge). k ∷ xs) (none_turned name ks)
-  where
-    by : (b : Bool) → (if b then changed k unchanged else k) ≡ k
-    by true = refl
-    by false = refl
 
 nothing_done : (w : World) → done w no_work ≡ w
 unfolding done called installed

@@ -29,7 +29,7 @@ fn one(alloc: Global, deed: Deed) -> Result<Vec<Deed>, AllocError>
 fn deliveries(alloc: Global, count: usize) -> Result<Vec<Deed>, AllocError>
     ensures { IfOk result (λ ds. ds.items ≡ replicate count deeds.DeliverNext) }
 {
-    let mut all = Vec::new(alloc);
+    let mut all = Vec::with_capacity(alloc, count)?;
     for _ in 0..count {
         all.push(Deed::DeliverNext)?;
     }

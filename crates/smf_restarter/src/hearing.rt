@@ -11,7 +11,7 @@ use crate::reply::Reply;
 use crate::restarter::Restarter;
 use crate::running::known_run;
 use smf_fmri::Items;
-use smf_state::{Proposal, Row, Step, Why};
+use smf_state::{Proposal, SharedRow, Step, Why};
 use smf_wire::{Known, Message, Order};
 use std::alloc::{AllocError, Global};
 
@@ -153,7 +153,7 @@ fn phase_after(after: &After) -> Result<Phase, AllocError>
 }
 
 /// The row of an instance, as it is taken.
-fn taken_row(known: &KnownInstance, row: &Row) -> Result<Known, AllocError>
+fn taken_row(known: &KnownInstance, row: &SharedRow) -> Result<Known, AllocError>
     ensures { IfOk result (λ x. x ≡ taken_row known.now row.now) }
 {
     let name = known.name.clone()?;
@@ -169,7 +169,7 @@ fn taken_row(known: &KnownInstance, row: &Row) -> Result<Known, AllocError>
 fn taking_row(
     alloc: Global,
     known: &KnownInstance,
-    row: &Row,
+    row: &SharedRow,
     phase: Phase,
     run: Option<KnownRun>,
 ) -> Result<Reply, AllocError>
@@ -208,7 +208,7 @@ fn acked_in(
     known: &KnownInstance,
     launch: u64,
     serial: u64,
-    row: &Row,
+    row: &SharedRow,
     phase: &Phase,
 ) -> Result<Reply, AllocError>
     ensures { IfOk result (λ r. r ≡ acked_by restarter.now.known row.now known.now (awaited launch serial phase.now)) }
@@ -229,7 +229,7 @@ fn acked(
     restarter: &Restarter,
     launch: u64,
     serial: u64,
-    row: &Row,
+    row: &SharedRow,
     known: Option<&KnownInstance>,
 ) -> Result<Reply, AllocError>
     ensures { IfOk result (λ r. r ≡ acked restarter.now.known launch serial row.now (option_copied known.entry)) }
@@ -245,7 +245,7 @@ fn refused_by(
     alloc: Global,
     known: &KnownInstance,
     why: Why,
-    row: &Option<Row>,
+    row: &Option<SharedRow>,
 ) -> Result<Reply, AllocError>
     ensures { IfOk result (λ r. r ≡ refused_by known.now why row.now) }
 {
@@ -265,7 +265,7 @@ fn nacked_in(
     launch: u64,
     serial: u64,
     why: Why,
-    row: &Option<Row>,
+    row: &Option<SharedRow>,
     phase: &Phase,
 ) -> Result<Reply, AllocError>
     ensures { IfOk result (λ r. r ≡ nacked_by why row.now known.now (awaited launch serial phase.now)) }
@@ -285,7 +285,7 @@ fn nacked(
     launch: u64,
     serial: u64,
     why: Why,
-    row: &Option<Row>,
+    row: &Option<SharedRow>,
     known: Option<&KnownInstance>,
 ) -> Result<Reply, AllocError>
     ensures { IfOk result (λ r. r ≡ nacked launch serial why row.now (option_copied known.entry)) }

@@ -3,7 +3,7 @@ ghost use Rattle.std.specs.Prelude.{◌≡◌, refl};
 use smf_contract::Method;
 use smf_fmri::{HasPart, InstanceFmri, Keyed, Number};
 use smf_method::MethodCall;
-use smf_state::{Cause, Proposal, Row, State};
+use smf_state::{Cause, Proposal, SharedRow, State};
 use std::alloc::AllocError;
 
 /// How far a restarter has come since its launch.
@@ -78,7 +78,7 @@ pub enum Phase {
 pub struct KnownInstance {
     pub instance: u64,
     pub name: InstanceFmri,
-    pub row: Row,
+    pub row: SharedRow,
     pub phase: Phase,
 }
 

@@ -11,14 +11,14 @@ use crate::restarter::Restarter;
 use smf_contract::Method;
 use smf_fmri::Items;
 use smf_method::MethodCall;
-use smf_state::{Cause, Duration, Ignore, MAX_RUN, Proposal, Row, State, Step};
+use smf_state::{Cause, Duration, Ignore, MAX_RUN, Proposal, SharedRow, State, Step};
 use smf_wire::{Known, Message, Order, What};
 use std::alloc::{AllocError, Global};
 
 /// The same instance with another row and in another phase.
 pub(crate) fn with(
     known: &KnownInstance,
-    row: &Row,
+    row: &SharedRow,
     phase: Phase,
 ) -> Result<KnownInstance, AllocError>
     ensures { IfOk result (λ i. i ≡ record known.now { row = row.now; phase = phase }) }

@@ -229,7 +229,10 @@ fn timeout_in<J: Journal>(
     ensures err { IfErr result (λ e. DeedFails J.write_fails node.old (timeout_in node.old instance) node.new e) }
 {
     match instance {
-        Some(Instance { number, row, .. }) => timeout_of(node, number.get(), row.owner, out),
+        Some(instance) => {
+            let owner = instance.row.owner.clone()?;
+            timeout_of(node, instance.number.get(), owner, out)
+        }
         None => refuse(out, "smf: no such restarter\n"),
     }
 }

@@ -1,6 +1,7 @@
 //! States of instances, their rows, the steps that change them, and the texts of both.
-//! Modules: `state`, `flags` (asks, failures left out), `step`, `refusal` (why a step is not granted), `row`, `fields`
-//! (readers of a line), `text`, `view` (what svc.startd's graph sees), `own_name` (that of svc.startd's restarter), `fault`.
+//! Modules: `state`, `flags` (asks, failures left out), `step`, `refusal` (why a step is not granted), `row`,
+//! `shared_row` (a row that its copies share), `fields` (readers of a line), `text`, `view` (what svc.startd's graph sees),
+//! `own_name` (that of svc.startd's restarter), `fault`.
 #![tactic(auto)]
 
 mod fault;
@@ -9,6 +10,7 @@ mod flags;
 mod own_name;
 mod refusal;
 mod row;
+mod shared_row;
 mod state;
 mod step;
 mod text;
@@ -23,6 +25,7 @@ pub use flags::{Asks, Failures, Ignore};
 pub use own_name::{is_startd, startd};
 pub use refusal::Why;
 pub use row::{MAX_NUMBER, MAX_RUN, Row, steps_go_along_the_diagram};
+pub use shared_row::SharedRow;
 pub use state::{Cause, Duration, State, edge};
 pub use step::{Proposal, Step, Verb};
 pub use text::{row_at, step_at};

@@ -1,6 +1,6 @@
 ghost use Rattle.std.specs.Prelude.{◌≡◌, IfOk};
 
-use crate::row::Row;
+use crate::shared_row::SharedRow;
 use smf_fmri::{Bytes, InstanceFmri, Number, Shared};
 use std::alloc::AllocError;
 
@@ -12,7 +12,7 @@ pub struct ViewItem {
     pub enabled: bool,
     /// Whether the instance's restarter property could be read.
     pub readable: bool,
-    pub row: Row,
+    pub row: SharedRow,
     /// The body of the running snapshot, where there is one.
     pub body: Option<Bytes>,
 }

@@ -26,7 +26,7 @@ use smf_model::{
     StoredSnapshot, Tables,
 };
 use smf_snap::decode_snapshot;
-use smf_state::{MAX_NUMBER, MAX_RUN, Row as StateRow, RowFault};
+use smf_state::{MAX_NUMBER, MAX_RUN, Row as StateRow, RowFault, SharedRow};
 use smf_value::{BodyFault, Group, decode};
 use sqlite::Row;
 use std::alloc::{AllocError, Global};
@@ -238,7 +238,7 @@ fn instance_said(alloc: Global, row: &Row) -> Result<Option<Instance>, AllocErro
     Ok(Some(Instance {
         number,
         name,
-        row: read,
+        row: SharedRow::of(alloc, read)?,
         start,
         previous,
     }))

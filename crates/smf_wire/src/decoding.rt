@@ -4,6 +4,7 @@ ghost use Rattle.std.specs.Prelude.{◌≡◌, ◌≤◌, IfOk, None, Ok};
 ghost use Rattle.smf_method.specs.Commands.{command_of};
 ghost use Rattle.smf_snap.specs.Body.{decoded_snapshot};
 ghost use Rattle.smf_state.specs.Fields.{GivesAt, IsRead, left_of, read_optional, seen, taken};
+ghost use Rattle.smf_state.specs.Texts.{row_at};
 ghost use Rattle.smf_wire.specs.Grammar.{GivesMessage, GivesWhole, IsClosed, all_known_at, close_at, is_above, item_at, items_at, known_at, last_item, last_known, message_at, message_behind, method_at, method_behind, method_of, optional_method_at, order_at, proposal_at, read_above, read_body, read_command, read_line, read_revision, read_seconds, row_if, view_at, what_at, what_behind, whole_message};
 ghost use Rattle.smf_wire.specs.Lines.{HasLine, IsSpelled, has_row, is_body, is_ok, line_text};
 ghost use Rattle.smf_wire.specs.Words.{read_message_word, read_order_word, read_why};
@@ -20,8 +21,9 @@ use smf_fmri::{Bytes, Items, Number, Shared, read_count};
 use smf_method::{Command, MethodCall, Timeout};
 use smf_snap::decode_snapshot;
 use smf_state::{
-    FieldFault, Ignore, Proposal, Row, View, ViewItem, Why, WrongField, cause_at, duration_at,
-    field_at, flag_at, ignore_at, left_of, name_at, number_at, row_at, state_at, step_at,
+    FieldFault, Ignore, Proposal, SharedRow, View, ViewItem, Why, WrongField, cause_at,
+    duration_at, field_at, flag_at, ignore_at, left_of, name_at, number_at, row_at, state_at,
+    step_at,
 };
 use smf_value::BodyFault;
 use std::alloc::{AllocError, Global};
@@ -344,6 +346,14 @@ fn what_at(alloc: Global, rest: Option<&str>) -> Result<(What, Option<&str>), Fi
     what_behind(alloc, word, rest)
 }
 
+fn shared_row_at(alloc: Global, rest: Option<&str>) -> Result<(SharedRow, Option<&str>), FieldFault>
+    ensures { GivesAt result (row_at (seen rest.entry)) }
+{
+    let (row, rest) = row_at(alloc, rest)?;
+    let row = SharedRow::of(alloc, row)?;
+    Ok((row, rest))
+}
+
 #[tactic(auto, unfolding(crate::specs::Grammar::known_at))]
 fn known_at(
     alloc: Global,
@@ -354,7 +364,7 @@ fn known_at(
 {
     let (instance, rest) = above_at(before, rest)?;
     let (name, rest) = name_at(alloc, rest)?;
-    let (row, rest) = row_at(alloc, rest)?;
+    let (row, rest) = shared_row_at(alloc, rest)?;
     let known = Known {
         instance,
         name,
@@ -399,7 +409,7 @@ fn item_at(
     let (name, rest) = name_at(alloc, rest)?;
     let (enabled, rest) = flag_at(rest)?;
     let (readable, rest) = flag_at(rest)?;
-    let (row, rest) = row_at(alloc, rest)?;
+    let (row, rest) = shared_row_at(alloc, rest)?;
     let (body, rest) = optional_body_at(alloc, rest)?;
     let item = ViewItem {
         instance,
@@ -469,7 +479,7 @@ fn order_at(alloc: Global, rest: Option<&str>) -> Result<(Order, Option<&str>), 
     let (instance, rest) = number_at(rest)?;
     let (name, rest) = name_at(alloc, rest)?;
     let (revision, rest) = number_at(rest)?;
-    let (row, rest) = row_at(alloc, rest)?;
+    let (row, rest) = shared_row_at(alloc, rest)?;
     let (what, rest) = what_at(alloc, rest)?;
     let order = Order {
         restarter,
@@ -512,13 +522,13 @@ fn row_if(
     alloc: Global,
     is_there: bool,
     rest: Option<&str>,
-) -> Result<(Option<Row>, Option<&str>), FieldFault>
+) -> Result<(Option<SharedRow>, Option<&str>), FieldFault>
     ensures { GivesAt result (row_if is_there (seen rest.entry)) }
 {
     if !is_there {
         return Ok((None, rest));
     }
-    let (row, rest) = row_at(alloc, rest)?;
+    let (row, rest) = shared_row_at(alloc, rest)?;
     Ok((Some(row), rest))
 }
 
@@ -550,7 +560,7 @@ fn ack_behind(alloc: Global, rest: Option<&str>) -> Result<(Message, Option<&str
     let (launch, rest) = number_at(rest)?;
     let (serial, rest) = number_at(rest)?;
     let (instance, rest) = number_at(rest)?;
-    let (row, rest) = row_at(alloc, rest)?;
+    let (row, rest) = shared_row_at(alloc, rest)?;
     let message = Message::Ack {
         name,
         launch,

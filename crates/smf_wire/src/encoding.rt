@@ -20,7 +20,7 @@ use crate::order::{Order, What};
 use crate::word::why_text;
 use smf_fmri::{Bytes, InstanceFmri, Items, Text};
 use smf_method::{MethodCall, Timeout};
-use smf_state::{Cause, Duration, Ignore, Proposal, Row, State, View, ViewItem, Why};
+use smf_state::{Cause, Duration, Ignore, Proposal, Row, SharedRow, State, View, ViewItem, Why};
 use std::alloc::{AllocError, Global};
 use std::fmt::Write;
 
@@ -253,7 +253,7 @@ fn put_ack(
     row.print_onto(out)
 }
 
-fn put_row(out: &mut String, row: &Option<Row>) -> Result<(), AllocError>
+fn put_row(out: &mut String, row: &Option<SharedRow>) -> Result<(), AllocError>
     ensures text { OnOk result (string_bytes out.new ≡ string_bytes out.old ++ each_behind row_text (option_to_list row.now)) }
     ensures known { OnOk result (IfSome row.now IsRow) }
 {
@@ -273,7 +273,7 @@ fn put_nack(
     serial: u64,
     instance: u64,
     why: Why,
-    row: &Option<Row>,
+    row: &Option<SharedRow>,
 ) -> Result<(), AllocError>
     ensures text { OnOk result (string_bytes out.new ≡ string_bytes out.old ++ message_text (messages.Nack name.now launch serial instance why row.now)) }
     ensures known { OnOk result (IsMessage (messages.Nack name.now launch serial instance why row.now)) }

@@ -2,7 +2,7 @@ ghost use Rattle.std.specs.Prelude.{◌≡◌, IfOk};
 
 use crate::order::Order;
 use smf_fmri::{InstanceFmri, Items};
-use smf_state::{Proposal, Row, View, Why};
+use smf_state::{Proposal, SharedRow, View, Why};
 use std::alloc::AllocError;
 
 /// An instance as a restarter knows it.
@@ -10,7 +10,7 @@ use std::alloc::AllocError;
 pub struct Known {
     pub instance: u64,
     pub name: InstanceFmri,
-    pub row: Row,
+    pub row: SharedRow,
 }
 
 /// What the actors send to one another. Launches and serials are those of the restarter that is named.
@@ -35,7 +35,7 @@ pub enum Message {
         launch: u64,
         serial: u64,
         instance: u64,
-        row: Row,
+        row: SharedRow,
     },
     /// A proposal was refused: why, and the row as it is, where the instance is there.
     Nack {
@@ -44,7 +44,7 @@ pub enum Message {
         serial: u64,
         instance: u64,
         why: Why,
-        row: Option<Row>,
+        row: Option<SharedRow>,
     },
     /// The graph asks what the repository holds.
     AskView,
@@ -74,7 +74,7 @@ fn copy_of_rows(rows: &Items<Known>) -> Result<Items<Known>, AllocError>
     rows.clone()
 }
 
-fn copy_of_row(row: &Option<Row>) -> Result<Option<Row>, AllocError>
+fn copy_of_row(row: &Option<SharedRow>) -> Result<Option<SharedRow>, AllocError>
     ensures { IfOk result (λ copy. copy ≡ row.now) }
 {
     match row {

@@ -2,7 +2,7 @@ ghost use Rattle.std.specs.Prelude.{◌≡◌, IfOk};
 
 use smf_fmri::InstanceFmri;
 use smf_method::MethodCall;
-use smf_state::{Cause, Duration, Ignore, Row, State};
+use smf_state::{Cause, Duration, Ignore, SharedRow, State};
 use std::alloc::AllocError;
 
 /// What is to be done with an instance.
@@ -35,7 +35,7 @@ pub struct Order {
     /// The revision that the order was decided on.
     pub revision: u64,
     /// The row at that revision.
-    pub row: Row,
+    pub row: SharedRow,
     pub what: What,
 }
 
