@@ -1,5 +1,5 @@
 -- What the CREATEs make, and the counters.
-use Rattle.std.proofs.Common.{◌≡◌, ◌⊎◌, inl, inr, ℕ, pos, List, [], codes, Some, None, Ok, refl, sym, ap, subst, ◌∙◌, false}
+use Rattle.std.proofs.Common.{◌≡◌, ◌⊎◌, inl, inr, ℕ, pos, List, [], codes, Some, None, Ok, refl, sym, ap, ap₂, subst, ◌∙◌, false}
 use Rattle.sqlite.specs.Order.{Row}
 use Rattle.sqlite.specs.Table.{Table}
 use Rattle.sqlite.specs.Schema.{Schema}
@@ -22,7 +22,8 @@ use Rattle.smf_tables.proofs.Creates as texts
 use Rattle.smf_model.specs.Look.{empty}
 use Rattle.smf_model.proofs.LawNumbers.{first_numbers}
 use Rattle.smf_store.specs.Creating.{AreBare, Creates, Counts, Made, MayMake}
-use Rattle.smf_store.specs.Holds.{Listed, Stands}
+use Rattle.smf_model.specs.Holdings.{Holdings}
+use Rattle.smf_store.specs.Holds.{Listed, Stands, StandsIn}
 use Rattle.smf_store.specs.Shown.{Counter, Version, Layout, Revision, NextInstance, NextSnapshot, Count, count_of, HasCount, HasGroup, of_service, of_instance, OwnedGroup}
 use Rattle.smf_store.proofs.Makes.{shows_then}
 use Rattle.smf_store.proofs.Six.{Six, Presents, holds}
@@ -204,5 +205,14 @@ made_store old begun mid last end now one two s = record {
   keeps = λ has. record { stands = subst (λ d. Stands d empty) (sym s.now_is) (stands_made begun mid last one two (ap (λ (d : Database). d.schema) now ∙ has)); settled = s.committed_is ∙ sym s.now_is };
 }
 
-pub may_make : (old begun mid last : State) (db : Trees) → begun.now ≡ old.now → Creates no_schema store_schema begun mid → Counts mid last → db ≡ last.now.trees → MayMake old db
-may_make old begun mid last db now one two is = (last.now, (λ has. stands_made begun mid last one two (ap (λ (d : Database). d.schema) now ∙ has)), is)
+-- a store is told by its trees
+pub stands_in : (db : Database) (trees : Trees) (h : Holdings) → Stands db h → trees ≡ db.trees → StandsIn trees h
+stands_in db trees h st is =
+    let same : ◌≡◌ {A = Database} db (record { schema = store_schema; trees = trees }) = ap₂ (λ a b. record { schema = a; trees = b }) st.holds.schema (sym is) in
+    subst (λ d. Stands d h) same st
+
+pub may_make : (old begun mid last : State) (db : Trees) → old.now.schema ≡ no_schema → begun.now ≡ old.now → Creates no_schema store_schema begun mid → Counts mid last → db ≡ last.now.trees → MayMake old db
+may_make old begun mid last db has now one two is = record {
+  was_empty = has;
+  stands = stands_in last.now db empty (stands_made begun mid last one two (ap (λ (d : Database). d.schema) now ∙ has)) is;
+}

@@ -1,14 +1,12 @@
 -- What each row more makes of the value that the rows show.
-use Rattle.std.proofs.Common.{◌≡◌, ◌<◌, ◌≤◌, ◌⊎◌, inl, inr, ℕ, pos, List, [], ◌∷◌, ◌++◌, Option, Some, None, option_map, refl, sym, ap, subst, ◌∙◌, arith}
+use Rattle.std.proofs.Common.{◌≡◌, ◌<◌, ◌≤◌, ◌⊎◌, inl, inr, ℕ, List, [], ◌∷◌, ◌++◌, Option, Some, None, option_map, refl, sym, ap, subst, ◌∙◌, arith}
 use Rattle.sqlite.specs.declared.types.Value.TheVariants.{Text}
 use Rattle.sqlite.specs.Order.{Row, column}
-use Rattle.sqlite_rules.specs.Lists.{Has}
 use Rattle.sqlite_rules.proofs.ListLemmas.{has_left, has_right, has_either}
-use Rattle.smf_fmri.specs.ByKey.{Rises, amend, lookup, put}
+use Rattle.smf_fmri.specs.ByKey.{Rises, lookup, put}
 use Rattle.smf_fmri.specs.Matching.{service_of}
 use Rattle.smf_fmri.specs.Name.{short}
 use Rattle.smf_fmri.proofs.Rising.{rises_put}
-use Rattle.smf_fmri.proofs.SameLists.{found_key}
 use Rattle.smf_value.specs.Groups.{GroupRecord, by_group}
 use Rattle.smf_model.specs.declared.change.Change.TheVariants.{AddService, AddInstance, PutName, PutGroups, AddSnapshot, PutLaunch}
 use Rattle.smf_model.specs.declared.held.Instance.{Instance}
@@ -20,10 +18,10 @@ use Rattle.smf_model.specs.declared.held.Service.{Service}
 use Rattle.smf_model.specs.declared.held.Snapshot.{Snapshot}
 use Rattle.smf_model.specs.Dates.{EventKind, revision_of}
 use Rattle.smf_model.specs.Holdings.{Holdings}
-use Rattle.smf_model.specs.Laws.{IsIndexed, IsNumbered}
+use Rattle.smf_model.specs.Laws.{IsIndexed}
 use Rattle.smf_model.specs.Look.{bare, by_entry, by_instance, by_launch, by_name, by_service, by_snapshot, changed, group_in, instance, instance_at, named, service, snapshot}
 use Rattle.smf_model.proofs.Entries.{bare_groups, bare_put, lookup_bare}
-use Rattle.smf_store.specs.Shown.{HasGroup, of_service, of_instance, HasInstance, HasLaunch, HasService, HasSnapshot, OwnedGroup, ShowsGroup, ShowsInstance, ShowsLaunch, ShowsSnapshot}
+use Rattle.smf_store.specs.Shown.{HasGroup, of_service, of_instance, HasInstance, HasLaunch, HasService, OwnedGroup, ShowsGroup, ShowsInstance, ShowsLaunch, ShowsSnapshot}
 use Rattle.smf_store.specs.Steps.{owned_by}
 use Rattle.smf_store.specs.Gathered.{Matches, Rows, AreRead}
 use Rattle.smf_store.proofs.Found.{found_has, has_found}

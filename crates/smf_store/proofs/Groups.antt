@@ -15,10 +15,10 @@ use Rattle.smf_model.specs.declared.held.Owner.{Owner}
 use Rattle.smf_model.specs.declared.held.Owner.TheVariants as owners
 use Rattle.smf_model.specs.declared.held.Service.{Service}
 use Rattle.smf_model.specs.Holdings.{Holdings}
-use Rattle.smf_model.specs.Look.{bare, by_entry, by_instance, changed, group_in, service}
+use Rattle.smf_model.specs.Look.{by_entry, changed, group_in, service}
 use Rattle.smf_model.proofs.Entries.{lookup_bare}
 use Rattle.smf_store.specs.Cells.{IsOfService, IsOwnerUnder, PutsGroup, ShowsBody}
-use Rattle.smf_store.specs.Gathered.{Rows, AreRead, AddsGroupOf}
+use Rattle.smf_store.specs.Gathered.{AreRead, AddsGroupOf}
 use Rattle.smf_store.specs.Shown.{ShowsGroup}
 use Rattle.smf_store.specs.Steps.{owned_by}
 use Rattle.smf_store.proofs.Gathers.{reads_service_group, reads_instance_group}

@@ -1,5 +1,5 @@
 -- The keys of counters, and the counters of a store.
-use Rattle.std.proofs.Common.{◌≡◌, ◌≤◌, ◌⊎◌, inl, inr, ℕ, ℤ, List, [], ◌∷◌, ◌||◌, ◌&&◌, nat_eq, Bool, true, false, Option, Some, None, IsTrue, refl, sym, ap, ◌∙◌, arith, codes}
+use Rattle.std.proofs.Common.{◌≡◌, ◌≤◌, ◌⊎◌, inl, inr, ℕ, ℤ, List, [], ◌∷◌, ◌||◌, ◌&&◌, nat_eq, Bool, true, false, Option, Some, None, refl, ap, ◌∙◌, arith, codes}
 use Rattle.std.specs.Prelude.{nat_le, IfSome}
 use Rattle.std.proofs.lemmas.Bool.Decides.{nat_tests}
 use Rattle.std.specs.Cmp.Lexicographic.{pointwise}
@@ -11,7 +11,6 @@ use Rattle.sqlite.specs.declared.types.Value.TheVariants.{Null, Int, Real, Text,
 use Rattle.sqlite.specs.Order.{Row, column}
 use Rattle.sqlite_rules.specs.Lists.{Has}
 use Rattle.smf_value.proofs.Decimals.{same_text}
-use Rattle.smf_store.specs.declared.counting.Counters.{Counters}
 use Rattle.smf_store.specs.declared.counting.StoreVersion.{StoreVersion}
 use Rattle.smf_store.specs.declared.counting.StoreVersion.TheVariants as versions
 use Rattle.smf_store.specs.Counting.{Finds, IsCounterOf, IsKnown, SoFar}

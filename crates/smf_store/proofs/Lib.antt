@@ -19,3 +19,4 @@ pub mod Verdicts
 pub mod Counts
 pub mod Stands
 pub mod Before
+pub mod Crashes

@@ -2,7 +2,6 @@
 use Rattle.std.proofs.Common.{◌≡◌, ◌<◌, ◌⊎◌, inl, inr, ℕ, pos, List, [], ◌∷◌, ◌++◌, not, cond, Bool, true, false, Option, Some, None, refl, sym, ap, ap₂, subst, ◌∙◌, codes, arith}
 use Rattle.std.specs.Prelude.{◌==◌, string_bytes}
 use Rattle.std.proofs.lemmas.Map.Entries.{option_filter}
-use Rattle.sqlite.specs.Order.{Row, column}
 use Rattle.sqlite.specs.declared.types.Value.{Value}
 use Rattle.sqlite.specs.declared.types.Value.TheVariants.{Int, Text}
 use Rattle.sqlite.specs.Effect.{Database}

@@ -22,14 +22,15 @@ use Rattle.smf_store.specs.declared.counting.StoreVersion.{StoreVersion}
 use Rattle.smf_store.specs.declared.counting.StoreVersion.TheVariants as versions
 use Rattle.smf_store.specs.declared.judging.StoreRows.{StoreRows}
 use Rattle.smf_store.specs.Creating.{MayMake}
-use Rattle.smf_store.specs.Opens.{MayOpen}
+use Rattle.smf_store.specs.Opens.{MayFailToOpen, MayOpen, of_empty, of_second, of_first}
 use Rattle.smf_store.specs.Gathered.{Matches, AreRead, rows_of}
 use Rattle.smf_store.specs.Holds.{Listed, Stands, StandsFirst}
 use Rattle.smf_store.specs.declared.refusal.OpenFault.{OpenFault}
 use Rattle.smf_store.specs.declared.refusal.OpenFault.TheVariants.{Memory, Database as Failed, Version as OtherVersion, Damaged, TooManyInstances}
 use Rattle.smf_store.specs.Judged.{IsJudged, judged}
 use Rattle.smf_store.specs.Shown.{Counter, Version, Layout, Revision, NextInstance, NextSnapshot, Count, count_of, counter_text, first_count_of, HasCount, HasCountIn, ShowsCount, ShowsInstance, OwnedGroup, ShowsGroup, ShowsSnapshot, ShowsLaunch}
-use Rattle.smf_store.specs.Stages.{AreAllKeyed, AreListed, IsFailure, IsRaised, IsSaid, Lists, MayRead, Opened, Raises, RaisesFrom, Reads, Says, raised, stayed}
+use Rattle.smf_store.specs.Stages.{AreAllKeyed, AreListed, IsFailure, IsRaised, IsSaid, Lists, MayFailToRead, MayRead, Opened, Raises, RaisesFrom, Reads, Says, raised, stayed}
+use Rattle.smf_store.proofs.Begins.{stands_in}
 use Rattle.smf_store.proofs.Makes.{shows_then}
 use Rattle.smf_store.proofs.Six.{Six, Presents, holds, six_of}
 use Rattle.smf_store.proofs.Statements as step
@@ -266,7 +267,30 @@ module _ (old begun last : State) (h : Holdings) (now : begun.now ≡ old.now) (
   may_read db is = (last.now, h, was_raised, is)
 
 pub leaves_made : (a b : State) → Survives a b (MayMake a) → Survives a b (MayOpen a)
-leaves_made a b s = survives_weaker a b (MayMake a) (MayOpen a) (λ clean db made. inl made) s
+leaves_made a b s = survives_weaker a b (MayMake a) (MayOpen a) (λ clean db it. of_empty it.was_empty it.stands) s
+
+may_open : (a : State) (db : Database) (trees : Trees) (h : Holdings) → IsRaised a.now db h → trees ≡ db.trees → MayOpen a trees
+may_open a db trees h (stayed stands same) is = of_second h stands (is ∙ ap (λ (d : Database). d.trees) same)
+may_open a db trees h (raised before stands) is = of_first h before (stands_in db trees h stands is)
+
+-- where the database is not opened
+pub leaves_failing : (e : OpenFault) (a b : State) → Survives a b (MayFailToRead e a) → Survives a b (MayFailToOpen e a)
+leaves_failing e a b s =
+    survives_weaker a b (MayFailToRead e a) (MayFailToOpen e a) (λ clean db it. (it.0, may_open a it.1.0 db it.1.1 it.1.2 it.1.3)) s
+
+pub leaves_failed_make : (e : OpenFault) (a b : State) → IsFailure e → Survives a b (MayMake a) → Survives a b (MayFailToOpen e a)
+leaves_failed_make e a b fails s =
+    survives_weaker a b (MayMake a) (MayFailToOpen e a) (λ clean db it. (fails, of_empty it.was_empty it.stands)) s
+
+-- where a failure ended the reading
+pub failed_leaves : {X : Type 0} (r : Result X OpenFault) (a b : State) → IsErrAnd r IsFailure → Survives a b (MayRead a) → IfErr r (λ e. Survives a b (MayFailToRead e a))
+failed_leaves (Ok x) a b p s = tt
+failed_leaves (Err e) a b p s = survives_weaker a b (MayRead a) (MayFailToRead e a) (λ clean db it. (p, it)) s
+
+-- where nothing was left
+pub nothing_left : {X : Type 0} (r : Result X OpenFault) (a b : State) → Survives a b (λ _. ⊥) → IfErr r (λ e. Survives a b (MayFailToRead e a))
+nothing_left (Ok x) a b s = tt
+nothing_left (Err e) a b s = survives_weaker a b (λ _. ⊥) (MayFailToRead e a) (λ clean db none. absurd none) s
 
 pub leaves_read : (a b : State) → Survives a b (MayRead a) → Survives a b (MayOpen a)
-leaves_read a b s = survives_weaker a b (MayRead a) (MayOpen a) (λ clean db read. inr read) s
+leaves_read a b s = survives_weaker a b (MayRead a) (MayOpen a) (λ clean db it. may_open a it.0 db it.1 it.2 it.3) s

@@ -7,7 +7,7 @@ use Rattle.sqlite.specs.State.{State, Shows}
 use Rattle.sqlite.specs.Tree.{Trees}
 use Rattle.smf_tables.specs.Schema.{no_schema, store_schema}
 use Rattle.smf_model.specs.Look.{empty}
-use Rattle.smf_store.specs.Holds.{Keeps, Stands}
+use Rattle.smf_store.specs.Holds.{Keeps, Stands, StandsIn}
 
 -- these tables are there, and hold no rows
 pub record AreBare (schema : Schema) (db : Database) : Type 0 where
@@ -29,6 +29,7 @@ pub record Made (old new : State) : Type 0 where
   pub is_open : IsTrue new.is_open
   pub keeps : old.now.schema ≡ no_schema → Keeps new empty
 
--- what the making of a store may leave in the file
-abbrev pub MayMake : State → Trees → Type 0
-MayMake old trees = (db : Database) × (old.now.schema ≡ no_schema → Stands db empty) × (trees ≡ db.trees)
+-- the making of a store may leave this in the file: a store of the empty value, if the database was empty
+pub record MayMake (old : State) (trees : Trees) : Type 0 where
+  pub was_empty : old.now.schema ≡ no_schema
+  pub stands : StandsIn trees empty

@@ -74,9 +74,13 @@ pub record Keeps (s : State) (h : Holdings) : Type 0 where
   pub stands : Stands s.now h
   pub settled : s.committed ≡ s.now
 
+-- these trees are those of a store of this value
+abbrev pub StandsIn : Trees → Holdings → Type 0
+StandsIn trees h = Stands (record { schema = store_schema; trees = trees }) h
+
 abbrev pub Leaves : Trees → Option Holdings → Type 0
-Leaves trees (Some h) = Stands (record { schema = store_schema; trees = trees }) h
-Leaves trees None = (h : Holdings) → ¬ Stands (record { schema = store_schema; trees = trees }) h
+Leaves trees (Some h) = StandsIn trees h
+Leaves trees None = (h : Holdings) → ¬ StandsIn trees h
 
 -- what an open after a crash now may find: a value, or none
 abbrev pub Could : State → Option Holdings → Type 0

@@ -1,5 +1,5 @@
 -- What the rows of the tables hold, or why it is no store that is opened: its version, or the first table that breaks the rules.
-use Rattle.std.specs.Prelude.{ℕ, ℤ, pos, List, [], ◌∷◌, ◌++◌, ◌≡◌, ◌+◌, ◌==◌, ◌&&◌, ◌||◌, not, nat_eq, nat_le, nat_lt, codes, length, Bool, true, false, Option, Some, None, is_some, is_none, option_map, Result, Ok, Err, if◌then◌else◌}
+use Rattle.std.specs.Prelude.{ℕ, ℤ, pos, List, [], ◌∷◌, ◌++◌, ◌≡◌, ◌+◌, ◌==◌, ◌&&◌, ◌||◌, not, nat_eq, nat_le, nat_lt, codes, length, Bool, true, false, Option, Some, None, is_some, is_none, Result, Ok, Err, if◌then◌else◌}
 use Rattle.std.specs.Cmp.Lexicographic.{pointwise}
 use Rattle.std.specs.List.{filter_map, list_all, list_any}
 use Rattle.std.specs.Option.{option_map_or}
@@ -16,7 +16,6 @@ use Rattle.smf_model.specs.declared.held.Instance.{Instance}
 use Rattle.smf_model.specs.declared.held.InstanceEntry.{InstanceEntry}
 use Rattle.smf_model.specs.declared.held.Owner.{Owner}
 use Rattle.smf_model.specs.declared.held.Owner.TheVariants as owners
-use Rattle.smf_model.specs.declared.held.Snapshot.{Snapshot}
 use Rattle.smf_model.specs.Holdings.{Holdings}
 use Rattle.smf_model.specs.Look.{by_launch, changed, group_in, instance, named, owned, service, snapshot}
 use Rattle.smf_model.specs.Next.{greatest_instance, most_groups}
@@ -26,12 +25,12 @@ use Rattle.smf_store.specs.declared.counting.StoreVersion.TheVariants as version
 use Rattle.smf_store.specs.declared.judging.Judgement.{Judgement}
 use Rattle.smf_store.specs.declared.judging.StoreRows.{StoreRows}
 use Rattle.smf_store.specs.declared.refusal.OpenFault.{OpenFault}
-use Rattle.smf_store.specs.declared.refusal.OpenFault.TheVariants.{Memory, Database, Version, Damaged, TooManyInstances}
+use Rattle.smf_store.specs.declared.refusal.OpenFault.TheVariants.{Memory, Version, Damaged, TooManyInstances}
 use Rattle.smf_store.specs.declared.refusal.StoreTable.{StoreTable}
 use Rattle.smf_store.specs.declared.refusal.StoreTable.TheVariants as tables
 use Rattle.smf_store.specs.Begun.{begun}
 use Rattle.smf_store.specs.FirstOther.{told_before, told_for}
-use Rattle.smf_store.specs.Readings.{◌>>=◌, given, integer_in, count_in, number_in, text_in, greatest, short_service, service_said, instance_said, group_said, snapshot_said, launch_said}
+use Rattle.smf_store.specs.Readings.{◌>>=◌, given, integer_in, number_in, text_in, greatest, short_service, service_said, instance_said, group_said, snapshot_said, launch_said}
 
 -- ---- the counters
 

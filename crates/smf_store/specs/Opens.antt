@@ -1,5 +1,5 @@
 -- What the opening of a store does.
-use Rattle.std.specs.Prelude.{◌≡◌, ◌⊎◌, Ok}
+use Rattle.std.specs.Prelude.{◌≡◌, Ok}
 use Rattle.sqlite.specs.Held.{Held, state}
 use Rattle.sqlite.specs.State.{State, HasCleanDisk}
 use Rattle.sqlite.specs.Store.{Ghosts}
@@ -7,18 +7,29 @@ use Rattle.sqlite.specs.Tree.{Trees}
 use Rattle.smf_tables.specs.Schema.{no_schema}
 use Rattle.smf_model.specs.Holdings.{Holdings}
 use Rattle.smf_model.specs.Look.{empty}
-use Rattle.smf_store.specs.Creating.{MayMake}
+use Rattle.smf_store.specs.declared.refusal.OpenFault.{OpenFault}
 use Rattle.smf_store.specs.Ends.{LeavesOr}
-use Rattle.smf_store.specs.Stages.{IsRaised, MayRead, Says}
+use Rattle.smf_store.specs.Holds.{Stands, StandsFirst, StandsIn}
+use Rattle.smf_store.specs.Stages.{IsFailure, IsRaised, Says}
 
 -- the database was empty, and now nothing is held; or this value stood in it, and its rows say so
 pub data IsFoundIn (old new : State) (h : Holdings) : Type 0 where
   made : old.now.schema ≡ no_schema → h ≡ empty → IsFoundIn old new h
   read : IsRaised old.now new.now h → Says old.now.trees (Ok h) → IsFoundIn old new h
 
--- what it may leave in the file: an empty database made a store, or what is there, in the second version
-abbrev pub MayOpen : State → Trees → Type 0
-MayOpen old trees = MayMake old trees ⊎ MayRead old trees
+-- a crash of an open may leave this in the file, besides what it could leave before:
+-- of an empty database, a store of the empty value;
+-- of a store of the second version, exactly what stood there;
+-- of a store of the first version, a store of the second that holds the same value;
+-- of any other database, nothing else.
+pub data MayOpen (old : State) (trees : Trees) : Type 0 where
+  of_empty : old.now.schema ≡ no_schema → StandsIn trees empty → MayOpen old trees
+  of_second : (h : Holdings) → Stands old.now h → trees ≡ old.now.trees → MayOpen old trees
+  of_first : (h : Holdings) → StandsFirst old.now h → StandsIn trees h → MayOpen old trees
+
+-- an open that failed may leave the same, and one that refused the database nothing but what could be left before
+abbrev pub MayFailToOpen : OpenFault → State → Trees → Type 0
+MayFailToOpen e old trees = IsFailure e × MayOpen old trees
 
 -- a database was opened with this value: it stands there, or the database was empty; a crash within leaves what it could
 -- leave before, or a store of this value

@@ -9,9 +9,7 @@ use Rattle.smf_fmri.specs.declared.fault.FmriFault.{FmriFault}
 use Rattle.smf_fmri.specs.Matching.{named_service, read_short, service_of}
 use Rattle.smf_fmri.specs.Name.{read, short}
 use Rattle.smf_state.specs.declared.row.Row.{Row as StateRow}
-use Rattle.smf_state.specs.declared.fault.RowFault.{RowFault}
 use Rattle.smf_state.specs.Texts.{read_row}
-use Rattle.smf_value.specs.declared.fault.BodyFault.{BodyFault}
 use Rattle.smf_value.specs.Groups.{GroupRecord}
 use Rattle.smf_value.specs.Reading.{decoded}
 use Rattle.smf_snap.specs.Body.{decoded_snapshot}

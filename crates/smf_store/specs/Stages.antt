@@ -149,3 +149,7 @@ pub record Opened (old new : State) (h : Holdings) : Type 0 where
 -- what the opening may leave in the file: what is there, or the same made a store of the second version
 abbrev pub MayRead : State → Trees → Type 0
 MayRead old trees = (db : Database) × (h : Holdings) × IsRaised old.now db h × (trees ≡ db.trees)
+
+-- a failure may leave the same in the file, and a refusal nothing but what could be left before
+abbrev pub MayFailToRead : OpenFault → State → Trees → Type 0
+MayFailToRead e old trees = IsFailure e × MayRead old trees

@@ -1,4 +1,5 @@
 ghost use Rattle.std.specs.Prelude.{◌≡◌};
+ghost use Rattle.sqlite.specs.Held.{state};
 ghost use Rattle.smf_tables.specs.Calls.{CommitsNone, Does, IsInside, LeavesAsBefore};
 ghost use Rattle.smf_tables.specs.Schema.{five_tables, four_tables, no_schema, one_table};
 ghost use Rattle.smf_tables.specs.Schema.{store_schema, three_tables, two_tables};
@@ -132,6 +133,7 @@ fn add_counters<S: Alter>(tx: &mut Transaction<'_, S>) -> Result<(), WriteFault>
 
 /// Makes an empty database a store in which nothing is held, in one transaction.
 pub(crate) fn make_store<S: Alter>(conn: &mut Connection<S>) -> Result<(), WriteFault>
+    requires empty { (state S.Store conn.old).now.schema ≡ no_schema }
     ensures ok { Does Made S.Store conn.old conn.new result }
     ensures err { Fails Kept S.Store conn.old conn.new result }
     ensures crash { LeavesOr MayMake S.Store conn.old conn.new }

@@ -1,4 +1,4 @@
-ghost use Rattle.std.specs.Prelude.{◌≡◌, ◌↔◌, false, IfErr, IfOk, IsTrue};
+ghost use Rattle.std.specs.Prelude.{◌≡◌, ◌↔◌, false, IfErr, IfOk, IsTrue, OnOk};
 ghost use Rattle.sqlite.specs.Held.{state};
 ghost use Rattle.sqlite.specs.State.{HasCleanDisk, IsLive, KeepsCommit};
 ghost use Rattle.smf_model.specs.Laws.{IsNumbered};
@@ -8,7 +8,7 @@ ghost use Rattle.smf_tables.specs.Layout.{StandsSomewhere};
 ghost use Rattle.smf_tables.specs.Schema.{snap_at, store_schema};
 ghost use Rattle.smf_store.specs.Ends.{Fails, LeavesOr};
 ghost use Rattle.smf_store.specs.FirstOther.{IsFirstOther};
-ghost use Rattle.smf_store.specs.Stages.{IsRefused, IsSaid, IsSaidBefore, MayRead, Opened, Raises, Reads};
+ghost use Rattle.smf_store.specs.Stages.{IsRefused, IsSaid, IsSaidBefore, MayFailToRead, MayRead, Opened, Raises, Reads};
 ghost use Rattle.smf_store.specs.Steps.{Kept};
 
 use crate::counting::StoreVersion;
@@ -134,7 +134,7 @@ fn refuse<S: Alter>(alloc: Global, conn: &mut Connection<S>) -> OpenFault
     requires another { (state S.Store conn.old).now.schema ≡ store_schema → ⊥ }
     ensures kept { HasCleanDisk (state S.Store conn.new) → Kept (state S.Store conn.old) (state S.Store conn.new) }
     ensures refused { HasCleanDisk (state S.Store conn.new) → IsRefused (state S.Store conn.old).now result }
-    ensures crash { LeavesOr MayRead S.Store conn.old conn.new }
+    ensures crash { LeavesAsBefore S.Store conn.old conn.new }
 {
     let other = first_other(conn.schema());
     let are_there = has_snapshots(conn.schema());
@@ -150,7 +150,8 @@ pub(crate) fn read_store<S: Alter>(
     ensures ok { HasCleanDisk (state S.Store conn.new) → IfOk result (Opened (state S.Store conn.old) (state S.Store conn.new)) }
     ensures err { Fails Kept S.Store conn.old conn.new result }
     ensures refused { HasCleanDisk (state S.Store conn.new) → IfErr result (IsRefused (state S.Store conn.old).now) }
-    ensures crash { LeavesOr MayRead S.Store conn.old conn.new }
+    ensures crash { OnOk result (LeavesOr MayRead S.Store conn.old conn.new) }
+    ensures crash_err { IfErr result (λ e. LeavesOr (MayFailToRead e) S.Store conn.old conn.new) }
     ensures numbered { IfOk result (λ h. IsNumbered h) }
 {
     if !conn.is_autocommit() {

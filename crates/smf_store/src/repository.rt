@@ -4,7 +4,7 @@ ghost use Rattle.sqlite.specs.State.{HasCleanDisk};
 ghost use Rattle.smf_model.specs.Laws.{IsNumbered};
 ghost use Rattle.smf_store.specs.Ends.{LeavesOr};
 ghost use Rattle.smf_store.specs.Holds.{IsSound, Keeps};
-ghost use Rattle.smf_store.specs.Opens.{IsFoundIn, IsOpenedAs, MayOpen};
+ghost use Rattle.smf_store.specs.Opens.{IsFoundIn, IsOpenedAs, MayFailToOpen, MayOpen};
 ghost use Rattle.smf_store.specs.Stages.{IsRefused};
 ghost use Rattle.smf_store.specs.Steps.{Kept};
 
@@ -30,7 +30,7 @@ pub fn open_repository<S: Alter>(
     ensures crash { IfOk result (λ r. LeavesOr MayOpen S.Store conn r.journal.conn) }
     // A fault that names a version or a table says what the rows of the tables say.
     ensures refused { IfErr result (λ e. HasCleanDisk (state S.Store e.1) → IsRefused (state S.Store conn).now e.0) }
-    ensures crash_err { IfErr result (λ e. LeavesOr MayOpen S.Store conn e.1) }
+    ensures crash_err { IfErr result (λ e. LeavesOr (MayFailToOpen e.0) S.Store conn e.1) }
     ensures kept { IfErr result (λ e. HasCleanDisk (state S.Store e.1) → Kept (state S.Store conn) (state S.Store e.1)) }
 {
     match Store::open(alloc, conn) {

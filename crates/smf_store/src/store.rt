@@ -6,7 +6,7 @@ ghost use Rattle.smf_model.specs.Look.{empty};
 ghost use Rattle.smf_tables.specs.Schema.{no_schema};
 ghost use Rattle.smf_store.specs.Creating.{MayMake};
 ghost use Rattle.smf_store.specs.Ends.{LeavesOr};
-ghost use Rattle.smf_store.specs.Opens.{IsFoundIn, MayOpen};
+ghost use Rattle.smf_store.specs.Opens.{IsFoundIn, MayFailToOpen, MayOpen};
 ghost use Rattle.smf_store.specs.Stages.{IsRefused};
 ghost use Rattle.smf_store.specs.Steps.{Kept};
 ghost use Rattle.smf_store.specs.Holds.{Could, IsSound, Keeps};
@@ -72,7 +72,7 @@ impl<S: Alter> Store<S> {
         ensures crash { IfOk result (λ p. LeavesOr MayOpen S.Store conn p.0.conn) }
         // A fault that names a version or a table says what the rows of the tables say.
         ensures refused { IfErr result (λ e. HasCleanDisk (state S.Store e.1) → IsRefused (state S.Store conn).now e.0) }
-        ensures crash_err { IfErr result (λ e. LeavesOr MayOpen S.Store conn e.1) }
+        ensures crash_err { IfErr result (λ e. LeavesOr (MayFailToOpen e.0) S.Store conn e.1) }
         ensures kept { IfErr result (λ e. HasCleanDisk (state S.Store e.1) → Kept (state S.Store conn) (state S.Store e.1)) }
     {
         if is_bare(conn.schema()) {

@@ -1,4 +1,4 @@
-use Rattle.std.proofs.Common.{◌≡◌, [], ◌∷◌, ◌++◌, ◌∙◌, ap, ap₂}
+use Rattle.std.proofs.Common.{[], ◌∷◌, ◌++◌, ◌∙◌, ap, ap₂}
 use Rattle.smf_model.specs.declared.change.Change.TheVariants.{NextInstance, NextSnapshot, SetRevision}
 use Rattle.smf_model.specs.Look.{installed}
 use Rattle.smf_store.proofs.counting.begin.Goals as goal

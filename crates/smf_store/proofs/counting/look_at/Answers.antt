@@ -1,4 +1,4 @@
-use Rattle.std.proofs.Common.{◌≡◌, ◌∙◌, None, Some, ap, sym, rules, to_z, of_z, w64}
+use Rattle.std.proofs.Common.{◌≡◌, None, Some, ap, rules, to_z, of_z, w64}
 use Rattle.sqlite.specs.declared.types.Value.TheVariants.{Text}
 use Rattle.sqlite.specs.Order.{column}
 use Rattle.smf_store.specs.Counting.{has}

@@ -1,4 +1,4 @@
-use Rattle.std.proofs.Common.{◌≡◌, ◌∙◌, ◌+◌, ◌++◌, ◌∷◌, [], sym, ap, subst, take, take_all, Option, Some, None, ℤ}
+use Rattle.std.proofs.Common.{◌∙◌, ◌++◌, ◌∷◌, [], sym, ap, subst, take, take_all, Option, ℤ}
 use Rattle.std.proofs.lemmas.List.{take_more}
 use Rattle.smf_store.specs.Counting.{SoFar}
 use Rattle.smf_store.specs.Judged.{value_of}

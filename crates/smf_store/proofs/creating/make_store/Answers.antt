@@ -36,7 +36,7 @@ returns-clause-crash g c =
     (λ clean db is.
     let second : HasCleanDisk last = omega (arith, c.commit.ensures.survives.clean) in
     let first : HasCleanDisk mid = omega (arith, second, c.add_counters.ensures.crash.clean) in
-    may_make (state g.S.Store old) (state g.S.Store (record old { in_transaction = true })) mid last db refl (rw begun at (c.in_ok-create_tables.ensures.ok first)) (c.in_ok-add_counters.ensures.ok second) is)
+    may_make (state g.S.Store old) (state g.S.Store (record old { in_transaction = true })) mid last db c.requires.empty refl (rw begun at (c.in_ok-create_tables.ensures.ok first)) (c.in_ok-add_counters.ensures.ok second) is)
     (survives_begin g.S.Store old last _ (rw begun at inside)) c.commit.ensures.survives)
 
 pub returns-in_err-commit-clause-crash : goal.returns-in_err-commit-clause-crash
@@ -54,5 +54,5 @@ returns-in_err-commit-clause-crash g c =
     (λ clean db is.
     let second : HasCleanDisk last = omega (arith, c.commit.ensures.survives.clean) in
     let first : HasCleanDisk mid = omega (arith, second, c.add_counters.ensures.crash.clean) in
-    may_make (state g.S.Store old) (state g.S.Store (record old { in_transaction = true })) mid last db refl (rw begun at (c.in_ok-create_tables.ensures.ok first)) (c.in_ok-add_counters.ensures.ok second) is)
+    may_make (state g.S.Store old) (state g.S.Store (record old { in_transaction = true })) mid last db c.requires.empty refl (rw begun at (c.in_ok-create_tables.ensures.ok first)) (c.in_ok-add_counters.ensures.ok second) is)
     (survives_begin g.S.Store old last _ (rw begun at inside)) c.commit.ensures.survives)

@@ -1,4 +1,4 @@
-use Rattle.std.proofs.Common.{◌≡◌, ◌∙◌, ◌+◌, ◌++◌, ◌∷◌, [], sym, ap, subst, take, take_all}
+use Rattle.std.proofs.Common.{◌∙◌, ◌++◌, ◌∷◌, [], sym, ap, subst, take, take_all}
 use Rattle.std.proofs.lemmas.List.{take_more}
 use Rattle.smf_store.specs.Gathered.{AreRead, GathersGroups}
 use Rattle.smf_store.specs.Judged.{Takes, add_group}

@@ -1,5 +1,4 @@
-use Rattle.std.proofs.Common.{◌≡◌, ◌∙◌, ◌++◌, ◌∷◌, Some, ap, sym, subst, rules}
-use Rattle.std.specs.Prelude.{string_bytes}
+use Rattle.std.proofs.Common.{◌≡◌, ◌∙◌, ◌++◌, ◌∷◌, Some, sym, rules}
 use Rattle.smf_fmri.specs.Matching.{read_short, service_of}
 use Rattle.smf_fmri.specs.Name.{short}
 use Rattle.smf_fmri.proofs.Short.{short_is_name}
