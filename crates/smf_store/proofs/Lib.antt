@@ -20,3 +20,4 @@ pub mod Counts
 pub mod Stands
 pub mod Before
 pub mod Crashes
+pub mod Agreeing

@@ -10,7 +10,7 @@ use Rattle.smf_store.specs.declared.refusal.StoreTable.{StoreTable}
 use Rattle.smf_store.specs.declared.refusal.StoreTable.TheVariants as tables
 use Rattle.smf_store.specs.Begun.{begun}
 use Rattle.smf_store.specs.FirstOther.{told_for}
-use Rattle.smf_store.specs.Judged.{IsBroken, IsJudged, IsRead, broken_by, first_broken, add_all, add_group, add_launch, add_service, add_snapshot, counters_said, fitting, instances_said, judged, tables_said, version_said}
+use Rattle.smf_store.specs.Judged.{IsBroken, IsJudged, IsRead, broken_by, first_broken, add_all, add_group, add_launch, add_service, counters_said, fitting, instances_said, judged, snapshots_said, tables_said, version_said}
 
 module _ (rows : StoreRows) (h : Holdings) where
   pub no_services : add_all add_service h rows.services.items ≡ None → tables_said rows h ≡ Err (Damaged tables.Service)
@@ -28,11 +28,11 @@ module _ (rows : StoreRows) (h : Holdings) where
       no_groups d = rw (a, b, d) refl
 
       module _ (h3 : Holdings) (d : add_all add_group h2 rows.groups.items ≡ Some h3) where
-        pub no_snapshots : add_all add_snapshot h3 rows.snapshots.items ≡ None → tables_said rows h ≡ Err (Damaged tables.Snapshot)
+        pub no_snapshots : snapshots_said rows.snapshots.items h3 ≡ None → tables_said rows h ≡ Err (Damaged tables.Snapshot)
         unfolding tables_said
         no_snapshots e = rw (a, b, d, e) refl
 
-        module _ (h4 : Holdings) (e : add_all add_snapshot h3 rows.snapshots.items ≡ Some h4) where
+        module _ (h4 : Holdings) (e : snapshots_said rows.snapshots.items h3 ≡ Some h4) where
           pub no_launches : add_all add_launch h4 rows.launches.items ≡ None → tables_said rows h ≡ Err (Damaged tables.Restarter)
           unfolding tables_said
           no_launches f = rw (a, b, d, e, f) refl

@@ -196,13 +196,31 @@ unfoldable pub instances_said : List Row → List Row → Holdings → Option Ho
 instances_said rows snapshots h =
     add_all add_instance h rows >>= (λ k. given (list_all (names_held (has_row snapshots)) k.instances) k)
 
+-- a snapshot that an instance names is there, and is of this instance
+abbrev pub is_own : Holdings → ℕ → Option ℕ → Bool
+is_own h number None = true
+is_own h number (Some n) = option_map_or (λ s. s.instance == number) (snapshot h n) false
+
+abbrev pub names_own : Holdings → Instance → Bool
+names_own h i =
+    is_own h i.number i.start && is_own h i.number i.previous
+    && is_own h i.number i.row.running && is_own h i.number i.row.begun
+
+abbrev pub entry_names_own : Holdings → InstanceEntry → Bool
+entry_names_own h e = names_own h e.instance
+
+-- the snapshots of these rows, if each that an instance names is of this instance: else the later table breaks the rule
+unfoldable pub snapshots_said : List Row → Holdings → Option Holdings
+snapshots_said rows h =
+    add_all add_snapshot h rows >>= (λ k. given (list_all (entry_names_own k) k.instances) k)
+
 -- the tables behind that of the counters
 unfoldable pub tables_said : StoreRows → Holdings → Result Holdings OpenFault
 tables_said rows h =
     told tables.Service (add_all add_service h rows.services.items) (λ h1.
     told tables.Instance (instances_said rows.instances.items rows.snapshots.items h1) (λ h2.
     told tables.Group (add_all add_group h2 rows.groups.items) (λ h3.
-    told tables.Snapshot (add_all add_snapshot h3 rows.snapshots.items) (λ h4.
+    told tables.Snapshot (snapshots_said rows.snapshots.items h3) (λ h4.
     told tables.Restarter (add_all add_launch h4 rows.launches.items) (λ h5. Ok h5)))))
 
 -- a store of the first version may have given more numbers than there are

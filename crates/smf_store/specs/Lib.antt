@@ -10,6 +10,7 @@ pub mod Cells
 pub mod Counting
 pub mod Readings
 pub mod Judged
+pub mod Agreement
 pub mod Begun
 pub mod FirstOther
 pub mod Stages

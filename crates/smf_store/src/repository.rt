@@ -2,6 +2,7 @@ ghost use Rattle.std.specs.Prelude.{IfErr, IfOk};
 ghost use Rattle.sqlite.specs.Held.{state};
 ghost use Rattle.sqlite.specs.State.{HasCleanDisk};
 ghost use Rattle.smf_model.specs.Laws.{IsNumbered};
+ghost use Rattle.smf_store.specs.Agreement.{NameOwn};
 ghost use Rattle.smf_store.specs.Ends.{LeavesOr};
 ghost use Rattle.smf_store.specs.Holds.{IsSound, Keeps};
 ghost use Rattle.smf_store.specs.Opens.{IsFoundIn, IsOpenedAs, MayFailToOpen, MayOpen};
@@ -25,6 +26,7 @@ pub fn open_repository<S: Alter>(
     ensures found { IfOk result (λ r. HasCleanDisk (state S.Store r.journal.conn) → IsFoundIn (state S.Store conn) (state S.Store r.journal.conn) r.held) }
     // Also where the disk is not clean.
     ensures numbered { IfOk result (λ r. IsNumbered r.held) }
+    ensures named { IfOk result (λ r. NameOwn r.held) }
     // What callers need that see no store.
     ensures opened { IfOk result (λ r. IsOpenedAs S.Store conn r.held) }
     ensures crash { IfOk result (λ r. LeavesOr MayOpen S.Store conn r.journal.conn) }

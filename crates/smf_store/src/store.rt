@@ -4,6 +4,7 @@ ghost use Rattle.sqlite.specs.State.{HasCleanDisk};
 ghost use Rattle.smf_model.specs.Laws.{IsNumbered};
 ghost use Rattle.smf_model.specs.Look.{empty};
 ghost use Rattle.smf_tables.specs.Schema.{no_schema};
+ghost use Rattle.smf_store.specs.Agreement.{NameOwn};
 ghost use Rattle.smf_store.specs.Creating.{MayMake};
 ghost use Rattle.smf_store.specs.Ends.{LeavesOr};
 ghost use Rattle.smf_store.specs.Opens.{IsFoundIn, MayFailToOpen, MayOpen};
@@ -69,6 +70,8 @@ impl<S: Alter> Store<S> {
         ensures found { IfOk result (λ p. HasCleanDisk (state S.Store p.0.conn) → IsFoundIn (state S.Store conn) (state S.Store p.0.conn) p.1) }
         // Also where the disk is not clean.
         ensures numbered { IfOk result (λ p. IsNumbered p.1) }
+        // Each snapshot that an instance names is there, and is its own.
+        ensures named { IfOk result (λ p. NameOwn p.1) }
         ensures crash { IfOk result (λ p. LeavesOr MayOpen S.Store conn p.0.conn) }
         // A fault that names a version or a table says what the rows of the tables say.
         ensures refused { IfErr result (λ e. HasCleanDisk (state S.Store e.1) → IsRefused (state S.Store conn).now e.0) }

@@ -1,0 +1,18 @@
+-- What the tables of a store that opens say of one another.
+use Rattle.std.specs.Prelude.{◌≡◌, ℕ, Some}
+use Rattle.smf_model.specs.declared.held.Instance.{Instance}
+use Rattle.smf_model.specs.declared.held.Snapshot.{Snapshot}
+use Rattle.smf_model.specs.Holdings.{Holdings}
+use Rattle.smf_model.specs.Look.{instance, snapshot}
+
+-- an instance names a snapshot
+pub data Names (i : Instance) (n : ℕ) : Type 0 where
+  start : i.start ≡ Some n → Names i n
+  previous : i.previous ≡ Some n → Names i n
+  running : i.row.running ≡ Some n → Names i n
+  begun : i.row.begun ≡ Some n → Names i n
+
+-- each snapshot that an instance names is there, and is of this instance
+pub record NameOwn (h : Holdings) : Type 0 where
+  pub own : (k : ℕ) (i : Instance) → instance h k ≡ Some i → (n : ℕ) → Names i n
+      → (s : Snapshot) × (snapshot h n ≡ Some s) × (s.instance ≡ i.number)

@@ -1,0 +1,77 @@
+ghost use Rattle.std.specs.Prelude.{◌≡◌, IfOk, IsTrue};
+ghost use Rattle.std.specs.List.{list_all};
+ghost use Rattle.smf_store.specs.Agreement.{NameOwn};
+ghost use Rattle.smf_store.specs.Gathered.{GathersSnapshots};
+ghost use Rattle.smf_store.specs.Judged.{Takes, entry_names_own, is_own, names_own, snapshots_said};
+
+use crate::gathering::gather_snapshots;
+use smf_fmri::Number;
+use smf_model::{Instance, Tables};
+use sqlite::Row;
+use std::alloc::{AllocError, Global};
+
+/// Whether a snapshot that is named is there, and is of the instance of this number.
+fn is_own(tables: &Tables, number: u64, snapshot: Option<u64>) -> bool
+    ensures { result ≡ is_own tables.now number snapshot }
+{
+    match snapshot {
+        None => true,
+        Some(snapshot) => match tables.snapshot(snapshot) {
+            None => false,
+            Some(stored) => stored.snapshot().instance.get() == number,
+        },
+    }
+}
+
+/// The same of a number that is held.
+fn is_held(tables: &Tables, number: u64, snapshot: Option<Number>) -> bool
+    ensures { result ≡ is_own tables.now number snapshot }
+{
+    match snapshot {
+        None => true,
+        Some(snapshot) => is_own(tables, number, Some(snapshot.get())),
+    }
+}
+
+/// Whether each snapshot that an instance names is there, and is its own.
+fn names_own(tables: &Tables, instance: &Instance) -> bool
+    ensures { result ≡ names_own tables.now instance.now }
+{
+    let number = instance.number.get();
+    if !is_held(tables, number, instance.start) || !is_held(tables, number, instance.previous) {
+        return false;
+    }
+    is_own(tables, number, instance.row.running) && is_own(tables, number, instance.row.begun)
+}
+
+/// Whether this holds of each instance.
+fn all_name_own(tables: &Tables) -> bool
+    ensures { result ≡ list_all (entry_names_own tables.now) tables.now.instances }
+{
+    tables
+        .entries()
+        .iter()
+        .all(|entry| names_own(tables, &entry.instance))
+}
+
+/// The snapshots that the rows show, if all of them may stand there and each that an instance names is its own.
+#[tactic(auto, unfolding(crate::specs::Judged::snapshots_said))]
+pub(crate) fn gather_own(
+    alloc: Global,
+    rows: &[Row],
+    tables: &mut Tables,
+) -> Result<bool, AllocError>
+    ensures exact { IfOk result (λ taken. Takes taken (snapshots_said rows.now tables.old) tables.new) }
+    ensures gathered { IfOk result (λ taken. IsTrue taken → GathersSnapshots rows.now tables.old tables.new) }
+    ensures named { IfOk result (λ taken. IsTrue taken → NameOwn tables.new) }
+{
+    let taken = gather_snapshots(alloc, rows, tables)?;
+    if !taken {
+        return Ok(false);
+    }
+    let own = all_name_own(tables);
+    if !own {
+        return Ok(false);
+    }
+    Ok(true)
+}
