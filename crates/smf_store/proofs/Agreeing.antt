@@ -1,6 +1,6 @@
--- Of a store that opens, each snapshot that an instance names is its own.
-use Rattle.std.proofs.Common.{◌≡◌, ℕ, List, [], ◌∷◌, Bool, true, false, Option, Some, None, if◌then◌else◌, refl, sym, ap, subst, ◌∙◌, arith}
-use Rattle.std.specs.Prelude.{◌&&◌, ◌==◌, not, find}
+-- What the tables of a store that opens say of one another.
+use Rattle.std.proofs.Common.{◌≡◌, ◌≤◌, ℕ, List, [], ◌∷◌, Bool, true, false, Option, Some, None, if◌then◌else◌, refl, sym, ap, subst, ◌∙◌, arith}
+use Rattle.std.specs.Prelude.{◌&&◌, ◌==◌, not, find, nat_le}
 use Rattle.std.proofs.lemmas.Bool.Decides.{nat_tests}
 use Rattle.std.specs.List.{list_all, list_any}
 use Rattle.std.specs.Option.{option_map_or}
@@ -12,9 +12,9 @@ use Rattle.smf_model.specs.declared.held.InstanceEntry.{InstanceEntry}
 use Rattle.smf_model.specs.declared.held.Launch.{Launch}
 use Rattle.smf_model.specs.declared.held.Snapshot.{Snapshot}
 use Rattle.smf_model.specs.Holdings.{Holdings}
-use Rattle.smf_model.specs.Look.{bare, by_instance, by_launch, by_snapshot, changed, empty, snapshot}
-use Rattle.smf_store.specs.Agreement.{NameOwn, Names, start, previous, running, begun}
-use Rattle.smf_store.specs.Judged.{add_all, add_launch, entry_names_own, is_own, names_own}
+use Rattle.smf_model.specs.Look.{bare, by_instance, by_launch, by_snapshot, changed, empty, launch_of, snapshot}
+use Rattle.smf_store.specs.Agreement.{AreLaunched, NameOwn, Names, start, previous, running, begun}
+use Rattle.smf_store.specs.Judged.{add_all, add_launch, entry_names_own, is_launched, is_own, launches_said, names_own}
 use Rattle.smf_store.specs.Readings.{◌>>=◌, given, launch_said}
 
 some_same : {X : Type 0} (x y : X) → Some x ≡ Some y → x ≡ y
@@ -100,9 +100,17 @@ launches_on : (rs : List Row) (h k : Holdings) (o : Option Holdings) → ((m : H
 launches_on rs h k None first more e = absurd (let clash : None ≡ Some k = e in cc)
 launches_on rs h k (Some m) first more e = keeps_then h m k (first m refl) (more m e)
 
-pub launches_keep : (rows : List Row) (h k : Holdings) → add_all add_launch h rows ≡ Some k → KeepsBoth h k
+launches_keep : (rows : List Row) (h k : Holdings) → add_all add_launch h rows ≡ Some k → KeepsBoth h k
 launches_keep [] h k e = keeps_itself h k (some_same h k e)
 launches_keep (r ∷ rs) h k e = launches_on rs h k (add_launch h r) (λ m is. launch_keeps h m r is) (λ m. launches_keep rs m k) e
+
+launches_by : (o : Option Holdings) (h k : Holdings) → ((m : Holdings) → o ≡ Some m → KeepsBoth h m) → (o >>= (λ m. given (list_all (is_launched m) m.instances) m)) ≡ Some k → KeepsBoth h k
+launches_by None h k keeps e = absurd (let clash : None ≡ Some k = e in cc)
+launches_by (Some m) h k keeps e = subst (KeepsBoth h) (given_is (list_all (is_launched m) m.instances) m k e).1 (keeps m refl)
+
+pub launches_said_keep : (rows : List Row) (h k : Holdings) → launches_said rows h ≡ Some k → KeepsBoth h k
+unfolding launches_said
+launches_said_keep rows h k e = launches_by (add_all add_launch h rows) h k (λ m is. launches_keep rows h m is) e
 
 pub agrees_on : (h k : Holdings) → KeepsBoth h k → NameOwn h → NameOwn k
 agrees_on h k same a = record {
@@ -113,3 +121,32 @@ agrees_on h k same a = record {
 
 pub none_agree : NameOwn empty
 none_agree = record { own = λ k i found n named. absurd (let clash : None ≡ Some i = found in cc) }
+
+-- ---- the launches of rows
+
+abbrev Passes : (InstanceEntry → Bool) → Instance → Type 0
+Passes p i = (e : InstanceEntry) × (e.instance ≡ i) × (p e ≡ true)
+
+entry_by : (b : Bool) (p : InstanceEntry → Bool) (x : InstanceEntry) (rest : Option Instance) (i : Instance) → (if b then Some x.instance else rest) ≡ Some i → p x ≡ true → (rest ≡ Some i → Passes p i) → Passes p i
+entry_by true p x rest i found px more = (x, some_same x.instance i found, px)
+entry_by false p x rest i found px more = more found
+
+entry_passes : (p : InstanceEntry → Bool) (k : ℕ) (es : List InstanceEntry) (i : Instance) → list_all p es ≡ true → find (has_key by_instance k) (bare es) ≡ Some i → Passes p i
+entry_passes p k [] i all found = absurd (let clash : None ≡ Some i = found in cc)
+entry_passes p k (x ∷ es) i all found =
+    let two = both (p x) (list_all p es) all in
+    entry_by (has_key by_instance k x.instance) p x (find (has_key by_instance k) (bare es)) i found two.0 (entry_passes p k es i two.1)
+
+number_within : (a b : ℕ) → nat_le a b ≡ true → a ≤ b
+number_within a b e = grind (arith, nat_tests)
+
+pub all_launched : (h : Holdings) → list_all (is_launched h) h.instances ≡ true → AreLaunched h
+all_launched h all = record {
+  launched = λ k i found.
+      let it = entry_passes (is_launched h) k h.instances i all found in
+      let low = number_within it.0.instance.row.launch (launch_of h it.0.instance.row.owner) it.2 in
+      subst (λ (z : Instance). z.row.launch ≤ launch_of h z.row.owner) it.1 low;
+}
+
+pub none_launched : AreLaunched empty
+none_launched = record { launched = λ k i found. absurd (let clash : None ≡ Some i = found in cc) }

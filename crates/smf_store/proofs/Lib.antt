@@ -21,3 +21,4 @@ pub mod Stands
 pub mod Before
 pub mod Crashes
 pub mod Agreeing
+pub mod Keys

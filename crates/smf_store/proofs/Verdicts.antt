@@ -10,7 +10,7 @@ use Rattle.smf_store.specs.declared.refusal.StoreTable.{StoreTable}
 use Rattle.smf_store.specs.declared.refusal.StoreTable.TheVariants as tables
 use Rattle.smf_store.specs.Begun.{begun}
 use Rattle.smf_store.specs.FirstOther.{told_for}
-use Rattle.smf_store.specs.Judged.{IsBroken, IsJudged, IsRead, broken_by, first_broken, add_all, add_group, add_launch, add_service, counters_said, fitting, instances_said, judged, snapshots_said, tables_said, version_said}
+use Rattle.smf_store.specs.Judged.{IsBroken, IsJudged, IsRead, broken_by, first_broken, add_all, add_group, add_service, counters_said, fitting, instances_said, judged, launches_said, snapshots_said, tables_said, version_said}
 
 module _ (rows : StoreRows) (h : Holdings) where
   pub no_services : add_all add_service h rows.services.items ≡ None → tables_said rows h ≡ Err (Damaged tables.Service)
@@ -33,11 +33,11 @@ module _ (rows : StoreRows) (h : Holdings) where
         no_snapshots e = rw (a, b, d, e) refl
 
         module _ (h4 : Holdings) (e : snapshots_said rows.snapshots.items h3 ≡ Some h4) where
-          pub no_launches : add_all add_launch h4 rows.launches.items ≡ None → tables_said rows h ≡ Err (Damaged tables.Restarter)
+          pub no_launches : launches_said rows.launches.items h4 ≡ None → tables_said rows h ≡ Err (Damaged tables.Restarter)
           unfolding tables_said
           no_launches f = rw (a, b, d, e, f) refl
 
-          pub all_said : (h5 : Holdings) → add_all add_launch h4 rows.launches.items ≡ Some h5 → tables_said rows h ≡ Ok h5
+          pub all_said : (h5 : Holdings) → launches_said rows.launches.items h4 ≡ Some h5 → tables_said rows h ≡ Ok h5
           unfolding tables_said
           all_said h5 f = rw (a, b, d, e, f) refl
 

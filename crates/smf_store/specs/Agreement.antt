@@ -1,9 +1,9 @@
 -- What the tables of a store that opens say of one another.
-use Rattle.std.specs.Prelude.{◌≡◌, ℕ, Some}
+use Rattle.std.specs.Prelude.{◌≡◌, ◌≤◌, ℕ, Some}
 use Rattle.smf_model.specs.declared.held.Instance.{Instance}
 use Rattle.smf_model.specs.declared.held.Snapshot.{Snapshot}
 use Rattle.smf_model.specs.Holdings.{Holdings}
-use Rattle.smf_model.specs.Look.{instance, snapshot}
+use Rattle.smf_model.specs.Look.{instance, launch_of, snapshot}
 
 -- an instance names a snapshot
 pub data Names (i : Instance) (n : ℕ) : Type 0 where
@@ -16,3 +16,7 @@ pub data Names (i : Instance) (n : ℕ) : Type 0 where
 pub record NameOwn (h : Holdings) : Type 0 where
   pub own : (k : ℕ) (i : Instance) → instance h k ≡ Some i → (n : ℕ) → Names i n
       → (s : Snapshot) × (snapshot h n ≡ Some s) × (s.instance ≡ i.number)
+
+-- the launch of a row is not past the last of its restarter
+pub record AreLaunched (h : Holdings) : Type 0 where
+  pub launched : (k : ℕ) (i : Instance) → instance h k ≡ Some i → i.row.launch ≤ launch_of h i.row.owner

@@ -17,7 +17,7 @@ use Rattle.smf_model.specs.declared.held.InstanceEntry.{InstanceEntry}
 use Rattle.smf_model.specs.declared.held.Owner.{Owner}
 use Rattle.smf_model.specs.declared.held.Owner.TheVariants as owners
 use Rattle.smf_model.specs.Holdings.{Holdings}
-use Rattle.smf_model.specs.Look.{by_launch, changed, group_in, instance, named, owned, service, snapshot}
+use Rattle.smf_model.specs.Look.{by_launch, changed, group_in, instance, launch_of, named, owned, service, snapshot}
 use Rattle.smf_model.specs.Next.{greatest_instance, most_groups}
 use Rattle.smf_store.specs.declared.counting.Counters.{Counters}
 use Rattle.smf_store.specs.declared.counting.StoreVersion.{StoreVersion}
@@ -40,10 +40,14 @@ looked None (Some v) = Some (Some v)
 looked None None = None
 looked (Some before) more = None
 
--- the same, with one row more
+-- a row has a key; one whose key is no text has none
+abbrev pub has_text : List ℕ → Option (List ℕ) → Bool
+has_text key name = option_map_or (λ t. pointwise nat_eq t key) name false
+
+-- the same, with one row more, whatever is wrong with the rows of other keys
 unfoldable pub look : List ℕ → Option ℤ → Row → Option (Option ℤ)
 look key found r =
-    text_in (column r 1) >>= (λ name. if pointwise nat_eq name key then looked found (integer_in (column r 2)) else Some found)
+    if has_text key (text_in (column r 1)) then looked found (integer_in (column r 2)) else Some found
 
 abbrev pub look_on : List ℕ → Option ℤ → List Row → Option (Option ℤ)
 look_on key found [] = Some found
@@ -113,12 +117,13 @@ abbrev pub is_up_to : ℕ → Option ℕ → Bool
 is_up_to last None = true
 is_up_to last (Some run) = nat_le run last
 
--- a row has no revision that is still to come, no run behind its last, and no number past a limit
+-- a row has no revision that is still to come, no run past its last, and no number past a limit; its base is not judged
 abbrev pub is_right : ℕ → StateRow → Bool
 is_right revision row =
     nat_le row.err revision && nat_le row.stop revision && nat_le row.refresh revision && nat_le row.start revision
-    && nat_le row.base revision && is_up_to row.last row.live && is_up_to row.last row.side
+    && is_up_to row.last row.live && is_up_to row.last row.side
     && nat_le row.last greatest_run && nat_le row.number greatest_number
+    && nat_le row.launch greatest && nat_le row.serial greatest
 
 abbrev pub is_new : Holdings → Instance → Bool
 is_new h i =
@@ -214,6 +219,14 @@ unfoldable pub snapshots_said : List Row → Holdings → Option Holdings
 snapshots_said rows h =
     add_all add_snapshot h rows >>= (λ k. given (list_all (entry_names_own k) k.instances) k)
 
+-- the launch of a row is not past the last of its restarter, which is 0 if this was never launched
+abbrev pub is_launched : Holdings → InstanceEntry → Bool
+is_launched h e = nat_le e.instance.row.launch (launch_of h e.instance.row.owner)
+
+-- the launches of these rows, if no row of an instance has a later one: else the later table breaks the rule
+unfoldable pub launches_said : List Row → Holdings → Option Holdings
+launches_said rows h = add_all add_launch h rows >>= (λ k. given (list_all (is_launched k) k.instances) k)
+
 -- the tables behind that of the counters
 unfoldable pub tables_said : StoreRows → Holdings → Result Holdings OpenFault
 tables_said rows h =
@@ -221,7 +234,7 @@ tables_said rows h =
     told tables.Instance (instances_said rows.instances.items rows.snapshots.items h1) (λ h2.
     told tables.Group (add_all add_group h2 rows.groups.items) (λ h3.
     told tables.Snapshot (snapshots_said rows.snapshots.items h3) (λ h4.
-    told tables.Restarter (add_all add_launch h4 rows.launches.items) (λ h5. Ok h5)))))
+    told tables.Restarter (launches_said rows.launches.items h4) (λ h5. Ok h5)))))
 
 -- a store of the first version may have given more numbers than there are
 abbrev pub fitting : StoreVersion → Holdings → Result Holdings OpenFault

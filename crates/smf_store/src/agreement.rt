@@ -1,12 +1,12 @@
 ghost use Rattle.std.specs.Prelude.{◌≡◌, IfOk, IsTrue};
 ghost use Rattle.std.specs.List.{list_all};
-ghost use Rattle.smf_store.specs.Agreement.{NameOwn};
-ghost use Rattle.smf_store.specs.Gathered.{GathersSnapshots};
-ghost use Rattle.smf_store.specs.Judged.{Takes, entry_names_own, is_own, names_own, snapshots_said};
+ghost use Rattle.smf_store.specs.Agreement.{AreLaunched, NameOwn};
+ghost use Rattle.smf_store.specs.Gathered.{GathersLaunches, GathersSnapshots};
+ghost use Rattle.smf_store.specs.Judged.{Takes, entry_names_own, is_launched, is_own, launches_said, names_own, snapshots_said};
 
-use crate::gathering::gather_snapshots;
+use crate::gathering::{gather_launches, gather_snapshots};
 use smf_fmri::Number;
-use smf_model::{Instance, Tables};
+use smf_model::{Instance, InstanceEntry, Tables};
 use sqlite::Row;
 use std::alloc::{AllocError, Global};
 
@@ -71,6 +71,46 @@ pub(crate) fn gather_own(
     }
     let own = all_name_own(tables);
     if !own {
+        return Ok(false);
+    }
+    Ok(true)
+}
+
+/// Whether the launch of an instance's row is not past the last of its restarter.
+fn is_launched(tables: &Tables, entry: &InstanceEntry) -> bool
+    ensures { result ≡ is_launched tables.now entry.now }
+{
+    let row = &entry.instance.row;
+    row.launch <= tables.launch_of(&row.owner)
+}
+
+/// Whether this holds of each instance.
+fn are_launched(tables: &Tables) -> bool
+    ensures { result ≡ list_all (is_launched tables.now) tables.now.instances }
+{
+    tables
+        .entries()
+        .iter()
+        .all(|entry| is_launched(tables, entry))
+}
+
+/// The launches that the rows show, if all of them may stand there and no row of an instance has a later one.
+#[tactic(auto, unfolding(crate::specs::Judged::launches_said))]
+pub(crate) fn gather_counted(
+    alloc: Global,
+    rows: &[Row],
+    tables: &mut Tables,
+) -> Result<bool, AllocError>
+    ensures exact { IfOk result (λ taken. Takes taken (launches_said rows.now tables.old) tables.new) }
+    ensures gathered { IfOk result (λ taken. IsTrue taken → GathersLaunches rows.now tables.old tables.new) }
+    ensures launched { IfOk result (λ taken. IsTrue taken → AreLaunched tables.new) }
+{
+    let taken = gather_launches(alloc, rows, tables)?;
+    if !taken {
+        return Ok(false);
+    }
+    let launched = are_launched(tables);
+    if !launched {
         return Ok(false);
     }
     Ok(true)

@@ -1,11 +1,13 @@
 ghost use Rattle.std.specs.Ordering.{int_eq};
-ghost use Rattle.std.specs.Prelude.{◌≡◌, pos, codes, IfOk, IfSome, IsTrue};
+ghost use Rattle.std.specs.Prelude.{◌≡◌, pos, false, codes, IfOk, IfSome, IsTrue};
 ghost use Rattle.std.specs.List.{list_all};
-ghost use Rattle.sqlite.specs.Order.{Row as AnyRow};
+ghost use Rattle.sqlite.specs.declared.types.Value.TheVariants.{Text};
+ghost use Rattle.sqlite.specs.Order.{Row as AnyRow, column};
 ghost use Rattle.sqlite_rules.specs.Lists.{Has};
 ghost use Rattle.smf_store.specs.Counting.{AreCounters, Finds, HasLayout, IsKnown, LooksAt, number_of_version};
 ghost use Rattle.smf_store.specs.Begun.{begun};
-ghost use Rattle.smf_store.specs.Judged.{counters_said, has_layout, is_key, is_known, is_old_key, is_within, look, number_of, number_said, value_of, version_said};
+ghost use Rattle.smf_store.specs.Readings.{text_in};
+ghost use Rattle.smf_store.specs.Judged.{counters_said, has_layout, has_text, is_key, is_known, is_old_key, is_within, look, number_of, number_said, value_of, version_said};
 
 use crate::cells::{integer_at, text_at};
 use crate::refusal::{OpenFault, StoreTable};
@@ -32,16 +34,25 @@ pub(crate) struct Counters {
 /// The greatest number that may come next for an instance.
 pub(crate) const MAX_NEXT_INSTANCE: u64 = 0x100_0000;
 
+/// Whether a row has a key.
+fn has_key(row: &Row, key: &str) -> bool
+    ensures exact { result ≡ has_text key.now (text_in (column row.now 1)) }
+    ensures same { IsTrue result → column row.now 1 ≡ Text key.now }
+    ensures other { result ≡ false → column row.now 1 ≡ Text key.now → ⊥ }
+{
+    let Some(text) = text_at(row, 1) else {
+        return false;
+    };
+    text == key
+}
+
 /// What is found of a key, with one row more.
 #[tactic(auto, unfolding(crate::specs::Judged::look))]
 fn look_at(row: &Row, key: &str, found: Option<i64>) -> Option<Option<i64>>
     ensures exact { result ≡ look key.now found row.now }
     ensures looks { IfSome result (λ new. LooksAt key.now row.now found new) }
 {
-    let Some(name) = text_at(row, 1) else {
-        return None;
-    };
-    if name != key {
+    if !has_key(row, key) {
         return Some(found);
     }
     let Some(value) = integer_at(row, 2) else {

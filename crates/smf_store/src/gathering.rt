@@ -194,7 +194,8 @@ fn is_up_to(last: u64, run: Option<u64>) -> bool
     }
 }
 
-/// Whether a row keeps revisions up to this alone, runs up to its last, and numbers within their limits.
+/// Whether a row keeps revisions up to this alone, runs up to its last, and numbers within their limits. Its base is no
+/// revision of an event, and is not judged.
 fn is_right(row: &StateRow, revision: u64) -> bool
     ensures exact { result ≡ is_right revision row.now }
     ensures dated { IsTrue result → (kind : EventKind) → revision_of kind row.now ≤ revision }
@@ -205,13 +206,13 @@ fn is_right(row: &StateRow, revision: u64) -> bool
     if row.refresh > revision || row.start > revision {
         return false;
     }
-    if row.base > revision {
-        return false;
-    }
     if !is_up_to(row.last, row.live) || !is_up_to(row.last, row.side) {
         return false;
     }
-    row.last <= MAX_RUN && row.number <= MAX_NUMBER
+    if row.last > MAX_RUN || row.number > MAX_NUMBER {
+        return false;
+    }
+    row.launch <= Number::MAX && row.serial <= Number::MAX
 }
 
 /// The instance that a row shows.

@@ -1,12 +1,12 @@
 ghost use Rattle.std.specs.Prelude.{◌≡◌, false, Err, IfOk, IsTrue, Ok, OnOk};
 ghost use Rattle.smf_model.specs.Laws.{IsNumbered};
-ghost use Rattle.smf_store.specs.Agreement.{NameOwn};
+ghost use Rattle.smf_store.specs.Agreement.{AreLaunched, NameOwn};
 ghost use Rattle.smf_store.specs.Gathered.{AreRead, GathersAll, rows_of};
 ghost use Rattle.smf_store.specs.Judged.{IsBroken, IsJudged, IsRead, broken_by, first_broken, fitting, judged, tables_said};
 
-use crate::agreement::gather_own;
+use crate::agreement::{gather_counted, gather_own};
 use crate::counting::{MAX_NEXT_INSTANCE, StoreVersion, begin, counters_said, version_said};
-use crate::gathering::{gather_groups, gather_launches, gather_named, gather_services};
+use crate::gathering::{gather_groups, gather_named, gather_services};
 use crate::places::{told_before, told_for};
 use crate::refusal::{OpenFault, StoreTable};
 use smf_model::Tables;
@@ -37,6 +37,7 @@ fn read_tables(alloc: Global, rows: &StoreRows, tables: &mut Tables) -> Result<(
     ensures exact { IsRead result tables.new (tables_said rows.now tables.old) }
     ensures read { OnOk result (GathersAll rows.now tables.old tables.new) }
     ensures named { OnOk result (NameOwn tables.new) }
+    ensures launched { OnOk result (AreLaunched tables.new) }
 {
     let Ok(services) = gather_services(alloc, &rows.services, tables) else {
         return Err(OpenFault::Memory);
@@ -62,7 +63,7 @@ fn read_tables(alloc: Global, rows: &StoreRows, tables: &mut Tables) -> Result<(
     if !snapshots {
         return Err(OpenFault::Damaged(StoreTable::Snapshot));
     }
-    let Ok(launches) = gather_launches(alloc, &rows.launches, tables) else {
+    let Ok(launches) = gather_counted(alloc, &rows.launches, tables) else {
         return Err(OpenFault::Memory);
     };
     if !launches {
@@ -89,6 +90,7 @@ pub(crate) fn judge(alloc: Global, rows: &StoreRows) -> Result<Judgement, OpenFa
     ensures read { IfOk result (λ j. AreRead (rows_of j.version rows.now) j.tables) }
     ensures numbered { IfOk result (λ j. IsNumbered j.tables) }
     ensures named { IfOk result (λ j. NameOwn j.tables) }
+    ensures launched { IfOk result (λ j. AreLaunched j.tables) }
 {
     let version = match version_said(&rows.counts) {
         Ok(version) => version,

@@ -6,7 +6,7 @@ ghost use Rattle.smf_tables.specs.Calls.{CommitsNone, Does, IsInside, LeavesAsBe
 ghost use Rattle.smf_tables.specs.Calls.{Finds as Gives};
 ghost use Rattle.smf_tables.specs.Layout.{StandsSomewhere};
 ghost use Rattle.smf_tables.specs.Schema.{snap_at, store_schema};
-ghost use Rattle.smf_store.specs.Agreement.{NameOwn};
+ghost use Rattle.smf_store.specs.Agreement.{AreLaunched, NameOwn};
 ghost use Rattle.smf_store.specs.Ends.{Fails, LeavesOr};
 ghost use Rattle.smf_store.specs.FirstOther.{IsFirstOther};
 ghost use Rattle.smf_store.specs.Stages.{IsRefused, IsSaid, IsSaidBefore, MayFailToRead, MayRead, Opened, Raises, Reads};
@@ -68,6 +68,7 @@ fn read_raised<S: Alter>(alloc: Global, tx: &mut Transaction<'_, S>) -> Result<T
         → IfErr result (IsSaid (state S.Store tx.old.conn.now).now.trees) }
     ensures numbered { IfOk result (λ h. IsNumbered h) }
     ensures named { IfOk result (λ h. NameOwn h) }
+    ensures launched { IfOk result (λ h. AreLaunched h) }
 {
     let rows = match read_rows(tx) {
         Ok(rows) => rows,
@@ -156,6 +157,7 @@ pub(crate) fn read_store<S: Alter>(
     ensures crash_err { IfErr result (λ e. LeavesOr (MayFailToRead e) S.Store conn.old conn.new) }
     ensures numbered { IfOk result (λ h. IsNumbered h) }
     ensures named { IfOk result (λ h. NameOwn h) }
+    ensures launched { IfOk result (λ h. AreLaunched h) }
 {
     if !conn.is_autocommit() {
         return Err(OpenFault::Database);

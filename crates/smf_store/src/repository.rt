@@ -2,7 +2,7 @@ ghost use Rattle.std.specs.Prelude.{IfErr, IfOk};
 ghost use Rattle.sqlite.specs.Held.{state};
 ghost use Rattle.sqlite.specs.State.{HasCleanDisk};
 ghost use Rattle.smf_model.specs.Laws.{IsNumbered};
-ghost use Rattle.smf_store.specs.Agreement.{NameOwn};
+ghost use Rattle.smf_store.specs.Agreement.{AreLaunched, NameOwn};
 ghost use Rattle.smf_store.specs.Ends.{LeavesOr};
 ghost use Rattle.smf_store.specs.Holds.{IsSound, Keeps};
 ghost use Rattle.smf_store.specs.Opens.{IsFoundIn, IsOpenedAs, MayFailToOpen, MayOpen};
@@ -27,6 +27,7 @@ pub fn open_repository<S: Alter>(
     // Also where the disk is not clean.
     ensures numbered { IfOk result (λ r. IsNumbered r.held) }
     ensures named { IfOk result (λ r. NameOwn r.held) }
+    ensures launched { IfOk result (λ r. AreLaunched r.held) }
     // What callers need that see no store.
     ensures opened { IfOk result (λ r. IsOpenedAs S.Store conn r.held) }
     ensures crash { IfOk result (λ r. LeavesOr MayOpen S.Store conn r.journal.conn) }

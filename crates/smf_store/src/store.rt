@@ -4,7 +4,7 @@ ghost use Rattle.sqlite.specs.State.{HasCleanDisk};
 ghost use Rattle.smf_model.specs.Laws.{IsNumbered};
 ghost use Rattle.smf_model.specs.Look.{empty};
 ghost use Rattle.smf_tables.specs.Schema.{no_schema};
-ghost use Rattle.smf_store.specs.Agreement.{NameOwn};
+ghost use Rattle.smf_store.specs.Agreement.{AreLaunched, NameOwn};
 ghost use Rattle.smf_store.specs.Creating.{MayMake};
 ghost use Rattle.smf_store.specs.Ends.{LeavesOr};
 ghost use Rattle.smf_store.specs.Opens.{IsFoundIn, MayFailToOpen, MayOpen};
@@ -72,6 +72,7 @@ impl<S: Alter> Store<S> {
         ensures numbered { IfOk result (λ p. IsNumbered p.1) }
         // Each snapshot that an instance names is there, and is its own.
         ensures named { IfOk result (λ p. NameOwn p.1) }
+        ensures launched { IfOk result (λ p. AreLaunched p.1) }
         ensures crash { IfOk result (λ p. LeavesOr MayOpen S.Store conn p.0.conn) }
         // A fault that names a version or a table says what the rows of the tables say.
         ensures refused { IfErr result (λ e. HasCleanDisk (state S.Store e.1) → IsRefused (state S.Store conn).now e.0) }

@@ -8,5 +8,5 @@ pub returns-in-None-clause-looks : goal.returns-in-None-clause-looks
 returns-in-None-clause-looks c =
     let none : c.args.found ≡ None = search rules in
     let key : column c.args.row.now 1 ≡ Text c.args.key.now = search rules in
-    let value : to_z w64 (of_z w64 c.in-Some-integer_at.value) ≡ c.in-Some-integer_at.value = search rules in
-    has c.in-Some-integer_at.value key c.in-Some-integer_at.ensures.shows (ap Some value) none
+    let value : to_z w64 (of_z w64 c.in-Some.value) ≡ c.in-Some.value = search rules in
+    has c.in-Some.value key c.in-Some.ensures.shows (ap Some value) none
