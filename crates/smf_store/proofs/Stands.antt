@@ -25,6 +25,9 @@ use Rattle.smf_store.specs.Creating.{MayMake}
 use Rattle.smf_store.specs.Opens.{MayFailToOpen, MayOpen, of_empty, of_second, of_first}
 use Rattle.smf_store.specs.Gathered.{Matches, AreRead, rows_of}
 use Rattle.smf_store.specs.Holds.{Listed, Stands, StandsFirst}
+use Rattle.smf_store.specs.declared.fault.WriteFault.{WriteFault}
+use Rattle.smf_store.specs.declared.fault.WriteFault.TheVariants as write
+use Rattle.smf_store.specs.Faults.{open_fault}
 use Rattle.smf_store.specs.declared.refusal.OpenFault.{OpenFault}
 use Rattle.smf_store.specs.declared.refusal.OpenFault.TheVariants.{Memory, Database as Failed, Version as OtherVersion, Damaged, TooManyInstances}
 use Rattle.smf_store.specs.Judged.{IsJudged, judged}
@@ -225,6 +228,15 @@ failure_said trees Failed f = tt
 failure_said trees (OtherVersion n) f = absurd f
 failure_said trees (Damaged table) f = absurd f
 failure_said trees TooManyInstances f = absurd f
+
+failure_of : (w : WriteFault) → IsFailure (open_fault w)
+failure_of write.Memory = tt
+failure_of write.Database = tt
+
+-- the fault of a write, as an open tells it, is a failure
+pub told_failure : {X : Type 0} (r : Result X OpenFault) (w : WriteFault) → IsErrAnd r (λ e. e ≡ open_fault w) → IsErrAnd r IsFailure
+told_failure (Ok x) w p = p
+told_failure (Err e) w p = subst IsFailure (sym p) (failure_of w)
 
 pub failing_said : {X : Type 0} (trees : Trees) (r : Result X OpenFault) → IsErrAnd r IsFailure → IfErr r (IsSaid trees)
 failing_said trees (Ok x) p = tt

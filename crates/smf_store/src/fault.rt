@@ -1,6 +1,6 @@
 ghost use Rattle.std.specs.Prelude.{◌≡◌};
 ghost use Rattle.smf_store.specs.declared.fault.WriteFault.TheVariants.{Memory};
-ghost use Rattle.smf_store.specs.Faults.{fault_of};
+ghost use Rattle.smf_store.specs.Faults.{fault_of, repository_fault};
 
 use smf_model::RepoFault;
 use sqlite::{Error, ErrorCode};
@@ -34,7 +34,9 @@ impl From<Error> for WriteFault {
 }
 
 /// The same as the repository says it.
-pub(crate) fn repo_fault(fault: WriteFault) -> RepoFault {
+pub(crate) fn repo_fault(fault: WriteFault) -> RepoFault
+    ensures { result ≡ repository_fault fault }
+{
     match fault {
         WriteFault::Memory => RepoFault::Memory,
         WriteFault::Database => RepoFault::Database,

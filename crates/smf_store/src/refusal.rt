@@ -1,6 +1,6 @@
 ghost use Rattle.std.specs.Prelude.{◌≡◌};
 ghost use Rattle.smf_store.specs.declared.refusal.OpenFault.TheVariants.{Memory};
-ghost use Rattle.smf_store.specs.Stages.{IsFailure};
+ghost use Rattle.smf_store.specs.Faults.{fault_of, open_fault};
 
 use crate::fault::WriteFault;
 use sqlite::{Error, ErrorCode};
@@ -40,7 +40,7 @@ impl From<AllocError> for OpenFault {
 }
 
 impl From<WriteFault> for OpenFault {
-    ghost from_gives = { λ _ e. IsFailure e };
+    ghost from_gives = { λ fault e. e ≡ open_fault fault };
 
     fn from(fault: WriteFault) -> OpenFault {
         match fault {
@@ -51,7 +51,7 @@ impl From<WriteFault> for OpenFault {
 }
 
 impl From<Error> for OpenFault {
-    ghost from_gives = { λ _ e. IsFailure e };
+    ghost from_gives = { λ e fault. fault ≡ open_fault (fault_of e) };
 
     fn from(e: Error) -> OpenFault {
         match e {

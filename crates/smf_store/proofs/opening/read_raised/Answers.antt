@@ -1,7 +1,7 @@
 use Rattle.std.proofs.Common.{arith}
 use Rattle.sqlite.specs.Held.{state}
 use Rattle.sqlite.specs.State.{HasCleanDisk}
-use Rattle.smf_store.proofs.Stands.{failing_said, failure_said, judged_said, reads_raised}
+use Rattle.smf_store.proofs.Stands.{failing_said, failure_said, judged_said, reads_raised, told_failure}
 use Rattle.smf_store.proofs.opening.read_raised.Goals as goal
 
 pub returns-clause-ok : goal.returns-clause-ok
@@ -21,4 +21,4 @@ returns-in-Err-judge-clause-said g c clean has live =
     judged_said (state g.S.Store c.args.tx.now.conn.now).now.trees c.in-Ok.rows c.in-Err-judge.fault (l.listed has (live l.shows.was_open).0) c.in-Err-judge.ensures.exact
 
 pub returns-in_err-raise-clause-said : goal.returns-in_err-raise-clause-said
-returns-in_err-raise-clause-said g c clean has live = failing_said (state g.S.Store c.args.tx.now.conn.now).now.trees c.from_residual.result c.from_residual.ensures.1
+returns-in_err-raise-clause-said g c clean has live = failing_said (state g.S.Store c.args.tx.now.conn.now).now.trees c.from_residual.result (told_failure c.from_residual.result c.in_err-raise.field-0.0 c.from_residual.ensures.1)

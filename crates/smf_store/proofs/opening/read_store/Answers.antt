@@ -5,7 +5,8 @@ use Rattle.sqlite.proofs.StateLemmas.{survives_then}
 use Rattle.sqlite.proofs.Callers.{survives_begin}
 use Rattle.smf_tables.specs.Schema.{store_schema}
 use Rattle.smf_store.specs.Stages.{Opened, MayRead}
-use Rattle.smf_store.proofs.Stands.{failed_leaves, may_read, nothing_left, opened}
+use Rattle.smf_store.specs.Faults.{fault_of}
+use Rattle.smf_store.proofs.Stands.{failed_leaves, may_read, nothing_left, opened, told_failure}
 use Rattle.smf_store.proofs.opening.read_store.Goals as goal
 
 pub returns-clause-ok : goal.returns-clause-ok
@@ -44,7 +45,7 @@ returns-in_err-commit-clause-crash_err g c =
     let end = c.commit.new.self.0 in
     let same : end ≡ c.conn-2-1.given.0 = search rules in
     let has : (state g.S.Store old).now.schema ≡ store_schema = sym c.schema.ensures.value ∙ c.if-not-is_store.ensures.0 refl in
-    failed_leaves c.from_residual-in_err-commit.result (state g.S.Store old) (state g.S.Store c.conn-2-1.given.0) c.from_residual-in_err-commit.ensures.1
+    failed_leaves c.from_residual-in_err-commit.result (state g.S.Store old) (state g.S.Store c.conn-2-1.given.0) (told_failure c.from_residual-in_err-commit.result (fault_of c.in_err-commit.field-0.0) c.from_residual-in_err-commit.ensures.1)
     (subst (λ h. Survives (state g.S.Store old) (state g.S.Store h) (MayRead (state g.S.Store old))) same
     (survives_then (state g.S.Store old) last (state g.S.Store end) _ _ (MayRead (state g.S.Store old)) (λ _ db none. absurd none)
     (λ clean db is.
