@@ -23,12 +23,12 @@ use Rattle.smf_model.specs.Look.{empty}
 use Rattle.smf_model.proofs.LawNumbers.{first_numbers}
 use Rattle.smf_store.specs.Creating.{AreBare, Creates, Counts, Made, MayMake}
 use Rattle.smf_model.specs.Holdings.{Holdings}
-use Rattle.smf_store.specs.Holds.{Listed, Stands, StandsIn}
+use Rattle.smf_store.specs.Holds.{Listed, Stands, StandsIn, Counted}
 use Rattle.smf_store.specs.Shown.{Counter, Version, Layout, Revision, NextInstance, NextSnapshot, Count, count_of, HasCount, HasGroup, of_service, of_instance, OwnedGroup}
 use Rattle.smf_store.proofs.Makes.{shows_then}
 use Rattle.smf_store.proofs.Six.{Six, Presents, holds}
 use Rattle.smf_store.proofs.Statements as step
-use Rattle.smf_store.proofs.Tables.{becomes}
+use Rattle.smf_store.proofs.Tables.{becomes, counts_become}
 
 -- the table was made, and is empty
 record IsNew (schema : Schema) (table : Table) (old new : Database) : Type 0 where
@@ -122,6 +122,9 @@ keyed_none = record { ints = λ r h. absurd h; one = λ a b ha hb same. absurd h
 listed_none : {X : Type 0} (S : X → Row → Type 0) (rows : List Row) → rows ≡ [] → Listed (λ x. ⊥) S rows
 listed_none S rows is = subst (Listed (λ x. ⊥) S) (sym is) (record { there = λ x h. absurd h; only = λ r h. absurd h; keyed = keyed_none })
 
+counted_none : (rows : List Row) → rows ≡ [] → Counted (λ x. ⊥) rows
+counted_none rows is = subst (Counted (λ x. ⊥)) (sym is) (record { there = λ x h. absurd h; only = λ r h c key. absurd h; keyed = keyed_none })
+
 abbrev none : Six
 none = record { counts = λ x. ⊥; services = λ x. ⊥; instances = λ x. ⊥; groups = λ x. ⊥; snapshots = λ x. ⊥; launches = λ x. ⊥ }
 
@@ -129,7 +132,7 @@ presents_none : (db : Database) → AreBare store_schema db → IsDatabase db �
 presents_none db bare sound = record {
   schema = bare.has;
   sound = sound;
-  counts = listed_none _ (db.trees 0) bare.rows.0;
+  counts = counted_none (db.trees 0) bare.rows.0;
   services = listed_none _ (db.trees 2) bare.rows.1.0;
   instances = listed_none _ (db.trees 4) bare.rows.1.1.0;
   groups = listed_none _ (db.trees 6) bare.rows.1.1.1.0;
@@ -183,7 +186,7 @@ counts_all a b c d e f one two three four five = record {
         holds = holds f.now empty (record {
           schema = p5.schema;
           sound = p5.sound;
-          counts = becomes p5.counts count_forth (λ x m. count_back_by x.counter x.value m);
+          counts = counts_become p5.counts count_forth (λ x m. count_back_by x.counter x.value m);
           services = becomes p5.services (λ x m. absurd m) (λ x m. clash m.0 m.1);
           instances = becomes p5.instances (λ x m. absurd m) (λ x m. clash m.0 m.1);
           groups = becomes p5.groups (λ x m. absurd m) no_group;

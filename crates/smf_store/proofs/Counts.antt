@@ -10,7 +10,7 @@ use Rattle.smf_store.specs.declared.counting.StoreVersion.{StoreVersion}
 use Rattle.smf_store.specs.declared.counting.StoreVersion.TheVariants as versions
 use Rattle.smf_store.specs.Begun.{begun}
 use Rattle.smf_store.specs.Counting.{AreCounters, Finds, IsCounterOf, LooksAt, other, has, SoFar}
-use Rattle.smf_store.specs.Gathered.{Matches, Rows, AreRead}
+use Rattle.smf_store.specs.Gathered.{Rows, AreRead, AreCounted}
 use Rattle.smf_store.proofs.Makes.{some_is}
 use Rattle.smf_store.specs.Shown.{Counter, Version, Layout, Revision, NextInstance, NextSnapshot, Count, count_of, counter_text, first_count_of, HasCountIn, ShowsCount, HasGroup, of_service, of_instance, OwnedGroup}
 
@@ -83,14 +83,14 @@ second_finds c rows a Revision = a.revision
 second_finds c rows a NextInstance = a.next_instance
 second_finds c rows a NextSnapshot = a.next_snapshot
 
-counts_in : (version : StoreVersion) (c : Counters) (rows : List Row) → AreCounters version c rows → Matches (HasCountIn version (begun c)) ShowsCount rows
+counts_in : (version : StoreVersion) (c : Counters) (rows : List Row) → AreCounters version c rows → AreCounted (HasCountIn version (begun c)) rows
 counts_in versions.First c rows a = record {
   there = λ x m. let f = first_finds c rows a x.counter x.value m in (f.row, f.there, record { counter_is = f.key_is; value_is = f.value_is });
-  only = λ r h. let k = a.known r h in first_shown c rows a r h k.counter k.of k.key_is;
+  only = λ r h k key. first_shown c rows a r h k (a.known r h k key) key;
 }
 counts_in versions.Second c rows a = record {
   there = λ x m. let f = second_finds c rows a x.counter in (f.row, f.there, record { counter_is = f.key_is; value_is = f.value_is ∙ ap (λ n. Int (pos n)) m });
-  only = λ r h. let k = a.known r h in (record { counter = k.counter; value = count_of (begun c) k.counter }, refl, record { counter_is = k.key_is; value_is = (second_finds c rows a k.counter).only r h k.key_is });
+  only = λ r h k key. (record { counter = k; value = count_of (begun c) k }, refl, record { counter_is = key; value_is = (second_finds c rows a k).only r h key });
 }
 
 module _ (version : StoreVersion) (c : Counters) (rows : List Row) (a : AreCounters version c rows) where

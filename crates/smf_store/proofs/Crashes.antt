@@ -24,7 +24,7 @@ module _ (old : State) (h k : Holdings) (second : Stands old.now h) (first : Sta
   two_versions : ⊥
   two_versions =
       let r = second.holds.show.counts.there of_version refl in
-      let x = first.counts.only r.0 r.1 in
+      let x = first.counts.only r.0 r.1 Version r.2.counter_is in
       apart x.0.counter x.0.value x.1 (sym r.2.counter_is ∙ x.2.counter_is) (sym r.2.value_is ∙ x.2.value_is)
     where
       one_value : (m n : ℕ) → Int (pos m) ≡ Int (pos n) → m ≡ n

@@ -21,9 +21,9 @@ use Rattle.smf_model.specs.Holdings.{Holdings}
 use Rattle.smf_model.specs.Laws.{IsIndexed}
 use Rattle.smf_model.specs.Look.{bare, by_entry, by_instance, by_launch, by_name, by_service, by_snapshot, changed, group_in, instance, instance_at, named, service, snapshot}
 use Rattle.smf_model.proofs.Entries.{bare_groups, bare_put, lookup_bare}
-use Rattle.smf_store.specs.Shown.{HasGroup, of_service, of_instance, HasInstance, HasLaunch, HasService, OwnedGroup, ShowsGroup, ShowsInstance, ShowsLaunch, ShowsSnapshot}
+use Rattle.smf_store.specs.Shown.{HasGroup, of_service, of_instance, HasInstance, HasLaunch, HasService, OwnedGroup, ShowsGroup, ShowsInstance, ShowsLaunch, ShowsSnapshot, Count}
 use Rattle.smf_store.specs.Steps.{owned_by}
-use Rattle.smf_store.specs.Gathered.{Matches, Rows, AreRead}
+use Rattle.smf_store.specs.Gathered.{Matches, Rows, AreRead, AreCounted}
 use Rattle.smf_store.proofs.Found.{found_has, has_found}
 use Rattle.smf_store.proofs.Makes.{IsFound, some_is, none_some, ordered_change, same_counts_in, same_groups, with_service, service_forth, service_back, service_groups_forth, service_groups_back, arranged_service, with_entry, entry_forth, entry_back, entry_groups_forth, entry_groups_back, apart_from_zero, give_service, regroup_service, service_keeps, regroup_forth, regroup_back, regroup_groups_forth, regroup_groups_back, give_entry, regroup_entry, entry_keeps, members_forth, members_back, member_groups_forth, member_groups_back, amended_zero, with_snapshot, new_is_put, snapshot_forth, snapshot_back, with_launch, launch_forth, launch_back}
 use Rattle.smf_store.proofs.Members.{put_cases, put_here, put_other, amend_cases, one_or_other}
@@ -49,6 +49,12 @@ module _ {X : Type 0} {M N : X → Type 0} {S : X → Row → Type 0} {rows : Li
     only = λ r h. let x = m.only r h in (x.0, forth x.0 x.1, x.2);
   }
 
+counts_before : {M N : Count → Type 0} {rows : List Row} → AreCounted M rows → ((x : Count) → M x → N x) → ((x : Count) → N x → M x) → AreCounted N rows
+counts_before m forth back = record {
+  there = λ x n. m.there x (back x n);
+  only = λ r h c key. let x = m.only r h c key in (x.0, forth x.0 x.1, x.2);
+}
+
 -- ---- a service, which has no groups yet
 
 module _ (k : Holdings) (name : List ℕ) (none : service k name ≡ None) where
@@ -64,7 +70,7 @@ module _ (k : Holdings) (name : List ℕ) (none : service k name ≡ None) where
 
   pub reads_service : (r : Row) → column r 1 ≡ Text name → (rows : Rows) → AreRead rows k → AreRead (record rows { services = rows.services ++ r ∷ [] }) (changed k (AddService bare_service))
   reads_service r shows rows a = record {
-    counts = as_before a.counts (same_counts_in rows.version k (with_service k bare_service) refl refl refl) (same_counts_in rows.version (with_service k bare_service) k refl refl refl);
+    counts = counts_before a.counts (same_counts_in rows.version k (with_service k bare_service) refl refl refl) (same_counts_in rows.version (with_service k bare_service) k refl refl refl);
     services = more a.services name r shows
         (λ y o. service_forth k bare_service y (elim o [ inl same ↦ inl same | inr m ↦ inr (m, no_such y m) ]))
         (λ y m. elim (service_back k bare_service y m) [ inl same ↦ inl same | inr o ↦ inr o.0 ]);
@@ -140,7 +146,7 @@ module _ (k : Holdings) (i : Instance) (above : 0 < i.number) (below : i.number 
 
   pub reads_instance : (r : Row) → ShowsInstance i r → (rows : Rows) → AreRead rows k → AreRead (record rows { instances = rows.instances ++ r ∷ [] }) next
   reads_instance r shows rows a = record {
-    counts = as_before a.counts (same_counts_in rows.version k next refl refl refl) (same_counts_in rows.version next k refl refl refl);
+    counts = counts_before a.counts (same_counts_in rows.version k next refl refl refl) (same_counts_in rows.version next k refl refl refl);
     services = record { there = a.services.there; only = a.services.only };
     instances = more a.instances i r shows
         (λ j o. entry_forth k entry j (elim o [ inl same ↦ inl same | inr m ↦ inr (m, not_there j m) ]))
@@ -207,7 +213,7 @@ module _ (k : Holdings) (name : List ℕ) (s : Service) (there : service k name 
       let rises = a.arranged.service_groups name s there in
       let risen = rises_put by_group g s.groups rises in
       record {
-        counts = as_before a.counts (same_counts_in rows.version k h refl refl refl) (same_counts_in rows.version h k refl refl refl);
+        counts = counts_before a.counts (same_counts_in rows.version k h refl refl refl) (same_counts_in rows.version h k refl refl refl);
         services = as_before a.services (regroup_forth k name with_one) (regroup_back k name with_one);
         instances = record { there = a.instances.there; only = a.instances.only };
         groups = more a.groups (owned_by name 0 g) r shows
@@ -268,7 +274,7 @@ module _ (k : Holdings) (n : ℕ) (above : 0 < n) (e : InstanceEntry) (there : l
       let risen = rises_put by_group g e.groups rises in
       let same : (m : ℕ) → instance h m ≡ instance k m = λ m. ap (λ l. lookup by_instance l m) same_bare in
       record {
-        counts = as_before a.counts (same_counts_in rows.version k h refl refl refl) (same_counts_in rows.version h k refl refl refl);
+        counts = counts_before a.counts (same_counts_in rows.version k h refl refl refl) (same_counts_in rows.version h k refl refl refl);
         services = record { there = a.services.there; only = a.services.only };
         instances = as_before a.instances (members_forth k n one_more) (members_back k n one_more);
         groups = more a.groups (owned_by front n g) r shows
@@ -306,7 +312,7 @@ pub reads_snapshot : (k : Holdings) (s : Snapshot) → s.number < k.next_snapsho
 reads_snapshot k s below none r shows rows a =
     let h = with_snapshot k s in
     record {
-      counts = as_before a.counts (same_counts_in rows.version k h refl refl refl) (same_counts_in rows.version h k refl refl refl);
+      counts = counts_before a.counts (same_counts_in rows.version k h refl refl refl) (same_counts_in rows.version h k refl refl refl);
       services = record { there = a.services.there; only = a.services.only };
       instances = record { there = a.instances.there; only = a.instances.only };
       groups = as_before a.groups (same_groups k h refl refl) (same_groups h k refl refl);
@@ -332,7 +338,7 @@ reads_launch k l none r shows rows a =
     let h = with_launch k l in
     let apart : (x : Launch) → HasLaunch k x → x.restarter ≡ l.restarter → ⊥ = λ x m same. none_some x (lookup by_launch k.launches l.restarter) none (ap (lookup by_launch k.launches) (sym same) ∙ m) in
     record {
-      counts = as_before a.counts (same_counts_in rows.version k h refl refl refl) (same_counts_in rows.version h k refl refl refl);
+      counts = counts_before a.counts (same_counts_in rows.version k h refl refl refl) (same_counts_in rows.version h k refl refl refl);
       services = record { there = a.services.there; only = a.services.only };
       instances = record { there = a.instances.there; only = a.instances.only };
       groups = as_before a.groups (same_groups k h refl refl) (same_groups h k refl refl);

@@ -1,26 +1,18 @@
 -- The keys of counters, and the counters of a store.
-use Rattle.std.proofs.Common.{◌≡◌, ◌≤◌, ◌⊎◌, inl, inr, ℕ, ℤ, List, [], ◌∷◌, ◌||◌, ◌&&◌, nat_eq, Bool, true, false, Option, Some, None, refl, ap, ◌∙◌, arith, codes}
+use Rattle.std.proofs.Common.{◌≡◌, ◌≤◌, inl, inr, ℕ, ℤ, List, [], ◌∷◌, ◌&&◌, Bool, true, false, Option, Some, None, refl, ap, ◌∙◌, arith, codes, sym}
 use Rattle.std.specs.Prelude.{nat_le, IfSome}
 use Rattle.std.proofs.lemmas.Bool.Decides.{nat_tests}
-use Rattle.std.specs.Cmp.Lexicographic.{pointwise}
 use Rattle.std.specs.List.{list_all}
 use Rattle.std.specs.Option.{option_map_or}
 use Rattle.std.specs.Str.{is_utf8}
-use Rattle.sqlite.specs.declared.types.Value.{Value}
-use Rattle.sqlite.specs.declared.types.Value.TheVariants.{Null, Int, Real, Text, Blob}
 use Rattle.sqlite.specs.Order.{Row, column}
 use Rattle.sqlite_rules.specs.Lists.{Has}
-use Rattle.smf_value.proofs.Decimals.{same_text}
 use Rattle.smf_store.specs.declared.counting.StoreVersion.{StoreVersion}
 use Rattle.smf_store.specs.declared.counting.StoreVersion.TheVariants as versions
 use Rattle.smf_store.specs.Counting.{Finds, IsCounterOf, IsKnown, SoFar}
-use Rattle.smf_store.specs.Judged.{counters_said, has_layout, is_key, is_known, is_old_key, is_within, number_said}
+use Rattle.smf_store.specs.Judged.{counters_said, has_layout, is_known, is_within, may_stand, number_said}
 use Rattle.smf_store.specs.Readings.{given, text_in}
-use Rattle.smf_store.specs.Shown.{Counter, Version, Layout, Revision, NextInstance, NextSnapshot, counter_text}
-
-either_way : (a b : Bool) → (a || b) ≡ true → (a ≡ true) ⊎ (b ≡ true)
-either_way true b h = inl refl
-either_way false b h = inr h
+use Rattle.smf_store.specs.Shown.{Counter, Version, Layout, Revision, NextInstance, NextSnapshot, HasKey}
 
 both_left : (a b : Bool) → (a && b) ≡ true → a ≡ true
 both_left true b e = refl
@@ -30,43 +22,26 @@ both_right : (a b : Bool) → (a && b) ≡ true → b ≡ true
 both_right true b e = e
 both_right false b e = absurd cc
 
--- which counter a key is of
-abbrev Keyed : StoreVersion → List ℕ → Type 0
-Keyed version t = (c : Counter) × IsCounterOf version c × (t ≡ counter_text c)
+-- the key of the layout stands in no store of the first version
+never : (b : Bool) → option_map_or (may_stand versions.First) (given b (codes "layout")) false ≡ false
+never true = refl
+never false = refl
 
-old_keyed : (version : StoreVersion) → IsCounterOf version Version → IsCounterOf version Revision → IsCounterOf version NextInstance → IsCounterOf version NextSnapshot → (t : List ℕ) → is_old_key t ≡ true → Keyed version t
-old_keyed version a b d e t is = elim (either_way _ (pointwise nat_eq t (codes "next_snapshot")) is) [
-  | inr last ↦ (NextSnapshot, e, same_text t (codes "next_snapshot") last)
-  | inl three ↦ elim (either_way _ (pointwise nat_eq t (codes "next_instance")) three) [
-    | inr third ↦ (NextInstance, d, same_text t (codes "next_instance") third)
-    | inl two ↦ elim (either_way _ (pointwise nat_eq t (codes "revision")) two) [
-      | inr second ↦ (Revision, b, same_text t (codes "revision") second)
-      | inl first ↦ (Version, a, same_text t (codes "version") first)
-    ]
-  ]
-]
+no_layout : (r : Row) → option_map_or (may_stand versions.First) (text_in (column r 1)) false ≡ true → HasKey r Layout → ⊥
+no_layout r e key =
+    let clash : false ≡ true = sym (never (is_utf8 (codes "layout"))) ∙ sym (ap (λ v. option_map_or (may_stand versions.First) (text_in v) false) key) ∙ e in absurd cc
 
-keyed : (version : StoreVersion) (t : List ℕ) → is_key version t ≡ true → Keyed version t
-keyed versions.First t is = old_keyed versions.First tt tt tt tt t is
-keyed versions.Second t is = elim (either_way _ (pointwise nat_eq t (codes "layout")) is) [
-  | inr last ↦ (Layout, tt, same_text t (codes "layout") last)
-  | inl old ↦ old_keyed versions.Second tt tt tt tt t old
-]
-
-by_text : (version : StoreVersion) (b : Bool) (t : List ℕ) → option_map_or (is_key version) (given b t) false ≡ true → is_key version t ≡ true
-by_text version true t e = e
-by_text version false t e = absurd cc
-
-known_by : (version : StoreVersion) (r : Row) (v : Value) → column r 1 ≡ v → option_map_or (is_key version) (text_in v) false ≡ true → IsKnown version r
-known_by version r Null is e = absurd cc
-known_by version r (Int n) is e = absurd cc
-known_by version r (Real x) is e = absurd cc
-known_by version r (Blob b) is e = absurd cc
-known_by version r (Text t) is e = let k = keyed version t (by_text version (is_utf8 t) t e) in record { counter = k.0; of = k.1; key_is = is ∙ ap Text k.2 }
+known_by : (version : StoreVersion) (r : Row) → option_map_or (may_stand version) (text_in (column r 1)) false ≡ true → (c : Counter) → HasKey r c → IsCounterOf version c
+known_by versions.First r e Version key = tt
+known_by versions.First r e Layout key = no_layout r e key
+known_by versions.First r e Revision key = tt
+known_by versions.First r e NextInstance key = tt
+known_by versions.First r e NextSnapshot key = tt
+known_by versions.Second r e c key = tt
 
 known_row : (version : StoreVersion) (r : Row) → is_known version r ≡ true → IsKnown version r
 unfolding is_known
-known_row version r e = known_by version r (column r 1) refl e
+known_row version r e = known_by version r e
 
 pub all_known : (version : StoreVersion) (rows : List Row) → list_all (is_known version) rows ≡ true → (r : Row) → Has rows r → IsKnown version r
 all_known version [] e r h = absurd h

@@ -38,7 +38,7 @@ use Rattle.smf_store.proofs.Found.{found_has, has_found}
 use Rattle.smf_store.proofs.Members.{put_cases, put_here, put_other, without_cases, without_other, amend_cases, amend_here, amend_other, one_or_other}
 use Rattle.smf_store.proofs.Six.{presents, holds, six_of}
 use Rattle.smf_store.proofs.Statements as step
-use Rattle.smf_store.proofs.Tables.{IsOf, becomes}
+use Rattle.smf_store.proofs.Tables.{IsOf, becomes, counts_become}
 use Rattle.smf_store.proofs.Tests.{text_apart}
 use Rattle.std.proofs.lemmas.Bool.Decides.{nat_tests}
 
@@ -742,7 +742,7 @@ makes_count a b c change key n rest is cases one two = record {
       subst (λ (z : Holdings). Holds c.now z) (sym same) (holds c.now k (record {
         schema = p2.schema;
         sound = p2.sound;
-        counts = becomes p2.counts
+        counts = counts_become p2.counts
             (count_forth h k key n (counts key ∙ is h) (λ x diff. elim (cases h x) [ inl one_key ↦ absurd (diff (ap counter_text one_key)) | inr other ↦ counts x ∙ other.1 ]))
             (count_back h k key n (counts key ∙ is h) (λ x. elim (cases h x) [ inl one_key ↦ inl one_key | inr other ↦ inr (other.0, counts x ∙ other.1) ]));
         services = p2.services;
@@ -797,7 +797,7 @@ makes_name a b e look = record {
       let q = looked a b h look p in
       let p1 = presents b.now h q in
       let k = changed h (PutName e) in
-      holds b.now k (record { schema = p1.schema; sound = p1.sound; counts = becomes p1.counts (same_counts h k refl refl refl) (same_counts k h refl refl refl); services = p1.services; instances = p1.instances; groups = becomes p1.groups (same_groups h k refl refl) (same_groups k h refl refl); snapshots = p1.snapshots; launches = p1.launches }) (record { ordered = ordered_change h (PutName e) q.arranged.ordered; service_groups = q.arranged.service_groups; instance_groups = q.arranged.instance_groups; none_at_zero = q.arranged.none_at_zero });
+      holds b.now k (record { schema = p1.schema; sound = p1.sound; counts = counts_become p1.counts (same_counts h k refl refl refl) (same_counts k h refl refl refl); services = p1.services; instances = p1.instances; groups = becomes p1.groups (same_groups h k refl refl) (same_groups k h refl refl); snapshots = p1.snapshots; launches = p1.launches }) (record { ordered = ordered_change h (PutName e) q.arranged.ordered; service_groups = q.arranged.service_groups; instance_groups = q.arranged.instance_groups; none_at_zero = q.arranged.none_at_zero });
 }
 
 pub makes_no_name : (a b : State) (name : List ℕ) {Seen : Trees → Type 0} → Sees Seen a b → Makes (DropName name) a b
@@ -807,5 +807,5 @@ makes_no_name a b name look = record {
       let q = looked a b h look p in
       let p1 = presents b.now h q in
       let k = changed h (DropName name) in
-      holds b.now k (record { schema = p1.schema; sound = p1.sound; counts = becomes p1.counts (same_counts h k refl refl refl) (same_counts k h refl refl refl); services = p1.services; instances = p1.instances; groups = becomes p1.groups (same_groups h k refl refl) (same_groups k h refl refl); snapshots = p1.snapshots; launches = p1.launches }) (record { ordered = ordered_change h (DropName name) q.arranged.ordered; service_groups = q.arranged.service_groups; instance_groups = q.arranged.instance_groups; none_at_zero = q.arranged.none_at_zero });
+      holds b.now k (record { schema = p1.schema; sound = p1.sound; counts = counts_become p1.counts (same_counts h k refl refl refl) (same_counts k h refl refl refl); services = p1.services; instances = p1.instances; groups = becomes p1.groups (same_groups h k refl refl) (same_groups k h refl refl); snapshots = p1.snapshots; launches = p1.launches }) (record { ordered = ordered_change h (DropName name) q.arranged.ordered; service_groups = q.arranged.service_groups; instance_groups = q.arranged.instance_groups; none_at_zero = q.arranged.none_at_zero });
 }

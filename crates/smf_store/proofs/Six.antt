@@ -9,8 +9,8 @@ use Rattle.smf_model.specs.declared.held.Instance.{Instance}
 use Rattle.smf_model.specs.declared.held.Launch.{Launch}
 use Rattle.smf_model.specs.declared.held.Snapshot.{Snapshot}
 use Rattle.smf_model.specs.Holdings.{Holdings}
-use Rattle.smf_store.specs.Shown.{Count, HasCount, ShowsCount, HasService, ShowsService, HasInstance, ShowsInstance, OwnedGroup, HasGroup, ShowsGroup, HasSnapshot, ShowsSnapshot, HasLaunch, ShowsLaunch}
-use Rattle.smf_store.specs.Holds.{Listed, Holds, IsArranged}
+use Rattle.smf_store.specs.Shown.{Count, HasCount, HasService, ShowsService, HasInstance, ShowsInstance, OwnedGroup, HasGroup, ShowsGroup, HasSnapshot, ShowsSnapshot, HasLaunch, ShowsLaunch}
+use Rattle.smf_store.specs.Holds.{Listed, Holds, IsArranged, Counted}
 
 pub record Six : Type 1 where
   pub counts : Count → Type 0
@@ -26,7 +26,7 @@ six_of h = record { counts = HasCount h; services = HasService h; instances = Ha
 pub record Presents (db : Database) (m : Six) : Type 0 where
   pub schema : db.schema ≡ store_schema
   pub sound : IsDatabase db
-  pub counts : Listed m.counts ShowsCount (db.trees 0)
+  pub counts : Counted m.counts (db.trees 0)
   pub services : Listed m.services ShowsService (db.trees 2)
   pub instances : Listed m.instances ShowsInstance (db.trees 4)
   pub groups : Listed m.groups ShowsGroup (db.trees 6)
@@ -41,7 +41,7 @@ holds db h p a = record { schema = p.schema; sound = p.sound; show = record { co
 
 -- one table turned, and the others are as they were
 module _ {C : List Row → List Row → Type 0} (old new : Database) (m : Six) (p : Presents old m) where
-  pub with_counts : Turns C tables.meta old new → (P : Count → Type 0) → Listed P ShowsCount (new.trees 0) → Presents new (record m { counts = P })
+  pub with_counts : Turns C tables.meta old new → (P : Count → Type 0) → Counted P (new.trees 0) → Presents new (record m { counts = P })
   with_counts turns P listed = record {
     schema = turns.schema;
     sound = turns.sound;
@@ -57,7 +57,7 @@ module _ {C : List Row → List Row → Type 0} (old new : Database) (m : Six) (
   with_services turns P listed = record {
     schema = turns.schema;
     sound = turns.sound;
-    counts = (let apart : ◌≢◌ {A = ℕ} 0 2 = λ e. omega (arith, e) in subst (Listed m.counts ShowsCount) (sym (turns.spares.0 apart)) p.counts);
+    counts = (let apart : ◌≢◌ {A = ℕ} 0 2 = λ e. omega (arith, e) in subst (Counted m.counts) (sym (turns.spares.0 apart)) p.counts);
     services = listed;
     instances = (let apart : ◌≢◌ {A = ℕ} 4 2 = λ e. omega (arith, e) in subst (Listed m.instances ShowsInstance) (sym (turns.spares.1.1.0 apart)) p.instances);
     groups = (let apart : ◌≢◌ {A = ℕ} 6 2 = λ e. omega (arith, e) in subst (Listed m.groups ShowsGroup) (sym (turns.spares.1.1.1.0 apart)) p.groups);
@@ -69,7 +69,7 @@ module _ {C : List Row → List Row → Type 0} (old new : Database) (m : Six) (
   with_instances turns P listed = record {
     schema = turns.schema;
     sound = turns.sound;
-    counts = (let apart : ◌≢◌ {A = ℕ} 0 4 = λ e. omega (arith, e) in subst (Listed m.counts ShowsCount) (sym (turns.spares.0 apart)) p.counts);
+    counts = (let apart : ◌≢◌ {A = ℕ} 0 4 = λ e. omega (arith, e) in subst (Counted m.counts) (sym (turns.spares.0 apart)) p.counts);
     services = (let apart : ◌≢◌ {A = ℕ} 2 4 = λ e. omega (arith, e) in subst (Listed m.services ShowsService) (sym (turns.spares.1.0 apart)) p.services);
     instances = listed;
     groups = (let apart : ◌≢◌ {A = ℕ} 6 4 = λ e. omega (arith, e) in subst (Listed m.groups ShowsGroup) (sym (turns.spares.1.1.1.0 apart)) p.groups);
@@ -81,7 +81,7 @@ module _ {C : List Row → List Row → Type 0} (old new : Database) (m : Six) (
   with_groups turns P listed = record {
     schema = turns.schema;
     sound = turns.sound;
-    counts = (let apart : ◌≢◌ {A = ℕ} 0 6 = λ e. omega (arith, e) in subst (Listed m.counts ShowsCount) (sym (turns.spares.0 apart)) p.counts);
+    counts = (let apart : ◌≢◌ {A = ℕ} 0 6 = λ e. omega (arith, e) in subst (Counted m.counts) (sym (turns.spares.0 apart)) p.counts);
     services = (let apart : ◌≢◌ {A = ℕ} 2 6 = λ e. omega (arith, e) in subst (Listed m.services ShowsService) (sym (turns.spares.1.0 apart)) p.services);
     instances = (let apart : ◌≢◌ {A = ℕ} 4 6 = λ e. omega (arith, e) in subst (Listed m.instances ShowsInstance) (sym (turns.spares.1.1.0 apart)) p.instances);
     groups = listed;
@@ -93,7 +93,7 @@ module _ {C : List Row → List Row → Type 0} (old new : Database) (m : Six) (
   with_snapshots turns P listed = record {
     schema = turns.schema;
     sound = turns.sound;
-    counts = (let apart : ◌≢◌ {A = ℕ} 0 8 = λ e. omega (arith, e) in subst (Listed m.counts ShowsCount) (sym (turns.spares.0 apart)) p.counts);
+    counts = (let apart : ◌≢◌ {A = ℕ} 0 8 = λ e. omega (arith, e) in subst (Counted m.counts) (sym (turns.spares.0 apart)) p.counts);
     services = (let apart : ◌≢◌ {A = ℕ} 2 8 = λ e. omega (arith, e) in subst (Listed m.services ShowsService) (sym (turns.spares.1.0 apart)) p.services);
     instances = (let apart : ◌≢◌ {A = ℕ} 4 8 = λ e. omega (arith, e) in subst (Listed m.instances ShowsInstance) (sym (turns.spares.1.1.0 apart)) p.instances);
     groups = (let apart : ◌≢◌ {A = ℕ} 6 8 = λ e. omega (arith, e) in subst (Listed m.groups ShowsGroup) (sym (turns.spares.1.1.1.0 apart)) p.groups);
@@ -105,7 +105,7 @@ module _ {C : List Row → List Row → Type 0} (old new : Database) (m : Six) (
   with_launches turns P listed = record {
     schema = turns.schema;
     sound = turns.sound;
-    counts = (let apart : ◌≢◌ {A = ℕ} 0 9 = λ e. omega (arith, e) in subst (Listed m.counts ShowsCount) (sym (turns.spares.0 apart)) p.counts);
+    counts = (let apart : ◌≢◌ {A = ℕ} 0 9 = λ e. omega (arith, e) in subst (Counted m.counts) (sym (turns.spares.0 apart)) p.counts);
     services = (let apart : ◌≢◌ {A = ℕ} 2 9 = λ e. omega (arith, e) in subst (Listed m.services ShowsService) (sym (turns.spares.1.0 apart)) p.services);
     instances = (let apart : ◌≢◌ {A = ℕ} 4 9 = λ e. omega (arith, e) in subst (Listed m.instances ShowsInstance) (sym (turns.spares.1.1.0 apart)) p.instances);
     groups = (let apart : ◌≢◌ {A = ℕ} 6 9 = λ e. omega (arith, e) in subst (Listed m.groups ShowsGroup) (sym (turns.spares.1.1.1.0 apart)) p.groups);

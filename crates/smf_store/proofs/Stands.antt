@@ -23,8 +23,8 @@ use Rattle.smf_store.specs.declared.counting.StoreVersion.TheVariants as version
 use Rattle.smf_store.specs.declared.judging.StoreRows.{StoreRows}
 use Rattle.smf_store.specs.Creating.{MayMake}
 use Rattle.smf_store.specs.Opens.{MayFailToOpen, MayOpen, of_empty, of_second, of_first}
-use Rattle.smf_store.specs.Gathered.{Matches, AreRead, rows_of}
-use Rattle.smf_store.specs.Holds.{Listed, Stands, StandsFirst}
+use Rattle.smf_store.specs.Gathered.{Matches, AreRead, rows_of, AreCounted}
+use Rattle.smf_store.specs.Holds.{Listed, Stands, StandsFirst, Counted}
 use Rattle.smf_store.specs.declared.fault.WriteFault.{WriteFault}
 use Rattle.smf_store.specs.declared.fault.WriteFault.TheVariants as write
 use Rattle.smf_store.specs.Faults.{open_fault}
@@ -37,7 +37,7 @@ use Rattle.smf_store.proofs.Begins.{stands_in}
 use Rattle.smf_store.proofs.Makes.{shows_then}
 use Rattle.smf_store.proofs.Six.{Six, Presents, holds, six_of}
 use Rattle.smf_store.proofs.Statements as step
-use Rattle.smf_store.proofs.Tables.{becomes}
+use Rattle.smf_store.proofs.Tables.{counts_become}
 use Rattle.smf_store.proofs.Tests.{text_apart}
 
 listed : {X : Type 0} {M : X → Type 0} {S : X → Row → Type 0} (places : List ℕ) (all rows : List Row) → AreShown places all rows → IsKeyed rows → ((x : X) (r : Row) → S x r → S x (shown places r))
@@ -51,11 +51,18 @@ listed {S = S} places all rows seen keyed forth back m = record {
   keyed = seen.keyed keyed;
 }
 
-count_forth : (x : Count) (r : Row) → ShowsCount x r → ShowsCount x (shown (0 ∷ 1 ∷ 2 ∷ []) r)
-count_forth x r s = record { counter_is = s.counter_is; value_is = s.value_is }
-
 count_back : (x : Count) (r : Row) → ShowsCount x (shown (0 ∷ 1 ∷ 2 ∷ []) r) → ShowsCount x r
 count_back x r s = record { counter_is = s.counter_is; value_is = s.value_is }
+
+counted : {M : Count → Type 0} (all rows : List Row) → AreShown (0 ∷ 1 ∷ 2 ∷ []) all rows → IsKeyed rows → AreCounted M rows → Counted M all
+counted all rows seen keyed m = record {
+  there = λ x h.
+      let r = m.there x h in
+      let s = seen.sound r.0 r.1 in
+      (s.0, s.1, count_back x s.0 (subst (ShowsCount x) s.2 r.2));
+  only = λ r h c key. let x = m.only (shown (0 ∷ 1 ∷ 2 ∷ []) r) (seen.complete r h) c key in (x.0, x.1, count_back x.0 r x.2);
+  keyed = seen.keyed keyed;
+}
 
 instance_forth : (x : Instance) (r : Row) → ShowsInstance x r → ShowsInstance x (shown (0 ∷ 0 ∷ 2 ∷ 3 ∷ 4 ∷ 5 ∷ 6 ∷ []) r)
 instance_forth x r s = record { again = s.again; service = s.service; name = s.name; split = s.split; number_is = s.number_is; service_is = s.service_is; name_is = s.name_is; row_is = s.row_is; start_is = s.start_is; previous_is = s.previous_is }
@@ -88,7 +95,7 @@ module _ (db : Database) (rows : StoreRows) (h : Holdings) (has : db.schema ≡ 
       schema = has;
       sound = sound;
       show = record {
-        counts = listed (0 ∷ 1 ∷ 2 ∷ []) (db.trees 0) rows.counts.items l.counts.shown l.counts.keyed count_forth count_back a.counts;
+        counts = counted (db.trees 0) rows.counts.items l.counts.shown l.counts.keyed a.counts;
         services = listed (0 ∷ 1 ∷ []) (db.trees 2) rows.services.items l.services.shown l.services.keyed (λ x r s. s) (λ x r s. s) a.services;
         instances = listed (0 ∷ 0 ∷ 2 ∷ 3 ∷ 4 ∷ 5 ∷ 6 ∷ []) (db.trees 4) rows.instances.items l.instances.shown l.instances.keyed instance_forth instance_back a.instances;
         groups = listed (0 ∷ 1 ∷ 2 ∷ 3 ∷ 4 ∷ []) (db.trees 6) rows.groups.items l.groups.shown l.groups.keyed group_forth group_back a.groups;
@@ -104,7 +111,7 @@ module _ (db : Database) (rows : StoreRows) (h : Holdings) (has : db.schema ≡ 
   stands_first a = record {
     schema = has;
     sound = sound;
-    counts = listed (0 ∷ 1 ∷ 2 ∷ []) (db.trees 0) rows.counts.items l.counts.shown l.counts.keyed count_forth count_back a.counts;
+    counts = counted (db.trees 0) rows.counts.items l.counts.shown l.counts.keyed a.counts;
     services = listed (0 ∷ 1 ∷ []) (db.trees 2) rows.services.items l.services.shown l.services.keyed (λ x r s. s) (λ x r s. s) a.services;
     instances = listed (0 ∷ 0 ∷ 2 ∷ 3 ∷ 4 ∷ 5 ∷ 6 ∷ []) (db.trees 4) rows.instances.items l.instances.shown l.instances.keyed instance_forth instance_back a.instances;
     groups = listed (0 ∷ 1 ∷ 2 ∷ 3 ∷ 4 ∷ []) (db.trees 6) rows.groups.items l.groups.shown l.groups.keyed group_forth group_back a.groups;
@@ -209,7 +216,7 @@ raises_first a b c d one more last = record {
         holds = holds d.now h (record {
           schema = p3.schema;
           sound = p3.sound;
-          counts = becomes p3.counts (next_forth h) (λ x m. next_back_by h x.counter x.value m);
+          counts = counts_become p3.counts (next_forth h) (λ x m. next_back_by h x.counter x.value m);
           services = p3.services;
           instances = p3.instances;
           groups = p3.groups;

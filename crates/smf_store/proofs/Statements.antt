@@ -18,7 +18,7 @@ use Rattle.smf_model.specs.declared.held.Snapshot.{Snapshot}
 use Rattle.smf_store.specs.Shown.{Count, counter_text, ShowsInstance, ShowsSnapshot}
 use Rattle.smf_store.specs.Steps.{AddsRow, GrowsAll}
 use Rattle.smf_store.proofs.Six.{Six, Presents, with_counts, with_services, with_instances, with_groups, with_snapshots, with_launches}
-use Rattle.smf_store.proofs.Tables.{lost, gained, added, grown, IsOf}
+use Rattle.smf_store.proofs.Tables.{lost, gained, added, grown, IsOf, counts_lost, counts_gained}
 use Rattle.smf_store.proofs.Tests.{text_apart, text_differs, int_apart, int_differs, int_same, by_text_picks, by_id_picks, by_owner_picks, by_both_picks}
 
 -- ---- what a WHERE picks of a row of this form
@@ -87,13 +87,13 @@ module _ (old new : State) (m : Six) (p : Presents old.now m) where
   pub drop_count : (key : List ℕ) → DropsMeta key old new → Presents new.now (record m { counts = λ c. m.counts c × (counter_text c.counter ≡ key → ⊥) })
   drop_count key d =
       let t = d.turns p.schema p.counts.keyed in
-      with_counts old.now new.now m p t (λ c. m.counts c × (counter_text c.counter ≡ key → ⊥)) (lost p.counts (is_picked (equal 1 0 ∷ []) (Text key ∷ [])) t.rows (λ c. counter_text c.counter ≡ key)
+      with_counts old.now new.now m p t (λ c. m.counts c × (counter_text c.counter ≡ key → ⊥)) (counts_lost p.counts (is_picked (equal 1 0 ∷ []) (Text key ∷ [])) t.rows (λ c. counter_text c.counter ≡ key)
       (λ c r s. text_kept r (counter_text c.counter) key s.counter_is) (λ c r s. text_spared r (counter_text c.counter) key s.counter_is))
 
   pub add_count : (c : Count) → AddsMeta (counter_text c.counter) (pos c.value) old new → Presents new.now (record m { counts = λ d. (d ≡ c) ⊎ m.counts d })
   add_count c d =
       let t = d.turns p.schema p.counts.keyed in
-      with_counts old.now new.now m p t (λ x. (x ≡ c) ⊎ m.counts x) (gained p.counts (Int (next_rowid (old.now.trees 0)) ∷ Text (counter_text c.counter) ∷ Int (pos c.value) ∷ []) t.rows c (record { counter_is = refl; value_is = refl }))
+      with_counts old.now new.now m p t (λ x. (x ≡ c) ⊎ m.counts x) (counts_gained p.counts (Int (next_rowid (old.now.trees 0)) ∷ Text (counter_text c.counter) ∷ Int (pos c.value) ∷ []) t.rows c (record { counter_is = refl; value_is = refl }))
 
   pub drop_service : (key : List ℕ) → DropsService key old new → Presents new.now (record m { services = λ x. m.services x × (x ≡ key → ⊥) })
   drop_service key d =

@@ -4,8 +4,8 @@ use Rattle.sqlite.specs.Order.{Row}
 use Rattle.sqlite_rules.specs.Lists.{Has}
 use Rattle.smf_value.specs.Groups.{GroupRecord}
 use Rattle.smf_tables.specs.Rows.{Loses, Gains}
-use Rattle.smf_store.specs.Shown.{OwnedGroup, ShowsGroup}
-use Rattle.smf_store.specs.Holds.{Listed}
+use Rattle.smf_store.specs.Shown.{OwnedGroup, ShowsGroup, Count, ShowsCount}
+use Rattle.smf_store.specs.Holds.{Listed, Counted}
 use Rattle.smf_store.specs.Steps.{Adds, Grows, owned_by}
 
 module _ {X : Type 0} {M : X → Type 0} {S : X → Row → Type 0} {old : List Row} (is : Listed M S old) where
@@ -38,6 +38,36 @@ module _ {X : Type 0} {M : X → Type 0} {S : X → Row → Type 0} {old : List 
   becomes forth back = record {
     there = λ x n. is.there x (back x n);
     only = λ r h. let x = is.only r h in (x.0, forth x.0 x.1, x.2);
+    keyed = is.keyed;
+  }
+
+-- the same of the counters
+module _ {M : Count → Type 0} {old : List Row} (is : Counted M old) where
+  pub counts_lost : {new : List Row} (picked : Row → Bool) → Loses picked old new → (Goes : Count → Type 0) → ((x : Count) (r : Row) → ShowsCount x r → picked r ≡ false → Goes x → ⊥)
+      → ((x : Count) (r : Row) → ShowsCount x r → (Goes x → ⊥) → picked r ≡ false) → Counted (λ x. M x × (Goes x → ⊥)) new
+  counts_lost picked l Goes kept spared = record {
+    there = λ x m. let r = is.there x m.0 in (r.0, l.stays r.0 r.1 (spared x r.0 r.2 m.1), r.2);
+    only = λ r h c key. let w = l.was r h in let x = is.only r w.0 c key in (x.0, (x.1, kept x.0 r x.2 w.1), x.2);
+    keyed = l.keyed;
+  }
+
+  pub counts_gained : {new : List Row} (row : Row) → Gains row old new → (x : Count) → ShowsCount x row → Counted (λ y. (y ≡ x) ⊎ M y) new
+  counts_gained row g x shows = record {
+    there = λ y m. elim m [
+      | inl same ↦ (row, g.there, subst (λ z. ShowsCount z row) (sym same) shows)
+      | inr old_one ↦ let r = is.there y old_one in (r.0, g.stays r.0 r.1, r.2)
+    ];
+    only = λ r h c key. elim (g.was r h) [
+      | inl same ↦ (x, inl refl, subst (ShowsCount x) (sym same) shows)
+      | inr old_one ↦ let y = is.only r old_one c key in (y.0, inr y.1, y.2)
+    ];
+    keyed = g.keyed;
+  }
+
+  pub counts_become : {N : Count → Type 0} → ((x : Count) → M x → N x) → ((x : Count) → N x → M x) → Counted N old
+  counts_become forth back = record {
+    there = λ x n. is.there x (back x n);
+    only = λ r h c key. let x = is.only r h c key in (x.0, forth x.0 x.1, x.2);
     keyed = is.keyed;
   }
 

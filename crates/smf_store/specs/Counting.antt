@@ -6,7 +6,7 @@ use Rattle.sqlite_rules.specs.Lists.{Has}
 use Rattle.smf_store.specs.declared.counting.Counters.{Counters}
 use Rattle.smf_store.specs.declared.counting.StoreVersion.{StoreVersion}
 use Rattle.smf_store.specs.declared.counting.StoreVersion.TheVariants as versions
-use Rattle.smf_store.specs.Shown.{Counter, Layout, counter_text}
+use Rattle.smf_store.specs.Shown.{Counter, Layout, HasKey}
 
 -- one row has the key, and this value, and no other row has the key with another
 pub record Finds (key : List ℕ) (v : ℤ) (rows : List Row) : Type 0 where
@@ -26,16 +26,15 @@ pub data LooksAt (key : List ℕ) (row : Row) (old new : Option ℤ) : Type 0 wh
   other : (column row 1 ≡ Text key → ⊥) → new ≡ old → LooksAt key row old new
   has : (v : ℤ) → column row 1 ≡ Text key → column row 2 ≡ Int v → new ≡ Some v → old ≡ None → LooksAt key row old new
 
--- the row has the key of a counter that a store of this version has
+-- a store of this version has the counter
 abbrev pub IsCounterOf : StoreVersion → Counter → Type 0
 IsCounterOf versions.First Layout = ⊥
 IsCounterOf versions.First _ = Unit {0}
 IsCounterOf versions.Second _ = Unit {0}
 
-pub record IsKnown (version : StoreVersion) (r : Row) : Type 0 where
-  pub counter : Counter
-  pub of : IsCounterOf version counter
-  pub key_is : column r 1 ≡ Text (counter_text counter)
+-- a row has no key of the other version alone
+abbrev pub IsKnown : StoreVersion → Row → Type 0
+IsKnown version r = (c : Counter) → HasKey r c → IsCounterOf version c
 
 abbrev pub number_of_version : StoreVersion → ℕ
 number_of_version versions.First = 1

@@ -6,13 +6,18 @@ use Rattle.smf_model.specs.Holdings.{Holdings}
 use Rattle.smf_model.specs.Laws.{IsNumbered}
 use Rattle.smf_store.specs.declared.counting.StoreVersion.{StoreVersion}
 use Rattle.smf_store.specs.declared.judging.StoreRows.{StoreRows}
-use Rattle.smf_store.specs.Shown.{HasCountIn, ShowsCount, HasService, ShowsService, HasInstance, ShowsInstance, HasGroup, ShowsGroup, HasSnapshot, ShowsSnapshot, HasLaunch, ShowsLaunch}
+use Rattle.smf_store.specs.Shown.{HasCountIn, ShowsCount, HasService, ShowsService, HasInstance, ShowsInstance, HasGroup, ShowsGroup, HasSnapshot, ShowsSnapshot, HasLaunch, ShowsLaunch, Count, Counter, HasKey}
 use Rattle.smf_store.specs.Holds.{IsArranged}
 
 -- each member has a row, and each row shows a member
 pub record Matches {X : Type 0} (Member : X → Type 0) (Shows : X → Row → Type 0) (rows : List Row) : Type 0 where
   pub there : (x : X) → Member x → (r : Row) × Has rows r × Shows x r
   pub only : (r : Row) → Has rows r → (x : X) × Member x × Shows x r
+
+-- the same of the counters, of which each has a key: other rows say nothing
+pub record AreCounted (Member : Count → Type 0) (rows : List Row) : Type 0 where
+  pub there : (x : Count) → Member x → (r : Row) × Has rows r × ShowsCount x r
+  pub only : (r : Row) → Has rows r → (c : Counter) → HasKey r c → (x : Count) × Member x × ShowsCount x r
 
 -- the rows of each table that were read, of a store of this version
 pub record Rows : Type 0 where
@@ -26,7 +31,7 @@ pub record Rows : Type 0 where
 
 -- these rows show a value, and numbers were given once in it
 pub record AreRead (rows : Rows) (h : Holdings) : Type 0 where
-  pub counts : Matches (HasCountIn rows.version h) ShowsCount rows.counts
+  pub counts : AreCounted (HasCountIn rows.version h) rows.counts
   pub services : Matches (HasService h) ShowsService rows.services
   pub instances : Matches (HasInstance h) ShowsInstance rows.instances
   pub groups : Matches (HasGroup h) ShowsGroup rows.groups

@@ -15,7 +15,7 @@ use Rattle.smf_model.specs.Holdings.{Holdings}
 use Rattle.smf_model.specs.Laws.{IsNumbered, IsOrdered}
 use Rattle.smf_model.specs.Look.{by_entry, service}
 use Rattle.smf_store.specs.declared.counting.StoreVersion.TheVariants as versions
-use Rattle.smf_store.specs.Shown.{HasCount, HasCountIn, ShowsCount, HasService, ShowsService, HasInstance, ShowsInstance, HasGroup, ShowsGroup, HasSnapshot, ShowsSnapshot, HasLaunch, ShowsLaunch}
+use Rattle.smf_store.specs.Shown.{HasCount, HasCountIn, ShowsCount, HasService, ShowsService, HasInstance, ShowsInstance, HasGroup, ShowsGroup, HasSnapshot, ShowsSnapshot, HasLaunch, ShowsLaunch, Count, Counter, HasKey}
 
 -- each member has a row, each row shows a member, and each rowid names one row
 pub record Listed {X : Type 0} (Member : X → Type 0) (Shows : X → Row → Type 0) (rows : List Row) : Type 0 where
@@ -23,9 +23,15 @@ pub record Listed {X : Type 0} (Member : X → Type 0) (Shows : X → Row → Ty
   pub only : (r : Row) → Has rows r → (x : X) × Member x × Shows x r
   pub keyed : IsKeyed rows
 
+-- the same of the counters: a row that has no counter's key says nothing, and may stand there
+pub record Counted (Member : Count → Type 0) (rows : List Row) : Type 0 where
+  pub there : (x : Count) → Member x → (r : Row) × Has rows r × ShowsCount x r
+  pub only : (r : Row) → Has rows r → (c : Counter) → HasKey r c → (x : Count) × Member x × ShowsCount x r
+  pub keyed : IsKeyed rows
+
 -- the six tables show a value
 pub record Show (trees : Trees) (h : Holdings) : Type 0 where
-  pub counts : Listed (HasCount h) ShowsCount (trees 0)
+  pub counts : Counted (HasCount h) (trees 0)
   pub services : Listed (HasService h) ShowsService (trees 2)
   pub instances : Listed (HasInstance h) ShowsInstance (trees 4)
   pub groups : Listed (HasGroup h) ShowsGroup (trees 6)
@@ -55,7 +61,7 @@ pub record Stands (db : Database) (h : Holdings) : Type 0 where
 pub record StandsFirst (db : Database) (h : Holdings) : Type 0 where
   pub schema : db.schema ≡ store_schema
   pub sound : IsDatabase db
-  pub counts : Listed (HasCountIn versions.First h) ShowsCount (db.trees 0)
+  pub counts : Counted (HasCountIn versions.First h) (db.trees 0)
   pub services : Listed (HasService h) ShowsService (db.trees 2)
   pub instances : Listed (HasInstance h) ShowsInstance (db.trees 4)
   pub groups : Listed (HasGroup h) ShowsGroup (db.trees 6)

@@ -1,5 +1,5 @@
 -- What the rows of the tables hold, or why it is no store that is opened: its version, or the first table that breaks the rules.
-use Rattle.std.specs.Prelude.{ℕ, ℤ, pos, List, [], ◌∷◌, ◌++◌, ◌≡◌, ◌+◌, ◌==◌, ◌&&◌, ◌||◌, not, nat_eq, nat_le, nat_lt, codes, length, Bool, true, false, Option, Some, None, is_some, is_none, Result, Ok, Err, if◌then◌else◌}
+use Rattle.std.specs.Prelude.{ℕ, ℤ, pos, List, [], ◌∷◌, ◌++◌, ◌≡◌, ◌+◌, ◌==◌, ◌&&◌, not, nat_eq, nat_le, nat_lt, codes, length, Bool, true, false, Option, Some, None, is_some, is_none, Result, Ok, Err, if◌then◌else◌}
 use Rattle.std.specs.Cmp.Lexicographic.{pointwise}
 use Rattle.std.specs.List.{filter_map, list_all, list_any}
 use Rattle.std.specs.Option.{option_map_or}
@@ -74,18 +74,15 @@ version_by (Some v) =
 unfoldable pub version_said : List Row → Result StoreVersion OpenFault
 version_said rows = version_by (value_of (codes "version") rows)
 
--- a key of either version, and that of the second alone
-abbrev pub is_old_key : List ℕ → Bool
-is_old_key text =
-    pointwise nat_eq text (codes "version") || pointwise nat_eq text (codes "revision")
-    || pointwise nat_eq text (codes "next_instance") || pointwise nat_eq text (codes "next_snapshot")
+-- a key that may stand in a store of this version: that of the layout belongs to the second alone, and one that is no counter's
+-- says nothing
+abbrev pub may_stand : StoreVersion → List ℕ → Bool
+may_stand versions.First text = not (pointwise nat_eq text (codes "layout"))
+may_stand versions.Second text = true
 
-abbrev pub is_key : StoreVersion → List ℕ → Bool
-is_key versions.First text = is_old_key text
-is_key versions.Second text = is_old_key text || pointwise nat_eq text (codes "layout")
-
+-- the key of a row is a text, and may stand there
 unfoldable pub is_known : StoreVersion → Row → Bool
-is_known version r = option_map_or (is_key version) (text_in (column r 1)) false
+is_known version r = option_map_or (may_stand version) (text_in (column r 1)) false
 
 -- the first version has no layout
 unfoldable pub has_layout : StoreVersion → List Row → Bool

@@ -64,6 +64,10 @@ abbrev pub HasCountIn : StoreVersion → Holdings → Count → Type 0
 HasCountIn versions.First h c = first_count_of h c.counter ≡ Some c.value
 HasCountIn versions.Second h c = HasCount h c
 
+-- a row has the key of a counter
+abbrev pub HasKey : Row → Counter → Type 0
+HasKey r c = column r 1 ≡ Text (counter_text c)
+
 pub record ShowsCount (c : Count) (r : Row) : Type 0 where
   pub counter_is : column r 1 ≡ Text (counter_text c.counter)
   pub value_is : column r 2 ≡ Int (pos c.value)

@@ -29,7 +29,7 @@ use Rattle.smf_model.specs.declared.held.Snapshot.{Snapshot}
 use Rattle.smf_model.specs.Holdings.{Holdings}
 use Rattle.smf_model.specs.Laws.{IsIndexed}
 use Rattle.smf_model.specs.Look.{bare, by_entry, by_instance, by_launch, by_name, by_service, by_snapshot, group_in, service}
-use Rattle.smf_store.specs.Shown.{Counter, Version, Layout, Revision, NextInstance, NextSnapshot, Count, count_of, counter_text, ShowsCount, HasService, ShowsInstance, OwnedGroup, HasGroup, of_service, of_instance, ShowsGroup, ShowsSnapshot, ShowsLaunch, optional_value}
+use Rattle.smf_store.specs.Shown.{Counter, Version, Layout, Revision, NextInstance, NextSnapshot, Count, count_of, counter_text, ShowsCount, HasService, ShowsInstance, OwnedGroup, HasGroup, of_service, of_instance, ShowsGroup, ShowsSnapshot, ShowsLaunch, optional_value, HasCount}
 use Rattle.smf_store.specs.Holds.{Listed, Show, IsArranged, Stands, IsSound, Keeps, Leaves, Could}
 
 -- ---- one field
@@ -163,7 +163,11 @@ goes {N = N} rows one p q x m =
 
 module _ (trees : Trees) (h k : Holdings) (p : Show trees h) (q : Show trees k) (a : IsArranged h) (b : IsArranged k) where
   counts : (c : Counter) → count_of h c ≡ count_of k c
-  counts c = sym (goes (trees 0) one_count p.counts q.counts (record { counter = c; value = count_of h c }) refl)
+  counts c =
+      let x : Count = record { counter = c; value = count_of h c } in
+      let r = p.counts.there x refl in
+      let y = q.counts.only r.0 r.1 c r.2.counter_is in
+      sym (subst (HasCount k) (sym (one_count x y.0 r.0 r.2 y.2)) y.1)
 
   group_goes : (x : OwnedGroup) → HasGroup h x → HasGroup k x
   group_goes = goes (trees 6) one_group p.groups q.groups

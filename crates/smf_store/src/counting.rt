@@ -7,7 +7,7 @@ ghost use Rattle.sqlite_rules.specs.Lists.{Has};
 ghost use Rattle.smf_store.specs.Counting.{AreCounters, Finds, HasLayout, IsKnown, LooksAt, number_of_version};
 ghost use Rattle.smf_store.specs.Begun.{begun};
 ghost use Rattle.smf_store.specs.Readings.{text_in};
-ghost use Rattle.smf_store.specs.Judged.{counters_said, has_layout, has_text, is_key, is_known, is_old_key, is_within, look, number_of, number_said, value_of, version_said};
+ghost use Rattle.smf_store.specs.Judged.{counters_said, has_layout, has_text, is_known, is_within, look, may_stand, number_of, number_said, value_of, version_said};
 
 use crate::cells::{integer_at, text_at};
 use crate::refusal::{OpenFault, StoreTable};
@@ -127,44 +127,24 @@ pub(crate) fn version_said(rows: &[Row]) -> Result<StoreVersion, OpenFault>
     Err(OpenFault::Version(version))
 }
 
-fn is_old_key(text: &str) -> bool
-    ensures { result ≡ is_old_key text.now }
-{
-    if text == "version" {
-        return true;
-    }
-    if text == "revision" {
-        return true;
-    }
-    if text == "next_instance" {
-        return true;
-    }
-    text == "next_snapshot"
-}
-
-/// Whether a text is the key of a counter.
-fn is_key(version: StoreVersion, text: &str) -> bool
-    ensures { result ≡ is_key version text.now }
+/// Whether a key may stand in a store of this version.
+fn may_stand(version: StoreVersion, text: &str) -> bool
+    ensures { result ≡ may_stand version text.now }
 {
     match version {
-        StoreVersion::First => is_old_key(text),
-        StoreVersion::Second => {
-            if is_old_key(text) {
-                return true;
-            }
-            text == "layout"
-        }
+        StoreVersion::First => text != "layout",
+        StoreVersion::Second => true,
     }
 }
 
-/// Whether a row has the key of a counter.
+/// Whether the key of a row is a text and may stand there.
 #[tactic(auto, unfolding(crate::specs::Judged::is_known))]
 fn is_known(version: StoreVersion, row: &Row) -> bool
     ensures { result ≡ is_known version row.now }
 {
     match text_at(row, 1) {
         None => false,
-        Some(text) => is_key(version, text),
+        Some(text) => may_stand(version, text),
     }
 }
 
@@ -174,7 +154,7 @@ fn are_keys(version: StoreVersion, rows: &[Row]) -> bool
     rows.iter().all(|row| is_known(version, row))
 }
 
-/// Whether each row has the key of a counter.
+/// Whether the key of each row is a text and may stand there.
 fn are_known(version: StoreVersion, rows: &[Row]) -> bool
     ensures exact { result ≡ list_all (is_known version) rows.now }
     ensures known { IsTrue result → (r : AnyRow) → Has rows.now r → IsKnown version r }
