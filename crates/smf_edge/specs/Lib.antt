@@ -4,3 +4,7 @@ pub mod Answers
 pub mod Sound
 pub mod Books
 pub mod Shell
+pub mod Facts
+pub mod Ends
+pub mod Running
+pub mod Manned

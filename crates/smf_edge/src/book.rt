@@ -1,8 +1,9 @@
 ghost use Rattle.std.specs.Prelude.{◌≡◌, ◌≢◌, ◌<◌, ◌⊎◌, [], ◌∷◌, Some, None, true, IfErr, IfOk, IfSome, IfNone, OnErr, OnOk, filter, length, option_to_list, vec_len, vec_capacity};
 ghost use Rattle.smf_contract.specs.Calls.{next_contract};
-ghost use Rattle.smf_contract.specs.Entries.{empty, home, processes};
+ghost use Rattle.smf_contract.specs.Entries.{empty, first_member, home, processes};
 ghost use Rattle.smf_edge.specs.Books.{IsTold, ledger_of};
 ghost use Rattle.smf_edge.specs.Ledgers.{contracts_of, left, lives};
+ghost use Rattle.smf_edge.specs.Running.{HasTold};
 ghost use Rattle.smf_edge.specs.Sound.{IsSound};
 ghost use Rattle.smf_edge.specs.Steps.{IsFound, IsGiven, IsKilled, IsPolled, IsSpawned, happened, listed, restarted};
 ghost use Rattle.smf_edge.specs.declared.fault.KidsFault.TheVariants.{Memory, NoChild, Refused};
@@ -124,33 +125,30 @@ impl Book {
         Ok(take_first(&mut self.due))
     }
 
-    /// Finds that something happens to the lowest member of a contract, where nothing is pending: the first event that
-    /// it brings, and none where there is no member.
-    pub(crate) fn find(
-        &mut self,
-        id: Number,
-        happening: Happening,
-    ) -> Result<Option<Event>, AllocError>
+    /// Finds that something happens to the lowest member of a contract, if nothing is pending: the first event that it
+    /// brings.
+    pub(crate) fn find(&mut self, id: Number, happening: Happening) -> Result<Event, AllocError>
         requires sound { IsSound (ledger_of self.old) }
+        requires member { first_member id self.old.table.table.members ≢ None }
         requires none_due { self.old.due.items ≡ [] }
         requires none_pending { self.old.pending.items ≡ [] }
-        ensures found { IfOk result (λ event. IsPolled event (ledger_of self.old) (ledger_of self.new)) }
+        ensures found { IfOk result (λ event. IsPolled (Some event) (ledger_of self.old) (ledger_of self.new)) }
+        ensures told { IfOk result (HasTold id happening (ledger_of self.old) (ledger_of self.new)) }
         ensures sound { IsSound (ledger_of self.new) }
         ensures err { OnErr result (ledger_of self.new ≡ ledger_of self.old) }
     {
-        let Some(process) = self.table.first_member(id) else {
-            return Ok(None);
-        };
+        let process = self.table.first_member(id).unwrap();
         let event = self.tell(id, process, happening)?;
-        Ok(Some(event))
+        Ok(event)
     }
 
-    /// Takes what is pending: the first event that it brings, and none where nothing is pending.
+    /// Takes what is pending: the first event that it brings, and none if nothing is pending.
     pub(crate) fn take(&mut self) -> Result<Option<Event>, AllocError>
         requires sound { IsSound (ledger_of self.old) }
         requires none_due { self.old.due.items ≡ [] }
         ensures taken { IfOk result (λ event. IsPolled event (ledger_of self.old) (ledger_of self.new)) }
         ensures none { IfOk result (λ event. IfNone event (self.new.pending.items ≡ [])) }
+        ensures pending { IfOk result (λ event. IfSome event (λ _. self.old.pending.items ≢ [])) }
         ensures sound { IsSound (ledger_of self.new) }
         ensures err { OnErr result (ledger_of self.new ≡ ledger_of self.old) }
     {

@@ -1,92 +1,220 @@
 // The processes of the system that were started.
-use crate::shell::{exit_of, killer};
+ghost use Rattle.std.specs.Prelude.{◌≡◌, ◌⊎◌, IfErr, IfNone, IfOk, IfSome, false, true, filter, position};
+ghost use Rattle.smf_edge.specs.Ends.{StartRefused};
+ghost use Rattle.smf_edge.specs.Facts.{HasNotRun, HasRun};
+ghost use Rattle.smf_edge.specs.Running.{AreSeen, HasExit, HasNoExit, IsCleared, IsEnded, IsNotCleared, IsNotEnded, IsSeen, NoneOrSome, SomeKid, is_kid_of, is_other_kid, role_of, roles};
+ghost use Rattle.smf_edge.specs.Shell.{is_child};
+ghost use Rattle.smf_edge.specs.declared.fault.KidsFault.TheVariants.{Memory, Refused};
+
+use crate::fault::KidsFault;
+use crate::shell::{exit_of, is_child, killer, start_fault};
+use crate::system::System;
 use smf_contract::Exit;
 use smf_fmri::Number;
+use smf_state::Duration;
 use std::alloc::{AllocError, Global};
-use std::process::{Child, Command as Program, OpenProcess, Processes};
+use std::process::Command as Program;
 
-/// A process, and the contract that it is in.
+/// A process, the contract that it is in, and how long its service lasts.
 #[derive(Drop)]
-pub(crate) struct Kid<P: OpenProcess> {
+pub(crate) struct Kid<C> {
     pub(crate) contract: Number,
-    pub(crate) child: Child<P>,
+    pub(crate) style: Duration,
+    /// The number of its process group, which is that of the process.
+    pub(crate) group: u32,
+    /// It keeps the status that the system told.
+    pub(crate) child: C,
 }
 
 /// What is seen of the processes.
 #[derive(Clone, Copy)]
-pub(crate) enum Seen {
+pub(crate) enum Sight {
     /// They run.
     Running,
     /// One of them ended.
     Ended(Number, Exit),
-    /// One of them cannot be seen.
+    /// The system did not say whether one of them ended, or did not end its group.
     Failed,
 }
 
-fn see<P: OpenProcess>(kid: &mut Kid<P>) -> Seen {
-    match kid.child.try_wait() {
-        Ok(Some(status)) => Seen::Ended(kid.contract, exit_of(status)),
-        Ok(None) => Seen::Running,
-        Err(_) => Seen::Failed,
-    }
-}
-
-/// The first process that ended, if one has; it does not wait.
-pub(crate) fn see_all<P: OpenProcess>(kids: &mut [Kid<P>]) -> Seen {
-    let mut seen = Seen::Running;
-    for kid in kids {
-        match see(kid) {
-            Seen::Ended(contract, exit) => return Seen::Ended(contract, exit),
-            Seen::Failed => seen = Seen::Failed,
-            Seen::Running => {}
+/// Starts a program in a contract.
+pub(crate) fn start<R: System>(
+    system: &R,
+    program: &mut Program,
+    contract: Number,
+    style: Duration,
+) -> Result<Kid<R::Started>, KidsFault>
+    ensures contract { IfOk result (λ kid. kid.contract ≡ contract) }
+    ensures style { IfOk result (λ kid. kid.style ≡ style) }
+    ensures of { IfOk result (λ kid. R.facts.is_of program.old kid.child) }
+    ensures number { IfOk result (λ kid. R.facts.is_number kid.child kid.group) }
+    ensures fault { IfErr result (λ e. (e ≡ Memory) ⊎ ((e ≡ Refused) × StartRefused R.facts.start_fails)) }
+{
+    match system.start(program) {
+        Ok(child) => {
+            let group = system.number(&child);
+            Ok(Kid {
+                contract,
+                style,
+                group,
+                child,
+            })
         }
-    }
-    seen
-}
-
-/// Waits until the process of a contract ends. None where it cannot be waited for.
-pub(crate) fn wait_for<P: OpenProcess>(kids: &mut [Kid<P>], contract: Number) -> Option<Exit> {
-    for kid in kids {
-        if kid.contract == contract {
-            return kid.child.wait().ok().map(exit_of);
-        }
-    }
-    None
-}
-
-/// Ends the processes of a group, as far as the system does. The group may be gone, or not be there yet.
-fn end_group<R: Processes>(processes: &R, mut killer: Program) {
-    if let Ok(mut child) = killer.spawn(processes) {
-        let _has_ended = child.wait().is_ok();
+        Err(error) => Err(start_fault(&error)),
     }
 }
 
-/// Ends a process and its process group, and waits for its end. Says whether that was done.
-fn end<R: Processes>(
+/// Runs a program to its end. Says whether the system did that; how the program ended is not judged.
+fn run<R: System>(system: &R, mut program: Program) -> bool
+    ensures done { result ≡ true → HasRun R.facts program }
+    ensures failed { result ≡ false → HasNotRun R.facts program }
+{
+    match system.start(&mut program) {
+        Ok(mut child) => system.wait(&mut child).is_ok(),
+        Err(_) => false,
+    }
+}
+
+/// Ends what the process of a child service left in its group, and says whether that was done. The group may be gone.
+/// What a transient service leaves runs on. The process was waited for, so its number is free as soon as its group is
+/// gone: the killer runs at once, and a later call may meet another group of this number.
+fn clear<R: System>(
     alloc: Global,
-    processes: &R,
+    system: &R,
+    style: Duration,
+    group: u32,
+) -> Result<bool, AllocError>
+    ensures done { IfOk result (λ done. done ≡ true → is_child style ≡ true → IsCleared R.facts group) }
+    ensures failed { IfOk result (λ done. done ≡ false → IsNotCleared R.facts group) }
+{
+    if !is_child(style) {
+        return Ok(true);
+    }
+    let killer = killer(alloc, group)?;
+    Ok(run(system, killer))
+}
+
+/// What is seen of one process.
+fn see<R: System>(alloc: Global, system: &R, kid: &mut Kid<R::Started>) -> Result<Sight, AllocError>
+    ensures same { role_of kid.new ≡ role_of kid.old }
+    ensures seen { IfOk result (λ sight. IsSeen R.facts sight kid.old) }
+{
+    match system.look(&mut kid.child) {
+        Ok(Some(status)) => {
+            if !clear(alloc, system, kid.style, kid.group)? {
+                return Ok(Sight::Failed);
+            }
+            Ok(Sight::Ended(kid.contract, exit_of(status)))
+        }
+        Ok(None) => Ok(Sight::Running),
+        Err(_) => Ok(Sight::Failed),
+    }
+}
+
+/// A process that ended, if one has; it does not wait. The group of a child service is ended before that is told.
+pub(crate) fn see_all<R: System>(
+    alloc: Global,
+    system: &R,
+    kids: &mut [Kid<R::Started>],
+) -> Result<Sight, AllocError>
+    ensures same { roles kids.new ≡ roles kids.old }
+    ensures seen { IfOk result (λ sight. AreSeen R.facts sight kids.old) }
+{
+    let mut sight = Sight::Running;
+    for kid in kids {
+        let seen = see(alloc, system, kid)?;
+        match seen {
+            Sight::Ended(contract, exit) => return Ok(Sight::Ended(contract, exit)),
+            Sight::Failed => sight = Sight::Failed,
+            Sight::Running => {}
+        }
+    }
+    Ok(sight)
+}
+
+/// The place of the process of a contract.
+fn place_of<C>(kids: &[Kid<C>], contract: Number) -> Option<usize>
+    ensures { result ≡ position (is_kid_of contract) kids.now }
+{
+    kids.iter().position(|kid| kid.contract == contract)
+}
+
+/// Waits until a process ends. None if the system did not say how, or did not end the group of a child service.
+fn wait<R: System>(
+    alloc: Global,
+    system: &R,
     kid: &mut Kid<R::Started>,
-) -> Result<bool, AllocError> {
-    end_group(processes, killer(alloc, kid.child.id())?);
-    Ok(kid.child.kill().is_ok() && kid.child.wait().is_ok())
+) -> Result<Option<Exit>, AllocError>
+    ensures same { role_of kid.new ≡ role_of kid.old }
+    ensures ended { IfOk result (λ told. IfSome told (λ exit. HasExit R.facts exit kid.old)) }
+    ensures failed { IfOk result (λ told. IfNone told (HasNoExit R.facts kid.old)) }
+{
+    match system.wait(&mut kid.child) {
+        Ok(status) => {
+            if !clear(alloc, system, kid.style, kid.group)? {
+                return Ok(None);
+            }
+            Ok(Some(exit_of(status)))
+        }
+        Err(_) => Ok(None),
+    }
 }
 
-/// Ends the process of a contract and its process group, and waits for its end. Says whether that was done.
-pub(crate) fn end_all<R: Processes>(
+/// Waits until the process of a contract ends. None if there is none, or as `wait` says it.
+pub(crate) fn wait_for<R: System>(
     alloc: Global,
-    processes: &R,
+    system: &R,
     kids: &mut [Kid<R::Started>],
     contract: Number,
-) -> Result<bool, AllocError> {
-    for kid in kids {
-        if kid.contract == contract {
-            return end(alloc, processes, kid);
-        }
+) -> Result<Option<Exit>, AllocError>
+    ensures same { roles kids.new ≡ roles kids.old }
+    ensures ended { IfOk result (λ told. IfSome told (λ exit. SomeKid contract kids.old (HasExit R.facts exit))) }
+    ensures failed { IfOk result (λ told. IfNone told (NoneOrSome contract kids.old (HasNoExit R.facts))) }
+{
+    match place_of(kids, contract) {
+        Some(place) => wait(alloc, system, &mut kids[place]),
+        None => Ok(None),
     }
-    Ok(false)
 }
 
-/// Lets go of the process of a contract.
-pub(crate) fn forget<P: OpenProcess + Drop>(kids: &mut Vec<Kid<P>>, contract: Number) {
+/// Ends a process and its process group, waits for its end, and says whether that was done. No clause says the order.
+/// The kill comes before the killer, which ends no process that has not yet made its group. The wait comes last, since
+/// the system may then give the number to another process.
+fn end<R: System>(alloc: Global, system: &R, kid: &mut Kid<R::Started>) -> Result<bool, AllocError>
+    ensures same { role_of kid.new ≡ role_of kid.old }
+    ensures ended { IfOk result (λ done. done ≡ true → IsEnded R.facts kid.old) }
+    ensures failed { IfOk result (λ done. done ≡ false → IsNotEnded R.facts kid.old) }
+{
+    let killer = killer(alloc, kid.group)?;
+    if system.kill(&mut kid.child).is_err() {
+        return Ok(false);
+    }
+    if !run(system, killer) {
+        return Ok(false);
+    }
+    Ok(system.wait(&mut kid.child).is_ok())
+}
+
+/// Ends the process of a contract, as `end` does. It is not done if there is none.
+pub(crate) fn end_all<R: System>(
+    alloc: Global,
+    system: &R,
+    kids: &mut [Kid<R::Started>],
+    contract: Number,
+) -> Result<bool, AllocError>
+    ensures same { roles kids.new ≡ roles kids.old }
+    ensures ended { IfOk result (λ done. done ≡ true → SomeKid contract kids.old (IsEnded R.facts)) }
+    ensures failed { IfOk result (λ done. done ≡ false → NoneOrSome contract kids.old (IsNotEnded R.facts)) }
+{
+    match place_of(kids, contract) {
+        Some(place) => end(alloc, system, &mut kids[place]),
+        None => Ok(false),
+    }
+}
+
+/// Drops the process of a contract.
+pub(crate) fn forget<C: Drop>(kids: &mut Vec<Kid<C>>, contract: Number)
+    ensures { kids.new.items ≡ filter (is_other_kid contract) kids.old.items }
+{
     kids.retain(|kid| kid.contract != contract);
 }

@@ -1,5 +1,6 @@
 //! The children of services: processes in contracts, simulated by a contract table or real.
-//! Modules: `kids` (what is asked of them), `deed` (what happens to a process), `note` (what is kept), `fault`.
+//! Modules: `kids` (what is asked of them), `deed` (what happens to a process), `note` (what is kept), `system` (what
+//! starts real ones), `fault`.
 #![tactic(auto)]
 
 mod book;
@@ -12,6 +13,7 @@ mod kids;
 mod note;
 mod os_kids;
 mod shell;
+mod system;
 mod table_kids;
 
 pub use deed::{Deed, Happening};
@@ -19,4 +21,5 @@ pub use fault::KidsFault;
 pub use kids::Kids;
 pub use note::{Kill, Note, Run};
 pub use os_kids::OsKids;
+pub use system::System;
 pub use table_kids::TableKids;

@@ -1,12 +1,13 @@
 ghost use Rattle.smf_edge.specs.Answers.{HasFailed};
 
 use crate::book::Book;
-use crate::child::{Kid, Seen, end_all, forget, see_all, wait_for};
+use crate::child::{Kid, Sight, end_all, forget, see_all, start, wait_for};
 use crate::deed::Happening;
 use crate::fault::KidsFault;
 use crate::kids::Kids;
 use crate::note::{Note, Run};
 use crate::shell::{follows, shell};
+use crate::system::System;
 use smf_contract::{Event, Method, Terms};
 use smf_fmri::{InstanceFmri, Items, Number};
 use smf_method::Command;
@@ -14,7 +15,6 @@ use smf_state::Duration;
 use std::alloc::Global;
 use std::io::Stderr;
 use std::marker::Model;
-use std::process::Processes;
 
 /// One failure more, up to the greatest count.
 fn one_more(faults: u64) -> u64
@@ -23,12 +23,13 @@ fn one_more(faults: u64) -> u64
     faults.saturating_add(1)
 }
 
-/// Children that are processes of the system, each in a process group of its own. The process that was started is the only
-/// member of its contract: what it forks is not followed, but a kill ends it too, as far as it stays in the group.
+/// Children that are processes of the system, each in a process group of its own. The process that was started is the
+/// only member of its contract: what it forks is not followed. A kill ends that too, as far as it stays in the group,
+/// and so does the end of the process of a child service.
 #[derive(Drop)]
-pub struct OsKids<R: Processes> {
+pub struct OsKids<R: System> {
     alloc: Global,
-    processes: R,
+    system: R,
     output: Stderr,
     book: Book,
     children: Vec<Kid<R::Started>>,
@@ -36,31 +37,33 @@ pub struct OsKids<R: Processes> {
     faults: u64,
 }
 
-impl<R: Processes> Model for OsKids<R> {
-    ghost use Rattle.std.specs.Prelude.{ℕ};
+impl<R: System> Model for OsKids<R> {
+    ghost use Rattle.std.specs.Prelude.{ℕ, List};
     ghost use Rattle.smf_edge.specs.Ledgers.{Ledger};
+    ghost use Rattle.smf_edge.specs.declared.child.Kid.{Kid};
 
-    ghost Value = { Ledger × ℕ };
+    ghost Value = { Ledger × ℕ × List (Kid R.Started) };
 
     ghost use Rattle.smf_edge.specs.Books.{ledger_of};
-    ghost use Rattle.smf_edge.specs.Sound.{IsSound};
+    ghost use Rattle.smf_edge.specs.Manned.{IsKept};
+    ghost use Rattle.smf_edge.specs.Running.{contracts};
 
-    ghost view = { λ s. (ledger_of s.book, s.faults) };
+    ghost view = { λ s. (ledger_of s.book, s.faults, s.children.items) };
 
-    ghost invariant = { λ s. IsSound (ledger_of s.book) };
+    ghost invariant = { λ s. IsKept (ledger_of s.book) (contracts s.children.items) };
 }
 
-impl<R: Processes> OsKids<R> {
+impl<R: System> OsKids<R> {
     ghost use Rattle.std.specs.Prelude.{◌≡◌, []};
     ghost use Rattle.smf_contract.specs.Entries.{empty};
 
     /// No children yet. What they write goes to this stream.
-    pub fn new(alloc: Global, processes: R, output: Stderr) -> OsKids<R>
-        ensures { result ≡ (record { notes = []; table = empty; due = []; pending = [] }, 0) }
+    pub fn new(alloc: Global, system: R, output: Stderr) -> OsKids<R>
+        ensures { result ≡ (record { notes = []; table = empty; due = []; pending = [] }, 0, []) }
     {
         OsKids {
             alloc,
-            processes,
+            system,
             output,
             book: Book::new(alloc),
             children: Vec::new(alloc),
@@ -69,17 +72,23 @@ impl<R: Processes> OsKids<R> {
     }
 }
 
-impl<R: Processes> Kids for OsKids<R> {
-    ghost use Rattle.std.specs.Prelude.{false, true};
-    ghost use Rattle.smf_edge.specs.Shell.{follows};
+impl<R: System> Kids for OsKids<R> {
+    ghost use Rattle.std.specs.Prelude.{◌≡◌, IfErr, IfOk, OnErr, OnOk, Err, filter, false, true};
+    ghost use Rattle.smf_method.specs.Tokens.{method_text};
+    ghost use Rattle.smf_edge.specs.Answers.{MayNotAnswer, MayNotDo, MayNotSpawn};
+    ghost use Rattle.smf_edge.specs.Ends.{MayRefuse, os_skills};
+    ghost use Rattle.smf_edge.specs.Ledgers.{left};
+    ghost use Rattle.smf_edge.specs.Manned.{IsManned};
+    ghost use Rattle.smf_edge.specs.Running.{HasNoExit, IsEnded, IsJoinedEnd, IsNotEnded, IsStarted, OneFails, PollsKids, SomeKid, contracts, is_other_role, roles, run_of};
+    ghost use Rattle.smf_edge.specs.Shell.{IsRun, follows};
+    ghost use Rattle.smf_edge.specs.Steps.{IsJoined, IsKilled, IsPolled, IsSpawned};
+    ghost use Rattle.smf_edge.specs.declared.fault.KidsFault.TheVariants.{Device, NotFollowed, NotHere};
 
     ghost ledger = { λ s. s.0 };
 
     ghost failures = { λ s. s.1 };
 
-    ghost skills = { record { follows = follows; acts = false; joins = true; has_device = true } };
-
-    ghost may_refuse = { λ _ _. Unit {0} };
+    ghost skills = { os_skills R.facts.start_fails };
 
     fn spawn(
         &mut self,
@@ -91,7 +100,16 @@ impl<R: Processes> Kids for OsKids<R> {
         restarter: &InstanceFmri,
         method: Method,
         instance: &InstanceFmri,
-    ) -> Result<(), KidsFault> {
+    ) -> Result<(), KidsFault>
+        ensures made { OnOk result (IsSpawned (run_of id cookie terms command.now) self.old.0 self.new.0) }
+        ensures refused { OnErr result (self.new.0 ≡ self.old.0) }
+        ensures not_followed { follows style ≡ false → result ≡ Err NotFollowed }
+        ensures fault { IfErr result (MayNotSpawn (MayRefuse R.facts.start_fails self.old.0 id) (follows style)) }
+        ensures started { OnOk result
+            (IsStarted R.facts (IsRun command.now instance.now (method_text method) restarter.now) id style
+            self.old.2 self.new.2) }
+        ensures same { OnErr result (self.new.2 ≡ self.old.2) }
+    {
         if !follows(style) {
             return Err(KidsFault::NotFollowed);
         }
@@ -110,25 +128,27 @@ impl<R: Processes> Kids for OsKids<R> {
             Err(KidsFault::Memory) => return Err(KidsFault::Memory),
             Err(_) => return Err(KidsFault::Refused),
         }
-        let Ok(child) = program.spawn(&self.processes) else {
-            return Err(KidsFault::Refused);
-        };
+        let kid = start(&self.system, &mut program, id, style)?;
         self.book.make(Run {
             contract: id,
             cookie,
             terms,
             command,
         });
-        self.children
-            .push(Kid {
-                contract: id,
-                child,
-            })
-            .unwrap();
+        self.children.push(kid).unwrap();
         Ok(())
     }
 
-    fn poll(&mut self) -> Result<Option<Event>, KidsFault> {
+    /// The clause `seen` says that the end of a process is told only after the system told it, and of a child service's
+    /// only after the killer of its group ran. The end of a joined process was told in `join`, which says the same.
+    fn poll(&mut self) -> Result<Option<Event>, KidsFault>
+        ensures polled { IfOk result (λ event. IsPolled event self.old.0 self.new.0) }
+        ensures refused { OnErr result (self.new.0 ≡ self.old.0) }
+        ensures fault { IfErr result (MayNotAnswer (os_skills R.facts.start_fails) true self.old.1 self.new.1) }
+        ensures seen { IfOk result (λ event. PollsKids R.facts event self.old.0 self.new.0 self.old.2 self.new.2) }
+        ensures failed { IfErr result (λ e. e ≡ Device → OneFails R.facts self.old.2) }
+        ensures same { OnErr result (roles self.new.2 ≡ roles self.old.2) }
+    {
         if let Some(event) = self.book.give() {
             return Ok(Some(event));
         }
@@ -136,25 +156,36 @@ impl<R: Processes> Kids for OsKids<R> {
             forget(&mut self.children, event.contract);
             return Ok(Some(event));
         }
-        match see_all(&mut self.children) {
-            Seen::Running => Ok(None),
-            Seen::Failed => {
+        let sight = see_all(self.alloc, &self.system, &mut self.children)?;
+        match sight {
+            Sight::Running => Ok(None),
+            Sight::Failed => {
                 self.faults = one_more(self.faults);
                 Err(KidsFault::Device)
             }
-            Seen::Ended(contract, exit) => {
+            Sight::Ended(contract, exit) => {
                 let event = self.book.find(contract, Happening::Exit(exit))?;
                 forget(&mut self.children, contract);
-                Ok(event)
+                Ok(Some(event))
             }
         }
     }
 
-    fn join(&mut self, id: Number) -> Result<(), KidsFault> {
+    fn join(&mut self, id: Number) -> Result<(), KidsFault>
+        ensures joined { OnOk result (IsJoined id self.old.0 self.new.0) }
+        ensures refused { OnErr result (self.new.0 ≡ self.old.0) }
+        ensures not_here { true ≡ false → result ≡ Err NotHere }
+        ensures fault { IfErr result
+            (MayNotDo (os_skills R.facts.start_fails) true (left self.old.0 id) self.old.1 self.new.1) }
+        ensures ended { OnOk result (IsJoinedEnd R.facts id self.old.2 self.old.0 self.new.0) }
+        ensures failed { IfErr result (λ e. e ≡ Device → SomeKid id self.old.2 (HasNoExit R.facts)) }
+        ensures same { roles self.new.2 ≡ roles self.old.2 }
+    {
         if self.book.left(id) == 0 {
             return Err(KidsFault::NoChild);
         }
-        match wait_for(&mut self.children, id) {
+        let told = wait_for(self.alloc, &self.system, &mut self.children, id)?;
+        match told {
             Some(exit) => self.book.happen(id, Happening::Exit(exit)),
             None => {
                 self.faults = one_more(self.faults);
@@ -163,9 +194,18 @@ impl<R: Processes> Kids for OsKids<R> {
         }
     }
 
-    fn kill(&mut self, id: Number) -> Result<(), KidsFault> {
+    fn kill(&mut self, id: Number) -> Result<(), KidsFault>
+        ensures killed { OnOk result (IsKilled id self.old.0 self.new.0) }
+        ensures refused { OnErr result (self.new.0 ≡ self.old.0) }
+        ensures fault { IfErr result
+            (MayNotDo (os_skills R.facts.start_fails) true (left self.old.0 id) self.old.1 self.new.1) }
+        ensures ended { OnOk result (SomeKid id self.old.2 (IsEnded R.facts)) }
+        ensures failed { IfErr result (λ e. e ≡ Device → SomeKid id self.old.2 (IsNotEnded R.facts)) }
+        ensures forgotten { OnOk result (roles self.new.2 ≡ filter (is_other_role id) (roles self.old.2)) }
+        ensures same { OnErr result (roles self.new.2 ≡ roles self.old.2) }
+    {
         let kill = self.book.prepare_kill(id)?;
-        if !end_all(self.alloc, &self.processes, &mut self.children, id)? {
+        if !end_all(self.alloc, &self.system, &mut self.children, id)? {
             self.faults = one_more(self.faults);
             return Err(KidsFault::Device);
         }
@@ -187,7 +227,11 @@ impl<R: Processes> Kids for OsKids<R> {
         Ok(ids)
     }
 
-    fn faults(&self) -> u64 {
+    /// The clause `manned` says that each contract with members has its one process.
+    fn faults(&self) -> u64
+        ensures faults { result ≡ self.now.1 }
+        ensures manned { IsManned self.now.0 (contracts self.now.2) }
+    {
         self.faults
     }
 

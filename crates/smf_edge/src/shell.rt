@@ -1,15 +1,21 @@
 // How a command is run.
 ghost use Rattle.std.specs.Prelude.{◌≡◌, ◌≢◌, IfOk, OnOk, ℕ, List, Some, None, true, codes, [], ◌∷◌};
 ghost use Rattle.std.specs.Process.{SameEnv, SameOtherVars, SameProgramAndArgs, clears_env, command_args, command_program, command_var};
+ghost use Rattle.std.specs.IoError.{error_kind};
+ghost use Rattle.std_io.specs.declared.io.kind.ErrorKind.TheVariants.{OutOfMemory};
+ghost use Rattle.smf_edge.specs.declared.fault.KidsFault.TheVariants.{Memory, Refused};
 ghost use Rattle.smf_method.specs.Tokens.{method_text};
-ghost use Rattle.smf_edge.specs.Shell.{IsOther, by_shell, follows};
+ghost use Rattle.smf_edge.specs.Ends.{IsGroupKill, exit_by};
+ghost use Rattle.smf_edge.specs.Shell.{IsOther, by_shell, follows, is_child};
 
+use crate::fault::KidsFault;
 use smf_contract::{Exit, Method};
 use smf_fmri::InstanceFmri;
 use smf_method::{Command, method_text};
 use smf_state::Duration;
 use std::alloc::{AllocError, Global};
-use std::io::Stderr;
+use std::io;
+use std::io::{ErrorKind, Stderr};
 use std::process::{Command as Program, ExitStatus, Stdio};
 
 /// A command by the shell, in a session and so in a process group of its own, with no variables. `setsid` becomes the
@@ -77,7 +83,9 @@ pub(crate) fn shell(
 }
 
 /// What ends every process of a group, by SIGKILL.
-pub(crate) fn killer(alloc: Global, group: u32) -> Result<Program, AllocError> {
+pub(crate) fn killer(alloc: Global, group: u32) -> Result<Program, AllocError>
+    ensures { IfOk result (λ c. IsGroupKill group c) }
+{
     let words = format!(in alloc; "kill -KILL -{group}")?;
     let mut program = Program::new(alloc, "/bin/sh")?;
     program.arg("-c")?;
@@ -89,8 +97,10 @@ pub(crate) fn killer(alloc: Global, group: u32) -> Result<Program, AllocError> {
     Ok(program)
 }
 
-/// A code where the process ended by itself.
-pub(crate) fn exit_of(status: ExitStatus) -> Exit {
+/// A code if the process ended by itself.
+pub(crate) fn exit_of(status: ExitStatus) -> Exit
+    ensures { result ≡ exit_by status }
+{
     match status.code() {
         Some(code) => match u8::try_from(code) {
             Ok(code) => Exit::Code(code),
@@ -109,4 +119,22 @@ pub(crate) fn follows(style: Duration) -> bool
         Duration::Transient => true,
         Duration::Child => true,
     }
+}
+
+/// Whether a service is the one process that its start method starts.
+pub(crate) fn is_child(style: Duration) -> bool
+    ensures { result ≡ is_child style }
+{
+    style == Duration::Child
+}
+
+/// Why the system started no process.
+pub(crate) fn start_fault(error: &io::Error) -> KidsFault
+    ensures memory { error_kind error.now ≡ OutOfMemory → result ≡ Memory }
+    ensures refused { error_kind error.now ≢ OutOfMemory → result ≡ Refused }
+{
+    if error.kind() == ErrorKind::OutOfMemory {
+        return KidsFault::Memory;
+    }
+    KidsFault::Refused
 }

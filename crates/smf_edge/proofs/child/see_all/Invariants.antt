@@ -1,0 +1,11 @@
+use Rattle.std.proofs.Common.{◌≡◌, drop}
+use Rattle.smf_edge.specs.Running.{roles}
+use Rattle.smf_edge.proofs.Seeing.{SeenUpTo}
+use Rattle.smf_edge.proofs.child.see_all.Given as goal
+
+abbrev pub invariant-loop-kid : goal.invariant-loop-kid
+invariant-loop-kid g l = record {
+  same : roles l.kid-items ≡ roles l.initial.kid-items;
+  left : drop l.kid-index l.kid-items ≡ drop l.kid-index l.initial.kid-items;
+  seen : SeenUpTo g.R.System.facts l.kid-index l.sight l.initial.kid-items;
+}
