@@ -57,11 +57,11 @@ use Rattle.smf_world.specs.declared.work.Work.{Work}
 use Rattle.smf_world.specs.Happens.{done, happens}
 use Rattle.smf_world.specs.Worked.{acted, answer_of, begun_in, begun_item, begun_items, booted_as, call_of, calling, commanded, delivered, delivered_if, emptied_items, heard_by, held_items, holder, is_launched, joined, launched_if, own_ticked, process_call, reported_by, reported_to, restarter, sent_at, spawn_answer, ticked_for, timed, told, worked}
 use Rattle.smf_world.specs.World.{World, found}
-use Rattle.smf_drive.specs.declared.asking.Ask.TheVariants.{Spawn, Kill}
+use Rattle.smf_machine.specs.declared.requests.Ask.TheVariants.{Spawn, Kill}
 use Rattle.smf_machine.specs.declared.children.Wanted.{Wanted}
 use Rattle.smf_machine.specs.declared.hearing.News.{News}
 use Rattle.smf_drive.specs.Agrees.{Agrees, AreAlike, AreMade, ArePast, IsNoted, IsPast, Start, start_by, start_if}
-use Rattle.smf_drive.specs.Asking.{asked, asked_by, asked_of, first_of, is_held_by, is_instance, kill_if, wanted, wanted_in}
+use Rattle.smf_machine.specs.Requests.{asked, asked_by, asked_of, first_of, is_held_by, is_instance, kill_if, wanted, wanted_in}
 use Rattle.smf_machine.specs.Children.{happened, news, news_if, news_in, news_of, run_for, told as told_of}
 use Rattle.smf_drive.specs.Moves.{AreMoves, IsMove, IsUnmade, Moves, is_alone}
 use Rattle.smf_drive.specs.Moves.IsMove.{alone, unmade, spawned as spawns_run, killed as kills, polled}

@@ -18,7 +18,7 @@ use Rattle.smf_contract.specs.Calls.{activity, adopted, adopted_if, begun, chang
 use Rattle.smf_contract.specs.Entries.{Contracts, contract, contract_in, has_id, home}
 use Rattle.smf_edge.proofs.Firsts.{found_is}
 use Rattle.smf_drive.specs.Agrees.{AreAlike, unheld}
-use Rattle.smf_drive.specs.Asking.{is_held_by}
+use Rattle.smf_machine.specs.Requests.{is_held_by}
 
 pub alike_then : (s t u : Contracts) → AreAlike s t → AreAlike t u → AreAlike s u
 alike_then s t u a b =

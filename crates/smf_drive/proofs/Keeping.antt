@@ -26,15 +26,15 @@ use Rattle.smf_world.specs.declared.event.Event.TheVariants as events
 use Rattle.smf_world.specs.declared.work.Work.{Work}
 use Rattle.smf_world.specs.Happens.{happens}
 use Rattle.smf_world.specs.Runs.{run}
-use Rattle.smf_world.specs.Schedule.{Progress, is_revision, on}
+use Rattle.smf_world.specs.Schedule.{Progress, on}
 use Rattle.smf_world.specs.Worked.{booted_as, calling, commanded, crashed, restarter, worked}
 use Rattle.smf_world.specs.World.{World}
 use Rattle.smf_world.proofs.LiveLists.{Each}
+use Rattle.smf_world.proofs.Scheduled.{on_world}
 use Rattle.smf_world.proofs.TablesInherit.{AllInherit, Inherits, happens_inherits, run_inherits}
 use Rattle.smf_drive.specs.Agrees.{Agrees, AreAlike, AreMade, IsNoted, bond_by, passages_of, unheld}
 use Rattle.smf_drive.specs.Moves.{Moves, is_alone}
 use Rattle.smf_drive.proofs.Agreeing.{IsQuiet, agree_quiet, call_alone, not_run, ordered_by, other_call, quiet_as, quiet_nothing, table_of}
-use Rattle.smf_drive.proofs.Events.{marked_world}
 use Rattle.smf_drive.proofs.Moving.{driven_moved}
 use Rattle.smf_drive.proofs.Starting.{no_starts, starts}
 
@@ -153,7 +153,7 @@ pub apart_then : (u v w : World) → IsApart u v → IsApart v w → IsApart u w
 apart_then u v w a b = (a.0 ++ b.0, all_both a.0 b.0 a.1 b.1, run_both a.0 b.0 u ∙ ap (run b.0) a.2 ∙ b.2)
 
 pub apart_on : (p : Progress) (e : Event) → is_apart e ≡ true → IsApart p.world (on p e).world
-apart_on p e a = (e ∷ [], (a, tt), sym (marked_world e (is_revision p.world (happens p.world e)) (record p { world = happens p.world e })))
+apart_on p e a = (e ∷ [], (a, tt), sym (on_world p e))
 
 -- ---- what happened to children, and is not told yet
 

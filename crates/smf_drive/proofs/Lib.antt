@@ -1,10 +1,7 @@
-pub mod Turning
 pub mod Events
-pub mod Alone
-pub mod Fails
+pub mod Asks
 pub mod Moving
-pub mod Steps
-pub mod Reaching
+pub mod Moved
 pub mod Alikeness
 pub mod Passing
 pub mod Bonding

@@ -1,15 +1,14 @@
 -- Moves, one behind another.
-use Rattle.std.proofs.Common.{◌≡◌, ℕ, zero, suc, ◌+◌, true, List, [], ◌∷◌, Option, Some, None, refl, sym, subst, arith}
+use Rattle.std.proofs.Common.{◌≡◌, ℕ, zero, suc, ◌+◌, true, Option, Some, None, refl, subst, arith}
 use Rattle.smf_edge.specs.Ledgers.{Ledger}
 use Rattle.smf_world.specs.declared.event.Event.{Event}
 use Rattle.smf_world.specs.declared.event.Event.TheVariants as events
 use Rattle.smf_world.specs.Happens.{happens}
-use Rattle.smf_world.specs.Runs.{run}
 use Rattle.smf_world.specs.World.{World}
 use Rattle.smf_machine.specs.declared.hearing.News.{News}
 use Rattle.smf_drive.specs.Drives.{IsDriven, is_driven}
 use Rattle.smf_machine.specs.Children.{happened, news_of}
-use Rattle.smf_drive.specs.Moves.{AreMoves, IsAlone, IsMove, Moves, AllAlone, is_alone}
+use Rattle.smf_drive.specs.Moves.{AreMoves, IsMove, Moves, is_alone}
 use Rattle.smf_drive.specs.Moves.IsMove.{alone, unmade, spawned, killed, polled}
 use Rattle.smf_drive.proofs.Events.{driven_by, driven_same, driven_then}
 
@@ -31,16 +30,6 @@ then_by (suc j) i u v w k l m a b =
 
 pub moves_then : (u v w : World) (k l m : Ledger) → Moves u v k l → Moves v w l m → Moves u w k m
 moves_then u v w k l m a b = (a.0 + b.0, then_by a.0 b.0 u v w k l m a.1 b.1)
-
--- ---- events in which children have no part
-
-moves_by : (es : List Event) (w v : World) (l : Ledger) → AllAlone es → run es w ≡ v → Moves w v l l
-moves_by [] w v l a e = (zero, (sym e, refl))
-moves_by (e ∷ es) w v l a is =
-    moves_then w (happens w e) v l l l (one_move w (happens w e) l l (alone e a.0 refl refl)) (moves_by es (happens w e) v l a.1 is)
-
-pub moves_alone : (w v : World) (l m : Ledger) → IsAlone w v → m ≡ l → Moves w v l m
-moves_alone w v l m a same = subst (λ x. Moves w v l x) (sym same) (moves_by a.0 w v l a.1 a.2)
 
 -- ---- without children
 

@@ -1,5 +1,6 @@
--- A drive, move by move: each is at most one call of the children that changes what they keep, with the event that it is to the node.
-use Rattle.std.specs.Prelude.{◌≡◌, ℕ, zero, suc, List, [], ◌∷◌, Bool, true, false, Some}
+-- A drive, move by move: each is at most one call of the children that changes what they keep, with the event that it is to
+-- the node.
+use Rattle.std.specs.Prelude.{◌≡◌, ℕ, zero, suc, List, Bool, true, false, Some}
 use Rattle.smf_contract.specs.declared.event.Event.{Event as ContractEvent}
 use Rattle.smf_edge.specs.Ledgers.{Ledger}
 use Rattle.smf_edge.specs.Steps.{IsKilled, IsPolled, IsSpawned}
@@ -9,14 +10,11 @@ use Rattle.smf_world.specs.declared.event.Event.{Event}
 use Rattle.smf_world.specs.declared.event.Event.TheVariants as events
 use Rattle.smf_world.specs.declared.event.SpawnAnswer.{SpawnAnswer}
 use Rattle.smf_world.specs.declared.event.SpawnAnswer.TheVariants as spawns
-use Rattle.smf_world.specs.declared.schedule.Turn.{Turn}
-use Rattle.smf_world.specs.declared.schedule.Turn.TheVariants as turns
 use Rattle.smf_world.specs.Happens.{happens}
-use Rattle.smf_world.specs.Runs.{run}
 use Rattle.smf_world.specs.World.{World}
-use Rattle.smf_drive.specs.declared.asking.Ask.{Ask}
-use Rattle.smf_drive.specs.declared.asking.Ask.TheVariants.{Nothing, Unnumbered, Spawn, Kill}
-use Rattle.smf_drive.specs.Asking.{asked}
+use Rattle.smf_machine.specs.declared.requests.Ask.{Ask}
+use Rattle.smf_machine.specs.declared.requests.Ask.TheVariants.{Nothing, Unnumbered, Spawn, Kill}
+use Rattle.smf_machine.specs.Requests.{asked}
 
 -- an event in which children have no part: no client's command, crash or boot, no turn for an instance, and nothing that
 -- happens to a process
@@ -27,14 +25,6 @@ is_alone events.Boot = false
 is_alone (events.Tick name n spawn) = false
 is_alone (events.Process p what) = false
 is_alone _ = true
-
-abbrev pub AllAlone : List Event → Type 0
-AllAlone [] = Unit {0}
-AllAlone (e ∷ es) = (is_alone e ≡ true) × AllAlone es
-
--- a list of such events makes the second world of the first
-abbrev pub IsAlone : World → World → Type 0
-IsAlone w v = (es : List Event) × AllAlone es × (run es w ≡ v)
 
 -- a turn that asks nothing of children goes on; one that asks for a spawn may go on without it
 abbrev pub IsUnmade : Ask → SpawnAnswer → Type 0
@@ -61,10 +51,3 @@ AreMoves (suc k) w v l m = (u : World) × (k' : Ledger) × IsMove w u l k' × Ar
 -- moves lead there
 abbrev pub Moves : World → World → Ledger → Ledger → Type 0
 Moves w v l m = (k : ℕ) × AreMoves k w v l m
-
--- ---- turns without children
-
--- all turns but those of a restarter for its instances
-abbrev pub is_plain : Turn → Bool
-is_plain (turns.Ticks name) = false
-is_plain _ = true

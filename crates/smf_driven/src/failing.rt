@@ -52,9 +52,7 @@ impl Kids for FailingKids {
 
     ghost failures = { λ s. s.failures };
 
-    ghost skills = { record { follows = λ _. true; acts = true; joins = false; has_device = true } };
-
-    ghost may_refuse = { λ _ _. Unit {0} };
+    ghost skills = { record { follows = λ _. true; acts = true; joins = false; has_device = true; may_refuse = λ _ _. Unit {0} } };
 
     fn spawn(
         &mut self,

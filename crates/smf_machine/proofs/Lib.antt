@@ -10,4 +10,5 @@ pub mod Keeping
 pub mod Emptying
 pub mod Telling
 pub mod Turned
+pub mod Covered
 pub mod Seen

@@ -1,7 +1,7 @@
 -- A work that is made where children made a call.
 use Rattle.std.proofs.Common.{◌≡◌, ◌⊎◌, inl, inr, ◌<◌, ℕ, Bool, true, false, List, [], ◌∷◌, length, map, Option, None, Some, Result, Ok, Err, IfOk, OnErr, OnOk, refl, sym, subst, ap, ◌∙◌, arith}
 use Rattle.smf_contract.specs.declared.event.Event.{Event as ContractEvent}
-use Rattle.smf_edge.specs.Ledgers.{Ledger}
+use Rattle.smf_edge.specs.Answers.{Seen}
 use Rattle.smf_model.specs.declared.change.Change.{Change}
 use Rattle.smf_model.specs.declared.journal.RepoFault.{RepoFault}
 use Rattle.smf_model.specs.declared.journal.RepoFault.TheVariants as journals
@@ -23,10 +23,14 @@ use Rattle.smf_machine.specs.declared.fault.MachineFault.TheVariants.{Memory}
 use Rattle.smf_machine.specs.declared.installing.Rest.{Rest}
 use Rattle.smf_machine.specs.declared.parts.Parts.{Parts}
 use Rattle.smf_machine.specs.declared.children.Wanted.{Wanted}
-use Rattle.smf_machine.specs.Children.{HasSpawned, done_if, happened, happens_if, heard, is_made, news_of}
+use Rattle.smf_machine.specs.declared.requests.Ask.{Ask}
+use Rattle.smf_machine.specs.declared.requests.Ask.TheVariants.{Nothing, Unnumbered, Spawn, Kill}
+use Rattle.smf_machine.specs.Children.{done_if, happened, happens_if, heard, news_of}
+use Rattle.smf_machine.specs.Requests.{asked}
+use Rattle.smf_machine.specs.Runners.{HasTicked, Rules, TickedBy}
 use Rattle.smf_machine.specs.declared.hearing.News.{News}
 use Rattle.smf_machine.specs.Faults.{IsUndone}
-use Rattle.smf_machine.specs.Install.{IsInstalledIf, IsSame, IsSingle, rest_of}
+use Rattle.smf_machine.specs.Install.{IsInstalled, IsInstalledIf, IsSame, IsSingle, rest_of}
 use Rattle.smf_machine.specs.Lists.{AtMostOne}
 use Rattle.smf_machine.specs.Parts.{knowledge, world_of}
 use Rattle.smf_machine.specs.Sound.{IsSound}
@@ -86,25 +90,13 @@ made_if false w e k is = refl
 made_by : (b : Bool) (w v : World) (e t : Event) (k : Work) → e ≡ t → k ≡ worked w e → v ≡ done_if b w k → v ≡ happens_if b w t
 made_by b w v e t k at is h = h ∙ made_if b w e k is ∙ ap (happens_if b w) at
 
-pub spawn_made : {E : Type 0} (w v : World) (e t : Event) (k : Work) (r : Result SpawnAnswer E) → e ≡ t → k ≡ worked w e → IfOk r (λ a. v ≡ done_if (is_made a) w k) → IfOk r (λ a. v ≡ happens_if (is_made a) w t)
-spawn_made w v e t k (Ok a) at is h = made_by (is_made a) w v e t k at is h
-spawn_made w v e t k (Err f) at is h = tt
-
-pub kill_made : {E : Type 0} (w v : World) (e t : Event) (k : Work) (r : Result Bool E) → e ≡ t → k ≡ worked w e → IfOk r (λ did. v ≡ done_if did w k) → IfOk r (λ did. v ≡ happens_if did w t)
-kill_made w v e t k (Ok b) at is h = made_by b w v e t k at is h
-kill_made w v e t k (Err f) at is h = tt
+pub killed_by : (did : Bool) (w v : World) (e : Event) (k : Work) → k ≡ worked w e → v ≡ done_if did w k → v ≡ happens_if did w e
+killed_by did w v e k is h = made_by did w v e e k refl is h
 
 -- a turn that was taken
 pub turn_made : (w v : World) (e : Event) (k : Work) → k ≡ worked w e → v ≡ done w k → v ≡ happens w e
 unfolding happens
 turn_made w v e k is h = h ∙ ap (done w) is
-
--- a spawn that was not made
-pub not_made : (w v : World) (e : Event) (a b : SpawnAnswer) → a ≡ b → is_made b ≡ false → v ≡ happens_if (is_made a) w e → v ≡ w
-not_made w v e a b is never h = h ∙ ap (λ (x : Bool). happens_if x w e) (ap is_made is ∙ never)
-
-pub was_made : (w v : World) (e : Event) (a : SpawnAnswer) → a ≡ spawns.Made → v ≡ happens_if (is_made a) w e → v ≡ happens w e
-was_made w v e a is h = h ∙ ap (λ (x : Bool). happens_if x w e) (ap is_made is)
 
 -- ---- what stays sound
 
@@ -115,13 +107,15 @@ sound_ticked : (b : Bool) (w v : World) (name : List ℕ) (n : ℕ) (a : SpawnAn
 sound_ticked true w v name n a s is = sound_next w v (tick name n a) is tt s
 sound_ticked false w v name n a s is = sound_same w v is s
 
-pub sound_spawned : {E : Type 0} (w v : World) (name : List ℕ) (n : ℕ) (r : Result SpawnAnswer E) → IsSound w → IfOk r (λ a. v ≡ happens w (events.Tick name n a)) → OnErr r (v ≡ w) → IsSound v
-sound_spawned w v name n (Ok a) s made same = sound_next w v (tick name n a) made tt s
-sound_spawned w v name n (Err f) s made same = sound_same w v same s
+sound_turn : (rules : Rules) (ask : Ask) (name : List ℕ) (n : ℕ) (w v : World) (s t : Seen) → TickedBy rules ask name n w s v t → IsSound w → IsSound v
+sound_turn rules Nothing name n w v s t h sound = sound_next w v (tick name n spawns.Made) h.0 tt sound
+sound_turn rules Unnumbered name n w v s t h sound = sound_next w v (tick name n spawns.Refused) h.0 tt sound
+sound_turn rules (Spawn wanted) name n w v s t h sound = sound_next w v (tick name n h.0) h.2 tt sound
+sound_turn rules (Kill id) name n w v s t h sound = sound_ticked h.0 w v name n spawns.Made sound h.2
 
-pub sound_killed : {E : Type 0} (w v : World) (name : List ℕ) (n : ℕ) (a : SpawnAnswer) (r : Result Bool E) → IsSound w → IfOk r (λ did. v ≡ happens_if did w (events.Tick name n a)) → OnErr r (v ≡ w) → IsSound v
-sound_killed w v name n a (Ok did) s made same = sound_ticked did w v name n a s made
-sound_killed w v name n a (Err f) s made same = sound_same w v same s
+pub sound_after_turn : {X E : Type 0} (rules : Rules) (name : List ℕ) (n : ℕ) (w v : World) (s t : Seen) (r : Result X E) → IsSound w → OnOk r (HasTicked rules name n w s v t) → OnErr r (v ≡ w) → IsSound v
+sound_after_turn rules name n w v s t (Ok x) sound made same = sound_turn rules (asked w name n) name n w v s t made sound
+sound_after_turn rules name n w v s t (Err f) sound made same = sound_same w v same sound
 
 sound_news : (o : Option News) (w v : World) → IsSound w → v ≡ happened o w → IsSound v
 sound_news None w v s is = sound_same w v is s
@@ -135,13 +129,32 @@ pub sound_heard : {E : Type 0} (w v : World) (r : Result (Option ContractEvent) 
 sound_heard w v (Ok o) s made same = sound_event o w v s made
 sound_heard w v (Err f) s made same = sound_same w v same s
 
--- ---- what was answered where nothing was made
+-- ---- a turn, by what it asks for
 
-pub answered : (w u v : World) (e : Event) (name : List ℕ) (n : ℕ) (a b : SpawnAnswer) → a ≡ b → is_made b ≡ false → u ≡ happens_if (is_made a) w e → v ≡ happens u (events.Tick name n b) → v ≡ happens w (events.Tick name n b)
-answered w u v e name n a b is never h made = made ∙ ap (λ (x : World). happens x (events.Tick name n b)) (not_made w u e a b is never h)
+abbrev TicksBy : Rules → List ℕ → ℕ → World → Seen → World → Seen → Ask → Type 0
+TicksBy rules name n w s v t ask = TickedBy rules ask name n w s v t
 
-pub still_answers : (w u v : World) (e : Event) (a b : SpawnAnswer) → a ≡ b → is_made b ≡ false → u ≡ happens_if (is_made a) w e → v ≡ u → v ≡ w
-still_answers w u v e a b is never h same = same ∙ not_made w u e a b is never h
+ticked_as : (rules : Rules) (name : List ℕ) (n : ℕ) (w v : World) (s t : Seen) (ask : Ask) → ask ≡ asked w name n → TickedBy rules ask name n w s v t → HasTicked rules name n w s v t
+ticked_as rules name n w v s t ask e h = subst (TicksBy rules name n w s v t) e h
 
-pub spawned_is : (a b : SpawnAnswer) (wanted : Wanted) (l m : Ledger) → a ≡ b → HasSpawned a wanted l m → HasSpawned b wanted l m
-spawned_is a b wanted l m e h = subst (λ (x : SpawnAnswer). HasSpawned x wanted l m) e h
+pub turn_as : {X E : Type 0} (rules : Rules) (name : List ℕ) (n : ℕ) (w v : World) (s t : Seen) (ask : Ask) (r : Result X E) → ask ≡ asked w name n → OnOk r (TickedBy rules ask name n w s v t) → OnOk r (HasTicked rules name n w s v t)
+turn_as rules name n w v s t ask (Ok x) e h = ticked_as rules name n w v s t ask e h
+turn_as rules name n w v s t ask (Err f) e h = tt
+
+-- nobody is asked
+pub quiet_turn : {X E : Type 0} (rules : Rules) (name : List ℕ) (n : ℕ) (w v : World) (s : Seen) (r : Result X E) → Nothing ≡ asked w name n → OnOk r (v ≡ happens w (events.Tick name n spawns.Made)) → OnOk r (HasTicked rules name n w s v s)
+quiet_turn rules name n w v s (Ok x) e h = ticked_as rules name n w v s s Nothing e (h, refl)
+quiet_turn rules name n w v s (Err f) e h = tt
+
+pub unnumbered_turn : {X E : Type 0} (rules : Rules) (name : List ℕ) (n : ℕ) (w v : World) (s : Seen) (r : Result X E) → Unnumbered ≡ asked w name n → OnOk r (v ≡ happens w (events.Tick name n spawns.Refused)) → OnOk r (HasTicked rules name n w s v s)
+unnumbered_turn rules name n w v s (Ok x) e h = ticked_as rules name n w v s s Unnumbered e (h, refl)
+unnumbered_turn rules name n w v s (Err f) e h = tt
+
+-- ---- a process that was asked for
+
+pub answer_made : (w v : World) (e : Event) (k : Work) → k ≡ worked w e → v ≡ done w k → v ≡ happens w e
+answer_made w v e k is h = turn_made w v e k is h
+
+-- room was made, a process was asked for, and what comes of the answer was made
+pub answer_parts : (h : Holdings) (p m q : Parts) (k : Work) (r : Rest) → r ≡ rest_of k → IsSame p m → IsInstalled m q r → k.changes ≡ [] → AtMostOne k.command → world_of h q ≡ done (world_of h p) k
+answer_parts h p m q k r rest s i plain one = done_is h h p m q k s (none_installed h k.changes plain) (subst (λ x. IsInstalled m q x) rest i) one

@@ -1,4 +1,4 @@
--- What is asked of children, and what they tell.
+-- The run that is made for a process that is asked for, and what children tell.
 use Rattle.std.specs.Prelude.{◌≡◌, ℕ, List, [], ◌∷◌, Bool, true, false, if◌then◌else◌, Option, Some, None, is_some, option_map}
 use Rattle.smf_contract.specs.declared.contract.Member.{Member}
 use Rattle.smf_contract.specs.declared.event.Event.{Event}
@@ -7,8 +7,6 @@ use Rattle.smf_contract.specs.declared.event.EventKind.TheVariants as kinds
 use Rattle.smf_contract.specs.declared.event.Failure.TheVariants.{Core, Signal, Hwerr}
 use Rattle.smf_contract.specs.Entries.{Contracts, first_member, has_members, home}
 use Rattle.smf_edge.specs.declared.note.Run.{Run}
-use Rattle.smf_edge.specs.Ledgers.{Ledger}
-use Rattle.smf_edge.specs.Steps.{IsKilled, IsPolled, IsSpawned}
 use Rattle.smf_world.specs.declared.event.Event.{Event as WorldEvent}
 use Rattle.smf_world.specs.declared.event.Event.TheVariants as events
 use Rattle.smf_world.specs.declared.event.ProcessEvent.{ProcessEvent}
@@ -26,27 +24,6 @@ use Rattle.smf_machine.specs.declared.hearing.News.{News}
 -- the run that is made for what is asked for
 abbrev pub run_for : Wanted → Run
 run_for w = record { contract = w.contract; cookie = w.cookie; terms = w.terms; command = w.command }
-
--- what a spawn that had this answer made
-abbrev pub HasSpawned : SpawnAnswer → Wanted → Ledger → Ledger → Type 0
-HasSpawned spawns.Made w l m = IsSpawned (run_for w) l m
-HasSpawned spawns.Refused w l m = m ≡ l
-HasSpawned spawns.NotFollowed w l m = m ≡ l
-
--- what a kill that was done or not made
-abbrev pub HasKilled : Bool → ℕ → Ledger → Ledger → Type 0
-HasKilled true id l m = IsKilled id l m
-HasKilled false id l m = m ≡ l
-
--- what was asked for an event made, which may have given none; also where a device failed
-abbrev pub HasGiven : Option Event → Ledger → Ledger → Type 0
-HasGiven None l m = m ≡ l
-HasGiven (Some e) l m = IsPolled (Some e) l m
-
-abbrev pub is_made : SpawnAnswer → Bool
-is_made spawns.Made = true
-is_made spawns.Refused = false
-is_made spawns.NotFollowed = false
 
 -- ---- what comes of it
 

@@ -6,6 +6,8 @@ use Rattle.smf_model.specs.Laws.{IsNumbered}
 use Rattle.smf_model.specs.Look.{installed}
 use Rattle.smf_restarter.specs.declared.reply.Change.{Change}
 use Rattle.smf_restarter.specs.Knowledge.{Kept, Knowledge}
+use Rattle.smf_world.specs.declared.event.SpawnAnswer.{SpawnAnswer}
+use Rattle.smf_world.specs.declared.event.SpawnAnswer.TheVariants as spawns
 use Rattle.smf_world.specs.declared.work.Becomes.{Becomes}
 use Rattle.smf_world.specs.declared.work.Becomes.TheVariants.{Knows, Launched, Gone, NoneLeft}
 use Rattle.smf_world.specs.declared.work.Work.{Work}
@@ -13,6 +15,8 @@ use Rattle.smf_world.specs.Happens.{all_becoming, seen_after}
 use Rattle.smf_world.specs.Worked.{is_named}
 use Rattle.smf_machine.specs.declared.installing.Rest.{Rest}
 use Rattle.smf_machine.specs.declared.parts.Parts.{Parts}
+use Rattle.smf_machine.specs.declared.turning.SpawnRests.{SpawnRests}
+use Rattle.smf_machine.specs.declared.turning.SpawnWorks.{SpawnWorks}
 use Rattle.smf_machine.specs.Lists.{AtMostOne, NoTwins}
 use Rattle.smf_machine.specs.Parts.{knowledge}
 
@@ -77,6 +81,29 @@ rest_of k =
       forgets = k.forgets;
       call = k.call;
     }
+
+-- ---- the answers to a spawn
+
+abbrev pub work_with : SpawnWorks → SpawnAnswer → Work
+work_with ks spawns.Made = ks.made
+work_with ks spawns.Refused = ks.refused
+work_with ks spawns.NotFollowed = ks.not_followed
+
+abbrev pub rest_with : SpawnRests → SpawnAnswer → Rest
+rest_with ks spawns.Made = ks.made
+rest_with ks spawns.Refused = ks.refused
+rest_with ks spawns.NotFollowed = ks.not_followed
+
+-- what has room for the second has room for the first
+pub record IsCovered (small big : Work) : Type 0 where
+  pub commands : length small.command ≤ length big.command
+  pub items : length small.items ≤ length big.items
+  pub messages : length small.messages ≤ length big.messages
+  pub becomes : (rs : List Kept) → RoomForAll big.becomes rs → RoomForAll small.becomes rs
+
+-- what has room for a process that is made has room for what comes of any other answer
+abbrev pub AreCovered : SpawnWorks → Type 0
+AreCovered ks = (a : SpawnAnswer) → IsCovered (work_with ks a) ks.made
 
 -- ---- what can be installed
 

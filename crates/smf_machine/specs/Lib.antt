@@ -5,4 +5,6 @@ pub mod Faults
 pub mod Install
 pub mod Done
 pub mod Children
+pub mod Requests
+pub mod Runners
 pub mod Sound

@@ -1,6 +1,6 @@
 ghost use Rattle.std.specs.Prelude.{◌≡◌, ◌++◌, ◌<◌, map, option_to_list, vec_capacity, vec_len, true, Some, IfErr, IfOk, OnErr, OnOk};
 ghost use Rattle.smf_contract.specs.Laws.{IsOrdered};
-ghost use Rattle.smf_machine.specs.Children.{HasGiven, emptied_one, heard, news, news_if, news_of, told};
+ghost use Rattle.smf_machine.specs.Children.{emptied_one, heard, news, news_if, news_of, told};
 ghost use Rattle.smf_machine.specs.declared.fault.MachineFault.TheVariants.{Memory};
 ghost use Rattle.smf_machine.specs.Install.{IsSame};
 ghost use Rattle.smf_machine.specs.Parts.{world_of};
@@ -9,12 +9,11 @@ ghost use Rattle.smf_world.specs.declared.event.Event.TheVariants as events;
 ghost use Rattle.smf_world.specs.declared.item.Item.TheVariants.{Emptied as EmptiedItem};
 ghost use Rattle.smf_world.specs.Happens.{happens};
 
-use crate::children::poll;
 use crate::fault::MachineFault;
 use crate::parts::Parts;
+use crate::runner::Runner;
 use crate::working::process_call;
 use smf_contract::{Event, EventKind, Failure, Table};
-use smf_edge::Kids;
 use smf_fmri::Number;
 use smf_world::{Item, ProcessEvent};
 use std::alloc::AllocError;
@@ -135,17 +134,20 @@ fn make_room_for_one(parts: &mut Parts) -> Result<(), AllocError>
     parts.table.reserve()
 }
 
-/// Children are asked for an event once there is room for it, and it happens.
-pub(crate) fn hear<K: Kids>(parts: &mut Parts, kids: &mut K) -> Result<Option<Event>, MachineFault>
+/// The next event is asked for once there is room for it, and it happens.
+pub(crate) fn hear<R: Runner>(
+    parts: &mut Parts,
+    runner: &mut R,
+) -> Result<Option<Event>, MachineFault>
     requires { IsOrdered parts.old.table.table }
     ensures heard { (h : AnyHoldings) → IfOk result (λ event. world_of h parts.new ≡ heard event (world_of h parts.old)) }
-    ensures given { IfOk result (λ event. HasGiven event (K.ledger kids.old) (K.ledger kids.new)) }
+    ensures answered { IfOk result (λ event. R.rules.polls event (R.seen runner.old) (R.seen runner.new)) }
     ensures err { (h : AnyHoldings) → OnErr result (world_of h parts.new ≡ world_of h parts.old) }
-    ensures kept { OnErr result (K.ledger kids.new ≡ K.ledger kids.old) }
+    ensures kept { OnErr result ((R.seen runner.new).ledger ≡ (R.seen runner.old).ledger) }
     ensures fault { IfErr result (λ e. e ≡ Memory) }
 {
     make_room_for_one(parts)?;
-    let event = poll(kids)?;
+    let event = runner.next_event()?;
     learn_if(parts, &event);
     Ok(event)
 }

@@ -124,7 +124,7 @@ fn see(engine: &mut Engine, forgets: bool, views: Items<View>)
 }
 
 /// Makes what is left, for which there is room.
-fn install(alloc: Global, parts: &mut Parts, work: Rest)
+pub(crate) fn install(alloc: Global, parts: &mut Parts, work: Rest)
     requires room { HasRoomLeft parts.old work }
     requires single { IsSingle (map knowledge parts.old.restarters.items) work }
     ensures { IsInstalled parts.old parts.new work }
@@ -146,13 +146,10 @@ fn install(alloc: Global, parts: &mut Parts, work: Rest)
     parts.messages.append(&mut messages.into_vec()).unwrap();
 }
 
-/// Makes room for all that is left of a work, which can then be installed.
-pub(crate) fn prepare(parts: &mut Parts, work: Work) -> Result<Rest, AllocError>
-    ensures same { IsSame parts.old parts.new }
-    ensures rest { IfOk result (λ rest. rest ≡ rest_of work) }
-    ensures room { IfOk result (λ rest. HasRoomLeft parts.new rest) }
+/// What is left of a work when the repository has committed.
+pub(crate) fn into_rest(work: Work) -> Rest
+    ensures { result ≡ rest_of work }
 {
-    make_room(parts, &work)?;
     let Work {
         command,
         items,
@@ -163,7 +160,7 @@ pub(crate) fn prepare(parts: &mut Parts, work: Work) -> Result<Rest, AllocError>
         call,
         ..
     } = work;
-    Ok(Rest {
+    Rest {
         command,
         items,
         messages,
@@ -171,7 +168,17 @@ pub(crate) fn prepare(parts: &mut Parts, work: Work) -> Result<Rest, AllocError>
         seen,
         forgets,
         call,
-    })
+    }
+}
+
+/// Makes room for all that is left of a work, which can then be installed.
+pub(crate) fn prepare(parts: &mut Parts, work: Work) -> Result<Rest, AllocError>
+    ensures same { IsSame parts.old parts.new }
+    ensures rest { IfOk result (λ rest. rest ≡ rest_of work) }
+    ensures room { IfOk result (λ rest. HasRoomLeft parts.new rest) }
+{
+    make_room(parts, &work)?;
+    Ok(into_rest(work))
 }
 
 /// Makes what is left, for which there is room, or nothing.

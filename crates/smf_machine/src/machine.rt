@@ -2,18 +2,18 @@ ghost use Rattle.std.specs.Prelude.{◌≡◌, [], map, option_map, reverse, tru
 ghost use Rattle.std.specs.Option.{option_copied};
 ghost use Rattle.smf_engine.specs.Orders.{has_no_orders};
 ghost use Rattle.smf_model.specs.Shown.{view};
-ghost use Rattle.smf_machine.specs.Children.{HasGiven, HasKilled, HasSpawned, happens_if, heard};
+ghost use Rattle.smf_machine.specs.Children.{heard};
 ghost use Rattle.smf_machine.specs.declared.fault.MachineFault.TheVariants.{Memory};
 ghost use Rattle.smf_machine.specs.Faults.{IsUnbooted, IsUndone};
 ghost use Rattle.smf_machine.specs.Done.{IsDone, is_beginning};
 ghost use Rattle.smf_machine.specs.Lists.{NoTwins};
 ghost use Rattle.smf_machine.specs.Parts.{knowledge};
+ghost use Rattle.smf_machine.specs.Runners.{HasTicked};
 ghost use Rattle.smf_model.specs.declared.command.Command.TheVariants as commands;
 ghost use Rattle.smf_model.specs.declared.command.Reply.TheVariants.{Done};
 ghost use Rattle.smf_model.specs.Laws.{IsNumbered};
 ghost use Rattle.smf_model.specs.Next.{next};
 ghost use Rattle.smf_world.specs.declared.event.Event.TheVariants as events;
-ghost use Rattle.smf_world.specs.declared.event.SpawnAnswer.TheVariants as spawns;
 ghost use Rattle.smf_world.specs.Happens.{happens};
 ghost use Rattle.smf_world.specs.Reached.{IsReached};
 ghost use Rattle.smf_world.specs.Safe.{IsSafe};
@@ -21,18 +21,17 @@ ghost use Rattle.smf_world.specs.Spelled.{AreSpelled};
 ghost use Rattle.smf_world.specs.Worked.{restarter, worked};
 ghost use Rattle.smf_world.specs.World.{found};
 
-use crate::children::Wanted;
 use crate::commanding::is_done;
 use crate::fault::MachineFault;
 use crate::parts::{System, parts_of};
+use crate::runner::Runner;
 use crate::seeing::{see_event, stored_in};
 use smf_contract::{Event as ContractEvent, Table};
-use smf_edge::Kids;
-use smf_fmri::{InstanceFmri, Items, Number};
+use smf_fmri::{InstanceFmri, Items};
 use smf_model::{Journal, Plain, Reply};
 use smf_restarter::{Restarter, Stage};
 use smf_wire::Message;
-use smf_world::{Event, Item, SpawnAnswer};
+use smf_world::{Event, Item};
 use std::alloc::{AllocError, Global};
 use std::marker::Model;
 
@@ -148,52 +147,32 @@ impl<J: Journal> Machine<J> {
         self.system.happen(event)
     }
 
-    /// A restarter has its turn for an instance, with what children answer to the spawn that it asks for. They are asked
-    /// once there is room for a process that they make: a fault leaves both as they were.
-    pub fn spawn<K: Kids>(
+    /// A restarter has its turn for an instance, with the answer to what it asks for: room is made for what comes of each
+    /// answer before it is asked, so a fault leaves both as they were. A kill that is not done is owed again.
+    pub fn tick<R: Runner>(
         &mut self,
-        kids: &mut K,
+        runner: &mut R,
         name: &InstanceFmri,
         instance: u64,
-        wanted: &Wanted,
-    ) -> Result<SpawnAnswer, MachineFault>
-        ensures made { IfOk result (λ answer. self.new ≡ happens self.old (events.Tick name.now instance answer)) }
-        ensures spawned { IfOk result (λ answer. HasSpawned answer wanted.now (K.ledger kids.old) (K.ledger kids.new)) }
+    ) -> Result<(), MachineFault>
+        ensures ok { OnOk result (HasTicked R.rules name.now instance self.old (R.seen runner.old) self.new (R.seen runner.new)) }
         ensures err { OnErr result (self.new ≡ self.old) }
-        ensures kept { OnErr result (K.ledger kids.new ≡ K.ledger kids.old) }
+        ensures kept { OnErr result ((R.seen runner.new).ledger ≡ (R.seen runner.old).ledger) }
         ensures fault { IfErr result (λ e. e ≡ Memory) }
     {
-        self.system.spawn(kids, name, instance, wanted)
+        self.system.tick(runner, name, instance)
     }
 
-    /// A restarter has its turn for an instance, where children make the kill that it asks for; says whether they did.
-    /// They are asked once there is room: a fault leaves both as they were.
-    pub fn kill<K: Kids>(
-        &mut self,
-        kids: &mut K,
-        name: &InstanceFmri,
-        instance: u64,
-        id: Number,
-    ) -> Result<bool, MachineFault>
-        ensures made { IfOk result (λ did. self.new ≡ happens_if did self.old (events.Tick name.now instance spawns.Made)) }
-        ensures killed { IfOk result (λ did. HasKilled did id (K.ledger kids.old) (K.ledger kids.new)) }
-        ensures err { OnErr result (self.new ≡ self.old) }
-        ensures kept { OnErr result (K.ledger kids.new ≡ K.ledger kids.old) }
-        ensures fault { IfErr result (λ e. e ≡ Memory) }
-    {
-        self.system.kill(kids, name, instance, id)
-    }
-
-    /// Children are asked for an event once there is room for it; it happens, and is given back. There is none where
-    /// their device fails. A fault leaves both as they were.
-    pub fn hear<K: Kids>(&mut self, kids: &mut K) -> Result<Option<ContractEvent>, MachineFault>
+    /// The next event is asked for once there is room for it; it happens, and is given back. A fault leaves both as they
+    /// were.
+    pub fn hear<R: Runner>(&mut self, runner: &mut R) -> Result<Option<ContractEvent>, MachineFault>
         ensures heard { IfOk result (λ event. self.new ≡ heard event self.old) }
-        ensures given { IfOk result (λ event. HasGiven event (K.ledger kids.old) (K.ledger kids.new)) }
+        ensures answered { IfOk result (λ event. R.rules.polls event (R.seen runner.old) (R.seen runner.new)) }
         ensures err { OnErr result (self.new ≡ self.old) }
-        ensures kept { OnErr result (K.ledger kids.new ≡ K.ledger kids.old) }
+        ensures kept { OnErr result ((R.seen runner.new).ledger ≡ (R.seen runner.old).ledger) }
         ensures fault { IfErr result (λ e. e ≡ Memory) }
     {
-        self.system.hear(kids)
+        self.system.hear(runner)
     }
 
     /// The repository.

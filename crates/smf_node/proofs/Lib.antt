@@ -4,10 +4,11 @@ mod Marking
 mod Owners
 mod Places
 mod Running
+mod Done
+mod Polling
 mod Settling
 mod UpTo
 mod Giving
-mod Answering
 mod Booting
 pub mod Lining
 pub mod Resting

@@ -1,6 +1,10 @@
 -- What an event leaves of the marks, and its reply.
-use Rattle.std.proofs.Common.{◌≡◌, ◌==◌, ℕ, Bool, List, [], ◌∷◌, Option, Some, None, is_some, find, map, slice_get, nat_lt, refl, sym, ap, ◌∙◌, subst}
+use Rattle.std.proofs.Common.{◌≡◌, ◌==◌, ℕ, Bool, List, [], ◌∷◌, Option, Some, None, is_some, true, find, map, slice_get, nat_lt, refl, sym, ap, ◌∙◌, subst}
 use Rattle.std.specs.List.{list_any}
+use Rattle.smf_contract.specs.declared.event.Event.{Event as ContractEvent}
+use Rattle.smf_edge.specs.Answers.{Seen}
+use Rattle.smf_machine.specs.Children.{heard}
+use Rattle.smf_machine.specs.Runners.{HasTicked, Rules}
 use Rattle.smf_model.specs.declared.command.Command.TheVariants as commands
 use Rattle.smf_model.specs.declared.command.Edit.{Edit}
 use Rattle.smf_model.specs.declared.command.Reply.{Reply}
@@ -11,29 +15,36 @@ use Rattle.smf_node.specs.declared.fault.NodeFault.{NodeFault}
 use Rattle.smf_node.specs.declared.marks.Marks.{Marks}
 use Rattle.smf_node.specs.Faults.{IsLack}
 use Rattle.smf_node.specs.Marks.{progress_of}
+use Rattle.smf_node.specs.Rounds.{with_world}
 use Rattle.smf_restarter.specs.Knowledge.{Kept}
 use Rattle.smf_world.specs.declared.event.Event.{Event}
 use Rattle.smf_world.specs.declared.event.Event.TheVariants as events
 use Rattle.smf_world.specs.Happens.{happens}
-use Rattle.smf_world.specs.Schedule.{Progress, is_revision, marked, on}
+use Rattle.smf_world.specs.Schedule.{Progress, is_heard_in, is_revision, marked, on}
 use Rattle.smf_world.specs.Worked.{commanded, is_actor, worked}
 use Rattle.smf_world.specs.World.{World}
 
-happened : (w : World) (m : Marks) (e : Event) (b : Bool) → b ≡ is_revision w (happens w e) → marked e b (progress_of (happens w e) m) ≡ on (progress_of w m) e
+happened : (w : World) (m : Marks) (e : Event) (h b : Bool) → h ≡ is_heard_in w e → b ≡ is_revision w (happens w e) → marked e h b (progress_of (happens w e) m) ≡ on (progress_of w m) e
 unfolding progress_of
-happened w m e b is = ap (λ (x : Bool). marked e x (progress_of (happens w e) m)) is
+happened w m e h b heard is =
+    ap (λ (x : Bool). marked e x b (progress_of (happens w e) m)) heard
+    ∙ ap (λ (x : Bool). marked e (is_heard_in w e) x (progress_of (happens w e) m)) is
+
+heard_here : (w : World) (m : Marks) (p : Progress) (e : Event) (h : Bool) → progress_of w m ≡ p → h ≡ is_heard_in p.world e → h ≡ is_heard_in w e
+unfolding progress_of
+heard_here w m p e h before heard = heard ∙ ap (λ (x : Progress). is_heard_in x.world e) (sym before)
 
 abbrev IsOn : Progress → Event → Progress → Type 0
 IsOn q e p = q ≡ on p e
 
 -- an event happened to the machine, and was marked
-pub marked_on : (w v : World) (m n k : Marks) (p : Progress) (e : Event) (i j : ℕ) → progress_of w m ≡ p → progress_of w n ≡ progress_of w m → v ≡ happens w e
-    → i ≡ w.now.revision → j ≡ v.now.revision → progress_of v k ≡ marked e (nat_lt i j) (progress_of v n) → progress_of v k ≡ on p e
-marked_on w v m n k p e i j before room made old new after =
+pub marked_on : (w v : World) (m n k : Marks) (p : Progress) (e : Event) (h : Bool) (i j : ℕ) → progress_of w m ≡ p → progress_of w n ≡ progress_of w m → v ≡ happens w e → h ≡ is_heard_in p.world e
+    → i ≡ w.now.revision → j ≡ v.now.revision → progress_of v k ≡ marked e h (nat_lt i j) (progress_of v n) → progress_of v k ≡ on p e
+marked_on w v m n k p e h i j before room made heard old new after =
     subst (IsOn (progress_of v k) e) before
     (after
-    ∙ ap (λ (x : World). marked e (nat_lt i j) (progress_of x n)) made
-    ∙ happened w n e (nat_lt i j) (ap (λ (x : ℕ). nat_lt x j) old ∙ ap (nat_lt w.now.revision) (new ∙ ap (λ (x : World). x.now.revision) made))
+    ∙ ap (λ (x : World). marked e h (nat_lt i j) (progress_of x n)) made
+    ∙ happened w n e h (nat_lt i j) (heard_here w m p e h before heard) (ap (λ (x : ℕ). nat_lt x j) old ∙ ap (nat_lt w.now.revision) (new ∙ ap (λ (x : World). x.now.revision) made))
     ∙ ap (λ (x : Progress). on x e) room)
 
 abbrev IsReplyOf : Event → List Reply → Progress → Type 0
@@ -49,6 +60,12 @@ LacksIn fails e f p = IsLack fails p.world e f
 pub lacks : (fails : RepoFault → Type 0) (w : World) (m : Marks) (p : Progress) (e : Event) (f : NodeFault) → progress_of w m ≡ p → IsLack fails w e f → IsLack fails p.world e f
 unfolding progress_of
 lacks fails w m p e f before lack = subst (LacksIn fails e f) before lack
+
+pub delivery_marked : (e : Event) (place : ℕ) (h new : Bool) (p q : Progress) → e ≡ events.Deliver place → q ≡ marked (events.Deliver place) h new p → q ≡ marked e h new p
+delivery_marked e place h new p q is made = made ∙ ap (λ (x : Event). marked x h new p) (sym is)
+
+pub boot_marked : (e : Event) (h new : Bool) (p q : Progress) → e ≡ events.Boot → new ≡ true → q ≡ record p { looked = 0; unheard = []; heard = [] } → q ≡ marked e h new p
+boot_marked e h new p q is booted made = made ∙ ap (λ (x : Bool). marked events.Boot h x p) (sym booted) ∙ ap (λ (x : Event). marked x h new p) (sym is)
 
 -- ---- the reply to an edit
 
@@ -82,3 +99,31 @@ pub actor_is : (w : World) (m : Marks) (p : Progress) (actor : ℕ) (ks : List K
 unfolding progress_of
 actor_is w m p actor ks b before same e =
     subst (IsLaunchedActor actor b) before (e ∙ any_found actor ks ∙ ap (λ rs. is_some (find (is_actor actor) rs)) same)
+
+-- ---- who runs methods leaves the marks as they are
+
+moved : (w v : World) (m : Marks) → progress_of v m ≡ with_world (progress_of w m) v
+unfolding progress_of
+moved w v m = refl
+
+-- the world of a machine is that of its progress
+world_is : (w : World) (m : Marks) → (progress_of w m).world ≡ w
+unfolding progress_of
+world_is w m = refl
+
+pub moved_to : (w v : World) (m : Marks) (p : Progress) → progress_of w m ≡ p → progress_of v m ≡ with_world p v
+moved_to w v m p before = moved w v m ∙ ap (λ (x : Progress). with_world x v) before
+
+pub marks_stay : (w v : World) (m : Marks) (p q : Progress) → progress_of w m ≡ p → progress_of v m ≡ q → q ≡ with_world p q.world
+marks_stay w v m p q before after = sym after ∙ moved_to w v m p before ∙ ap (λ (x : World). with_world p x) (sym (world_is v m) ∙ ap (λ (x : Progress). x.world) after)
+
+pub world_before : (w : World) (m : Marks) (p : Progress) → progress_of w m ≡ p → w ≡ p.world
+world_before w m p before = sym (world_is w m) ∙ ap (λ (x : Progress). x.world) before
+
+pub heard_to : (o : Option ContractEvent) (w v : World) (m : Marks) (p : Progress) → progress_of w m ≡ p → v ≡ heard o w → progress_of v m ≡ with_world p (heard o p.world)
+heard_to o w v m p before is = moved_to w v m p before ∙ ap (λ (x : World). with_world p x) (is ∙ ap (heard o) (world_before w m p before))
+
+pub ticked_to : (r : Rules) (name : List ℕ) (n : ℕ) (w v : World) (m : Marks) (p q : Progress) (s t : Seen) → progress_of w m ≡ p → progress_of v m ≡ q → HasTicked r name n w s v t → HasTicked r name n p.world s q.world t
+ticked_to r name n w v m p q s t before after h =
+    subst (λ (x : World). HasTicked r name n p.world s x t) (world_before v m q after)
+    (subst (λ (x : World). HasTicked r name n x s v t) (world_before w m p before) h)

@@ -1,10 +1,11 @@
 -- A turn for an instance in which a restarter does nothing leaves all as it is.
-use Rattle.std.proofs.Common.{◌≡◌, ℕ, List, [], ◌∷◌, Bool, true, false, Option, Some, None, map, refl, ap, sym, ◌∙◌, if◌then◌else◌}
+use Rattle.std.proofs.Common.{◌≡◌, ℕ, List, [], ◌∷◌, Bool, true, false, Option, Some, None, map, refl, ap, sym, subst, ◌∙◌, if◌then◌else◌}
 use Rattle.std.specs.List.{list_all}
 use Rattle.std.specs.Prelude.{◌&&◌, nat_lt}
 use Rattle.smf_fmri.specs.ByKey.{has_key, lookup}
 use Rattle.smf_contract.proofs.EmptiedBy.{nothing_empties}
 use Rattle.smf_contract.specs.Called.{called}
+use Rattle.smf_contract.specs.Entries.{Contracts}
 use Rattle.smf_model.specs.Look.{installed}
 use Rattle.smf_restarter.specs.Changes.{nothing, unchanged}
 use Rattle.smf_restarter.specs.declared.known.KnownInstance.{KnownInstance}
@@ -13,13 +14,21 @@ use Rattle.smf_restarter.specs.declared.known.Stage.TheVariants.{Joining, Listin
 use Rattle.smf_restarter.specs.Knowledge.{Knowledge, by_instance}
 use Rattle.smf_restarter.specs.Ticks.{at_rest, is_up, rests, ticked, ticked_in, ticked_known, ticked_up}
 use Rattle.smf_machine.proofs.Beginning.{none_turned}
+use Rattle.smf_machine.specs.declared.requests.Ask.{Ask}
+use Rattle.smf_machine.specs.declared.requests.Ask.TheVariants.{Nothing}
+use Rattle.smf_machine.specs.Requests.{asked, asked_by, asked_of, first_of}
+use Rattle.smf_machine.specs.Runners.{HasTicked, Rules, TickedBy}
+use Rattle.smf_node.specs.Rests.{AllRest, RestsOn}
+use Rattle.smf_node.specs.Rounds.{AreDone, Course, IsEntered, IsTaken, TicksIf}
 use Rattle.smf_restarter.proofs.Resting.{rested}
 use Rattle.smf_restarter.specs.declared.reply.Reply.{Reply}
 use Rattle.smf_world.specs.declared.event.SpawnAnswer.TheVariants as spawns
 use Rattle.smf_world.specs.declared.schedule.Deed.TheVariants as deeds
+use Rattle.smf_world.specs.declared.schedule.Turn.{Turn}
+use Rattle.smf_world.specs.declared.schedule.Turn.TheVariants as turns
 use Rattle.smf_world.specs.declared.item.Item.TheVariants.{Emptied}
 use Rattle.smf_world.specs.Happens.{done, happens}
-use Rattle.smf_world.specs.Schedule.{Progress, asks_spawn, is_spawn, refuses, tick_by, tick_one, went}
+use Rattle.smf_world.specs.Schedule.{asks_spawn, deeds_of, is_spawn, numbers_known, refuses}
 use Rattle.smf_world.specs.Worked.{acted, answer_of, call_of, knows, no_work, restarter, ticked_for, worked}
 use Rattle.smf_world.specs.World.{World}
 
@@ -45,20 +54,51 @@ and_false : (a b : Bool) → b ≡ false → (a && b) ≡ false
 and_false true b e = e
 and_false false b e = refl
 
-went_by : (p : Progress) (name : List ℕ) (n : ℕ) → ((k : Knowledge) → restarter p.world name ≡ Some k → ticked k n ≡ nothing)
-    → went (deeds.Tick name n) p ≡ p
-unfolding went tick_one happens worked
-went_by p name n f =
-    let made : refuses p name n ≡ false = and_false (nat_lt 0 p.refuse) (asks_spawn (restarter p.world name) n) (none_spawned n (restarter p.world name) f) in
-    ap (λ (b : Bool). tick_by b name n p) made
-    ∙ ap (λ (w : World). record p { world = w }) (nothing_ticked p.world n (restarter p.world name) f)
+none_asked : (t : Contracts) (n : ℕ) (o : Option Knowledge) → ((k : Knowledge) → o ≡ Some k → ticked k n ≡ nothing) → asked_of t o n ≡ Nothing
+none_asked t n None f = refl
+none_asked t n (Some k) f = ap (λ (r : Reply). asked_by t k n (first_of r.begun) r.call) (f k refl)
 
-pub none_rests : (p : Progress) (name : List ℕ) (n : ℕ) → restarter p.world name ≡ None → went (deeds.Tick name n) p ≡ p
-none_rests p name n e = went_by p name n (λ k f. cc)
+rests_by : (w : World) (name : List ℕ) (n : ℕ) → ((k : Knowledge) → restarter w name ≡ Some k → ticked k n ≡ nothing) → RestsOn w name n
+unfolding asked happens worked
+rests_by w name n f =
+    record {
+      asks = none_asked w.table n (restarter w name) f;
+      no_spawn = none_spawned n (restarter w name) f;
+      same = nothing_ticked w n (restarter w name) f;
+    }
 
-pub some_rests : (p : Progress) (name : List ℕ) (n : ℕ) (k : Knowledge) → restarter p.world name ≡ Some k → ticked k n ≡ nothing
-    → went (deeds.Tick name n) p ≡ p
-some_rests p name n k e t = went_by p name n (λ j f. let same : k ≡ j = cc in ap (λ (x : Knowledge). ticked x n) (sym same) ∙ t)
+pub none_rests : (w : World) (name : List ℕ) (n : ℕ) → restarter w name ≡ None → RestsOn w name n
+none_rests w name n e = rests_by w name n (λ k f. cc)
+
+pub some_rests : (w : World) (name : List ℕ) (n : ℕ) (k : Knowledge) → restarter w name ≡ Some k → ticked k n ≡ nothing → RestsOn w name n
+some_rests w name n k e t = rests_by w name n (λ j f. let same : k ≡ j = cc in ap (λ (x : Knowledge). ticked x n) (sym same) ∙ t)
+
+-- a turn that rests leaves all as it is
+pub rests_ticks : (r : Rules) (c : Course) (name : List ℕ) (n : ℕ) → RestsOn c.progress.world name n → TicksIf (refuses c.progress name n) r name n c c
+rests_ticks r c name n h =
+    let made : refuses c.progress name n ≡ false = and_false (nat_lt 0 c.progress.refuse) (asks_spawn (restarter c.progress.world name) n) h.no_spawn in
+    let w : World = c.progress.world in
+    let turn : HasTicked r name n w c.seen w c.seen =
+    subst (λ (a : Ask). TickedBy r a name n w c.seen w c.seen) (sym h.asks) (sym h.same, refl) in
+    subst (λ (b : Bool). TicksIf b r name n c c) (sym made) (turn, refl)
+
+all_rest_by : (r : Rules) (c : Course) (name : List ℕ) (ns : List ℕ) → ((n : ℕ) → RestsOn c.progress.world name n) → AreDone r (map (λ n. deeds.Tick name n) ns) c c
+all_rest_by r c name [] f = refl
+all_rest_by r c name (n ∷ ns) f = (c, rests_ticks r c name n (f n), all_rest_by r c name ns f)
+
+pub all_rest_done : (r : Rules) (c : Course) (t : Turn) → AllRest c.progress.world t → AreDone r (deeds_of c.progress t) c c
+unfolding deeds_of
+all_rest_done r c (turns.Ticks name) f = all_rest_by r c name (numbers_known (restarter c.progress.world name)) f
+all_rest_done r c turns.Launches f = absurd f
+all_rest_done r c turns.Messages f = absurd f
+all_rest_done r c turns.Ask f = absurd f
+all_rest_done r c turns.Orders f = absurd f
+all_rest_done r c turns.Reports f = absurd f
+all_rest_done r c (turns.OwnTick name) f = absurd f
+
+pub rests_taken : (r : Rules) (t : Turn) (c m : Course) → IsEntered r t c m → AllRest m.progress.world t → IsTaken r t c m
+unfolding IsTaken
+rests_taken r t c m h f = (m, h, all_rest_done r m t f)
 
 -- ---- a restarter at rest
 
@@ -86,9 +126,8 @@ ticks_nothing : (k : Knowledge) (n : ℕ) → at_rest k ≡ true → ticked k n 
 unfolding at_rest ticked
 ticks_nothing k n e = rests_at k n k.stage e
 
-pub all_rest : (p : Progress) (name : List ℕ) (k : Knowledge) → restarter p.world name ≡ Some k → at_rest k ≡ true
-    → (n : ℕ) → went (deeds.Tick name n) p ≡ p
-all_rest p name k e h n = some_rests p name n k e (ticks_nothing k n h)
+pub all_rest : (w : World) (name : List ℕ) (k : Knowledge) → restarter w name ≡ Some k → at_rest k ≡ true → (n : ℕ) → RestsOn w name n
+all_rest w name k e h n = some_rests w name n k e (ticks_nothing k n h)
 
-pub none_left : (p : Progress) (name : List ℕ) → restarter p.world name ≡ None → (n : ℕ) → went (deeds.Tick name n) p ≡ p
-none_left p name e n = none_rests p name n e
+pub none_left : (w : World) (name : List ℕ) → restarter w name ≡ None → (n : ℕ) → RestsOn w name n
+none_left w name e n = none_rests w name n e

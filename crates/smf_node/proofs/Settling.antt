@@ -1,71 +1,94 @@
 -- Rounds until it is quiet.
-use Rattle.std.proofs.Common.{◌≡◌, ◌<◌, ◌≤◌, ℕ, zero, suc, ◌+◌, ◌-◌, Bool, true, false, cond, refl, sym, ap, ◌∙◌, subst, inl, inr, arith}
+use Rattle.std.proofs.Common.{◌≡◌, ◌<◌, ℕ, zero, suc, ◌+◌, ◌-◌, Bool, true, false, refl, sym, ◌∙◌, subst, inl, inr, arith, Result, IfErr}
+use Rattle.std.specs.Result.{IsErrAnd}
+use Rattle.smf_edge.specs.Answers.{Seen}
+use Rattle.smf_machine.specs.Runners.{Rules}
 use Rattle.smf_model.specs.declared.journal.RepoFault.{RepoFault}
+use Rattle.smf_node.proofs.Done.{stays_same}
+use Rattle.smf_node.proofs.Faulting.{passed_on}
 use Rattle.smf_node.specs.declared.fault.NodeFault.{NodeFault}
-use Rattle.smf_node.specs.Partly.{RoundEnds, SettleFails}
+use Rattle.smf_node.specs.declared.fault.NodeFault.TheVariants.{Memory}
+use Rattle.smf_node.specs.Partly.{LacksMemory, RoundFails, SettleFails}
+use Rattle.smf_node.specs.Rounds.{AreRounds, Course, GoesOn, HasSettled, IsRound, course}
 use Rattle.smf_world.specs.declared.schedule.Settled.{Settled}
 use Rattle.smf_world.specs.declared.schedule.Settled.TheVariants.{Quiet, Busy}
-use Rattle.smf_world.specs.Schedule.{IsSettled, Progress, is_quiet, round, settled}
+use Rattle.smf_world.specs.Schedule.{Progress, is_quiet}
 
-abbrev Fails : Type 1
-Fails = RepoFault → Type 0
+abbrev Stores : Type 1
+Stores = RepoFault → Type 0
 
-abbrev Ended : Type 0
-Ended = Progress × Settled
+-- so many rounds that left it busy were made: what is left makes the whole, and they are so many
+pub record RoundsGo (r : Rules) (rounds made : ℕ) (c d : Course) : Type 0 where
+  pub on : (e : Course) (how : Settled) → AreRounds r (rounds - made) d e how → AreRounds r rounds c e how
+  pub busy : AreRounds r made c d Busy
 
-settled_none : (p : Progress) → settled 0 p ≡ (p, Busy)
-unfolding settled
-settled_none p = refl
+pub rounds_none : (r : Rules) (rounds : ℕ) (c : Course) → RoundsGo r rounds 0 c c
+rounds_none r rounds c =
+    let all : rounds - 0 ≡ rounds = omega arith in
+    record { on = λ e how h. subst (λ (n : ℕ). AreRounds r n c e how) all h; busy = (refl, refl) }
 
-settled_by : (b : Bool) (n : ℕ) (p : Progress) → is_quiet (round p).world ≡ b → settled (suc n) p ≡ cond {A = Ended} b (round p, Quiet) (settled n (round p))
-unfolding settled
-settled_by b n p e = ap (λ c. cond {A = Ended} c (round p, Quiet) (settled n (round p))) e
+quiet_then : (b : Bool) (more : Type 0) (d : Course) → b ≡ true → GoesOn b more d d Quiet
+quiet_then true more d e = (refl, refl)
+quiet_then false more d e = absurd cc
 
-pub none_busy : (p : Progress) → settled 0 p ≡ (p, Busy)
-none_busy p = settled_none p
+busy_then : (b : Bool) (more : Type 0) (d e : Course) (how : Settled) → b ≡ false → more → GoesOn b more d e how
+busy_then true more d e how is h = absurd cc
+busy_then false more d e how is h = h
 
-abbrev AreSame : Ended → Ended → Type 0
-AreSame x y = x ≡ y
+quiet_is_busy : Quiet ≡ Busy → ⊥
+quiet_is_busy e = absurd cc
 
-quiet_is_not : (p q : Progress) → AreSame (p, Quiet) (q, Busy) → Quiet ≡ Busy
-quiet_is_not p q e = ap (λ (x : Ended). x.1) e
-
-quiet_not_busy : Quiet ≡ Busy → ⊥
-quiet_not_busy e = absurd cc
-
--- so many rounds, and then others
-settled_then : (i n : ℕ) (p s : Progress) → settled i p ≡ (s, Busy) → settled (i + n) p ≡ settled n s
-settled_then zero n p s e =
-    let none : 0 + n ≡ n = omega arith in
-    ap (λ k. settled k p) none ∙ ap (λ q. settled n q) (ap (λ (x : Ended). x.0) (sym (settled_none p) ∙ e))
-settled_then (suc i) n p s e = by (is_quiet (round p).world) refl (λ q f. settled_then i n q s f)
+-- a busy round after busy rounds
+goes_more : (r : Rules) (made : ℕ) (c d e : Course) → AreRounds r made c d Busy → IsRound r d e → is_quiet e.progress.world ≡ false → AreRounds r (suc made) c e Busy
+goes_more r zero c d e h round busy =
+    (e, subst (λ (x : Course). IsRound r x e) h.0 round, busy_then (is_quiet e.progress.world) (AreRounds r zero e e Busy) e e Busy busy (refl, refl))
+goes_more r (suc made) c d e h round busy = (h.0, h.1, by (is_quiet h.0.progress.world) h.2 (λ rest. goes_more r made h.0 d e rest round busy))
   where
-    by : (b : Bool) → is_quiet (round p).world ≡ b → ((q : Progress) → settled i q ≡ (s, Busy) → settled (i + n) q ≡ settled n s) → settled (suc i + n) p ≡ settled n s
-    by true quiet more = absurd (quiet_not_busy (quiet_is_not (round p) s (sym (settled_by true i p quiet) ∙ e)))
-    by false busy more =
-        let next : suc i + n ≡ suc (i + n) = omega arith in
-        ap (λ k. settled k p) next ∙ settled_by false (i + n) p busy ∙ more (round p) (sym (settled_by false i p busy) ∙ e)
+    by : (b : Bool) → GoesOn b (AreRounds r made h.0 d Busy) h.0 d Busy → (AreRounds r made h.0 d Busy → AreRounds r (suc made) h.0 e Busy) → GoesOn b (AreRounds r (suc made) h.0 e Busy) h.0 e Busy
+    by true g more = absurd (quiet_is_busy (sym g.1))
+    by false g more = more g
 
-pub busy_more : (i : ℕ) (p s t : Progress) (b : Bool) → settled i p ≡ (s, Busy) → t ≡ round s → b ≡ is_quiet t.world → b ≡ false → settled (i + 1) p ≡ (t, Busy)
-busy_more i p s t b e made quiet busy =
-    settled_then i 1 p s e
-    ∙ settled_by false 0 s (ap (λ (q : Progress). is_quiet q.world) (sym made) ∙ sym quiet ∙ busy)
-    ∙ settled_none (round s)
-    ∙ ap (λ q. (q, Busy)) (sym made)
-
-pub quiet_now : (rounds i : ℕ) (p s t : Progress) (b : Bool) → settled i p ≡ (s, Busy) → i < rounds → t ≡ round s → b ≡ is_quiet t.world → b ≡ true → IsSettled rounds p t Quiet
-quiet_now rounds i p s t b e low made quiet seen =
-    let n = rounds - (i + 1) in
-    let all : rounds ≡ i + suc n = omega (arith, low) in
+pub rounds_more : (r : Rules) (rounds made : ℕ) (c : Course) (p q : Progress) (s t : Seen) (b : Bool) → RoundsGo r rounds made c (course p s) → made < rounds → IsRound r (course p s) (course q t) → b ≡ is_quiet q.world → b ≡ false
+    → RoundsGo r rounds (made + 1) c (course q t)
+rounds_more r rounds made c p q s t b g low round quiet busy =
+    let left : rounds - made ≡ suc (rounds - (made + 1)) = omega (arith, low) in
+    let next : suc made ≡ made + 1 = omega arith in
     record {
-      made = ap (λ k. settled k p) all
-          ∙ settled_then i (suc n) p s e
-          ∙ settled_by true n s (ap (λ (q : Progress). is_quiet q.world) (sym made) ∙ sym quiet ∙ seen)
-          ∙ ap (λ q. (q, Quiet)) (sym made);
+      on = λ e how more. g.on e how
+          (subst (λ (k : ℕ). AreRounds r k (course p s) e how) (sym left)
+          (course q t, round, busy_then (is_quiet q.world) (AreRounds r (rounds - (made + 1)) (course q t) e how) (course q t) e how (sym quiet ∙ busy) more));
+      busy = subst (λ (k : ℕ). AreRounds r k c (course q t) Busy) next (goes_more r made c (course p s) (course q t) g.busy round (sym quiet ∙ busy));
     }
 
-pub busy_still : (rounds i : ℕ) (p s : Progress) → settled i p ≡ (s, Busy) → i ≡ rounds → IsSettled rounds p s Busy
-busy_still rounds i p s e same = record { made = ap (λ k. settled k p) (sym same) ∙ e }
+pub rounds_quiet : (r : Rules) (rounds made : ℕ) (c : Course) (p q : Progress) (s t : Seen) (b : Bool) → RoundsGo r rounds made c (course p s) → made < rounds → IsRound r (course p s) (course q t) → b ≡ is_quiet q.world → b ≡ true
+    → HasSettled r rounds c (course q t) Quiet
+rounds_quiet r rounds made c p q s t b g low round quiet seen =
+    let left : rounds - made ≡ suc (rounds - (made + 1)) = omega (arith, low) in
+    record {
+      made = g.on (course q t) Quiet
+          (subst (λ (k : ℕ). AreRounds r k (course p s) (course q t) Quiet) (sym left)
+          (course q t, round, quiet_then (is_quiet q.world) (AreRounds r (rounds - (made + 1)) (course q t) (course q t) Quiet) (course q t) (sym quiet ∙ seen)));
+    }
 
-pub settle_failed : (fails : Fails) (rounds i : ℕ) (p s t : Progress) (e : NodeFault) → settled i p ≡ (s, Busy) → i < rounds → RoundEnds fails s t e → SettleFails fails rounds p t e
-settle_failed fails rounds i p s t e busy low ends = record { full = i; reached = s; fewer = low; busy = busy; ends = ends }
+pub rounds_out : (r : Rules) (rounds made : ℕ) (c d : Course) → RoundsGo r rounds made c d → made ≡ rounds → HasSettled r rounds c d Busy
+rounds_out r rounds made c d g is =
+    let none : rounds - made ≡ 0 = omega (arith, is) in
+    record { made = g.on d Busy (subst (λ (k : ℕ). AreRounds r k d d Busy) (sym none) (refl, refl)) }
+
+-- ---- what a fault leaves
+
+pub round_failed : (r : Rules) (fails : Stores) (rounds made : ℕ) (c d e : Course) (f : NodeFault) → RoundsGo r rounds made c d → made < rounds → RoundFails r fails d e f → SettleFails r fails rounds c e f
+round_failed r fails rounds made c d e f g low h = record { full = made; reached = d; fewer = low; busy = g.busy; ends = inl h }
+
+pub memory_failed : (r : Rules) (fails : Stores) (rounds made : ℕ) (c d m e : Course) (f : NodeFault) → RoundsGo r rounds made c d → made < rounds → IsRound r d m → LacksMemory m e f → SettleFails r fails rounds c e f
+memory_failed r fails rounds made c d m e f g low round h = record { full = made; reached = d; fewer = low; busy = g.busy; ends = inr (m, round, h) }
+
+-- a view that is kept changes nothing
+pub round_kept : (r : Rules) (c : Course) (p q : Progress) (t : Seen) → IsRound r c (course p t) → q ≡ p → IsRound r c (course q t)
+round_kept r c p q t round same = subst (λ (x : Progress). IsRound r c (course x t)) (sym same) round
+
+pub memory_after : {X : Type 0} (r : Rules) (fails : Stores) (rounds made : ℕ) (c d : Course) (p q : Progress) (t : Seen) (a : Result X NodeFault) → RoundsGo r rounds made c d → made < rounds → IsRound r d (course p t) → q ≡ p
+    → IsErrAnd a (λ y. y ≡ Memory) → IfErr a (λ e. SettleFails r fails rounds c (course q t) e)
+memory_after r fails rounds made c d p q t a g low round same told =
+    passed_on a Memory (λ e. SettleFails r fails rounds c (course q t) e) told
+    (memory_failed r fails rounds made c d (course p t) (course q t) Memory g low round (refl, stays_same p q t same))

@@ -1,15 +1,12 @@
 -- Lists of which a part was done.
-use Rattle.std.proofs.Common.{◌≡◌, ◌<◌, ℕ, ◌+◌, suc, List, [], ◌∷◌, ◌++◌, Result, Ok, Err, IfErr, OnOk, refl, sym, ap, ◌∙◌, subst, length, get_or, drop, append_assoc, append-nil, arith}
+use Rattle.std.proofs.Common.{◌≡◌, ◌<◌, ℕ, ◌+◌, suc, List, [], ◌∷◌, ◌++◌, refl, sym, ap, ◌∙◌, subst, length, get_or, drop, append_assoc, append-nil, arith}
 use Rattle.std.proofs.Math.Seq.{drop-cons}
 use Rattle.smf_model.specs.declared.journal.RepoFault.{RepoFault}
 use Rattle.smf_node.specs.declared.fault.NodeFault.{NodeFault}
-use Rattle.smf_node.specs.Faults.{IsDeedFault, IsLack}
-use Rattle.smf_node.specs.Partly.{DeedsFail, TurnFails, TurnOfManyFails}
+use Rattle.smf_node.specs.Faults.{IsLack}
 use Rattle.smf_node.specs.Runs.{RepeatsUntilFault}
 use Rattle.smf_world.specs.declared.event.Event.TheVariants as events
-use Rattle.smf_world.specs.declared.schedule.Deed.{Deed}
-use Rattle.smf_world.specs.declared.schedule.Turn.{Turn}
-use Rattle.smf_world.specs.Schedule.{Progress, all_turned, all_went, delivered_again, on, turned, went}
+use Rattle.smf_world.specs.Schedule.{Progress, delivered_again, on}
 
 abbrev Fails : Type 1
 Fails = RepoFault → Type 0
@@ -40,45 +37,6 @@ up_to_more do_all do_one behind all rest more x p q r u is made =
 
 pub up_to_all : {X : Type 0} (do_all : List X → Progress → Progress) (all rest : List X) (p q : Progress) → IsUpTo do_all all rest p q → rest ≡ [] → q ≡ do_all all p
 up_to_all do_all all rest p q u is = u.went ∙ ap (λ xs. do_all xs p) (sym (u.whole ∙ ap (λ l. u.first ++ l) is ∙ append-nil u.first))
-
--- ---- deeds
-
-deeds_behind : (ds : List Deed) (d : Deed) (p : Progress) → all_went (ds ++ d ∷ []) p ≡ went d (all_went ds p)
-deeds_behind [] d p = refl
-deeds_behind (e ∷ ds) d p = deeds_behind ds d (went e p)
-
-pub one_deed : (all rest more : List Deed) (d : Deed) (p q r : Progress) → IsUpTo all_went all rest p q → rest ≡ d ∷ more → r ≡ went d q → IsUpTo all_went all more p r
-one_deed = up_to_more all_went went deeds_behind
-
-pub deed_failed : (fails : Fails) (all rest more : List Deed) (d : Deed) (p q r : Progress) (e : NodeFault) → IsUpTo all_went all rest p q → rest ≡ d ∷ more → r ≡ q → IsDeedFault fails q d e → DeedsFail fails p all r e
-deed_failed fails all rest more d p q r e u is same f =
-    record {
-      first = u.first;
-      failed = d;
-      rest = more;
-      whole = u.whole ∙ ap (λ l. u.first ++ l) is;
-      went = same ∙ u.went;
-      fault = subst (λ (s : Progress). IsDeedFault fails s d e) (sym same) f;
-    }
-
--- ---- turns
-
-turns_behind : (ts : List Turn) (t : Turn) (p : Progress) → all_turned (ts ++ t ∷ []) p ≡ turned t (all_turned ts p)
-turns_behind [] t p = refl
-turns_behind (u ∷ ts) t p = turns_behind ts t (turned u p)
-
-pub one_turn : (all rest more : List Turn) (t : Turn) (p q r : Progress) → IsUpTo all_turned all rest p q → rest ≡ t ∷ more → r ≡ turned t q → IsUpTo all_turned all more p r
-one_turn = up_to_more all_turned turned turns_behind
-
-pub turn_failed : (fails : Fails) (all rest more : List Turn) (t : Turn) (p q r : Progress) (e : NodeFault) → IsUpTo all_turned all rest p q → rest ≡ t ∷ more → TurnFails fails q t r e → TurnOfManyFails fails p all r e
-turn_failed fails all rest more t p q r e u is f =
-    record {
-      first = u.first;
-      failed = t;
-      rest = more;
-      whole = u.whole ∙ ap (λ l. u.first ++ l) is;
-      fault = subst (λ (s : Progress). TurnFails fails s t r e) u.went f;
-    }
 
 -- ---- messages
 

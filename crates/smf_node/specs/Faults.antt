@@ -1,5 +1,5 @@
 -- Which events cannot happen, and with which faults the calls of the node may end.
-use Rattle.std.specs.Prelude.{◌≡◌, ◌⊎◌, ◌<◌, ℕ, not, nat_lt, List, length, Bool, true, false, if◌then◌else◌, Option, Some, None}
+use Rattle.std.specs.Prelude.{◌≡◌, ◌⊎◌, ◌<◌, not, nat_lt, List, length, Bool, true, false, if◌then◌else◌, Option, Some, None}
 use Rattle.smf_machine.specs.declared.fault.MachineFault.{MachineFault}
 use Rattle.smf_machine.specs.declared.fault.MachineFault.TheVariants as machines
 use Rattle.smf_model.specs.declared.change.Change.{Change}

@@ -9,11 +9,13 @@ progress_of w m =
     record {
       world = w;
       delivered = reverse m.delivered.items;
+      early = m.early.items;
       next = m.next;
       lost = m.lost.items;
       refuse = m.refuse;
       looked = m.looked;
       unheard = m.unheard.items;
+      heard = m.heard.items;
     }
 
 -- the places of the last messages that were delivered, the oldest of them first

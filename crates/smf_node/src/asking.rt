@@ -13,7 +13,7 @@ use smf_model::Journal;
 use smf_world::Event;
 use std::alloc::{AllocError, Global};
 
-/// The greatest count of messages, which none is sent behind.
+/// The greatest count of messages, after which none is sent.
 const PAST: u64 = 0x8000_0000_0000_0000;
 
 /// The place of the message that is lost.

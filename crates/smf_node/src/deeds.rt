@@ -1,21 +1,26 @@
 ghost use Rattle.smf_node.specs.Faults.{IsDeedFault, IsLack, event_of};
 ghost use Rattle.smf_node.specs.Marks.{progress_of};
+ghost use Rattle.smf_node.specs.Partly.{DeedFails};
+ghost use Rattle.smf_node.specs.Rests.{RestsOn};
+ghost use Rattle.smf_node.specs.Rounds.{HasGone, course, refusing_tick};
 ghost use Rattle.smf_restarter.specs.Ticks.{ticked};
 ghost use Rattle.smf_world.specs.declared.event.Event.TheVariants as events;
 ghost use Rattle.smf_world.specs.declared.schedule.Deed.TheVariants as deeds;
-ghost use Rattle.smf_world.specs.Schedule.{asks_spawn, deliver_next, heard_of, is_known_contract, is_lost, is_spawn, on, refuses, refusing, report_one, tick_one, went};
+ghost use Rattle.smf_world.specs.declared.event.SpawnAnswer.TheVariants as spawns;
+ghost use Rattle.smf_world.specs.Schedule.{asks_spawn, deliver_next, has_other_key, is_known_contract, is_next, is_skipped, is_spawn, key_of, on, past_next, refuses, refusing, report_one};
 ghost use Rattle.smf_world.specs.Worked.{is_actor, restarter, sent_at};
-ghost use Rattle.smf_contract.specs.Entries.{contract};
 ghost use Rattle.std.specs.List.{list_any};
-ghost use Rattle.std.specs.Prelude.{◌≡◌, ◌∷◌, ◌++◌, ◌<◌, ◌+◌, ◌^◌, [], ◌==◌, ℕ, find, is_some, true, IfErr, IfOk, OnErr, OnOk};
+ghost use Rattle.std.specs.Prelude.{◌≡◌, ◌<◌, ◌^◌, ◌==◌, ℕ, filter, find, is_some, true, IfErr, IfOk, OnErr, OnOk};
 
 use crate::fault::NodeFault;
+use crate::marks::take_out;
 use crate::node::Node;
-use smf_contract::{Event as ContractEvent, Holder};
+use smf_contract::Event as ContractEvent;
 use smf_fmri::{InstanceFmri, Number};
+use smf_machine::Runner;
 use smf_model::Journal;
 use smf_restarter::{Call, Restarter};
-use smf_world::{Deed, Event, SpawnAnswer};
+use smf_world::{Deed, Event, EventKey, SpawnAnswer};
 use std::alloc::AllocError;
 
 fn is_spawn(call: &Call) -> bool
@@ -67,7 +72,7 @@ impl<J: Journal> Node<J> {
     /// Whether the next message in the order of sending is lost.
     #[tactic(auto, unfolding(crate::specs::Marks::progress_of))]
     fn is_lost(&self) -> bool
-        ensures { result ≡ is_lost self.now }
+        ensures { result ≡ list_any (is_next self.now) self.now.lost }
     {
         let next = self.marks.next;
         self.marks.lost.iter().any(|place| *place == next)
@@ -80,6 +85,42 @@ impl<J: Journal> Node<J> {
         self.marks.next
     }
 
+    /// Whether the next message in the order of sending was delivered before its turn.
+    #[tactic(auto, unfolding(crate::specs::Marks::progress_of))]
+    fn is_early(&self) -> bool
+        ensures { result ≡ list_any (is_next self.now) self.now.early }
+    {
+        let next = self.marks.next;
+        self.marks.early.iter().any(|place| *place == next)
+    }
+
+    fn is_skipped(&self) -> bool
+        ensures { result ≡ is_skipped self.now }
+    {
+        if self.is_lost() {
+            return true;
+        }
+        self.is_early()
+    }
+
+    /// The next message in the order of sending is delivered.
+    fn deliver_at(&mut self, next: u64) -> Result<(), NodeFault>
+        requires at { next ≡ self.old.next }
+        requires bound { next < 2 ^ 63 }
+        ensures ok { OnOk result (self.new ≡ on (past_next self.old) (events.Deliver self.old.next)) }
+        ensures err { OnErr result (self.new ≡ self.old) }
+        ensures fault { IfErr result (λ e. IsLack J.write_fails self.old.world (events.Deliver self.old.next) e) }
+    {
+        self.set_next(next + 1);
+        match self.goes(Event::Deliver(next)) {
+            Ok(()) => Ok(()),
+            Err(fault) => {
+                self.set_next(next);
+                Err(fault)
+            }
+        }
+    }
+
     #[tactic(auto, unfolding(smf_world::specs::Schedule::deliver_next))]
     fn deliver_next(&mut self) -> Result<(), NodeFault>
         ensures ok { OnOk result (self.new ≡ deliver_next self.old) }
@@ -90,11 +131,11 @@ impl<J: Journal> Node<J> {
             return Ok(());
         }
         let next = self.next();
-        if !self.is_lost() {
-            self.goes(Event::Deliver(next))?;
+        if self.is_skipped() {
+            self.set_next(next + 1);
+            return Ok(());
         }
-        self.set_next(next + 1);
-        Ok(())
+        self.deliver_at(next)
     }
 
     fn launch(&mut self, name: &InstanceFmri) -> Result<(), NodeFault>
@@ -110,24 +151,10 @@ impl<J: Journal> Node<J> {
 
     /// Whether an actor is launched.
     #[tactic(auto, unfolding(crate::specs::Marks::progress_of), using(crate::proofs::Found::any_found))]
-    fn is_actor(&self, actor: u64) -> bool
+    pub(crate) fn is_actor(&self, actor: u64) -> bool
         ensures { result ≡ is_some (find (is_actor actor) self.now.world.restarters) }
     {
         has_actor(self.machine.restarters(), actor)
-    }
-
-    /// Whether the holder of a contract is launched.
-    fn is_heard(&self, id: Number) -> bool
-        ensures { result ≡ is_some (heard_of (contract self.now.world.table id) self.now.world) }
-    {
-        let Some(contract) = self.table().contract(id) else {
-            return false;
-        };
-        match contract.holder {
-            Holder::Held(actor) => self.is_actor(actor),
-            Holder::Inherited => false,
-            Holder::Abandoned => false,
-        }
     }
 
     fn is_known_contract(&self, id: Number) -> bool
@@ -136,15 +163,16 @@ impl<J: Journal> Node<J> {
         self.table().contract(id).is_some()
     }
 
-    /// An event is kept, to be reported later.
+    /// An event of a contract that is gone is not reported any more.
     #[tactic(auto, unfolding(crate::specs::Marks::progress_of))]
-    fn keep(&mut self, event: &ContractEvent) -> Result<(), NodeFault>
-        ensures ok { OnOk result (self.new ≡ record self.old { unheard = self.old.unheard ++ event.now ∷ [] }) }
-        ensures err { OnErr result (self.new ≡ self.old) }
-        ensures fault { IfErr result (λ e. e ≡ NodeFault.Memory) }
+    fn drop_event(&mut self, event: &ContractEvent)
+        ensures { self.new ≡ record self.old { unheard = filter (has_other_key (key_of event.now)) self.old.unheard } }
     {
-        self.marks.unheard.push(*event)?;
-        Ok(())
+        let key = EventKey {
+            contract: event.contract,
+            number: event.number,
+        };
+        take_out(&key, &mut self.marks.unheard);
     }
 
     #[tactic(auto, unfolding(smf_world::specs::Schedule::report_one))]
@@ -153,15 +181,16 @@ impl<J: Journal> Node<J> {
         ensures err { OnErr result (self.new ≡ self.old) }
         ensures fault { IfErr result (λ e. IsDeedFault J.write_fails self.old (deeds.Report event.now) e) }
     {
-        if self.is_heard(event.contract) {
+        if self.is_heard(event.contract, event.number) {
             return self.goes(Event::Report {
                 contract: event.contract,
                 number: event.number,
             });
         }
         if self.is_known_contract(event.contract) {
-            return self.keep(event);
+            return Ok(());
         }
+        self.drop_event(event);
         Ok(())
     }
 
@@ -185,9 +214,8 @@ impl<J: Journal> Node<J> {
     }
 
     /// Whether it is found at once that the turn of a restarter for an instance changes nothing.
-    #[tactic(auto, using(crate::proofs::Resting::none_rests, crate::proofs::Resting::some_rests))]
-    pub fn rests_on(&self, name: &InstanceFmri, instance: u64) -> bool
-        ensures { result ≡ true → went (deeds.Tick name.now instance) self.now ≡ self.now }
+    fn rests_on(&self, name: &InstanceFmri, instance: u64) -> bool
+        ensures { result ≡ true → RestsOn self.now.world name.now instance }
     {
         match self.restarter(name) {
             None => true,
@@ -196,8 +224,8 @@ impl<J: Journal> Node<J> {
     }
 
     /// Whether it is found at once that the turns of a restarter for all its instances change nothing.
-    pub fn rests_on_all(&self, name: &InstanceFmri) -> bool
-        ensures { result ≡ true → (instance : ℕ) → went (deeds.Tick name.now instance) self.now ≡ self.now }
+    pub(crate) fn rests_on_all(&self, name: &InstanceFmri) -> bool
+        ensures { result ≡ true → (instance : ℕ) → RestsOn self.now.world name.now instance }
     {
         match self.restarter(name) {
             None => true,
@@ -206,7 +234,7 @@ impl<J: Journal> Node<J> {
     }
 
     /// Whether the turn of a restarter for an instance asks for a spawn that is to be refused.
-    pub fn refuses(&self, name: &InstanceFmri, instance: u64) -> Result<bool, AllocError>
+    fn refuses(&self, name: &InstanceFmri, instance: u64) -> Result<bool, AllocError>
         ensures { IfOk result (λ b. b ≡ refuses self.now name.now instance) }
     {
         if self.refused_count() == 0 {
@@ -215,23 +243,16 @@ impl<J: Journal> Node<J> {
         self.asks_spawn(name, instance)
     }
 
-    #[tactic(auto, unfolding(smf_world::specs::Schedule::tick_one, smf_world::specs::Schedule::refusing))]
-    fn tick_one(&mut self, name: &InstanceFmri, instance: u64) -> Result<(), NodeFault>
-        ensures ok { OnOk result (self.new ≡ tick_one name.now instance self.old) }
+    /// The turn of a restarter for an instance, whose spawn is refused.
+    #[tactic(auto, unfolding(smf_world::specs::Schedule::refusing))]
+    fn refuse_tick(&mut self, name: &InstanceFmri, instance: u64) -> Result<(), NodeFault>
+        ensures ok { OnOk result (self.new ≡ refusing_tick name.now instance self.old) }
         ensures err { OnErr result (self.new ≡ self.old) }
-        ensures fault { IfErr result (λ e. IsDeedFault J.write_fails self.old (deeds.Tick name.now instance) e) }
+        ensures fault { IfErr result (λ e. IsLack J.write_fails self.old.world (events.Tick name.now instance spawns.Refused) e) }
     {
-        let restarter = name.clone()?;
-        if !self.refuses(name, instance)? {
-            return self.goes(Event::Tick {
-                restarter,
-                instance,
-                spawn: SpawnAnswer::Made,
-            });
-        }
         let left = self.refused_count().saturating_sub(1);
         self.goes(Event::Tick {
-            restarter,
+            restarter: name.clone()?,
             instance,
             spawn: SpawnAnswer::Refused,
         })?;
@@ -239,12 +260,30 @@ impl<J: Journal> Node<J> {
         Ok(())
     }
 
-    /// A deed is done. `Limit` where a restarter cannot be launched, since a number has no next one.
-    #[tactic(auto, unfolding(smf_world::specs::Schedule::went))]
-    pub fn go(&mut self, deed: &Deed) -> Result<(), NodeFault>
-        ensures ok { OnOk result (self.new ≡ went deed.now self.old) }
-        ensures err { OnErr result (self.new ≡ self.old) }
-        ensures fault { IfErr result (λ e. IsDeedFault J.write_fails self.old deed.now e) }
+    /// The turn of a restarter for an instance. A spawn that the schedule refuses is asked of nobody.
+    fn tick_one<R: Runner>(
+        &mut self,
+        runner: &mut R,
+        name: &InstanceFmri,
+        instance: u64,
+    ) -> Result<(), NodeFault>
+        ensures ok { OnOk result (HasGone R.rules (deeds.Tick name.now instance) (course self.old (R.seen runner.old)) (course self.new (R.seen runner.new))) }
+        ensures err { IfErr result (λ e. DeedFails J.write_fails (deeds.Tick name.now instance) (course self.old (R.seen runner.old)) (course self.new (R.seen runner.new)) e) }
+    {
+        if self.rests_on(name, instance) {
+            return Ok(());
+        }
+        if self.refuses(name, instance)? {
+            self.refuse_tick(name, instance)
+        } else {
+            self.tick(runner, name, instance)
+        }
+    }
+
+    /// A deed is done. `Limit` if a restarter cannot be launched, since a number has no next one.
+    pub(crate) fn go<R: Runner>(&mut self, runner: &mut R, deed: &Deed) -> Result<(), NodeFault>
+        ensures ok { OnOk result (HasGone R.rules deed.now (course self.old (R.seen runner.old)) (course self.new (R.seen runner.new))) }
+        ensures err { IfErr result (λ e. DeedFails J.write_fails deed.now (course self.old (R.seen runner.old)) (course self.new (R.seen runner.new)) e) }
     {
         match deed {
             Deed::Launch(name) => self.launch(name),
@@ -256,7 +295,7 @@ impl<J: Journal> Node<J> {
             Deed::Tick {
                 restarter,
                 instance,
-            } => self.tick_one(restarter, *instance),
+            } => self.tick_one(runner, restarter, *instance),
         }
     }
 }

@@ -6,13 +6,14 @@ ghost use Rattle.smf_node.specs.Marks.{progress_of};
 ghost use Rattle.smf_node.specs.Runs.{IsStep, RunsAll, RunsUntilFault, reply_of};
 ghost use Rattle.smf_world.specs.declared.event.Event.TheVariants as events;
 ghost use Rattle.smf_world.specs.Safe.{IsSafe};
-ghost use Rattle.smf_world.specs.Schedule.{on};
+ghost use Rattle.smf_world.specs.Schedule.{is_heard, is_heard_in, on};
 ghost use Rattle.smf_world.specs.Worked.{worked};
 ghost use Rattle.std.specs.Prelude.{◌≡◌, ◌∷◌, ◌<◌, ◌^◌, [], length, slice_get, None, IfErr, IfOk, OnErr, OnOk};
 
 use crate::fault::NodeFault;
 use crate::node::{Node, is_past_boot, is_past_limit};
-use smf_fmri::{InstanceFmri, Items};
+use smf_contract::Holder;
+use smf_fmri::{InstanceFmri, Items, Number};
 use smf_machine::Machine;
 use smf_model::{Command, Edit, Journal, Reply};
 use smf_world::Event;
@@ -35,7 +36,7 @@ fn first(replies: Items<Reply>) -> Option<Reply>
     all.next()
 }
 
-/// An event that happened or could not is not needed any more.
+/// Drops an event.
 fn let_go(_event: Event) {}
 
 fn revision<J: Journal>(machine: &Machine<J>) -> u64
@@ -133,6 +134,31 @@ impl<J: Journal> Node<J> {
         Ok(())
     }
 
+    /// Whether an event of a contract is there, and the contract's holder is launched.
+    #[tactic(auto, unfolding(smf_world::specs::Schedule::is_heard))]
+    pub(crate) fn is_heard(&self, contract: Number, number: Number) -> bool
+        ensures { result ≡ is_heard self.now.world contract number }
+    {
+        let Some(report) = self.table().report(contract.get(), number.get()) else {
+            return false;
+        };
+        match report.contract.holder {
+            Holder::Held(actor) => self.is_actor(actor),
+            Holder::Inherited => false,
+            Holder::Abandoned => false,
+        }
+    }
+
+    /// Whether an event is a report that a holder is about to hear.
+    fn is_heard_in(&self, event: &Event) -> bool
+        ensures { result ≡ is_heard_in self.now.world event.now }
+    {
+        match event {
+            Event::Report { contract, number } => self.is_heard(*contract, *number),
+            _ => false,
+        }
+    }
+
     /// An event happens, and is marked.
     pub(crate) fn happen(&mut self, event: &Event) -> Result<Items<Reply>, NodeFault>
         ensures ok { OnOk result (self.new ≡ on self.old event.now) }
@@ -140,11 +166,12 @@ impl<J: Journal> Node<J> {
         ensures err { OnErr result (self.new ≡ self.old) }
         ensures fault { IfErr result (λ e. IsLack J.write_fails self.old.world event.now e) }
     {
+        let is_heard = self.is_heard_in(event);
         self.marks.reserve()?;
         let before = revision(&self.machine);
         let replies = happen_in(&mut self.machine, event)?;
         let after = revision(&self.machine);
-        self.marks.mark(event, before < after);
+        self.marks.mark(event, is_heard, before < after);
         Ok(replies)
     }
 

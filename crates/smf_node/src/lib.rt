@@ -2,12 +2,11 @@
 //! rounds until nothing is left to do.
 //! Modules: `fault`, `marks` (the marks and counts of a schedule), `naming` (restarters in order), `node` (the node and
 //! what it shows), `events` (what may happen, and happens), `deeds` (what a schedule does one at a time), `turns` (what
-//! the deeds of a turn are), `rounds` (turns and rounds), `asking` (what is asked of a schedule), `children` (what they
-//! answer and tell), `client` (a node as a client of the repository).
+//! the deeds of a turn are), `runners` (what those who run methods answer and tell), `rounds` (turns and rounds), `asking`
+//! (what is asked of a schedule), `client` (a node as a client of the repository).
 #![tactic(auto)]
 
 mod asking;
-mod children;
 mod client;
 mod deeds;
 mod events;
@@ -16,8 +15,10 @@ mod marks;
 mod naming;
 mod node;
 mod rounds;
+mod runners;
 mod turns;
 
 pub use client::edits_are_events;
 pub use fault::NodeFault;
 pub use node::Node;
+pub use runners::MAX_POLLS;

@@ -1,10 +1,12 @@
 ghost use Rattle.smf_node.specs.Marks.{progress_of};
-ghost use Rattle.smf_world.specs.Schedule.{begun_at, marked};
+ghost use Rattle.smf_world.specs.Schedule.{begun_at, has_key, has_other_key, mark_heard, marked};
+ghost use Rattle.smf_world.specs.declared.event.Event.TheVariants as events;
 ghost use Rattle.smf_world.specs.World.{World as AnyWorld};
-ghost use Rattle.std.specs.Prelude.{◌≡◌, ◌<◌, vec_capacity, vec_len, OnOk};
+ghost use Rattle.std.specs.List.{list_any};
+ghost use Rattle.std.specs.Prelude.{◌≡◌, ◌<◌, ◌++◌, [], filter, Bool, vec_capacity, vec_len, OnErr, OnOk};
 
 use smf_contract::Event as ContractEvent;
-use smf_world::Event;
+use smf_world::{Event, EventKey};
 use std::alloc::{AllocError, Global};
 
 /// What a schedule keeps of its own.
@@ -12,6 +14,8 @@ use std::alloc::{AllocError, Global};
 pub struct Marks {
     /// The places of the messages that were delivered, the newest last.
     pub(crate) delivered: Vec<u64>,
+    /// Those of them that were delivered before their turn.
+    pub(crate) early: Vec<u64>,
     /// The place of the next message in the order of sending.
     pub(crate) next: u64,
     /// The places of the messages that are lost.
@@ -20,8 +24,30 @@ pub struct Marks {
     pub(crate) refuse: u64,
     /// How many events of the contract table were looked at.
     pub(crate) looked: usize,
-    /// Those of them whose holder was not launched.
+    /// Those of them that no holder has heard.
     pub(crate) unheard: Vec<ContractEvent>,
+    /// Events that a holder heard before they were looked at.
+    pub(crate) heard: Vec<EventKey>,
+}
+
+/// Whether an event of a contract has this number there.
+pub(crate) fn has_key(key: &EventKey, event: &ContractEvent) -> bool
+    ensures { result ≡ has_key key.now event.now }
+{
+    event.contract == key.contract && event.number == key.number
+}
+
+fn is_among(key: &EventKey, events: &[ContractEvent]) -> bool
+    ensures { result ≡ list_any (has_key key.now) events.now }
+{
+    events.iter().any(|event| has_key(key, event))
+}
+
+/// Takes the event of this number out of others.
+pub(crate) fn take_out(key: &EventKey, events: &mut Vec<ContractEvent>)
+    ensures { events.new.items ≡ filter (has_other_key key.now) events.old.items }
+{
+    events.retain(|event| !has_key(key, event));
 }
 
 impl Marks {
@@ -32,35 +58,88 @@ impl Marks {
     {
         Marks {
             delivered: Vec::new(alloc),
+            early: Vec::new(alloc),
             next: 0,
             lost: Vec::new(alloc),
             refuse: 0,
             looked: 0,
             unheard: Vec::new(alloc),
+            heard: Vec::new(alloc),
         }
     }
 
-    /// Makes room for one more delivery.
+    /// Makes room for the marks of one more event.
     #[tactic(auto, unfolding(crate::specs::Marks::progress_of))]
     pub(crate) fn reserve(&mut self) -> Result<(), AllocError>
         ensures kept { (w : AnyWorld) → progress_of w self.new ≡ progress_of w self.old }
-        ensures room { OnOk result (vec_len self.new.delivered < vec_capacity self.new.delivered) }
+        ensures delivered { OnOk result (vec_len self.new.delivered < vec_capacity self.new.delivered) }
+        ensures early { OnOk result (vec_len self.new.early < vec_capacity self.new.early) }
+        ensures heard { OnOk result (vec_len self.new.heard < vec_capacity self.new.heard) }
     {
-        self.delivered.reserve(1)
+        self.delivered.reserve(1)?;
+        self.early.reserve(1)?;
+        self.heard.reserve(1)?;
+        Ok(())
     }
 
-    /// An event is marked that has happened; `is_new` says whether it made a revision.
+    /// A message was delivered.
     #[tactic(auto, unfolding(crate::specs::Marks::progress_of))]
-    pub(crate) fn mark(&mut self, event: &Event, is_new: bool)
-        requires { vec_len self.old.delivered < vec_capacity self.old.delivered }
-        ensures { (w : AnyWorld) → progress_of w self.new ≡ marked event.now is_new (progress_of w self.old) }
+    fn deliver(&mut self, place: u64)
+        requires delivered { vec_len self.old.delivered < vec_capacity self.old.delivered }
+        requires early { vec_len self.old.early < vec_capacity self.old.early }
+        ensures { (w : AnyWorld) → (heard new : Bool) → progress_of w self.new ≡ marked (events.Deliver place) heard new (progress_of w self.old) }
+    {
+        self.delivered.push(place).unwrap();
+        if place >= self.next {
+            self.early.push(place).unwrap();
+        }
+    }
+
+    /// A holder heard the event of a contract.
+    #[tactic(auto, unfolding(crate::specs::Marks::progress_of))]
+    fn hear(&mut self, key: EventKey)
+        requires { vec_len self.old.heard < vec_capacity self.old.heard }
+        ensures { (w : AnyWorld) → progress_of w self.new ≡ mark_heard (list_any (has_key key) (progress_of w self.old).unheard) key (progress_of w self.old) }
+    {
+        if is_among(&key, &self.unheard) {
+            take_out(&key, &mut self.unheard);
+        } else {
+            self.heard.push(key).unwrap();
+        }
+    }
+
+    /// The contracts are gone.
+    #[tactic(auto, unfolding(crate::specs::Marks::progress_of))]
+    fn boot(&mut self)
+        ensures { (w : AnyWorld) → progress_of w self.new ≡ record (progress_of w self.old) { looked = 0; unheard = []; heard = [] } }
+    {
+        self.looked = 0;
+        self.unheard.clear();
+        self.heard.clear();
+    }
+
+    /// An event is marked that has happened; `is_heard` says whether a holder heard a report, and `is_new` whether a
+    /// revision was made.
+    #[tactic(auto, unfolding(crate::specs::Marks::progress_of))]
+    pub(crate) fn mark(&mut self, event: &Event, is_heard: bool, is_new: bool)
+        requires delivered { vec_len self.old.delivered < vec_capacity self.old.delivered }
+        requires early { vec_len self.old.early < vec_capacity self.old.early }
+        requires heard { vec_len self.old.heard < vec_capacity self.old.heard }
+        ensures { (w : AnyWorld) → progress_of w self.new ≡ marked event.now is_heard is_new (progress_of w self.old) }
     {
         match event {
-            Event::Deliver(place) => self.delivered.push(*place).unwrap(),
+            Event::Deliver(place) => self.deliver(*place),
+            Event::Report { contract, number } => {
+                if is_heard {
+                    self.hear(EventKey {
+                        contract: *contract,
+                        number: *number,
+                    });
+                }
+            }
             Event::Boot => {
                 if is_new {
-                    self.looked = 0;
-                    self.unheard.clear();
+                    self.boot();
                 }
             }
             Event::Client(_) => {}
@@ -69,10 +148,26 @@ impl Marks {
             Event::OwnTick(_) => {}
             Event::Tick { .. } => {}
             Event::Process { .. } => {}
-            Event::Report { .. } => {}
             Event::Timeout { .. } => {}
             Event::Crash(_) => {}
             Event::Launch(_) => {}
         }
+    }
+
+    /// So many events were looked at, and these came.
+    #[tactic(auto, unfolding(crate::specs::Marks::progress_of))]
+    pub(crate) fn look(
+        &mut self,
+        looked: usize,
+        mut news: Vec<ContractEvent>,
+    ) -> Result<(), AllocError>
+        ensures ok { (w : AnyWorld) → OnOk result (progress_of w self.new ≡ record (progress_of w self.old) { looked = looked; unheard = (progress_of w self.old).unheard ++ news.items; heard = [] }) }
+        ensures err { (w : AnyWorld) → OnErr result (progress_of w self.new ≡ progress_of w self.old) }
+    {
+        self.unheard.reserve(news.len())?;
+        self.unheard.append(&mut news).unwrap();
+        self.looked = looked;
+        self.heard.clear();
+        Ok(())
     }
 }

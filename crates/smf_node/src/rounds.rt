@@ -1,23 +1,24 @@
-ghost use Rattle.smf_node.specs.Marks.{progress_of};
-ghost use Rattle.smf_node.specs.Partly.{DeedOfTurnFails, DeedsFail, RestartersFail, RoundFails, SettleFails, TurnFails, TurnOfManyFails, TurnsFail};
-ghost use Rattle.smf_restarter.specs.Ticks.{at_rest};
 ghost use Rattle.smf_engine.specs.Orders.{has_no_orders};
+ghost use Rattle.smf_machine.specs.Runners.{table_rules, unseen};
 ghost use Rattle.smf_model.specs.Shown.{view};
-ghost use Rattle.smf_world.specs.declared.schedule.Turn.TheVariants as turns;
+ghost use Rattle.smf_node.specs.Marks.{progress_of};
+ghost use Rattle.smf_node.specs.Partly.{DeedsFail, RestartersFail, RoundFails, SettleFails, TurnFails, TurnsFail};
+ghost use Rattle.smf_node.specs.Rounds.{AreDone, AreTaken, HasSettled, IsRound, IsTaken, course};
+ghost use Rattle.smf_node.specs.Rests.{AllRest};
+ghost use Rattle.smf_restarter.specs.Ticks.{at_rest};
 ghost use Rattle.smf_world.specs.Safe.{IsSafe};
-ghost use Rattle.smf_world.specs.Schedule.{IsSettled, all_turned, all_went, deliveries, deeds_of, entering, first_turns, is_quiet, launched_names, restarter_turns, round, turned, turns_of, turns_of_all};
+ghost use Rattle.smf_world.specs.Schedule.{deliveries, first_turns, is_quiet, launched_names, turns_of, turns_of_all};
 ghost use Rattle.std.specs.List.{list_all};
-ghost use Rattle.std.specs.Prelude.{◌≡◌, ◌++◌, IfErr, IfOk, OnOk};
+ghost use Rattle.std.specs.Prelude.{◌≡◌, ◌++◌, IfErr, IfOk, OnOk, true};
 
 use crate::fault::NodeFault;
 use crate::node::Node;
-use smf_contract::Event as ContractEvent;
 use smf_fmri::InstanceFmri;
+use smf_machine::{NoChildren, Runner};
 use smf_model::Journal;
 use smf_restarter::Restarter;
 use smf_world::{Deed, Settled, Turn};
 use std::alloc::{AllocError, Global};
-use std::mem::replace;
 
 /// What waits, what is sent on it, and what is sent on that.
 fn push_deliveries(all: &mut Vec<Turn>) -> Result<(), AllocError>
@@ -43,7 +44,7 @@ fn first_turns(alloc: Global) -> Result<Vec<Turn>, AllocError>
     Ok(all)
 }
 
-/// The turns of a restarter, behind others.
+/// The turns of a restarter, after others.
 fn push_turns_of(all: &mut Vec<Turn>, name: &InstanceFmri) -> Result<(), AllocError>
     ensures { OnOk result (all.new.items ≡ all.old.items ++ turns_of name.now) }
 {
@@ -69,109 +70,63 @@ fn all_rest(restarters: &[Restarter]) -> bool
     restarters.iter().all(|restarter| restarter.is_at_rest())
 }
 
-/// Marks of reports, which are put back where a report fails.
-#[derive(Drop)]
-struct Looked {
-    looked: usize,
-    unheard: Vec<ContractEvent>,
-}
-
 impl<J: Journal> Node<J> {
     /// Deeds are done, up to the first that fails.
-    fn go_all(&mut self, deeds: &[Deed]) -> Result<(), NodeFault>
-        ensures ok { OnOk result (self.new ≡ all_went deeds.now self.old) }
-        ensures err { IfErr result (λ e. DeedsFail J.write_fails self.old deeds.now self.new e) }
+    fn go_all<R: Runner>(&mut self, runner: &mut R, deeds: &[Deed]) -> Result<(), NodeFault>
+        ensures ok { OnOk result (AreDone R.rules deeds.now (course self.old (R.seen runner.old)) (course self.new (R.seen runner.new))) }
+        ensures err { IfErr result (λ e. DeedsFail R.rules J.write_fails deeds.now (course self.old (R.seen runner.old)) (course self.new (R.seen runner.new)) e) }
     {
         for deed in deeds {
-            self.go(deed)?;
+            self.go(runner, deed)?;
         }
         Ok(())
-    }
-
-    /// What is about to be reported is marked as looked at.
-    #[tactic(auto, unfolding(crate::specs::Marks::progress_of))]
-    fn enter_reports(&mut self) -> Looked
-        ensures entered { self.new ≡ entering turns.Reports self.old }
-        ensures looked { result.looked ≡ self.old.looked }
-        ensures unheard { result.unheard.items ≡ self.old.unheard }
-    {
-        let looked = self.marks.looked;
-        let unheard = replace(&mut self.marks.unheard, Vec::new(self.alloc));
-        self.marks.looked = self.machine.table().events().len();
-        Looked { looked, unheard }
-    }
-
-    #[tactic(auto, unfolding(crate::specs::Marks::progress_of))]
-    fn leave_reports(&mut self, before: Looked)
-        ensures { self.new ≡ record self.old { looked = before.looked; unheard = before.unheard.items } }
-    {
-        self.marks.looked = before.looked;
-        self.marks.unheard = before.unheard;
-    }
-
-    /// The deeds of the turn of reports. Where one fails, none of them is marked.
-    fn report_all(&mut self, deeds: &[Deed]) -> Result<(), NodeFault>
-        ensures ok { OnOk result (self.new ≡ all_went deeds.now (entering turns.Reports self.old)) }
-        ensures err { deeds.now ≡ deeds_of self.old turns.Reports → IfErr result (λ e. DeedOfTurnFails J.write_fails self.old turns.Reports self.new e) }
-    {
-        let before = self.enter_reports();
-        match self.go_all(deeds) {
-            Ok(()) => Ok(()),
-            Err(fault) => {
-                self.leave_reports(before);
-                Err(fault)
-            }
-        }
-    }
-
-    /// The deeds of a turn are done.
-    fn go_through(&mut self, turn: &Turn, deeds: &[Deed]) -> Result<(), NodeFault>
-        requires { deeds.now ≡ deeds_of self.old turn.now }
-        ensures ok { OnOk result (self.new ≡ all_went deeds.now (entering turn.now self.old)) }
-        ensures err { IfErr result (λ e. DeedOfTurnFails J.write_fails self.old turn.now self.new e) }
-    {
-        match turn {
-            Turn::Reports => self.report_all(deeds),
-            Turn::Launches => self.go_all(deeds),
-            Turn::Messages => self.go_all(deeds),
-            Turn::Ask => self.go_all(deeds),
-            Turn::Orders => self.go_all(deeds),
-            Turn::OwnTick(_) => self.go_all(deeds),
-            Turn::Ticks(_) => self.go_all(deeds),
-        }
     }
 
     /// A turn is taken. A fault leaves what was done before the deed that failed.
-    #[tactic(auto, unfolding(smf_world::specs::Schedule::turned))]
-    pub fn turn(&mut self, turn: &Turn) -> Result<(), NodeFault>
-        ensures ok { OnOk result (self.new ≡ turned turn.now self.old) }
-        ensures err { IfErr result (λ e. TurnFails J.write_fails self.old turn.now self.new e) }
+    #[tactic(auto, unfolding(crate::specs::Rounds::IsTaken, crate::specs::Partly::TurnFails))]
+    fn turn<R: Runner>(&mut self, runner: &mut R, turn: &Turn) -> Result<(), NodeFault>
+        ensures ok { OnOk result (IsTaken R.rules turn.now (course self.old (R.seen runner.old)) (course self.new (R.seen runner.new))) }
+        ensures err { IfErr result (λ e. TurnFails R.rules J.write_fails turn.now (course self.old (R.seen runner.old)) (course self.new (R.seen runner.new)) e) }
     {
+        self.enter(runner, turn)?;
+        if self.rests_in(turn) {
+            return Ok(());
+        }
         let deeds = self.deeds_of(turn)?;
-        self.go_through(turn, &deeds)
+        self.go_all(runner, &deeds)
     }
 
     /// Turns are taken, up to the first that fails.
-    fn turn_all(&mut self, turns: &[Turn]) -> Result<(), NodeFault>
-        ensures ok { OnOk result (self.new ≡ all_turned turns.now self.old) }
-        ensures err { IfErr result (λ e. TurnOfManyFails J.write_fails self.old turns.now self.new e) }
+    fn turn_all<R: Runner>(&mut self, runner: &mut R, turns: &[Turn]) -> Result<(), NodeFault>
+        ensures ok { OnOk result (AreTaken R.rules turns.now (course self.old (R.seen runner.old)) (course self.new (R.seen runner.new))) }
+        ensures err { IfErr result (λ e. TurnsFail R.rules J.write_fails turns.now (course self.old (R.seen runner.old)) (course self.new (R.seen runner.new)) e) }
     {
         for turn in turns {
-            self.turn(turn)?;
+            self.turn(runner, turn)?;
         }
         Ok(())
     }
 
-    /// The first turns of a round: launches, messages, what the graph asks for and orders, and reports.
-    fn begin_round(&mut self) -> Result<(), NodeFault>
-        ensures ok { OnOk result (self.new ≡ all_turned first_turns self.old) }
-        ensures err { IfErr result (λ e. TurnsFail J.write_fails self.old first_turns self.new e) }
+    /// The first turns of a round: launches, messages, what the graph asks for and orders, what children tell, and reports.
+    fn begin_round<R: Runner>(&mut self, runner: &mut R) -> Result<(), NodeFault>
+        ensures ok { OnOk result (AreTaken R.rules first_turns (course self.old (R.seen runner.old)) (course self.new (R.seen runner.new))) }
+        ensures err { IfErr result (λ e. TurnsFail R.rules J.write_fails first_turns (course self.old (R.seen runner.old)) (course self.new (R.seen runner.new)) e) }
     {
         let turns = first_turns(self.alloc)?;
-        self.turn_all(&turns)
+        self.turn_all(runner, &turns)
     }
 
-    fn restarter_turns_of(&self) -> Result<Vec<Turn>, AllocError>
+    /// Whether it is found at once that the deeds of a turn change nothing.
+    fn rests_in(&self, turn: &Turn) -> bool
+        ensures { result ≡ true → AllRest self.now.world turn.now }
+    {
+        match turn {
+            Turn::Ticks(name) => self.rests_on_all(name),
+            _ => false,
+        }
+    }
+
+    fn restarter_turns(&self) -> Result<Vec<Turn>, AllocError>
         ensures { IfOk result (λ ts. ts.items ≡ turns_of_all (launched_names self.now.world)) }
     {
         let names = self.launched_names()?;
@@ -180,21 +135,20 @@ impl<J: Journal> Node<J> {
 
     /// The turns of the launched restarters.
     #[tactic(auto, unfolding(crate::specs::Partly::RestartersFail))]
-    fn take_restarter_turns(&mut self) -> Result<(), NodeFault>
-        ensures ok { OnOk result (self.new ≡ restarter_turns self.old) }
-        ensures err { IfErr result (λ e. RestartersFail J.write_fails self.old self.new e) }
+    fn take_restarter_turns<R: Runner>(&mut self, runner: &mut R) -> Result<(), NodeFault>
+        ensures ok { OnOk result (AreTaken R.rules (turns_of_all (launched_names self.old.world)) (course self.old (R.seen runner.old)) (course self.new (R.seen runner.new))) }
+        ensures err { IfErr result (λ e. RestartersFail R.rules J.write_fails (course self.old (R.seen runner.old)) (course self.new (R.seen runner.new)) e) }
     {
-        let turns = self.restarter_turns_of()?;
-        self.turn_all(&turns)
+        let turns = self.restarter_turns()?;
+        self.turn_all(runner, &turns)
     }
 
-    #[tactic(auto, unfolding(smf_world::specs::Schedule::round))]
-    fn round(&mut self) -> Result<(), NodeFault>
-        ensures ok { OnOk result (self.new ≡ round self.old) }
-        ensures err { IfErr result (λ e. RoundFails J.write_fails self.old self.new e) }
+    fn round<R: Runner>(&mut self, runner: &mut R) -> Result<(), NodeFault>
+        ensures ok { OnOk result (IsRound R.rules (course self.old (R.seen runner.old)) (course self.new (R.seen runner.new))) }
+        ensures err { IfErr result (λ e. RoundFails R.rules J.write_fails (course self.old (R.seen runner.old)) (course self.new (R.seen runner.new)) e) }
     {
-        self.begin_round()?;
-        self.take_restarter_turns()
+        self.begin_round(runner)?;
+        self.take_restarter_turns(runner)
     }
 
     /// Whether nothing is ordered of what is held.
@@ -212,9 +166,9 @@ impl<J: Journal> Node<J> {
         all_rest(self.machine.restarters())
     }
 
-    /// Whether nothing is left to do. What is ordered is looked at only where all restarters are at rest.
+    /// Whether nothing is left to do. What is ordered is looked at only if all restarters are at rest.
     #[tactic(auto, unfolding(smf_world::specs::Schedule::is_quiet))]
-    pub fn is_quiet(&self) -> Result<bool, AllocError>
+    fn is_quiet(&self) -> Result<bool, AllocError>
         ensures { IfOk result (λ b. b ≡ is_quiet self.now.world) }
     {
         if !self.all_rest() {
@@ -226,18 +180,19 @@ impl<J: Journal> Node<J> {
 
     /// Keeps what the graph sees of what is held until something changes, for `is_quiet` and the next round.
     #[tactic(auto, unfolding(crate::specs::Marks::progress_of))]
-    pub fn keep_view(&mut self) -> Result<(), AllocError>
+    fn keep_view(&mut self) -> Result<(), AllocError>
         ensures { self.new ≡ self.old }
     {
         self.machine.keep_view()
     }
 
-    fn settle_rounds(&mut self, rounds: u64) -> Result<Settled, NodeFault>
-        ensures ok { IfOk result (λ how. IsSettled rounds self.old self.new how) }
-        ensures err { IfErr result (λ e. SettleFails J.write_fails rounds self.old self.new e) }
+    fn drive_rounds<R: Runner>(&mut self, runner: &mut R, rounds: u64) -> Result<Settled, NodeFault>
+        ensures ok { IfOk result (λ how. HasSettled R.rules rounds (course self.old (R.seen runner.old)) (course self.new (R.seen runner.new)) how) }
+        ensures err { IfErr result (λ e. SettleFails R.rules J.write_fails rounds (course self.old (R.seen runner.old)) (course self.new (R.seen runner.new)) e) }
     {
         for _ in 0..rounds {
-            self.round()?;
+            self.round(runner)?;
+            self.keep_view()?;
             if self.is_quiet()? {
                 return Ok(Settled::Quiet);
             }
@@ -245,15 +200,24 @@ impl<J: Journal> Node<J> {
         Ok(Settled::Busy)
     }
 
-    /// Lets at most so many rounds happen, up to the first that leaves nothing to do. `Limit` where a restarter has to be
-    /// launched and cannot be. A fault leaves what was done before the deed that failed.
-    pub fn settle(&mut self, rounds: u64) -> Result<Settled, NodeFault>
-        ensures ok { IfOk result (λ how. IsSettled rounds self.old self.new how) }
+    /// Lets at most so many rounds happen with the answers of who runs methods, up to the first that leaves nothing to do.
+    /// `Limit` if a restarter has to be launched and cannot be. A fault leaves what was done before the deed that failed.
+    pub fn drive<R: Runner>(&mut self, runner: &mut R, rounds: u64) -> Result<Settled, NodeFault>
+        ensures ok { IfOk result (λ how. HasSettled R.rules rounds (course self.old (R.seen runner.old)) (course self.new (R.seen runner.new)) how) }
         ensures safe { IsSafe self.new.world }
-        ensures err { IfErr result (λ e. SettleFails J.write_fails rounds self.old self.new e) }
+        ensures err { IfErr result (λ e. SettleFails R.rules J.write_fails rounds (course self.old (R.seen runner.old)) (course self.new (R.seen runner.new)) e) }
     {
-        let how = self.settle_rounds(rounds);
+        let how = self.drive_rounds(runner, rounds);
         let _shown = self.trail();
         how
+    }
+
+    /// The same where nobody runs methods: each spawn and each kill is made, and nothing is told of processes.
+    pub fn settle(&mut self, rounds: u64) -> Result<Settled, NodeFault>
+        ensures ok { IfOk result (λ how. HasSettled table_rules rounds (course self.old unseen) (course self.new unseen) how) }
+        ensures safe { IsSafe self.new.world }
+        ensures err { IfErr result (λ e. SettleFails table_rules J.write_fails rounds (course self.old unseen) (course self.new unseen) e) }
+    {
+        self.drive(&mut NoChildren {}, rounds)
     }
 }

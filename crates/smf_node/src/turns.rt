@@ -3,11 +3,12 @@ ghost use Rattle.smf_model.specs.Look.{groups_of};
 ghost use Rattle.smf_model.specs.Setting.{owner_by, setting};
 ghost use Rattle.smf_node.specs.Owners.{has_all_owners, has_launched_owner};
 ghost use Rattle.smf_world.specs.declared.schedule.Deed.TheVariants as deeds;
-ghost use Rattle.smf_world.specs.Schedule.{deeds_of, in_order, launch_deeds, launched_names, numbers_known, owners, unreported, waiting_count};
+ghost use Rattle.smf_world.specs.Schedule.{deeds_of, in_order, launch_deeds, launched_names, numbers_known, owners, unlooked, waiting_count, was_heard};
 ghost use Rattle.smf_world.specs.Worked.{is_launched, restarter};
 ghost use Rattle.std.specs.List.{list_all};
 ghost use Rattle.std.specs.Prelude.{◌≡◌, ◌∷◌, ◌++◌, [], drop, filter, map, not, replicate, IfOk, OnOk};
 
+use crate::marks::has_key;
 use crate::naming::{names_in_order, owners_in_order};
 use crate::node::Node;
 use smf_contract::Event as ContractEvent;
@@ -15,7 +16,7 @@ use smf_fmri::InstanceFmri;
 use smf_model::{Instance, InstanceEntry, Journal};
 use smf_restarter::KnownInstance;
 use smf_state::startd;
-use smf_world::{Deed, Turn};
+use smf_world::{Deed, EventKey, Turn};
 use std::alloc::{AllocError, Global};
 
 fn one(alloc: Global, deed: Deed) -> Result<Vec<Deed>, AllocError>
@@ -53,7 +54,7 @@ fn push_report(all: &mut Vec<Deed>, event: &ContractEvent) -> Result<(), AllocEr
     Ok(())
 }
 
-/// Reports behind other deeds.
+/// Reports after other deeds.
 fn push_reports(all: &mut Vec<Deed>, events: &[ContractEvent]) -> Result<(), AllocError>
     ensures { OnOk result (all.new.items ≡ all.old.items ++ map (λ e. deeds.Report e) events.now) }
 {
@@ -63,8 +64,8 @@ fn push_reports(all: &mut Vec<Deed>, events: &[ContractEvent]) -> Result<(), All
     Ok(())
 }
 
-/// The events behind the first so many.
-fn behind(events: &[ContractEvent], looked: usize) -> &[ContractEvent]
+/// The events after the first so many.
+fn after(events: &[ContractEvent], looked: usize) -> &[ContractEvent]
     ensures { result.now ≡ drop looked events.now }
 {
     if looked <= events.len() {
@@ -72,6 +73,30 @@ fn behind(events: &[ContractEvent], looked: usize) -> &[ContractEvent]
     } else {
         &[]
     }
+}
+
+/// Whether an event was heard before it was looked at.
+fn was_heard(keys: &[EventKey], event: &ContractEvent) -> bool
+    ensures { result ≡ was_heard keys.now event.now }
+{
+    keys.iter().any(|key| has_key(key, event))
+}
+
+/// Those of the events that were not.
+fn not_heard(
+    alloc: Global,
+    keys: &[EventKey],
+    events: &[ContractEvent],
+) -> Result<Vec<ContractEvent>, AllocError>
+    ensures { IfOk result (λ all. all.items ≡ filter (λ e. not (was_heard keys.now e)) events.now) }
+{
+    let mut all = Vec::new(alloc);
+    for event in events {
+        if !was_heard(keys, event) {
+            all.push(*event)?;
+        }
+    }
+    Ok(all)
 }
 
 fn ticks(
@@ -128,7 +153,7 @@ impl<J: Journal> Node<J> {
     }
 
     /// The launched restarters in that order.
-    pub fn launched_names(&self) -> Result<Vec<InstanceFmri>, AllocError>
+    pub(crate) fn launched_names(&self) -> Result<Vec<InstanceFmri>, AllocError>
         ensures { IfOk result (λ all. all.items ≡ launched_names self.now.world) }
     {
         let names = self.names()?;
@@ -220,15 +245,25 @@ impl<J: Journal> Node<J> {
         self.sent_count().saturating_sub(self.next()) as usize
     }
 
-    /// What was kept for later, and what happened since.
+    /// What happened since events were looked at, and was not heard early.
+    #[tactic(auto, unfolding(crate::specs::Marks::progress_of))]
+    pub(crate) fn unlooked(&self) -> Result<Vec<ContractEvent>, AllocError>
+        ensures { IfOk result (λ all. all.items ≡ unlooked self.now) }
+    {
+        let events = self.machine.table().events();
+        not_heard(
+            self.alloc,
+            &self.marks.heard,
+            after(events, self.marks.looked),
+        )
+    }
+
     #[tactic(auto, unfolding(crate::specs::Marks::progress_of))]
     fn report_deeds(&self) -> Result<Vec<Deed>, AllocError>
-        ensures { IfOk result (λ ds. ds.items ≡ map (λ e. deeds.Report e) (unreported self.now)) }
+        ensures { IfOk result (λ ds. ds.items ≡ map (λ e. deeds.Report e) self.now.unheard) }
     {
         let mut all = Vec::new(self.alloc);
         push_reports(&mut all, &self.marks.unheard)?;
-        let events = self.machine.table().events();
-        push_reports(&mut all, behind(events, self.marks.looked))?;
         Ok(all)
     }
 
@@ -242,9 +277,9 @@ impl<J: Journal> Node<J> {
         }
     }
 
-    /// The deeds of a turn that is about to be taken.
+    /// The deeds of a turn that was entered.
     #[tactic(auto, unfolding(smf_world::specs::Schedule::deeds_of))]
-    pub fn deeds_of(&self, turn: &Turn) -> Result<Vec<Deed>, AllocError>
+    pub(crate) fn deeds_of(&self, turn: &Turn) -> Result<Vec<Deed>, AllocError>
         ensures { IfOk result (λ ds. ds.items ≡ deeds_of self.now turn.now) }
     {
         match turn {

@@ -4,10 +4,10 @@ use crate::fault::fault_text;
 use smf_fmri::Text;
 use smf_model::{NoJournal, Plain};
 use smf_node::{Node, NodeFault};
-use smf_script::run_line;
+use smf_script::{asks_children, run_request, settled_text};
 use smf_svccfg::{Selection, words};
 use smf_wire::encode;
-use smf_words::trail_text;
+use smf_words::{Request, request_of, trail_text};
 use smf_world::Event;
 use std::alloc::{AllocError, Global};
 use std::fmt::Write;
@@ -125,6 +125,27 @@ impl Replay {
         }
     }
 
+    /// A line that is one of a script too. What it says of children is no line of a replay, since nobody runs methods.
+    fn put_request(
+        &mut self,
+        alloc: Global,
+        text: &str,
+        out: &mut String,
+    ) -> Result<(), NodeFault> {
+        let request = request_of(alloc, text.as_bytes())?;
+        if let Request::Settle(rounds) = &request {
+            let how = self.node.settle(*rounds)?;
+            out.push_str(settled_text(how))?;
+            return Ok(());
+        }
+        if asks_children(&request) {
+            out.push_str(BAD_LINE)?;
+            return Ok(());
+        }
+        run_request(alloc, &mut self.node, &mut self.selection, &request, out)?;
+        Ok(())
+    }
+
     fn put_words(
         &mut self,
         alloc: Global,
@@ -134,11 +155,7 @@ impl Replay {
     ) -> Result<(), NodeFault> {
         match words {
             [] => Ok(()),
-            [first, ..] if is_of_a_script(first.as_str()) => {
-                let line = text.as_bytes();
-                run_line(alloc, &mut self.node, &mut self.selection, line, out)?;
-                Ok(())
-            }
+            [first, ..] if is_of_a_script(first.as_str()) => self.put_request(alloc, text, out),
             [first] if first.as_str() == "rows" => {
                 self.put_rows(out)?;
                 Ok(())

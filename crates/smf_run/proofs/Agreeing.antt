@@ -1,22 +1,21 @@
 -- A script over children keeps what they keep and what the node's world says in agreement, line by line.
-use Rattle.std.proofs.Common.{◌≡◌, ◌⊎◌, inl, inr, ℕ, Bool, true, false, List, [], ◌∷◌, Option, Some, None, Result, Ok, Err, IfErr, IfOk, OnErr, OnOk, refl, sym, ap, ◌∙◌, subst}
+use Rattle.std.proofs.Common.{◌≡◌, inl, inr, ℕ, List, [], ◌∷◌, Option, None, Result, Ok, Err, IfErr, IfOk, OnErr, OnOk, refl, sym, ap, ◌∙◌, subst}
 use Rattle.smf_admin.specs.declared.finding.Found.{Found}
 use Rattle.smf_admin.specs.declared.finding.Found.TheVariants as finds
 use Rattle.smf_admin.specs.Finding.{found_of}
 use Rattle.smf_drive.specs.Agrees.{Agrees}
 use Rattle.smf_drive.proofs.Agreeing.{agree_as, agree_moves}
-use Rattle.smf_drive.proofs.Events.{marked_world}
 use Rattle.smf_drive.proofs.Keeping.{agree_apart, agree_boot, agree_pending, apart_inherits, moves_inherits}
 use Rattle.smf_edge.specs.declared.fault.KidsFault.{KidsFault}
-use Rattle.smf_edge.specs.Answers.{Skills}
+use Rattle.smf_edge.specs.Answers.{Seen, Skills}
 use Rattle.smf_edge.specs.Ledgers.{Ledger}
 use Rattle.smf_model.specs.declared.journal.RepoFault.{RepoFault}
 use Rattle.smf_node.specs.declared.fault.NodeFault.{NodeFault}
 use Rattle.smf_node.specs.Faults.{refused}
 use Rattle.smf_run.specs.Agreed.{AgreesOrDropped}
-use Rattle.smf_run.specs.Asks.{Ask, HasAnswered, HasAsked, IsDone, Seen, said, to_act, to_join, to_reboot}
+use Rattle.smf_run.specs.Asks.{Ask, HasAnswered, HasAsked, IsDone, said, to_act, to_join, to_reboot}
 use Rattle.smf_run.specs.Failing.{LeavesWith, LineFails, fails_alone, fails_together}
-use Rattle.smf_run.specs.Lines.{AskedBy, DoesWith, HasAskedOf, HasBooted, HasDone, alone, asks_children, booted, contract_of, deed_of, happening, together}
+use Rattle.smf_run.specs.Lines.{AskedBy, DoesWith, HasAskedOf, HasBooted, HasDone, alone, booted, contract_of, deed_of, happening, together}
 use Rattle.smf_run.specs.Scripts.{HasRun, Leaves, Runs, Stops}
 use Rattle.smf_run.proofs.Parting.{Apart, effect_apart, fails_apart}
 use Rattle.smf_script.specs.declared.fault.ScriptFault.{ScriptFault}
@@ -29,8 +28,9 @@ use Rattle.smf_script.specs.Session.{Deed, Effect, Session, effect_of}
 use Rattle.smf_world.specs.declared.event.Event.TheVariants as events
 use Rattle.smf_world.specs.Happens.{happens}
 use Rattle.smf_world.specs.Reached.{IsReached}
-use Rattle.smf_world.specs.Schedule.{Progress, is_revision, on}
+use Rattle.smf_world.specs.Schedule.{Progress, on}
 use Rattle.smf_world.specs.World.{World}
+use Rattle.smf_world.proofs.Scheduled.{on_world}
 use Rattle.smf_world.proofs.TablesInherit.{AllInherit, happens_inherits, reached_inherits}
 
 -- they agree, and no crash ends a process
@@ -69,7 +69,7 @@ word_holds k p ask word old new d waits r h = found_holds k p ask (found_of p.wo
 -- ---- a boot
 
 boot_world : (p q : Progress) → q ≡ on p events.Boot → q.world ≡ happens p.world events.Boot
-boot_world p q is = ap (λ (x : Progress). x.world) is ∙ marked_world events.Boot (is_revision p.world (happens p.world events.Boot)) (record p { world = happens p.world events.Boot })
+boot_world p q is = ap (λ (x : Progress). x.world) is ∙ on_world p events.Boot
 
 booted_holds : (k : Skills) (p : Progress) (old new : Seen) (d : Deed) → HasBooted k p old new d → Holds p.world old.ledger → Holds d.progress.world new.ledger
 booted_holds k p old new d b h = by b.asked.answer b.asked.answered b.asked.gives
@@ -108,27 +108,27 @@ runs_hold k (line ∷ lines) before old new e r h =
 
 -- ---- a line that a fault ended
 
-together_leaves : (request : Request) (p : Progress) (old : Ledger) (after : Progress) (new : Ledger) (e : NodeFault) → LeavesWith request p old after new e → Holds p.world old → AgreesOrDropped after.world new
-together_leaves (requests.Process word what) p old after new e m h = inl ((holds_as p after old new m.1 m.2 h).1)
-together_leaves (requests.Join word) p old after new e m h = inl ((holds_as p after old new m.1 m.2 h).1)
-together_leaves (requests.Settle rounds) p old after new e m h = inl (agree_moves p.world after.world old new m h.1)
-together_leaves requests.Boot p old after new e (same, inl kept) h = inl ((holds_as p after old new same kept h).1)
-together_leaves requests.Boot p old after new e (same, inr dropped) h = inr (old, (holds_as p after old old same refl h).1, dropped)
-together_leaves _ p old after new e m h = absurd m
+together_leaves : (k : Skills) (stores : RepoFault → Type 0) (request : Request) (p : Progress) (old : Seen) (after : Progress) (new : Seen) (e : NodeFault) → LeavesWith k stores request p old after new e → Holds p.world old.ledger → AgreesOrDropped after.world new.ledger
+together_leaves k stores (requests.Process word what) p old after new e m h = inl ((holds_as p after old.ledger new.ledger m.1 m.2 h).1)
+together_leaves k stores (requests.Join word) p old after new e m h = inl ((holds_as p after old.ledger new.ledger m.1 m.2 h).1)
+together_leaves k stores (requests.Settle rounds) p old after new e m h = inl (agree_moves p.world after.world old.ledger new.ledger m.1 h.1)
+together_leaves k stores requests.Boot p old after new e (why, same, inl kept) h = inl ((holds_as p after old.ledger new.ledger same kept h).1)
+together_leaves k stores requests.Boot p old after new e (why, same, inr dropped) h = inr (old.ledger, (holds_as p after old.ledger old.ledger same refl h).1, dropped)
+together_leaves k stores _ p old after new e m h = absurd m
 
-line_leaves : (stores : RepoFault → Type 0) (request : Request) (s : Session) (old new : Seen) (after : Progress) (e : NodeFault) → LineFails stores request s old new after e → Holds s.progress.world old.ledger → AgreesOrDropped after.world new.ledger
-line_leaves stores request s old new after e (fails_alone none fails same) h =
+line_leaves : (k : Skills) (stores : RepoFault → Type 0) (request : Request) (s : Session) (old new : Seen) (after : Progress) (e : NodeFault) → LineFails k stores request s old new after e → Holds s.progress.world old.ledger → AgreesOrDropped after.world new.ledger
+line_leaves k stores request s old new after e (fails_alone none fails same) h =
     inl ((holds_as after after old.ledger new.ledger refl (ap (λ (x : Seen). x.ledger) same) (holds_apart s.progress after old.ledger (fails_apart stores s request after e none fails) h)).1)
-line_leaves stores request s old new after e (fails_together may left) h = together_leaves request s.progress old.ledger after new.ledger e left h
+line_leaves k stores request s old new after e (fails_together may left) h = together_leaves k stores request s.progress old after new e left h
 
 still_leaves : (p after : Progress) (old new : Seen) → after ≡ p → new ≡ old → Holds p.world old.ledger → AgreesOrDropped after.world new.ledger
 still_leaves p after old new is same h = inl ((holds_as p after old.ledger new.ledger is (ap (λ (x : Seen). x.ledger) same) h).1)
 
-script_leaves : (stores : RepoFault → Type 0) (fault : ScriptFault) (s : Session) (behind : List (List ℕ)) (old new : Seen) (after : Progress) → Leaves stores fault s behind old new after → Holds s.progress.world old.ledger → AgreesOrDropped after.world new.ledger
-script_leaves stores (Node f) s behind old new after (inl none) h = still_leaves s.progress after old new none.1 none.2 h
-script_leaves stores (Node f) s behind old new after (inr m) h = line_leaves stores (request_of m.0) s old new after f m.3 h
-script_leaves stores (Lines f) s behind old new after m h = still_leaves s.progress after old new m.0 m.1 h
-script_leaves stores (Output f) s behind old new after m h = still_leaves s.progress after old new m.0 m.1 h
+script_leaves : (k : Skills) (stores : RepoFault → Type 0) (fault : ScriptFault) (s : Session) (behind : List (List ℕ)) (old new : Seen) (after : Progress) → Leaves k stores fault s behind old new after → Holds s.progress.world old.ledger → AgreesOrDropped after.world new.ledger
+script_leaves k stores (Node f) s behind old new after (inl none) h = still_leaves s.progress after old new none.1 none.2 h
+script_leaves k stores (Node f) s behind old new after (inr m) h = line_leaves k stores (request_of m.0) s old new after f m.3 h
+script_leaves k stores (Lines f) s behind old new after m h = still_leaves s.progress after old new m.0 m.1 h
+script_leaves k stores (Output f) s behind old new after m h = still_leaves s.progress after old new m.0 m.1 h
 
 -- ---- scripts
 
@@ -139,7 +139,7 @@ run_agrees k p input old new after was is status r reached a =
 
 pub stops_agree : (k : Skills) (stores : RepoFault → Type 0) (fault : ScriptFault) (p : Progress) (input : Option (List ℕ)) (old new : Seen) (after : Progress) (was is : Option (List ℕ)) → Stops k stores fault (begun p) input old new after was is → IsReached p.world → Agrees p.world old.ledger → AgreesOrDropped after.world new.ledger
 stops_agree k stores fault p input old new after was is r reached a =
-    script_leaves stores fault r.effect.session r.behind r.mid new after r.left
+    script_leaves k stores fault r.effect.session r.behind r.mid new after r.left
     (runs_hold k r.lines (silent (begun p)) old r.mid r.effect r.ran (reached_inherits p.world reached, a))
 
 -- however it ended

@@ -3,9 +3,9 @@ use Rattle.std.proofs.Common.{◌≡◌, ℕ, List, ◌++◌, Bool, false, is_ok
 use Rattle.smf_admin.specs.declared.finding.Found.{Found}
 use Rattle.smf_admin.specs.Finding.{found_of}
 use Rattle.smf_edge.specs.declared.fault.KidsFault.{KidsFault}
-use Rattle.smf_edge.specs.Answers.{Skills}
+use Rattle.smf_edge.specs.Answers.{Seen, Skills}
 use Rattle.smf_node.specs.declared.fault.NodeFault.{NodeFault}
-use Rattle.smf_run.specs.Asks.{Ask, HadMemory, HasAnswered, HasAsked, Seen, answer_text, said}
+use Rattle.smf_run.specs.Asks.{Ask, HadMemory, HasAnswered, HasAsked, answer_text, said}
 use Rattle.smf_run.specs.Lines.{AskedBy, HasAskedOf, HasPut, deed}
 use Rattle.smf_script.specs.Session.{failed}
 use Rattle.smf_world.specs.Schedule.{Progress}

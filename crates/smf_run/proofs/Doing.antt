@@ -1,14 +1,14 @@
 -- What a line does, by what is done for what it asks.
 use Rattle.std.proofs.Common.{◌≡◌, ◌∙◌, inl, ℕ, List, Bool, true, false, None, Result, Ok, Err, IfErr, IfOk, OnOk, refl, sym, subst}
 use Rattle.std.specs.Result.{IsErrAnd}
-use Rattle.smf_edge.specs.Answers.{Skills}
+use Rattle.smf_edge.specs.Answers.{Seen, Skills}
 use Rattle.smf_edge.specs.Ledgers.{Ledger}
 use Rattle.smf_drive.specs.Moves.{Moves}
 use Rattle.smf_model.specs.declared.journal.RepoFault.{RepoFault}
 use Rattle.smf_node.specs.declared.fault.NodeFault.{NodeFault}
 use Rattle.smf_node.specs.declared.fault.NodeFault.TheVariants.{Memory}
 use Rattle.smf_node.specs.Faults.{refused}
-use Rattle.smf_run.specs.Asks.{HasAsked, Seen, to_act, to_reboot}
+use Rattle.smf_run.specs.Asks.{HasAsked, to_act, to_reboot}
 use Rattle.smf_run.specs.Failing.{LineFails, fails_alone, fails_together}
 use Rattle.smf_run.specs.Lines.{AskedBy, DoesWith, HasBooted, HasDone, HasPut, booted, deed, effect, happening, together}
 use Rattle.smf_words.specs.declared.request.Request.{Request}
@@ -74,9 +74,9 @@ stays_so : (w : World) (l : Ledger) → Moves w w l l
 stays_so w l = (0, (refl, refl))
 
 -- of a line nothing was done
-pub unread : (stores : RepoFault → Type 0) (request : Request) (s : Session) (old : Seen) (e : NodeFault) → e ≡ Memory → LineFails stores request s old old s.progress e
-unread stores (requests.Process word what) s old e is = fails_together (undone stores e is) (is, refl, refl)
-unread stores (requests.Join word) s old e is = fails_together (undone stores e is) (is, refl, refl)
-unread stores (requests.Settle rounds) s old e is = fails_together (undone stores e is) (stays_so s.progress.world old.ledger)
-unread stores requests.Boot s old e is = fails_together (undone stores e is) (refl, inl refl)
-unread stores _ s old e is = fails_alone refl (record { may = undone stores e is; left = inl refl }) refl
+pub unread : (k : Skills) (stores : RepoFault → Type 0) (request : Request) (s : Session) (old : Seen) (e : NodeFault) → e ≡ Memory → LineFails k stores request s old old s.progress e
+unread k stores (requests.Process word what) s old e is = fails_together (undone stores e is) (is, refl, refl)
+unread k stores (requests.Join word) s old e is = fails_together (undone stores e is) (is, refl, refl)
+unread k stores (requests.Settle rounds) s old e is = fails_together (undone stores e is) (inl (is, refl, refl), stays_so s.progress.world old.ledger)
+unread k stores requests.Boot s old e is = fails_together (undone stores e is) (inl is, refl, inl refl)
+unread k stores _ s old e is = fails_alone refl (record { may = undone stores e is; left = inl refl }) refl

@@ -13,7 +13,7 @@ use Rattle.smf_lines.proofs.Kept.{text_kept}
 use Rattle.smf_lines.proofs.Loops.{past_behind}
 use Rattle.smf_model.specs.declared.journal.RepoFault.{RepoFault}
 use Rattle.smf_node.specs.declared.fault.NodeFault.{NodeFault}
-use Rattle.smf_run.specs.Asks.{Seen}
+use Rattle.smf_edge.specs.Answers.{Seen}
 use Rattle.smf_run.specs.Failing.{LineFails}
 use Rattle.smf_run.specs.Lines.{HasDone, effect}
 use Rattle.smf_run.specs.Scripts.{HasRun, HasWritten, IsCut, IsSplit, Runs, Stops}
@@ -203,8 +203,8 @@ pub stops_doing : (k : Skills) (stores : RepoFault → Type 0) (fault : ScriptFa
 stops_doing k stores (Node f) start input left left' turns turns' old now new was mid is p q x fine line g l cut =
     let next : (next : List ℕ) × IsNext input g.lines left' turns' line next = next_line input left left' g.lines turns turns' line g.known l in
     let split : (rest : List (List ℕ)) × IfSome input (λ bytes. IsSplit bytes g.lines (next.0 ∷ rest) (Node f)) = cut_split input left' g.lines next.0 turns' f next.1.known in
-    let fails : LineFails stores (request_of next.0) g.effect.session now new q f =
-    subst (λ r. LineFails stores r g.effect.session now new q f) next.1.same (subst (λ s. LineFails stores (request_of line) s now new q f) (sym g.session) cut.0) in
+    let fails : LineFails k stores (request_of next.0) g.effect.session now new q f =
+    subst (λ r. LineFails k stores r g.effect.session now new q f) next.1.same (subst (λ s. LineFails k stores (request_of line) s now new q f) (sym g.session) cut.0) in
     record {
       lines = g.lines;
       behind = next.0 ∷ split.0;

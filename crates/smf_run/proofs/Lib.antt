@@ -3,3 +3,4 @@ pub mod Doing
 pub mod Going
 pub mod Parting
 pub mod Agreeing
+pub mod Settling

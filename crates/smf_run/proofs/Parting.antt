@@ -1,5 +1,5 @@
 -- What lines do in which children have no part, is done by events in which children have none.
-use Rattle.std.proofs.Common.{◌≡◌, ◌⊎◌, inl, inr, ℕ, Bool, true, false, List, [], ◌∷◌, Option, Some, None, Result, Ok, Err, refl, sym, ap, subst}
+use Rattle.std.proofs.Common.{◌≡◌, ◌⊎◌, inl, inr, ℕ, Bool, true, false, List, [], ◌∷◌, Option, Some, None, Result, Ok, Err, refl, sym, subst}
 use Rattle.smf_admin.specs.declared.asking.Asked.{Asked}
 use Rattle.smf_admin.specs.declared.asking.Asked.TheVariants as asks
 use Rattle.smf_admin.specs.declared.choosing.Options.{Options}
@@ -17,11 +17,10 @@ use Rattle.smf_model.specs.declared.journal.RepoFault.{RepoFault}
 use Rattle.smf_model.specs.Next.{found as instance_found}
 use Rattle.smf_node.specs.declared.fault.NodeFault.{NodeFault}
 use Rattle.smf_node.specs.Marks.{last_delivered}
-use Rattle.smf_run.specs.Lines.{asks_children}
 use Rattle.smf_words.specs.declared.request.Request.{Request}
 use Rattle.smf_words.specs.declared.request.Request.TheVariants as requests
 use Rattle.smf_script.specs.Failing.{Leaves, RequestFails}
-use Rattle.smf_script.specs.Session.{Deed, Session, asked, asked_all, behind, crash_if, crash_in, crashed, done, effect_of, given, given_selected, repeated, replied, restarter_in, svcadm, svcadm_by, svcadm_name, svccfg, svccfg_by, svccfg_name, svcs, svcs_by, timed_out, timeout_if, timeout_in, timeout_on}
+use Rattle.smf_script.specs.Session.{Deed, Session, asked, asked_all, asks_children, behind, crash_if, crash_in, crashed, done, effect_of, given, given_selected, repeated, replied, restarter_in, svcadm, svcadm_by, svcadm_name, svccfg, svccfg_by, svccfg_name, svcs, svcs_by, timed_out, timeout_if, timeout_in, timeout_on}
 use Rattle.smf_svccfg.specs.Judged.{judged}
 use Rattle.smf_svccfg.specs.declared.fault.CfgFault.{CfgFault}
 use Rattle.smf_svccfg.specs.declared.selection.Judged.{Judged}
@@ -154,22 +153,21 @@ effect_apart s requests.Nothing none = self s.progress
 effect_apart s (requests.Svccfg line) none = svccfg_apart s line
 effect_apart s (requests.Svcadm words) none = svcadm_apart s.progress words
 effect_apart s (requests.Svcs words) none = svcs_apart s.progress words
-effect_apart s (requests.Settle rounds) none = absurd cc
+effect_apart s (requests.Settle rounds) none = self s.progress
 effect_apart s (requests.Refuse count) none = refusing_apart count s.progress
 effect_apart s (requests.Lose count) none = losing_apart count s.progress
 effect_apart s (requests.Again count) none = repeated_apart count s.progress
-effect_apart s (requests.Process word what) none = absurd cc
+effect_apart s (requests.Process word what) none = self s.progress
 effect_apart s (requests.Timeout word) none = timeout_apart s.progress word
-effect_apart s (requests.Join word) none = absurd cc
+effect_apart s (requests.Join word) none = self s.progress
 effect_apart s (requests.Crash word) none = crash_apart s.progress word
-effect_apart s requests.Boot none = absurd cc
+effect_apart s requests.Boot none = self s.progress
 effect_apart s requests.Trail none = self s.progress
 effect_apart s requests.Bad none = self s.progress
 
 leaves_apart : (stores : RepoFault → Type 0) (s : Session) (request : Request) (after : Progress) (e : NodeFault) → asks_children request ≡ false → Leaves stores s request after e → Apart s.progress after
 leaves_apart stores s (requests.Svcadm words) after e none m =
     apart_to s.progress (asked_all (done s.progress []) m.some.first).progress after (all_apart s.progress (done s.progress []) m.some.first (self s.progress)) m.some.left
-leaves_apart stores s (requests.Settle rounds) after e none m = absurd cc
 leaves_apart stores s (requests.Again count) after e none m =
     apart_to s.progress (delivered_again m.first s.progress) after (again_apart s.progress s.progress m.first (self s.progress)) m.went
 leaves_apart stores s _ after e none m = absurd m

@@ -3,20 +3,12 @@ use Rattle.std.specs.Prelude.{◌≡◌, ℕ, List, [], ◌++◌, codes, Bool, t
 use Rattle.smf_edge.specs.declared.deed.Happening.{Happening}
 use Rattle.smf_edge.specs.declared.fault.KidsFault.{KidsFault}
 use Rattle.smf_edge.specs.declared.fault.KidsFault.TheVariants.{Refused, NotFollowed, NoChild, NotHere, Memory, Device}
-use Rattle.smf_edge.specs.Answers.{MayNotAnswer, MayNotDo, Skills}
+use Rattle.smf_edge.specs.Answers.{MayNotAnswer, MayNotDo, Seen, Skills}
 use Rattle.smf_edge.specs.Ledgers.{Ledger, left}
 use Rattle.smf_edge.specs.Steps.{IsJoined, IsKilled, happened, restarted}
 use Rattle.smf_script.specs.Session.{Deed, no_member, not_here}
 use Rattle.smf_words.specs.Text.{line_end}
 use Rattle.smf_world.specs.Schedule.{Progress}
-
--- what is known of children: what they keep, and how often their device failed
-pub record Seen : Type 0 where
-  pub ledger : Ledger
-  pub failures : ℕ
-
-abbrev pub seen : Ledger → ℕ → Seen
-seen ledger failures = record { ledger = ledger; failures = failures }
 
 -- what is asked of them: that something happens to the lowest member of a contract, to wait until a member ends, to end
 -- all members, or to drop all members and contracts

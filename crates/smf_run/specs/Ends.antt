@@ -1,9 +1,9 @@
 -- What is done of children that are left.
 use Rattle.std.specs.Prelude.{◌≡◌, ℕ, List, [], ◌∷◌, true, Result}
 use Rattle.smf_edge.specs.declared.fault.KidsFault.{KidsFault}
-use Rattle.smf_edge.specs.Answers.{MayNotAnswer, Skills}
+use Rattle.smf_edge.specs.Answers.{MayNotAnswer, Seen, Skills}
 use Rattle.smf_edge.specs.Steps.{listed}
-use Rattle.smf_run.specs.Asks.{HasAnswered, Seen, to_kill}
+use Rattle.smf_run.specs.Asks.{HasAnswered, to_kill}
 
 -- all members of each of these contracts in turn were asked to be ended
 abbrev pub AreAsked : Skills → List ℕ → Seen → Seen → Type 0

@@ -6,18 +6,18 @@ use Rattle.smf_admin.specs.declared.finding.Found.TheVariants as finds
 use Rattle.smf_admin.specs.Finding.{found_of}
 use Rattle.smf_admin.specs.Telling.{no_match_text, several_text}
 use Rattle.smf_contract.specs.Entries.{Contracts}
-use Rattle.smf_drive.specs.Drives.{HasDriven}
 use Rattle.smf_drive.specs.Moves.{Moves}
 use Rattle.smf_edge.specs.declared.deed.Happening.{Happening}
 use Rattle.smf_edge.specs.declared.deed.Happening.TheVariants as happens
 use Rattle.smf_edge.specs.declared.fault.KidsFault.{KidsFault}
-use Rattle.smf_edge.specs.Answers.{Skills}
-use Rattle.smf_edge.specs.Ledgers.{Ledger}
+use Rattle.smf_edge.specs.Answers.{Seen, Skills}
+use Rattle.smf_machine.specs.Runners.{rules_of}
 use Rattle.smf_node.specs.Faults.{refused}
-use Rattle.smf_run.specs.Asks.{Ask, HasAsked, Seen, said, to_act, to_join, to_reboot, why_text}
+use Rattle.smf_node.specs.Rounds.{HasSettled as HasDriven, course}
+use Rattle.smf_run.specs.Asks.{Ask, HasAsked, said, to_act, to_join, to_reboot, why_text}
 use Rattle.smf_words.specs.declared.request.Request.{Request}
 use Rattle.smf_words.specs.declared.request.Request.TheVariants as requests
-use Rattle.smf_script.specs.Session.{Deed, Effect, Session, done, effect_of, failed, latest, script_name, settled_text}
+use Rattle.smf_script.specs.Session.{asks_children, Deed, Effect, Session, done, effect_of, failed, latest, script_name, settled_text}
 use Rattle.smf_world.specs.declared.event.Event.TheVariants as events
 use Rattle.smf_world.specs.declared.event.ProcessEvent.{ProcessEvent}
 use Rattle.smf_world.specs.declared.event.ProcessEvent.TheVariants.{Fork, Exit, Fail}
@@ -58,26 +58,19 @@ pub record HasBooted (k : Skills) (p : Progress) (old new : Seen) (d : Deed) : T
   pub taken : d.fine ≡ true → refused p.world events.Boot ≡ None
 
 -- at most so many rounds happened with the answers of children
-pub record HasSettled (rounds : ℕ) (p : Progress) (old new : Ledger) (d : Deed) : Type 0 where
+pub record HasSettled (k : Skills) (rounds : ℕ) (p : Progress) (old new : Seen) (d : Deed) : Type 0 where
   pub how : Settled
-  pub driven : HasDriven rounds p d.progress how
-  pub moves : Moves p.world d.progress.world old new
+  pub driven : HasDriven (rules_of k) rounds (course p old) (course d.progress new) how
+  pub moves : Moves p.world d.progress.world old.ledger new.ledger
   pub gives : d ≡ done d.progress (settled_text how)
 
 -- ---- the line
-
-abbrev pub asks_children : Request → Bool
-asks_children (requests.Process word what) = true
-asks_children (requests.Join word) = true
-asks_children (requests.Settle rounds) = true
-asks_children requests.Boot = true
-asks_children _ = false
 
 -- what is done where children have a part
 abbrev pub DoesWith : Skills → Request → Progress → Seen → Seen → Deed → Type 0
 DoesWith k (requests.Process word what) p old new d = AskedBy k p (λ id. to_act id (happening what)) word old new d
 DoesWith k (requests.Join word) p old new d = AskedBy k p to_join word old new d
-DoesWith k (requests.Settle rounds) p old new d = HasSettled rounds p old.ledger new.ledger d
+DoesWith k (requests.Settle rounds) p old new d = HasSettled k rounds p old new d
 DoesWith k requests.Boot p old new d = HasBooted k p old new d
 DoesWith k _ p old new d = ⊥
 

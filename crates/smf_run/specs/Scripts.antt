@@ -6,7 +6,7 @@ use Rattle.smf_lines.specs.Reading.{counts_of, lines_of}
 use Rattle.smf_model.specs.declared.journal.RepoFault.{RepoFault}
 use Rattle.smf_node.specs.declared.fault.NodeFault.{NodeFault}
 use Rattle.smf_node.specs.declared.fault.NodeFault.TheVariants.{Memory}
-use Rattle.smf_run.specs.Asks.{Seen}
+use Rattle.smf_edge.specs.Answers.{Seen}
 use Rattle.smf_run.specs.Failing.{LineFails}
 use Rattle.smf_run.specs.Lines.{HasDone, effect}
 use Rattle.smf_script.specs.declared.fault.ScriptFault.{ScriptFault}
@@ -35,16 +35,16 @@ pub record HasRun (k : Skills) (start : Session) (input : Option (List ℕ)) (ol
 -- ---- what a fault leaves
 
 -- the node failed at a line, or memory ran out before one was read
-abbrev pub NodeLeaves : (RepoFault → Type 0) → NodeFault → Session → List (List ℕ) → Seen → Seen → Progress → Type 0
-NodeLeaves stores fault s behind old new after =
+abbrev pub NodeLeaves : Skills → (RepoFault → Type 0) → NodeFault → Session → List (List ℕ) → Seen → Seen → Progress → Type 0
+NodeLeaves k stores fault s behind old new after =
     ((fault ≡ Memory) × (after ≡ s.progress) × (new ≡ old))
-    ⊎ ((line : List ℕ) × (rest : List (List ℕ)) × (behind ≡ line ∷ rest) × LineFails stores (request_of line) s old new after fault)
+    ⊎ ((line : List ℕ) × (rest : List (List ℕ)) × (behind ≡ line ∷ rest) × LineFails k stores (request_of line) s old new after fault)
 
 -- else node and children are as the lines before left them
-abbrev pub Leaves : (RepoFault → Type 0) → ScriptFault → Session → List (List ℕ) → Seen → Seen → Progress → Type 0
-Leaves stores (Node fault) s behind old new after = NodeLeaves stores fault s behind old new after
-Leaves stores (Lines fault) s behind old new after = (after ≡ s.progress) × (new ≡ old)
-Leaves stores (Output fault) s behind old new after = (after ≡ s.progress) × (new ≡ old)
+abbrev pub Leaves : Skills → (RepoFault → Type 0) → ScriptFault → Session → List (List ℕ) → Seen → Seen → Progress → Type 0
+Leaves k stores (Node fault) s behind old new after = NodeLeaves k stores fault s behind old new after
+Leaves k stores (Lines fault) s behind old new after = (after ≡ s.progress) × (new ≡ old)
+Leaves k stores (Output fault) s behind old new after = (after ≡ s.progress) × (new ≡ old)
 
 -- these are all lines of the bytes; too many are more than there may be
 pub record IsSplit (bytes : List ℕ) (lines behind : List (List ℕ)) (fault : ScriptFault) : Type 0 where
@@ -58,7 +58,7 @@ pub record Stops (k : Skills) (stores : RepoFault → Type 0) (fault : ScriptFau
   pub effect : Effect
   pub mid : Seen
   pub ran : Runs k lines (silent start) old mid effect
-  pub left : Leaves stores fault effect.session behind mid new after
+  pub left : Leaves k stores fault effect.session behind mid new after
   pub text : Wrote fault effect was is
   pub known : IfSome input (λ bytes. IsSplit bytes lines behind fault)
 
@@ -78,6 +78,6 @@ pub record IsUnwritten (k : Skills) (line : List ℕ) (s : Session) (old new : S
 
 -- a line was ended by a fault, of the node or of the writer
 abbrev pub IsCut : Skills → (RepoFault → Type 0) → ScriptFault → List ℕ → Session → Seen → Seen → Progress → Option (List ℕ) → Option (List ℕ) → Type 0
-IsCut k stores (Node fault) line s old new after was is = LineFails stores (request_of line) s old new after fault × (is ≡ was)
+IsCut k stores (Node fault) line s old new after was is = LineFails k stores (request_of line) s old new after fault × (is ≡ was)
 IsCut k stores (Output fault) line s old new after was is = IsUnwritten k line s old new after
 IsCut k stores (Lines fault) line s old new after was is = ⊥

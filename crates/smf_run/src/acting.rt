@@ -1,8 +1,10 @@
 ghost use Rattle.std.specs.Prelude.{◌≡◌, ◌++◌, ◌⊎◌, IfErr, IfOk, None, OnErr, OnOk, Err, false, is_ok, string_bytes, true};
+ghost use Rattle.smf_edge.specs.Answers.{seen};
 ghost use Rattle.smf_edge.specs.Steps.{restarted};
 ghost use Rattle.smf_node.specs.declared.fault.NodeFault.TheVariants.{Memory};
 ghost use Rattle.smf_node.specs.Faults.{refused};
-ghost use Rattle.smf_run.specs.Asks.{HadMemory, HasAsked, answer_text, said, seen, to_act, to_join, to_reboot, why_text};
+ghost use Rattle.smf_run.specs.Asks.{HadMemory, HasAsked, answer_text, said, to_act, to_join, to_reboot, why_text};
+ghost use Rattle.smf_run.specs.Failing.{IsUnbooted};
 ghost use Rattle.smf_run.specs.Lines.{AskedBy, HasPut, booted, contract_of, deed, happening};
 ghost use Rattle.smf_script.specs.Failing.{MayEnd};
 ghost use Rattle.smf_world.specs.declared.event.Event.TheVariants as events;
@@ -157,6 +159,7 @@ fn restart<J: Journal>(node: &mut Node<J>) -> Result<bool, NodeFault>
     ensures ok { OnOk result (node.new ≡ on node.old events.Boot) }
     ensures err { OnErr result (node.new ≡ node.old) }
     ensures later { IsLater node.old.world node.new.world }
+    ensures why { IfErr result (λ e. IsUnbooted J.write_fails node.old.world e) }
     ensures fault { IfErr result (λ e. MayEnd J.write_fails e) }
 {
     node.step(Event::Boot)?;
@@ -176,6 +179,7 @@ pub(crate) fn boot<J: Journal, K: Kids>(
     ensures err { OnErr result (node.new ≡ node.old) }
     ensures kept { OnErr result ((K.ledger kids.new ≡ K.ledger kids.old) ⊎ (K.ledger kids.new ≡ restarted (K.ledger kids.old))) }
     ensures later { IsLater node.old.world node.new.world }
+    ensures why { IfErr result (λ e. IsUnbooted J.write_fails node.old.world e) }
     ensures fault { IfErr result (λ e. MayEnd J.write_fails e) }
 {
     match kids.reboot() {

@@ -1,5 +1,5 @@
 ghost use Rattle.std.specs.Prelude.{◌≡◌, false, true};
-ghost use Rattle.smf_run.specs.Asks.{seen};
+ghost use Rattle.smf_edge.specs.Answers.{seen};
 ghost use Rattle.smf_run.specs.Ends.{AreAsked, HasEnded, IsUnlisted};
 
 use smf_edge::{Kids, KidsFault};

@@ -1,8 +1,8 @@
-ghost use Rattle.std.specs.Prelude.{◌≡◌, IfErr, IfOk, false, string_bytes};
+ghost use Rattle.std.specs.Prelude.{IfErr, IfOk, string_bytes};
 ghost use Rattle.smf_drive.specs.Moves.{Moves};
-ghost use Rattle.smf_run.specs.Asks.{seen};
-ghost use Rattle.smf_run.specs.Failing.{LineFails};
-ghost use Rattle.smf_run.specs.Lines.{HasDone, HasPut, HasSettled, asks_children, deed, effect};
+ghost use Rattle.smf_edge.specs.Answers.{seen};
+ghost use Rattle.smf_run.specs.Failing.{IsCutShort, LineFails};
+ghost use Rattle.smf_run.specs.Lines.{HasDone, HasPut, HasSettled, deed, effect};
 ghost use Rattle.smf_script.specs.Failing.{MayEnd};
 ghost use Rattle.smf_words.specs.Request.{request_of};
 ghost use Rattle.smf_world.specs.Reached.{IsLater};
@@ -25,9 +25,11 @@ fn settle<J: Journal, K: Kids>(
     out: &mut String,
 ) -> Result<bool, NodeFault>
     ensures exact { IfOk result (λ fine. HasPut (λ text.
-        HasSettled rounds node.old (K.ledger kids.old) (K.ledger kids.new) (deed node.new fine text))
+        HasSettled K.skills rounds node.old (seen (K.ledger kids.old) (K.failures kids.old)) (seen (K.ledger kids.new) (K.failures kids.new)) (deed node.new fine text))
         (string_bytes out.old) (string_bytes out.new)) }
     ensures moves { Moves node.old.world node.new.world (K.ledger kids.old) (K.ledger kids.new) }
+    ensures err { IfErr result (λ e.
+        IsCutShort K.skills J.write_fails rounds node.old (seen (K.ledger kids.old) (K.failures kids.old)) node.new (seen (K.ledger kids.new) (K.failures kids.new)) e) }
     ensures later { IsLater node.old.world node.new.world }
     ensures fault { IfErr result (λ e. MayEnd J.write_fails e) }
 {
@@ -47,7 +49,7 @@ fn do_request<J: Journal, K: Kids>(
     ensures exact { IfOk result (λ fine. HasPut (λ text.
         HasDone K.skills request.now (record { progress = node.old; selection = selection.old }) (seen (K.ledger kids.old) (K.failures kids.old)) (seen (K.ledger kids.new) (K.failures kids.new)) (effect (record { progress = node.new; selection = selection.new }) fine text))
         (string_bytes out.old) (string_bytes out.new)) }
-    ensures err { IfErr result (λ e. LineFails J.write_fails request.now (record { progress = node.old; selection = selection.old }) (seen (K.ledger kids.old) (K.failures kids.old)) (seen (K.ledger kids.new) (K.failures kids.new)) node.new e) }
+    ensures err { IfErr result (λ e. LineFails K.skills J.write_fails request.now (record { progress = node.old; selection = selection.old }) (seen (K.ledger kids.old) (K.failures kids.old)) (seen (K.ledger kids.new) (K.failures kids.new)) node.new e) }
     ensures later { IsLater node.old.world node.new.world }
     ensures fault { IfErr result (λ e. MayEnd J.write_fails e) }
 {
@@ -72,7 +74,7 @@ pub(crate) fn run_line<J: Journal, K: Kids>(
     ensures exact { IfOk result (λ fine. HasPut (λ text.
         HasDone K.skills (request_of line.now) (record { progress = node.old; selection = selection.old }) (seen (K.ledger kids.old) (K.failures kids.old)) (seen (K.ledger kids.new) (K.failures kids.new)) (effect (record { progress = node.new; selection = selection.new }) fine text))
         (string_bytes out.old) (string_bytes out.new)) }
-    ensures err { IfErr result (λ e. LineFails J.write_fails (request_of line.now) (record { progress = node.old; selection = selection.old }) (seen (K.ledger kids.old) (K.failures kids.old)) (seen (K.ledger kids.new) (K.failures kids.new)) node.new e) }
+    ensures err { IfErr result (λ e. LineFails K.skills J.write_fails (request_of line.now) (record { progress = node.old; selection = selection.old }) (seen (K.ledger kids.old) (K.failures kids.old)) (seen (K.ledger kids.new) (K.failures kids.new)) node.new e) }
     ensures later { IsLater node.old.world node.new.world }
     ensures fault { IfErr result (λ e. MayEnd J.write_fails e) }
 {

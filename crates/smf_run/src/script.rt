@@ -2,7 +2,7 @@ ghost use Rattle.std.specs.Prelude.{◌≡◌, ◌≤◌, IfErr, IfOk, IfSome, O
 ghost use Rattle.smf_drive.specs.Agrees.{Agrees};
 ghost use Rattle.smf_lines.specs.Reading.{lines_of};
 ghost use Rattle.smf_run.specs.Agreed.{AgreesOrDropped};
-ghost use Rattle.smf_run.specs.Asks.{seen};
+ghost use Rattle.smf_edge.specs.Answers.{seen};
 ghost use Rattle.smf_run.specs.Scripts.{HasRun, HasWritten, IsCut, Stops};
 ghost use Rattle.smf_script.specs.Faults.{IsWhy, Tells, failed_in};
 ghost use Rattle.smf_script.specs.Script.{IsWithin, begun, status_of};

@@ -1,27 +1,21 @@
 -- What is left of a line that a fault ended.
-use Rattle.std.proofs.Common.{◌≡◌, ◌⊎◌, inl, inr, ℕ, List, Bool, Result, Ok, Err, IfErr, sym, ap, subst, ◌∙◌}
+use Rattle.std.proofs.Common.{◌≡◌, inl, inr, ℕ, List, Bool, Result, Ok, Err, IfErr, sym, ap, subst, ◌∙◌}
 use Rattle.std.specs.Result.{IsErrAnd}
 use Rattle.smf_model.specs.declared.command.Edit.{Edit}
 use Rattle.smf_model.specs.declared.journal.RepoFault.{RepoFault}
 use Rattle.smf_node.specs.declared.fault.NodeFault.{NodeFault}
-use Rattle.smf_node.specs.Partly.{SettleFails}
-use Rattle.smf_script.specs.Failing.{DeedFails, MayEnd, RequestFails}
-use Rattle.smf_script.specs.Session.{Session, effect_of, given, given_selected, settle, svccfg, svccfg_by, svccfg_name}
+use Rattle.smf_script.specs.Failing.{DeedFails, RequestFails}
+use Rattle.smf_script.specs.Session.{Session, effect_of, given, given_selected, svccfg, svccfg_by, svccfg_name}
 use Rattle.smf_words.specs.declared.request.Request.TheVariants as requests
 use Rattle.smf_svccfg.specs.Judged.{judged}
 use Rattle.smf_svccfg.specs.declared.selection.Judged.TheVariants as judgements
 use Rattle.smf_svccfg.specs.declared.selection.Selection.{Selection}
 use Rattle.smf_world.specs.Schedule.{Progress}
-use Rattle.smf_script.proofs.May.{may_settle}
 
 -- what the exit of a `?` gives
 pub passed_on : {X : Type 0} (r : Result X NodeFault) (e : NodeFault) (P : NodeFault → Type 0) → IsErrAnd r (λ y. y ≡ e) → P e → IfErr r P
 passed_on (Ok x) e P q p = tt
 passed_on (Err y) e P q p = subst P (sym q) p
-
-pub settle_fails : (stores : RepoFault → Type 0) (p after : Progress) (rounds : ℕ) (e : NodeFault) → SettleFails stores rounds p after e
-    → MayEnd stores e × ((after ≡ p) ⊎ (after ≡ (settle p rounds).progress) ⊎ SettleFails stores rounds p after e)
-settle_fails stores p after rounds e h = (may_settle stores rounds p after e h, inr (inr h))
 
 edit_left : (s : Session) (line : List ℕ) (edit : Edit) (behind : Selection) → judged s.progress.world.now s.selection line ≡ Ok (judgements.Edit edit behind) → (effect_of s (requests.Svccfg line)).session.progress ≡ (given svccfg_name s.progress edit).progress
 unfolding effect_of svccfg given_selected

@@ -1,16 +1,13 @@
 -- With which faults a line may end, by those of the node's calls.
-use Rattle.std.proofs.Common.{◌≡◌, ◌⊎◌, ℕ, inl, inr, Bool, true, false, if◌then◌else◌, List, Option, Some, None}
+use Rattle.std.proofs.Common.{◌≡◌, ℕ, inl, inr, Bool, true, false, if◌then◌else◌, List, Some, None}
 use Rattle.smf_model.specs.declared.change.Change.{Change}
 use Rattle.smf_model.specs.declared.journal.RepoFault.{RepoFault}
 use Rattle.smf_node.specs.declared.fault.NodeFault.{NodeFault}
 use Rattle.smf_node.specs.declared.fault.NodeFault.TheVariants.{Memory, Limit}
-use Rattle.smf_node.specs.Faults.{FaultOf, IsDeedFault, IsFault, IsUnwritten, is_against_launch, is_unsent}
-use Rattle.smf_node.specs.Partly.{DeedsFail, RestartersFail, RoundEnds, RoundFails, SettleFails, TurnFails, TurnsFail}
+use Rattle.smf_node.specs.Faults.{FaultOf, IsFault, IsUnwritten, is_against_launch, is_unsent}
 use Rattle.smf_node.specs.Runs.{RepeatsUntilFault}
 use Rattle.smf_script.specs.Failing.{MayEnd}
 use Rattle.smf_world.specs.declared.event.Event.{Event}
-use Rattle.smf_world.specs.declared.schedule.Deed.{Deed}
-use Rattle.smf_world.specs.declared.schedule.Turn.{Turn}
 use Rattle.smf_world.specs.Schedule.{Progress}
 use Rattle.smf_world.specs.World.{World}
 
@@ -32,37 +29,7 @@ may_refused stores w event false e h = may_unwritten stores _ e h
 pub may_happen : (stores : RepoFault → Type 0) (w : World) (event : Event) (e : NodeFault) → is_unsent w event ≡ false → is_against_launch w event ≡ false → IsFault stores w event e → MayEnd stores e
 may_happen stores w event e sent launched f = may_refused stores w event _ e (rw (sent, launched) at f.why)
 
--- ---- a schedule
-
-may_deed : (stores : RepoFault → Type 0) (p : Progress) (d : Deed) (e : NodeFault) → IsDeedFault stores p d e → MayEnd stores e
-may_deed stores p d e (inl h) = may_unwritten stores _ e h
-may_deed stores p d e (inr h) = rw h.0 tt
-
-may_deeds : (stores : RepoFault → Type 0) (before after : Progress) (all : List Deed) (e : NodeFault) → DeedsFail stores before all after e → MayEnd stores e
-may_deeds stores before after all e h = may_deed stores after h.failed e h.fault
-
-may_turn : (stores : RepoFault → Type 0) (before after : Progress) (t : Turn) (e : NodeFault) → TurnFails stores before t after e → MayEnd stores e
-may_turn stores before after t e (inl h) = may_memory stores e h.0
-may_turn stores before after t e (inr h) = may_deeds stores _ h.reached _ e h.deeds
-
-may_turns : (stores : RepoFault → Type 0) (before after : Progress) (all : List Turn) (e : NodeFault) → TurnsFail stores before all after e → MayEnd stores e
-may_turns stores before after all e (inl h) = may_memory stores e h.0
-may_turns stores before after all e (inr h) = may_turn stores _ after h.failed e h.fault
-
-may_restarters : (stores : RepoFault → Type 0) (before after : Progress) (e : NodeFault) → RestartersFail stores before after e → MayEnd stores e
-unfolding RestartersFail
-may_restarters stores before after e h = may_turns stores before after _ e h
-
-may_round : (stores : RepoFault → Type 0) (before after : Progress) (e : NodeFault) → RoundFails stores before after e → MayEnd stores e
-may_round stores before after e (inl h) = may_turns stores before after _ e h
-may_round stores before after e (inr h) = may_restarters stores _ after e h
-
-may_end_round : (stores : RepoFault → Type 0) (before after : Progress) (e : NodeFault) → RoundEnds stores before after e → MayEnd stores e
-may_end_round stores before after e (inl h) = may_round stores before after e h
-may_end_round stores before after e (inr h) = may_memory stores e h.0
-
-pub may_settle : (stores : RepoFault → Type 0) (rounds : ℕ) (before after : Progress) (e : NodeFault) → SettleFails stores rounds before after e → MayEnd stores e
-may_settle stores rounds before after e h = may_end_round stores h.reached after e h.ends
+-- ---- messages that come again
 
 pub may_repeat : (stores : RepoFault → Type 0) (before after : Progress) (all : List ℕ) (e : NodeFault) → RepeatsUntilFault stores before all after e → MayEnd stores e
 may_repeat stores before after all e h = may_unwritten stores _ e h.fault

@@ -7,9 +7,7 @@ use Rattle.smf_model.specs.declared.journal.RepoFault.TheVariants as journals
 use Rattle.smf_node.specs.declared.fault.NodeFault.{NodeFault}
 use Rattle.smf_node.specs.declared.fault.NodeFault.TheVariants.{Memory, Database, Limit, NoSuchMessage, NoSuchActor}
 use Rattle.smf_node.specs.Marks.{last_delivered}
-use Rattle.smf_node.specs.Partly.{SettleFails}
 use Rattle.smf_node.specs.Runs.{RepeatsUntilFault}
-use Rattle.smf_words.specs.Request.{request_of}
 use Rattle.smf_script.specs.Session.{Deed, Session, asked_all, done, effect_of}
 use Rattle.smf_words.specs.declared.request.Request.{Request}
 use Rattle.smf_words.specs.declared.request.Request.TheVariants as requests
@@ -24,7 +22,7 @@ MayEnd stores Limit = Unit {0}
 MayEnd stores NoSuchMessage = ⊥
 MayEnd stores NoSuchActor = ⊥
 
--- something ended with a fault before anything was done, or behind all of it
+-- something ended with a fault before anything was done, or after all of it
 abbrev pub DeedFails : (RepoFault → Type 0) → Progress → Deed → Progress → NodeFault → Type 0
 DeedFails stores before d after e = MayEnd stores e × ((after ≡ before) ⊎ (after ≡ d.progress))
 
@@ -43,7 +41,6 @@ pub record SvcadmLeaves (before : Progress) (words : List (List ℕ)) (after : P
 -- what a fault of the node leaves of what a line asks for, in mid-course
 abbrev pub Leaves : (RepoFault → Type 0) → Session → Request → Progress → NodeFault → Type 0
 Leaves stores s (requests.Svcadm words) after e = SvcadmLeaves s.progress words after
-Leaves stores s (requests.Settle rounds) after e = SettleFails stores rounds s.progress after e
 Leaves stores s (requests.Again count) after e = RepeatsUntilFault stores s.progress (last_delivered count s.progress) after e
 Leaves stores s _ after e = ⊥
 
@@ -51,7 +48,3 @@ Leaves stores s _ after e = ⊥
 pub record RequestFails (stores : RepoFault → Type 0) (s : Session) (request : Request) (after : Progress) (e : NodeFault) : Type 0 where
   pub may : MayEnd stores e
   pub left : (after ≡ s.progress) ⊎ (after ≡ (effect_of s request).session.progress) ⊎ Leaves stores s request after e
-
--- a line ended with a fault of the node
-abbrev pub LineFails : (RepoFault → Type 0) → Session → List ℕ → Progress → NodeFault → Type 0
-LineFails stores s line after e = RequestFails stores s (request_of line) after e

@@ -17,7 +17,7 @@ use Rattle.smf_admin.specs.Finding.{found_of}
 use Rattle.smf_contract.specs.declared.contract.Contract.{Contract}
 use Rattle.smf_contract.specs.declared.cookie.Cookie.{Cookie}
 use Rattle.smf_contract.specs.Cookies.{unpacked}
-use Rattle.smf_contract.specs.Entries.{Contracts, first_member, found_at, has_members}
+use Rattle.smf_contract.specs.Entries.{Contracts, found_at, has_members}
 use Rattle.smf_fmri.specs.declared.fault.FmriFault.{FmriFault}
 use Rattle.smf_fmri.specs.Matching.{named_instance}
 use Rattle.smf_fmri.specs.Name.{read}
@@ -27,7 +27,6 @@ use Rattle.smf_node.specs.Marks.{last_delivered}
 use Rattle.smf_model.specs.declared.command.Edit.{Edit}
 use Rattle.smf_model.specs.declared.command.Reply.{Reply}
 use Rattle.smf_repo.specs.Refusals.{refusal}
-use Rattle.smf_words.specs.Request.{request_of}
 use Rattle.smf_words.specs.Text.{line_end, trail_text}
 use Rattle.smf_words.specs.declared.request.Request.{Request}
 use Rattle.smf_words.specs.declared.request.Request.TheVariants as requests
@@ -37,10 +36,9 @@ use Rattle.smf_svccfg.specs.declared.selection.Judged.{Judged}
 use Rattle.smf_svccfg.specs.declared.selection.Judged.TheVariants as judgements
 use Rattle.smf_svccfg.specs.declared.selection.Selection.{Selection}
 use Rattle.smf_svccfg.specs.declared.selection.Selection.TheVariants.{Nothing}
-use Rattle.smf_world.specs.Schedule.{Progress, delivered_again, losing, on, refusing, settled}
+use Rattle.smf_world.specs.Schedule.{Progress, delivered_again, losing, on, refusing}
 use Rattle.smf_world.specs.Worked.{is_launched, worked}
 use Rattle.smf_world.specs.declared.event.Event.TheVariants as events
-use Rattle.smf_world.specs.declared.event.ProcessEvent.{ProcessEvent}
 use Rattle.smf_world.specs.declared.schedule.Settled.{Settled}
 use Rattle.smf_world.specs.declared.schedule.Settled.TheVariants.{Quiet, Busy}
 
@@ -124,12 +122,6 @@ abbrev pub settled_text : Settled → List ℕ
 settled_text Quiet = codes "quiet" ++ line_end
 settled_text Busy = codes "busy" ++ line_end
 
-abbrev pub settled_by : Progress × Settled → Deed
-settled_by r = done r.0 (settled_text r.1)
-
-unfoldable pub settle : Progress → ℕ → Deed
-settle p rounds = settled_by (settled rounds p)
-
 -- ---- what is asked of the schedule
 
 -- the last messages that were delivered are delivered again, in their order
@@ -174,27 +166,6 @@ is_latest t n c = is_some (run_in t n c) && not (list_any (is_later_run t n (run
 abbrev pub latest : Contracts → ℕ → Option Contract
 latest t n = found_at t.contracts (position (is_latest t n) t.contracts)
 
-abbrev pub member_in : Contracts → Option Contract → Option ℕ
-member_in t None = None
-member_in t (Some c) = first_member c.id t.members
-
--- the lowest process of that contract
-unfoldable pub member_of : Contracts → ℕ → Option ℕ
-member_of t n = member_in t (latest t n)
-
-abbrev pub process_in : Progress → ProcessEvent → Option ℕ → Deed
-process_in p what None = failed p no_member
-process_in p what (Some process) = done (on p (events.Process process what)) []
-
-abbrev pub process_on : Progress → ProcessEvent → Found → Deed
-process_on p what (finds.One n) = process_in p what (member_of p.world.table n)
-process_on p what (finds.NoMatch word) = failed p (no_match_text script_name word)
-process_on p what (finds.Several word count) = failed p (several_text script_name word count)
-
--- something happens to a process of the instance that a word stands for
-unfoldable pub processed : Progress → List ℕ → ProcessEvent → Deed
-processed p word what = process_on p what (found_of p.world.now.names word)
-
 -- ---- restarters
 
 abbrev pub timeout_if : Bool → Progress → ℕ → List ℕ → Deed
@@ -213,15 +184,6 @@ timeout_on p (finds.Several word count) = failed p (several_text script_name wor
 -- the method that runs for the instance that a word stands for takes too long
 unfoldable pub timed_out : Progress → List ℕ → Deed
 timed_out p word = timeout_on p (found_of p.world.now.names word)
-
-abbrev pub join_on : Progress → Found → Deed
-join_on p (finds.One n) = failed p not_here
-join_on p (finds.NoMatch word) = failed p (no_match_text script_name word)
-join_on p (finds.Several word count) = failed p (several_text script_name word count)
-
--- only processes of the system can be waited for
-unfoldable pub joined_by : Progress → List ℕ → Deed
-joined_by p word = join_on p (found_of p.world.now.names word)
 
 -- the name of a restarter that a word is, in any form of a name
 abbrev pub restarter_in : Result (List ℕ) FmriFault → Option (List ℕ)
@@ -289,26 +251,27 @@ svccfg s line = svccfg_by s (judged s.progress.world.now s.selection line)
 abbrev pub bad_line : List ℕ
 bad_line = codes "smf: bad line" ++ line_end
 
+-- whether children have a part in what a line asks for
+abbrev pub asks_children : Request → Bool
+asks_children (requests.Process word what) = true
+asks_children (requests.Join word) = true
+asks_children (requests.Settle rounds) = true
+asks_children requests.Boot = true
+asks_children _ = false
+
+-- what a line does in which children have no part; of the others nothing is said here
 unfoldable pub effect_of : Session → Request → Effect
-effect_of s requests.Nothing = with_selection s.selection (done s.progress [])
 effect_of s (requests.Svccfg line) = svccfg s line
 effect_of s (requests.Svcadm words) = with_selection s.selection (svcadm s.progress words)
 effect_of s (requests.Svcs words) = with_selection s.selection (svcs s.progress words)
-effect_of s (requests.Settle rounds) = with_selection s.selection (settle s.progress rounds)
 effect_of s (requests.Refuse count) = with_selection s.selection (done (refusing count s.progress) [])
 effect_of s (requests.Lose count) = with_selection s.selection (done (losing count s.progress) [])
 effect_of s (requests.Again count) = with_selection s.selection (done (repeated count s.progress) [])
-effect_of s (requests.Process word what) = with_selection s.selection (processed s.progress word what)
 effect_of s (requests.Timeout word) = with_selection s.selection (timed_out s.progress word)
-effect_of s (requests.Join word) = with_selection s.selection (joined_by s.progress word)
 effect_of s (requests.Crash word) = with_selection s.selection (crashed s.progress word)
-effect_of s requests.Boot = with_selection s.selection (done (on s.progress events.Boot) [])
 effect_of s requests.Trail = with_selection s.selection (done s.progress (trail_text (reverse s.progress.world.trail)))
 effect_of s requests.Bad = with_selection s.selection (failed s.progress bad_line)
-
--- what a line does, which stands without its end
-unfoldable pub effect : Session → List ℕ → Effect
-effect s line = effect_of s (request_of line)
+effect_of s _ = with_selection s.selection (done s.progress [])
 
 -- ---- how calls do it
 

@@ -6,17 +6,17 @@ ghost use Rattle.smf_node.specs.Faults.{is_against_launch, is_unsent};
 ghost use Rattle.smf_script.specs.Failing.{DeedFails, MayEnd};
 ghost use Rattle.smf_world.specs.Reached.{IsLater};
 ghost use Rattle.smf_world.specs.Schedule.{on};
-ghost use Rattle.smf_script.specs.Session.{IsDeed, crashed, is_above, is_later_run, is_latest, joined_by, latest, member_of, process_in, processed, restarter_in, run_in, run_of, script_name, timed_out, timeout_if, timeout_in};
+ghost use Rattle.smf_script.specs.Session.{IsDeed, crashed, is_above, is_later_run, is_latest, latest, restarter_in, run_in, run_of, script_name, timed_out, timeout_if, timeout_in};
 ghost use Rattle.smf_world.specs.Worked.{is_launched};
 ghost use Rattle.std.specs.List.{list_any};
 ghost use Rattle.smf_fmri.specs.Name.{read};
 
 use smf_admin::{Found, found_of, no_match_text, several_text};
 use smf_contract::{Contract, Cookie, Table};
-use smf_fmri::{Fmri, FmriFault, InstanceFmri, Number, Text};
+use smf_fmri::{Fmri, FmriFault, InstanceFmri, Text};
 use smf_model::{Instance, Journal};
 use smf_node::{Node, NodeFault};
-use smf_world::{Event, ProcessEvent};
+use smf_world::Event;
 use std::alloc::{AllocError, Global};
 
 /// The run of an instance that a cookie names.
@@ -91,16 +91,7 @@ pub fn latest(table: &Table, instance: u64) -> Option<Contract>
     latest_place(table, instance).map(|k| table.contracts()[k])
 }
 
-/// The lowest process of that contract.
-#[tactic(auto, unfolding(crate::specs::Session::member_of))]
-fn member_of(table: &Table, instance: u64) -> Option<Number>
-    ensures { result ≡ member_of table.now.table instance }
-{
-    let contract = latest(table, instance)?;
-    table.first_member(contract.id)
-}
-
-/// An event happens, which nothing is said of.
+/// Performs an event that prints nothing.
 pub(crate) fn happen<J: Journal>(node: &mut Node<J>, event: Event) -> Result<bool, NodeFault>
     requires sent { is_unsent node.old.world event ≡ false }
     requires launched { is_against_launch node.old.world event ≡ false }
@@ -154,45 +145,6 @@ pub fn found_on<J: Journal>(alloc: Global, node: &Node<J>, word: &Text) -> Resul
     ensures { IfOk result (λ found. found ≡ found_of node.now.world.now.names word.now) }
 {
     found_of(alloc, node.repository().names(), word)
-}
-
-fn process_in<J: Journal>(
-    node: &mut Node<J>,
-    what: ProcessEvent,
-    process: Option<Number>,
-    out: &mut String,
-) -> Result<bool, NodeFault>
-    ensures exact { IfOk result (λ fine. IsDeed (process_in node.old what process) node.new (string_bytes out.old) (string_bytes out.new) fine) }
-    ensures later { IsLater node.old.world node.new.world }
-    ensures err { IfErr result (λ e. DeedFails J.write_fails node.old (process_in node.old what process) node.new e) }
-{
-    match process {
-        Some(process) => happen(node, Event::Process { process, what }),
-        None => refuse(out, "smf: no member\n"),
-    }
-}
-
-/// Something happens to a process of the instance that a word stands for.
-#[tactic(auto, unfolding(crate::specs::Session::processed))]
-pub(crate) fn process<J: Journal>(
-    alloc: Global,
-    node: &mut Node<J>,
-    word: &Text,
-    what: ProcessEvent,
-    out: &mut String,
-) -> Result<bool, NodeFault>
-    ensures exact { IfOk result (λ fine. IsDeed (processed node.old word.now what) node.new (string_bytes out.old) (string_bytes out.new) fine) }
-    ensures later { IsLater node.old.world node.new.world }
-    ensures err { IfErr result (λ e. DeedFails J.write_fails node.old (processed node.old word.now what) node.new e) }
-{
-    match found_on(alloc, node, word)? {
-        Found::One(instance) => {
-            let process = member_of(node.table(), instance);
-            process_in(node, what, process, out)
-        }
-        Found::NoMatch(word) => refuse_word(alloc, out, &word),
-        Found::Several(word, count) => refuse_several(alloc, out, &word, count),
-    }
 }
 
 /// The method of an instance has taken too long for its restarter.
@@ -254,24 +206,6 @@ pub(crate) fn time_out<J: Journal>(
             let instance = node.repository().instance(instance)?;
             timeout_in(node, instance, out)
         }
-        Found::NoMatch(word) => refuse_word(alloc, out, &word),
-        Found::Several(word, count) => refuse_several(alloc, out, &word, count),
-    }
-}
-
-/// Only processes of the system can be waited for.
-#[tactic(auto, unfolding(crate::specs::Session::joined_by))]
-pub(crate) fn join<J: Journal>(
-    alloc: Global,
-    node: &Node<J>,
-    word: &Text,
-    out: &mut String,
-) -> Result<bool, NodeFault>
-    ensures exact { IfOk result (λ fine. IsDeed (joined_by node.now word.now) node.now (string_bytes out.old) (string_bytes out.new) fine) }
-    ensures fault { IfErr result (λ e. e ≡ Memory) }
-{
-    match found_on(alloc, node, word)? {
-        Found::One(_) => refuse(out, "smf: not here\n"),
         Found::NoMatch(word) => refuse_word(alloc, out, &word),
         Found::Several(word, count) => refuse_several(alloc, out, &word, count),
     }

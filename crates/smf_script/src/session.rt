@@ -1,14 +1,13 @@
-ghost use Rattle.std.specs.Prelude.{◌≡◌, ◌⊎◌, [], ◌++◌, ◌∷◌, IfErr, IfOk, OnOk, is_none, reverse, string_bytes};
+ghost use Rattle.std.specs.Prelude.{◌≡◌, ◌⊎◌, [], ◌++◌, ◌∷◌, false, IfErr, IfOk, OnOk, is_none, reverse, string_bytes};
 ghost use Rattle.smf_admin.specs.Asking.{commands_of};
-ghost use Rattle.smf_node.specs.Partly.{SettleFails};
 ghost use Rattle.smf_repo.specs.Refusals.{refusal};
 ghost use Rattle.smf_words.specs.declared.request.Request.TheVariants as requests;
-ghost use Rattle.smf_script.specs.Session.{IsDeed, IsEffect, asked, asked_all, done, effect, effect_of, given, given_selected, listing_of, settle, settled_text, svcadm, svccfg, svccfg_name, svcs, told_text};
-ghost use Rattle.smf_script.specs.Failing.{AreDone, DeedFails, LineFails, MayEnd, RequestFails, SvcadmLeaves};
+ghost use Rattle.smf_script.specs.Session.{IsDeed, IsEffect, asked, asked_all, asks_children, done, effect_of, given, given_selected, listing_of, settled_text, svcadm, svccfg, svccfg_name, svcs, told_text};
+ghost use Rattle.smf_script.specs.Failing.{AreDone, DeedFails, MayEnd, RequestFails, SvcadmLeaves};
 ghost use Rattle.smf_words.specs.Text.{trail_text};
 ghost use Rattle.smf_world.specs.Reached.{IsLater};
 
-use crate::acting::{crash, happen, join, process, refuse, time_out};
+use crate::acting::{crash, refuse, time_out};
 use smf_admin::{
     Asked, Listing, Options, commands_of, no_match_text, options_of, several_text, svcadm_usage,
     svcs_text, svcs_usage,
@@ -18,8 +17,8 @@ use smf_model::{Edit, Journal, Reply};
 use smf_node::{Node, NodeFault};
 use smf_repo::refusal_text;
 use smf_svccfg::{CfgFault, Judged, Selection, fault_text, judge};
-use smf_words::{Request, request_of, trail_text};
-use smf_world::{Event, Settled};
+use smf_words::{Request, trail_text};
+use smf_world::Settled;
 use std::alloc::{AllocError, Global};
 
 /// Puts the name of a program, words, and the end of a line.
@@ -237,17 +236,6 @@ pub fn settled_text(how: Settled) -> &'static str
     }
 }
 
-#[tactic(auto, unfolding(crate::specs::Session::settle))]
-fn settle<J: Journal>(node: &mut Node<J>, rounds: u64, out: &mut String) -> Result<bool, NodeFault>
-    ensures exact { IfOk result (λ fine. IsDeed (settle node.old rounds) node.new (string_bytes out.old) (string_bytes out.new) fine) }
-    ensures later { IsLater node.old.world node.new.world }
-    ensures err { IfErr result (λ e. MayEnd J.write_fails e × ((node.new ≡ node.old) ⊎ (node.new ≡ (settle node.old rounds).progress) ⊎ SettleFails J.write_fails rounds node.old node.new e)) }
-{
-    let how = node.settle(rounds)?;
-    out.push_str(settled_text(how))?;
-    Ok(true)
-}
-
 /// Puts the trail of a node.
 fn put_trail<J: Journal>(alloc: Global, node: &Node<J>, out: &mut String) -> Result<(), AllocError>
     ensures { OnOk result (string_bytes out.new ≡ string_bytes out.old ++ trail_text (reverse node.now.world.trail)) }
@@ -256,8 +244,21 @@ fn put_trail<J: Journal>(alloc: Global, node: &Node<J>, out: &mut String) -> Res
     out.push_str(text.as_str())
 }
 
+/// Whether children have a part in what a line asks for.
+pub fn asks_children(request: &Request) -> bool
+    ensures { result ≡ asks_children request.now }
+{
+    match request {
+        Request::Process { .. } => true,
+        Request::Join(_) => true,
+        Request::Settle(_) => true,
+        Request::Boot => true,
+        _ => false,
+    }
+}
+
+/// Does what a line asks for in which children have no part, puts its text, and gives back whether it did not fail.
 #[tactic(auto, unfolding(crate::specs::Session::effect_of, crate::specs::Session::repeated))]
-/// Does what a line asks for, puts its text, and gives back whether it did not fail.
 pub fn run_request<J: Journal>(
     alloc: Global,
     node: &mut Node<J>,
@@ -265,6 +266,7 @@ pub fn run_request<J: Journal>(
     request: &Request,
     out: &mut String,
 ) -> Result<bool, NodeFault>
+    requires { asks_children request.now ≡ false }
     ensures exact { IfOk result (λ fine. IsEffect (effect_of (record { progress = node.old; selection = selection.old }) request.now) node.new selection.new (string_bytes out.old) (string_bytes out.new) fine) }
     ensures later { IsLater node.old.world node.new.world }
     ensures err { IfErr result (λ e. RequestFails J.write_fails (record { progress = node.old; selection = selection.old }) request.now node.new e) }
@@ -277,7 +279,7 @@ pub fn run_request<J: Journal>(
             let fine = svcs(alloc, node, words.as_slice(), out)?;
             Ok(fine)
         }
-        Request::Settle(rounds) => settle(node, *rounds, out),
+        Request::Settle(_) => unreachable!(),
         Request::Refuse(count) => {
             node.refuse(*count);
             Ok(true)
@@ -290,32 +292,15 @@ pub fn run_request<J: Journal>(
             node.again(*count)?;
             Ok(true)
         }
-        Request::Process { word, what } => process(alloc, node, word, *what, out),
+        Request::Process { .. } => unreachable!(),
         Request::Timeout(word) => time_out(alloc, node, word, out),
-        Request::Join(word) => join(alloc, node, word, out),
+        Request::Join(_) => unreachable!(),
         Request::Crash(word) => crash(alloc, node, word, out),
-        Request::Boot => happen(node, Event::Boot),
+        Request::Boot => unreachable!(),
         Request::Trail => {
             put_trail(alloc, node, out)?;
             Ok(true)
         }
         Request::Bad => refuse(out, "smf: bad line\n"),
     }
-}
-
-/// Does a line of a script, which stands without its end, puts its text, and gives back whether it did not fail.
-#[tactic(auto, unfolding(crate::specs::Session::effect))]
-pub fn run_line<J: Journal>(
-    alloc: Global,
-    node: &mut Node<J>,
-    selection: &mut Selection,
-    line: &[u8],
-    out: &mut String,
-) -> Result<bool, NodeFault>
-    ensures exact { IfOk result (λ fine. IsEffect (effect (record { progress = node.old; selection = selection.old }) line.now) node.new selection.new (string_bytes out.old) (string_bytes out.new) fine) }
-    ensures later { IsLater node.old.world node.new.world }
-    ensures err { IfErr result (λ e. LineFails J.write_fails (record { progress = node.old; selection = selection.old }) line.now node.new e) }
-{
-    let request = request_of(alloc, line)?;
-    run_request(alloc, node, selection, &request, out)
 }

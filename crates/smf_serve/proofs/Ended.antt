@@ -8,7 +8,7 @@ use Rattle.smf_edge.specs.Ledgers.{Ledger}
 use Rattle.smf_model.specs.declared.journal.RepoFault.{RepoFault}
 use Rattle.smf_model.specs.Holdings.{Holdings}
 use Rattle.smf_run.specs.Agreed.{AgreesOrDropped, unasked}
-use Rattle.smf_run.specs.Asks.{Seen}
+use Rattle.smf_edge.specs.Answers.{Seen}
 use Rattle.smf_run.specs.Ends.{HasEnded, IsUnlisted}
 use Rattle.smf_run.specs.Scripts.{HasRun, Stops}
 use Rattle.smf_script.specs.declared.fault.ScriptFault.{ScriptFault}

@@ -11,7 +11,7 @@ use Rattle.smf_model.specs.Holdings.{Holdings}
 use Rattle.smf_node.specs.declared.fault.NodeFault.{NodeFault}
 use Rattle.smf_node.specs.Faults.{IsUnbooted}
 use Rattle.smf_run.specs.Agreed.{AgreesOrDropped, unasked}
-use Rattle.smf_run.specs.Asks.{Seen}
+use Rattle.smf_edge.specs.Answers.{Seen}
 use Rattle.smf_run.specs.Ends.{HasEnded, IsUnlisted}
 use Rattle.smf_run.specs.Scripts.{HasRun, Stops}
 use Rattle.smf_script.specs.declared.fault.ScriptFault.{ScriptFault}

@@ -4,7 +4,7 @@ use Rattle.std_io.specs.declared.io.error.Error.{Error}
 use Rattle.smf_edge.specs.Answers.{Skills}
 use Rattle.smf_model.specs.declared.journal.RepoFault.{RepoFault}
 use Rattle.smf_model.specs.Look.{empty}
-use Rattle.smf_run.specs.Asks.{Seen}
+use Rattle.smf_edge.specs.Answers.{Seen}
 use Rattle.smf_serve.specs.Runs.{HasRunOver, IsCut}
 
 -- nothing can fail to be written in a journal

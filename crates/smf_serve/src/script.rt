@@ -1,5 +1,5 @@
 ghost use Rattle.std.specs.Prelude.{◌≡◌, ◌≢◌, ◌≤◌, IfErr, IfOk};
-ghost use Rattle.smf_run.specs.Asks.{seen};
+ghost use Rattle.smf_edge.specs.Answers.{seen};
 ghost use Rattle.smf_serve.specs.Runs.{HasRunOver, IsCut, IsCutOff, IsDone, IsEnded};
 
 use crate::telling::{fault_text, tell_open};

@@ -1,5 +1,5 @@
 ghost use Rattle.std.specs.Prelude.{◌≡◌, ◌≢◌};
-ghost use Rattle.smf_run.specs.Asks.{seen};
+ghost use Rattle.smf_edge.specs.Answers.{seen};
 ghost use Rattle.smf_serve.specs.Sims.{IsSimulated, IsSimulationCut};
 
 use crate::script::serve_over;

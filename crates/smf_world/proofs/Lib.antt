@@ -15,6 +15,8 @@ pub mod Answered
 pub mod Honest
 pub mod Reaching
 pub mod Scheduled
+pub mod Ranked
+pub mod NothingLeft
 pub mod RefusedBoot
 pub mod RowClauses
 pub mod SaidClauses

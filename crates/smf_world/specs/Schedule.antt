@@ -1,11 +1,12 @@
--- The schedule: in which order events happen until nothing is left to do.
-use Rattle.std.specs.Prelude.{◌≡◌, ℕ, zero, suc, ◌+◌, ◌-◌, ◌==◌, ◌&&◌, not, nat_eq, nat_lt, List, [], ◌∷◌, ◌++◌, length, map, drop, filter, replicate, Bool, true, false, if◌then◌else◌, Option, Some, None, is_some, option_to_list}
+-- The schedule: in which order events happen until nothing is left to do. What comes of the turns of restarters for their
+-- instances depends on who runs their methods, and is not said here.
+use Rattle.std.specs.Prelude.{ℕ, zero, suc, ◌+◌, ◌-◌, ◌==◌, ◌&&◌, ◌||◌, not, nat_eq, nat_lt, List, [], ◌∷◌, ◌++◌, length, map, drop, filter, replicate, Bool, true, false, if◌then◌else◌, Option, Some, None, is_some, option_to_list}
 use Rattle.std.specs.Cmp.Lexicographic.{pointwise}
 use Rattle.std.specs.List.{list_all, list_any}
 use Rattle.smf_fmri.specs.ByKey.{By, by_text, put_all}
+use Rattle.smf_contract.specs.declared.contract.Report.{Report}
 use Rattle.smf_contract.specs.declared.event.Event.{Event as ContractEvent}
-use Rattle.smf_contract.specs.Entries.{contract}
-use Rattle.smf_contract.specs.declared.contract.Contract.{Contract}
+use Rattle.smf_contract.specs.Entries.{contract, reported}
 use Rattle.smf_state.specs.OwnName.{startd}
 use Rattle.smf_model.specs.Shown.{all_read, view}
 use Rattle.smf_engine.specs.Orders.{has_no_orders}
@@ -16,82 +17,120 @@ use Rattle.smf_restarter.specs.Knowledge.{Knowledge}
 use Rattle.smf_restarter.specs.Ticks.{at_rest, ticked}
 use Rattle.smf_world.specs.declared.event.Event.{Event}
 use Rattle.smf_world.specs.declared.event.Event.TheVariants as events
-use Rattle.smf_world.specs.declared.event.SpawnAnswer.TheVariants as spawns
 use Rattle.smf_world.specs.declared.schedule.Deed.{Deed}
 use Rattle.smf_world.specs.declared.schedule.Deed.TheVariants as deeds
-use Rattle.smf_world.specs.declared.schedule.Settled.{Settled}
-use Rattle.smf_world.specs.declared.schedule.Settled.TheVariants.{Quiet, Busy}
+use Rattle.smf_world.specs.declared.schedule.EventKey.{EventKey}
 use Rattle.smf_world.specs.declared.schedule.Turn.{Turn}
 use Rattle.smf_world.specs.declared.schedule.Turn.TheVariants as turns
 use Rattle.smf_world.specs.Happens.{happens}
 use Rattle.smf_world.specs.Worked.{holder, is_launched, restarter, sent_at}
 use Rattle.smf_world.specs.World.{World}
 
--- a world with the marks and counts of its schedule: the places of the messages that were delivered, newest first; the
--- place of the next message in the order of sending; the places of those that are lost; how many spawns are still to be
--- refused; how many events of the table were looked at, and those of them whose holder was not launched
+-- a world with the marks and counts of its schedule: the places of the messages that were delivered, newest first; those
+-- that were delivered before their turn; the place of the next message in the order of sending; the places of those that
+-- are lost; how many spawns are still to be refused; how many events of the table were looked at, those of them that no
+-- holder has heard, and events that a holder heard before they were looked at
 pub record Progress : Type 0 where
   pub world : World
   pub delivered : List ℕ
+  pub early : List ℕ
   pub next : ℕ
   pub lost : List ℕ
   pub refuse : ℕ
   pub looked : ℕ
   pub unheard : List ContractEvent
+  pub heard : List EventKey
 
 -- a world of which nothing was delivered yet
 abbrev pub begun_at : World → Progress
-begun_at w = record { world = w; delivered = []; next = 0; lost = []; refuse = 0; looked = 0; unheard = [] }
+begun_at w = record { world = w; delivered = []; early = []; next = 0; lost = []; refuse = 0; looked = 0; unheard = []; heard = [] }
 
 -- ---- events
 
--- at a boot the contracts are gone, and with them what happened to them
-abbrev pub marked : Event → Bool → Progress → Progress
-marked (events.Deliver place) is_new p = record p { delivered = place ∷ p.delivered }
-marked events.Boot true p = record p { looked = 0; unheard = [] }
-marked _ is_new p = p
+abbrev pub event_key : ℕ → ℕ → EventKey
+event_key contract number = record { contract = contract; number = number }
+
+abbrev pub key_of : ContractEvent → EventKey
+key_of e = event_key e.contract e.number
+
+abbrev pub has_key : EventKey → ContractEvent → Bool
+has_key key e = e.contract == key.contract && e.number == key.number
+
+abbrev pub has_other_key : EventKey → ContractEvent → Bool
+has_other_key key e = not (has_key key e)
+
+-- a message is delivered before its turn, unless its turn has been
+abbrev pub early_with : Bool → ℕ → List ℕ → List ℕ
+early_with true place places = places
+early_with false place places = places ++ place ∷ []
+
+-- an event that its holder hears is among those that were looked at, or it is heard early
+abbrev pub mark_heard : Bool → EventKey → Progress → Progress
+mark_heard true key p = record p { unheard = filter (has_other_key key) p.unheard }
+mark_heard false key p = record p { heard = p.heard ++ key ∷ [] }
+
+-- an event is marked: a report where a holder heard it, a boot where it made a revision. At a boot the contracts are gone,
+-- and with them what happened to them
+abbrev pub marked : Event → Bool → Bool → Progress → Progress
+marked (events.Deliver place) heard new p = record p { delivered = place ∷ p.delivered; early = early_with (nat_lt place p.next) place p.early }
+marked (events.Report c n) true new p = mark_heard (list_any (has_key (event_key c n)) p.unheard) (event_key c n) p
+marked events.Boot heard true p = record p { looked = 0; unheard = []; heard = [] }
+marked _ heard new p = p
 
 -- a boot that is accepted makes a revision
 abbrev pub is_revision : World → World → Bool
 is_revision before after = nat_lt before.now.revision after.now.revision
 
+abbrev pub is_heard_by : World → Option Report → Bool
+is_heard_by w None = false
+is_heard_by w (Some r) = is_some (holder w r.contract.holder)
+
+-- whether an event of a contract is there, and the contract's holder is launched
+unfoldable pub is_heard : World → ℕ → ℕ → Bool
+is_heard w c n = is_heard_by w (reported w.table c n)
+
+abbrev pub is_heard_in : World → Event → Bool
+is_heard_in w (events.Report c n) = is_heard w c n
+is_heard_in w _ = false
+
 -- an event happens, and is marked
 abbrev pub on : Progress → Event → Progress
-on p e = marked e (is_revision p.world (happens p.world e)) (record p { world = happens p.world e })
+on p e = marked e (is_heard_in p.world e) (is_revision p.world (happens p.world e)) (record p { world = happens p.world e })
 
 -- ---- deeds
 
-abbrev pub is_lost : Progress → Bool
-is_lost p = list_any (λ place. place == p.next) p.lost
+abbrev pub is_next : Progress → ℕ → Bool
+is_next p place = place == p.next
+
+-- the next message in the order of sending is lost, or was delivered before its turn
+abbrev pub is_skipped : Progress → Bool
+is_skipped p = list_any (is_next p) p.lost || list_any (is_next p) p.early
+
+abbrev pub past_next : Progress → Progress
+past_next p = record p { next = p.next + 1 }
 
 abbrev pub delivering : Bool → Progress → Progress
-delivering true p = record p { next = p.next + 1 }
-delivering false p = record (on p (events.Deliver p.next)) { next = p.next + 1 }
+delivering true p = past_next p
+delivering false p = on (past_next p) (events.Deliver p.next)
 
 abbrev pub delivering_if : Option Message → Progress → Progress
 delivering_if None p = p
-delivering_if (Some m) p = delivering (is_lost p) p
+delivering_if (Some m) p = delivering (is_skipped p) p
 
 unfoldable pub deliver_next : Progress → Progress
 deliver_next p = delivering_if (sent_at p.world p.next) p
 
-abbrev pub heard_of : Option Contract → World → Option Knowledge
-heard_of None w = None
-heard_of (Some c) w = holder w c.holder
-
 abbrev pub is_known_contract : World → ℕ → Bool
 is_known_contract w id = is_some (contract w.table id)
 
--- what is reported again later: where the contract is there and its holder is not launched
+-- it stays unheard if the contract is there and its holder is not launched
 abbrev pub report_if : Bool → Bool → ContractEvent → Progress → Progress
 report_if true known e p = on p (events.Report e.contract e.number)
-report_if false true e p = record p { unheard = p.unheard ++ e ∷ [] }
-report_if false false e p = p
+report_if false true e p = p
+report_if false false e p = record p { unheard = filter (has_other_key (key_of e)) p.unheard }
 
 unfoldable pub report_one : ContractEvent → Progress → Progress
-report_one e p =
-    report_if (is_some (heard_of (contract p.world.table e.contract) p.world))
-    (is_known_contract p.world e.contract) e p
+report_one e p = report_if (is_heard p.world e.contract e.number) (is_known_contract p.world e.contract) e p
 
 abbrev pub is_spawn : Call → Bool
 is_spawn (asks.Spawn cookie terms) = true
@@ -104,26 +143,6 @@ asks_spawn (Some k) n = is_spawn (ticked k n).call
 
 abbrev pub refuses : Progress → List ℕ → ℕ → Bool
 refuses p name n = nat_lt 0 p.refuse && asks_spawn (restarter p.world name) n
-
-abbrev pub tick_by : Bool → List ℕ → ℕ → Progress → Progress
-tick_by true name n p = record (on p (events.Tick name n spawns.Refused)) { refuse = p.refuse - 1 }
-tick_by false name n p = on p (events.Tick name n spawns.Made)
-
-unfoldable pub tick_one : List ℕ → ℕ → Progress → Progress
-tick_one name n p = tick_by (refuses p name n) name n p
-
-unfoldable pub went : Deed → Progress → Progress
-went (deeds.Launch name) p = on p (events.Launch name)
-went deeds.DeliverNext p = deliver_next p
-went deeds.Ask p = on p events.Ask
-went deeds.Orders p = on p events.Orders
-went (deeds.Report e) p = report_one e p
-went (deeds.OwnTick name) p = on p (events.OwnTick name)
-went (deeds.Tick name n) p = tick_one name n p
-
-abbrev pub all_went : List Deed → Progress → Progress
-all_went [] p = p
-all_went (d ∷ ds) p = all_went ds (went d p)
 
 -- ---- turns
 
@@ -148,30 +167,35 @@ numbers_known (Some k) = map (λ i. i.instance) k.instances
 abbrev pub waiting_count : Progress → ℕ
 waiting_count p = length p.world.sent - p.next
 
--- what was kept for later, and what happened since
-abbrev pub unreported : Progress → List ContractEvent
-unreported p = p.unheard ++ drop p.looked p.world.table.events
+abbrev pub was_heard : List EventKey → ContractEvent → Bool
+was_heard keys e = list_any (λ key. has_key key e) keys
 
+-- what happened since events were looked at, and was not heard early
+abbrev pub unlooked : Progress → List ContractEvent
+unlooked p = filter (λ e. not (was_heard p.heard e)) (drop p.looked p.world.table.events)
+
+-- before reports are made, all that happened is looked at
+abbrev pub entering : Turn → Progress → Progress
+entering turns.Reports p = record p { looked = length p.world.table.events; unheard = p.unheard ++ unlooked p; heard = [] }
+entering _ p = p
+
+-- the deeds of a turn that was entered
 unfoldable pub deeds_of : Progress → Turn → List Deed
 deeds_of p turns.Launches = launch_deeds p.world (in_order (owners p.world))
 deeds_of p turns.Messages = replicate (waiting_count p) deeds.DeliverNext
 deeds_of p turns.Ask = deeds.Ask ∷ []
 deeds_of p turns.Orders = deeds.Orders ∷ []
-deeds_of p turns.Reports = map (λ e. deeds.Report e) (unreported p)
+deeds_of p turns.Reports = map (λ e. deeds.Report e) p.unheard
 deeds_of p (turns.OwnTick name) = deeds.OwnTick name ∷ []
 deeds_of p (turns.Ticks name) = map (λ n. deeds.Tick name n) (numbers_known (restarter p.world name))
 
--- what is about to be reported is marked as looked at
-abbrev pub entering : Turn → Progress → Progress
-entering turns.Reports p = record p { looked = length p.world.table.events; unheard = [] }
-entering _ p = p
+-- so many messages are delivered, and all that wait
+abbrev pub deliver_count : ℕ → Progress → Progress
+deliver_count zero p = p
+deliver_count (suc k) p = deliver_count k (deliver_next p)
 
-unfoldable pub turned : Turn → Progress → Progress
-turned t p = all_went (deeds_of p t) (entering t p)
-
-abbrev pub all_turned : List Turn → Progress → Progress
-all_turned [] p = p
-all_turned (t ∷ ts) p = all_turned ts (turned t p)
+unfoldable pub turn_of_messages : Progress → Progress
+turn_of_messages p = deliver_count (waiting_count p) p
 
 -- ---- a round
 
@@ -197,26 +221,11 @@ turns_of_all (name ∷ names) = turns_of name ++ turns_of_all names
 abbrev pub launched_names : World → List (List ℕ)
 launched_names w = filter (is_launched w) (in_order (map (λ k. k.name) w.restarters))
 
-abbrev pub restarter_turns : Progress → Progress
-restarter_turns p = all_turned (turns_of_all (launched_names p.world)) p
-
-unfoldable pub round : Progress → Progress
-round p = restarter_turns (all_turned first_turns p)
-
 -- ---- until it is quiet
 
--- nothing is ordered of what is held, and no restarter awaits or owes anything
+-- nothing is ordered of what is held, and restarters wait for nothing but methods that run
 unfoldable pub is_quiet : World → Bool
 is_quiet w = has_no_orders (view w.now) && list_all at_rest w.restarters
-
--- at most so many rounds, up to the first that leaves the world quiet
-unfoldable pub settled : ℕ → Progress → Progress × Settled
-settled zero p = (p, Busy)
-settled (suc n) p = if is_quiet (round p).world then (round p, Quiet) else settled n (round p)
-
--- so many rounds at most were let happen: they left this, and ended so
-pub record IsSettled (rounds : ℕ) (before after : Progress) (how : Settled) : Type 0 where
-  pub made : settled rounds before ≡ (after, how)
 
 -- ---- what is asked of a schedule
 

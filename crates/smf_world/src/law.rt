@@ -1,8 +1,14 @@
-ghost use Rattle.std.specs.Prelude.{◌≡◌, ℕ, IfSome, List, Some};
+ghost use Rattle.std.specs.List.{AllByRecursion};
+ghost use Rattle.std.specs.Prelude.{◌≡◌, ℕ, IfSome, List, None, Some, true};
+ghost use Rattle.smf_contract.specs.declared.event.Event.{Event as AnyContractEvent};
+ghost use Rattle.smf_engine.specs.Orders.{order};
 ghost use Rattle.smf_model.specs.Holdings.{Holdings};
 ghost use Rattle.smf_model.specs.Laws.{IsNumbered};
 ghost use Rattle.smf_model.specs.Look.{empty, installed};
 ghost use Rattle.smf_model.specs.Next.{next};
+ghost use Rattle.smf_model.specs.Shown.{view};
+ghost use Rattle.smf_restarter.specs.Ticks.{at_rest};
+ghost use Rattle.smf_state.specs.declared.row.Row.{Row as AnyRow};
 ghost use Rattle.smf_model.specs.declared.command.Command.{Command as AnyCommand};
 ghost use Rattle.smf_dep.specs.declared.dependency.Dependency.{Dependency as AnyDependency};
 ghost use Rattle.smf_wire.specs.Lines.{IsSpelled};
@@ -14,14 +20,11 @@ ghost use Rattle.smf_world.specs.MustStop.{IsShown, IsTold};
 ghost use Rattle.smf_world.specs.Reached.{CanFail, IsAlways, IsLater, IsReached};
 ghost use Rattle.smf_world.specs.Runs.{run};
 ghost use Rattle.smf_world.specs.Safe.{AlongTheDiagram, CommitsFollowHistory as FollowsHistory, CommittedOnce, HeldWereCommitted};
-ghost use Rattle.smf_world.specs.Safe.{IsSafe, OneLive, StartsDecided};
-ghost use Rattle.smf_world.specs.Schedule.{Progress, all_turned, all_went, delivered_again, round};
-ghost use Rattle.smf_world.specs.Schedule.{settled, turned, went};
+ghost use Rattle.smf_world.specs.Safe.{IsReady, IsSafe, OneLive, StartsDecided};
+ghost use Rattle.smf_world.specs.Schedule.{Progress, deliver_next, delivered_again, is_quiet, on, report_one, turn_of_messages, waiting_count};
 ghost use Rattle.smf_world.specs.Spelled.{AreFormedEvents, AreInOrder, AreSpelled, HasBodies, IsFormedEvent, IsInOrder};
 ghost use Rattle.smf_world.specs.Worked.{sent_at, worked};
 ghost use Rattle.smf_world.specs.World.{World, found};
-ghost use Rattle.smf_world.specs.declared.schedule.Deed.{Deed as AnyDeed};
-ghost use Rattle.smf_world.specs.declared.schedule.Turn.{Turn as AnyTurn};
 
 /// By the revisions in the rows of a view a dependency stops an instance exactly where, after the base, an event that
 /// counts happened to an instance that is there and that the dependency cites.
@@ -102,13 +105,24 @@ pub fn held_groups_are_formed()
     ensures events { (w : World) (e : AnyEvent) → IsNumbered w.now → IsFormed w.now → IsFormedEvent e → IsFormed (happens w e).now }
 {}
 
-/// What a schedule makes of the world is what some list of events makes of it.
+/// What a schedule makes of the world apart from the turns of restarters for instances, some list of events makes of it.
 pub fn a_schedule_is_a_run()
-    ensures deed { (d : AnyDeed) (p : Progress) → IsLater p.world (went d p).world }
-    ensures deeds { (ds : List AnyDeed) (p : Progress) → IsLater p.world (all_went ds p).world }
-    ensures turn { (t : AnyTurn) (p : Progress) → IsLater p.world (turned t p).world }
-    ensures turns { (ts : List AnyTurn) (p : Progress) → IsLater p.world (all_turned ts p).world }
-    ensures round { (p : Progress) → IsLater p.world (round p).world }
-    ensures settled { (n : ℕ) (p : Progress) → IsLater p.world (settled n p).0.world }
+    ensures event { (p : Progress) (e : AnyEvent) → IsLater p.world (on p e).world }
+    ensures delivery { (p : Progress) → IsLater p.world (deliver_next p).world }
+    ensures report { (e : AnyContractEvent) (p : Progress) → IsLater p.world (report_one e p).world }
     ensures again { (places : List ℕ) (p : Progress) → IsLater p.world (delivered_again places p).world }
+{}
+
+/// After three turns of deliveries no message waits, whatever was sent before them: an order brings a proposal, which brings
+/// an answer, which brings nothing.
+pub fn no_message_waits_after_deliveries()
+    ensures { (p : Progress) → waiting_count (turn_of_messages (turn_of_messages (turn_of_messages p))) ≡ 0 }
+{}
+
+/// In a quiet world nothing is left to start: no enabled instance is offline with nothing under way, no fault, and each
+/// dependency group met. Nothing is left to order, and restarters wait for nothing but methods that run.
+pub fn quiet_leaves_nothing_to_do()
+    ensures start { (w : World) (i : ℕ) (row : AnyRow) (command : List ℕ) → is_quiet w ≡ true → IsReady w.now i row command → ⊥ }
+    ensures orders { (w : World) → is_quiet w ≡ true → AllByRecursion (λ i. order w.now.revision (view w.now).items i ≡ None) (view w.now).items }
+    ensures rest { (w : World) → is_quiet w ≡ true → AllByRecursion (λ k. at_rest k ≡ true) w.restarters }
 {}

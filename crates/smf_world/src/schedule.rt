@@ -1,5 +1,5 @@
 use smf_contract::Event as ContractEvent;
-use smf_fmri::InstanceFmri;
+use smf_fmri::{InstanceFmri, Number};
 
 /// How a number of rounds ended.
 #[derive(Clone, Copy, PartialEq, Eq)]
@@ -10,20 +10,27 @@ pub enum Settled {
     Busy,
 }
 
+/// An event of a contract, by its number there.
+#[derive(Clone, Copy)]
+pub struct EventKey {
+    pub contract: Number,
+    pub number: Number,
+}
+
 /// One thing that a schedule does: at most one event.
 #[derive(Drop)]
 pub enum Deed {
     Launch(InstanceFmri),
-    /// The next message in the order of sending is delivered, unless it is lost.
+    /// The next message in the order of sending is delivered, unless it is lost or was delivered before its turn.
     DeliverNext,
     /// The graph asks for the view.
     Ask,
     /// The graph sends its orders.
     Orders,
-    /// An event of a contract is reported, where its holder is launched; else it is kept for later.
+    /// An event of a contract is reported, if its holder is launched; else it is kept for later.
     Report(ContractEvent),
     OwnTick(InstanceFmri),
-    /// The turn of a restarter for an instance. A spawn that it asks for is refused where some are still to be.
+    /// The turn of a restarter for an instance. A spawn that it asks for is refused if some are still to be.
     Tick {
         restarter: InstanceFmri,
         instance: u64,
@@ -39,7 +46,7 @@ pub enum Turn {
     Messages,
     Ask,
     Orders,
-    /// What happened to contracts is reported.
+    /// Children tell what happened to them, and what happened to contracts is reported.
     Reports,
     OwnTick(InstanceFmri),
     /// The turns of a restarter for all instances that it knows.

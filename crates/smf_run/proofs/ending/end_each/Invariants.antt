@@ -1,5 +1,5 @@
 use Rattle.std.proofs.Common.{drop}
-use Rattle.smf_run.specs.Asks.{Seen, seen}
+use Rattle.smf_edge.specs.Answers.{Seen, seen}
 use Rattle.smf_run.specs.Ends.{AreAsked}
 use Rattle.smf_run.proofs.ending.end_each.Given as goal
 

@@ -1,6 +1,6 @@
 use Rattle.std.proofs.Common.{◌≡◌, ◌+◌}
 use Rattle.smf_lines.specs.Faults.{counted}
-use Rattle.smf_run.specs.Asks.{seen}
+use Rattle.smf_edge.specs.Answers.{seen}
 use Rattle.smf_run.proofs.Going.{Goes}
 use Rattle.smf_script.specs.Script.{begun}
 use Rattle.smf_world.specs.Reached.{IsLater}

@@ -8,7 +8,7 @@ returns-in_err-replies-clause-fault g c =
 
 pub returns-clause-ok : goal.returns-clause-ok
 returns-clause-ok g c =
-    marked_on _ _ _ _ _ _ _ _ _ c.self.view_is (c.reserve.ensures.kept _) c.in_ok-replies.ensures.ok.made c.revision-before.ensures c.revision-after.ensures (c.mark.ensures _)
+    marked_on _ _ _ _ _ _ _ _ _ _ c.self.view_is (c.reserve.ensures.kept _) c.in_ok-replies.ensures.ok.made c.is_heard_in-is_heard.ensures c.revision-before.ensures c.revision-after.ensures (c.mark.ensures _)
 
 pub returns-clause-reply : goal.returns-clause-reply
 returns-clause-reply g c = replied _ _ _ _ _ c.self.view_is c.in_ok-replies.ensures.ok.said

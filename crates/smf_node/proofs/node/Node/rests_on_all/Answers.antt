@@ -7,9 +7,9 @@ use Rattle.smf_node.proofs.node.Node.rests_on_all.Goals as goal
 
 pub returns-in-None : goal.returns-in-None
 returns-in-None g c = λ e.
-    none_left c.args.self.now c.args.name.now (sym c.restarter.ensures ∙ ap (λ o. option_map knowledge (option_copied o)) c.in-None.is)
+    none_left c.args.self.now.world c.args.name.now (sym c.restarter.ensures ∙ ap (λ o. option_map knowledge (option_copied o)) c.in-None.is)
 
 pub returns-in-Some : goal.returns-in-Some
 returns-in-Some g c = λ e.
-    all_rest c.args.self.now c.args.name.now (knowledge c.in-Some.restarter.now)
+    all_rest c.args.self.now.world c.args.name.now (knowledge c.in-Some.restarter.now)
     (sym c.restarter.ensures ∙ ap (λ o. option_map knowledge (option_copied o)) c.in-Some.is) (sym c.is_at_rest.ensures ∙ e)

@@ -1,0 +1,72 @@
+-- Who runs the methods that restarters begin: children, which answer what is asked of them, or nobody, and then the contract
+-- table alone answers.
+use Rattle.std.specs.Prelude.{◌≡◌, ◌⊎◌, ℕ, List, [], Bool, true, false, Option, Some, None}
+use Rattle.smf_contract.specs.declared.event.Event.{Event}
+use Rattle.smf_contract.specs.Entries.{empty}
+use Rattle.smf_edge.specs.Answers.{MayFail, Seen, Skills}
+use Rattle.smf_edge.specs.Ledgers.{Ledger, left}
+use Rattle.smf_edge.specs.Steps.{IsKilled, IsPolled, IsSpawned}
+use Rattle.smf_world.specs.declared.event.Event.TheVariants as events
+use Rattle.smf_world.specs.declared.event.SpawnAnswer.{SpawnAnswer}
+use Rattle.smf_world.specs.declared.event.SpawnAnswer.TheVariants as spawns
+use Rattle.smf_world.specs.Happens.{happens}
+use Rattle.smf_world.specs.World.{World}
+use Rattle.smf_machine.specs.declared.children.Wanted.{Wanted}
+use Rattle.smf_machine.specs.declared.requests.Ask.{Ask}
+use Rattle.smf_machine.specs.declared.requests.Ask.TheVariants.{Nothing, Unnumbered, Spawn, Kill}
+use Rattle.smf_machine.specs.Children.{happens_if, run_for}
+use Rattle.smf_machine.specs.Requests.{asked}
+
+-- what is answered to a spawn, to a kill and to a question for an event, by what was seen before and after
+pub record Rules : Type 1 where
+  pub spawns : Wanted → SpawnAnswer → Seen → Seen → Type 0
+  pub kills : ℕ → Bool → Seen → Seen → Type 0
+  pub polls : Option Event → Seen → Seen → Type 0
+
+-- ---- children
+
+-- a spawn is made where the service is followed; else, or where a run may be refused, nothing is made
+abbrev pub HasSpawned : Skills → Wanted → SpawnAnswer → Ledger → Ledger → Type 0
+HasSpawned k w spawns.Made l m = (k.follows w.style ≡ true) × IsSpawned (run_for w) l m
+HasSpawned k w spawns.Refused l m = (k.follows w.style ≡ true) × k.may_refuse l w.contract × (m ≡ l)
+HasSpawned k w spawns.NotFollowed l m = (k.follows w.style ≡ false) × (m ≡ l)
+
+-- a kill is done, or else no member was left or a device failed
+abbrev pub HasKilled : Skills → ℕ → Bool → Seen → Seen → Type 0
+HasKilled k id true s t = IsKilled id s.ledger t.ledger
+HasKilled k id false s t = ((left s.ledger id ≡ 0) ⊎ MayFail k s.failures t.failures) × (t.ledger ≡ s.ledger)
+
+-- an event is given, or else all is told or a device failed
+abbrev pub HasGiven : Skills → Option Event → Seen → Seen → Type 0
+HasGiven k (Some e) s t = IsPolled (Some e) s.ledger t.ledger
+HasGiven k None s t = IsPolled None s.ledger t.ledger ⊎ (MayFail k s.failures t.failures × (t.ledger ≡ s.ledger))
+
+abbrev pub rules_of : Skills → Rules
+rules_of k = record { spawns = λ w a s t. HasSpawned k w a s.ledger t.ledger; kills = HasKilled k; polls = HasGiven k }
+
+-- ---- nobody
+
+-- what is seen of nobody
+abbrev pub unseen : Seen
+unseen = record { ledger = record { notes = []; table = empty; due = []; pending = [] }; failures = 0 }
+
+-- each spawn and each kill is made, and there is no event
+abbrev pub table_rules : Rules
+table_rules =
+    record {
+      spawns = λ w a s t. (a ≡ spawns.Made) × (t ≡ s);
+      kills = λ id did s t. (did ≡ true) × (t ≡ s);
+      polls = λ o s t. (o ≡ None) × (t ≡ s);
+    }
+
+-- ---- a turn of a restarter for an instance
+
+-- it is taken with the answer to what it asks for; a kill that is not done is owed again
+abbrev pub TickedBy : Rules → Ask → List ℕ → ℕ → World → Seen → World → Seen → Type 0
+TickedBy r Nothing name n w s v t = (v ≡ happens w (events.Tick name n spawns.Made)) × (t ≡ s)
+TickedBy r Unnumbered name n w s v t = (v ≡ happens w (events.Tick name n spawns.Refused)) × (t ≡ s)
+TickedBy r (Spawn wanted) name n w s v t = (a : SpawnAnswer) × r.spawns wanted a s t × (v ≡ happens w (events.Tick name n a))
+TickedBy r (Kill id) name n w s v t = (did : Bool) × r.kills id did s t × (v ≡ happens_if did w (events.Tick name n spawns.Made))
+
+abbrev pub HasTicked : Rules → List ℕ → ℕ → World → Seen → World → Seen → Type 0
+HasTicked r name n w s v t = TickedBy r (asked w name n) name n w s v t

@@ -1,0 +1,167 @@
+ghost use Rattle.std.specs.Option.{option_copied};
+ghost use Rattle.smf_machine.specs.Parts.{knowledge};
+ghost use Rattle.std.specs.Prelude.{◌≡◌, find, option_map, Some, IfOk};
+ghost use Rattle.smf_machine.specs.Requests.{asked, asked_by, asked_of, first_of, is_held_by, is_holder, is_instance, kill_if, wanted, wanted_in};
+
+use crate::children::Wanted;
+use crate::parts::System;
+use smf_contract::{Contract, Holder, Table, Terms};
+use smf_fmri::{InstanceFmri, Number};
+use smf_model::Journal;
+use smf_restarter::{Begun, Call, KnownInstance, Restarter};
+use std::alloc::AllocError;
+
+/// What the turn of a restarter for an instance asks of who runs methods.
+#[derive(Drop)]
+pub enum Ask {
+    Nothing,
+    /// A process for which there is no contract.
+    Unnumbered,
+    Spawn(Wanted),
+    /// The end of all members of a contract.
+    Kill(Number),
+}
+
+/// The instance of a number.
+fn instance_in(instances: &[KnownInstance], instance: u64) -> Option<&KnownInstance>
+    ensures { option_copied result ≡ find (is_instance instance) instances.now }
+{
+    instances.iter().find(|known| known.instance == instance)
+}
+
+/// The method that is begun.
+fn first_of(begun: &[Begun]) -> Option<&Begun>
+    ensures { option_copied result ≡ first_of begun.now }
+{
+    begun.first()
+}
+
+fn is_holder(actor: u64, holder: Holder) -> bool
+    ensures { result ≡ is_holder actor holder }
+{
+    match holder {
+        Holder::Held(a) => a == actor,
+        Holder::Inherited => false,
+        Holder::Abandoned => false,
+    }
+}
+
+/// Whether an actor holds a contract.
+fn is_held_by(actor: u64, contract: &Option<Contract>) -> bool
+    ensures { result ≡ is_held_by actor contract.now }
+{
+    match contract {
+        Some(found) => is_holder(actor, found.holder),
+        None => false,
+    }
+}
+
+fn kill_if(is_held: bool, id: Number) -> Ask
+    ensures { result ≡ kill_if is_held id }
+{
+    if is_held { Ask::Kill(id) } else { Ask::Nothing }
+}
+
+/// A process for a method that is begun, of an instance that is known.
+fn want(
+    contract: Number,
+    cookie: u64,
+    terms: Terms,
+    known: &KnownInstance,
+    begun: &Begun,
+) -> Result<Ask, AllocError>
+    ensures { IfOk result (λ ask. ask ≡ wanted contract cookie terms (Some known.now) (Some begun.now)) }
+{
+    let command = begun.command.clone()?;
+    let instance = known.name.clone()?;
+    Ok(Ask::Spawn(Wanted {
+        contract,
+        cookie,
+        style: known.row.duration,
+        terms,
+        command,
+        method: begun.method,
+        instance,
+    }))
+}
+
+fn want_if(
+    contract: Number,
+    cookie: u64,
+    terms: Terms,
+    known: Option<&KnownInstance>,
+    begun: Option<&Begun>,
+) -> Result<Ask, AllocError>
+    ensures { IfOk result (λ ask. ask ≡ wanted contract cookie terms (option_copied known.entry) (option_copied begun.entry)) }
+{
+    let Some(known) = known else {
+        return Ok(Ask::Unnumbered);
+    };
+    match begun {
+        Some(begun) => want(contract, cookie, terms, known, begun),
+        None => Ok(Ask::Unnumbered),
+    }
+}
+
+fn want_in(
+    contract: Option<Number>,
+    cookie: u64,
+    terms: Terms,
+    known: Option<&KnownInstance>,
+    begun: Option<&Begun>,
+) -> Result<Ask, AllocError>
+    ensures { IfOk result (λ ask. ask ≡ wanted_in contract cookie terms (option_copied known.entry) (option_copied begun.entry)) }
+{
+    match contract {
+        Some(contract) => want_if(contract, cookie, terms, known, begun),
+        None => Ok(Ask::Unnumbered),
+    }
+}
+
+/// What a call of a restarter asks of children.
+fn asked_by(
+    table: &Table,
+    restarter: &Restarter,
+    instance: u64,
+    begun: Option<&Begun>,
+    call: Call,
+) -> Result<Ask, AllocError>
+    ensures { IfOk result (λ ask. ask ≡ asked_by table.now.table restarter.now.known instance (option_copied begun.entry) call) }
+{
+    match call {
+        Call::Spawn { cookie, terms } => {
+            let known = instance_in(restarter.instances(), instance);
+            want_in(table.next_contract(), cookie, terms, known, begun)
+        }
+        Call::Kill(id) => Ok(kill_if(is_held_by(restarter.actor(), &table.contract(id)), id)),
+        Call::Nothing => Ok(Ask::Nothing),
+        Call::List => Ok(Ask::Nothing),
+        Call::Adopt(_) => Ok(Ask::Nothing),
+    }
+}
+
+fn asked_in(table: &Table, restarter: &Restarter, instance: u64) -> Result<Ask, AllocError>
+    ensures { IfOk result (λ ask. ask ≡ asked_of table.now.table (Some restarter.now.known) instance) }
+{
+    let reply = restarter.ticked(instance)?;
+    asked_by(
+        table,
+        restarter,
+        instance,
+        first_of(reply.begun.as_slice()),
+        reply.call,
+    )
+}
+
+impl<J: Journal> System<J> {
+    /// What the turn of a restarter for an instance asks of who runs methods.
+    #[tactic(auto, unfolding(crate::specs::Requests::asked))]
+    pub(crate) fn ask_of(&self, name: &InstanceFmri, instance: u64) -> Result<Ask, AllocError>
+        ensures { IfOk result (λ ask. ask ≡ asked self.now name.now instance) }
+    {
+        match self.restarter(name) {
+            None => Ok(Ask::Nothing),
+            Some(restarter) => asked_in(self.table(), restarter, instance),
+        }
+    }
+}

@@ -1,0 +1,114 @@
+ghost use Rattle.std.specs.Prelude.{◌≡◌, IfOk, OnErr};
+ghost use Rattle.smf_edge.specs.Answers.{Seen};
+ghost use Rattle.smf_machine.specs.Runners.{Rules};
+
+use crate::children::Wanted;
+use smf_contract::Event;
+use smf_edge::{Kids, KidsFault};
+use smf_fmri::{InstanceFmri, Number};
+use smf_world::SpawnAnswer;
+use std::alloc::AllocError;
+
+/// Who runs the methods that restarters begin. A call fails only for want of memory, and then what is kept stays.
+pub trait Runner {
+    /// What is kept, and how often a device failed.
+    ghost seen: { Self → Seen };
+
+    ghost rules: { Rules };
+
+    /// A process is asked for.
+    fn run_method(
+        &mut self,
+        name: &InstanceFmri,
+        wanted: &Wanted,
+    ) -> Result<SpawnAnswer, AllocError>
+        ensures answered { IfOk result (λ answer. rules.spawns wanted.now answer (seen self.old) (seen self.new)) }
+        ensures kept { OnErr result ((seen self.new).ledger ≡ (seen self.old).ledger) };
+
+    /// The end of all members of a contract is asked for. Says whether it was done.
+    fn end_contract(&mut self, id: Number) -> Result<bool, AllocError>
+        ensures answered { IfOk result (λ did. rules.kills id did (seen self.old) (seen self.new)) }
+        ensures kept { OnErr result ((seen self.new).ledger ≡ (seen self.old).ledger) };
+
+    /// The next event is asked for. None is given if a device failed.
+    fn next_event(&mut self) -> Result<Option<Event>, AllocError>
+        ensures answered { IfOk result (λ event. rules.polls event (seen self.old) (seen self.new)) }
+        ensures kept { OnErr result ((seen self.new).ledger ≡ (seen self.old).ledger) };
+}
+
+/// Children run methods, and answer by their own clauses.
+impl<K: Kids> Runner for K {
+    ghost use Rattle.smf_edge.specs.Answers.{seen as seen_of};
+    ghost use Rattle.smf_machine.specs.Runners.{rules_of};
+
+    ghost seen = { λ k. seen_of (K.ledger k) (K.failures k) };
+
+    ghost rules = { rules_of K.skills };
+
+    fn run_method(
+        &mut self,
+        name: &InstanceFmri,
+        wanted: &Wanted,
+    ) -> Result<SpawnAnswer, AllocError> {
+        let made = self.spawn(
+            wanted.contract,
+            wanted.cookie,
+            wanted.style,
+            wanted.terms,
+            &wanted.command,
+            name,
+            wanted.method,
+            &wanted.instance,
+        );
+        match made {
+            Ok(()) => Ok(SpawnAnswer::Made),
+            Err(KidsFault::NotFollowed) => Ok(SpawnAnswer::NotFollowed),
+            Err(KidsFault::Memory) => Err(AllocError),
+            Err(_) => Ok(SpawnAnswer::Refused),
+        }
+    }
+
+    fn end_contract(&mut self, id: Number) -> Result<bool, AllocError> {
+        match self.kill(id) {
+            Ok(()) => Ok(true),
+            Err(KidsFault::Memory) => Err(AllocError),
+            Err(_) => Ok(false),
+        }
+    }
+
+    fn next_event(&mut self) -> Result<Option<Event>, AllocError> {
+        match self.poll() {
+            Ok(event) => Ok(event),
+            Err(KidsFault::Memory) => Err(AllocError),
+            Err(_) => Ok(None),
+        }
+    }
+}
+
+/// Nobody runs methods: the contract table alone answers. Each spawn and each kill is made, and nothing is told.
+#[derive(Drop)]
+pub struct NoChildren {}
+
+impl Runner for NoChildren {
+    ghost use Rattle.smf_machine.specs.Runners.{table_rules, unseen};
+
+    ghost seen = { λ _. unseen };
+
+    ghost rules = { table_rules };
+
+    fn run_method(
+        &mut self,
+        _name: &InstanceFmri,
+        _wanted: &Wanted,
+    ) -> Result<SpawnAnswer, AllocError> {
+        Ok(SpawnAnswer::Made)
+    }
+
+    fn end_contract(&mut self, _id: Number) -> Result<bool, AllocError> {
+        Ok(true)
+    }
+
+    fn next_event(&mut self) -> Result<Option<Event>, AllocError> {
+        Ok(None)
+    }
+}
