@@ -1,18 +1,11 @@
 use smf_edge::OsKids;
 use smf_lines::{LineReader, NotedReader};
-use smf_serve::{serve, serve_cfg, tell};
-use sqlite::{Connection, Error, ErrorCode};
+use smf_program::{tell_no_database, tell_no_input};
+use smf_serve::{serve, serve_cfg};
+use sqlite::Connection;
 use std::fs::File;
 use std::io;
 use std::io::BufReader;
-
-/// What is told of a database that the library does not open.
-fn refusal_of(fault: Error) -> &'static str {
-    match fault {
-        Error::SqliteFailure(ErrorCode::OutOfMemory) => "smf: no memory",
-        _ => "smf: store: database failed",
-    }
-}
 
 /// Does a script over the database in a file, with processes of the system.
 pub(crate) fn run_over(rt: &HostRuntime, database: &str) -> io::Result<u8> {
@@ -29,7 +22,7 @@ pub(crate) fn run_over(rt: &HostRuntime, database: &str) -> io::Result<u8> {
             &mut errors,
             &mut kids,
         ),
-        Err(fault) => tell(&mut errors, refusal_of(fault)),
+        Err(fault) => tell_no_database(&mut errors, &fault),
     })
 }
 
@@ -39,7 +32,7 @@ pub(crate) fn cfg_over(rt: &HostRuntime, lines: Option<&str>, database: &str) ->
     match lines {
         Some(path) => {
             let Ok(file) = File::open(rt, path) else {
-                return Ok(tell(&mut rt.stderr(), "smf: input failed"));
+                return Ok(tell_no_input(&mut rt.stderr()));
             };
             let mut reader = NotedReader::new(BufReader::new(alloc, file)?);
             Ok(cfg_of(rt, &mut reader, database))
@@ -56,6 +49,6 @@ fn cfg_of<R: LineReader>(rt: &HostRuntime, reader: &mut R, database: &str) -> u8
     let mut errors = rt.stderr();
     match Connection::open(rt, database) {
         Ok(conn) => serve_cfg(rt.alloc(), conn, reader, &mut io::writer(rt), &mut errors),
-        Err(fault) => tell(&mut errors, refusal_of(fault)),
+        Err(fault) => tell_no_database(&mut errors, &fault),
     }
 }

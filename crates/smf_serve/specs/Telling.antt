@@ -48,6 +48,7 @@ open_text (opens.Version n) = version_text n
 open_text (opens.Damaged table) = table_text table
 open_text opens.TooManyInstances = codes "smf: store: too many instances"
 
--- it was told; or memory ran out for the text, and that was told
+-- it was told; of a version its text had to be made, so memory may have run out for that, and that was told
 abbrev pub IsOpenTold : (Error → Type 0) → Option (List ℕ) → Option (List ℕ) → OpenFault → Type 0
-IsOpenTold fails old new fault = IsTold fails old new (open_text fault) ⊎ IsTold fails old new no_memory
+IsOpenTold fails old new (opens.Version n) = IsTold fails old new (version_text n) ⊎ IsTold fails old new no_memory
+IsOpenTold fails old new fault = IsTold fails old new (open_text fault)

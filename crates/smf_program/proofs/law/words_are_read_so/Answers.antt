@@ -1,0 +1,25 @@
+use Rattle.std.proofs.Common.{refl}
+use Rattle.clap.proofs.OnLiterals.{clap_on_literals}
+use Rattle.smf_program.specs.Tasks.{task_of}
+use Rattle.smf_program.specs.Words.{smf_app}
+use Rattle.smf_program.proofs.law.words_are_read_so.Goals as goal
+
+pub returns-clause-tasks : goal.returns-clause-tasks
+unfolding task_of smf_app clap_on_literals
+returns-clause-tasks c = (refl, refl, refl)
+
+pub returns-clause-files : goal.returns-clause-files
+unfolding task_of smf_app clap_on_literals
+returns-clause-files c = (refl, refl)
+
+pub returns-clause-database : goal.returns-clause-database
+unfolding smf_app clap_on_literals
+returns-clause-database c = (refl, refl)
+
+pub returns-clause-others : goal.returns-clause-others
+unfolding task_of smf_app clap_on_literals
+returns-clause-others c = (refl, refl, refl, refl)
+
+pub returns-clause-help : goal.returns-clause-help
+unfolding smf_app clap_on_literals
+returns-clause-help c = (refl, refl)

@@ -1,0 +1,13 @@
+use Rattle.std.proofs.Common.{◌∙◌, ap, ap₂}
+use Rattle.clap.specs.Words.{App, with_subcommand}
+use Rattle.smf_program.specs.Words.{smf_app}
+use Rattle.smf_program.proofs.words.smf_command.Goals as goal
+
+pub returns : goal.returns
+unfolding smf_app
+returns c =
+    c.in_ok-command.ensures.shape c.in_ok-cfg.ensures.local
+    ∙ ap₂ with_subcommand (c.in_ok-subcommand-2.ensures.shape c.in_ok-run.ensures.local
+    ∙ ap₂ with_subcommand (c.in_ok-subcommand.ensures.shape c.sim_command.ensures.local
+    ∙ ap₂ with_subcommand c.bare_command.ensures (ap (λ (a : App). a.top) c.sim_command.ensures.app)) (ap (λ (a : App). a.top) c.in_ok-run.ensures.app))
+    (ap (λ (a : App). a.top) c.in_ok-cfg.ensures.app)

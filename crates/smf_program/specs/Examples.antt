@@ -1,0 +1,40 @@
+-- What words of the program ask for, one example for each rule.
+use Rattle.std.specs.Prelude.{◌≡◌, ℕ, List, [], ◌∷◌, codes, Some, None}
+use Rattle.clap.specs.Words.{fault_of}
+use Rattle.clap.specs.declared.error.kind.ErrorKind.TheVariants as kinds
+use Rattle.smf_program.specs.Tasks.{task_of}
+use Rattle.smf_program.specs.Tasks.TaskTexts.{Sim, Run, Cfg}
+use Rattle.smf_program.specs.Words.{smf_app}
+
+-- the program's name is the first of its words
+abbrev pub smf : List (List ℕ) → List (List ℕ)
+smf words = codes "smf" ∷ words
+
+abbrev pub TasksAreRead : Type 0
+TasksAreRead =
+    (task_of (smf (codes "sim" ∷ [])) ≡ Some Sim)
+    × (task_of (smf (codes "run" ∷ codes "a.db" ∷ [])) ≡ Some (Run (codes "a.db")))
+    × (task_of (smf (codes "cfg" ∷ codes "a.db" ∷ [])) ≡ Some (Cfg None (codes "a.db")))
+
+-- before the database or behind it, joined or not
+abbrev pub FilesAreRead : Type 0
+FilesAreRead =
+    (task_of (smf (codes "cfg" ∷ codes "-f" ∷ codes "x" ∷ codes "a.db" ∷ [])) ≡ Some (Cfg (Some (codes "x")) (codes "a.db")))
+    × (task_of (smf (codes "cfg" ∷ codes "a.db" ∷ codes "-fx" ∷ [])) ≡ Some (Cfg (Some (codes "x")) (codes "a.db")))
+
+abbrev pub DatabaseIsWanted : Type 0
+DatabaseIsWanted =
+    (fault_of smf_app (smf (codes "run" ∷ [])) ≡ kinds.MissingRequiredArgument ∷ [])
+    × (fault_of smf_app (smf (codes "cfg" ∷ codes "-f" ∷ codes "x" ∷ [])) ≡ kinds.MissingRequiredArgument ∷ [])
+
+abbrev pub OthersAreRefused : Type 0
+OthersAreRefused =
+    (task_of (smf []) ≡ None)
+    × (task_of (smf (codes "walk" ∷ [])) ≡ None)
+    × (task_of (smf (codes "sim" ∷ codes "a.db" ∷ [])) ≡ None)
+    × (task_of (smf (codes "run" ∷ codes "a.db" ∷ codes "b.db" ∷ [])) ≡ None)
+
+abbrev pub HelpIsShown : Type 0
+HelpIsShown =
+    (fault_of smf_app (smf (codes "--help" ∷ [])) ≡ kinds.DisplayHelp ∷ [])
+    × (fault_of smf_app (smf (codes "cfg" ∷ codes "-h" ∷ [])) ≡ kinds.DisplayHelp ∷ [])

@@ -1,0 +1,48 @@
+-- What the words of the program ask for.
+use Rattle.std.specs.Prelude.{ℕ, List, [], ◌∷◌, nat_eq, codes, if◌then◌else◌, Option, Some, None, option_map}
+use Rattle.std.specs.Cmp.Lexicographic.{pointwise}
+use Rattle.clap.specs.Words.{Kinds, Row, fault_of, first_of, found_of, rows_of, subcommand_of}
+use Rattle.clap.specs.declared.parser.matches.ArgMatches.{ArgMatches}
+use Rattle.smf_program.specs.declared.task.Task.{Task}
+use Rattle.smf_program.specs.declared.task.Task.TheVariants as tasks
+use Rattle.smf_program.specs.Words.{smf_app}
+
+-- a task by its texts
+pub data TaskTexts : Type 0 where
+  Sim : TaskTexts
+  Run : List ℕ → TaskTexts
+  Cfg : Option (List ℕ) → List ℕ → TaskTexts
+
+abbrev pub texts_of : Task → TaskTexts
+texts_of tasks.Sim = Sim
+texts_of (tasks.Run database) = Run database.now
+texts_of (tasks.Cfg lines database) = Cfg (option_map (λ s. s.now) lines) database.now
+
+abbrev pub rows_in : ArgMatches → List Row
+rows_in m = rows_of (found_of m)
+
+abbrev pub run_in : List Row → Option TaskTexts
+run_in rows = option_map Run (first_of (codes "DB") rows)
+
+abbrev pub cfg_in : List Row → Option TaskTexts
+cfg_in rows = option_map (Cfg (first_of (codes "FILE") rows)) (first_of (codes "DB") rows)
+
+-- the task of a subcommand, by its name and what stands behind it
+abbrev pub task_at : List ℕ → List Row → Option TaskTexts
+task_at name rows =
+    if pointwise nat_eq name (codes "sim") then Some Sim
+    else if pointwise nat_eq name (codes "run") then run_in rows
+    else if pointwise nat_eq name (codes "cfg") then cfg_in rows
+    else None
+
+abbrev pub task_in : Option (List ℕ × List Row) → Option TaskTexts
+task_in None = None
+task_in (Some found) = task_at found.0 found.1
+
+-- what the words ask for; none where clap does not take them, as where they ask for help
+abbrev pub unless_refused : Kinds → Option TaskTexts → Option TaskTexts
+unless_refused [] task = task
+unless_refused (kind ∷ kinds) task = None
+
+unfoldable pub task_of : List (List ℕ) → Option TaskTexts
+task_of words = unless_refused (fault_of smf_app words) (task_in (subcommand_of smf_app words))

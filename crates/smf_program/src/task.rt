@@ -1,0 +1,95 @@
+ghost use Rattle.std.specs.Prelude.{◌≡◌, IfErr, IfOk, IsTrue, Some, [], map, option_map};
+ghost use Rattle.std.specs.String.{string_bytes};
+ghost use Rattle.clap.specs.Words.{HasKind, app_of, fault_of, is_simple, is_simple_and_free, subcommand_of, subcommand_rows_of};
+ghost use Rattle.smf_program.specs.Refusals.{IsWhy};
+ghost use Rattle.smf_program.specs.Tasks.{cfg_in, rows_in, run_in, task_at, task_in, task_of, texts_of};
+
+use crate::refusal::{Refusal, refusal_of};
+use crate::words::smf_command;
+use clap::{ArgMatches, Command, Error};
+use std::alloc::Global;
+
+/// What the program's words ask for.
+#[derive(Clone, Copy)]
+pub enum Task<'a> {
+    /// A script in memory.
+    Sim,
+    /// A script over the database in a file.
+    Run {
+        database: &'a str,
+    },
+    /// Lines of svccfg, of a file or of standard input, over the database in a file.
+    Cfg {
+        lines: Option<&'a str>,
+        database: &'a str,
+    },
+}
+
+fn run_in<'a>(found: &ArgMatches<'a>) -> Option<Task<'a>>
+    ensures { option_map texts_of result ≡ run_in (rows_in found.now) }
+{
+    match found.get_str("DB") {
+        Some(database) => Some(Task::Run { database }),
+        None => None,
+    }
+}
+
+fn cfg_in<'a>(found: &ArgMatches<'a>) -> Option<Task<'a>>
+    ensures { option_map texts_of result ≡ cfg_in (rows_in found.now) }
+{
+    let lines = found.get_str("FILE");
+    match found.get_str("DB") {
+        Some(database) => Some(Task::Cfg { lines, database }),
+        None => None,
+    }
+}
+
+/// The task of a subcommand, by its name and what clap found behind it.
+fn task_at<'a>(name: &str, found: &ArgMatches<'a>) -> Option<Task<'a>>
+    ensures { option_map texts_of result ≡ task_at name.now (rows_in found.now) }
+{
+    match name {
+        "sim" => Some(Task::Sim),
+        "run" => run_in(found),
+        "cfg" => cfg_in(found),
+        _ => None,
+    }
+}
+
+fn task_in<'a>(found: &ArgMatches<'a>) -> Option<Task<'a>>
+    ensures { option_map texts_of result ≡ task_in (subcommand_rows_of found.now) }
+{
+    match found.subcommand() {
+        Some((name, inside)) => task_at(name, inside),
+        None => None,
+    }
+}
+
+/// The task that clap reads, by a command that takes the words.
+fn parsed_by<'a>(command: Command<'a>, words: &'a [String]) -> Result<Option<Task<'a>>, Error>
+    requires simple { IsTrue (is_simple (app_of command)) }
+    requires free { IsTrue (is_simple_and_free (app_of command)) }
+    ensures taken { IfOk result (λ _. fault_of (app_of command.entry) (map string_bytes words.entry.now) ≡ []) }
+    ensures task { IfOk result (λ task.
+        option_map texts_of task ≡ task_in (subcommand_of (app_of command.entry) (map string_bytes words.entry.now))) }
+    ensures err { IfErr result (λ e. HasKind (fault_of (app_of command.entry) (map string_bytes words.entry.now)) e) }
+{
+    let found = command.try_get_matches_from(words)?;
+    Ok(task_in(&found))
+}
+
+/// Reads the program's words, of which the first is its name. Where no task is read, the refusal says why.
+pub fn read_task<'a>(alloc: Global, words: &'a [String]) -> Result<Task<'a>, Refusal>
+    ensures ok { IfOk result (λ task. task_of (map string_bytes words.entry.now) ≡ Some (texts_of task)) }
+    ensures err { IfErr result (λ refusal. IsWhy refusal (map string_bytes words.entry.now)) }
+{
+    let command = match smf_command(alloc) {
+        Ok(command) => command,
+        Err(_) => return Err(Refusal::Memory),
+    };
+    match parsed_by(command, words) {
+        Ok(Some(task)) => Ok(task),
+        Ok(None) => Err(Refusal::BadUsage(String::new(alloc))),
+        Err(e) => Err(refusal_of(alloc, &e)),
+    }
+}

@@ -1,0 +1,41 @@
+ghost use Rattle.std.specs.Prelude.{◌≡◌, codes};
+ghost use Rattle.smf_cfg.specs.Serving.{IsTold};
+ghost use Rattle.smf_program.specs.Telling.{database_text};
+
+use smf_cfg::tell;
+use smf_lines::TextWriter;
+use sqlite::{Error, ErrorCode};
+
+/// What is told of a database that the library does not open.
+fn database_text(fault: &Error) -> &'static str
+    ensures { result.now ≡ database_text fault.now }
+{
+    match fault {
+        Error::SqliteFailure(ErrorCode::OutOfMemory) => "smf: no memory",
+        _ => "smf: store: database failed",
+    }
+}
+
+/// Says why the library did not open a database, as far as that can be written, and gives the status of such a run.
+pub fn tell_no_database<E: TextWriter>(errors: &mut E, fault: &Error) -> u8
+    ensures status { result ≡ 3 }
+    ensures told { IsTold E.write_fails (E.contents errors.old) (E.contents errors.new) (database_text fault.now) }
+{
+    tell(errors, database_text(fault))
+}
+
+/// Says that a file of lines does not open, as far as that can be written, and gives the status of such a run.
+pub fn tell_no_input<E: TextWriter>(errors: &mut E) -> u8
+    ensures status { result ≡ 3 }
+    ensures told { IsTold E.write_fails (E.contents errors.old) (E.contents errors.new) (codes "smf: input failed") }
+{
+    tell(errors, "smf: input failed")
+}
+
+/// Says that a task was not begun for want of memory, as far as that can be written, and gives the status of such a run.
+pub fn tell_no_memory<E: TextWriter>(errors: &mut E) -> u8
+    ensures status { result ≡ 3 }
+    ensures told { IsTold E.write_fails (E.contents errors.old) (E.contents errors.new) (codes "smf: no memory") }
+{
+    tell(errors, "smf: no memory")
+}

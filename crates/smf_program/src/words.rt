@@ -1,0 +1,70 @@
+ghost use Rattle.std.specs.Prelude.{◌≡◌, IfOk, false};
+ghost use Rattle.clap.specs.Words.{app_of, rule_of};
+ghost use Rattle.clap.specs.declared.builder.command.Command.TheViews.{out-Command as fields_of};
+ghost use Rattle.smf_program.specs.Words.{bare_app, cfg_app, database_rule, file_rule, run_app, sim_app, smf_app};
+
+use clap::{Arg, Command};
+use std::alloc::{AllocError, Global};
+
+fn file<'a>(alloc: Global) -> Arg<'a>
+    ensures rule { rule_of result ≡ file_rule }
+    ensures local { result.global ≡ false }
+{
+    Arg::new(alloc, "FILE").short('f')
+}
+
+fn database<'a>(alloc: Global) -> Arg<'a>
+    ensures rule { rule_of result ≡ database_rule }
+    ensures local { result.global ≡ false }
+{
+    Arg::new(alloc, "DB").required(true)
+}
+
+fn sim_command<'a>(alloc: Global) -> Command<'a>
+    ensures app { app_of result ≡ sim_app }
+    ensures local { (fields_of result).has_globals ≡ false }
+{
+    Command::new(alloc, "sim").about(
+        "Does a script over a repository in memory, with simulated processes",
+    )
+}
+
+fn run_command<'a>(alloc: Global) -> Result<Command<'a>, AllocError>
+    ensures app { IfOk result (λ c. app_of c ≡ run_app) }
+    ensures local { IfOk result (λ c. (fields_of c).has_globals ≡ false) }
+{
+    let command = Command::new(alloc, "run")
+        .about("Does a script over a database, with the processes of its services")
+        .arg(database(alloc))?;
+    Ok(command)
+}
+
+fn cfg_command<'a>(alloc: Global) -> Result<Command<'a>, AllocError>
+    ensures app { IfOk result (λ c. app_of c ≡ cfg_app) }
+    ensures local { IfOk result (λ c. (fields_of c).has_globals ≡ false) }
+{
+    let command = Command::new(alloc, "cfg")
+        .about("Does lines of svccfg over a database")
+        .arg(file(alloc))?
+        .arg(database(alloc))?;
+    Ok(command)
+}
+
+fn bare_command<'a>(alloc: Global) -> Command<'a>
+    ensures { app_of result ≡ bare_app }
+{
+    Command::new(alloc, "smf").subcommand_required(true)
+}
+
+/// The program as clap knows it: `sim`, `run` with a database, or `cfg` with a database and, behind `-f`, a file of lines.
+pub(crate) fn smf_command<'a>(alloc: Global) -> Result<Command<'a>, AllocError>
+    ensures { IfOk result (λ c. app_of c ≡ smf_app) }
+{
+    let run = run_command(alloc)?;
+    let cfg = cfg_command(alloc)?;
+    let command = bare_command(alloc)
+        .subcommand(sim_command(alloc))?
+        .subcommand(run)?
+        .subcommand(cfg)?;
+    Ok(command)
+}
