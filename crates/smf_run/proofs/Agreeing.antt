@@ -119,7 +119,7 @@ together_leaves k stores _ p old after new e m h = absurd m
 line_leaves : (k : Skills) (stores : RepoFault → Type 0) (request : Request) (s : Session) (old new : Seen) (after : Progress) (e : NodeFault) → LineFails k stores request s old new after e → Holds s.progress.world old.ledger → AgreesOrDropped after.world new.ledger
 line_leaves k stores request s old new after e (fails_alone none fails same) h =
     inl ((holds_as after after old.ledger new.ledger refl (ap (λ (x : Seen). x.ledger) same) (holds_apart s.progress after old.ledger (fails_apart stores s request after e none fails) h)).1)
-line_leaves k stores request s old new after e (fails_together may left) h = together_leaves k stores request s.progress old after new e left h
+line_leaves k stores request s old new after e (fails_together left) h = together_leaves k stores request s.progress old after new e left h
 
 still_leaves : (p after : Progress) (old new : Seen) → after ≡ p → new ≡ old → Holds p.world old.ledger → AgreesOrDropped after.world new.ledger
 still_leaves p after old new is same h = inl ((holds_as p after old.ledger new.ledger is (ap (λ (x : Seen). x.ledger) same) h).1)

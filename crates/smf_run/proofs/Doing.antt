@@ -13,7 +13,7 @@ use Rattle.smf_run.specs.Failing.{LineFails, fails_alone, fails_together}
 use Rattle.smf_run.specs.Lines.{AskedBy, DoesWith, HasBooted, HasDone, HasPut, booted, deed, effect, happening, together}
 use Rattle.smf_words.specs.declared.request.Request.{Request}
 use Rattle.smf_words.specs.declared.request.Request.TheVariants as requests
-use Rattle.smf_script.specs.Failing.{MayEnd}
+use Rattle.smf_script.proofs.May.{may_memory}
 use Rattle.smf_script.specs.Session.{Session}
 use Rattle.smf_world.specs.declared.event.Event.TheVariants as events
 use Rattle.smf_world.specs.declared.event.ProcessEvent.{ProcessEvent}
@@ -65,18 +65,14 @@ boot_done k request s old new q b b' r is h taken =
     subst (λ x. IfOk r (λ fine. HasPut (λ text. HasDone k x s old new (effect (record { progress = q; selection = s.selection }) fine text)) b b')) (sym is)
     (together_by k requests.Boot s old new q b b' r (booted_by k s old new q b b' r h taken))
 
--- memory ran out
-undone : (stores : RepoFault → Type 0) (e : NodeFault) → e ≡ Memory → MayEnd stores e
-undone stores e is = rw is tt
-
 -- no move was made
 stays_so : (w : World) (l : Ledger) → Moves w w l l
 stays_so w l = (0, (refl, refl))
 
 -- of a line nothing was done
 pub unread : (k : Skills) (stores : RepoFault → Type 0) (request : Request) (s : Session) (old : Seen) (e : NodeFault) → e ≡ Memory → LineFails k stores request s old old s.progress e
-unread k stores (requests.Process word what) s old e is = fails_together (undone stores e is) (is, refl, refl)
-unread k stores (requests.Join word) s old e is = fails_together (undone stores e is) (is, refl, refl)
-unread k stores (requests.Settle rounds) s old e is = fails_together (undone stores e is) (inl (is, refl, refl), stays_so s.progress.world old.ledger)
-unread k stores requests.Boot s old e is = fails_together (undone stores e is) (inl is, refl, inl refl)
-unread k stores _ s old e is = fails_alone refl (record { may = undone stores e is; left = inl refl }) refl
+unread k stores (requests.Process word what) s old e is = fails_together (is, refl, refl)
+unread k stores (requests.Join word) s old e is = fails_together (is, refl, refl)
+unread k stores (requests.Settle rounds) s old e is = fails_together (inl (is, refl, refl), stays_so s.progress.world old.ledger)
+unread k stores requests.Boot s old e is = fails_together (inl is, refl, inl refl)
+unread k stores _ s old e is = fails_alone refl (record { may = may_memory stores _ e is; left = inl refl }) refl

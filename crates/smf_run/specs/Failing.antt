@@ -13,7 +13,7 @@ use Rattle.smf_node.specs.Rounds.{HasSettled, course}
 use Rattle.smf_edge.specs.Answers.{Seen, Skills}
 use Rattle.smf_words.specs.declared.request.Request.{Request}
 use Rattle.smf_words.specs.declared.request.Request.TheVariants as requests
-use Rattle.smf_script.specs.Failing.{MayEnd, RequestFails}
+use Rattle.smf_script.specs.Failing.{RequestFails}
 use Rattle.smf_script.specs.Session.{Session, asks_children}
 use Rattle.smf_world.specs.declared.event.Event.TheVariants as events
 use Rattle.smf_world.specs.declared.schedule.Settled.{Settled}
@@ -47,4 +47,4 @@ LeavesWith k stores _ p old after new e = ⊥
 -- a line that asked for this ended with a fault of the node, and left this
 pub data LineFails (k : Skills) (stores : RepoFault → Type 0) (request : Request) (s : Session) (old new : Seen) (after : Progress) (e : NodeFault) : Type 0 where
   fails_alone : asks_children request ≡ false → RequestFails stores s request after e → new ≡ old → LineFails k stores request s old new after e
-  fails_together : MayEnd stores e → LeavesWith k stores request s.progress old after new e → LineFails k stores request s old new after e
+  fails_together : LeavesWith k stores request s.progress old after new e → LineFails k stores request s old new after e

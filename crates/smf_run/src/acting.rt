@@ -6,7 +6,7 @@ ghost use Rattle.smf_node.specs.Faults.{refused};
 ghost use Rattle.smf_run.specs.Asks.{HadMemory, HasAsked, answer_text, said, to_act, to_join, to_reboot, why_text};
 ghost use Rattle.smf_run.specs.Failing.{IsUnbooted};
 ghost use Rattle.smf_run.specs.Lines.{AskedBy, HasPut, booted, contract_of, deed, happening};
-ghost use Rattle.smf_script.specs.Failing.{MayEnd};
+ghost use Rattle.smf_script.specs.Faults.{MayStop};
 ghost use Rattle.smf_world.specs.declared.event.Event.TheVariants as events;
 ghost use Rattle.smf_world.specs.Reached.{IsLater};
 ghost use Rattle.smf_world.specs.Schedule.{on};
@@ -160,7 +160,7 @@ fn restart<J: Journal>(node: &mut Node<J>) -> Result<bool, NodeFault>
     ensures err { OnErr result (node.new ≡ node.old) }
     ensures later { IsLater node.old.world node.new.world }
     ensures why { IfErr result (λ e. IsUnbooted J.write_fails node.old.world e) }
-    ensures fault { IfErr result (λ e. MayEnd J.write_fails e) }
+    ensures fault { IfErr result (λ e. MayStop J.write_fails e) }
 {
     node.step(Event::Boot)?;
     Ok(true)
@@ -180,7 +180,7 @@ pub(crate) fn boot<J: Journal, K: Kids>(
     ensures kept { OnErr result ((K.ledger kids.new ≡ K.ledger kids.old) ⊎ (K.ledger kids.new ≡ restarted (K.ledger kids.old))) }
     ensures later { IsLater node.old.world node.new.world }
     ensures why { IfErr result (λ e. IsUnbooted J.write_fails node.old.world e) }
-    ensures fault { IfErr result (λ e. MayEnd J.write_fails e) }
+    ensures fault { IfErr result (λ e. MayStop J.write_fails e) }
 {
     match kids.reboot() {
         Ok(()) => restart(node),

@@ -3,7 +3,7 @@ ghost use Rattle.smf_drive.specs.Moves.{Moves};
 ghost use Rattle.smf_edge.specs.Answers.{seen};
 ghost use Rattle.smf_run.specs.Failing.{IsCutShort, LineFails};
 ghost use Rattle.smf_run.specs.Lines.{HasDone, HasPut, HasSettled, deed, effect};
-ghost use Rattle.smf_script.specs.Failing.{MayEnd};
+ghost use Rattle.smf_script.specs.Faults.{MayStop};
 ghost use Rattle.smf_words.specs.Request.{request_of};
 ghost use Rattle.smf_world.specs.Reached.{IsLater};
 
@@ -31,7 +31,7 @@ fn settle<J: Journal, K: Kids>(
     ensures err { IfErr result (λ e.
         IsCutShort K.skills J.write_fails rounds node.old (seen (K.ledger kids.old) (K.failures kids.old)) node.new (seen (K.ledger kids.new) (K.failures kids.new)) e) }
     ensures later { IsLater node.old.world node.new.world }
-    ensures fault { IfErr result (λ e. MayEnd J.write_fails e) }
+    ensures fault { IfErr result (λ e. MayStop J.write_fails e) }
 {
     let how = drive(node, kids, rounds)?;
     out.push_str(settled_text(how))?;
@@ -51,7 +51,7 @@ fn do_request<J: Journal, K: Kids>(
         (string_bytes out.old) (string_bytes out.new)) }
     ensures err { IfErr result (λ e. LineFails K.skills J.write_fails request.now (record { progress = node.old; selection = selection.old }) (seen (K.ledger kids.old) (K.failures kids.old)) (seen (K.ledger kids.new) (K.failures kids.new)) node.new e) }
     ensures later { IsLater node.old.world node.new.world }
-    ensures fault { IfErr result (λ e. MayEnd J.write_fails e) }
+    ensures fault { IfErr result (λ e. MayStop J.write_fails e) }
 {
     match request {
         Request::Settle(rounds) => settle(node, kids, *rounds, out),
@@ -76,7 +76,7 @@ pub(crate) fn run_line<J: Journal, K: Kids>(
         (string_bytes out.old) (string_bytes out.new)) }
     ensures err { IfErr result (λ e. LineFails K.skills J.write_fails (request_of line.now) (record { progress = node.old; selection = selection.old }) (seen (K.ledger kids.old) (K.failures kids.old)) (seen (K.ledger kids.new) (K.failures kids.new)) node.new e) }
     ensures later { IsLater node.old.world node.new.world }
-    ensures fault { IfErr result (λ e. MayEnd J.write_fails e) }
+    ensures fault { IfErr result (λ e. MayStop J.write_fails e) }
 {
     let request = request_of(alloc, line)?;
     do_request(alloc, node, kids, selection, &request, out)

@@ -1,5 +1,5 @@
 -- What is left of a line that a fault ended.
-use Rattle.std.proofs.Common.{◌≡◌, inl, inr, ℕ, List, Bool, Result, Ok, Err, IfErr, sym, ap, subst, ◌∙◌}
+use Rattle.std.proofs.Common.{◌≡◌, inl, inr, ℕ, List, Bool, true, Result, Ok, Err, IfErr, sym, ap, subst, ◌∙◌}
 use Rattle.std.specs.Result.{IsErrAnd}
 use Rattle.smf_model.specs.declared.command.Edit.{Edit}
 use Rattle.smf_model.specs.declared.journal.RepoFault.{RepoFault}
@@ -22,8 +22,8 @@ unfolding effect_of svccfg given_selected
 edit_left s line edit behind is = ap (λ r. (svccfg_by s r).session.progress) is
 
 pub edit_fails : (stores : RepoFault → Type 0) (s : Session) (line : List ℕ) (edit : Edit) (behind : Selection) (r : Result Bool NodeFault) (after : Progress) → judged s.progress.world.now s.selection line ≡ Ok (judgements.Edit edit behind)
-    → IfErr r (λ e. DeedFails stores s.progress (given svccfg_name s.progress edit) after e) → IfErr r (λ e. RequestFails stores s (requests.Svccfg line) after e)
+    → IfErr r (λ e. DeedFails stores true s.progress (given svccfg_name s.progress edit) after e) → IfErr r (λ e. RequestFails stores s (requests.Svccfg line) after e)
 edit_fails stores s line edit behind (Ok b) after is h = tt
-edit_fails stores s line edit behind (Err e) after is (may, inl same) = record { may = may; left = inl same }
+edit_fails stores s line edit behind (Err e) after is (may, inl same) = record { may = rw is may; left = inl same }
 edit_fails stores s line edit behind (Err e) after is (may, inr all) =
-    record { may = may; left = inr (inl (all ∙ sym (edit_left s line edit behind is))) }
+    record { may = rw is may; left = inr (inl (all ∙ sym (edit_left s line edit behind is))) }

@@ -1,7 +1,9 @@
 -- What is left of a line that a fault of the node ended.
-use Rattle.std.specs.Prelude.{◌≡◌, ◌⊎◌, ℕ, List, [], ◌++◌, Some}
+use Rattle.std.specs.Prelude.{◌≡◌, ◌⊎◌, ℕ, List, [], ◌++◌, Bool, true, false, Option, Some, None, Result, Ok}
+use Rattle.std.specs.List.{list_any}
 use Rattle.smf_admin.specs.Asking.{commands_of}
 use Rattle.smf_admin.specs.declared.asking.Asked.{Asked}
+use Rattle.smf_admin.specs.declared.asking.Asked.TheVariants as asks
 use Rattle.smf_model.specs.declared.journal.RepoFault.{RepoFault}
 use Rattle.smf_model.specs.declared.journal.RepoFault.TheVariants as journals
 use Rattle.smf_node.specs.declared.fault.NodeFault.{NodeFault}
@@ -9,22 +11,53 @@ use Rattle.smf_node.specs.declared.fault.NodeFault.TheVariants.{Memory, Database
 use Rattle.smf_node.specs.Marks.{last_delivered}
 use Rattle.smf_node.specs.Runs.{RepeatsUntilFault}
 use Rattle.smf_script.specs.Session.{Deed, Session, asked_all, done, effect_of}
+use Rattle.smf_svccfg.specs.Judged.{judged}
+use Rattle.smf_svccfg.specs.declared.fault.CfgFault.{CfgFault}
+use Rattle.smf_svccfg.specs.declared.selection.Judged.{Judged}
+use Rattle.smf_svccfg.specs.declared.selection.Judged.TheVariants as judgements
 use Rattle.smf_words.specs.declared.request.Request.{Request}
 use Rattle.smf_words.specs.declared.request.Request.TheVariants as requests
 use Rattle.smf_world.specs.Schedule.{Progress}
 
--- with which faults a line may end: memory ran out, the journal could not be written, or a launch or a boot needs a number
--- that has no next one. No line delivers what was never sent, or names an actor against its launch
-abbrev pub MayEnd : (RepoFault → Type 0) → NodeFault → Type 0
-MayEnd stores Memory = Unit {0}
-MayEnd stores Database = stores journals.Database
-MayEnd stores Limit = Unit {0}
-MayEnd stores NoSuchMessage = ⊥
-MayEnd stores NoSuchActor = ⊥
+-- ---- whether a line asks the repository to change
+
+-- a line of svccfg is an edit
+abbrev pub is_edit : Result Judged CfgFault → Bool
+is_edit (Ok (judgements.Edit edit after)) = true
+is_edit _ = false
+
+-- svcadm is asked for an edit
+abbrev pub gives_edit : Asked → Bool
+gives_edit (asks.Edit edit) = true
+gives_edit _ = false
+
+-- it is asked for some edit
+abbrev pub give_edits : Option (List Asked) → Bool
+give_edits None = false
+give_edits (Some all) = list_any gives_edit all
+
+-- a line in which children have no part gives an edit, or delivers messages again
+abbrev pub asks_repository : Session → Request → Bool
+asks_repository s (requests.Svccfg line) = is_edit (judged s.progress.world.now s.selection line)
+asks_repository s (requests.Svcadm words) = give_edits (commands_of s.progress.world.now.names words)
+asks_repository s (requests.Again count) = true
+asks_repository s _ = false
+
+-- ---- faults
+
+-- with which faults a line may end in which children have no part: memory ran out, or it asks the repository to change and
+-- the journal could not be written. No such line needs a number that has no next one, delivers what was never sent, or
+-- names an actor against its launch
+abbrev pub MayEnd : (RepoFault → Type 0) → Bool → NodeFault → Type 0
+MayEnd stores asks Memory = Unit {0}
+MayEnd stores asks Database = stores journals.Database × (asks ≡ true)
+MayEnd stores asks Limit = ⊥
+MayEnd stores asks NoSuchMessage = ⊥
+MayEnd stores asks NoSuchActor = ⊥
 
 -- something ended with a fault before anything was done, or after all of it
-abbrev pub DeedFails : (RepoFault → Type 0) → Progress → Deed → Progress → NodeFault → Type 0
-DeedFails stores before d after e = MayEnd stores e × ((after ≡ before) ⊎ (after ≡ d.progress))
+abbrev pub DeedFails : (RepoFault → Type 0) → Bool → Progress → Deed → Progress → NodeFault → Type 0
+DeedFails stores asks before d after e = MayEnd stores asks e × ((after ≡ before) ⊎ (after ≡ d.progress))
 
 -- of what was asked some was done
 pub record AreDone (before : Progress) (all : List Asked) (after : Progress) : Type 0 where
@@ -46,5 +79,5 @@ Leaves stores s _ after e = ⊥
 
 -- nothing was done, all was done and its text was not put, or it ended in mid-course
 pub record RequestFails (stores : RepoFault → Type 0) (s : Session) (request : Request) (after : Progress) (e : NodeFault) : Type 0 where
-  pub may : MayEnd stores e
+  pub may : MayEnd stores (asks_repository s request) e
   pub left : (after ≡ s.progress) ⊎ (after ≡ (effect_of s request).session.progress) ⊎ Leaves stores s request after e

@@ -3,7 +3,9 @@ use Rattle.std.specs.Prelude.{ℕ, Bool, Result, Ok, Err}
 use Rattle.std_io.specs.declared.io.error.Error.{Error}
 use Rattle.smf_lines.specs.Faults as reads
 use Rattle.smf_model.specs.declared.journal.RepoFault.{RepoFault}
-use Rattle.smf_script.specs.Failing.{MayEnd}
+use Rattle.smf_model.specs.declared.journal.RepoFault.TheVariants as journals
+use Rattle.smf_node.specs.declared.fault.NodeFault.{NodeFault}
+use Rattle.smf_node.specs.declared.fault.NodeFault.TheVariants.{Memory, Database, Limit, NoSuchMessage, NoSuchActor}
 use Rattle.smf_script.specs.declared.fault.ScriptFault.{ScriptFault}
 use Rattle.smf_script.specs.declared.fault.ScriptFault.TheVariants.{Node, Lines, Output}
 
@@ -29,9 +31,18 @@ abbrev pub failed_in : {T : Type 0} → Result T ScriptFault → Bool → Bool
 failed_in (Ok v) before = before
 failed_in (Err e) before = failed_by e before
 
--- why a script ended: the node, as a line may end; the reader or the writer, with an error that it may have; or too
+-- with which faults of the node a script may stop: memory ran out, the journal could not be written, or a launch or a boot
+-- needs a number that has no next one
+abbrev pub MayStop : (RepoFault → Type 0) → NodeFault → Type 0
+MayStop stores Memory = Unit {0}
+MayStop stores Database = stores journals.Database
+MayStop stores Limit = Unit {0}
+MayStop stores NoSuchMessage = ⊥
+MayStop stores NoSuchActor = ⊥
+
+-- why a script ended: the node, as a script may stop; the reader or the writer, with an error that it may have; or too
 -- many lines
 abbrev pub IsWhy : (RepoFault → Type 0) → (Error → Type 0) → (Error → Type 0) → ScriptFault → Type 0
-IsWhy stores reader writes (Node fault) = MayEnd stores fault
+IsWhy stores reader writes (Node fault) = MayStop stores fault
 IsWhy stores reader writes (Lines fault) = reads.IsUnread reader fault
 IsWhy stores reader writes (Output e) = writes e

@@ -1,13 +1,13 @@
-ghost use Rattle.std.specs.Prelude.{◌≡◌, ◌<◌, ◌++◌, IfErr, IfOk, IfSome, OnErr, OnOk, false, length, position, string_bytes, true};
+ghost use Rattle.std.specs.Prelude.{◌≡◌, ◌<◌, [], ◌++◌, IfErr, IfOk, IfSome, OnErr, OnOk, false, length, position, string_bytes, true};
 ghost use Rattle.smf_admin.specs.Finding.{found_of};
 ghost use Rattle.smf_admin.specs.Telling.{no_match_text, several_text};
 ghost use Rattle.smf_node.specs.declared.fault.NodeFault.TheVariants.{Memory};
-ghost use Rattle.smf_node.specs.Faults.{is_against_launch, is_unsent};
-ghost use Rattle.smf_script.specs.Failing.{DeedFails, MayEnd};
+ghost use Rattle.smf_node.specs.Faults.{is_against_launch, is_unsent, lacks_number};
+ghost use Rattle.smf_script.specs.Failing.{DeedFails};
 ghost use Rattle.smf_world.specs.Reached.{IsLater};
 ghost use Rattle.smf_world.specs.Schedule.{on};
 ghost use Rattle.smf_script.specs.Session.{IsDeed, crashed, is_above, is_later_run, is_latest, latest, restarter_in, run_in, run_of, script_name, timed_out, timeout_if, timeout_in};
-ghost use Rattle.smf_world.specs.Worked.{is_launched};
+ghost use Rattle.smf_world.specs.Worked.{is_launched, worked};
 ghost use Rattle.std.specs.List.{list_any};
 ghost use Rattle.smf_fmri.specs.Name.{read};
 
@@ -91,15 +91,17 @@ pub fn latest(table: &Table, instance: u64) -> Option<Contract>
     latest_place(table, instance).map(|k| table.contracts()[k])
 }
 
-/// Performs an event that prints nothing.
+/// Performs an event that prints nothing, needs no number, and changes nothing that the repository holds.
 pub(crate) fn happen<J: Journal>(node: &mut Node<J>, event: Event) -> Result<bool, NodeFault>
     requires sent { is_unsent node.old.world event ≡ false }
     requires launched { is_against_launch node.old.world event ≡ false }
+    requires numbered { lacks_number node.old.world event ≡ false }
+    requires apart { (worked node.old.world event).changes ≡ [] }
     ensures flag { IfOk result (λ fine. fine ≡ true) }
     ensures ok { OnOk result (node.new ≡ on node.old event) }
     ensures later { IsLater node.old.world node.new.world }
     ensures err { OnErr result (node.new ≡ node.old) }
-    ensures may { IfErr result (λ e. MayEnd J.write_fails e) }
+    ensures fault { IfErr result (λ e. e ≡ Memory) }
 {
     node.step(event)?;
     Ok(true)
@@ -156,7 +158,7 @@ fn timeout_of<J: Journal>(
 ) -> Result<bool, NodeFault>
     ensures exact { IfOk result (λ fine. IsDeed (timeout_if (is_launched node.old.world restarter) node.old instance restarter) node.new (string_bytes out.old) (string_bytes out.new) fine) }
     ensures later { IsLater node.old.world node.new.world }
-    ensures err { IfErr result (λ e. DeedFails J.write_fails node.old (timeout_if (is_launched node.old.world restarter) node.old instance restarter) node.new e) }
+    ensures err { IfErr result (λ e. DeedFails J.write_fails false node.old (timeout_if (is_launched node.old.world restarter) node.old instance restarter) node.new e) }
 {
     if node.is_launched(&restarter) {
         happen(
@@ -178,7 +180,7 @@ fn timeout_in<J: Journal>(
 ) -> Result<bool, NodeFault>
     ensures exact { IfOk result (λ fine. IsDeed (timeout_in node.old instance) node.new (string_bytes out.old) (string_bytes out.new) fine) }
     ensures later { IsLater node.old.world node.new.world }
-    ensures err { IfErr result (λ e. DeedFails J.write_fails node.old (timeout_in node.old instance) node.new e) }
+    ensures err { IfErr result (λ e. DeedFails J.write_fails false node.old (timeout_in node.old instance) node.new e) }
 {
     match instance {
         Some(instance) => {
@@ -199,7 +201,7 @@ pub(crate) fn time_out<J: Journal>(
 ) -> Result<bool, NodeFault>
     ensures exact { IfOk result (λ fine. IsDeed (timed_out node.old word.now) node.new (string_bytes out.old) (string_bytes out.new) fine) }
     ensures later { IsLater node.old.world node.new.world }
-    ensures err { IfErr result (λ e. DeedFails J.write_fails node.old (timed_out node.old word.now) node.new e) }
+    ensures err { IfErr result (λ e. DeedFails J.write_fails false node.old (timed_out node.old word.now) node.new e) }
 {
     match found_on(alloc, node, word)? {
         Found::One(instance) => {
@@ -232,7 +234,7 @@ pub(crate) fn crash<J: Journal>(
 ) -> Result<bool, NodeFault>
     ensures exact { IfOk result (λ fine. IsDeed (crashed node.old word.now) node.new (string_bytes out.old) (string_bytes out.new) fine) }
     ensures later { IsLater node.old.world node.new.world }
-    ensures err { IfErr result (λ e. DeedFails J.write_fails node.old (crashed node.old word.now) node.new e) }
+    ensures err { IfErr result (λ e. DeedFails J.write_fails false node.old (crashed node.old word.now) node.new e) }
 {
     match restarter_in(alloc, word)? {
         Some(name) if node.is_launched(&name) => happen(node, Event::Crash(name)),

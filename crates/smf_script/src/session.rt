@@ -1,9 +1,10 @@
-ghost use Rattle.std.specs.Prelude.{◌≡◌, ◌⊎◌, [], ◌++◌, ◌∷◌, false, IfErr, IfOk, OnOk, is_none, reverse, string_bytes};
+ghost use Rattle.std.specs.Prelude.{◌≡◌, ◌⊎◌, [], ◌++◌, ◌∷◌, false, IfErr, IfOk, OnOk, is_none, reverse, string_bytes, true};
+ghost use Rattle.std.specs.List.{list_any};
 ghost use Rattle.smf_admin.specs.Asking.{commands_of};
 ghost use Rattle.smf_repo.specs.Refusals.{refusal};
 ghost use Rattle.smf_words.specs.declared.request.Request.TheVariants as requests;
 ghost use Rattle.smf_script.specs.Session.{IsDeed, IsEffect, asked, asked_all, asks_children, done, effect_of, given, given_selected, listing_of, settled_text, svcadm, svccfg, svccfg_name, svcs, told_text};
-ghost use Rattle.smf_script.specs.Failing.{AreDone, DeedFails, MayEnd, RequestFails, SvcadmLeaves};
+ghost use Rattle.smf_script.specs.Failing.{AreDone, DeedFails, MayEnd, RequestFails, SvcadmLeaves, give_edits, gives_edit};
 ghost use Rattle.smf_words.specs.Text.{trail_text};
 ghost use Rattle.smf_world.specs.Reached.{IsLater};
 
@@ -53,7 +54,7 @@ fn give<J: Journal>(
 ) -> Result<bool, NodeFault>
     ensures exact { IfOk result (λ fine. IsDeed (given program.now node.old edit) node.new (string_bytes out.old) (string_bytes out.new) fine) }
     ensures later { IsLater node.old.world node.new.world }
-    ensures err { IfErr result (λ e. DeedFails J.write_fails node.old (given program.now node.old edit) node.new e) }
+    ensures err { IfErr result (λ e. DeedFails J.write_fails true node.old (given program.now node.old edit) node.new e) }
 {
     let reply = node.apply(edit)?;
     let fine = report(alloc, &reply, program, out)?;
@@ -71,7 +72,7 @@ fn give_selected<J: Journal>(
 ) -> Result<bool, NodeFault>
     ensures exact { IfOk result (λ fine. IsEffect (given_selected (record { progress = node.old; selection = selection.old }) edit after) node.new selection.new (string_bytes out.old) (string_bytes out.new) fine) }
     ensures later { IsLater node.old.world node.new.world }
-    ensures err { IfErr result (λ e. DeedFails J.write_fails node.old (given svccfg_name node.old edit) node.new e) }
+    ensures err { IfErr result (λ e. DeedFails J.write_fails true node.old (given svccfg_name node.old edit) node.new e) }
 {
     if give(alloc, node, edit, "svccfg: ", out)? {
         *selection = after;
@@ -126,7 +127,7 @@ fn asked<J: Journal>(
 ) -> Result<bool, NodeFault>
     ensures exact { IfOk result (λ fine. IsDeed (asked node.old one) node.new (string_bytes out.old) (string_bytes out.new) fine) }
     ensures later { IsLater node.old.world node.new.world }
-    ensures err { IfErr result (λ e. DeedFails J.write_fails node.old (asked node.old one) node.new e) }
+    ensures err { IfErr result (λ e. DeedFails J.write_fails (gives_edit one) node.old (asked node.old one) node.new e) }
 {
     match one {
         Asked::Edit(edit) => give(alloc, node, edit, "svcadm: ", out),
@@ -150,7 +151,7 @@ fn asked_all<J: Journal>(
 ) -> Result<bool, NodeFault>
     ensures exact { IfOk result (λ fine. IsDeed (asked_all (done node.old []) all) node.new (string_bytes out.old) (string_bytes out.new) fine) }
     ensures later { IsLater node.old.world node.new.world }
-    ensures err { IfErr result (λ e. MayEnd J.write_fails e × AreDone node.old all node.new) }
+    ensures err { IfErr result (λ e. MayEnd J.write_fails (list_any gives_edit all) e × AreDone node.old all node.new) }
 {
     let mut fine = true;
     for one in all.into_vec() {
@@ -180,7 +181,7 @@ fn svcadm<J: Journal>(
 ) -> Result<bool, NodeFault>
     ensures exact { IfOk result (λ fine. IsDeed (svcadm node.old words.now) node.new (string_bytes out.old) (string_bytes out.new) fine) }
     ensures later { IsLater node.old.world node.new.world }
-    ensures err { IfErr result (λ e. MayEnd J.write_fails e × ((node.new ≡ node.old) ⊎ (node.new ≡ (svcadm node.old words.now).progress) ⊎ SvcadmLeaves node.old words.now node.new)) }
+    ensures err { IfErr result (λ e. MayEnd J.write_fails (give_edits (commands_of node.old.world.now.names words.now)) e × ((node.new ≡ node.old) ⊎ (node.new ≡ (svcadm node.old words.now).progress) ⊎ SvcadmLeaves node.old words.now node.new)) }
 {
     match commands_on(alloc, node, words)? {
         Some(all) => asked_all(alloc, node, all, out),

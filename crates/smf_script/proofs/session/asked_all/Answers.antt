@@ -2,6 +2,8 @@ use Rattle.std.proofs.Common.{◌≡◌, ◌∷◌, ◌++◌, ◌∙◌, ap, ari
 use Rattle.std.specs.Vec.Iter.{into_iter_items}
 use Rattle.std.proofs.lemmas.Grind.{common_steps}
 use Rattle.smf_script.proofs.Failures.{passed_on}
+use Rattle.smf_script.specs.Failing.{gives_edit}
+use Rattle.smf_script.proofs.May.{may_more}
 use Rattle.smf_script.proofs.Giving.{deed_first, deed_more, some_done}
 use Rattle.smf_world.proofs.Reaching.{later_self, later_then}
 use Rattle.smf_script.proofs.session.asked_all.Goals as goal
@@ -30,4 +32,4 @@ returns-in_err-did-clause-err g c =
     let whole : c.args.all ≡ c.loop-one.yielded ++ c.in-Some.one ∷ into_iter_items c.next.new.self =
     c.loop-one.invariant.split ∙ ap (λ l. c.loop-one.yielded ++ l) c.in-Some.ensures.steps.0 in
     passed_on _ _ _ c.from_residual.ensures.1
-    (c.in_err-did.ensures.err.0, some_done c.args.node.now c.loop-one.node c.asked.new.node c.loop-one.yielded c.in-Some.one (into_iter_items c.next.new.self) c.args.all _ _ _ whole c.loop-one.invariant.so_far c.in_err-did.ensures.err.1)
+    (rw whole (may_more g.J.Journal.write_fails gives_edit c.loop-one.yielded c.in-Some.one (into_iter_items c.next.new.self) _ c.in_err-did.ensures.err.0), some_done c.args.node.now c.loop-one.node c.asked.new.node c.loop-one.yielded c.in-Some.one (into_iter_items c.next.new.self) c.args.all _ _ _ whole c.loop-one.invariant.so_far c.in_err-did.ensures.err.1)
