@@ -17,5 +17,6 @@ pub mod Names
 pub mod Order
 pub mod Placing
 pub mod Services
+pub mod Sound
 pub mod States
 pub mod ReadAnew

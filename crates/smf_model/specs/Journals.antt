@@ -30,6 +30,10 @@ LeavesOldOrTold stands could old new changes =
 abbrev pub LeavesOnly : {J : Type 0} → (J → Option Holdings → Type 0) → J → Holdings → Type 0
 LeavesOnly could journal h = (found : Option Holdings) → could journal found → found ≡ Some h
 
+-- a command was accepted and carried out
+abbrev pub IsRevised : Holdings → Holdings → Type 0
+IsRevised before after = before.revision < after.revision
+
 -- memory ran out, or changes could not be written
 abbrev pub IsUnwritten : (RepoFault → Type 0) → List Change → RepoFault → Type 0
 IsUnwritten fails changes fault = (fault ≡ Memory) ⊎ (fails fault × (0 < length changes))

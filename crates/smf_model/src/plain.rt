@@ -1,6 +1,7 @@
 ghost use Rattle.std.specs.Prelude.{◌≡◌, ◌⊎◌, ◌<◌, [], IfOk, IfErr, OnOk, true, OnErr, is_some, length, option_map};
 ghost use Rattle.std.specs.Option.{option_copied};
-ghost use Rattle.smf_model.specs.Journals.{IsTold, IsUntold, IsUnwritten, LeavesOldOr, LeavesOldOrTold, LeavesOnly};
+ghost use Rattle.smf_model.specs.Journals.{IsRevised, IsTold, IsUntold, IsUnwritten, LeavesOldOr};
+ghost use Rattle.smf_model.specs.Journals.{LeavesOldOrTold, LeavesOnly};
 ghost use Rattle.smf_model.specs.Copied.{copied};
 ghost use Rattle.smf_model.specs.Laws.{IsNumbered, is_refusal};
 ghost use Rattle.smf_model.specs.Look.{empty, groups_of, installed, instance, launch_of, named, service, snapshot};
@@ -134,6 +135,7 @@ impl<J: Journal> Plain<J> {
         ensures exact { IfOk result (λ reply. next self.old.held command.now ≡ (self.new.held, reply)) }
         ensures err { OnErr result (self.new.held ≡ self.old.held) }
         ensures trusted { J.is_clean self.new.journal → J.is_clean self.old.journal }
+        ensures sound { IsRevised self.old.held self.new.held → J.is_clean self.new.journal → J.is_sound self.new.journal }
         ensures stands { J.stands self.new.journal self.new.held }
         ensures crash { LeavesOldOr J.could self.old.journal self.new.journal (next self.old.held command.now).0 }
         ensures settled { J.is_sound self.new.journal → LeavesOnly J.could self.new.journal self.new.held }

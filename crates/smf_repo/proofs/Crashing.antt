@@ -2,9 +2,10 @@
 use Rattle.std.proofs.Common.{◌≡◌, ◌⊎◌, List, [], ◌∷◌, Option, Some, inl, inr, refl, ap, subst}
 use Rattle.smf_model.specs.declared.command.Command.TheVariants as commands
 use Rattle.smf_model.specs.Holdings.{Holdings}
+use Rattle.smf_model.specs.Journals.{IsRevised}
 use Rattle.smf_model.specs.Next.{next}
 use Rattle.smf_model.specs.Whole.{Whole}
-use Rattle.smf_repo.specs.Clients.{AreGiven, Given, IsEdited, IsMadeByFirst, LeavesFirstOf, held_behind, held_behind_all}
+use Rattle.smf_repo.specs.Clients.{AreGiven, Given, IsEdited, IsGiven, IsMadeByFirst, LeavesFirstOf, LeavesThisOrLater, held_behind, held_behind_all}
 
 -- one edit more in front
 made_behind : (g : Given) (gs : List Given) (h h' value : Holdings) → h' ≡ held_behind g.edit g.end h → IsMadeByFirst gs h' value → IsMadeByFirst (g ∷ gs) h value
@@ -33,3 +34,24 @@ leaves_first is_clean is_sound stands could before after (g ∷ gs) (middle, is,
     by : could middle.journal found ⊎ ((value : Holdings) × (found ≡ Some value) × IsMadeByFirst gs middle.held value) → could before.journal found ⊎ ((value : Holdings) × (found ≡ Some value) × IsMadeByFirst (g ∷ gs) before.held value)
     by (inl left) = once left
     by (inr (value, is_value, made)) = inr (value, is_value, made_behind g gs before.held middle.held value is.left made)
+
+-- the disk was clean before, if it is after
+clean_before : {J : Type 0} (is_clean is_sound : J → Type 0) (stands : J → Holdings → Type 0) (could : J → Option Holdings → Type 0) (before after : Whole J) (all : List Given)
+    → AreGiven (λ r. r.held) (λ old edit end new. IsEdited is_clean is_sound stands could old edit new) before all after → is_clean after.journal → is_clean before.journal
+clean_before is_clean is_sound stands could before after [] same clean = subst (λ r. is_clean r.journal) same clean
+clean_before is_clean is_sound stands could before after (g ∷ gs) (middle, is, on) clean =
+    is.behind.trusted (clean_before is_clean is_sound stands could middle after gs on clean)
+
+pub leaves_accepted : {J : Type 0} (is_clean is_sound : J → Type 0) (stands : J → Holdings → Type 0) (could : J → Option Holdings → Type 0) (before middle after : Whole J) (g : Given) (all : List Given)
+    → IsGiven (λ r. r.held) (λ old edit end new. IsEdited is_clean is_sound stands could old edit new) before g middle → IsRevised before.held middle.held
+    → AreGiven (λ r. r.held) (λ old edit end new. IsEdited is_clean is_sound stands could old edit new) middle all after → is_clean after.journal → LeavesThisOrLater could middle.held all after
+leaves_accepted is_clean is_sound stands could before middle after g all is revised on clean found may =
+    by (leaves_first is_clean is_sound stands could middle after all on found may)
+  where
+    sound : is_sound middle.journal
+    sound = is.behind.sound revised (clean_before is_clean is_sound stands could middle after all on clean)
+
+    by : could middle.journal found ⊎ ((value : Holdings) × (found ≡ Some value) × IsMadeByFirst all middle.held value)
+        → (found ≡ Some middle.held) ⊎ ((value : Holdings) × (found ≡ Some value) × IsMadeByFirst all middle.held value)
+    by (inl left) = inl (is.behind.settled sound found left)
+    by (inr later) = inr later

@@ -5,14 +5,15 @@ use Rattle.smf_model.specs.declared.command.Edit.{Edit}
 use Rattle.smf_model.specs.declared.command.Reply.{Reply}
 use Rattle.smf_model.specs.declared.journal.RepoFault.{RepoFault}
 use Rattle.smf_model.specs.Holdings.{Holdings}
-use Rattle.smf_model.specs.Journals.{LeavesOldOr, LeavesOnly}
+use Rattle.smf_model.specs.Journals.{IsRevised, LeavesOldOr, LeavesOnly}
 use Rattle.smf_model.specs.Next.{next}
 use Rattle.smf_model.specs.Whole.{Whole}
 
 -- what is held stands in the journal; a crash within the edit leaves what it could leave before, or what the edit makes,
--- and one behind it, where the journal is sound, what is held
+-- and one after it, if the journal is sound, what is held; an edit that was accepted leaves a clean journal sound
 pub record IsEdited {J : Type 0} (is_clean is_sound : J → Type 0) (stands : J → Holdings → Type 0) (could : J → Option Holdings → Type 0) (before : Whole J) (edit : Edit) (after : Whole J) : Type 0 where
   pub trusted : is_clean after.journal → is_clean before.journal
+  pub sound : IsRevised before.held after.held → is_clean after.journal → is_sound after.journal
   pub kept : stands after.journal after.held
   pub crash : LeavesOldOr could before.journal after.journal (next before.held (commands.Edit edit)).0
   pub settled : is_sound after.journal → LeavesOnly could after.journal after.held
@@ -60,3 +61,8 @@ pub record IsMadeByFirst (all : List Given) (h value : Holdings) : Type 0 where
 abbrev pub LeavesFirstOf : {J : Type 0} → (J → Option Holdings → Type 0) → Whole J → List Given → Whole J → Type 0
 LeavesFirstOf could before all after = (found : Option Holdings) → could after.journal found
     → could before.journal found ⊎ ((value : Holdings) × (found ≡ Some value) × IsMadeByFirst all before.held value)
+
+-- a crash leaves this value, or what the first of the edits after it make
+abbrev pub LeavesThisOrLater : {J : Type 0} → (J → Option Holdings → Type 0) → Holdings → List Given → Whole J → Type 0
+LeavesThisOrLater could h all after = (found : Option Holdings) → could after.journal found
+    → (found ≡ Some h) ⊎ ((value : Holdings) × (found ≡ Some value) × IsMadeByFirst all h value)

@@ -7,5 +7,5 @@ mod law;
 mod refusal;
 
 pub use client::Client;
-pub use law::a_crash_leaves_the_first_edits;
+pub use law::{a_crash_leaves_the_first_edits, an_accepted_edit_outlasts_a_crash};
 pub use refusal::refusal_text;
