@@ -549,7 +549,9 @@ grants n h p before i row false there f dates = puts n h (commands.Propose p) be
 answers_step : (n : ℕ) (h : Holdings) (p : Proposal) (before i : Instance) (r : Result Row StepFault) → instance h n ≡ Some before → FoundAt h p.instance i → applied i.row p (h.revision + 1) ≡ r → DatesOf n h (commands.Propose p) before (step_answer h i r)
 answers_step n h p before i (Err fault) there f e = refuses n h (commands.Propose p) before (Stale (whys.Step fault) (Some i.row)) there refl
 answers_step n h p before i (Ok row) there f e =
-    grants n h p before i row (takes_running i.row row) there f (λ at. applied_dates before.row i.row row p (h.revision + 1) (found_row h p.instance n i before f there at) e)
+    either n h (commands.Propose p) before (nat_le row.serial greatest) _ _
+    (grants n h p before i row (takes_running i.row row) there f (λ at. applied_dates before.row i.row row p (h.revision + 1) (found_row h p.instance n i before f there at) e))
+    (refuses n h (commands.Propose p) before Limit there refl)
 
 answers_fresh : (n : ℕ) (h : Holdings) (p : Proposal) (before i : Instance) (o : Option Why) → instance h n ≡ Some before → FoundAt h p.instance i → DatesOf n h (commands.Propose p) before (fresh_answer h i p o)
 answers_fresh n h p before i (Some why) there f = refuses n h (commands.Propose p) before (Stale why (Some i.row)) there refl

@@ -460,7 +460,10 @@ grants h p before i row false f g = puts h (commands.Propose p) (with_row i row)
 
 answers_step : (h : Holdings) (p : Proposal) (before i : Instance) (r : Result Row StepFault) → Found h p.instance before i → applied i.row p (h.revision + 1) ≡ r → OutcomeOf h (commands.Propose p) (step_answer h i r)
 answers_step h p before i (Err fault) f e = refuses h (commands.Propose p) (Stale (whys.Step fault) (Some i.row)) refl
-answers_step h p before i (Ok row) f e = grants h p before i row (takes_running i.row row) f (accepted_goes_on i.row row p (h.revision + 1) e)
+answers_step h p before i (Ok row) f e =
+    either h (commands.Propose p) (nat_le row.serial greatest) _ _
+    (grants h p before i row (takes_running i.row row) f (accepted_goes_on i.row row p (h.revision + 1) e))
+    (refuses h (commands.Propose p) Limit refl)
 
 answers_fresh : (h : Holdings) (p : Proposal) (before i : Instance) (o : Option Why) → Found h p.instance before i → OutcomeOf h (commands.Propose p) (fresh_answer h i p o)
 answers_fresh h p before i (Some why) f = refuses h (commands.Propose p) (Stale why (Some i.row)) refl

@@ -65,7 +65,7 @@ Asked = Outcome
 
 -- ---- limits
 
--- of revisions, launches and row numbers
+-- of revisions, launches, row numbers and serials
 abbrev pub greatest : ℕ
 greatest = 0x7fff_ffff_ffff_ffff
 
@@ -441,10 +441,10 @@ abbrev pub is_other_snapshot : Row → Step → Bool
 is_other_snapshot r (Start run snapshot duration ignore base) = not (is_running r.running snapshot)
 is_other_snapshot r _ = false
 
--- why a proposal is refused before its step is looked at, the first reason
+-- why a proposal is refused before its step is looked at, the first reason; launches begin at 1
 abbrev pub stale : Holdings → Row → Proposal → Option Why
 stale h r p =
-    if not (p.launch == launch_of h p.proposer) then Some whys.Launch
+    if (p.launch == 0) || not (p.launch == launch_of h p.proposer) then Some whys.Launch
     else if not (pointwise nat_eq r.owner p.proposer) then Some whys.Owner
     else if not (p.number == r.number + 1) then Some whys.Number
     else if is_other_snapshot r p.step then Some whys.Snapshot
@@ -478,7 +478,8 @@ granted h i row false = accepted h (PutInstance (with_row i row) ∷ []) (Grante
 
 abbrev pub step_answer : Holdings → Instance → Result Row StepFault → Asked
 step_answer h i (Err fault) = refused (Stale (whys.Step fault) (Some i.row))
-step_answer h i (Ok row) = granted h i row (takes_running i.row row)
+step_answer h i (Ok row) =
+    if nat_le row.serial greatest then granted h i row (takes_running i.row row) else refused Limit
 
 abbrev pub fresh_answer : Holdings → Instance → Proposal → Option Why → Asked
 fresh_answer h i p (Some why) = refused (Stale why (Some i.row))

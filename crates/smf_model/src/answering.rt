@@ -2,6 +2,7 @@ ghost use Rattle.std.specs.Prelude.{◌≡◌, ◌==◌, ◌+◌, true, IfOk, So
 ghost use Rattle.smf_model.specs.Next.{answer, answer_at, fresh_answer, granted, is_again, is_other_snapshot};
 ghost use Rattle.smf_model.specs.Next.{is_running, refused, snapshot_in, stale, started_by, takes_running, with_row};
 
+use crate::asking::MAX_COUNT;
 use crate::change::Change;
 use crate::command::Reply;
 use crate::held::Instance;
@@ -93,7 +94,7 @@ impl Planner<'_> {
     fn stale(&self, row: &Row, proposal: &Proposal) -> Option<Why>
         ensures { result ≡ stale self.now row.now proposal.now }
     {
-        if proposal.launch != self.tables.launch_of(&proposal.proposer) {
+        if proposal.launch == 0 || proposal.launch != self.tables.launch_of(&proposal.proposer) {
             Some(Why::Launch)
         } else if row.owner != proposal.proposer {
             Some(Why::Owner)
@@ -135,6 +136,7 @@ impl Planner<'_> {
         let revision = self.tables.revision().get() + 1;
         match row.apply(proposal, revision) {
             Err(fault) => self.refused_step(instance, fault),
+            Ok(()) if row.serial > MAX_COUNT => self.refused(Reply::Limit),
             Ok(()) => {
                 let takes = takes_running(&instance.row, &row);
                 self.granted(instance, row, takes)

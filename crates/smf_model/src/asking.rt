@@ -18,7 +18,7 @@ use std::alloc::{AllocError, Global};
 /// The most instances, 2^24 - 1.
 pub const MAX_INSTANCE: u64 = 0xff_ffff;
 
-/// The greatest revision, launch and row number, 2^63 - 1.
+/// The greatest revision, launch, row number and serial, 2^63 - 1.
 pub const MAX_COUNT: u64 = 0x7fff_ffff_ffff_ffff;
 
 /// An instance that runs, or whose transition is under way, or that has a run.

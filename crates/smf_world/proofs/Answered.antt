@@ -93,7 +93,8 @@ as_found h n before i f = record { of = before; is_there = f.is_there; number = 
 
 of_step : (h : Holdings) (p : Proposal) (before i : Instance) (r : Result Row StepFault) → Found h p.instance before i → AnswersOf h p.instance (step_answer h i r)
 of_step h p before i (Err fault) f = refuses h p.instance (Stale (whys.Step fault) (Some i.row)) (as_found h p.instance before i f)
-of_step h p before i (Ok row) f = grants h p before i row (takes_running i.row row) f
+of_step h p before i (Ok row) f =
+    either h p.instance (nat_le row.serial greatest) _ _ (grants h p before i row (takes_running i.row row) f) (refuses h p.instance Limit tt)
 
 of_fresh : (h : Holdings) (p : Proposal) (before i : Instance) (o : Option Why) → Found h p.instance before i → AnswersOf h p.instance (fresh_answer h i p o)
 of_fresh h p before i (Some why) f = refuses h p.instance (Stale why (Some i.row)) (as_found h p.instance before i f)

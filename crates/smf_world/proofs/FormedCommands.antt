@@ -290,7 +290,7 @@ grants h i row false f = accepts_one h (changes.PutInstance (with_row i row)) (r
 
 steps : (h : Holdings) (i : Instance) (r : Result Row StepFault) → IsFormed h → Asks (step_answer h i r)
 steps h i (Err fault) f = tt
-steps h i (Ok row) f = grants h i row (takes_running i.row row) f
+steps h i (Ok row) f = either (nat_le row.serial greatest) _ _ (grants h i row (takes_running i.row row) f) tt
 
 answers_anew : (h : Holdings) (i : Instance) (p : Proposal) (o : Option Why) → IsFormed h → Asks (fresh_answer h i p o)
 answers_anew h i p (Some why) f = tt

@@ -147,7 +147,10 @@ grants h p before i row b a f g = by b
 
 answers_step : (h : Holdings) (p : Proposal) (before i : Instance) (r : Result Row StepFault) → AreApart (instances h) → Found h p.instance before i → applied i.row p (h.revision + 1) ≡ r → ShowsOf h (step_answer h i r)
 answers_step h p before i (Err fault) a f e = refuses h (Stale (whys.Step fault) (Some i.row)) a
-answers_step h p before i (Ok row) a f e = grants h p before i row (takes_running i.row row) a f (accepted_goes_on i.row row p (h.revision + 1) e)
+answers_step h p before i (Ok row) a f e =
+    either h (nat_le row.serial greatest) _ _
+    (grants h p before i row (takes_running i.row row) a f (accepted_goes_on i.row row p (h.revision + 1) e))
+    (refuses h Limit a)
 
 answers_fresh : (h : Holdings) (p : Proposal) (before i : Instance) (o : Option Why) → AreApart (instances h) → Found h p.instance before i → ShowsOf h (fresh_answer h i p o)
 answers_fresh h p before i (Some why) a f = refuses h (Stale why (Some i.row)) a

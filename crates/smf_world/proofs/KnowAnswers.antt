@@ -135,11 +135,15 @@ refusal_of y h ms B k p why o said was x f name launch q w mine serial =
     of_row : (s r : Row) → Some s ≡ Some r → s.owner ≡ p.proposer → r.owner ≡ p.proposer
     of_row s r e own = let g : s ≡ r = cc in ap (λ (z : Row). z.owner) (sym g) ∙ own
 
+    is_present : (p.launch ≡ 0) ⊎ (p.launch ≡ launch_of h p.proposer → ⊥) → ⊥
+    is_present (inl zero) = let l = f.launched in omega arith
+    is_present (inr other) = other now
+
     by : (v : Why) (z : Option Row) (r : Row) → Refuses h p v z → z ≡ Some r → (v ≡ whys.Owner → ⊥) → r.owner ≡ p.proposer
     by whys.NoSuch None r e g apart = absurd (let t : None ≡ Some r = g in cc)
     by whys.NoSuch (Some s) r e g apart = absurd e
     by whys.Launch None r e g apart = absurd e
-    by whys.Launch (Some s) r e g apart = absurd (e now)
+    by whys.Launch (Some s) r e g apart = absurd (is_present e)
     by whys.Owner z r e g apart = absurd (apart refl)
     by whys.Number None r e g apart = absurd e
     by whys.Number (Some s) r e g apart = of_row s r g e.0

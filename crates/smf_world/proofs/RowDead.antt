@@ -136,11 +136,15 @@ refused_dead h p why r q launch x i there owner number = by why r x.row x.reason
     unfit : (s : Row) → IsRead i.row s → fits s p.step ≡ false → IsDead h p
     unfit s t e = dead_at (inr (sym (fits_as i.row s p.step t) ∙ e))
 
+    is_present : (p.launch ≡ 0) ⊎ (p.launch ≡ launch_of h p.proposer → ⊥) → ⊥
+    is_present (inl zero) = let l = q.launched in omega arith
+    is_present (inr other) = other launch
+
     by : (w : Why) (o : Option Row) → IsRowRead h p.instance o → Refuses h p w o → IsDead h p
     by whys.NoSuch None row e = absurd (none_some (sym e ∙ there))
     by whys.NoSuch (Some s) row e = absurd e
     by whys.Launch None row e = absurd e
-    by whys.Launch (Some s) row e = absurd (e launch)
+    by whys.Launch (Some s) row e = absurd (is_present e)
     by whys.Owner None row e = absurd e
     by whys.Owner (Some s) row e = absurd (e (read_owner s (as_read s row)))
     by whys.Number None row e = absurd e

@@ -1,5 +1,5 @@
 -- How a proposal is answered, and what a grant makes of the row.
-use Rattle.std.proofs.Common.{◌≡◌, inl, inr, ℕ, ◌+◌, ◌==◌, ◌&&◌, not, nat_lt, nat_le, nat_eq, Bool, true, false, if◌then◌else◌, List, [], ◌∷◌, ◌++◌, Option, Some, None, option_map, Result, Ok, Err, refl, sym, ap, ◌∙◌, subst, arith, eqb-true}
+use Rattle.std.proofs.Common.{◌≡◌, inl, inr, ℕ, ◌+◌, ◌==◌, ◌&&◌, ◌||◌, not, nat_lt, nat_le, nat_eq, Bool, true, false, if◌then◌else◌, List, [], ◌∷◌, ◌++◌, Option, Some, None, option_map, Result, Ok, Err, refl, sym, ap, ◌∙◌, subst, arith, eqb-true}
 use Rattle.std.proofs.lemmas.Bool.Decides.{nat_tests}
 use Rattle.std.specs.Cmp.Lexicographic.{pointwise}
 use Rattle.std.specs.Ordering.{is_eq, nat_cmp}
@@ -57,16 +57,17 @@ stepped_running r (Note bits keep) revision = refl
 
 -- ---- why a proposal is stale
 
-abbrev why_of : Bool → Bool → Bool → Bool → Option Why
-why_of a b d e =
-    if not a then Some whys.Launch else if not b then Some whys.Owner else if not d then Some whys.Number else if e then Some whys.Snapshot else None
+abbrev why_of : Bool → Bool → Bool → Bool → Bool → Option Why
+why_of z a b d e =
+    if z || not a then Some whys.Launch else if not b then Some whys.Owner else if not d then Some whys.Number else if e then Some whys.Snapshot else None
 
-fresh_tests : (a b d e : Bool) → why_of a b d e ≡ None → (a ≡ true) × (b ≡ true) × (d ≡ true) × (e ≡ false)
-fresh_tests false b d e f = absurd cc
-fresh_tests true false d e f = absurd cc
-fresh_tests true true false e f = absurd cc
-fresh_tests true true true true f = absurd cc
-fresh_tests true true true false f = (refl, refl, refl, refl)
+fresh_tests : (z a b d e : Bool) → why_of z a b d e ≡ None → (a ≡ true) × (b ≡ true) × (d ≡ true) × (e ≡ false)
+fresh_tests true a b d e f = absurd cc
+fresh_tests false false b d e f = absurd cc
+fresh_tests false true false d e f = absurd cc
+fresh_tests false true true false e f = absurd cc
+fresh_tests false true true true true f = absurd cc
+fresh_tests false true true true false f = (refl, refl, refl, refl)
 
 pub record IsFresh (h : Holdings) (r : Row) (p : Proposal) : Type 0 where
   pub launch : p.launch ≡ launch_of h p.proposer
@@ -76,7 +77,7 @@ pub record IsFresh (h : Holdings) (r : Row) (p : Proposal) : Type 0 where
 
 is_fresh : (h : Holdings) (r : Row) (p : Proposal) → stale h r p ≡ None → IsFresh h r p
 is_fresh h r p e =
-    let t = fresh_tests (p.launch == launch_of h p.proposer) (pointwise nat_eq r.owner p.proposer) (p.number == r.number + 1) (is_other_snapshot r p.step) e in
+    let t = fresh_tests (p.launch == 0) (p.launch == launch_of h p.proposer) (pointwise nat_eq r.owner p.proposer) (p.number == r.number + 1) (is_other_snapshot r p.step) e in
     record {
       launch = eqb-true p.launch (launch_of h p.proposer) t.0;
       owner = (same_text r.owner p.proposer).0 t.1;
@@ -91,18 +92,19 @@ unlike_text : (a b : List ℕ) → pointwise nat_eq a b ≡ false → a ≡ b �
 unlike_text a b e f = let t : pointwise nat_eq a b ≡ true = (same_text a b).1 f in cc
 
 is_stale : (h : Holdings) (r : Row) (p : Proposal) (why : Why) → stale h r p ≡ Some why → Refuses h p why (Some r)
-is_stale h r p why e = by (p.launch == launch_of h p.proposer) (pointwise nat_eq r.owner p.proposer) (p.number == r.number + 1) (is_other_snapshot r p.step) refl refl refl refl e
+is_stale h r p why e = by (p.launch == 0) (p.launch == launch_of h p.proposer) (pointwise nat_eq r.owner p.proposer) (p.number == r.number + 1) (is_other_snapshot r p.step) refl refl refl refl refl e
   where
     some_is : (a b : Why) → Some a ≡ Some b → a ≡ b
     some_is a b e = cc
 
-    by : (a b d e : Bool) → (p.launch == launch_of h p.proposer) ≡ a → pointwise nat_eq r.owner p.proposer ≡ b → (p.number == r.number + 1) ≡ d → is_other_snapshot r p.step ≡ e
-        → why_of a b d e ≡ Some why → Refuses h p why (Some r)
-    by false b d e f g k l is = subst (λ (w : Why). Refuses h p w (Some r)) (some_is whys.Launch why is) (unlike p.launch (launch_of h p.proposer) f)
-    by true false d e f g k l is = subst (λ (w : Why). Refuses h p w (Some r)) (some_is whys.Owner why is) (unlike_text r.owner p.proposer g)
-    by true true false e f g k l is = subst (λ (w : Why). Refuses h p w (Some r)) (some_is whys.Number why is) ((same_text r.owner p.proposer).0 g, unlike p.number (r.number + 1) k)
-    by true true true true f g k l is = subst (λ (w : Why). Refuses h p w (Some r)) (some_is whys.Snapshot why is) ((same_text r.owner p.proposer).0 g, l)
-    by true true true false f g k l is = absurd cc
+    by : (z a b d e : Bool) → (p.launch == 0) ≡ z → (p.launch == launch_of h p.proposer) ≡ a → pointwise nat_eq r.owner p.proposer ≡ b → (p.number == r.number + 1) ≡ d → is_other_snapshot r p.step ≡ e
+        → why_of z a b d e ≡ Some why → Refuses h p why (Some r)
+    by true a b d e y f g k l is = subst (λ (w : Why). Refuses h p w (Some r)) (some_is whys.Launch why is) (inl (eqb-true p.launch 0 y))
+    by false false b d e y f g k l is = subst (λ (w : Why). Refuses h p w (Some r)) (some_is whys.Launch why is) (inr (unlike p.launch (launch_of h p.proposer) f))
+    by false true false d e y f g k l is = subst (λ (w : Why). Refuses h p w (Some r)) (some_is whys.Owner why is) (unlike_text r.owner p.proposer g)
+    by false true true false e y f g k l is = subst (λ (w : Why). Refuses h p w (Some r)) (some_is whys.Number why is) ((same_text r.owner p.proposer).0 g, unlike p.number (r.number + 1) k)
+    by false true true true true y f g k l is = subst (λ (w : Why). Refuses h p w (Some r)) (some_is whys.Snapshot why is) ((same_text r.owner p.proposer).0 g, l)
+    by false true true true false y f g k l is = absurd cc
 
 -- ---- the step
 
@@ -200,7 +202,11 @@ grants h p before i row false f g = puts h (commands.Propose p) p.instance befor
 
 gives_step : (h : Holdings) (p : Proposal) (before i : Instance) (r : Result Row StepFault) → IsFoundAs h p.instance before i → is_again i.row p ≡ false → IsFresh h i.row p → applied i.row p (h.revision + 1) ≡ r → Gives h (commands.Propose p) (step_answer h i r)
 gives_step h p before i (Err fault) f new g e = refuses h (commands.Propose p) (replies.Stale (whys.Step fault) (Some i.row))
-gives_step h p before i (Ok row) f new g e = grants h p before i row (takes_running i.row row) f (grant_is h p before i row (takes_running i.row row) f new g (is_applied i.row p (h.revision + 1) row e) refl)
+gives_step h p before i (Ok row) f new g e = by (nat_le row.serial greatest)
+  where
+    by : (b : Bool) → Gives h (commands.Propose p) (if b then granting h i row (takes_running i.row row) else refusing replies.Limit)
+    by true = grants h p before i row (takes_running i.row row) f (grant_is h p before i row (takes_running i.row row) f new g (is_applied i.row p (h.revision + 1) row e) refl)
+    by false = refuses h (commands.Propose p) replies.Limit
 
 gives_fresh : (h : Holdings) (p : Proposal) (before i : Instance) (o : Option Why) → IsFoundAs h p.instance before i → is_again i.row p ≡ false → stale h i.row p ≡ o → Gives h (commands.Propose p) (fresh_answer h i p o)
 gives_fresh h p before i (Some why) f new e = refuses h (commands.Propose p) (replies.Stale why (Some i.row))
@@ -282,7 +288,11 @@ refuses_answer h p before i why f r = refused why (Some i.row) refl refl (record
 
 answers_step : (h : Holdings) (p : Proposal) (before i : Instance) (r : Result Row StepFault) → IsFoundAs h p.instance before i → is_again i.row p ≡ false → IsFresh h i.row p → applied i.row p (h.revision + 1) ≡ r → AnswersOf h p (step_answer h i r)
 answers_step h p before i (Err fault) f new g e = refuses_answer h p before i (whys.Step fault) f (g.owner, is_fault i.row p (h.revision + 1) fault e)
-answers_step h p before i (Ok row) f new g e = answers_granted h p before i row (takes_running i.row row) f (grant_is h p before i row (takes_running i.row row) f new g (is_applied i.row p (h.revision + 1) row e) refl)
+answers_step h p before i (Ok row) f new g e = by (nat_le row.serial greatest)
+  where
+    by : (b : Bool) → AnswersOf h p (if b then granting h i row (takes_running i.row row) else refusing replies.Limit)
+    by true = answers_granted h p before i row (takes_running i.row row) f (grant_is h p before i row (takes_running i.row row) f new g (is_applied i.row p (h.revision + 1) row e) refl)
+    by false = limited refl refl
 
 answers_fresh : (h : Holdings) (p : Proposal) (before i : Instance) (o : Option Why) → IsFoundAs h p.instance before i → is_again i.row p ≡ false → stale h i.row p ≡ o → AnswersOf h p (fresh_answer h i p o)
 answers_fresh h p before i (Some why) f new e = refuses_answer h p before i why f (is_stale h i.row p why e)

@@ -210,7 +210,7 @@ grants h i row false = accepts h (PutInstance (with_row i row) ∷ []) _ tt
 
 answers_step : (h : Holdings) (i : Instance) (r : Result Row StepFault) → Without h (step_answer h i r)
 answers_step h i (Err fault) = refuses h _
-answers_step h i (Ok row) = grants h i row (takes_running i.row row)
+answers_step h i (Ok row) = either h (nat_le row.serial greatest) _ _ (grants h i row (takes_running i.row row)) (refuses h _)
 
 answers_fresh : (h : Holdings) (p : Proposal) (i : Instance) (o : Option Why) → Without h (fresh_answer h i p o)
 answers_fresh h p i (Some why) = refuses h _

@@ -106,7 +106,7 @@ pub record Moves (h : Holdings) (c : Command) (k : Holdings) : Type 0 where
 -- why a proposal is refused, with the row as it is read
 abbrev pub Refuses : Holdings → Proposal → Why → Option Row → Type 0
 Refuses h p whys.NoSuch None = instance h p.instance ≡ None
-Refuses h p whys.Launch (Some r) = p.launch ≡ launch_of h p.proposer → ⊥
+Refuses h p whys.Launch (Some r) = (p.launch ≡ 0) ⊎ (p.launch ≡ launch_of h p.proposer → ⊥)
 Refuses h p whys.Owner (Some r) = r.owner ≡ p.proposer → ⊥
 Refuses h p whys.Number (Some r) = (r.owner ≡ p.proposer) × (p.number ≡ r.number + 1 → ⊥)
 Refuses h p whys.Snapshot (Some r) = (r.owner ≡ p.proposer) × (is_other_snapshot r p.step ≡ true)
