@@ -1,0 +1,11 @@
+pub mod Asking
+pub mod Booting
+pub mod Bounded
+pub mod Commands
+pub mod Dropped
+pub mod Edits
+pub mod Held
+pub mod Named
+pub mod Owned
+pub mod Proposals
+pub mod Snapping
