@@ -1,10 +1,35 @@
 ghost use Rattle.std.specs.Prelude.{◌≡◌, codes};
 ghost use Rattle.smf_cfg.specs.Serving.{IsTold};
-ghost use Rattle.smf_program.specs.Telling.{database_text};
+ghost use Rattle.smf_program.specs.Telling.{database_text, failed_because};
 
 use smf_cfg::tell;
 use smf_lines::TextWriter;
 use sqlite::{Error, ErrorCode};
+
+/// The library failed, and on a second line why, if the error's code gives a reason.
+fn failed_because(code: ErrorCode) -> &'static str
+    ensures { result.now ≡ failed_because code }
+{
+    match code {
+        ErrorCode::DatabaseBusy => {
+            "smf: store: database failed\nsmf: store: in use by another program"
+        }
+        ErrorCode::CannotOpen => {
+            "smf: store: database failed\nsmf: store: not there, or no right to open it"
+        }
+        ErrorCode::NotADatabase => {
+            "smf: store: database failed\nsmf: store: no database that can be read"
+        }
+        ErrorCode::DatabaseCorrupt => {
+            "smf: store: database failed\nsmf: store: a page is damaged"
+        }
+        ErrorCode::DiskFull => "smf: store: database failed\nsmf: store: disk full",
+        ErrorCode::SystemIoFailure => {
+            "smf: store: database failed\nsmf: store: a read or a write failed"
+        }
+        _ => "smf: store: database failed",
+    }
+}
 
 /// What is told of a database that the library does not open.
 fn database_text(fault: &Error) -> &'static str
@@ -12,6 +37,7 @@ fn database_text(fault: &Error) -> &'static str
 {
     match fault {
         Error::SqliteFailure(ErrorCode::OutOfMemory) => "smf: no memory",
+        Error::SqliteFailure(code) => failed_because(*code),
         _ => "smf: store: database failed",
     }
 }
