@@ -28,21 +28,22 @@ first_agrees : (h : Holdings) (p : Progress) (old : Seen) → p ≡ first h → 
 first_agrees h p old begins none =
     subst (λ (l : Ledger). Agrees p.world l) (sym none) (subst (λ (q : Progress). Agrees q.world unasked) (sym begins) (agree_first h))
 
-pub ran_over : (k : Skills) (h : Holdings) (p after : Progress) (input : Option (List ℕ)) (old mid new : Seen) (was is : Option (List ℕ)) (r : Result ℕ ScriptFault) → p ≡ first h → IfOk r (λ status. HasRun k (begun p) input old mid after was is status) → AreEnded k mid new → IsSafe after.world → OnOk r (Agrees p.world old.ledger → Agrees after.world mid.ledger) → IfOk r (λ status. HasRunOver k h input old new was is status)
-ran_over k h p after input old mid new was is (Err e) begins ran ended safe agrees = tt
-ran_over k h p after input old mid new was is (Ok status) begins ran ended safe agrees =
+pub ran_over : (k : Skills) (stands : Holdings → Type 0) (h : Holdings) (p after : Progress) (input : Option (List ℕ)) (old mid new : Seen) (was is : Option (List ℕ)) (r : Result ℕ ScriptFault) → p ≡ first h → IfOk r (λ status. HasRun k (begun p) input old mid after was is status) → AreEnded k mid new → IsSafe after.world → stands after.world.now → OnOk r (Agrees p.world old.ledger → Agrees after.world mid.ledger) → IfOk r (λ status. HasRunOver k stands h input old new was is status)
+ran_over k stands h p after input old mid new was is (Err e) begins ran ended safe left agrees = tt
+ran_over k stands h p after input old mid new was is (Ok status) begins ran ended safe left agrees =
     record {
       after = after;
       mid = mid;
       ran = subst (λ (q : Progress). HasRun k (begun q) input old mid after was is status) begins ran;
       ended = ended;
       safe = safe;
+      stands_so = left;
       agrees = λ none. agrees (first_agrees h p old begins none);
     }
 
-pub cut_off : (k : Skills) (stores : RepoFault → Type 0) (reads writes : Error → Type 0) (h : Holdings) (p after : Progress) (input : Option (List ℕ)) (old mid new : Seen) (was is : Option (List ℕ)) (r : Result ℕ ScriptFault) → p ≡ first h → IfErr r (λ e. Stops k stores e (begun p) input old mid after was is) → IfErr r (λ e. IsWhy stores reads writes e) → AreEnded k mid new → IsSafe after.world → OnErr r (Agrees p.world old.ledger → AgreesOrDropped after.world mid.ledger) → IfErr r (λ e. IsCutOff k stores reads writes h input old new was is e)
-cut_off k stores reads writes h p after input old mid new was is (Ok status) begins stops why ended safe agrees = tt
-cut_off k stores reads writes h p after input old mid new was is (Err e) begins stops why ended safe agrees =
+pub cut_off : (k : Skills) (stores : RepoFault → Type 0) (stands : Holdings → Type 0) (reads writes : Error → Type 0) (h : Holdings) (p after : Progress) (input : Option (List ℕ)) (old mid new : Seen) (was is : Option (List ℕ)) (r : Result ℕ ScriptFault) → p ≡ first h → IfErr r (λ e. Stops k stores e (begun p) input old mid after was is) → IfErr r (λ e. IsWhy stores reads writes e) → AreEnded k mid new → IsSafe after.world → stands after.world.now → OnErr r (Agrees p.world old.ledger → AgreesOrDropped after.world mid.ledger) → IfErr r (λ e. IsCutOff k stores stands reads writes h input old new was is e)
+cut_off k stores stands reads writes h p after input old mid new was is (Ok status) begins stops why ended safe left agrees = tt
+cut_off k stores stands reads writes h p after input old mid new was is (Err e) begins stops why ended safe left agrees =
     stopped
     (record {
       after = after;
@@ -51,5 +52,6 @@ cut_off k stores reads writes h p after input old mid new was is (Err e) begins 
       why = why;
       ended = ended;
       safe = safe;
+      stands_so = left;
       agrees = λ none. agrees (first_agrees h p old begins none);
     })

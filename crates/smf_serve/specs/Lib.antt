@@ -2,3 +2,4 @@ pub mod Telling
 pub mod Cfgs
 pub mod Runs
 pub mod Sims
+pub mod Closed

@@ -1,7 +1,11 @@
 ghost use Rattle.std.specs.Prelude.{◌≡◌, ◌≢◌, ◌≤◌, IfErr, IfOk};
 ghost use Rattle.smf_edge.specs.Answers.{seen};
+ghost use Rattle.sqlite.specs.Files.{over_files};
+ghost use Rattle.smf_serve.specs.Closed.{IsClosedAfter, IsEndedAfter};
 ghost use Rattle.smf_serve.specs.Runs.{HasRunOver, IsCut, IsCutOff, IsDone, IsEnded};
 
+use crate::closing::close;
+use crate::served::{Closed, Served};
 use crate::telling::{fault_text, tell_open};
 use smf_cfg::tell;
 use smf_edge::Kids;
@@ -12,37 +16,49 @@ use smf_run::{end_all, run_script};
 use smf_script::ScriptFault;
 use smf_store::open_repository;
 use sqlite::{Alter, Connection};
+use sqlite_disk::Disk;
+use sqlite_store::FileStore;
 use std::alloc::Global;
 
+/// The end of a run over a journal.
+pub(crate) struct Ended<T, J> {
+    pub(crate) end: T,
+    /// The journal, as the run left it.
+    pub(crate) journal: J,
+}
+
 /// Does a script over a repository and the children of its services. At the end every child that is left is killed and
-/// waited for.
+/// waited for. The journal is handed back.
 fn run_over<J: Journal + Drop, R: LineReader, W: TextWriter, K: Kids>(
     alloc: Global,
     repository: Plain<J>,
     reader: &mut R,
     writer: &mut W,
     kids: &mut K,
-) -> Result<u8, ScriptFault>
-    ensures ran { IfOk result (λ status.
-        HasRunOver K.skills repository.held (R.remaining reader.old) (seen (K.ledger kids.old) (K.failures kids.old)) (seen (K.ledger kids.new) (K.failures kids.new)) (W.contents writer.old) (W.contents writer.new) status) }
-    ensures exit { IfOk result (λ status. status ≤ 1) }
-    ensures cut { IfErr result (λ fault.
-        IsCutOff K.skills J.write_fails R.read_fails W.write_fails repository.held (R.remaining reader.old) (seen (K.ledger kids.old) (K.failures kids.old)) (seen (K.ledger kids.new) (K.failures kids.new)) (W.contents writer.old) (W.contents writer.new) fault) }
+) -> Ended<Result<u8, ScriptFault>, J>
+    ensures ran { IfOk result.end (λ status.
+        HasRunOver K.skills (J.stands result.journal) repository.held (R.remaining reader.old) (seen (K.ledger kids.old) (K.failures kids.old)) (seen (K.ledger kids.new) (K.failures kids.new)) (W.contents writer.old) (W.contents writer.new) status) }
+    ensures exit { IfOk result.end (λ status. status ≤ 1) }
+    ensures cut { IfErr result.end (λ fault.
+        IsCutOff K.skills J.write_fails (J.stands result.journal) R.read_fails W.write_fails repository.held (R.remaining reader.old) (seen (K.ledger kids.old) (K.failures kids.old)) (seen (K.ledger kids.new) (K.failures kids.new)) (W.contents writer.old) (W.contents writer.new) fault) }
 {
     let mut node = match Node::new(alloc, repository) {
         Ok(node) => node,
         Err((fault, repository)) => {
-            let _journal = repository.into_journal();
-            return Err(ScriptFault::Node(fault));
+            return Ended {
+                end: Err(ScriptFault::Node(fault)),
+                journal: repository.into_journal(),
+            };
         }
     };
     let end = run_script(alloc, reader, writer, &mut node, kids);
     let _is_listed: bool = end_all(kids);
-    let _journal = node.into_repository().into_journal();
-    end
+    let journal = node.into_repository().into_journal();
+    Ended { end, journal }
 }
 
-/// Does a script over a repository and the children of its services, and gives the status of the run.
+/// Does a script over a repository and the children of its services, gives the status of the run, and hands the journal
+/// back.
 pub(crate) fn serve_over<J: Journal + Drop, R: LineReader, W: TextWriter, E: TextWriter, K: Kids>(
     alloc: Global,
     repository: Plain<J>,
@@ -50,20 +66,30 @@ pub(crate) fn serve_over<J: Journal + Drop, R: LineReader, W: TextWriter, E: Tex
     writer: &mut W,
     errors: &mut E,
     kids: &mut K,
-) -> u8
-    ensures ok { result ≢ 3 → HasRunOver K.skills repository.held
-        (R.remaining reader.old) (seen (K.ledger kids.old) (K.failures kids.old)) (seen (K.ledger kids.new) (K.failures kids.new)) (W.contents writer.old) (W.contents writer.new) result }
-    ensures fault { result ≡ 3 → IsCut K.skills J.write_fails R.read_fails W.write_fails E.write_fails repository.held
+) -> Ended<u8, J>
+    ensures ok { result.end ≢ 3 → HasRunOver K.skills (J.stands result.journal) repository.held
+        (R.remaining reader.old) (seen (K.ledger kids.old) (K.failures kids.old)) (seen (K.ledger kids.new) (K.failures kids.new)) (W.contents writer.old) (W.contents writer.new) result.end }
+    ensures fault { result.end ≡ 3 → IsCut K.skills J.write_fails (J.stands result.journal) R.read_fails W.write_fails E.write_fails repository.held
         (R.remaining reader.old) (seen (K.ledger kids.old) (K.failures kids.old)) (seen (K.ledger kids.new) (K.failures kids.new)) (W.contents writer.old) (W.contents writer.new) (E.contents errors.old) (E.contents errors.new) }
 {
-    match run_over(alloc, repository, reader, writer, kids) {
-        Ok(status) => status,
-        Err(fault) => tell(errors, fault_text(&fault)),
+    let Ended { end, journal } = run_over(alloc, repository, reader, writer, kids);
+    match end {
+        Ok(status) => Ended {
+            end: status,
+            journal,
+        },
+        Err(fault) => {
+            let status = tell(errors, fault_text(&fault));
+            Ended {
+                end: status,
+                journal,
+            }
+        }
     }
 }
 
 /// Does a script over a database and the children of its services, and gives the status of the run: 0, 1 where a line
-/// failed, or 3 for a fault. At the end every child that is left is killed and waited for.
+/// failed, or 3 for a fault. At the end every child that is left is killed and waited for. The database is handed back.
 pub fn serve<S: Alter + Drop, R: LineReader, W: TextWriter, E: TextWriter, K: Kids>(
     alloc: Global,
     conn: Connection<S>,
@@ -71,14 +97,48 @@ pub fn serve<S: Alter + Drop, R: LineReader, W: TextWriter, E: TextWriter, K: Ki
     writer: &mut W,
     errors: &mut E,
     kids: &mut K,
-) -> u8
-    ensures ok { result ≢ 3 → IsDone S.Store conn K.skills
-        (R.remaining reader.old) (seen (K.ledger kids.old) (K.failures kids.old)) (seen (K.ledger kids.new) (K.failures kids.new)) (W.contents writer.old) (W.contents writer.new) result }
-    ensures fault { result ≡ 3 → IsEnded S.Store conn K.skills (λ _. Unit {0}) R.read_fails W.write_fails E.write_fails
+) -> Served<S>
+    ensures ok { result.status ≢ 3 → IsDone S.Store conn result.conn K.skills
+        (R.remaining reader.old) (seen (K.ledger kids.old) (K.failures kids.old)) (seen (K.ledger kids.new) (K.failures kids.new)) (W.contents writer.old) (W.contents writer.new) result.status }
+    ensures fault { result.status ≡ 3 → IsEnded S.Store conn result.conn K.skills (λ _. Unit {0}) R.read_fails W.write_fails E.write_fails
         (R.remaining reader.old) (seen (K.ledger kids.old) (K.failures kids.old)) (seen (K.ledger kids.new) (K.failures kids.new)) (W.contents writer.old) (W.contents writer.new) (E.contents errors.old) (E.contents errors.new) }
 {
     match open_repository(alloc, conn) {
-        Ok(repository) => serve_over(alloc, repository, reader, writer, errors, kids),
-        Err((fault, _)) => tell_open(alloc, errors, &fault),
+        Ok(repository) => {
+            let Ended { end, journal } = serve_over(
+                alloc, repository, reader, writer, errors, kids,
+            );
+            Served {
+                status: end,
+                conn: journal.release(),
+            }
+        }
+        Err((fault, conn)) => {
+            let status = tell_open(alloc, errors, &fault);
+            Served { status, conn }
+        }
     }
+}
+
+/// Does a script over the database in two files and the children of its services, closes the database, and gives the
+/// status of the run: 0, 1 if a line failed, or 3 for a fault, also one of the close.
+pub fn serve_file<D: Disk + Drop, R: LineReader, W: TextWriter, E: TextWriter, K: Kids>(
+    alloc: Global,
+    conn: Connection<FileStore<D>>,
+    reader: &mut R,
+    writer: &mut W,
+    errors: &mut E,
+    kids: &mut K,
+) -> Closed<D>
+    ensures ok { result.status ≢ 3 → IsClosedAfter (λ after. IsDone over_files conn after K.skills
+        (R.remaining reader.old) (seen (K.ledger kids.old) (K.failures kids.old)) (seen (K.ledger kids.new) (K.failures kids.new)) (W.contents writer.old) (W.contents writer.new) result.status) result.files }
+    ensures fault { result.status ≡ 3 → IsEndedAfter
+        (λ after status. IsDone over_files conn after K.skills
+        (R.remaining reader.old) (seen (K.ledger kids.old) (K.failures kids.old)) (seen (K.ledger kids.new) (K.failures kids.new)) (W.contents writer.old) (W.contents writer.new) status)
+        (λ after told. IsEnded over_files conn after K.skills (λ _. Unit {0}) R.read_fails W.write_fails E.write_fails
+        (R.remaining reader.old) (seen (K.ledger kids.old) (K.failures kids.old)) (seen (K.ledger kids.new) (K.failures kids.new)) (W.contents writer.old) (W.contents writer.new) (E.contents errors.old) told)
+        E.write_fails result.files (E.contents errors.new) }
+{
+    let served = serve(alloc, conn, reader, writer, errors, kids);
+    close(served, errors)
 }

@@ -2,7 +2,7 @@ ghost use Rattle.std.specs.Prelude.{◌≡◌, ◌≢◌};
 ghost use Rattle.smf_edge.specs.Answers.{seen};
 ghost use Rattle.smf_serve.specs.Sims.{IsSimulated, IsSimulationCut};
 
-use crate::script::serve_over;
+use crate::script::{Ended, serve_over};
 use smf_edge::Kids;
 use smf_lines::{LineReader, TextWriter};
 use smf_model::{NoJournal, Plain};
@@ -23,5 +23,9 @@ pub fn serve_sim<R: LineReader, W: TextWriter, E: TextWriter, K: Kids>(
         (R.remaining reader.old) (seen (K.ledger kids.old) (K.failures kids.old)) (seen (K.ledger kids.new) (K.failures kids.new)) (W.contents writer.old) (W.contents writer.new) (E.contents errors.old) (E.contents errors.new) }
 {
     let repository = Plain::new(alloc, NoJournal {});
-    serve_over(alloc, repository, reader, writer, errors, kids)
+    let Ended {
+        end,
+        journal: _journal,
+    } = serve_over(alloc, repository, reader, writer, errors, kids);
+    end
 }

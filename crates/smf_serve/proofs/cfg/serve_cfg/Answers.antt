@@ -1,5 +1,6 @@
-use Rattle.std.proofs.Common.{refl}
-use Rattle.smf_serve.specs.Cfgs.IsEnded.{stopped, unopened}
+use Rattle.std.proofs.Common.{sym, subst}
+use Rattle.smf_serve.specs.Cfgs.{IsLeft}
+use Rattle.smf_serve.specs.Cfgs.IsEnded.{stopped}
 use Rattle.smf_serve.proofs.cfg.serve_cfg.Goals as goal
 
 pub returns-in-Ok-clause-ok : goal.returns-in-Ok-clause-ok
@@ -7,15 +8,13 @@ returns-in-Ok-clause-ok g c = λ fine.
     record {
       held = c.in-Ok.repository.held;
       opened = c.in-Ok.ensures.opened;
-      left = c.serve_cfg.new.client.held;
-      ends = c.serve_cfg.ensures.ok fine;
+      left = c.serve_cfg-status.new.client.held;
+      stands = subst (λ conn. IsLeft g.S.Store conn c.serve_cfg-status.new.client.held) (sym c.release-conn.ensures) c.into_journal.ensures.stands;
+      ends = c.serve_cfg-status.ensures.ok fine;
     }
 
 pub returns-in-Ok-clause-fault : goal.returns-in-Ok-clause-fault
 returns-in-Ok-clause-fault g c = λ faulted.
-    stopped c.in-Ok.repository.held c.serve_cfg.new.client.held c.in-Ok.ensures.opened (c.serve_cfg.ensures.fault faulted)
-
-pub returns-clause-fault : goal.returns-clause-fault
-returns-clause-fault g c = λ faulted.
-    unopened
-    (record { fault = c.in-Err.fault; left = c.in-Err.field-0-1; why = c.in-Err.ensures.refused; silent = refl; told = c.tell_open.ensures.told })
+    stopped c.in-Ok.repository.held c.serve_cfg-status.new.client.held c.in-Ok.ensures.opened
+    (subst (λ conn. IsLeft g.S.Store conn c.serve_cfg-status.new.client.held) (sym c.release-conn.ensures) c.into_journal.ensures.stands)
+    (c.serve_cfg-status.ensures.fault faulted)
