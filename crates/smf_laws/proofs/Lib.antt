@@ -9,3 +9,14 @@ pub mod Named
 pub mod Owned
 pub mod Proposals
 pub mod Snapping
+pub mod Giving
+pub mod Enabling
+pub mod Reverting
+pub mod Refreshing
+pub mod Folds
+pub mod BootAnew
+pub mod Beginning
+pub mod Coming
+pub mod Judging
+pub mod Denying
+pub mod Notes

@@ -1,0 +1,147 @@
+-- A revert, and the value that it leaves.
+use Rattle.std.proofs.Common.{◌≡◌, ℕ, ◌+◌, ◌||◌, List, [], Option, Some, None, option_map, unwrap_or, refl, sym, ap, ◌∙◌, subst}
+use Rattle.smf_fmri.specs.ByKey.{lookup}
+use Rattle.smf_snap.specs.declared.name.SnapshotName.{SnapshotName}
+use Rattle.smf_snap.specs.declared.name.SnapshotName.TheVariants as snapshots
+use Rattle.smf_snap.specs.Taking.{restored}
+use Rattle.smf_value.specs.Groups.{GroupRecord}
+use Rattle.smf_model.specs.declared.change.Change.TheVariants.{AddSnapshot, NextSnapshot, PutInstance}
+use Rattle.smf_model.specs.declared.command.Reply.{Reply}
+use Rattle.smf_model.specs.declared.command.Reply.TheVariants.{Done, Limit, NoSuch}
+use Rattle.smf_model.specs.declared.held.Instance.{Instance}
+use Rattle.smf_model.specs.declared.held.Owner.TheVariants as owners
+use Rattle.smf_model.specs.declared.held.Snapshot.{Snapshot}
+use Rattle.smf_model.specs.Holdings.{Holdings}
+use Rattle.smf_model.specs.Laws.{IsNumbered}
+use Rattle.smf_model.specs.Look.{by_instance, changed, groups_of, installed, instance, instances, owned, put_over, with_groups}
+use Rattle.smf_model.specs.Next.{asked, asked_edit, asked_revert, found, is_past_most, named_snapshot, next, number_of, reverted, snapshot_of}
+use Rattle.smf_model.specs.Next.{reverting as changes_of_revert}
+use Rattle.smf_model.specs.Setting.{service_owner}
+use Rattle.smf_model.proofs.Entries.{bare_groups, bare_instance}
+use Rattle.smf_laws.specs.Effects.{IsOfNothing, IsReverted, meant, meant_by, reverting, seen, snapshot_at, stands_for}
+use Rattle.smf_laws.proofs.Giving.{Gives, Held, either, groups_here, held_of, one_of, owned_apart, owned_here, owned_put, put_apart, put_there, refuses, reply_snapshot, snaps, with_one}
+
+-- ---- the snapshot that a name means
+
+same_number : (i : Instance) (name : SnapshotName) → number_of i name ≡ stands_for name i
+same_number i snapshots.Previous = refl
+same_number i snapshots.Running = refl
+same_number i snapshots.Start = refl
+
+same_snapshot : (h : Holdings) (o : Option ℕ) → named_snapshot h o ≡ snapshot_at h o
+same_snapshot h None = refl
+same_snapshot h (Some n) = refl
+
+pub is_meant : (h : Holdings) (i : Instance) (name : SnapshotName) → named_snapshot h (number_of i name) ≡ snapshot_at h (stands_for name i)
+is_meant h i name = same_snapshot h (number_of i name) ∙ ap (snapshot_at h) (same_number i name)
+
+-- ---- the value then
+
+restored_or_none : (o : Option (List GroupRecord)) (gs : List GroupRecord) → option_map (λ (x : List GroupRecord). restored (unwrap_or o []) gs) o ≡ option_map (λ (x : List GroupRecord). restored x gs) o
+restored_or_none None gs = refl
+restored_or_none (Some x) gs = refl
+
+module _ (h : Holdings) (n : ℕ) (i : Instance) (s : Snapshot) (numbered : IsNumbered h) (it : Held h n i) where
+  abbrev own_then : List GroupRecord
+  own_then = restored (groups_of h (owners.Instance i.number)) s.instance_groups
+
+  abbrev services_then : List GroupRecord
+  services_then = restored (groups_of h (service_owner i)) s.service_groups
+
+  abbrev noted : Instance
+  noted = record i { previous = Some h.next_snapshot }
+
+  abbrev with_noted : Holdings
+  with_noted = changed (changed (changed h (AddSnapshot (snapshot_of h i))) (NextSnapshot (h.next_snapshot + 1))) (PutInstance noted)
+
+  abbrev with_services : Holdings
+  with_services = with_groups with_noted services_then (service_owner i)
+
+  abbrev at_end : Holdings
+  at_end = record (with_groups with_services own_then (owners.Instance i.number)) { revision = h.revision + 1 }
+
+  held : instance h i.number ≡ Some it.before
+  held = ap (instance h) it.number ∙ it.is_there
+
+  over : instances at_end ≡ put_over noted (instances h)
+  over = bare_groups i.number own_then with_services.instances ∙ bare_instance noted h.instances
+
+  noted_there : instance with_services i.number ≡ Some noted
+  noted_there = ap (λ (is : List Instance). lookup by_instance is i.number) (bare_instance noted h.instances) ∙ put_there noted it.before i.number (instances h) refl held
+
+  own_are : groups_of at_end (owners.Instance i.number) ≡ own_then
+  unfolding groups_of
+  own_are = groups_here with_services i.number noted own_then noted_there
+
+  service_apart : service_owner i ≡ owners.Instance i.number → ⊥
+  service_apart e = absurd cc
+
+  services_are : owned at_end (service_owner i) ≡ option_map (λ gs. restored gs s.service_groups) (owned h (service_owner i))
+  unfolding groups_of
+  services_are = owned_here with_noted (service_owner i) services_then ∙ restored_or_none (owned h (service_owner i)) s.service_groups
+
+  pub is_reverted : IsReverted i s h at_end
+  is_reverted = record {
+    own = own_are;
+    services_own = services_are;
+    other_groups = λ owner not_own not_services. owned_apart with_services (owners.Instance i.number) owner own_then not_own ∙ owned_apart with_noted (service_owner i) owner services_then not_services ∙ owned_put h noted owner;
+    previous = ap (λ (is : List Instance). lookup by_instance is i.number) over ∙ put_there noted it.before i.number (instances h) refl held;
+    snapped = snaps h i at_end numbered refl refl;
+    others = λ m apart. ap (λ (is : List Instance). lookup by_instance is m) over ∙ put_apart noted m (instances h) apart;
+    names = refl;
+    launches = refl;
+    next_instance = refl;
+    revision = refl;
+  }
+
+abbrev Back : Holdings → Instance → Snapshot → Holdings → Type 0
+Back h i s k = IsReverted i s h k
+
+back_to : (h : Holdings) (n : ℕ) (i : Instance) (s : Snapshot) → IsNumbered h → Held h n i → Gives h Done (Back h i s) (reverted h i (Some s))
+unfolding installed
+back_to h n i s numbered it =
+    either h Done (Back h i s) (is_past_most (services_then h n i s numbered it) || is_past_most (own_then h n i s numbered it)) _ _
+    (λ e. refuses h Done (Back h i s) Limit refl refl)
+    (λ e. with_one h Done (Back h i s) i (changes_of_revert h i (services_then h n i s numbered it) (own_then h n i s numbered it)) Done refl (λ same. is_reverted h n i s numbered it))
+
+meant_at : (h : Holdings) (n : ℕ) (name : SnapshotName) (i : Instance) (s : Snapshot) → seen h n ≡ Some i → meant h n name ≡ Some s → named_snapshot h (number_of i name) ≡ Some s
+meant_at h n name i s e f = is_meant h i name ∙ sym (ap (meant_by h name) e) ∙ f
+
+pub brought_back : (h : Holdings) (n : ℕ) (name : SnapshotName) (i : Instance) (s : Snapshot) → IsNumbered h → seen h n ≡ Some i → meant h n name ≡ Some s
+    → (next h (reverting n name)).1 ≡ Done → IsReverted i s h (next h (reverting n name)).0
+unfolding next asked asked_edit
+brought_back h n name i s numbered e f =
+    subst (λ (o : Option Instance). Gives h Done (Back h i s) (asked_revert h name o)) (sym e)
+    (subst (λ (o : Option Snapshot). Gives h Done (Back h i s) (reverted h i o)) (sym (meant_at h n name i s e f)) (back_to h n i s numbered (held_of h n i e)))
+
+-- ---- a revert of nothing
+
+abbrev Tells : Option Snapshot → Reply → Type 0
+Tells o r = (r ≡ NoSuch → o ≡ None) × (o ≡ None → r ≡ NoSuch)
+
+tells_some : (s : Snapshot) (r : Reply) → (r ≡ NoSuch → ⊥) → Tells (Some s) r
+tells_some s r apart = (λ e. absurd (apart e), λ e. absurd (some_none e))
+  where
+    some_none : Some s ≡ None → ⊥
+    some_none e = cc
+
+not_done : Done ≡ NoSuch → ⊥
+not_done e = cc
+
+not_limit : Limit ≡ NoSuch → ⊥
+not_limit e = cc
+
+tells_reverted : (h : Holdings) (i : Instance) (o : Option Snapshot) → Tells o (reverted h i o).reply
+tells_reverted h i None = (λ e. refl, λ e. refl)
+tells_reverted h i (Some s) =
+    one_of (Tells (Some s)) (is_past_most (restored (groups_of h (service_owner i)) s.service_groups) || is_past_most (restored (groups_of h (owners.Instance i.number)) s.instance_groups)) _ _
+    (λ e. tells_some s Limit not_limit)
+    (λ e. reply_snapshot (Tells (Some s)) h i (changes_of_revert h i (restored (groups_of h (service_owner i)) s.service_groups) (restored (groups_of h (owners.Instance i.number)) s.instance_groups)) Done (λ f g. tells_some s Done not_done) (λ f. tells_some s Limit not_limit))
+
+tells_found : (h : Holdings) (name : SnapshotName) (o : Option Instance) → Tells (meant_by h name o) (asked_revert h name o).reply
+tells_found h name None = (λ e. refl, λ e. refl)
+tells_found h name (Some i) = subst (λ (o : Option Snapshot). Tells o (reverted h i (named_snapshot h (number_of i name))).reply) (is_meant h i name) (tells_reverted h i (named_snapshot h (number_of i name)))
+
+pub of_nothing : (h : Holdings) (n : ℕ) (name : SnapshotName) → IsOfNothing n name h (next h (reverting n name)).1
+unfolding next asked asked_edit
+of_nothing h n name = let both = tells_found h name (found h n) in record { told = both.0; only = both.1 }

@@ -1,0 +1,5 @@
+use Rattle.smf_laws.proofs.Denying.{is_answered}
+use Rattle.smf_laws.proofs.effects.edits_are_answered_in_order.Goals as goal
+
+pub returns : goal.returns
+returns c = is_answered
