@@ -1,18 +1,22 @@
-//! A program for tests: does lines of svccfg over a store on disks in memory, of which one stops at its first call, at
-//! its second, and so on, until none stops. Each time the disks crash, and what is opened again has to be what the
-//! lines that had a reply make, or what one line more makes.
-//! Modules: `disks` (disks that stop, and what crashes leave of them), `picture` (what a database holds), `session`
-//! (lines over a store), `stops` (all stops in turn).
+//! A program for tests: does lines over a store on disks in memory, of which one stops at its first call, at its second,
+//! and so on, until none stops. Each time the disks crash, and what is opened again has to be what the lines that had a
+//! reply make, or what one line more makes. It says of the open and of each line whether it changes nothing, or crashes
+//! left the value before it or the value after it.
+//! A line is one of svccfg, `svcadm` with its words, `launch NAME`, `boot`, or the message of a proposal.
+//! Modules: `disks` (disks that stop, and what crashes leave of them), `picture` (what a database holds), `lines` (a line
+//! done over a repository), `session` (lines over a store), `stops` (all stops in turn).
 #![tactic(auto)]
 
 mod disks;
+mod lines;
 mod picture;
 mod session;
 mod stops;
 
 use crate::disks::Image;
 use crate::session::{Fault, image_of};
-use crate::stops::{Counts, stop_all};
+use crate::stops::{Seen, stop_all};
+use std::alloc::{AllocError, Global};
 use std::process::ExitCode;
 use std::{env, fs, io};
 
@@ -47,19 +51,41 @@ fn texts_of(rt: &HostRuntime, words: &[String]) -> io::Result<Texts> {
     }
 }
 
+/// The lines of a text but for comments.
+fn lines_of(alloc: Global, text: &str) -> Result<Vec<&str>, AllocError> {
+    let mut lines = Vec::new(alloc);
+    for line in text.lines() {
+        if !line.starts_with('#') {
+            lines.push(line)?;
+        }
+    }
+    Ok(lines)
+}
+
 /// Stops these lines at each call.
-fn stop_lines(rt: &HostRuntime, texts: &Texts) -> Result<Counts, Fault> {
+fn stop_lines(rt: &HostRuntime, first: &str, lines: &[&str]) -> Result<Vec<Seen>, Fault> {
     let alloc = rt.alloc();
-    let image: Image = image_of(alloc, texts.first.as_str())?;
-    let lines: Vec<&str> = texts.lines.lines().collect(alloc)?;
-    stop_all(alloc, &image, &lines)
+    let image: Image = image_of(alloc, first)?;
+    stop_all(alloc, &image, lines)
+}
+
+/// Says what was seen of the open and of each line.
+fn tell_seen(rt: &HostRuntime, seen: &[Seen], lines: &[&str]) -> io::Result<()> {
+    let mut what = "open";
+    let mut lines = lines.iter();
+    for one in seen {
+        let seen = one.as_str();
+        println!(rt; "{seen}: {what}")?;
+        what = lines.next().copied().unwrap_or("");
+    }
+    Ok(())
 }
 
 /// Says what was found, and gives the status.
-fn tell(rt: &HostRuntime, found: Result<Counts, Fault>) -> io::Result<u8> {
+fn tell(rt: &HostRuntime, found: Result<Vec<Seen>, Fault>, lines: &[&str]) -> io::Result<u8> {
     match found {
-        Ok(counts) => {
-            println!(rt; "{counts}")?;
+        Ok(seen) => {
+            tell_seen(rt, &seen, lines)?;
             Ok(0)
         }
         Err(Fault::Found(stop)) => {
@@ -76,7 +102,9 @@ fn tell(rt: &HostRuntime, found: Result<Counts, Fault>) -> io::Result<u8> {
 fn run(rt: &HostRuntime) -> io::Result<u8> {
     let words: Vec<String> = env::args(rt)?.collect(rt.alloc())?;
     let texts = texts_of(rt, words.as_slice())?;
-    tell(rt, stop_lines(rt, &texts))
+    let lines = lines_of(rt.alloc(), texts.lines.as_str())?;
+    let found = stop_lines(rt, texts.first.as_str(), &lines);
+    tell(rt, found, &lines)
 }
 
 fn main(rt: HostRuntime) -> ExitCode {

@@ -1,8 +1,9 @@
 use crate::disks::{Image, endless, load};
+use crate::lines::do_line;
 use crate::picture::picture;
 use crate::stops::Stop;
-use smf_cfg::{Session, SessionFault};
-use smf_repo::Client;
+use smf_cfg::Session;
+use smf_model::{Journal, Plain};
 use smf_store::open_repository;
 use sqlite::{Alter, Connection, FileStore, Files, Options};
 use sqlite_disk::{Fuse, Memory};
@@ -67,10 +68,10 @@ pub(crate) fn open(alloc: Global, files: Files<Fuse<Memory>>) -> Result<Held, Fi
 }
 
 /// Does lines up to one that has no reply, and gives back how many had one.
-fn do_lines<C: Client>(alloc: Global, client: &mut C, lines: &[&str]) -> usize {
+fn do_lines<J: Journal>(alloc: Global, repository: &mut Plain<J>, lines: &[&str]) -> usize {
     let mut session = Session::new();
     for (at, line) in lines.iter().enumerate() {
-        if let Err(SessionFault::Repo(_)) = session.run_line(alloc, client, line) {
+        if !do_line(alloc, &mut session, repository, line) {
             return at;
         }
     }

@@ -29,12 +29,32 @@ pub(crate) struct Stop {
     replies: usize,
 }
 
-/// How many stops there were, and how many crashes left which value.
+/// Which values crashes left where a stop ended a line.
 #[derive(Clone, Copy)]
-pub(crate) struct Counts {
-    stops: u64,
-    before: u64,
-    after: u64,
+struct Left {
+    before: bool,
+    after: bool,
+}
+
+/// What was seen of a line.
+#[derive(Clone, Copy)]
+pub(crate) enum Seen {
+    /// It changes nothing.
+    NoChange,
+    /// A crash left the value before it, and another the value after it.
+    BothSides,
+    /// No crash left the one or the other.
+    OneSide,
+}
+
+impl Seen {
+    pub(crate) fn as_str(self) -> &'static str {
+        match self {
+            Seen::NoChange => "no change",
+            Seen::BothSides => "before or after",
+            Seen::OneSide => "one of both",
+        }
+    }
 }
 
 impl Part {
@@ -69,18 +89,6 @@ impl fmt::Display for Stop {
         write!(
             f,
             "{part} stopped behind {call} calls and {replies} replies: neither before nor after"
-        )
-    }
-}
-
-impl fmt::Display for Counts {
-    fn fmt<W: fmt::Write>(&self, f: &mut fmt::Formatter<W>) -> fmt::Result {
-        let stops = self.stops;
-        let before = self.before;
-        let after = self.after;
-        write!(
-            f,
-            "{stops} stops, each before or after: {before} crashes before, {after} after"
         )
     }
 }
@@ -147,8 +155,19 @@ pub(crate) struct Trial<'a> {
     values: &'a [Vec<u8>],
 }
 
-/// Stops a disk at one call, and counts what crashes leave; whether something was stopped.
-fn stop_at(trial: &Trial<'_>, part: Part, call: u64, counts: &mut Counts) -> Result<bool, Fault> {
+/// Notes which value a crash left where so many replies had come.
+fn note(left: &mut [Left], replies: usize, standing: Standing) {
+    if let Some(left) = left.get_mut(replies) {
+        match standing {
+            Standing::Before => left.before = true,
+            Standing::After => left.after = true,
+            Standing::Another => (),
+        }
+    }
+}
+
+/// Stops a disk at one call, and notes what crashes leave; whether something was stopped.
+fn stop_at(trial: &Trial<'_>, part: Part, call: u64, left: &mut [Left]) -> Result<bool, Fault> {
     let alloc = trial.alloc;
     let Ran { replies, mut files } = run(
         alloc,
@@ -158,33 +177,45 @@ fn stop_at(trial: &Trial<'_>, part: Part, call: u64, counts: &mut Counts) -> Res
     if !is_stopped(&mut files) {
         return Ok(false);
     }
-    counts.stops = counts.stops.saturating_add(1);
     for image in &images_left(alloc, files)? {
         match standing_in(alloc, image, trial.values, replies)? {
-            Standing::Before => counts.before = counts.before.saturating_add(1),
-            Standing::After => counts.after = counts.after.saturating_add(1),
             Standing::Another => return Err(Fault::Found(Stop {
                 part,
                 call,
                 replies,
             })),
+            standing => note(left, replies, standing),
         }
     }
     Ok(true)
 }
 
 /// Stops a disk at each of its calls.
-fn stop_part(trial: &Trial<'_>, part: Part, counts: &mut Counts) -> Result<(), Fault> {
+fn stop_part(trial: &Trial<'_>, part: Part, left: &mut [Left]) -> Result<(), Fault> {
     for call in 0..MOST {
-        if !stop_at(trial, part, call, counts)? {
+        if !stop_at(trial, part, call, left)? {
             return Ok(());
         }
     }
     Err(Fault::Undone)
 }
 
-/// Stops each disk at each of its calls.
-pub(crate) fn stop_all(alloc: Global, image: &Image, lines: &[&str]) -> Result<Counts, Fault> {
+/// What was seen of the line before which this value stood.
+fn seen_of(values: &[Vec<u8>], at: usize, left: Left) -> Seen {
+    let Some(before) = values.get(at) else {
+        return Seen::OneSide;
+    };
+    if is_value(values, at.saturating_add(1), before) {
+        Seen::NoChange
+    } else if left.before && left.after {
+        Seen::BothSides
+    } else {
+        Seen::OneSide
+    }
+}
+
+/// Stops each disk at each of its calls, and says what was seen of the open and of each line.
+pub(crate) fn stop_all(alloc: Global, image: &Image, lines: &[&str]) -> Result<Vec<Seen>, Fault> {
     let values = values(alloc, image, lines)?;
     let trial = Trial {
         alloc,
@@ -192,12 +223,18 @@ pub(crate) fn stop_all(alloc: Global, image: &Image, lines: &[&str]) -> Result<C
         lines,
         values: &values,
     };
-    let mut counts = Counts {
-        stops: 0,
-        before: 0,
-        after: 0,
-    };
-    stop_part(&trial, Part::Log, &mut counts)?;
-    stop_part(&trial, Part::Database, &mut counts)?;
-    Ok(counts)
+    let mut left = Vec::new(alloc);
+    for _ in 0..=lines.len() {
+        left.push(Left {
+            before: false,
+            after: false,
+        })?;
+    }
+    stop_part(&trial, Part::Log, &mut left)?;
+    stop_part(&trial, Part::Database, &mut left)?;
+    let mut seen = Vec::new(alloc);
+    for (at, left) in left.iter().enumerate() {
+        seen.push(seen_of(&values, at, *left))?;
+    }
+    Ok(seen)
 }
