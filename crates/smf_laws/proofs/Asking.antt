@@ -92,7 +92,7 @@ pub record IsFound (h : Holdings) (n : ℕ) (i : Instance) : Type 0 where
 none_launched : (n m : ℕ) → n ≡ 0 → n ≤ m
 none_launched n m e = omega arith
 
-current_held : (h : Holdings) (gs : Groups) (i : Instance) → IsInstanceHeld h i → IsInstanceHeld h (current gs i)
+pub current_held : (h : Holdings) (gs : Groups) (i : Instance) → IsInstanceHeld h i → IsInstanceHeld h (current gs i)
 unfolding current
 current_held h gs i held = by (i.row.number == 0) refl (setting gs i)
   where

@@ -11,7 +11,7 @@ use Rattle.smf_model.specs.declared.held.Instance.{Instance}
 use Rattle.smf_model.specs.Holdings.{Holdings}
 use Rattle.smf_model.specs.Laws.{Follows, IsNumbered, RowFollows, Stays, boots, is_refusal, moves, stays, steps}
 use Rattle.smf_model.specs.Look.{groups_of, instance}
-use Rattle.smf_model.specs.Next.{asked, asked_edit, asked_refresh, found, may_be_moved, moved_instance, next, refreshed, refreshed_instance, target_by}
+use Rattle.smf_model.specs.Next.{asked, asked_edit, asked_refresh, found, may_be_moved, moved_instance, next, refreshed, refreshed_instance, target_by, with_owners}
 use Rattle.smf_model.specs.Setting.{current, setting}
 use Rattle.smf_model.proofs.LawOutcomes.{unchanged}
 use Rattle.smf_model.proofs.LawRows.{follows_next}
@@ -41,10 +41,10 @@ at_boot h n i j numbered was is = by (boot_answer h numbered)
 
 -- ---- refreshes
 
-abbrev DoneOrNot : Reply → Type 0
+abbrev pub DoneOrNot : Reply → Type 0
 DoneOrNot r = (r ≡ Done) ⊎ (is_refusal r ≡ true)
 
-done_or_not : (h : Holdings) (o : Option Instance) → DoneOrNot (asked_refresh h o).reply
+pub done_or_not : (h : Holdings) (o : Option Instance) → DoneOrNot (asked_refresh h o).reply
 done_or_not h None = inr refl
 done_or_not h (Some i) = by (target_by (setting (groups_of h) i) i.row.owner)
   where
@@ -56,7 +56,7 @@ done_or_not h (Some i) = by (target_by (setting (groups_of h) i) i.row.owner)
         (λ f. reply_snapshot DoneOrNot h i (PutInstance (moved_instance h i owner) ∷ []) Done (λ g k. inl refl) (λ g. inr refl)))
 
 refresh_done : (h : Holdings) (n : ℕ) → DoneOrNot (next h (refreshing n)).1
-unfolding next asked asked_edit
+unfolding next asked asked_edit with_owners
 refresh_done h n = done_or_not h (found h n)
 
 seen_there : (h : Holdings) (n : ℕ) (i : Instance) → instance h n ≡ Some i → seen h n ≡ Some (current (groups_of h) i)

@@ -3,15 +3,12 @@ use Rattle.std.proofs.Common.{◌≡◌, ◌⊎◌, inl, inr, ℕ, ◌+◌, ◌<
 use Rattle.std.proofs.Math.Path.{fun_ext}
 use Rattle.std.proofs.lemmas.Map.Entries.{option_filter}
 use Rattle.std.specs.List.{list_any}
-use Rattle.std.specs.Ordering.{is_eq, nat_cmp}
 use Rattle.smf_fmri.specs.ByKey.{amend, lookup, put_all}
-use Rattle.smf_fmri.proofs.Lookups.{lookup_amend}
 use Rattle.smf_fmri.proofs.Rising.{rises_filter, rises_map}
 use Rattle.smf_fmri.proofs.SameLists.{lookup_filter}
 use Rattle.smf_state.specs.Rows.{greatest_number}
 use Rattle.smf_value.specs.Groups.{GroupRecord}
 use Rattle.smf_model.specs.declared.change.Change.{Change}
-use Rattle.smf_model.specs.declared.change.Change.TheVariants.{PutInstance}
 use Rattle.smf_model.specs.declared.command.Command.TheVariants as commands
 use Rattle.smf_model.specs.declared.command.Reply.TheVariants.{Done, Limit}
 use Rattle.smf_model.specs.declared.held.Instance.{Instance}
@@ -22,14 +19,16 @@ use Rattle.smf_model.specs.declared.held.Owner.TheVariants as owners
 use Rattle.smf_model.specs.declared.held.Service.{Service}
 use Rattle.smf_model.specs.Holdings.{Holdings}
 use Rattle.smf_model.specs.Laws.{IsNumbered}
-use Rattle.smf_model.specs.Look.{bare, by_entry, by_instance, by_launch, by_service, changed, groups_of, installed, instance, instances, owned, with_instance}
+use Rattle.smf_model.specs.Look.{bare, by_entry, by_instance, by_launch, by_service, changed, groups_of, installed, instance, instances, owned}
 use Rattle.smf_model.specs.Next.{all_booted, asked, asked_boot, booted, booting, greatest, has_dropped, instance_kept, is_last_launch, is_last_number, kept_groups, kept_of_instances, kept_of_services, may_not_boot, next, persistent, refused, accepted, relaunched, service_kept}
 use Rattle.smf_model.specs.Setting.{Groups, first_of, owner_by, setting}
-use Rattle.smf_model.proofs.Entries.{bare_groups, bare_instance, rises_bare}
-use Rattle.smf_model.proofs.LawOutcomes.{booted_at, installed_append, put_each}
+use Rattle.smf_model.proofs.Entries.{bare_groups, rises_bare}
+use Rattle.smf_model.proofs.LawOutcomes.{booted_at, installed_append}
+use Rattle.smf_model.proofs.Written.{put_each}
 use Rattle.smf_laws.specs.Anew.{BeginsAgain, IsBootAnswer, IsBooted, MayBoot, once_more, outlasting}
 use Rattle.smf_laws.proofs.Folds.{amend_each, amended_by, any_not, any_there, first_mapped, lookup_amend_each, lookup_map, lookup_put_all}
 use Rattle.smf_laws.proofs.Giving.{accepts, either, no_both, one_of, refuses, reply_accepted}
+use Rattle.smf_laws.proofs.Writing.{bare_each, groups_stay, instances_put, put_entries}
 
 -- ---- the changes, each kind in turn
 
@@ -38,10 +37,6 @@ keep_service s t = record t { groups = kept_groups s.groups }
 
 abbrev keep_entry : InstanceEntry → InstanceEntry → InstanceEntry
 keep_entry e t = record t { groups = kept_groups e.groups }
-
-abbrev put_entries : (Instance → Instance) → List Instance → List InstanceEntry → List InstanceEntry
-put_entries f [] es = es
-put_entries f (i ∷ is) es = put_entries f is (amend by_entry (f i).number (with_instance (f i)) es)
 
 launches_put : (ls : List Launch) (h : Holdings) → installed h (map relaunched ls) ≡ record h { launches = put_all by_launch (map once_more ls) h.launches }
 unfolding installed
@@ -57,11 +52,6 @@ entries_kept : (es : List InstanceEntry) (h : Holdings) → installed h (map ins
 unfolding installed
 entries_kept [] h = refl
 entries_kept (e ∷ es) h = entries_kept es (changed h (instance_kept e))
-
-instances_put : (f : Instance → Instance) (is : List Instance) (h : Holdings) → installed h (map (λ (i : Instance). PutInstance (f i)) is) ≡ record h { instances = put_entries f is h.instances }
-unfolding installed
-instances_put f [] h = refl
-instances_put f (i ∷ is) h = instances_put f is (changed h (PutInstance (f i)))
 
 abbrev new_services : Holdings → List Service
 new_services h = amend_each by_service keep_service (filter (λ s. has_dropped s.groups) h.services) h.services
@@ -134,19 +124,6 @@ entry_groups (Some e) = by (has_dropped e.groups) refl
     by true f = refl
     by false f = ap (λ (gs : List GroupRecord). Some gs) (all_outlast e.groups f)
 
--- instances put in their places keep their groups
-groups_stay : (f : Instance → Instance) (is : List Instance) (es : List InstanceEntry) (n : ℕ) → option_map (λ e. e.groups) (lookup by_entry (put_entries f is es) n) ≡ option_map (λ e. e.groups) (lookup by_entry es n)
-groups_stay f [] es n = refl
-groups_stay f (i ∷ is) es n =
-    groups_stay f is (amend by_entry (f i).number (with_instance (f i)) es) n
-    ∙ ap (option_map (λ e. e.groups)) (lookup_amend by_entry (f i).number (with_instance (f i)) es n (λ e. refl))
-    ∙ by (is_eq (nat_cmp (f i).number n)) (lookup by_entry es n)
-  where
-    by : (b : Bool) (o : Option InstanceEntry) → option_map (λ (e : InstanceEntry). e.groups) (if b then option_map (with_instance (f i)) o else o) ≡ option_map (λ (e : InstanceEntry). e.groups) o
-    by true None = refl
-    by true (Some e) = refl
-    by false o = refl
-
 groups_then : (h : Holdings) (owner : Owner) → IsNumbered h → owned (all_anew h) owner ≡ option_map outlasting (owned h owner)
 groups_then h (owners.Service name) numbered =
     ap (option_map (λ s. s.groups))
@@ -166,14 +143,10 @@ bare_kept : (es xs : List InstanceEntry) → bare (amend_each by_entry keep_entr
 bare_kept [] xs = refl
 bare_kept (e ∷ es) xs = bare_kept es (amend by_entry e.instance.number (keep_entry e) xs) ∙ bare_groups e.instance.number (kept_groups e.groups) xs
 
-bare_put : (f : Instance → Instance) (is : List Instance) (es : List InstanceEntry) → bare (put_entries f is es) ≡ put_each f is (bare es)
-bare_put f [] es = refl
-bare_put f (i ∷ is) es = bare_put f is (amend by_entry (f i).number (with_instance (f i)) es) ∙ ap (put_each f is) (bare_instance (f i) es)
-
 instances_then : (h : Holdings) (n : ℕ) → IsNumbered h → instance (all_anew h) n ≡ option_map (again h) (instance h n)
 instances_then h n numbered =
     ap (λ (is : List Instance). lookup by_instance is n)
-    (bare_put (again h) (instances h) (new_entries h) ∙ ap (put_each (again h) (instances h)) (bare_kept (filter (λ e. has_dropped e.groups) h.instances) h.instances))
+    (bare_each (again h) (instances h) (new_entries h) ∙ ap (put_each (again h) (instances h)) (bare_kept (filter (λ e. has_dropped e.groups) h.instances) h.instances))
     ∙ booted_at h (persistent (groups_of h)) n numbered
 
 or_none : (o : Option (List GroupRecord)) → unwrap_or (option_map outlasting o) [] ≡ outlasting (unwrap_or o [])

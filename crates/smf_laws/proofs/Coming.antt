@@ -1,5 +1,5 @@
 -- Services and instances after they are added or deleted.
-use Rattle.std.proofs.Common.{◌≡◌, ℕ, ◌+◌, ◌==◌, ◌||◌, not, nat_eq, nat_le, Bool, true, false, cond, filter, find, is_some, List, [], ◌∷◌, ◌++◌, Option, Some, None, option_map, refl, sym, ap, ◌∙◌, subst, eqb-true, eq-eqb}
+use Rattle.std.proofs.Common.{◌≡◌, ℕ, ◌+◌, ◌==◌, ◌||◌, not, nat_eq, nat_le, Bool, true, false, cond, filter, find, is_some, List, [], ◌∷◌, ◌++◌, Option, Some, None, option_map, unwrap_or, refl, sym, ap, ◌∙◌, subst, eqb-true, eq-eqb}
 use Rattle.std.specs.Cmp.Lexicographic.{pointwise}
 use Rattle.std.specs.List.{list_any}
 use Rattle.smf_fmri.specs.ByKey.{By, has_key, lookup, put, without}
@@ -10,6 +10,7 @@ use Rattle.smf_fmri.proofs.SameLists.{found_key}
 use Rattle.smf_fmri.proofs.Short.{short_is_name}
 use Rattle.smf_state.specs.declared.row.Row.{Row}
 use Rattle.smf_state.specs.States.{runs}
+use Rattle.smf_value.specs.Groups.{GroupRecord}
 use Rattle.smf_model.specs.declared.change.Change.TheVariants.{AddService, DropService}
 use Rattle.smf_model.specs.declared.command.Reply.TheVariants.{Done, Exists, InUse, Limit, Made, NoSuch}
 use Rattle.smf_model.specs.declared.held.Instance.{Instance}
@@ -18,9 +19,9 @@ use Rattle.smf_model.specs.declared.held.Owner.TheVariants as owners
 use Rattle.smf_model.specs.declared.held.Service.{Service}
 use Rattle.smf_model.specs.declared.held.Snapshot.{Snapshot}
 use Rattle.smf_model.specs.Holdings.{Holdings}
-use Rattle.smf_model.specs.Look.{by_entry, by_instance, by_name, by_service, by_snapshot, instance, instance_at, installed, instances, is_snapshot_of, named, others_of, owned, service}
-use Rattle.smf_model.specs.Next.{added_at, added_named, asked, asked_add_instance, asked_add_service, asked_delete_instance, asked_delete_service, asked_edit, greatest_instance, is_in_use, is_instance_of, joining, leaving, new_entry, new_instance, new_name, next}
-use Rattle.smf_model.specs.Setting.{service_fmri}
+use Rattle.smf_model.specs.Look.{group_in, groups_of, by_entry, by_instance, by_name, by_service, by_snapshot, instance, instance_at, installed, instances, is_snapshot_of, named, others_of, owned, service}
+use Rattle.smf_model.specs.Next.{added_at, added_named, asked, asked_add_instance, asked_add_service, asked_delete_instance, asked_delete_service, asked_edit, greatest_instance, is_in_use, is_instance_of, joining, leaving, new_entry, new_instance, new_name, new_owner, next, with_owners}
+use Rattle.smf_model.specs.Setting.{current, general, owner_by, service_fmri, setting, setting_by}
 use Rattle.smf_model.proofs.Entries.{bare_put, bare_without}
 use Rattle.smf_model.proofs.LawLists.{differs, some_filter}
 use Rattle.smf_laws.specs.Adding.{IsAtRest, IsInstanceAdded, IsInstanceDeleted, IsOfService, IsServiceAdded, IsServiceDeleted, added, adding_instance, adding_service, deleting_instance, deleting_service, full_name}
@@ -58,7 +59,7 @@ service_new h name None e =
     })
 
 pub service_added : (h : Holdings) (name : List ℕ) → (next h (adding_service name)).1 ≡ Done → IsServiceAdded name h (next h (adding_service name)).0
-unfolding next asked asked_edit
+unfolding next asked asked_edit with_owners
 service_added h name = service_new h name (service h name) refl
 
 alone : (h : Holdings) (name : List ℕ) → list_any (is_instance_of name) (instances h) ≡ false → (n : ℕ) (i : Instance) → instance h n ≡ Some i → service_fmri i.name ≡ name → ⊥
@@ -80,7 +81,7 @@ service_gone h name (Some s) e =
     }))
 
 pub service_deleted : (h : Holdings) (name : List ℕ) → (next h (deleting_service name)).1 ≡ Done → IsServiceDeleted name h (next h (deleting_service name)).0
-unfolding next asked asked_edit
+unfolding next asked asked_edit with_owners
 service_deleted h name = service_gone h name (service h name) refl
 
 -- ---- an instance that is added
@@ -93,15 +94,36 @@ joined h full = record h {
   revision = h.revision + 1;
 }
 
+no_groups : (h : Holdings) (full : List ℕ) → owned (joined h full) (owners.Instance h.next_instance) ≡ Some []
+no_groups h full = ap (option_map (λ e. e.groups)) (found_put by_entry (new_entry h full) h.instances)
+
+none_own : (h : Holdings) (full : List ℕ) → groups_of (joined h full) (owners.Instance h.next_instance) ≡ []
+unfolding groups_of
+none_own h full = ap (λ (o : Option (List GroupRecord)). unwrap_or o []) (no_groups h full)
+
+services_stay : (h : Holdings) (full name : List ℕ) → groups_of (joined h full) (owners.Service name) ≡ groups_of h (owners.Service name)
+unfolding groups_of
+services_stay h full name = refl
+
+-- its row shows the owner that is read, since it has no group `general` of its own
+reads_new : (h : Holdings) (full : List ℕ) → current (groups_of (joined h full)) (added (new_owner h full) full h.next_instance) ≡ added (new_owner h full) full h.next_instance
+unfolding current setting
+reads_new h full =
+    let by : Owner = owners.Service (service_fmri full) in
+    ap (λ (own : List GroupRecord). added (owner_by (setting_by (group_in own general) (group_in (groups_of (joined h full) by) general))) full h.next_instance) (none_own h full)
+    ∙ ap (λ (gs : List GroupRecord). added (owner_by (setting_by None (group_in gs general))) full h.next_instance) (services_stay h full (service_fmri full))
+
 is_joined : (h : Holdings) (full : List ℕ) → named h full ≡ None → IsInstanceAdded full h.next_instance h (joined h full)
 is_joined h full free =
-    let there : instance (joined h full) h.next_instance ≡ Some (added full h.next_instance)
+    let there : instance (joined h full) h.next_instance ≡ Some (added (new_owner h full) full h.next_instance)
     = ap (λ (is : List Instance). lookup by_instance is h.next_instance) (bare_put (new_entry h full) h.instances) ∙ found_put by_instance (new_instance h full) (instances h) in
     record {
+      owner = new_owner h full;
       was_free = free;
       is_there = there;
       is_named = ap (instance_at (joined h full)) (found_put by_name (new_name h full) h.names) ∙ there;
-      has_no_groups = ap (option_map (λ e. e.groups)) (found_put by_entry (new_entry h full) h.instances);
+      is_read = reads_new h full;
+      has_no_groups = no_groups h full;
       others = λ m apart. ap (λ (is : List Instance). lookup by_instance is m) (bare_put (new_entry h full) h.instances) ∙ apart_put by_instance (new_instance h full) (instances h) m apart;
       other_groups = λ owner apart. other_groups owner apart;
       counted = (refl, refl);
@@ -141,7 +163,7 @@ joins_of h s name n (Some x) e =
 
 pub instance_added : (h : Holdings) (s name : List ℕ) (n : ℕ) → (next h (adding_instance s name)).1 ≡ Made n
     → IsOfService h s × IsInstanceAdded (full_name s name) n h (next h (adding_instance s name)).0
-unfolding next asked asked_edit
+unfolding next asked asked_edit with_owners
 instance_added h s name n = joins_of h s name n (service h s) refl
 
 -- ---- an instance that is deleted
@@ -221,5 +243,5 @@ leaves h n i at =
     (λ e. accepts h Done (Leaves h n i) (leaving i) Done refl (λ same. subst (λ (m : ℕ). IsInstanceDeleted m i h (left h i)) at (is_left h i e)))
 
 pub instance_deleted : (h : Holdings) (n : ℕ) (i : Instance) → seen h n ≡ Some i → (next h (deleting_instance n)).1 ≡ Done → IsInstanceDeleted n i h (next h (deleting_instance n)).0
-unfolding next asked asked_edit
+unfolding next asked asked_edit with_owners
 instance_deleted h n i e = subst (λ (o : Option Instance). Gives h Done (Leaves h n i) (asked_delete_instance h o)) (sym e) (leaves h n i (held_of h n i e).number)

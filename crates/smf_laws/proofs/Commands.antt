@@ -1,32 +1,39 @@
 -- Each value that commands make of the empty one keeps the rules of a value.
-use Rattle.std.proofs.Common.{◌≡◌, ◌||◌, List, [], ◌∷◌, Some, None, refl, arith}
+use Rattle.std.proofs.Common.{◌≡◌, ◌||◌, List, [], ◌∷◌, map, Option, Some, None, refl, sym, subst, arith}
 use Rattle.std.specs.List.{AllByRecursion}
 use Rattle.smf_state.specs.declared.state.State.TheVariants.{Maintenance, Degraded}
 use Rattle.smf_state.specs.Rows.{same_state}
 use Rattle.smf_state.specs.States.{runs}
+use Rattle.smf_model.specs.declared.change.Change.TheVariants.{PutInstance}
+use Rattle.smf_model.specs.declared.change.Outcome.{Outcome}
 use Rattle.smf_model.specs.declared.command.Command.{Command}
 use Rattle.smf_model.specs.declared.command.Command.TheVariants as commands
 use Rattle.smf_model.specs.declared.command.Edit.{Edit}
 use Rattle.smf_model.specs.declared.command.Edit.TheVariants as asked_for
-use Rattle.smf_model.specs.declared.command.Reply.TheVariants.{NoSuch}
+use Rattle.smf_model.specs.declared.command.Reply.{Reply}
+use Rattle.smf_model.specs.declared.command.Reply.TheVariants.{Denied, Done, Exists, Granted, InUse, Limit, Made, NoSuch, NotInState, Stale}
 use Rattle.smf_model.specs.declared.held.Instance.{Instance}
 use Rattle.smf_model.specs.declared.held.InstanceEntry.{InstanceEntry}
 use Rattle.smf_model.specs.declared.held.Launch.{Launch}
+use Rattle.smf_model.specs.declared.held.Owner.{Owner}
 use Rattle.smf_model.specs.declared.held.Service.{Service}
 use Rattle.smf_model.specs.declared.held.Snapshot.{Snapshot}
 use Rattle.smf_model.specs.History.{made}
 use Rattle.smf_model.specs.Holdings.{Holdings}
 use Rattle.smf_model.specs.Laws.{IsNumbered}
-use Rattle.smf_model.specs.Look.{empty, group, installed, service}
-use Rattle.smf_model.specs.Next.{added_group, asked, asked_clear, asked_edit, asked_mark, asked_refresh, asked_restart, asked_revert, changed_group, deleted_group, found, named_snapshot, new_group, next, number_of, target_by}
+use Rattle.smf_model.specs.Look.{changed, empty, group, installed, instances, service}
+use Rattle.smf_model.specs.Next.{and_owners, owners_written, restarters_named, unwritten, with_owners, added_group, asked, asked_clear, asked_edit, asked_mark, asked_refresh, asked_restart, asked_revert, changed_group, deleted_group, found, named_snapshot, new_group, next, number_of, target_by}
 use Rattle.smf_model.specs.Look.{groups_of}
-use Rattle.smf_model.specs.Setting.{setting}
+use Rattle.smf_model.specs.Setting.{Groups, current, setting}
 use Rattle.smf_model.proofs.LawEvents.{numbered_made}
 use Rattle.smf_model.proofs.LawNumbers.{first_numbers}
-use Rattle.smf_laws.specs.Consistent.{IsConsistent, IsNamedCommand, IsNamedEdit}
-use Rattle.smf_laws.proofs.Asking.{Keeps, by_found, refuses}
+use Rattle.smf_model.proofs.LawOutcomes.{apart_after, installed_append}
+use Rattle.smf_model.proofs.Written.{AreHeldAtZero, unwritten_held}
+use Rattle.smf_laws.specs.Consistent.{IsConsistent, IsInstanceHeld, IsNamedCommand, IsNamedEdit}
+use Rattle.smf_laws.proofs.Asking.{Keeps, by_found, current_held, refuses}
 use Rattle.smf_laws.proofs.Booting.{boots}
 use Rattle.smf_laws.proofs.Edits.{adds_group, adds_instance, adds_service, asks_if, asks_where, changes_group, deletes_group, deletes_instance, deletes_service, enables, guards, marks_it}
+use Rattle.smf_laws.proofs.Held.{Follows, Grows, instance_grows, instance_put}
 use Rattle.smf_laws.proofs.Proposals.{answers, launches}
 use Rattle.smf_laws.proofs.Snapping.{refreshes, reverts}
 
@@ -59,10 +66,54 @@ edits h (asked_for.Clear n) b c is = by_found h n (asked_clear h) c (refuses h N
 edits h (asked_for.Mark n mark) b c is = by_found h n (asked_mark h mark) c (refuses h NoSuch c) (λ (i : Instance) f. marks_it h n mark i c f)
 edits h (asked_for.Revert n name) b c is = by_found h n (asked_revert h name) c (refuses h NoSuch c) (λ (i : Instance) f. reverts h n i (named_snapshot h (number_of i name)) b c f)
 
+-- ---- the owners that an edit leaves to write
+
+abbrev AreHeld : Holdings → Groups → List Instance → Type 0
+AreHeld k gs js = AllByRecursion (λ (j : Instance). IsInstanceHeld k (current gs j)) js
+
+still_held : (k l : Holdings) (gs : Groups) (js : List Instance) → Grows k l → AreHeld k gs js → AreHeld l gs js
+still_held k l gs [] g held = tt
+still_held k l gs (j ∷ js) g held = (instance_grows k l g (current gs j) held.0, still_held k l gs js g held.1)
+
+puts_each : (k : Holdings) (gs : Groups) (js : List Instance) → IsConsistent k → AreHeld k gs js → IsConsistent (installed k (map (λ (j : Instance). PutInstance (current gs j)) js))
+unfolding installed
+puts_each k gs [] c held = c
+puts_each k gs (j ∷ js) c held =
+    let l : Holdings = changed k (PutInstance (current gs j)) in
+    let f : Follows k (changed k (PutInstance (current gs j))) = instance_put k (current gs j) c held.0 in
+    puts_each l gs js f.consistent (still_held k l gs js f.grows held.1)
+
+-- what is found at row number 0 is held under any owner
+are_held : (k : Holdings) (gs : Groups) (js : List Instance) → IsConsistent k → AreHeldAtZero (instances k) js → AreHeld k gs js
+are_held k gs [] c found = tt
+are_held k gs (j ∷ js) c found = (current_held k gs j (c.instances j.number j found.0.found), are_held k gs js c found.1)
+
+writes : (h : Holdings) (o : Option Owner) (a : Outcome) → IsNumbered h → Keeps h a → Keeps h (with_owners h o a)
+unfolding with_owners
+writes h None a b c = c
+writes h (Some owner) a b c = by a.reply
+  where
+    k : Holdings
+    k = installed h a.changes
+
+    by : (r : Reply) → IsConsistent (installed h (and_owners h owner a.changes r))
+    by Done =
+        subst IsConsistent (sym (installed_append h a.changes (owners_written k owner)))
+        (puts_each k (groups_of k) (unwritten k owner) c (are_held k (groups_of k) (unwritten k owner) c (unwritten_held k owner (apart_after h a.changes b))))
+    by (Made n) = c
+    by (Granted row) = c
+    by NoSuch = c
+    by InUse = c
+    by NotInState = c
+    by Exists = c
+    by (Denied fault) = c
+    by Limit = c
+    by (Stale why row) = c
+
 -- the changes that a command asks for keep them
 pub consistent_asked : (h : Holdings) (c : Command) → IsNumbered h → IsConsistent h → IsNamedCommand c → IsConsistent (installed h (asked h c).changes)
 unfolding asked
-consistent_asked h (commands.Edit e) b c is = edits h e b c is
+consistent_asked h (commands.Edit e) b c is = writes h (restarters_named h e) (asked_edit h e) b (edits h e b c is)
 consistent_asked h (commands.Propose p) b c is = answers h p b c
 consistent_asked h (commands.Launch name) b c is = launches h name c is
 consistent_asked h commands.Boot b c is = boots h b c

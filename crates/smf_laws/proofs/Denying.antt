@@ -34,7 +34,7 @@ use Rattle.smf_model.specs.declared.setting.Setting.{Setting}
 use Rattle.smf_model.specs.declared.setting.Setting.TheVariants.{Unset, Restarter, Unreadable}
 use Rattle.smf_model.specs.Holdings.{Holdings}
 use Rattle.smf_model.specs.Look.{by_service, group, groups_of, instances, named, service}
-use Rattle.smf_model.specs.Next.{accepted, added_at, added_group, added_named, asked, asked_add_group, asked_add_instance, asked_add_service, asked_clear, asked_delete_group, asked_delete_instance, asked_delete_service, asked_edit, asked_enable, asked_if, asked_mark, asked_property, asked_refresh, asked_restart, asked_revert, asked_where, asking, changed_group, deleted_group, enabled_for_good, enabled_for_now, enabling_of, found, greatest, greatest_instance, group_dropped, group_enabled, group_or_new, group_put, guarded, has_room, is_in_use, is_instance_of, is_made, is_past_most, is_there, joining, leaving, marked, may_be_moved, moved, moved_instance, named_snapshot, new_group, next, number_of, property_changed, put_or_denied, refreshed, refreshed_instance, refused, reverted, target_by, with_snapshot}
+use Rattle.smf_model.specs.Next.{accepted, added_at, added_group, added_named, asked, asked_add_group, asked_add_instance, asked_add_service, asked_clear, asked_delete_group, asked_delete_instance, asked_delete_service, asked_edit, asked_enable, asked_if, asked_mark, asked_property, asked_refresh, asked_restart, asked_revert, asked_where, asking, changed_group, deleted_group, enabled_for_good, enabled_for_now, enabling_of, found, greatest, greatest_instance, group_dropped, group_enabled, group_or_new, group_put, guarded, has_room, is_in_use, is_instance_of, is_made, is_past_most, is_there, joining, leaving, marked, may_be_moved, moved, moved_instance, named_snapshot, new_group, next, number_of, property_changed, put_or_denied, refreshed, refreshed_instance, refused, restarters_named, reverted, target_by, with_snapshot}
 use Rattle.smf_model.specs.Next.{reverting as changes_of_revert}
 use Rattle.smf_model.specs.Setting.{framework, general, general_ovr, is_readable, owner_by, service_owner, setting}
 use Rattle.smf_laws.specs.Adding.{full_name}
@@ -42,6 +42,7 @@ use Rattle.smf_laws.specs.Effects.{enabled_as, meant, meant_by, seen}
 use Rattle.smf_laws.specs.Refusing.{IsAnswered, Passes, denial, fault_at, fault_in, has_instances, hindrance, if_seen, are_few, has_few, has_left, has_snapshot_left, is_besides, is_busy, is_free, is_idle, is_named, is_of_restarter, is_taken, is_to_move, may_be_marked, may_have, owner_is_there}
 use Rattle.smf_laws.proofs.Giving.{held_of, one_of, reply_accepted, reply_snapshot}
 use Rattle.smf_laws.proofs.Reverting.{is_meant}
+use Rattle.smf_laws.proofs.Writing.{same_reply}
 
 -- ---- an edit that passes
 
@@ -405,4 +406,4 @@ answers h (asked_for.Revert n name) = of_revert h n name (found h n) refl
 
 pub is_answered : (h : Holdings) (e : Edit) → IsAnswered h e (next h (commands.Edit e)).1
 unfolding next asked
-is_answered h e = answers h e
+is_answered h e = subst (IsAnswered h e) (sym (same_reply h (restarters_named h e) (asked_edit h e))) (answers h e)

@@ -14,7 +14,7 @@ use Rattle.smf_model.specs.declared.held.Instance.{Instance}
 use Rattle.smf_model.specs.declared.held.Owner.TheVariants as owners
 use Rattle.smf_model.specs.Holdings.{Holdings}
 use Rattle.smf_model.specs.Look.{group, group_in, groups_of, installed, instance, instances, with_groups}
-use Rattle.smf_model.specs.Next.{asked, asked_edit, asked_enable, asked_for_good, asked_for_now, enabled_for_good, enabled_for_now, enabling_of, group_enabled, group_or_new, group_put, has_room, new_group, next}
+use Rattle.smf_model.specs.Next.{asked, asked_edit, asked_enable, asked_for_good, asked_for_now, enabled_for_good, enabled_for_now, enabling_of, group_enabled, group_or_new, group_put, has_room, new_group, next, with_owners}
 use Rattle.smf_model.specs.Setting.{Groups, enabled, enabled_name, enabled_property, first_of, framework, general, general_ovr, is_true, property_in, property_of_either, service_owner}
 use Rattle.smf_model.proofs.Entries.{bare_groups}
 use Rattle.smf_model.proofs.LawLists.{differs, is_number}
@@ -195,14 +195,14 @@ now_by h n i b e (Ok g) f =
     (λ room. refuses h Done (ForNow h n b) Limit refl refl)
 
 pub enabled_good : (h : Holdings) (n : ℕ) (b : Bool) → (next h (enabling n b false)).1 ≡ Done → IsEnabledForGood h (next h (enabling n b false)).0 n b
-unfolding next asked asked_edit
+unfolding next asked asked_edit with_owners
 enabled_good h n b =
     found_by h n (λ (o : Option Instance). Gives h Done (ForGood h n b) (asked_enable h b false o))
     (λ e. refuses h Done (ForGood h n b) NoSuch refl refl)
     (λ i e at. subst (λ (m : ℕ). Gives h Done (ForGood h n b) (asked_for_good h m b)) (sym at) (good_by h n i b e (group_enabled b (group_or_new h n general false)) refl))
 
 pub enabled_now : (h : Holdings) (n : ℕ) (b : Bool) → (next h (enabling n b true)).1 ≡ Done → IsEnabledForNow h (next h (enabling n b true)).0 n b
-unfolding next asked asked_edit
+unfolding next asked asked_edit with_owners
 enabled_now h n b =
     found_by h n (λ (o : Option Instance). Gives h Done (ForNow h n b) (asked_enable h b true o))
     (λ e. refuses h Done (ForNow h n b) NoSuch refl refl)

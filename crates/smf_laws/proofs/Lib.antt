@@ -10,6 +10,7 @@ pub mod Owned
 pub mod Proposals
 pub mod Snapping
 pub mod Giving
+pub mod Writing
 pub mod Enabling
 pub mod Reverting
 pub mod Refreshing
@@ -20,3 +21,4 @@ pub mod Coming
 pub mod Judging
 pub mod Denying
 pub mod Notes
+pub mod OwnersRead

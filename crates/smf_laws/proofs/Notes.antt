@@ -1,7 +1,9 @@
 -- Asks, launches and groups after a command that changes one of them.
-use Rattle.std.proofs.Common.{◌≡◌, inl, inr, ℕ, ◌+◌, ◌<◌, ◌≤◌, ◌||◌, not, nat_lt, Bool, true, false, if◌then◌else◌, is_some, List, [], ◌∷◌, Option, Some, None, option_map, unwrap_or, Result, Ok, Err, refl, sym, ap, ◌∙◌, subst, arith, ltb-false, ltb-true}
-use Rattle.smf_fmri.specs.ByKey.{lookup, put, without}
+use Rattle.std.proofs.Common.{◌≡◌, inl, inr, ℕ, ◌+◌, ◌<◌, ◌≤◌, ◌||◌, not, nat_eq, nat_lt, Bool, true, false, if◌then◌else◌, is_some, List, [], ◌∷◌, Option, Some, None, option_map, unwrap_or, Result, Ok, Err, refl, sym, ap, ◌∙◌, subst, arith, ltb-false, ltb-true}
+use Rattle.std.specs.Cmp.Lexicographic.{pointwise}
+use Rattle.smf_fmri.specs.ByKey.{Rises, lookup, put, without}
 use Rattle.smf_fmri.proofs.Lookups.{lookup_put, with_answer_here, with_answer_other}
+use Rattle.smf_fmri.proofs.Matching.{same_text}
 use Rattle.smf_fmri.proofs.SameLists.{found_key}
 use Rattle.smf_state.specs.declared.state.State.TheVariants.{Degraded, Maintenance, Online}
 use Rattle.smf_state.specs.Rows.{same_state}
@@ -24,14 +26,17 @@ use Rattle.smf_model.specs.declared.held.Owner.{Owner}
 use Rattle.smf_model.specs.declared.held.Owner.TheVariants as owners
 use Rattle.smf_model.specs.declared.held.Service.{Service}
 use Rattle.smf_model.specs.Holdings.{Holdings}
+use Rattle.smf_model.specs.Laws.{IsNumbered}
 use Rattle.smf_model.specs.Look.{by_entry, by_instance, by_launch, changed, group, group_in, groups_of, installed, instance, instances, launch_of, owned, put_over, service, with_groups}
-use Rattle.smf_model.specs.Next.{accepted, added_group, asked, asked_clear, asked_edit, asked_if, asked_launch, asked_mark, asked_restart, asked_where, asking, changed_group, deleted_group, greatest, group_dropped, group_put, guarded, has_room, is_made, is_there, marked, new_group, next, next_launch, property_changed, put_or_denied, refused}
+use Rattle.smf_model.specs.Next.{accepted, added_group, asked, asked_clear, asked_edit, asked_if, asked_launch, asked_mark, asked_delete_group, asked_property, asked_restart, asked_where, asking, if_general, changed_group, deleted_group, greatest, group_dropped, group_put, guarded, has_room, is_made, is_there, marked, new_group, next, next_launch, property_changed, put_or_denied, refused, with_owners}
+use Rattle.smf_model.specs.Setting.{Groups, general}
 use Rattle.smf_model.proofs.Entries.{bare_groups, bare_instance, lookup_bare}
 use Rattle.smf_model.proofs.LawLists.{differs}
-use Rattle.smf_laws.specs.Effects.{seen}
+use Rattle.smf_laws.specs.Effects.{IsAsRead, seen}
 use Rattle.smf_laws.specs.Noting.{Becomes, IsGroupAdded, IsGroupChanged, IsGroupDeleted, IsGroupThen, IsLaunchAnswer, IsLaunched, IsNoted, adding_group, changing_group, clearing, deleting_group, has_effect, mark_bit, marking, restarting, without_properties}
 use Rattle.smf_laws.proofs.Enabling.{group_gone, group_here, group_left, group_other, put_gives}
 use Rattle.smf_laws.proofs.Giving.{Gives, Held, accepts, either, held_of, one_of, owned_apart, owned_here, owned_put, put_apart, put_there, refuses, reply_accepted}
+use Rattle.smf_laws.proofs.Writing.{as_read, gives_owners, groups_written, owned_written, written_then}
 
 -- ---- asks
 
@@ -66,11 +71,11 @@ notes_where h n i true bit it = notes_it h n i bit it
 notes_where h n i false bit it = refuses h Done (Notes true bit i h) NotInState refl refl
 
 pub restart_noted : (h : Holdings) (n : ℕ) (i : Instance) → seen h n ≡ Some i → (next h (restarting n)).1 ≡ Done → IsNoted (runs i.row.state) 16 i h (next h (restarting n)).0
-unfolding next asked asked_edit
+unfolding next asked asked_edit with_owners
 restart_noted h n i e = subst (λ (o : Option Instance). Gives h Done (Notes (runs i.row.state) 16 i h) (asked_restart h o)) (sym e) (notes_if h n i (runs i.row.state) 16 (held_of h n i e))
 
 pub clear_noted : (h : Holdings) (n : ℕ) (i : Instance) → seen h n ≡ Some i → (next h (clearing n)).1 ≡ Done → IsNoted true 32 i h (next h (clearing n)).0
-unfolding next asked asked_edit
+unfolding next asked asked_edit with_owners
 clear_noted h n i e =
     subst (λ (o : Option Instance). Gives h Done (Notes true 32 i h) (asked_clear h o)) (sym e)
     (notes_where h n i (same_state i.row.state Maintenance || same_state i.row.state Degraded) 32 (held_of h n i e))
@@ -81,7 +86,7 @@ marks_it h n marks.Maintenance i it = notes_if h n i (not (same_state i.row.stat
 marks_it h n marks.MaintenanceNow i it = notes_if h n i (not (same_state i.row.state Maintenance)) 1 it
 
 pub mark_noted : (h : Holdings) (n : ℕ) (mark : Mark) (i : Instance) → seen h n ≡ Some i → (next h (marking n mark)).1 ≡ Done → IsNoted (has_effect mark i.row) (mark_bit mark) i h (next h (marking n mark)).0
-unfolding next asked asked_edit
+unfolding next asked asked_edit with_owners
 mark_noted h n mark i e = subst (λ (o : Option Instance). Gives h Done (Notes (has_effect mark i.row) (mark_bit mark) i h) (asked_mark h mark o)) (sym e) (marks_it h n mark i (held_of h n i e))
 
 -- ---- launches
@@ -162,8 +167,16 @@ groups_then : (h : Holdings) (owner : Owner) (gs : List GroupRecord) → is_ther
 unfolding groups_of
 groups_then h owner gs e = ap (λ (o : Option (List GroupRecord)). unwrap_or o []) (revised_groups h owner owner gs) ∙ groups_put h owner gs e
 
+-- the group of a name of one owner is o, and nothing else is changed
+pub record HasGroup (owner : Owner) (name : List ℕ) (o : Option GroupRecord) (h k : Holdings) : Type 0 where
+  pub is_so : group k owner name ≡ o
+  pub other_groups : (other : List ℕ) → (other ≡ name → ⊥) → group k owner other ≡ group h owner other
+  pub other_owners : (other : Owner) → (other ≡ owner → ⊥) → owned k other ≡ owned h other
+  pub rows : instances k ≡ instances h
+  pub rest : k ≡ record h { services = k.services; instances = k.instances; revision = h.revision + 1 }
+
 is_then : (h : Holdings) (owner : Owner) (name : List ℕ) (gs : List GroupRecord) (o : Option GroupRecord) → is_there h owner ≡ true → group_in gs name ≡ o
-    → ((other : List ℕ) → (other ≡ name → ⊥) → group_in gs other ≡ group h owner other) → IsGroupThen owner name o h (grouped h owner gs)
+    → ((other : List ℕ) → (other ≡ name → ⊥) → group_in gs other ≡ group h owner other) → HasGroup owner name o h (grouped h owner gs)
 is_then h owner name gs o there e others = record {
   is_so = ap (λ (l : List GroupRecord). group_in l name) (groups_then h owner gs there) ∙ e;
   other_groups = λ other apart. ap (λ (l : List GroupRecord). group_in l other) (groups_then h owner gs there) ∙ others other apart;
@@ -172,11 +185,46 @@ is_then h owner name gs o there e others = record {
   rest = kept_rest h owner gs;
 }
 
-puts_group : (h : Holdings) (owner : Owner) (name : List ℕ) (g : GroupRecord) → is_there h owner ≡ true → g.name ≡ name → IsGroupThen owner name (Some g) h (grouped h owner (put by_group g (groups_of h owner)))
+puts_group : (h : Holdings) (owner : Owner) (name : List ℕ) (g : GroupRecord) → is_there h owner ≡ true → g.name ≡ name → HasGroup owner name (Some g) h (grouped h owner (put by_group g (groups_of h owner)))
 puts_group h owner name g there named = is_then h owner name (put by_group g (groups_of h owner)) (Some g) there (group_here g (groups_of h owner) name named) (λ other apart. group_other g (groups_of h owner) name other named apart)
 
-drops_group : (h : Holdings) (owner : Owner) (name : List ℕ) → is_there h owner ≡ true → IsGroupThen owner name None h (grouped h owner (without by_group name (groups_of h owner)))
+drops_group : (h : Holdings) (owner : Owner) (name : List ℕ) → is_there h owner ≡ true → HasGroup owner name None h (grouped h owner (without by_group name (groups_of h owner)))
 drops_group h owner name there = is_then h owner name (without by_group name (groups_of h owner)) None there (group_gone (groups_of h owner) name) (λ other apart. group_left (groups_of h owner) name other apart)
+
+-- no row is written
+unwritten_then : (h k : Holdings) (owner : Owner) (name : List ℕ) (o : Option GroupRecord) → HasGroup owner name o h k → IsGroupThen owner name o h k
+unwritten_then h k owner name o g = record {
+  is_so = g.is_so;
+  other_groups = g.other_groups;
+  other_owners = g.other_owners;
+  rows = λ numbered n. inl (ap (λ (is : List Instance). lookup by_instance is n) g.rows);
+  other_rows = λ apart. g.rows;
+  rest = g.rest;
+}
+
+-- owners are written, since the group names restarters
+named_then : (h k : Holdings) (owner : Owner) (name : List ℕ) (o : Option GroupRecord) → name ≡ general → (IsNumbered h → Rises by_instance (instances k)) → HasGroup owner name o h k → IsGroupThen owner name o h (written_then k owner)
+named_then h k owner name o same rises g = record {
+  is_so = ap (λ (gs : Groups). group_in (gs owner) name) (groups_written k owner) ∙ g.is_so;
+  other_groups = λ other apart. ap (λ (gs : Groups). group_in (gs owner) other) (groups_written k owner) ∙ g.other_groups other apart;
+  other_owners = λ other apart. owned_written k owner other ∙ g.other_owners other apart;
+  rows = λ numbered n. subst (λ (p : Option Instance). IsAsRead (written_then k owner) p (instance (written_then k owner) n)) (ap (λ (is : List Instance). lookup by_instance is n) g.rows) (as_read k owner n (rises numbered));
+  other_rows = λ apart. absurd (apart same);
+  rest = ap (λ (l : Holdings). let written : Holdings = record l { instances = (written_then k owner).instances } in written) g.rest;
+}
+
+-- the owner whose instances are written is that of the group `general`
+general_by : (owner other : Owner) (name : List ℕ) (b : Bool) → pointwise nat_eq name general ≡ b → (if b then Some owner else None) ≡ Some other → (name ≡ general) × (owner ≡ other)
+general_by owner other name true e f = ((same_text name general).0 e, cc)
+general_by owner other name false e f = absurd cc
+
+pub is_general : (owner other : Owner) (name : List ℕ) → if_general owner name ≡ Some other → (name ≡ general) × (owner ≡ other)
+is_general owner other name e = general_by owner other name (pointwise nat_eq name general) refl e
+
+written_so : (h k : Holdings) (owner other : Owner) (name : List ℕ) (o : Option GroupRecord) → if_general owner name ≡ Some other → (IsNumbered h → Rises by_instance (instances k)) → HasGroup owner name o h k → IsGroupThen owner name o h (written_then k other)
+written_so h k owner other name o e rises g =
+    let is = is_general owner other name e in
+    subst (λ (x : Owner). IsGroupThen owner name o h (written_then k x)) is.1 (named_then h k owner name o is.0 rises g)
 
 not_false : (b : Bool) → not b ≡ false → b ≡ true
 not_false true e = refl
@@ -193,26 +241,37 @@ unfolding installed
 adds_group h owner g (Some x) there e = refuses h Done (IsGroupAdded owner g h) Exists refl refl
 adds_group h owner g None there e =
     either h Done (IsGroupAdded owner g h) (has_room h owner g.name g.name) _ _
-    (λ f. accepts h Done (IsGroupAdded owner g h) (group_put h owner g ∷ []) Done refl (λ same. record { was_free = e; then_there = puts_group h owner g.name g there refl }))
+    (λ f. accepts h Done (IsGroupAdded owner g h) (group_put h owner g ∷ []) Done refl (λ same. (let has = puts_group h owner g.name g there refl in record { was_free = e; then_there = unwritten_then h (grouped h owner (put by_group g (groups_of h owner))) owner g.name (Some g) has; rows = has.rows })))
     (λ f. refuses h Done (IsGroupAdded owner g h) Limit refl refl)
 
 pub group_added : (h : Holdings) (owner : Owner) (name group_type : List ℕ) (p : Bool) → (next h (adding_group owner name group_type p)).1 ≡ Done
     → IsGroupAdded owner (without_properties name group_type p) h (next h (adding_group owner name group_type p)).0
-unfolding next asked asked_edit
+unfolding next asked asked_edit with_owners
 group_added h owner name group_type p =
     guards h (IsGroupAdded owner (new_group name group_type p) h) owner name (added_group h owner (new_group name group_type p) (group h owner name))
     (λ there. adds_group h owner (new_group name group_type p) (group h owner name) there refl)
 
-deletes_group : (h : Holdings) (owner : Owner) (name : List ℕ) (o : Option GroupRecord) → is_there h owner ≡ true → group h owner name ≡ o → Gives h Done (IsGroupDeleted owner name h) (deleted_group h owner name o)
+-- the group was there, and is gone
+pub record HasLost (owner : Owner) (name : List ℕ) (h k : Holdings) : Type 0 where
+  pub was_there : (g : GroupRecord) × (group h owner name ≡ Some g)
+  pub then_gone : HasGroup owner name None h k
+
+deletes_group : (h : Holdings) (owner : Owner) (name : List ℕ) (o : Option GroupRecord) → is_there h owner ≡ true → group h owner name ≡ o → Gives h Done (HasLost owner name h) (deleted_group h owner name o)
 unfolding installed
-deletes_group h owner name None there e = refuses h Done (IsGroupDeleted owner name h) NoSuch refl refl
+deletes_group h owner name None there e = refuses h Done (HasLost owner name h) NoSuch refl refl
 deletes_group h owner name (Some g) there e =
-    accepts h Done (IsGroupDeleted owner name h) (group_dropped h owner name ∷ []) Done refl (λ same. record { was_there = (g, e); then_gone = drops_group h owner name there })
+    accepts h Done (HasLost owner name h) (group_dropped h owner name ∷ []) Done refl (λ same. record { was_there = (g, e); then_gone = drops_group h owner name there })
+
+pub loses_group : (h : Holdings) (owner : Owner) (name : List ℕ) → Gives h Done (HasLost owner name h) (asked_delete_group h owner name)
+loses_group h owner name =
+    guards h (HasLost owner name h) owner name (deleted_group h owner name (group h owner name)) (λ there. deletes_group h owner name (group h owner name) there refl)
 
 pub group_deleted : (h : Holdings) (owner : Owner) (name : List ℕ) → (next h (deleting_group owner name)).1 ≡ Done → IsGroupDeleted owner name h (next h (deleting_group owner name)).0
 unfolding next asked asked_edit
 group_deleted h owner name =
-    guards h (IsGroupDeleted owner name h) owner name (deleted_group h owner name (group h owner name)) (λ there. deletes_group h owner name (group h owner name) there refl)
+    gives_owners h (HasLost owner name h) (IsGroupDeleted owner name h) (if_general owner name) (asked_delete_group h owner name) (loses_group h owner name)
+    (λ k none p. record { was_there = p.was_there; then_gone = unwritten_then h k owner name None p.then_gone })
+    (λ k other e rises p. record { was_there = p.was_there; then_gone = written_so h k owner other name None e rises p.then_gone })
 
 -- a change keeps the name of a group
 put_named : (r : Result PropertyRecord GroupFault) (old g : GroupRecord) → (r >>= (λ p. put_property p old)) ≡ Ok g → g.name ≡ old.name
@@ -234,12 +293,20 @@ change_named (properties.AddValue name kind value) old g e = put_named (property
 change_named (properties.DeleteValue name value) old g e = put_named (present_less value (property_of name old)) old g e
 change_named (properties.Delete name) old g e = del_named name old g e
 
+-- the group is what the change makes of it
+pub record HasChanged (owner : Owner) (name : List ℕ) (change : PropertyChange) (h k : Holdings) : Type 0 where
+  pub before : GroupRecord
+  pub after : GroupRecord
+  pub was_there : group h owner name ≡ Some before
+  pub changed : property_changed change before ≡ Ok after
+  pub then_so : HasGroup owner name (Some after) h k
+
 puts_changed : (h : Holdings) (owner : Owner) (name : List ℕ) (change : PropertyChange) (old : GroupRecord) (r : Result GroupRecord GroupFault) → is_there h owner ≡ true → group h owner name ≡ Some old → property_changed change old ≡ r
-    → Gives h Done (IsGroupChanged owner name change h) (put_or_denied h owner r)
+    → Gives h Done (HasChanged owner name change h) (put_or_denied h owner r)
 unfolding installed
-puts_changed h owner name change old (Err fault) there e f = refuses h Done (IsGroupChanged owner name change h) (Denied fault) refl refl
+puts_changed h owner name change old (Err fault) there e f = refuses h Done (HasChanged owner name change h) (Denied fault) refl refl
 puts_changed h owner name change old (Ok g) there e f =
-    accepts h Done (IsGroupChanged owner name change h) (group_put h owner g ∷ []) Done refl
+    accepts h Done (HasChanged owner name change h) (group_put h owner g ∷ []) Done refl
     (λ same. record {
       before = old;
       after = g;
@@ -248,11 +315,17 @@ puts_changed h owner name change old (Ok g) there e f =
       then_so = puts_group h owner name g there (change_named change old g f ∙ found_key by_group name (groups_of h owner) old e);
     })
 
-changes_group : (h : Holdings) (owner : Owner) (name : List ℕ) (change : PropertyChange) (o : Option GroupRecord) → is_there h owner ≡ true → group h owner name ≡ o → Gives h Done (IsGroupChanged owner name change h) (changed_group h owner change o)
-changes_group h owner name change None there e = refuses h Done (IsGroupChanged owner name change h) NoSuch refl refl
+changes_group : (h : Holdings) (owner : Owner) (name : List ℕ) (change : PropertyChange) (o : Option GroupRecord) → is_there h owner ≡ true → group h owner name ≡ o → Gives h Done (HasChanged owner name change h) (changed_group h owner change o)
+changes_group h owner name change None there e = refuses h Done (HasChanged owner name change h) NoSuch refl refl
 changes_group h owner name change (Some g) there e = puts_changed h owner name change g (property_changed change g) there e refl
+
+pub changes_to : (h : Holdings) (owner : Owner) (name : List ℕ) (change : PropertyChange) → Gives h Done (HasChanged owner name change h) (asked_property h owner name change)
+changes_to h owner name change =
+    guards h (HasChanged owner name change h) owner name (changed_group h owner change (group h owner name)) (λ there. changes_group h owner name change (group h owner name) there refl)
 
 pub group_changed : (h : Holdings) (owner : Owner) (name : List ℕ) (change : PropertyChange) → (next h (changing_group owner name change)).1 ≡ Done → IsGroupChanged owner name change h (next h (changing_group owner name change)).0
 unfolding next asked asked_edit
 group_changed h owner name change =
-    guards h (IsGroupChanged owner name change h) owner name (changed_group h owner change (group h owner name)) (λ there. changes_group h owner name change (group h owner name) there refl)
+    gives_owners h (HasChanged owner name change h) (IsGroupChanged owner name change h) (if_general owner name) (asked_property h owner name change) (changes_to h owner name change)
+    (λ k none p. record { before = p.before; after = p.after; was_there = p.was_there; changed = p.changed; then_so = unwritten_then h k owner name (Some p.after) p.then_so })
+    (λ k other e rises p. record { before = p.before; after = p.after; was_there = p.was_there; changed = p.changed; then_so = written_so h k owner other name (Some p.after) e rises p.then_so })

@@ -17,7 +17,7 @@ use Rattle.smf_model.specs.declared.setting.Setting.TheVariants.{Unset, Restarte
 use Rattle.smf_model.specs.Holdings.{Holdings}
 use Rattle.smf_model.specs.Laws.{IsNumbered}
 use Rattle.smf_model.specs.Look.{by_instance, changed, groups_of, installed, instance, instances, put_over}
-use Rattle.smf_model.specs.Next.{asked, asked_edit, asked_refresh, may_be_moved, moved, moved_instance, next, refreshed, refused, refreshed_instance, refreshed_row, snapshot_of, target_by, with_snapshot}
+use Rattle.smf_model.specs.Next.{asked, asked_edit, asked_refresh, may_be_moved, moved, moved_instance, next, refreshed, refused, refreshed_instance, refreshed_row, snapshot_of, target_by, with_snapshot, with_owners}
 use Rattle.smf_model.specs.Setting.{is_readable, owner_by, setting}
 use Rattle.smf_model.proofs.Entries.{bare_instance}
 use Rattle.smf_laws.specs.Effects.{seen}
@@ -142,7 +142,7 @@ refreshes h n i numbered it o (stays_there e f) = subst (λ (p : Option (List �
 refreshes h n i numbered it o (goes_there e f g) = subst (λ (p : Option (List ℕ)). Gives h Done (After h i) (refreshed h i p)) (sym e) (moves_to h n i numbered it (record { readable = f; other = g }))
 
 pub after_refresh : (h : Holdings) (n : ℕ) (i : Instance) → IsNumbered h → seen h n ≡ Some i → (next h (refreshing n)).1 ≡ Done → IsAfterRefresh i h (next h (refreshing n)).0
-unfolding next asked asked_edit
+unfolding next asked asked_edit with_owners
 after_refresh h n i numbered e =
     subst (λ (o : Option Instance). Gives h Done (After h i) (asked_refresh h o)) (sym e)
     (refreshes h n i numbered (held_of h n i e) (target_by (setting (groups_of h) i) i.row.owner) (target (setting (groups_of h) i) i.row.owner))
@@ -161,7 +161,7 @@ uses h i o (stays_there e f) goes busy = absurd (f goes.readable goes.other)
 uses h i o (goes_there e f g) goes busy = subst (λ (p : Option (List ℕ)). (refreshed h i p).reply ≡ InUse) (sym e) (in_use h i (owner_by (setting (groups_of h) i)) busy)
 
 pub not_moved : (h : Holdings) (n : ℕ) (i : Instance) → seen h n ≡ Some i → IsToMove i h → (IsIdle i.row → ⊥) → (next h (refreshing n)).1 ≡ InUse
-unfolding next asked asked_edit
+unfolding next asked asked_edit with_owners
 not_moved h n i e goes busy =
     subst (λ (o : Option Instance). (asked_refresh h o).reply ≡ InUse) (sym e)
     (uses h i (target_by (setting (groups_of h) i) i.row.owner) (target (setting (groups_of h) i) i.row.owner) goes busy)

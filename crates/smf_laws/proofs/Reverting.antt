@@ -1,6 +1,7 @@
 -- A revert, and the value that it leaves.
-use Rattle.std.proofs.Common.{◌≡◌, ℕ, ◌+◌, ◌||◌, List, [], Option, Some, None, option_map, unwrap_or, refl, sym, ap, ◌∙◌, subst}
-use Rattle.smf_fmri.specs.ByKey.{lookup}
+use Rattle.std.proofs.Common.{◌≡◌, ℕ, ◌+◌, ◌||◌, true, List, [], Option, Some, None, option_map, unwrap_or, refl, sym, ap, ◌∙◌, subst}
+use Rattle.smf_fmri.specs.ByKey.{Rises, lookup}
+use Rattle.smf_fmri.proofs.Matching.{same_text}
 use Rattle.smf_snap.specs.declared.name.SnapshotName.{SnapshotName}
 use Rattle.smf_snap.specs.declared.name.SnapshotName.TheVariants as snapshots
 use Rattle.smf_snap.specs.Taking.{restored}
@@ -9,17 +10,19 @@ use Rattle.smf_model.specs.declared.change.Change.TheVariants.{AddSnapshot, Next
 use Rattle.smf_model.specs.declared.command.Reply.{Reply}
 use Rattle.smf_model.specs.declared.command.Reply.TheVariants.{Done, Limit, NoSuch}
 use Rattle.smf_model.specs.declared.held.Instance.{Instance}
+use Rattle.smf_model.specs.declared.held.Owner.{Owner}
 use Rattle.smf_model.specs.declared.held.Owner.TheVariants as owners
 use Rattle.smf_model.specs.declared.held.Snapshot.{Snapshot}
 use Rattle.smf_model.specs.Holdings.{Holdings}
 use Rattle.smf_model.specs.Laws.{IsNumbered}
 use Rattle.smf_model.specs.Look.{by_instance, changed, groups_of, installed, instance, instances, owned, put_over, with_groups}
-use Rattle.smf_model.specs.Next.{asked, asked_edit, asked_revert, found, is_past_most, named_snapshot, next, number_of, reverted, snapshot_of}
+use Rattle.smf_model.specs.Next.{asked, asked_edit, asked_revert, belongs_to, found, is_past_most, named_snapshot, next, number_of, reverted, snapshot_of}
 use Rattle.smf_model.specs.Next.{reverting as changes_of_revert}
-use Rattle.smf_model.specs.Setting.{service_owner}
+use Rattle.smf_model.specs.Setting.{Groups, current, service_fmri, service_owner}
 use Rattle.smf_model.proofs.Entries.{bare_groups, bare_instance}
-use Rattle.smf_laws.specs.Effects.{IsOfNothing, IsReverted, meant, meant_by, reverting, seen, snapshot_at, stands_for}
+use Rattle.smf_laws.specs.Effects.{IsAsRead, IsSnapped, IsOfNothing, IsReverted, meant, meant_by, reverting, seen, snapshot_at, stands_for}
 use Rattle.smf_laws.proofs.Giving.{Gives, Held, either, groups_here, held_of, one_of, owned_apart, owned_here, owned_put, put_apart, put_there, refuses, reply_snapshot, snaps, with_one}
+use Rattle.smf_laws.proofs.Writing.{as_read, gives_owners, groups_written, owned_written, same_reply, shown, shown_of, written_at, written_then}
 
 -- ---- the snapshot that a name means
 
@@ -36,6 +39,19 @@ pub is_meant : (h : Holdings) (i : Instance) (name : SnapshotName) → named_sna
 is_meant h i name = same_snapshot h (number_of i name) ∙ ap (snapshot_at h) (same_number i name)
 
 -- ---- the value then
+
+-- both owners have the groups of the snapshot, and no owner is written yet
+pub record IsBack (i : Instance) (s : Snapshot) (h k : Holdings) : Type 0 where
+  pub own : groups_of k (owners.Instance i.number) ≡ restored (groups_of h (owners.Instance i.number)) s.instance_groups
+  pub services_own : owned k (service_owner i) ≡ option_map (λ gs. restored gs s.service_groups) (owned h (service_owner i))
+  pub other_groups : (owner : Owner) → (owner ≡ owners.Instance i.number → ⊥) → (owner ≡ service_owner i → ⊥) → owned k owner ≡ owned h owner
+  pub previous : instance k i.number ≡ Some (record i { previous = Some h.next_snapshot })
+  pub snapped : IsSnapped i h k
+  pub others : (m : ℕ) → (m ≡ i.number → ⊥) → instance k m ≡ instance h m
+  pub names : k.names ≡ h.names
+  pub launches : k.launches ≡ h.launches
+  pub next_instance : k.next_instance ≡ h.next_instance
+  pub revision : k.revision ≡ h.revision + 1
 
 restored_or_none : (o : Option (List GroupRecord)) (gs : List GroupRecord) → option_map (λ (x : List GroupRecord). restored (unwrap_or o []) gs) o ≡ option_map (λ (x : List GroupRecord). restored x gs) o
 restored_or_none None gs = refl
@@ -80,8 +96,8 @@ module _ (h : Holdings) (n : ℕ) (i : Instance) (s : Snapshot) (numbered : IsNu
   unfolding groups_of
   services_are = owned_here with_noted (service_owner i) services_then ∙ restored_or_none (owned h (service_owner i)) s.service_groups
 
-  pub is_reverted : IsReverted i s h at_end
-  is_reverted = record {
+  is_back : IsBack i s h at_end
+  is_back = record {
     own = own_are;
     services_own = services_are;
     other_groups = λ owner not_own not_services. owned_apart with_services (owners.Instance i.number) owner own_then not_own ∙ owned_apart with_noted (service_owner i) owner services_then not_services ∙ owned_put h noted owner;
@@ -94,15 +110,53 @@ module _ (h : Holdings) (n : ℕ) (i : Instance) (s : Snapshot) (numbered : IsNu
     revision = refl;
   }
 
-abbrev Back : Holdings → Instance → Snapshot → Holdings → Type 0
-Back h i s k = IsReverted i s h k
+abbrev pub Back : Holdings → Instance → Snapshot → Holdings → Type 0
+Back h i s k = IsBack i s h k
 
-back_to : (h : Holdings) (n : ℕ) (i : Instance) (s : Snapshot) → IsNumbered h → Held h n i → Gives h Done (Back h i s) (reverted h i (Some s))
+pub back_to : (h : Holdings) (n : ℕ) (i : Instance) (s : Snapshot) → IsNumbered h → Held h n i → Gives h Done (Back h i s) (reverted h i (Some s))
 unfolding installed
 back_to h n i s numbered it =
     either h Done (Back h i s) (is_past_most (services_then h n i s numbered it) || is_past_most (own_then h n i s numbered it)) _ _
     (λ e. refuses h Done (Back h i s) Limit refl refl)
-    (λ e. with_one h Done (Back h i s) i (changes_of_revert h i (services_then h n i s numbered it) (own_then h n i s numbered it)) Done refl (λ same. is_reverted h n i s numbered it))
+    (λ e. with_one h Done (Back h i s) i (changes_of_revert h i (services_then h n i s numbered it) (own_then h n i s numbered it)) Done refl (λ same. is_back h n i s numbered it))
+
+-- an instance is among those of its service
+pub of_its_service : (i x : Instance) → x.name ≡ i.name → belongs_to (service_owner i) x ≡ true
+of_its_service i x e = (same_text (service_fmri x.name) (service_fmri i.name)).1 (ap service_fmri e)
+
+writes_owners : (h k : Holdings) (i : Instance) (s : Snapshot) → Rises by_instance (instances k) → IsBack i s h k → IsReverted i s h (written_then k (service_owner i))
+writes_owners h k i s rises b =
+    let noted_one : Instance = record i { previous = Some h.next_snapshot } in
+    let same : groups_of (written_then k (service_owner i)) ≡ groups_of k = groups_written k (service_owner i) in
+    record {
+      own = ap (λ (gs : Groups). gs (owners.Instance i.number)) same ∙ b.own;
+      services_own = owned_written k (service_owner i) (service_owner i) ∙ b.services_own;
+      other_groups = λ owner not_own not_services. owned_written k (service_owner i) owner ∙ b.other_groups owner not_own not_services;
+      previous = written_at k (service_owner i) i.number rises ∙ ap (option_map (shown k (service_owner i))) b.previous
+          ∙ ap (λ (x : Instance). Some x) (shown_of k (service_owner i) noted_one (of_its_service i noted_one refl))
+          ∙ ap (λ (gs : Groups). Some (current gs noted_one)) (sym same);
+      snapped = record { is_there = b.snapped.is_there; others = b.snapped.others; counted = b.snapped.counted };
+      others = λ m apart. subst (λ (o : Option Instance). IsAsRead (written_then k (service_owner i)) o (instance (written_then k (service_owner i)) m)) (b.others m apart) (as_read k (service_owner i) m rises);
+      names = b.names;
+      launches = b.launches;
+      next_instance = b.next_instance;
+      revision = b.revision;
+    }
+
+-- the service whose instances are written is that of the instance
+pub owner_of : (h : Holdings) (n : ℕ) (i : Instance) (owner : Owner) → Held h n i → option_map service_owner (instance h n) ≡ Some owner → service_owner i ≡ owner
+owner_of h n i owner it e =
+    ap (λ (name : List ℕ). owners.Service (service_fmri name)) it.name
+    ∙ the_same (service_owner it.before) owner (sym (ap (option_map service_owner) it.is_there) ∙ e)
+  where
+    the_same : (x y : Owner) → Some x ≡ Some y → x ≡ y
+    the_same x y f = cc
+
+pub has_owner : (h : Holdings) (n : ℕ) (i : Instance) → Held h n i → option_map service_owner (instance h n) ≡ None → ⊥
+has_owner h n i it e = clash (service_owner it.before) (sym (ap (option_map service_owner) it.is_there) ∙ e)
+  where
+    clash : (x : Owner) → Some x ≡ None → ⊥
+    clash x f = cc
 
 meant_at : (h : Holdings) (n : ℕ) (name : SnapshotName) (i : Instance) (s : Snapshot) → seen h n ≡ Some i → meant h n name ≡ Some s → named_snapshot h (number_of i name) ≡ Some s
 meant_at h n name i s e f = is_meant h i name ∙ sym (ap (meant_by h name) e) ∙ f
@@ -111,8 +165,12 @@ pub brought_back : (h : Holdings) (n : ℕ) (name : SnapshotName) (i : Instance)
     → (next h (reverting n name)).1 ≡ Done → IsReverted i s h (next h (reverting n name)).0
 unfolding next asked asked_edit
 brought_back h n name i s numbered e f =
-    subst (λ (o : Option Instance). Gives h Done (Back h i s) (asked_revert h name o)) (sym e)
-    (subst (λ (o : Option Snapshot). Gives h Done (Back h i s) (reverted h i o)) (sym (meant_at h n name i s e f)) (back_to h n i s numbered (held_of h n i e)))
+    let it : Held h n i = held_of h n i e in
+    gives_owners h (Back h i s) (λ k. IsReverted i s h k) (option_map service_owner (instance h n)) (asked_revert h name (found h n))
+    (subst (λ (o : Option Instance). Gives h Done (Back h i s) (asked_revert h name o)) (sym e)
+    (subst (λ (o : Option Snapshot). Gives h Done (Back h i s) (reverted h i o)) (sym (meant_at h n name i s e f)) (back_to h n i s numbered it)))
+    (λ k none p. absurd (has_owner h n i it none))
+    (λ k owner is rises p. subst (λ (x : Owner). IsReverted i s h (written_then k x)) (owner_of h n i owner it is) (writes_owners h k i s (rises numbered) p))
 
 -- ---- a revert of nothing
 
@@ -144,4 +202,6 @@ tells_found h name (Some i) = subst (λ (o : Option Snapshot). Tells o (reverted
 
 pub of_nothing : (h : Holdings) (n : ℕ) (name : SnapshotName) → IsOfNothing n name h (next h (reverting n name)).1
 unfolding next asked asked_edit
-of_nothing h n name = let both = tells_found h name (found h n) in record { told = both.0; only = both.1 }
+of_nothing h n name =
+    let both = subst (λ (r : Reply). Tells (meant h n name) r) (sym (same_reply h (option_map service_owner (instance h n)) (asked_revert h name (found h n)))) (tells_found h name (found h n)) in
+    record { told = both.0; only = both.1 }

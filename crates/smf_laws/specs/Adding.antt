@@ -1,7 +1,6 @@
 -- Services and instances that are added, and that are deleted.
 use Rattle.std.specs.Prelude.{◌≡◌, ◌+◌, ℕ, List, [], ◌∷◌, ◌++◌, false, Some, None}
 use Rattle.smf_state.specs.declared.row.Row.{Row}
-use Rattle.smf_state.specs.OwnName.{startd}
 use Rattle.smf_state.specs.Rows.{fresh}
 use Rattle.smf_state.specs.States.{runs}
 use Rattle.smf_model.specs.declared.command.Command.{Command}
@@ -13,8 +12,8 @@ use Rattle.smf_model.specs.declared.held.Owner.TheVariants as owners
 use Rattle.smf_model.specs.declared.held.Service.{Service}
 use Rattle.smf_model.specs.declared.held.Snapshot.{Snapshot}
 use Rattle.smf_model.specs.Holdings.{Holdings}
-use Rattle.smf_model.specs.Look.{instance, named, owned, service, snapshot}
-use Rattle.smf_model.specs.Setting.{service_fmri}
+use Rattle.smf_model.specs.Look.{groups_of, instance, named, owned, service, snapshot}
+use Rattle.smf_model.specs.Setting.{current, service_fmri}
 
 -- ---- services
 
@@ -49,14 +48,16 @@ abbrev pub full_name : List ℕ → List ℕ → List ℕ
 full_name service name = service ++ 58 ∷ name
 
 -- an instance that has not begun, without groups and snapshots
-abbrev pub added : List ℕ → ℕ → Instance
-added full n = record { number = n; name = full; row = fresh startd; start = None; previous = None }
+abbrev pub added : List ℕ → List ℕ → ℕ → Instance
+added owner full n = record { number = n; name = full; row = fresh owner; start = None; previous = None }
 
--- an instance is there under a name that was free, and is found by it
+-- an instance is there under a name that was free, and is found by it; its row shows the owner that is read
 pub record IsInstanceAdded (full : List ℕ) (n : ℕ) (h k : Holdings) : Type 0 where
+  pub owner : List ℕ
   pub was_free : named h full ≡ None
-  pub is_there : instance k n ≡ Some (added full n)
-  pub is_named : named k full ≡ Some (added full n)
+  pub is_there : instance k n ≡ Some (added owner full n)
+  pub is_named : named k full ≡ Some (added owner full n)
+  pub is_read : current (groups_of k) (added owner full n) ≡ added owner full n
   pub has_no_groups : owned k (owners.Instance n) ≡ Some []
   pub others : (m : ℕ) → (m ≡ n → ⊥) → instance k m ≡ instance h m
   pub other_groups : (owner : Owner) → (owner ≡ owners.Instance n → ⊥) → owned k owner ≡ owned h owner

@@ -1,5 +1,5 @@
 -- Enable, disable and revert: the changes that they make, and all that they leave.
-use Rattle.std.specs.Prelude.{◌≡◌, ◌+◌, ℕ, List, [], ◌∷◌, Bool, true, false, Option, Some, None, option_map}
+use Rattle.std.specs.Prelude.{◌≡◌, ◌⊎◌, ◌+◌, ℕ, List, [], ◌∷◌, Bool, true, false, Option, Some, None, option_map}
 use Rattle.smf_value.specs.declared.value.Value.TheVariants.{Boolean}
 use Rattle.smf_value.specs.declared.kind.Kind.TheVariants as kinds
 use Rattle.smf_snap.specs.declared.name.SnapshotName.{SnapshotName}
@@ -108,6 +108,12 @@ meant_by h name (Some i) = snapshot_at h (stands_for name i)
 abbrev pub meant : Holdings → ℕ → SnapshotName → Option Snapshot
 meant h n name = meant_by h name (seen h n)
 
+-- an instance is what it was, or its row has number 0 and shows the owner that is read now
+abbrev pub IsAsRead : Holdings → Option Instance → Option Instance → Type 0
+IsAsRead k before after =
+    (after ≡ before)
+    ⊎ ((i : Instance) × (before ≡ Some i) × (i.row.number ≡ 0) × (after ≡ Some (current (groups_of k) i)))
+
 -- both owners have the groups of the snapshot again, and `previous` is what they had before
 pub record IsReverted (i : Instance) (s : Snapshot) (h k : Holdings) : Type 0 where
   pub own : groups_of k (owners.Instance i.number)
@@ -116,9 +122,9 @@ pub record IsReverted (i : Instance) (s : Snapshot) (h k : Holdings) : Type 0 wh
       ≡ option_map (λ gs. restored gs s.service_groups) (owned h (service_owner i))
   pub other_groups : (owner : Owner) → (owner ≡ owners.Instance i.number → ⊥) → (owner ≡ service_owner i → ⊥)
       → owned k owner ≡ owned h owner
-  pub previous : instance k i.number ≡ Some (record i { previous = Some h.next_snapshot })
+  pub previous : instance k i.number ≡ Some (current (groups_of k) (record i { previous = Some h.next_snapshot }))
   pub snapped : IsSnapped i h k
-  pub others : (m : ℕ) → (m ≡ i.number → ⊥) → instance k m ≡ instance h m
+  pub others : (m : ℕ) → (m ≡ i.number → ⊥) → IsAsRead k (instance h m) (instance k m)
   pub names : k.names ≡ h.names
   pub launches : k.launches ≡ h.launches
   pub next_instance : k.next_instance ≡ h.next_instance
@@ -128,3 +134,9 @@ pub record IsReverted (i : Instance) (s : Snapshot) (h k : Holdings) : Type 0 wh
 pub record IsOfNothing (n : ℕ) (name : SnapshotName) (h : Holdings) (r : Reply) : Type 0 where
   pub told : r ≡ NoSuch → meant h n name ≡ None
   pub only : meant h n name ≡ None → r ≡ NoSuch
+
+-- ---- owners
+
+-- each instance whose row has number 0 is held with the owner that is read, so that no read corrects one
+abbrev pub AreWritten : Holdings → Type 0
+AreWritten h = (n : ℕ) (i : Instance) → instance h n ≡ Some i → current (groups_of h) i ≡ i

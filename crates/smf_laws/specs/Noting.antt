@@ -17,8 +17,11 @@ use Rattle.smf_model.specs.declared.command.Reply.TheVariants.{Limit, Made}
 use Rattle.smf_model.specs.declared.held.Instance.{Instance}
 use Rattle.smf_model.specs.declared.held.Owner.{Owner}
 use Rattle.smf_model.specs.Holdings.{Holdings}
+use Rattle.smf_model.specs.Laws.{IsNumbered}
 use Rattle.smf_model.specs.Look.{by_launch, group, instance, instances, launch_of, owned}
 use Rattle.smf_model.specs.Next.{greatest, property_changed}
+use Rattle.smf_model.specs.Setting.{general}
+use Rattle.smf_laws.specs.Effects.{IsAsRead}
 
 -- ---- asks
 
@@ -99,17 +102,20 @@ abbrev pub without_properties : List ℕ → List ℕ → Bool → GroupRecord
 without_properties name group_type non_persistent =
     record { name = name; group_type = group_type; non_persistent = non_persistent; properties = [] }
 
--- one revision is made, and the group of a name of one owner is o, and nothing else is changed
+-- one revision is made, the group of a name of one owner is o, and no other group is changed; no row is changed
+-- either, unless the group is `general`: then rows may come to show the owner that is read now
 pub record IsGroupThen (owner : Owner) (name : List ℕ) (o : Option GroupRecord) (h k : Holdings) : Type 0 where
   pub is_so : group k owner name ≡ o
   pub other_groups : (other : List ℕ) → (other ≡ name → ⊥) → group k owner other ≡ group h owner other
   pub other_owners : (other : Owner) → (other ≡ owner → ⊥) → owned k other ≡ owned h other
-  pub rows : instances k ≡ instances h
+  pub rows : IsNumbered h → (n : ℕ) → IsAsRead k (instance h n) (instance k n)
+  pub other_rows : (name ≡ general → ⊥) → instances k ≡ instances h
   pub rest : k ≡ record h { services = k.services; instances = k.instances; revision = h.revision + 1 }
 
 pub record IsGroupAdded (owner : Owner) (g : GroupRecord) (h k : Holdings) : Type 0 where
   pub was_free : group h owner g.name ≡ None
   pub then_there : IsGroupThen owner g.name (Some g) h k
+  pub rows : instances k ≡ instances h
 
 pub record IsGroupDeleted (owner : Owner) (name : List ℕ) (h k : Holdings) : Type 0 where
   pub was_there : (g : GroupRecord) × (group h owner name ≡ Some g)

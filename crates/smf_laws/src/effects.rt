@@ -3,7 +3,7 @@ ghost use Rattle.smf_laws.specs.Adding.{IsInstanceAdded, IsInstanceDeleted, IsOf
 ghost use Rattle.smf_laws.specs.Adding.{adding_instance, adding_service, deleting_instance, deleting_service, full_name};
 ghost use Rattle.smf_laws.specs.Anew.{BeginsOrStays, IsAfterRefresh, IsBootAnswer, IsBooted, IsIdle, IsToMove, refreshing};
 ghost use Rattle.smf_laws.specs.Effects.{IsEnabledForGood, IsEnabledForNow, IsOfNothing, IsReverted};
-ghost use Rattle.smf_laws.specs.Effects.{enabling, meant, reverting, seen};
+ghost use Rattle.smf_laws.specs.Effects.{AreWritten, enabling, meant, reverting, seen};
 ghost use Rattle.smf_laws.specs.Noting.{IsGroupAdded, IsGroupChanged, IsGroupDeleted, IsLaunchAnswer, IsLaunched, IsNoted};
 ghost use Rattle.smf_laws.specs.Noting.{adding_group, changing_group, clear_bit, clearing, deleting_group, has_effect};
 ghost use Rattle.smf_laws.specs.Noting.{mark_bit, marking, restart_bit, restarting, without_properties};
@@ -19,6 +19,7 @@ ghost use Rattle.smf_model.specs.declared.held.Owner.{Owner};
 ghost use Rattle.smf_model.specs.declared.held.Snapshot.{Snapshot};
 ghost use Rattle.smf_model.specs.Holdings.{Holdings};
 ghost use Rattle.smf_model.specs.Laws.{IsNumbered};
+ghost use Rattle.smf_model.specs.Look.{empty};
 ghost use Rattle.smf_model.specs.Next.{next};
 ghost use Rattle.smf_state.specs.declared.refusal.Why.TheVariants as whys;
 ghost use Rattle.smf_state.specs.declared.step.Proposal.{Proposal};
@@ -118,4 +119,10 @@ pub fn proposals_are_judged_in_order()
 /// not allowed, then a limit.
 pub fn edits_are_answered_in_order()
     ensures { (h : Holdings) (e : Edit) → IsAnswered h e (next h (commands.Edit e)).1 }
+{}
+
+/// The command that changes which restarter an instance has writes it into the row, while the row has number 0.
+pub fn owners_are_written()
+    ensures first { AreWritten empty }
+    ensures kept { (h : Holdings) (c : Command) → IsNumbered h → AreWritten h → AreWritten (next h c).0 }
 {}

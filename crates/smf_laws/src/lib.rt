@@ -9,8 +9,8 @@ mod values;
 
 pub use effects::{
     asks_are_noted, booting_begins_anew, edits_are_answered_in_order, enabling_is_exact,
-    groups_are_edited_alone, launches_are_counted, proposals_are_judged_in_order,
-    refreshing_moves_what_is_idle, reverting_brings_back, rows_count_or_begin_anew,
-    what_is_added_is_found, what_is_deleted_is_gone,
+    groups_are_edited_alone, launches_are_counted, owners_are_written,
+    proposals_are_judged_in_order, refreshing_moves_what_is_idle, reverting_brings_back,
+    rows_count_or_begin_anew, what_is_added_is_found, what_is_deleted_is_gone,
 };
 pub use values::values_stay_consistent;

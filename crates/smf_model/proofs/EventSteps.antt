@@ -25,7 +25,7 @@ use Rattle.smf_model.specs.declared.command.Mark.{Mark}
 use Rattle.smf_model.specs.declared.command.Mark.TheVariants as marks
 use Rattle.smf_model.specs.declared.command.PropertyChange.{PropertyChange}
 use Rattle.smf_model.specs.declared.command.Reply.{Reply}
-use Rattle.smf_model.specs.declared.command.Reply.TheVariants.{Granted, Done, NoSuch, InUse, Limit, Stale, Made}
+use Rattle.smf_model.specs.declared.command.Reply.TheVariants.{Granted, Done, NoSuch, InUse, NotInState, Exists, Denied, Limit, Stale, Made}
 use Rattle.smf_state.specs.declared.refusal.Why.{Why}
 use Rattle.smf_state.specs.declared.refusal.Why.TheVariants as whys
 use Rattle.smf_model.specs.declared.held.Instance.{Instance}
@@ -37,13 +37,14 @@ use Rattle.smf_model.specs.Holdings.{Holdings}
 use Rattle.smf_model.specs.Look.{bare, by_instance, changed, group, groups_of, in_place, installed, instance, instances, launch_of, named, put_over, service}
 use Rattle.smf_model.specs.Setting.{Groups, current, general, general_ovr, owned_by_setting, service_owner, setting}
 use Rattle.smf_model.specs.Laws.{IsNumbered, is_accepted}
-use Rattle.smf_model.specs.Next.{greatest, greatest_instance, greatest_snapshot, refused, accepted, found, asked_add_service, joining, added_at, added_named, asked_add_instance, is_instance_of, asked_delete_service, is_in_use, leaving, asked_delete_instance, is_there, is_made, has_room, group_put, group_dropped, guarded, added_group, deleted_group, new_group, property_changed, put_or_denied, changed_group, enabling_of, enabled_for_good, enabled_for_now, asked_enable, asking, asked_if, asked_where, asked_restart, asked_clear, marked, asked_mark, with_snapshot, snapshot_of, target_by, may_be_moved, refreshed_row, moved_instance, refreshed_instance, refreshed, asked_refresh, number_of, named_snapshot, is_past_most, reverting, reverted_to, reverted, asked_revert, asked_edit, is_again, stale, with_row, with_running, takes_running, granted, step_answer, fresh_answer, answer_at, answer, next_launch, asked_launch, relaunched, persistent, kept_of_services, kept_of_instances, booted, all_booted, booting, may_not_boot, asked_boot, asked, next}
+use Rattle.smf_model.specs.Next.{greatest, greatest_instance, greatest_snapshot, refused, accepted, found, asked_add_service, joining, added_at, added_named, asked_add_instance, is_instance_of, asked_delete_service, is_in_use, leaving, asked_delete_instance, is_there, is_made, has_room, group_put, group_dropped, guarded, added_group, deleted_group, new_group, property_changed, put_or_denied, changed_group, enabling_of, enabled_for_good, enabled_for_now, asked_enable, asking, asked_if, asked_where, asked_restart, asked_clear, marked, asked_mark, with_snapshot, snapshot_of, target_by, may_be_moved, refreshed_row, moved_instance, refreshed_instance, refreshed, asked_refresh, number_of, named_snapshot, is_past_most, reverting, reverted_to, reverted, asked_revert, asked_edit, owners_written, unwritten, and_owners, restarters_named, with_owners, is_again, stale, with_row, with_running, takes_running, granted, step_answer, fresh_answer, answer_at, answer, next_launch, asked_launch, relaunched, persistent, kept_of_services, kept_of_instances, booted, all_booted, booting, may_not_boot, asked_boot, asked, next}
 use Rattle.smf_model.specs.Dates.{EventKind, ErrorStop, OtherStop, Refreshed, Started}
 use Rattle.smf_model.specs.Events.{Ends, IsRefresh, IsEventTo}
 use Rattle.smf_model.proofs.Entries.{bare_groups, bare_instance, bare_put, bare_without}
 use Rattle.smf_model.proofs.EventRows.{SameDates, dates_equal, EndDates, RowDates, no_end, at_end, applied_dates, with_snapshot_dates, not_running}
 use Rattle.smf_model.proofs.LawLists.{at_put, is_number, some_same}
-use Rattle.smf_model.proofs.LawOutcomes.{Elsewhere, booted_at, each_put, elsewhere, installed_append, installed_closed, instances_keep, put_each, relaunches, services_keep}
+use Rattle.smf_model.proofs.LawOutcomes.{Elsewhere, apart_after, booted_at, each_put, elsewhere, installed_append, installed_closed, instances_keep, relaunches, services_keep}
+use Rattle.smf_model.proofs.Written.{AreHeldAtZero, Written, stays_so, is_read as read_now, at_written, is_shown, put_each, unwritten_held}
 
 -- what becomes of the instance n: its revisions stay and there is no event, or the event dates them
 pub data Dates (n : ℕ) (h : Holdings) (c : Command) (k : Holdings) (r : Reply) (before after : Instance) : Type 0 where
@@ -603,10 +604,52 @@ launches n h name before there =
 new_number : (h : Holdings) (n : ℕ) (before : Instance) → IsNumbered h → instance h n ≡ Some before → h.next_instance ≡ n → ⊥
 new_number h n before numbered there same = none_some before (sym (numbered.instances n (omega arith)) ∙ there)
 
-other_edit : (n : ℕ) (h : Holdings) (e : Edit) (before : Instance) → IsNumbered h → instance h n ≡ Some before → ((m : ℕ) → e ≡ asked_for.Refresh m → ⊥) → DatesOf n h (commands.Edit e) before (asked_edit h e)
-other_edit n h e before numbered there other =
+-- another owner that is written leaves the revisions
+has_written : (n : ℕ) (r : Row) (gs : Groups) (js xs : List Instance) → AreHeldAtZero xs js → Has n r xs → Has n r (put_each (current gs) js xs)
+has_written n r gs js xs held has j e = by (lookup by_instance xs n) (lookup by_instance (put_each (current gs) js xs) n) (at_written gs js xs n held) has e
+  where
+    by : (o p : Option Instance) → Written gs o p → ((i : Instance) → o ≡ Some i → SameDates r i.row) → p ≡ Some j → SameDates r j.row
+    by o p (stays_so f) before e = before j (sym f ∙ e)
+    by o p (read_now i there zero f) before e =
+        let s : SameDates r i.row = before i there in
+        let t : SameDates i.row (current gs i).row = owner_dates i.row (current gs i).row (is_shown gs i).row in
+        subst (λ (x : Instance). SameDates r x.row) (some_same (current gs i) j (sym f ∙ e))
+        (record { err = t.err ∙ s.err; stop = t.stop ∙ s.stop; refresh = t.refresh ∙ s.refresh; start = t.start ∙ s.start })
+
+other_edit : (n : ℕ) (h : Holdings) (e : Edit) (o : Option Owner) (before : Instance) → IsNumbered h → instance h n ≡ Some before → ((m : ℕ) → e ≡ asked_for.Refresh m → ⊥) → DatesOf n h (commands.Edit e) before (with_owners h o (asked_edit h e))
+unfolding with_owners
+other_edit n h e None before numbered there other =
     keeps n h (commands.Edit e) before (asked_edit h e) there (keep_edit n h before e there (new_number h n before numbered there) other)
     (neither n h (commands.Edit e) _ _ (edit_proposed e) (λ f. other n (same_edit e (asked_for.Refresh n) f)))
+other_edit n h e (Some owner) before numbered there other = λ after is.
+    undated (by (asked_edit h e).reply after is) (neither n h (commands.Edit e) _ _ (edit_proposed e) (λ f. other n (same_edit e (asked_for.Refresh n) f)))
+  where
+    cs : List Change
+    cs = (asked_edit h e).changes
+
+    k : Holdings
+    k = installed h cs
+
+    first : Has n before.row (instances k)
+    first = keeps_dates n before.row h cs (keep_edit n h before e there (new_number h n before numbered there) other) (λ (j : Instance) f. stays_same h n before j there f)
+
+    last : Has n before.row (instances (installed h (cs ++ owners_written k owner)))
+    last =
+        has_as n before.row (put_each (current (groups_of k)) (unwritten k owner) (instances k)) (instances (installed h (cs ++ owners_written k owner)))
+        (ap (λ (l : Holdings). instances l) (installed_append h cs (owners_written k owner)) ∙ (each_put (current (groups_of k)) k (unwritten k owner)).instances)
+        (has_written n before.row (groups_of k) (unwritten k owner) (instances k) (unwritten_held k owner (apart_after h cs numbered)) first)
+
+    by : (r : Reply) → Has n before.row (instances (installed h (and_owners h owner cs r)))
+    by Done = last
+    by (Made m) = first
+    by (Granted row) = first
+    by NoSuch = first
+    by InUse = first
+    by NotInState = first
+    by Exists = first
+    by (Denied fault) = first
+    by Limit = first
+    by (Stale why row) = first
 
 refreshed_edit : (n : ℕ) (h : Holdings) (m : ℕ) (before : Instance) → instance h n ≡ Some before → DatesOf n h (commands.Edit (asked_for.Refresh m)) before (asked_edit h (asked_for.Refresh m))
 unfolding asked_edit
@@ -614,20 +657,21 @@ refreshed_edit n h m before there =
     by_found h m (λ o. DatesOf n h (commands.Edit (asked_for.Refresh m)) before (asked_refresh h o)) (refuses n h (commands.Edit (asked_for.Refresh m)) before NoSuch there refl)
     (λ (i : Instance) f. refreshes n h m before i (target_by (setting (groups_of h) i) i.row.owner) there f)
 
-edits : (n : ℕ) (h : Holdings) (e : Edit) (before : Instance) → IsNumbered h → instance h n ≡ Some before → DatesOf n h (commands.Edit e) before (asked_edit h e)
+edits : (n : ℕ) (h : Holdings) (e : Edit) (before : Instance) → IsNumbered h → instance h n ≡ Some before → DatesOf n h (commands.Edit e) before (with_owners h (restarters_named h e) (asked_edit h e))
+unfolding with_owners
 edits n h (asked_for.Refresh m) before numbered there = refreshed_edit n h m before there
-edits n h (asked_for.AddService name) before numbered there = other_edit n h _ before numbered there (λ m e. cc)
-edits n h (asked_for.AddInstance s name) before numbered there = other_edit n h _ before numbered there (λ m e. cc)
-edits n h (asked_for.DeleteService name) before numbered there = other_edit n h _ before numbered there (λ m e. cc)
-edits n h (asked_for.DeleteInstance d) before numbered there = other_edit n h _ before numbered there (λ m e. cc)
-edits n h (asked_for.AddGroup owner name group_type p) before numbered there = other_edit n h _ before numbered there (λ m e. cc)
-edits n h (asked_for.DeleteGroup owner name) before numbered there = other_edit n h _ before numbered there (λ m e. cc)
-edits n h (asked_for.Property owner name change) before numbered there = other_edit n h _ before numbered there (λ m e. cc)
-edits n h (asked_for.Enable d b temporary) before numbered there = other_edit n h _ before numbered there (λ m e. cc)
-edits n h (asked_for.Restart d) before numbered there = other_edit n h _ before numbered there (λ m e. cc)
-edits n h (asked_for.Clear d) before numbered there = other_edit n h _ before numbered there (λ m e. cc)
-edits n h (asked_for.Mark d mark) before numbered there = other_edit n h _ before numbered there (λ m e. cc)
-edits n h (asked_for.Revert d name) before numbered there = other_edit n h _ before numbered there (λ m e. cc)
+edits n h (asked_for.AddService name) before numbered there = other_edit n h (asked_for.AddService name) (restarters_named h (asked_for.AddService name)) before numbered there (λ m e. cc)
+edits n h (asked_for.AddInstance s name) before numbered there = other_edit n h (asked_for.AddInstance s name) (restarters_named h (asked_for.AddInstance s name)) before numbered there (λ m e. cc)
+edits n h (asked_for.DeleteService name) before numbered there = other_edit n h (asked_for.DeleteService name) (restarters_named h (asked_for.DeleteService name)) before numbered there (λ m e. cc)
+edits n h (asked_for.DeleteInstance d) before numbered there = other_edit n h (asked_for.DeleteInstance d) (restarters_named h (asked_for.DeleteInstance d)) before numbered there (λ m e. cc)
+edits n h (asked_for.AddGroup owner name group_type p) before numbered there = other_edit n h (asked_for.AddGroup owner name group_type p) (restarters_named h (asked_for.AddGroup owner name group_type p)) before numbered there (λ m e. cc)
+edits n h (asked_for.DeleteGroup owner name) before numbered there = other_edit n h (asked_for.DeleteGroup owner name) (restarters_named h (asked_for.DeleteGroup owner name)) before numbered there (λ m e. cc)
+edits n h (asked_for.Property owner name change) before numbered there = other_edit n h (asked_for.Property owner name change) (restarters_named h (asked_for.Property owner name change)) before numbered there (λ m e. cc)
+edits n h (asked_for.Enable d b temporary) before numbered there = other_edit n h (asked_for.Enable d b temporary) (restarters_named h (asked_for.Enable d b temporary)) before numbered there (λ m e. cc)
+edits n h (asked_for.Restart d) before numbered there = other_edit n h (asked_for.Restart d) (restarters_named h (asked_for.Restart d)) before numbered there (λ m e. cc)
+edits n h (asked_for.Clear d) before numbered there = other_edit n h (asked_for.Clear d) (restarters_named h (asked_for.Clear d)) before numbered there (λ m e. cc)
+edits n h (asked_for.Mark d mark) before numbered there = other_edit n h (asked_for.Mark d mark) (restarters_named h (asked_for.Mark d mark)) before numbered there (λ m e. cc)
+edits n h (asked_for.Revert d name) before numbered there = other_edit n h (asked_for.Revert d name) (restarters_named h (asked_for.Revert d name)) before numbered there (λ m e. cc)
 
 whole : (n : ℕ) (h : Holdings) (c : Command) (before : Instance) → IsNumbered h → instance h n ≡ Some before → DatesOf n h c before (asked h c)
 unfolding asked

@@ -1,5 +1,5 @@
 -- What one command makes of the revisions that rows keep.
-use Rattle.std.proofs.Common.{◌≡◌, ◌⊎◌, inl, inr, ℕ, ◌+◌, ◌≤◌, not, Bool, true, false, Option, Some, None, refl, sym, ap, ◌∙◌, subst, arith}
+use Rattle.std.proofs.Common.{◌≡◌, ◌⊎◌, inl, inr, ℕ, ◌+◌, ◌≤◌, not, Bool, true, false, List, Option, Some, None, refl, sym, ap, ◌∙◌, subst, arith}
 use Rattle.smf_state.specs.declared.state.State.{State}
 use Rattle.smf_state.specs.declared.state.State.TheVariants.{Offline, Online}
 use Rattle.smf_state.specs.declared.state.Cause.{Cause}
@@ -15,7 +15,6 @@ use Rattle.smf_model.specs.declared.held.Instance.{Instance}
 use Rattle.smf_model.specs.Holdings.{Holdings}
 use Rattle.smf_model.specs.Look.{empty, instance}
 use Rattle.smf_model.specs.Laws.{IsNumbered, Follows}
-use Rattle.smf_state.specs.OwnName.{startd}
 use Rattle.smf_model.specs.Next.{next}
 use Rattle.smf_model.specs.Dates.{EventKind, ErrorStop, OtherStop, Refreshed, Started, revision_of, IsDated}
 use Rattle.smf_model.specs.Events.{Ends, IsEventTo, IsEvent}
@@ -132,17 +131,17 @@ dated_next kind n h c j numbered is v =
     let there = there_before kind n h c (next h c).0 (next h c).1 v in
     dated_one kind n h c (next h c).0 (next h c).1 there.0 j is (dates_next n h c there.0 j numbered there.1 is) v
 
-pub fresh_date : (kind : EventKind) → revision_of kind (fresh startd) ≡ 0
-fresh_date ErrorStop = refl
-fresh_date OtherStop = refl
-fresh_date Refreshed = refl
-fresh_date Started = refl
+pub fresh_date : (kind : EventKind) (owner : List ℕ) → revision_of kind (fresh owner) ≡ 0
+fresh_date ErrorStop owner = refl
+fresh_date OtherStop owner = refl
+fresh_date Refreshed owner = refl
+fresh_date Started owner = refl
 
 -- an instance that was not there has no events
 pub none_next : (kind : EventKind) (n : ℕ) (h : Holdings) (c : Command) (j : Instance) → IsNumbered h → instance h n ≡ None → instance (next h c).0 n ≡ Some j → revision_of kind j.row ≡ 0
 none_next kind n h c j numbered none is =
-    let new : j.row ≡ fresh startd = subst (λ (o : Option Instance). Follows c n o j) none (follows_next h c n j numbered is) in
-    ap (revision_of kind) new ∙ fresh_date kind
+    let new : j.row ≡ fresh j.row.owner = subst (λ (o : Option Instance). Follows c n o j) none (follows_next h c n j numbered is) in
+    ap (revision_of kind) new ∙ fresh_date kind j.row.owner
 
 pub revision_rises : (h : Holdings) (c : Command) → h.revision ≤ (next h c).0.revision
 revision_rises h c = by (next h c).0 (one_revision h c)

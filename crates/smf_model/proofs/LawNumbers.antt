@@ -18,11 +18,12 @@ use Rattle.smf_model.specs.Dates.{IsDated}
 use Rattle.smf_model.specs.Holdings.{Holdings}
 use Rattle.smf_model.specs.Look.{by_instance, by_snapshot, empty, installed, instance, instances, is_snapshot_of, named, others_of, put_new, put_over, service, snapshot}
 use Rattle.smf_model.specs.Laws.{IsNumbered, IsOrdered, is_refusal}
-use Rattle.smf_model.specs.Setting.{Groups}
-use Rattle.smf_model.specs.Next.{greatest, greatest_instance, refused, accepted, joining, new_instance, added_at, added_named, asked_add_instance, asked_edit, booted, asked, next}
+use Rattle.smf_model.specs.Setting.{Groups, current}
+use Rattle.smf_model.specs.Next.{greatest, greatest_instance, refused, accepted, joining, new_instance, added_at, added_named, asked_add_instance, asked_edit, booted, asked, next, with_owners}
 use Rattle.smf_model.proofs.LawDates.{first_dated, stays_dated}
 use Rattle.smf_model.proofs.LawLists.{none_filter, none_put, none_put_new, none_put_over, none_without}
-use Rattle.smf_model.proofs.LawOutcomes.{Outcome, nothing, goes, OfInstances, alike, joined, left, put, each, OfSnapshots, kept, taken, gone, put_each, no_changes, outcome}
+use Rattle.smf_model.proofs.LawOutcomes.{Outcome, nothing, goes, OfInstances, alike, joined, left, put, each, written, OfSnapshots, kept, taken, gone, no_changes, outcome}
+use Rattle.smf_model.proofs.Written.{put_each}
 use Rattle.smf_model.proofs.Order.{ordered_after}
 
 no_instance : (i : Instance) → None ≡ Some i → ⊥
@@ -57,17 +58,19 @@ NoSnapshotFrom next_one xs = (n : ℕ) → next_one ≤ n → lookup by_snapshot
 below_as : (m k : ℕ) (xs ys : List Instance) → xs ≡ ys → m ≡ k → NoneFrom k ys → NoneFrom m xs
 below_as m k xs ys e f none n h = ap (λ (zs : List Instance). lookup by_instance zs n) e ∙ none n (subst (λ (d : ℕ). d ≤ n) f h)
 
-instances_below : (h : Holdings) (c : Command) (xs : List Instance) (m : ℕ) → OfInstances h c xs m → NoneFrom h.next_instance (instances h) → NoneFrom m xs
-instances_below h c xs m (alike e f) b = below_as m h.next_instance xs (instances h) e f b
-instances_below h c xs m (joined name e f) b =
+instances_below : (h : Holdings) (c : Command) (m : ℕ) (xs : List Instance) → OfInstances h c m xs → NoneFrom h.next_instance (instances h) → NoneFrom m xs
+instances_below h c m xs (alike e f) b = below_as m h.next_instance xs (instances h) e f b
+instances_below h c m xs (joined name e f) b =
     below_as m (h.next_instance + 1) xs (put_in by_instance (new_instance h name) (instances h)) e f
     (λ n k. none_put by_instance (new_instance h name) (instances h) n (λ same. (let same' : h.next_instance ≡ n = same in omega arith)) (b n (omega arith)))
-instances_below h c xs m (left d e f) b =
+instances_below h c m xs (left d e f) b =
     below_as m h.next_instance xs (without by_instance d (instances h)) e f (λ n k. none_without by_instance d (instances h) n (b n k))
-instances_below h c xs m (put d i x there number follows e f) b =
+instances_below h c m xs (put d i x there number follows e f) b =
     below_as m h.next_instance xs (put_over x (instances h)) e f (λ n k. none_put_over n x (instances h) (b n k))
-instances_below h c xs m (each boot gs e f) b =
+instances_below h c m xs (each boot gs e f) b =
     below_as m h.next_instance xs (put_each (booted gs) (instances h) (instances h)) e f (λ n k. none_each n (booted gs) (instances h) (instances h) (b n k))
+instances_below h c m xs (written ys before gs js held e) b =
+    below_as m m xs (put_each (current gs) js ys) e refl (λ n k. none_each n (current gs) js ys (instances_below h c m ys before b n k))
 
 snapshots_as : (m k : ℕ) (xs ys : List Snapshot) → xs ≡ ys → m ≡ k → NoSnapshotFrom k ys → NoSnapshotFrom m xs
 snapshots_as m k xs ys e f none n h = ap (λ (zs : List Snapshot). lookup by_snapshot zs n) e ∙ none n (subst (λ (d : ℕ). d ≤ n) f h)
@@ -82,12 +85,13 @@ snapshots_below h c xs m (gone d is e f) b =
 
 -- ---- the numbers that come next
 
-instances_rise_by : (h : Holdings) (c : Command) (xs : List Instance) (m : ℕ) → OfInstances h c xs m → h.next_instance ≤ m
-instances_rise_by h c xs m (alike e f) = omega arith
-instances_rise_by h c xs m (joined name e f) = omega arith
-instances_rise_by h c xs m (left d e f) = omega arith
-instances_rise_by h c xs m (put d i x there number follows e f) = omega arith
-instances_rise_by h c xs m (each boot gs e f) = omega arith
+instances_rise_by : (h : Holdings) (c : Command) (m : ℕ) (xs : List Instance) → OfInstances h c m xs → h.next_instance ≤ m
+instances_rise_by h c m xs (alike e f) = omega arith
+instances_rise_by h c m xs (joined name e f) = omega arith
+instances_rise_by h c m xs (left d e f) = omega arith
+instances_rise_by h c m xs (put d i x there number follows e f) = omega arith
+instances_rise_by h c m xs (each boot gs e f) = omega arith
+instances_rise_by h c m xs (written ys before gs js held e) = instances_rise_by h c m ys before
 
 snapshots_rise_by : (h : Holdings) (c : Command) (xs : List Snapshot) (m : ℕ) → OfSnapshots h c xs m → h.next_snapshot ≤ m
 snapshots_rise_by h c xs m (kept e f) = omega arith
@@ -96,7 +100,7 @@ snapshots_rise_by h c xs m (gone d is e f) = omega arith
 
 rise_by : (h : Holdings) (c : Command) (k : Holdings) (r : Reply) → Outcome h c k r → (h.next_instance ≤ k.next_instance) × (h.next_snapshot ≤ k.next_snapshot)
 rise_by h c k r (nothing e a) = subst (λ (l : Holdings). (h.next_instance ≤ l.next_instance) × (h.next_snapshot ≤ l.next_snapshot)) (sym e) (omega arith, omega arith)
-rise_by h c k r (goes g) = (instances_rise_by h c (instances k) k.next_instance g.instances, snapshots_rise_by h c k.snapshots k.next_snapshot g.snapshots)
+rise_by h c k r (goes g) = (instances_rise_by h c k.next_instance (instances k) g.instances, snapshots_rise_by h c k.snapshots k.next_snapshot g.snapshots)
 
 pub instances_rise : (h : Holdings) (c : Command) → h.next_instance ≤ (next h c).0.next_instance
 instances_rise h c = (rise_by h c (next h c).0 (next h c).1 (outcome h c)).0
@@ -106,13 +110,14 @@ snapshots_rise h c = (rise_by h c (next h c).0 (next h c).1 (outcome h c)).1
 
 -- ---- numbers that were given are not given again
 
-instances_gone : (h : Holdings) (c : Command) (n : ℕ) (xs : List Instance) (m : ℕ) → OfInstances h c xs m → n < h.next_instance → instance h n ≡ None → lookup by_instance xs n ≡ None
-instances_gone h c n xs m (alike e f) k is = rw e is
-instances_gone h c n xs m (joined name e f) k is =
+instances_gone : (h : Holdings) (c : Command) (n m : ℕ) (xs : List Instance) → OfInstances h c m xs → n < h.next_instance → instance h n ≡ None → lookup by_instance xs n ≡ None
+instances_gone h c n m xs (alike e f) k is = rw e is
+instances_gone h c n m xs (joined name e f) k is =
     rw e (none_put by_instance (new_instance h name) (instances h) n (λ same. (let same' : h.next_instance ≡ n = same in omega arith)) is)
-instances_gone h c n xs m (left d e f) k is = rw e (none_without by_instance d (instances h) n is)
-instances_gone h c n xs m (put d i x there number follows e f) k is = rw e (none_put_over n x (instances h) is)
-instances_gone h c n xs m (each boot gs e f) k is = rw e (none_each n (booted gs) (instances h) (instances h) is)
+instances_gone h c n m xs (left d e f) k is = rw e (none_without by_instance d (instances h) n is)
+instances_gone h c n m xs (put d i x there number follows e f) k is = rw e (none_put_over n x (instances h) is)
+instances_gone h c n m xs (each boot gs e f) k is = rw e (none_each n (booted gs) (instances h) (instances h) is)
+instances_gone h c n m xs (written ys before gs js held e) k is = rw e (none_each n (current gs) js ys (instances_gone h c n m ys before k is))
 
 snapshots_gone : (h : Holdings) (c : Command) (n : ℕ) (xs : List Snapshot) (m : ℕ) → OfSnapshots h c xs m → n < h.next_snapshot → snapshot h n ≡ None → lookup by_snapshot xs n ≡ None
 snapshots_gone h c n xs m (kept e f) k is = rw e is
@@ -122,7 +127,7 @@ snapshots_gone h c n xs m (gone d deletes e f) k is = rw e (none_filter _ _ h.sn
 
 instance_gone_by : (h : Holdings) (c : Command) (k : Holdings) (r : Reply) (n : ℕ) → Outcome h c k r → n < h.next_instance → instance h n ≡ None → instance k n ≡ None
 instance_gone_by h c k r n (nothing e a) below is = rw e is
-instance_gone_by h c k r n (goes g) below is = instances_gone h c n (instances k) k.next_instance g.instances below is
+instance_gone_by h c k r n (goes g) below is = instances_gone h c n k.next_instance (instances k) g.instances below is
 
 snapshot_gone_by : (h : Holdings) (c : Command) (k : Holdings) (r : Reply) (n : ℕ) → Outcome h c k r → n < h.next_snapshot → snapshot h n ≡ None → snapshot k n ≡ None
 snapshot_gone_by h c k r n (nothing e a) below is = rw e is
@@ -144,7 +149,7 @@ numbered_by h c k r (goes g) b o rises zero dated =
       ordered = o;
       first = (let first : 1 ≤ h.next_instance = b.first in omega arith);
       none_at_zero = zero;
-      instances = instances_below h c (instances k) k.next_instance g.instances b.instances;
+      instances = instances_below h c k.next_instance (instances k) g.instances b.instances;
       snapshots = snapshots_below h c k.snapshots k.next_snapshot g.snapshots b.snapshots;
       dated = dated;
       indexed = g.indexed b;
@@ -197,7 +202,7 @@ add_to h name n None e = absurd cc
 add_to h name n (Some s) e = add_named h n (read_short (s.name ++ 58 ∷ name)) e
 
 pub number_made : (h : Holdings) (s name : List ℕ) (n : ℕ) → (next h (commands.Edit (asked_for.AddInstance s name))).1 ≡ Made n → (n ≡ h.next_instance) × ((next h (commands.Edit (asked_for.AddInstance s name))).0.next_instance ≡ n + 1)
-unfolding next asked asked_edit
+unfolding next asked asked_edit with_owners
 number_made h s name n e = add_to h name n (service h s) e
 
 pub asked_refused : (h : Holdings) (c : Command) (r : Asked) → r ≡ asked h c → is_refusal r.reply ≡ true → r.changes ≡ []

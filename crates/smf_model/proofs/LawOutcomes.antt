@@ -41,26 +41,24 @@ use Rattle.smf_model.specs.declared.held.Snapshot.{Snapshot}
 use Rattle.smf_model.specs.Holdings.{Holdings}
 use Rattle.smf_model.specs.Look.{bare, by_instance, by_name, by_snapshot, changed, group, groups_of, in_place, installed, instance, instances, launch_of, named, others_of, put_new, put_over, service}
 use Rattle.smf_model.specs.Setting.{Groups, current, owned_by_setting, service_owner, setting}
-use Rattle.smf_model.specs.Next.{greatest, greatest_instance, greatest_snapshot, refused, accepted, found, asked_add_service, new_entry, new_instance, new_name, joining, added_at, added_named, asked_add_instance, is_instance_of, asked_delete_service, is_in_use, leaving, asked_delete_instance, is_there, is_made, has_room, group_put, group_dropped, guarded, added_group, deleted_group, property_changed, put_or_denied, changed_group, enabling_of, enabled_for_good, enabled_for_now, asked_enable, asking, asked_if, asked_where, asked_restart, asked_clear, marked, asked_mark, with_snapshot, snapshot_of, target_by, may_be_moved, refreshed_row, moved_row, moved_instance, moved, refreshed_instance, refreshed, asked_refresh, number_of, named_snapshot, reverting, reverted_to, reverted, asked_revert, asked_edit, is_again, stale, with_row, with_running, takes_running, granted, step_answer, fresh_answer, answer_at, answer, next_launch, asked_launch, relaunched, persistent, has_dropped, service_kept, instance_kept, kept_of_services, kept_of_instances, booted, all_booted, booting, may_not_boot, asked_boot, asked, next}
+use Rattle.smf_model.specs.Next.{greatest, greatest_instance, greatest_snapshot, refused, accepted, found, asked_add_service, new_entry, new_instance, new_name, joining, added_at, added_named, asked_add_instance, is_instance_of, asked_delete_service, is_in_use, leaving, asked_delete_instance, is_there, is_made, has_room, group_put, group_dropped, guarded, added_group, deleted_group, property_changed, put_or_denied, changed_group, enabling_of, enabled_for_good, enabled_for_now, asked_enable, asking, asked_if, asked_where, asked_restart, asked_clear, marked, asked_mark, with_snapshot, snapshot_of, target_by, may_be_moved, refreshed_row, moved_row, moved_instance, moved, refreshed_instance, refreshed, asked_refresh, number_of, named_snapshot, reverting, reverted_to, reverted, asked_revert, asked_edit, owners_written, unwritten, and_owners, restarters_named, with_owners, is_again, stale, with_row, with_running, takes_running, granted, step_answer, fresh_answer, answer_at, answer, next_launch, asked_launch, relaunched, persistent, has_dropped, service_kept, instance_kept, kept_of_services, kept_of_instances, booted, all_booted, booting, may_not_boot, asked_boot, asked, next}
 use Rattle.smf_model.specs.Laws.{AreApart, IsIndexed, IsNumbered, is_refusal, is_accepted, Stays, RowFollows}
 use Rattle.smf_model.specs.Laws.RowFollows.{stays, steps, moves}
 use Rattle.smf_model.proofs.Entries.{bare_groups, bare_instance, bare_put, bare_without, rises_bare}
-use Rattle.smf_model.proofs.LawLists.{apart_from_rises, at_put, is_number}
-use Rattle.smf_model.proofs.Names.{index_added, index_left, index_same, names_all, names_over, unnamed}
+use Rattle.smf_model.proofs.LawLists.{apart_from_rises, at_put, is_number, no_such, some_same}
+use Rattle.smf_model.proofs.Names.{SameNames, index_added, index_left, index_same, names_all, names_over, unnamed}
+use Rattle.smf_model.proofs.Order.{ordered_after}
+use Rattle.smf_model.proofs.Written.{AreHeldAtZero, Written, stays_so, is_read, at_written, is_shown, put_each, unwritten_held}
 
 -- ---- what becomes of the instances, and of the snapshots
 
--- each of these in its place, in turn
-abbrev pub put_each : (Instance → Instance) → List Instance → List Instance → List Instance
-put_each f [] xs = xs
-put_each f (i ∷ is) xs = put_each f is (put_over (f i) xs)
-
-pub data OfInstances (h : Holdings) (c : Command) (xs : List Instance) (next_one : ℕ) : Type 0 where
-  alike : xs ≡ instances h → next_one ≡ h.next_instance → OfInstances h c xs next_one
-  joined : (name : List ℕ) → xs ≡ put_in by_instance (new_instance h name) (instances h) → next_one ≡ h.next_instance + 1 → OfInstances h c xs next_one
-  left : (n : ℕ) → xs ≡ without by_instance n (instances h) → next_one ≡ h.next_instance → OfInstances h c xs next_one
-  put : (n : ℕ) (i x : Instance) → instance h n ≡ Some i → x.number ≡ n → RowFollows c n i.row x.row → xs ≡ put_over x (instances h) → next_one ≡ h.next_instance → OfInstances h c xs next_one
-  each : c ≡ commands.Boot → (gs : Groups) → xs ≡ put_each (booted gs) (instances h) (instances h) → next_one ≡ h.next_instance → OfInstances h c xs next_one
+pub data OfInstances (h : Holdings) (c : Command) (next_one : ℕ) : List Instance → Type 0 where
+  alike : {xs : List Instance} → xs ≡ instances h → next_one ≡ h.next_instance → OfInstances h c next_one xs
+  joined : {xs : List Instance} → (name : List ℕ) → xs ≡ put_in by_instance (new_instance h name) (instances h) → next_one ≡ h.next_instance + 1 → OfInstances h c next_one xs
+  left : {xs : List Instance} → (n : ℕ) → xs ≡ without by_instance n (instances h) → next_one ≡ h.next_instance → OfInstances h c next_one xs
+  put : {xs : List Instance} → (n : ℕ) (i x : Instance) → instance h n ≡ Some i → x.number ≡ n → RowFollows c n i.row x.row → xs ≡ put_over x (instances h) → next_one ≡ h.next_instance → OfInstances h c next_one xs
+  each : {xs : List Instance} → c ≡ commands.Boot → (gs : Groups) → xs ≡ put_each (booted gs) (instances h) (instances h) → next_one ≡ h.next_instance → OfInstances h c next_one xs
+  written : {xs : List Instance} → (ys : List Instance) → OfInstances h c next_one ys → (gs : Groups) (js : List Instance) → (IsNumbered h → AreHeldAtZero ys js) → xs ≡ put_each (current gs) js ys → OfInstances h c next_one xs
 
 pub data OfSnapshots (h : Holdings) (c : Command) (xs : List Snapshot) (next_one : ℕ) : Type 0 where
   kept : xs ≡ h.snapshots → next_one ≡ h.next_snapshot → OfSnapshots h c xs next_one
@@ -70,7 +68,7 @@ pub data OfSnapshots (h : Holdings) (c : Command) (xs : List Snapshot) (next_one
 pub record Goes (h : Holdings) (c : Command) (k : Holdings) (r : Reply) : Type 0 where
   pub reply : is_refusal r ≡ false
   pub revision : k.revision ≡ h.revision + 1
-  pub instances : OfInstances h c (bare k.instances) k.next_instance
+  pub instances : OfInstances h c k.next_instance (bare k.instances)
   pub indexed : IsNumbered h → IsIndexed (bare k.instances) k.names
   pub snapshots : OfSnapshots h c k.snapshots k.next_snapshot
 
@@ -103,7 +101,7 @@ abbrev IndexesOf : Holdings → Holdings → Type 0
 IndexesOf h k = IsNumbered h → IsIndexed (bare k.instances) k.names
 
 accepts : (h : Holdings) (c : Command) (cs : List Change) (r : Reply) → is_refusal r ≡ false
-    → OfInstances h c (bare (installed h cs).instances) (installed h cs).next_instance → IndexesOf h (installed h cs)
+    → OfInstances h c (installed h cs).next_instance (bare (installed h cs).instances) → IndexesOf h (installed h cs)
     → OfSnapshots h c (installed h cs).snapshots (installed h cs).next_snapshot → OutcomeOf h c (accepted h cs r)
 accepts h c cs r e is index ss = by (nat_lt h.revision greatest)
   where
@@ -362,14 +360,14 @@ four true true false d e = absurd cc
 four true true true false e = absurd cc
 four true true true true e = (refl, refl, refl)
 
-no_such : {X : Type 0} (o : Option X) → is_none o ≡ true → o ≡ None
-no_such None e = refl
-no_such (Some x) e = absurd cc
+not_there : {X : Type 0} (o : Option X) → is_none o ≡ true → o ≡ None
+not_there None e = refl
+not_there (Some x) e = absurd cc
 
 idle_by : (s : State) (next : Option State) (live side : Option ℕ) → ((same_state s Uninitialized || same_state s Disabled) && is_none next && is_none live && is_none side) ≡ true → (next ≡ None) × (live ≡ None) × (side ≡ None)
 idle_by s next live side e =
     let parts = four (same_state s Uninitialized || same_state s Disabled) (is_none next) (is_none live) (is_none side) e in
-    (no_such next parts.0, no_such live parts.1, no_such side parts.2)
+    (not_there next parts.0, not_there live parts.1, not_there side parts.2)
 
 refreshed_stays : (r : Row) (running revision : ℕ) (b : Bool) → Stays r (refreshed_row r running revision b)
 refreshed_stays r running revision true = record { same = refl; owner = inr refl }
@@ -576,11 +574,81 @@ boots_all h =
     (accepts h commands.Boot (booting h) Done refl (each refl gs m.instances m.next_instance)
     (λ b. index_of (put_each (booted gs) (instances h) (instances h)) h.names (installed h (booting h)) m.instances m.names (index_booted h gs b)) (kept m.snapshots m.next_snapshot))
 
+-- ---- the owners that an edit leaves to write
+
+-- each is put in its place, and the revision stays
+pub each_revision : (f : Instance → Instance) (k : Holdings) (is : List Instance) → (installed k (map (λ (i : Instance). PutInstance (f i)) is)).revision ≡ k.revision
+unfolding installed
+each_revision f k [] = refl
+each_revision f k (i ∷ is) = each_revision f (changed k (PutInstance (f i))) is
+
+-- one that is shown as it is read keeps its name
+names_written : (gs : Groups) (is ys : List Instance) → ((n : ℕ) → Written gs (lookup by_instance is n) (lookup by_instance ys n)) → SameNames is ys
+names_written gs is ys w = record {
+  forth = λ n i e. forth (lookup by_instance is n) (lookup by_instance ys n) i (w n) e;
+  back = λ n j e. back (lookup by_instance is n) (lookup by_instance ys n) j (w n) e;
+}
+  where
+    forth : (o p : Option Instance) (i : Instance) → Written gs o p → o ≡ Some i → (j : Instance) × (p ≡ Some j) × (j.name ≡ i.name)
+    forth o p i (stays_so e) f = (i, e ∙ f, refl)
+    forth o p i (is_read d f at e) g = (current gs d, e, (is_shown gs d).name ∙ ap (λ (z : Instance). z.name) (some_same d i (sym f ∙ g)))
+
+    back : (o p : Option Instance) (j : Instance) → Written gs o p → p ≡ Some j → (i : Instance) × (o ≡ Some i) × (i.name ≡ j.name)
+    back o p j (stays_so e) f = (j, sym e ∙ f, refl)
+    back o p j (is_read d f at e) g = (d, f, sym (is_shown gs d).name ∙ ap (λ (z : Instance). z.name) (some_same (current gs d) j (sym e ∙ g)))
+
+-- what is held once the changes of an edit are made, and what is held once owners are written too
+abbrev pub before_owners : Holdings → List Change → Holdings
+before_owners h cs = installed h cs
+
+pub apart_after : (h : Holdings) (cs : List Change) → IsNumbered h → AreApart (instances (installed h cs))
+apart_after h cs b = apart_from_rises (instances (installed h cs)) (rises_bare (installed h cs).instances (ordered_after h cs b.ordered).instances)
+
+goes_written : (h : Holdings) (c : Command) (k : Holdings) (owner : Owner) (r : Reply) → (IsNumbered h → AreApart (instances k)) → Goes h c k r → Goes h c (installed k (owners_written k owner)) r
+goes_written h c k owner r apart g =
+    let gs : Groups = groups_of k in
+    let js : List Instance = unwritten k owner in
+    let m = each_put (current gs) k js in
+    let held : IsNumbered h → AreHeldAtZero (instances k) js = λ b. unwritten_held k owner (apart b) in
+    record {
+      reply = g.reply;
+      revision = each_revision (current gs) k js ∙ g.revision;
+      instances = subst (λ (n : ℕ). OfInstances h c n (bare (installed k (owners_written k owner)).instances)) (sym m.next_instance) (written (instances k) g.instances gs js held m.instances);
+      indexed = λ b. index_of (put_each (current gs) js (instances k)) k.names (installed k (owners_written k owner)) m.instances m.names
+          (index_same (instances k) (put_each (current gs) js (instances k)) k.names (names_written gs (instances k) (put_each (current gs) js (instances k)) (λ n. at_written gs js (instances k) n (held b))) (g.indexed b));
+      snapshots = subst (λ (n : ℕ). OfSnapshots h c (installed k (owners_written k owner)).snapshots n) (sym m.next_snapshot) (subst (λ (ss : List Snapshot). OfSnapshots h c ss k.next_snapshot) (sym m.snapshots) g.snapshots);
+    }
+
+outcome_written : (h : Holdings) (c : Command) (k : Holdings) (owner : Owner) (r : Reply) → is_accepted r ≡ true → (IsNumbered h → AreApart (instances k)) → Outcome h c k r → Outcome h c (installed k (owners_written k owner)) r
+outcome_written h c k owner r done apart (nothing e a) = absurd (no_both (is_accepted r) done a)
+outcome_written h c k owner r done apart (goes g) = goes (goes_written h c k owner r apart g)
+
+pub owners_follow : (h : Holdings) (c : Command) (o : Option Owner) (a : Asked) → OutcomeOf h c a → OutcomeOf h c (with_owners h o a)
+unfolding with_owners
+owners_follow h c None a p = p
+owners_follow h c (Some owner) a p = by a.reply p
+  where
+    by : (r : Reply) → Outcome h c (installed h a.changes) r × (is_refusal r ≡ true → a.changes ≡ []) → Outcome h c (installed h (and_owners h owner a.changes r)) r × (is_refusal r ≡ true → and_owners h owner a.changes r ≡ [])
+    by Done q = (
+      subst (λ (k : Holdings). Outcome h c k Done) (sym (installed_append h a.changes (owners_written (installed h a.changes) owner)))
+          (outcome_written h c (installed h a.changes) owner Done refl (apart_after h a.changes) q.0),
+      λ f. absurd cc,
+    )
+    by (Made n) q = q
+    by (Granted row) q = q
+    by NoSuch q = q
+    by InUse q = q
+    by NotInState q = q
+    by Exists q = q
+    by (Denied fault) q = q
+    by Limit q = q
+    by (Stale why row) q = q
+
 -- ---- the whole
 
 whole : (h : Holdings) (c : Command) → OutcomeOf h c (asked h c)
 unfolding asked
-whole h (commands.Edit e) = edit h e
+whole h (commands.Edit e) = owners_follow h (commands.Edit e) (restarters_named h e) (asked_edit h e) (edit h e)
 whole h (commands.Propose p) = answers h p
 whole h (commands.Launch name) = launches h (commands.Launch name) name
 whole h commands.Boot = boots_all h

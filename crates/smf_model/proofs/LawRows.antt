@@ -1,9 +1,10 @@
 -- How rows go on, and that snapshots stay.
-use Rattle.std.proofs.Common.{◌≡◌, ◌⊎◌, ℕ, ◌≤◌, ◌==◌, not, Bool, true, false, cond, List, Option, Some, None, option_map, refl, sym, ap, ◌∙◌, subst, inl, inr, arith, eqb-true}
+use Rattle.std.proofs.Common.{◌≡◌, ◌⊎◌, ℕ, ◌+◌, ◌≤◌, ◌==◌, not, Bool, true, false, cond, List, Option, Some, None, option_map, refl, sym, ap, ◌∙◌, subst, inl, inr, arith, eqb-true}
 use Rattle.std.specs.Ordering.{is_eq, nat_cmp}
 use Rattle.smf_fmri.specs.ByKey.{lookup, put as put_in, without}
 use Rattle.smf_fmri.proofs.Lookups.{equal_from_test, lookup_put, lookup_without, with_answer_cases}
 use Rattle.smf_state.specs.declared.row.Row.{Row}
+use Rattle.smf_state.specs.Rows.{fresh}
 use Rattle.smf_model.specs.declared.command.Command.{Command}
 use Rattle.smf_model.specs.declared.command.Command.TheVariants as commands
 use Rattle.smf_model.specs.declared.command.Edit.TheVariants as asked_for
@@ -13,10 +14,11 @@ use Rattle.smf_model.specs.declared.held.Snapshot.{Snapshot}
 use Rattle.smf_model.specs.Holdings.{Holdings}
 use Rattle.smf_model.specs.Look.{by_instance, by_snapshot, in_place, instance, instances, is_snapshot_of, others_of, put_new, put_over, snapshot}
 use Rattle.smf_model.specs.Laws.{IsNumbered, Stays, RowFollows, stays, steps, boots, moves, Follows}
-use Rattle.smf_model.specs.Setting.{Groups}
+use Rattle.smf_model.specs.Setting.{Groups, current}
 use Rattle.smf_model.specs.Next.{new_instance, booted, next}
 use Rattle.smf_model.proofs.LawLists.{at_put, no_such, some_filter, some_put_new, some_same}
-use Rattle.smf_model.proofs.LawOutcomes.{Outcome, nothing, goes, OfInstances, alike, joined, left, put, each, OfSnapshots, kept, taken, gone, put_each, booted_at, outcome}
+use Rattle.smf_model.proofs.LawOutcomes.{Outcome, nothing, goes, OfInstances, alike, joined, left, put, each, written, OfSnapshots, kept, taken, gone, booted_at, current_row, outcome, stays_on}
+use Rattle.smf_model.proofs.Written.{Written, stays_so, is_read, at_written, is_shown, put_each}
 
 -- ---- snapshots
 
@@ -56,7 +58,7 @@ follows_new h c n name o j b e found =
     ]
   where
     new : (o : Option Instance) → instance h n ≡ o → h.next_instance ≡ n → new_instance h name ≡ j → Follows c n o j
-    new None e at is = ap (λ (x : Instance). x.row) (sym is)
+    new None e at is = subst (λ (x : Instance). x.row ≡ fresh x.row.owner) is refl
     new (Some i) e at is = absurd (no_such (instance h n) i (b.instances n (omega arith)) e)
 
 follows_left : (h : Holdings) (c : Command) (n d : ℕ) (o : Option Instance) (j : Instance) → instance h n ≡ o → lookup by_instance (without by_instance d (instances h)) n ≡ Some j → Follows c n o j
@@ -94,16 +96,38 @@ follows_boot h c n gs o j boot b e found = by o (ap (option_map (booted gs)) (sy
         let is : booted gs i ≡ j = some_same (booted gs i) j e in
         subst (λ (y : Instance). RowFollows c n i.row y.row) is (boots boot (record { number = refl; state = refl; next = refl; live = refl; side = refl; last = refl; launch = refl; serial = refl }))
 
-follows_by : (h : Holdings) (c : Command) (n : ℕ) (xs : List Instance) (m : ℕ) (o : Option Instance) (j : Instance) → OfInstances h c xs m → IsNumbered h → instance h n ≡ o → lookup by_instance xs n ≡ Some j → Follows c n o j
-follows_by h c n xs m o j (alike e f) a is found = unmoved c n o j (sym is ∙ (sym (at_same n xs _ e) ∙ found))
-follows_by h c n xs m o j (joined name e f) a is found = follows_new h c n name o j a is (sym (at_same n xs _ e) ∙ found)
-follows_by h c n xs m o j (left d e f) a is found = follows_left h c n d o j is (sym (at_same n xs _ e) ∙ found)
-follows_by h c n xs m o j (put l i x there number follows e f) a is found = follows_put h c n l i x o j there number follows is (sym (at_same n xs _ e) ∙ found)
-follows_by h c n xs m o j (each boot gs e f) a is found = follows_boot h c n gs o j boot a is (sym (at_same n xs _ e) ∙ found)
+-- a row that has begun, or went on, has a number above 0
+never : (m n : ℕ) → m ≡ n + 1 → m ≡ 0 → ⊥
+never m n e f = omega arith
+
+follows_written : (gs : Groups) (c : Command) (n : ℕ) (o p q : Option Instance) (j : Instance) → ((i : Instance) → p ≡ Some i → Follows c n o i) → Written gs p q → q ≡ Some j → Follows c n o j
+follows_written gs c n o p q j before (stays_so e) found = before j (sym e ∙ found)
+follows_written gs c n o p q j before (is_read i there zero e) found =
+    subst (λ (x : Instance). Follows c n o x) (some_same (current gs i) j (sym e ∙ found)) (by o (before i there))
+  where
+    by : (o : Option Instance) → Follows c n o i → Follows c n o (current gs i)
+    by None f = (is_shown gs i).row ∙ ap (λ (r : Row). record r { owner = (current gs i).row.owner }) f
+    by (Some b) f = on f
+      where
+        on : RowFollows c n b.row i.row → RowFollows c n b.row (current gs i).row
+        on (stays s) = stays (stays_on b.row i.row (current gs i).row s (current_row gs i).row)
+        on (steps p is at g) = absurd (never i.row.number b.row.number g.counted zero)
+        on (boots is a) = absurd (never i.row.number b.row.number a.number zero)
+        on (moves is from a) = absurd (never i.row.number b.row.number a.number zero)
+
+follows_by : (h : Holdings) (c : Command) (n m : ℕ) (xs : List Instance) (o : Option Instance) (j : Instance) → OfInstances h c m xs → IsNumbered h → instance h n ≡ o → lookup by_instance xs n ≡ Some j → Follows c n o j
+follows_by h c n m xs o j (alike e f) a is found = unmoved c n o j (sym is ∙ (sym (at_same n xs _ e) ∙ found))
+follows_by h c n m xs o j (joined name e f) a is found = follows_new h c n name o j a is (sym (at_same n xs _ e) ∙ found)
+follows_by h c n m xs o j (left d e f) a is found = follows_left h c n d o j is (sym (at_same n xs _ e) ∙ found)
+follows_by h c n m xs o j (put l i x there number follows e f) a is found = follows_put h c n l i x o j there number follows is (sym (at_same n xs _ e) ∙ found)
+follows_by h c n m xs o j (each boot gs e f) a is found = follows_boot h c n gs o j boot a is (sym (at_same n xs _ e) ∙ found)
+follows_by h c n m xs o j (written ys before gs js held e) a is found =
+    follows_written gs c n o (lookup by_instance ys n) (lookup by_instance (put_each (current gs) js ys) n) j
+    (λ i f. follows_by h c n m ys o i before a is f) (at_written gs js ys n (held a)) (sym (at_same n xs (put_each (current gs) js ys) e) ∙ found)
 
 follows_of : (h : Holdings) (c : Command) (k : Holdings) (r : Reply) (n : ℕ) (o : Option Instance) (j : Instance) → Outcome h c k r → IsNumbered h → instance h n ≡ o → instance k n ≡ Some j → Follows c n o j
 follows_of h c k r n o j (nothing e x) a is found = unmoved c n o j (sym is ∙ (sym (ap (λ (l : Holdings). instance l n) e) ∙ found))
-follows_of h c k r n o j (goes g) a is found = follows_by h c n (instances k) k.next_instance o j g.instances a is found
+follows_of h c k r n o j (goes g) a is found = follows_by h c n k.next_instance (instances k) o j g.instances a is found
 
 pub follows_next : (h : Holdings) (c : Command) (n : ℕ) (j : Instance) → IsNumbered h → instance (next h c).0 n ≡ Some j → Follows c n (instance h n) j
 follows_next h c n j numbered found = follows_of h c (next h c).0 (next h c).1 n (instance h n) j (outcome h c) numbered refl found

@@ -15,8 +15,10 @@ pub mod Made
 pub mod Members
 pub mod Names
 pub mod Order
+pub mod OwnersPut
 pub mod Placing
 pub mod Services
 pub mod Sound
 pub mod States
 pub mod ReadAnew
+pub mod Written

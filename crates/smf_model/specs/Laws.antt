@@ -18,7 +18,6 @@ use Rattle.smf_model.specs.Holdings.{Holdings}
 use Rattle.smf_model.specs.Look.{bare, by_entry, by_instance, by_launch, by_name, by_service}
 use Rattle.smf_model.specs.Look.{by_snapshot, has_number, instance, named, snapshot}
 use Rattle.smf_model.specs.Next.{found, is_again, next}
-use Rattle.smf_state.specs.OwnName.{startd}
 
 -- ---- replies
 
@@ -144,9 +143,9 @@ pub data RowFollows (c : Command) (n : ℕ) (before after : Row) : Type 0 where
   moves : c ≡ commands.Edit (asked_for.Refresh n) → (before.state ≡ Uninitialized) ⊎ (before.state ≡ Disabled)
       → BeginsAnew before after → RowFollows c n before after
 
--- the instance n after a command, by what it was before: an instance that was not there has a fresh row
+-- the instance n after a command, by what it was before: an instance that was not there has the fresh row of its owner
 abbrev pub Follows : Command → ℕ → Option Instance → Instance → Type 0
-Follows c n None after = after.row ≡ fresh startd
+Follows c n None after = after.row ≡ fresh after.row.owner
 Follows c n (Some before) after = RowFollows c n before.row after.row
 
 abbrev pub RowGoesOn : Holdings → Command → ℕ → Instance → Type 0

@@ -3,6 +3,7 @@ pub mod Holdings
 pub mod Look
 pub mod Setting
 pub mod Next
+pub mod Owning
 pub mod Tables
 pub mod Dates
 pub mod Laws

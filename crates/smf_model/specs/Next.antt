@@ -56,8 +56,7 @@ use Rattle.smf_model.specs.declared.setting.Setting.TheVariants.{Unreadable}
 use Rattle.smf_model.specs.Holdings.{Holdings}
 use Rattle.smf_model.specs.Look.{service, instance, instances, named, groups_of, group, snapshot, launch_of, installed}
 use Rattle.smf_model.specs.Setting.{Groups, general, general_ovr, enabled_name, restarter_name, framework}
-use Rattle.smf_state.specs.OwnName.{startd}
-use Rattle.smf_model.specs.Setting.{service_fmri, service_owner, current, setting, owner_by}
+use Rattle.smf_model.specs.Setting.{service_fmri, service_owner, current, setting, setting_by, owner_by}
 
 -- what a command makes: the changes, and the reply
 abbrev pub Asked : Type 0
@@ -100,9 +99,13 @@ abbrev pub asked_add_service : Holdings → List ℕ → Option Service → Aske
 asked_add_service h name (Some s) = refused Exists
 asked_add_service h name None = accepted h (AddService (record { name = name; groups = [] }) ∷ []) Done
 
+-- the restarter that the service of a new instance names
+abbrev pub new_owner : Holdings → List ℕ → List ℕ
+new_owner h name = owner_by (setting_by None (group h (owners.Service (service_fmri name)) general))
+
 abbrev pub new_instance : Holdings → List ℕ → Instance
 new_instance h name =
-    record { number = h.next_instance; name = name; row = fresh startd; start = None; previous = None }
+    record { number = h.next_instance; name = name; row = fresh (new_owner h name); start = None; previous = None }
 
 abbrev pub new_entry : Holdings → List ℕ → InstanceEntry
 new_entry h name = record { instance = new_instance h name; groups = [] }
@@ -427,6 +430,45 @@ asked_edit h (asked_for.Clear n) = asked_clear h (found h n)
 asked_edit h (asked_for.Mark n mark) = asked_mark h mark (found h n)
 asked_edit h (asked_for.Revert n name) = asked_revert h name (found h n)
 
+-- ---- the owners that an edit writes
+
+-- an instance is the owner of groups, or one of the service that is
+abbrev pub belongs_to : Owner → Instance → Bool
+belongs_to (owners.Service name) i = is_instance_of name i
+belongs_to (owners.Instance n) i = i.number == n
+
+-- the row has number 0, and another owner than is read
+abbrev pub is_unwritten : Groups → Instance → Bool
+is_unwritten gs i = (i.row.number == 0) && not (pointwise nat_eq i.row.owner (owner_by (setting gs i)))
+
+-- the instances of an owner of groups whose rows show another restarter than is read
+abbrev pub unwritten : Holdings → Owner → List Instance
+unwritten k owner = filter (λ i. belongs_to owner i && is_unwritten (groups_of k) i) (instances k)
+
+-- the changes that write what is read into them
+abbrev pub owners_written : Holdings → Owner → List Change
+owners_written k owner = map (λ i. PutInstance (current (groups_of k) i)) (unwritten k owner)
+
+-- the owner, if the group names restarters
+abbrev pub if_general : Owner → List ℕ → Option Owner
+if_general owner name = if pointwise nat_eq name general then Some owner else None
+
+-- the owner of groups after whose edit its instances may have another restarter
+abbrev pub restarters_named : Holdings → Edit → Option Owner
+restarters_named h (asked_for.DeleteGroup owner name) = if_general owner name
+restarters_named h (asked_for.Property owner name change) = if_general owner name
+restarters_named h (asked_for.Revert n name) = option_map service_owner (instance h n)
+restarters_named h _ = None
+
+-- the changes of an edit that is done, and behind them the owners that it leaves to write
+abbrev pub and_owners : Holdings → Owner → List Change → Reply → List Change
+and_owners h owner changes Done = changes ++ owners_written (installed h changes) owner
+and_owners h owner changes _ = changes
+
+unfoldable pub with_owners : Holdings → Option Owner → Asked → Asked
+with_owners h None a = a
+with_owners h (Some owner) a = record a { changes = and_owners h owner a.changes a.reply }
+
 -- ---- the answer to a proposal
 
 -- the proposal that was granted last
@@ -577,7 +619,7 @@ asked_boot h = if may_not_boot h then refused Limit else accepted h (booting h) 
 
 -- what a command asks to change, and its reply
 unfoldable pub asked : Holdings → Command → Asked
-asked h (commands.Edit edit) = asked_edit h edit
+asked h (commands.Edit edit) = with_owners h (restarters_named h edit) (asked_edit h edit)
 asked h (commands.Propose p) = answer h p
 asked h (commands.Launch name) = asked_launch h name
 asked h commands.Boot = asked_boot h

@@ -2,16 +2,17 @@ ghost use Rattle.std.specs.Prelude.{◌≡◌, ◌≤◌, ◌+◌, ◌∷◌, []
 ghost use Rattle.smf_model.specs.Next.{added_at, asked_add_instance, asked_add_service, asked_clear};
 ghost use Rattle.smf_model.specs.Next.{asked_delete_instance, asked_if, asked_launch, asked_mark};
 ghost use Rattle.smf_model.specs.Next.{asked_restart, asked_where, asking, found, greatest_instance};
-ghost use Rattle.smf_model.specs.Next.{is_in_use, is_made, is_there, joining, leaving, marked, new_entry, new_instance};
+ghost use Rattle.smf_model.specs.Next.{is_in_use, is_made, is_there, joining, leaving, marked, new_entry, new_instance, new_owner};
 ghost use Rattle.smf_model.specs.Look.{named, service};
 
 use crate::change::Change;
 use crate::command::{Mark, Reply};
 use crate::held::{Instance, InstanceEntry, InstanceName, Launch, Owner, Service};
 use crate::planner::{Asked, Planner, with_change};
+use crate::setting::{owner_by, setting_by};
 use bitflags::Flags;
 use smf_fmri::{InstanceFmri, Items, Number, Ordered, ServiceFmri};
-use smf_state::{Asks, Row, SharedRow, State, startd};
+use smf_state::{Asks, Row, SharedRow, State};
 use smf_value::Name;
 use std::alloc::{AllocError, Global};
 
@@ -115,11 +116,19 @@ impl Planner<'_> {
         self.accepted(changes, Reply::Made(number))
     }
 
-    /// The instance of the number that comes next, svc.startd's own.
+    /// The restarter that the service of a new instance names.
+    fn new_owner(&self, name: &InstanceFmri) -> Result<InstanceFmri, AllocError>
+        ensures { IfOk result (λ owner. owner ≡ new_owner self.now name.now) }
+    {
+        let services_own = self.services_group(name, "general");
+        owner_by(self.alloc, setting_by(self.alloc, None, services_own)?)
+    }
+
+    /// The instance of the number that comes next.
     fn new_instance(&self, name: &InstanceFmri) -> Result<Instance, AllocError>
         ensures { IfOk result (λ i. i ≡ new_instance self.now name.now) }
     {
-        let owner = startd(self.alloc)?;
+        let owner = self.new_owner(name)?;
         let row = SharedRow::of(self.alloc, Row::new(owner))?;
         let name = name.clone()?;
         Ok(Instance {

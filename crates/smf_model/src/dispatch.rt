@@ -1,14 +1,14 @@
 ghost use Rattle.std.specs.Prelude.{◌≡◌, IfOk};
-ghost use Rattle.smf_model.specs.Next.{asked, asked_edit};
+ghost use Rattle.smf_model.specs.Next.{asked, asked_edit, restarters_named, with_owners};
 
 use crate::command::{Command, Edit};
 use crate::planner::{Asked, Planner};
 
 impl Planner<'_> {
-    /// What a client's edit changes, and its reply.
-    #[tactic(auto, unfolding(crate::specs::Next::asked_edit))]
+    /// What a client's edit changes, the owners that it leaves to write among it, and its reply.
+    #[tactic(auto, unfolding(crate::specs::Next::asked_edit, crate::specs::Next::with_owners))]
     fn asked_edit(&self, edit: &Edit) -> Asked
-        ensures { IfOk result (λ r. r ≡ asked_edit self.now edit.now) }
+        ensures { IfOk result (λ r. r ≡ with_owners self.now (restarters_named self.now edit.now) (asked_edit self.now edit.now)) }
     {
         match edit {
             Edit::AddService(name) => self.add_service(name),

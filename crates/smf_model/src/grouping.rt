@@ -1,14 +1,17 @@
-ghost use Rattle.std.specs.Prelude.{◌≡◌, ◌∷◌, [], IfOk, None, count_by, Ok};
+ghost use Rattle.std.specs.Prelude.{◌≡◌, ◌∷◌, [], true, nat_eq, IfOk, None, count_by, Ok};
 ghost use Rattle.smf_fmri.specs.ByKey.{without};
-ghost use Rattle.smf_model.specs.Setting.{general_ovr};
+ghost use Rattle.smf_model.specs.Setting.{general, general_ovr};
+ghost use Rattle.std.specs.Cmp.Lexicographic.{pointwise};
 ghost use Rattle.smf_value.specs.Groups.{by_group};
 ghost use Rattle.smf_value.specs.Edits.{Answers, Leaves};
+ghost use Rattle.smf_model.specs.Owning.{IsVerdict};
 ghost use Rattle.smf_model.specs.Look.{group, groups_of};
 ghost use Rattle.smf_model.specs.Next.{accepted, added_group, asked_add_group, asked_delete_group};
 ghost use Rattle.smf_model.specs.Next.{asked_for_good, asked_for_now, asked_property, asked_enable};
 ghost use Rattle.smf_model.specs.Next.{enabled_for_good, enabled_for_now, enabled_property, enabling_of, found};
 ghost use Rattle.smf_model.specs.Next.{group_dropped, group_enabled, group_or_new, group_put};
-ghost use Rattle.smf_model.specs.Next.{has_room, is_other_group, new_group, property_changed};
+ghost use Rattle.smf_model.specs.Next.{has_room, if_general, is_other_group, is_there, new_group, property_changed};
+ghost use Rattle.smf_model.specs.Next.{with_owners};
 
 use crate::asking::is_made;
 use crate::change::Change;
@@ -75,6 +78,29 @@ fn with_enabled(alloc: Global, mut into: Group, enabled: bool) -> Result<Group, 
     let property = enabled_property(alloc, enabled)?;
     into.put(property)?;
     Ok(into)
+}
+
+/// Why an edit is refused, unless memory ran out.
+fn verdict_of(fault: GroupFault) -> Result<GroupFault, AllocError>
+    ensures { IfOk result (λ f. IsVerdict f fault) }
+{
+    match fault {
+        GroupFault::Memory => Err(AllocError),
+        GroupFault::NoSuch => Ok(GroupFault::NoSuch),
+        GroupFault::NeedsKind => Ok(GroupFault::NeedsKind),
+        GroupFault::KindDiffers => Ok(GroupFault::KindDiffers),
+        GroupFault::TooLong => Ok(GroupFault::TooLong),
+        GroupFault::NotA(kind) => Ok(GroupFault::NotA(kind)),
+        GroupFault::Range => Ok(GroupFault::Range),
+        GroupFault::Full => Ok(GroupFault::Full),
+    }
+}
+
+/// Whether a group of this name says which restarter an instance has.
+fn is_general(name: &Name) -> bool
+    ensures { result ≡ pointwise nat_eq name.now general }
+{
+    name.as_str() == "general"
 }
 
 /// A group without properties.
@@ -179,18 +205,45 @@ impl Planner<'_> {
         self.one(change, Reply::Done)
     }
 
+    /// Puts groups in place of those of an owner, after an edit of its group of this name.
+    fn put_edited(&self, owner: &Owner, name: &Name, groups: Ordered<Group>) -> Asked
+        requires { is_there self.now owner.now ≡ true }
+        ensures { IfOk result (λ r. r ≡ with_owners self.now (if_general owner.now name.now)
+            (accepted self.now (Change.PutGroups owner.now groups ∷ []) Reply.Done)) }
+    {
+        if is_general(name) {
+            self.put_naming(owner, groups)
+        } else {
+            let change = Change::PutGroups(owner.clone()?, groups);
+            self.one(change, Reply::Done)
+        }
+    }
+
+    /// Puts an edited group in its place.
+    fn put_changed(&self, owner: &Owner, name: &Name, new: Group) -> Asked
+        requires { is_there self.now owner.now ≡ true }
+        ensures { IfOk result (λ r. r ≡ with_owners self.now (if_general owner.now name.now)
+            (accepted self.now (group_put self.now owner.now new ∷ []) Reply.Done)) }
+    {
+        let mut groups = self.groups_of(owner)?;
+        groups.put(new)?;
+        self.put_edited(owner, name, groups)
+    }
+
     /// Takes a group out.
     fn drop_group(&self, owner: &Owner, name: &Name) -> Asked
-        ensures { IfOk result (λ r. r ≡ accepted self.now (group_dropped self.now owner.now name.now ∷ []) Reply.Done) }
+        requires { is_there self.now owner.now ≡ true }
+        ensures { IfOk result (λ r. r ≡ with_owners self.now (if_general owner.now name.now)
+            (accepted self.now (group_dropped self.now owner.now name.now ∷ []) Reply.Done)) }
     {
         let mut groups = self.groups_of(owner)?;
         groups.remove(name);
-        let change = Change::PutGroups(owner.clone()?, groups);
-        self.one(change, Reply::Done)
+        self.put_edited(owner, name, groups)
     }
 
     pub(crate) fn delete_group(&self, owner: &Owner, name: &Name) -> Asked
-        ensures { IfOk result (λ r. r ≡ asked_delete_group self.now owner.now name.now) }
+        ensures { IfOk result (λ r. r ≡ with_owners self.now (if_general owner.now name.now)
+            (asked_delete_group self.now owner.now name.now)) }
     {
         if !self.is_there(owner) {
             return self.refused(Reply::NoSuch);
@@ -198,9 +251,9 @@ impl Planner<'_> {
         if is_made(owner, name) {
             return self.refused(Reply::InUse);
         }
-        if self.group_of(owner, name.as_str()).is_none() {
+        let Some(_group) = self.group_of(owner, name.as_str()) else {
             return self.refused(Reply::NoSuch);
-        }
+        };
         self.drop_group(owner, name)
     }
 
@@ -210,7 +263,8 @@ impl Planner<'_> {
         name: &Name,
         change: &PropertyChange,
     ) -> Asked
-        ensures { IfOk result (λ r. r ≡ asked_property self.now owner.now name.now change.now) }
+        ensures { IfOk result (λ r. r ≡ with_owners self.now (if_general owner.now name.now)
+            (asked_property self.now owner.now name.now change.now)) }
     {
         if !self.is_there(owner) {
             return self.refused(Reply::NoSuch);
@@ -222,9 +276,11 @@ impl Planner<'_> {
             return self.refused(Reply::NoSuch);
         };
         match property_changed(self.alloc, group.clone()?, change) {
-            Ok(changed) => self.put(owner, changed),
-            Err(GroupFault::Memory) => Err(AllocError),
-            Err(fault) => self.refused(Reply::Denied(fault)),
+            Ok(changed) => self.put_changed(owner, name, changed),
+            Err(fault) => {
+                let fault = verdict_of(fault)?;
+                self.refused(Reply::Denied(fault))
+            }
         }
     }
 

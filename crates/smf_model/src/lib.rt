@@ -2,7 +2,7 @@
 //! Modules: `held` (what is held), `command` (commands and replies), `change` (record changes), `tables` (the lists and
 //! their changes), `planner` (what a command is planned over, and what it may answer), `setting` (restarters), `asking`
 //! (services, instances and notes of asks), `grouping` (edits of groups), `snapping` (refresh), `reverting` (revert),
-//! `answering` (proposals), `booting` (boot), `dispatch` (which command it is), `journal` (what is told of changes),
+//! `owning` (owners that an edit leaves to write), `answering` (proposals), `booting` (boot), `dispatch` (which command it is), `journal` (what is told of changes),
 //! `plain` (the repository over a journal), `showing` (reads), `viewing` (what the graph sees, and snapshots by name),
 //! `law` (what no list of commands breaks).
 #![tactic(auto)]
@@ -17,6 +17,7 @@ mod grouping;
 mod held;
 mod journal;
 mod law;
+mod owning;
 mod plain;
 mod planner;
 mod reverting;

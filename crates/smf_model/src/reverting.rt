@@ -1,8 +1,10 @@
-ghost use Rattle.std.specs.Prelude.{◌≡◌, ◌∷◌, [], Some, IfOk};
+ghost use Rattle.std.specs.Prelude.{◌≡◌, ◌||◌, ◌∷◌, [], Some, option_map, IfOk};
 ghost use Rattle.std.specs.Option.{option_copied};
-ghost use Rattle.smf_model.specs.Look.{groups_of};
+ghost use Rattle.smf_model.specs.Look.{groups_of, instance};
 ghost use Rattle.smf_model.specs.Next.{asked_revert, found, named_snapshot};
-ghost use Rattle.smf_model.specs.Next.{number_of, reverted, reverted_to, reverting};
+ghost use Rattle.smf_model.specs.Next.{number_of, reverted, reverted_to, reverting, with_owners};
+ghost use Rattle.smf_model.specs.Next.{is_past_most, with_snapshot};
+ghost use Rattle.smf_model.specs.Owning.{IsHeldAs, noted};
 ghost use Rattle.smf_model.specs.Setting.{service_owner as owner_of_service};
 ghost use Rattle.smf_snap.specs.Taking.{restored};
 
@@ -10,6 +12,7 @@ use crate::change::Change;
 use crate::command::Reply;
 use crate::grouping::MAX_GROUPS;
 use crate::held::{Instance, Owner, StoredSnapshot};
+use crate::owning::and_changes;
 use crate::planner::{Asked, Planner, with_change};
 use crate::setting::service_owner;
 use smf_fmri::{Items, Number, Ordered};
@@ -37,6 +40,13 @@ pub(crate) fn number_of(instance: &Instance, name: SnapshotName) -> Option<u64>
     }
 }
 
+/// Whether an owner would have more groups than it may have.
+fn are_past_most(first: &Ordered<Group>, second: &Ordered<Group>) -> bool
+    ensures { result ≡ (is_past_most first.now || is_past_most second.now) }
+{
+    first.len() > MAX_GROUPS || second.len() > MAX_GROUPS
+}
+
 impl Planner<'_> {
     pub(crate) fn named_snapshot(&self, number: Option<u64>) -> Option<&StoredSnapshot>
         ensures { option_copied result ≡ named_snapshot self.now number }
@@ -47,14 +57,21 @@ impl Planner<'_> {
         }
     }
 
-    /// The change that notes the snapshot of a revert.
-    fn with_previous(&self, instance: &Instance) -> Result<Items<Change>, AllocError>
-        ensures { IfOk result (λ all. all ≡
-            Change.PutInstance (record instance.now { previous = Some self.now.next_snapshot }) ∷ []) }
+    /// The instance, with the snapshot of a revert noted.
+    pub(crate) fn noted(&self, instance: &Instance) -> Result<Instance, AllocError>
+        ensures { IfOk result (λ i. i ≡ noted self.now instance.now) }
     {
         let mut instance = instance.clone()?;
         instance.previous = Some(self.tables.next_snapshot());
-        with_change(Items::new(self.alloc), Change::PutInstance(instance))
+        Ok(instance)
+    }
+
+    /// The change that notes the snapshot of a revert.
+    fn with_previous(&self, instance: &Instance) -> Result<Items<Change>, AllocError>
+        ensures { IfOk result (λ all. all ≡ Change.PutInstance (noted self.now instance.now) ∷ []) }
+    {
+        let noted = self.noted(instance)?;
+        with_change(Items::new(self.alloc), Change::PutInstance(noted))
     }
 
     /// The changes of a revert: what is noted of the instance, and the groups of both owners.
@@ -74,19 +91,39 @@ impl Planner<'_> {
         Ok(changes)
     }
 
+    /// The snapshot is taken, the groups are put, and the owners that these name are written.
+    fn revert_within(
+        &self,
+        instance: &Instance,
+        service_groups: Ordered<Group>,
+        instance_groups: Ordered<Group>,
+    ) -> Asked
+        requires { IsHeldAs self.now instance.now }
+        ensures { IfOk result (λ r. r ≡ with_owners self.now (Some (owner_of_service instance.now))
+            (with_snapshot self.now instance.now
+            (reverting self.now instance.now service_groups instance_groups) Reply.Done)) }
+    {
+        let _entries = self.tables.entries();
+        let written = self.owners_reverted(instance, &service_groups, &instance_groups)?;
+        let changes = self.reverting(instance, service_groups, instance_groups)?;
+        let outcome = self.with_snapshot(instance, changes, Reply::Done)?;
+        and_changes(outcome, written)
+    }
+
     fn revert_to(
         &self,
         instance: &Instance,
         service_groups: Ordered<Group>,
         instance_groups: Ordered<Group>,
     ) -> Asked
-        ensures { IfOk result (λ r. r ≡ reverted_to self.now instance.now service_groups instance_groups) }
+        requires { IsHeldAs self.now instance.now }
+        ensures { IfOk result (λ r. r ≡ with_owners self.now (Some (owner_of_service instance.now))
+            (reverted_to self.now instance.now service_groups instance_groups)) }
     {
-        if service_groups.len() > MAX_GROUPS || instance_groups.len() > MAX_GROUPS {
+        if are_past_most(&service_groups, &instance_groups) {
             return self.refused(Reply::Limit);
         }
-        let changes = self.reverting(instance, service_groups, instance_groups)?;
-        self.with_snapshot(instance, changes, Reply::Done)
+        self.revert_within(instance, service_groups, instance_groups)
     }
 
     /// What a revert makes of an owner's groups.
@@ -125,7 +162,9 @@ impl Planner<'_> {
     }
 
     fn reverted(&self, instance: &Instance, to: Option<&StoredSnapshot>) -> Asked
-        ensures { IfOk result (λ r. r ≡ reverted self.now instance.now (option_copied to.entry)) }
+        requires { IsHeldAs self.now instance.now }
+        ensures { IfOk result (λ r. r ≡ with_owners self.now (Some (owner_of_service instance.now))
+            (reverted self.now instance.now (option_copied to.entry))) }
     {
         let Some(stored) = to else {
             return self.refused(Reply::NoSuch);
@@ -138,7 +177,8 @@ impl Planner<'_> {
 
     /// Puts the groups of a snapshot in place of the current ones of an instance and its service.
     pub(crate) fn revert(&self, number: u64, name: SnapshotName) -> Asked
-        ensures { IfOk result (λ r. r ≡ asked_revert self.now name (found self.now number)) }
+        ensures { IfOk result (λ r. r ≡ with_owners self.now (option_map owner_of_service (instance self.now number))
+            (asked_revert self.now name (found self.now number))) }
     {
         let Some(instance) = self.found(number)? else {
             return self.refused(Reply::NoSuch);

@@ -9,7 +9,7 @@ ghost use Rattle.smf_model.specs.Setting.{service_fmri, set_by, setting, setting
 
 use crate::held::{Instance, Owner};
 use crate::planner::Planner;
-use smf_fmri::{Fmri, FmriFault, InstanceFmri, Number};
+use smf_fmri::{Fmri, FmriFault, InstanceFmri, Number, ServiceFmri};
 use smf_state::{SharedRow, startd};
 use smf_value::{Group, Property, Value};
 use std::alloc::{AllocError, Global};
@@ -49,11 +49,18 @@ fn property_of_either<'a>(
     }
 }
 
+/// The service of an instance of this name.
+pub(crate) fn service_of(alloc: Global, name: &InstanceFmri) -> Result<ServiceFmri, AllocError>
+    ensures { IfOk result (λ service. service ≡ service_fmri name.now) }
+{
+    name.as_fmri().service_fmri(alloc)
+}
+
 /// The service of an instance, as the owner of groups.
 pub(crate) fn service_owner(alloc: Global, name: &InstanceFmri) -> Result<Owner, AllocError>
     ensures { IfOk result (λ owner. owner ≡ Owner.Service (service_fmri name.now)) }
 {
-    let service = name.as_fmri().service_fmri(alloc)?;
+    let service = service_of(alloc, name)?;
     Ok(Owner::Service(service))
 }
 
@@ -161,7 +168,11 @@ pub(crate) fn owner_by(alloc: Global, setting: Setting) -> Result<InstanceFmri, 
 }
 
 /// A row with another owner.
-fn owned_by(alloc: Global, row: &SharedRow, owner: InstanceFmri) -> Result<SharedRow, AllocError>
+pub(crate) fn owned_by(
+    alloc: Global,
+    row: &SharedRow,
+    owner: InstanceFmri,
+) -> Result<SharedRow, AllocError>
     ensures { IfOk result (λ r. r ≡ record row.now { owner = owner }) }
 {
     let mut row = row.to_row()?;

@@ -86,7 +86,10 @@ fn moved_row(mut row: Row, running: u64, owner: InstanceFmri) -> Row
 }
 
 /// Changes, and others behind them.
-fn append(mut changes: Items<Change>, others: Items<Change>) -> Result<Items<Change>, AllocError>
+pub(crate) fn append(
+    mut changes: Items<Change>,
+    others: Items<Change>,
+) -> Result<Items<Change>, AllocError>
     ensures { IfOk result (λ all. all ≡ changes ++ others) }
 {
     for change in others.into_vec() {

@@ -13,7 +13,7 @@ use Rattle.smf_model.specs.Laws.{AreApart}
 use Rattle.smf_model.specs.Look.{by_instance, has_number, in_place, instance, instances, put_over}
 use Rattle.smf_model.specs.Next.{booted}
 use Rattle.smf_model.specs.Setting.{Groups}
-use Rattle.smf_model.proofs.LawOutcomes.{put_each}
+use Rattle.smf_model.proofs.Written.{put_each}
 use Rattle.smf_world.specs.Safe.{is_other_number, is_committed}
 
 pub no_such : {X : Type 0} {x : X} → None ≡ Some x → ⊥

@@ -38,10 +38,11 @@ use Rattle.smf_model.specs.declared.held.Owner.TheVariants as owners
 use Rattle.smf_model.specs.declared.held.Service.{Service}
 use Rattle.smf_model.specs.declared.held.Snapshot.{Snapshot}
 use Rattle.smf_model.specs.Holdings.{Holdings}
-use Rattle.smf_model.specs.Look.{group, groups_of, instances, launch_of, named, service}
-use Rattle.smf_model.specs.Next.{accepted, added_at, added_group, added_named, all_booted, answer, answer_at, asked, asked_add_instance, asked_add_service, asked_boot, asked_clear, asked_delete_instance, asked_delete_service, asked_edit, asked_enable, asked_if, asked_launch, asked_mark, asked_refresh, asked_restart, asked_revert, asked_where, asking, behind_snapshot, booting, changed_group, deleted_group, enabled_for_good, enabled_for_now, enabled_property, found, fresh_answer, granted, greatest, greatest_instance, greatest_snapshot, group_enabled, group_or_new, guarded, has_dropped, has_room, instance_kept, is_again, is_in_use, is_instance_of, is_made, is_past_most, is_there, joining, kept_of_instances, kept_of_services, leaving, marked, may_be_moved, may_not_boot, moved_instance, named_snapshot, new_group, next_launch, number_of, persistent, property_changed, put_or_denied, refreshed, refreshed_instance, refused, relaunched, reverted, reverting, service_kept, stale, step_answer, takes_running, target_by, with_row, with_running, with_snapshot}
-use Rattle.smf_model.specs.Setting.{Groups, framework, general, general_ovr, service_owner, setting}
+use Rattle.smf_model.specs.Look.{group, groups_of, installed, instances, launch_of, named, service}
+use Rattle.smf_model.specs.Next.{accepted, added_at, added_group, added_named, all_booted, answer, answer_at, asked, asked_add_instance, asked_add_service, asked_boot, asked_clear, asked_delete_instance, asked_delete_service, asked_edit, asked_enable, asked_if, asked_launch, asked_mark, asked_refresh, asked_restart, asked_revert, asked_where, asking, behind_snapshot, booting, changed_group, deleted_group, enabled_for_good, enabled_for_now, enabled_property, found, fresh_answer, granted, greatest, greatest_instance, greatest_snapshot, group_enabled, group_or_new, guarded, has_dropped, has_room, instance_kept, is_again, is_in_use, is_instance_of, is_made, is_past_most, is_there, joining, kept_of_instances, kept_of_services, leaving, marked, may_be_moved, may_not_boot, moved_instance, named_snapshot, new_group, next_launch, number_of, owners_written, persistent, property_changed, put_or_denied, refreshed, refreshed_instance, refused, relaunched, restarters_named, reverted, reverting, service_kept, stale, step_answer, takes_running, target_by, unwritten, with_owners, with_row, with_running, with_snapshot}
+use Rattle.smf_model.specs.Setting.{Groups, current, framework, general, general_ovr, service_owner, setting}
 use Rattle.smf_world.specs.Formed.{IsFormed, IsFormedChange, IsFormedCommand, IsFormedEdit, IsFormedEntry, IsFormedService, IsFormedSnapshot}
+use Rattle.smf_world.proofs.Owned.{owners_behind}
 use Rattle.smf_world.proofs.FormedEdits.{IsKeptGroup, add_whole, del_whole, every_filter, less_whole, put_whole, set_whole}
 use Rattle.smf_world.proofs.FormedGroups.{filter_short, groups_filter, groups_over, groups_put, groups_restored, groups_taken, no_groups, room_for}
 use Rattle.smf_world.proofs.FormedHoldings.{IsFormedBy, every_both, every_map, formed_groups, formed_snapshot}
@@ -263,24 +264,37 @@ reverts h name (Some i) f = reverts_by h i (named_snapshot h (number_of i name))
 
 -- ---- edits
 
-edits_ask : (h : Holdings) (e : Edit) → IsFormed h → IsFormedEdit e → Asks (asked_edit h e)
+edit_asks : (h : Holdings) (e : Edit) → IsFormed h → IsFormedEdit e → Asks (asked_edit h e)
 unfolding asked_edit
-edits_ask h (edits.AddService name) f n = service_added h name (service h name)
-edits_ask h (edits.AddInstance s name) f n = instance_added h name (service h s)
-edits_ask h (edits.DeleteService name) f n = service_deleted h (service h name)
-edits_ask h (edits.DeleteInstance i) f n = instance_deleted h (found h i)
-edits_ask h (edits.AddGroup owner name group_type p) f n =
+edit_asks h (edits.AddService name) f n = service_added h name (service h name)
+edit_asks h (edits.AddInstance s name) f n = instance_added h name (service h s)
+edit_asks h (edits.DeleteService name) f n = service_deleted h (service h name)
+edit_asks h (edits.DeleteInstance i) f n = instance_deleted h (found h i)
+edit_asks h (edits.AddGroup owner name group_type p) f n =
     let g : GroupRecord = new_group name group_type p in
     guards h owner name (added_group h owner g (group h owner name)) (group_added h owner g (group h owner name) f (new_whole name group_type p n.0 n.1))
-edits_ask h (edits.DeleteGroup owner name) f n = guards h owner name (deleted_group h owner name (group h owner name)) (group_deleted h owner name (group h owner name) f)
-edits_ask h (edits.Property owner name change) f n =
+edit_asks h (edits.DeleteGroup owner name) f n = guards h owner name (deleted_group h owner name (group h owner name)) (group_deleted h owner name (group h owner name) f)
+edit_asks h (edits.Property owner name change) f n =
     guards h owner name (changed_group h owner change (group h owner name)) (group_changed h owner name change (group h owner name) f n refl)
-edits_ask h (edits.Enable i b temporary) f n = enables h b temporary (found h i) f
-edits_ask h (edits.Restart i) f n = restarts h (found h i)
-edits_ask h (edits.Refresh i) f n = refreshes h (found h i) f
-edits_ask h (edits.Clear i) f n = clears h (found h i)
-edits_ask h (edits.Mark i mark) f n = marks_it h mark (found h i)
-edits_ask h (edits.Revert i name) f n = reverts h name (found h i) f
+edit_asks h (edits.Enable i b temporary) f n = enables h b temporary (found h i) f
+edit_asks h (edits.Restart i) f n = restarts h (found h i)
+edit_asks h (edits.Refresh i) f n = refreshes h (found h i) f
+edit_asks h (edits.Clear i) f n = clears h (found h i)
+edit_asks h (edits.Mark i mark) f n = marks_it h mark (found h i)
+edit_asks h (edits.Revert i name) f n = reverts h name (found h i) f
+
+all_owned : (gs : Groups) (is : List Instance) → AreFormedBy (map (λ (i : Instance). changes.PutInstance (current gs i)) is)
+all_owned gs [] = tt
+all_owned gs (i ∷ is) = (tt, all_owned gs is)
+
+owners_ask : (h : Holdings) (o : Option Owner) (a : Outcome) → Asks a → Asks (with_owners h o a)
+owners_ask h o a p = owners_behind AreFormedBy h o a p (λ owner done. both owner)
+  where
+    both : (owner : Owner) → AreFormedBy (a.changes ++ owners_written (installed h a.changes) owner)
+    both owner = every_both IsFormedBy a.changes (owners_written (installed h a.changes) owner) p (all_owned (groups_of (installed h a.changes)) (unwritten (installed h a.changes) owner))
+
+edits_ask : (h : Holdings) (e : Edit) → IsFormed h → IsFormedEdit e → Asks (with_owners h (restarters_named h e) (asked_edit h e))
+edits_ask h e f n = owners_ask h (restarters_named h e) (asked_edit h e) (edit_asks h e f n)
 
 -- ---- proposals
 

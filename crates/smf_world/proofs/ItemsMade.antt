@@ -24,9 +24,10 @@ use Rattle.smf_model.specs.Holdings.{Holdings}
 use Rattle.smf_model.specs.Laws.{AreApart, IsNumbered}
 use Rattle.smf_model.specs.Look.{bare, by_instance, groups_of, installed, instance, instances, named, put_over, service}
 use Rattle.smf_model.specs.Setting.{Groups, current, setting}
-use Rattle.smf_model.specs.Next.{Asked, greatest, greatest_instance, greatest_snapshot, refused, accepted, found, new_entry, new_instance, joining, added_at, added_named, asked_add_instance, with_snapshot, snapshot_of, target_by, may_be_moved, refreshed_row, moved_instance, moved, refreshed_instance, refreshed, asked_refresh, asked_edit, is_again, stale, with_row, with_running, takes_running, granted, step_answer, fresh_answer, answer_at, answer, relaunched, persistent, kept_of_services, kept_of_instances, booted, booting, may_not_boot, asked_boot, asked, next}
+use Rattle.smf_model.specs.Next.{Asked, greatest, greatest_instance, greatest_snapshot, refused, accepted, found, new_entry, new_instance, joining, added_at, added_named, asked_add_instance, with_snapshot, snapshot_of, target_by, may_be_moved, refreshed_row, moved_instance, moved, refreshed_instance, refreshed, asked_refresh, asked_edit, with_owners, is_again, stale, with_row, with_running, takes_running, granted, step_answer, fresh_answer, answer_at, answer, relaunched, persistent, kept_of_services, kept_of_instances, booted, booting, may_not_boot, asked_boot, asked, next}
 use Rattle.smf_model.proofs.Entries.{bare_instance, bare_put}
-use Rattle.smf_model.proofs.LawOutcomes.{put_each, apart, installed_append, installed_closed, Elsewhere, elsewhere, each_put, Found, is_found, relaunches, services_keep, instances_keep}
+use Rattle.smf_model.proofs.LawOutcomes.{apart, installed_append, installed_closed, Elsewhere, elsewhere, each_put, Found, is_found, relaunches, services_keep, instances_keep}
+use Rattle.smf_model.proofs.Written.{put_each}
 use Rattle.smf_world.specs.Items.{boot_items, change_item, items_of, row_item}
 use Rattle.smf_world.specs.Safe.{boot_alone, is_committed, made_items}
 use Rattle.smf_world.specs.declared.item.Item.{Item}
@@ -239,11 +240,11 @@ boots h a = either h (may_not_boot h) _ _ (refuses h Limit a) (accepts h (bootin
 
 plain : (h : Holdings) (c : Command) → is_plain c ≡ true → IsNumbered h → ShowsOf h (asked h c)
 unfolding next
-plain h c p numbered = (says_nothing h c p).shown ∙ sym (ap (map row_item) (none_committed h c p (apart h numbered)))
+plain h c p numbered = (says_nothing h c p (apart h numbered)).shown ∙ sym (ap (map row_item) (none_committed h c p (apart h numbered)))
 
 -- what the changes of a command show is what is new after them, or has another number
 pub shown : (h : Holdings) (c : Command) → IsNumbered h → shown_of h (asked h c).changes ≡ new_rows h (installed h (asked h c).changes)
-unfolding asked asked_edit
+unfolding asked asked_edit with_owners
 shown h (commands.Edit (asked_for.AddInstance s name)) numbered = add_instance h name (service h s) numbered
 shown h (commands.Edit (asked_for.Refresh n)) numbered = refresh h n (apart h numbered)
 shown h (commands.Edit (asked_for.AddService name)) numbered = plain h (commands.Edit (asked_for.AddService name)) refl numbered

@@ -1,5 +1,6 @@
 pub mod CommitLists
 pub mod Showing
+pub mod Owned
 pub mod PlainCommands
 pub mod Noting
 pub mod ItemsMade

@@ -1,12 +1,12 @@
 -- Commands that commit no row: no instance joins, none changes its number, and the trail shows nothing.
-use Rattle.std.proofs.Common.{◌≡◌, ℕ, ◌+◌, ◌||◌, nat_lt, nat_le, not, Bool, true, false, if◌then◌else◌, List, [], ◌∷◌, ◌++◌, filter, Option, Some, None, option_map, Ok, Err, refl, sym, ap, ◌∙◌, subst, arith}
+use Rattle.std.proofs.Common.{◌≡◌, ℕ, ◌+◌, ◌==◌, ◌&&◌, ◌||◌, nat_lt, nat_le, not, Bool, true, false, if◌then◌else◌, List, [], ◌∷◌, ◌++◌, map, filter, Option, Some, None, option_map, Ok, Err, refl, sym, ap, ◌∙◌, subst}
 use Rattle.std.specs.List.{cons_option, filter_map, list_any}
 use Rattle.smf_state.specs.declared.row.Row.{Row}
 use Rattle.smf_state.specs.Rows.{same_state}
 use Rattle.smf_state.specs.States.{runs}
 use Rattle.smf_state.specs.declared.state.State.TheVariants.{Online, Degraded, Maintenance}
 use Rattle.smf_model.specs.declared.change.Change.{Change}
-use Rattle.smf_model.specs.declared.change.Change.TheVariants.{AddService, DropService, AddInstance, PutInstance, PutGroups, AddSnapshot, PutLaunch, NextInstance, NextSnapshot, SetRevision}
+use Rattle.smf_model.specs.declared.change.Change.TheVariants.{AddService, DropService, AddInstance, PutInstance, DropInstance, PutGroups, AddSnapshot, PutLaunch, NextSnapshot, SetRevision}
 use Rattle.smf_model.specs.declared.command.Command.{Command}
 use Rattle.smf_model.specs.declared.command.Command.TheVariants as commands
 use Rattle.smf_model.specs.declared.command.Edit.{Edit}
@@ -22,17 +22,20 @@ use Rattle.smf_model.specs.declared.held.Owner.TheVariants as owners
 use Rattle.smf_model.specs.declared.held.Service.{Service}
 use Rattle.smf_model.specs.declared.held.Snapshot.{Snapshot}
 use Rattle.smf_model.specs.Holdings.{Holdings}
-use Rattle.smf_model.specs.Laws.{AreApart, RowFollows, stays, steps, boots, moves}
+use Rattle.smf_model.specs.Laws.{AreApart}
 use Rattle.smf_fmri.specs.ByKey.{has_key}
 use Rattle.smf_model.specs.Look.{by_instance, changed, group, groups_of, installed, instance, instances, launch_of, service}
-use Rattle.smf_model.specs.Setting.{current}
-use Rattle.smf_model.specs.Next.{Asked, greatest, greatest_snapshot, refused, accepted, found, asked_add_service, is_instance_of, asked_delete_service, is_in_use, leaving, asked_delete_instance, is_there, is_made, group_put, group_dropped, guarded, added_group, deleted_group, property_changed, put_or_denied, changed_group, enabling_of, enabled_for_good, enabled_for_now, asked_enable, asking, asked_if, asked_where, asked_restart, asked_clear, marked, asked_mark, with_snapshot, snapshot_of, number_of, named_snapshot, reverting, reverted_to, reverted, asked_revert, asked_edit, next_launch, asked_launch, asked, next}
-use Rattle.smf_model.proofs.LawOutcomes.{Found, Outcome, nothing, goes, OfInstances, alike, is_found, joined, left, put, each, installed_closed, outcome}
+use Rattle.smf_model.specs.Setting.{Groups, current}
+use Rattle.smf_model.specs.Next.{Asked, greatest, greatest_snapshot, refused, accepted, found, asked_add_service, is_instance_of, asked_delete_service, is_in_use, leaving, asked_delete_instance, is_there, is_made, group_put, group_dropped, guarded, added_group, deleted_group, property_changed, put_or_denied, changed_group, enabling_of, enabled_for_good, enabled_for_now, asked_enable, asking, asked_if, asked_where, asked_restart, asked_clear, marked, asked_mark, with_snapshot, snapshot_of, number_of, named_snapshot, reverting, reverted_to, reverted, asked_revert, asked_edit, belongs_to, is_unwritten, unwritten, owners_written, restarters_named, with_owners, next_launch, asked_launch, asked, next}
+use Rattle.smf_model.proofs.Entries.{bare_groups, bare_instance, bare_without}
+use Rattle.smf_model.proofs.LawOutcomes.{Found, is_found, installed_append, installed_closed}
+use Rattle.smf_model.proofs.Written.{IsShown, is_shown}
 use Rattle.smf_world.specs.declared.item.Item.{Item}
-use Rattle.smf_world.specs.Items.{change_item, row_over}
-use Rattle.smf_world.specs.Safe.{is_committed}
-use Rattle.smf_world.proofs.Showing.{not_shown, same_over}
-use Rattle.smf_world.proofs.CommitLists.{NonePass, none_kept, none_pass_filter, all_same, still_same}
+use Rattle.smf_world.specs.Items.{change_item, row_if, row_over}
+use Rattle.smf_world.specs.Safe.{is_committed, is_other_number}
+use Rattle.smf_world.proofs.Owned.{owners_behind}
+use Rattle.smf_world.proofs.Showing.{none_shown, not_shown, same_over}
+use Rattle.smf_world.proofs.CommitLists.{NonePass, none_kept, none_pass_filter, none_pass_over, all_same}
 
 abbrev pub is_plain : Command → Bool
 is_plain (commands.Edit (asked_for.AddInstance s name)) = false
@@ -41,50 +44,63 @@ is_plain (commands.Edit e) = true
 is_plain (commands.Launch name) = true
 is_plain _ = false
 
--- ---- the number that comes next stays, and no change shows an item
+-- ---- no row is committed, and no change shows an item
 
 abbrev Others : Holdings → List Change → Type 0
 Others h [] = Unit {0}
-Others h (NextInstance n ∷ cs) = ⊥
 Others h (AddInstance e ∷ cs) = ⊥
 Others h (PutInstance i ∷ cs) = (row_over (instance h i.number) i ≡ None) × Others h cs
 Others h (c ∷ cs) = Others h cs
 
-keeps : (g h : Holdings) (cs : List Change) → Others g cs → (installed h cs).next_instance ≡ h.next_instance
+-- what shows nothing is not committed
+not_over : (o : Option Instance) (i : Instance) → row_over o i ≡ None → is_other_number o i ≡ false
+not_over None i e = absurd cc
+not_over (Some before) i e = by (i.row.number == before.row.number) e
+  where
+    by : (b : Bool) → row_if b i ≡ None → not b ≡ false
+    by true f = refl
+    by false f = absurd cc
+
+none_left : (h k : Holdings) (cs : List Change) → Others h cs → NonePass (is_committed h) (instances k) → NonePass (is_committed h) (instances (installed k cs))
 unfolding installed
-keeps g h [] o = refl
-keeps g h (NextInstance n ∷ cs) o = absurd o
-keeps g h (AddInstance e ∷ cs) o = absurd o
-keeps g h (PutInstance i ∷ cs) o = keeps g (changed h (PutInstance i)) cs o.1
-keeps g h (PutGroups (owners.Service s) gs ∷ cs) o = keeps g (changed h (PutGroups (owners.Service s) gs)) cs o
-keeps g h (PutGroups (owners.Instance n) gs ∷ cs) o = keeps g (changed h (PutGroups (owners.Instance n) gs)) cs o
-keeps g h (c ∷ cs) o = keeps g (changed h c) cs o
+none_left h k [] o a = a
+none_left h k (AddInstance e ∷ cs) o a = absurd o
+none_left h k (PutInstance i ∷ cs) o a =
+    none_left h (changed k (PutInstance i)) cs o.1
+    (subst (NonePass (is_committed h)) (sym (bare_instance i k.instances)) (none_pass_over (is_committed h) i (instances k) a (not_over (instance h i.number) i o.0)))
+none_left h k (DropInstance n ∷ cs) o a =
+    none_left h (changed k (DropInstance n)) cs o
+    (subst (NonePass (is_committed h)) (sym (bare_without n k.instances)) (none_pass_filter (is_committed h) (λ (x : Instance). not (has_key by_instance n x)) (instances k) a))
+none_left h k (PutGroups (owners.Service s) gs ∷ cs) o a = none_left h (changed k (PutGroups (owners.Service s) gs)) cs o a
+none_left h k (PutGroups (owners.Instance n) gs ∷ cs) o a =
+    none_left h (changed k (PutGroups (owners.Instance n) gs)) cs o (subst (NonePass (is_committed h)) (sym (bare_groups n gs k.instances)) a)
+none_left h k (c ∷ cs) o a = none_left h (changed k c) cs o a
 
 silent : (h : Holdings) (cs : List Change) → Others h cs → filter_map (change_item h) cs ≡ []
 silent h [] o = refl
-silent h (NextInstance n ∷ cs) o = absurd o
 silent h (AddInstance e ∷ cs) o = absurd o
 silent h (PutInstance i ∷ cs) o = ap (λ (x : Option Item). cons_option x (filter_map (change_item h) cs)) o.0 ∙ silent h cs o.1
 silent h (c ∷ cs) o = silent h cs o
 
 pub record IsSilent (h : Holdings) (cs : List Change) : Type 0 where
-  pub next_one : (installed h cs).next_instance ≡ h.next_instance
+  pub none : NonePass (is_committed h) (instances (installed h cs))
   pub shown : filter_map (change_item h) cs ≡ []
 
 abbrev pub Silent : Holdings → Asked → Type 0
-Silent h a = IsSilent h a.changes
+Silent h a = AreApart (instances h) → IsSilent h a.changes
 
 refuses : (h : Holdings) (r : Reply) → Silent h (refused r)
 unfolding installed
-refuses h r = record { next_one = refl; shown = refl }
+refuses h r apart = record { none = all_same h apart; shown = refl }
 
 accepts : (h : Holdings) (cs : List Change) (r : Reply) → Others h cs → Silent h (accepted h cs r)
 accepts h cs r o = by (nat_lt h.revision greatest)
   where
     by : (b : Bool) → Silent h (if b then (record { changes = cs ++ SetRevision (h.revision + 1) ∷ []; reply = r }) else refused Limit)
     by true =
+        λ apart.
         record {
-          next_one = ap (λ (k : Holdings). k.next_instance) (installed_closed h cs (h.revision + 1)) ∙ keeps h h cs o;
+          none = subst (λ (k : Holdings). NonePass (is_committed h) (instances k)) (sym (installed_closed h cs (h.revision + 1))) (none_left h h cs o (all_same h apart));
           shown = not_shown (change_item h) cs (SetRevision (h.revision + 1)) refl ∙ silent h cs o;
         }
     by false = refuses h Limit
@@ -209,41 +225,48 @@ edit h (asked_for.Clear n) e = clear h n
 edit h (asked_for.Mark n mark) e = mark_at h n mark
 edit h (asked_for.Revert n name) e = revert h n name
 
+-- ---- owners that are written
+
+still_over : (o : Option Instance) (i x : Instance) → x.row.number ≡ i.row.number → is_other_number o i ≡ false → row_over o x ≡ None
+still_over None i x e f = absurd cc
+still_over (Some before) i x e f = by (x.row.number == before.row.number) (subst (λ (n : ℕ). not (n == before.row.number) ≡ false) (sym e) f)
+  where
+    by : (b : Bool) → not b ≡ false → row_if b x ≡ None
+    by true g = refl
+    by false g = absurd cc
+
+shown_over : (h : Holdings) (gs : Groups) (i : Instance) → is_committed h i ≡ false → row_over (instance h (current gs i).number) (current gs i) ≡ None
+shown_over h gs i e =
+    let shows : IsShown i (current gs i) = is_shown gs i in
+    subst (λ (n : ℕ). row_over (instance h n) (current gs i) ≡ None) (sym shows.number) (still_over (instance h i.number) i (current gs i) (ap (λ (r : Row). r.number) shows.row) e)
+
+all_over : (h : Holdings) (gs : Groups) (js : List Instance) → NonePass (is_committed h) js → Others h (map (λ (i : Instance). PutInstance (current gs i)) js)
+all_over h gs [] a = tt
+all_over h gs (j ∷ js) a = (shown_over h gs j a.0, all_over h gs js a.1)
+
+owners_silent : (h : Holdings) (o : Option Owner) (a : Asked) → Silent h a → Silent h (with_owners h o a)
+owners_silent h o a s apart = owners_behind (IsSilent h) h o a (s apart) (λ owner done. both owner)
+  where
+    both : (owner : Owner) → IsSilent h (a.changes ++ owners_written (installed h a.changes) owner)
+    both owner =
+        let k : Holdings = installed h a.changes in
+        let first : IsSilent h a.changes = s apart in
+        let over : Others h (owners_written k owner) =
+        all_over h (groups_of k) (unwritten k owner) (none_pass_filter (is_committed h) (λ (i : Instance). belongs_to owner i && is_unwritten (groups_of k) i) (instances k) first.none) in
+        record {
+          none = subst (λ (l : Holdings). NonePass (is_committed h) (instances l)) (sym (installed_append h a.changes (owners_written k owner))) (none_left h k (owners_written k owner) over first.none);
+          shown = none_shown (change_item h) a.changes (owners_written k owner) (silent h (owners_written k owner) over) ∙ first.shown;
+        }
+
+-- ---- the whole
+
 pub says_nothing : (h : Holdings) (c : Command) → is_plain c ≡ true → Silent h (asked h c)
 unfolding asked
-says_nothing h (commands.Edit e) p = edit h e p
+says_nothing h (commands.Edit e) p = owners_silent h (restarters_named h e) (asked_edit h e) (edit h e p)
 says_nothing h (commands.Launch name) p = launch h name
 says_nothing h (commands.Propose q) p = absurd cc
 says_nothing h commands.Boot p = absurd cc
 
-keeps_next : (h : Holdings) (c : Command) → is_plain c ≡ true → (next h c).0.next_instance ≡ h.next_instance
-unfolding next
-keeps_next h c p = (says_nothing h c p).next_one
-
--- ---- no row is committed
-
-clash : (b : Bool) → b ≡ true → b ≡ false → ⊥
-clash b e f = cc
-
-same_number : (c : Command) (n : ℕ) (before after : Row) → is_plain c ≡ true → RowFollows c n before after → after.number ≡ before.number
-same_number c n before after p (stays s) = ap (λ (r : Row). r.number) s.same
-same_number c n before after p (steps q is at g) = absurd (clash (is_plain c) p (ap is_plain is))
-same_number c n before after p (boots is b) = absurd (clash (is_plain c) p (ap is_plain is))
-same_number c n before after p (moves is from b) = absurd (clash (is_plain c) p (ap is_plain is))
-
-none_by : (h : Holdings) (c : Command) (xs : List Instance) (m : ℕ) → is_plain c ≡ true → OfInstances h c xs m → m ≡ h.next_instance → AreApart (instances h) → NonePass (is_committed h) xs
-none_by h c xs m p (alike e f) next_one a = subst (NonePass (is_committed h)) (sym e) (all_same h a)
-none_by h c xs m p (joined name e f) next_one a = absurd (more h.next_instance (sym next_one ∙ f))
-  where
-    more : (n : ℕ) → n ≡ n + 1 → ⊥
-    more n e = omega arith
-none_by h c xs m p (left n e f) next_one a = subst (NonePass (is_committed h)) (sym e) (none_pass_filter (is_committed h) (λ (x : Instance). not (has_key by_instance n x)) (instances h) (all_same h a))
-none_by h c xs m p (put n i x there number follows e f) next_one a = subst (NonePass (is_committed h)) (sym e) (still_same h n i x a there number (same_number c n i.row x.row p follows))
-none_by h c xs m p (each boot gs e f) next_one a = absurd (clash (is_plain c) p (ap is_plain boot))
-
-none_of : (h : Holdings) (c : Command) (k : Holdings) (r : Reply) → is_plain c ≡ true → Outcome h c k r → k.next_instance ≡ h.next_instance → AreApart (instances h) → NonePass (is_committed h) (instances k)
-none_of h c k r p (nothing e x) next_one a = subst (λ (l : Holdings). NonePass (is_committed h) (instances l)) (sym e) (all_same h a)
-none_of h c k r p (goes g) next_one a = none_by h c (instances k) k.next_instance p g.instances next_one a
-
 pub none_committed : (h : Holdings) (c : Command) → is_plain c ≡ true → AreApart (instances h) → filter (is_committed h) (instances (next h c).0) ≡ []
-none_committed h c p a = none_kept (is_committed h) (instances (next h c).0) (none_of h c (next h c).0 (next h c).1 p (outcome h c) (keeps_next h c p) a)
+unfolding next
+none_committed h c p a = none_kept (is_committed h) (instances (installed h (asked h c).changes)) (says_nothing h c p a).none

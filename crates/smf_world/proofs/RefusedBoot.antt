@@ -76,7 +76,7 @@ one_dated n i kind e = by (is_eq (nat_cmp 1 n)) e
   where
     by : (b : Bool) → cond b (Some alone) None ≡ Some i → revision_of kind i.row ≤ 0
     by true e =
-        let zero_date : revision_of kind alone.row ≡ 0 = fresh_date kind in
+        let zero_date : revision_of kind alone.row ≡ 0 = fresh_date kind startd in
         subst (λ (x : Instance). revision_of kind x.row ≤ 0) (some_same alone i e) (omega arith)
     by false e = absurd (no_such None i refl e)
 

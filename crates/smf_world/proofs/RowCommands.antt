@@ -28,10 +28,12 @@ use Rattle.smf_model.specs.Holdings.{Holdings}
 use Rattle.smf_model.specs.Laws.{Stays}
 use Rattle.smf_model.specs.Look.{bare, by_instance, changed, group, groups_of, installed, instance, instances, named, service}
 use Rattle.smf_model.specs.Setting.{Groups, current, owned_by_setting, service_owner, setting}
-use Rattle.smf_model.specs.Next.{greatest, greatest_instance, greatest_snapshot, refused, accepted, found, asked_add_service, new_entry, joining, added_at, added_named, asked_add_instance, is_instance_of, asked_delete_service, is_in_use, leaving, asked_delete_instance, is_there, is_made, group_put, group_dropped, guarded, added_group, deleted_group, property_changed, put_or_denied, changed_group, enabling_of, enabled_for_good, enabled_for_now, asked_enable, asking, asked_if, asked_where, asked_restart, asked_clear, marked, asked_mark, with_snapshot, snapshot_of, target_by, may_be_moved, refreshed_row, moved_row, moved_instance, moved, refreshed_instance, refreshed, asked_refresh, number_of, named_snapshot, reverted_to, reverted, asked_revert, asked_edit}
+use Rattle.smf_model.specs.Next.{greatest, greatest_instance, greatest_snapshot, refused, accepted, found, asked_add_service, new_entry, joining, added_at, added_named, asked_add_instance, is_instance_of, asked_delete_service, is_in_use, leaving, asked_delete_instance, is_there, is_made, group_put, group_dropped, guarded, added_group, deleted_group, property_changed, put_or_denied, changed_group, enabling_of, enabled_for_good, enabled_for_now, asked_enable, asking, asked_if, asked_where, asked_restart, asked_clear, marked, asked_mark, with_snapshot, snapshot_of, target_by, may_be_moved, refreshed_row, moved_row, moved_instance, moved, refreshed_instance, refreshed, asked_refresh, number_of, named_snapshot, reverted_to, reverted, asked_revert, asked_edit, owners_written, restarters_named, unwritten, with_owners}
 use Rattle.smf_model.proofs.Entries.{bare_instance, bare_put, bare_without}
-use Rattle.smf_model.proofs.LawOutcomes.{Elsewhere, Found, elsewhere, installed_closed, is_found, stays_on}
-use Rattle.smf_world.proofs.RowMoves.{IsAtRest, IsHandedOver, IsRead, ListPut, RowPut, alike, handed, joined, left, put, quiet}
+use Rattle.smf_model.proofs.LawOutcomes.{Elsewhere, Found, apart_after, elsewhere, installed_closed, is_found, stays_on}
+use Rattle.smf_model.proofs.Written.{unwritten_held}
+use Rattle.smf_world.proofs.Owned.{owned_instances, owned_snapshot, owners_behind}
+use Rattle.smf_world.proofs.RowMoves.{IsAtRest, IsHandedOver, IsRead, ListLeft, ListPut, RowPut, alike, as_put, handed, joined, left, put, quiet, written}
 
 abbrev pub Gives : Holdings → Command → Asked → Type 0
 Gives h c a = ListPut h (installed h a.changes).next_snapshot c (bare (installed h a.changes).instances)
@@ -298,7 +300,7 @@ reverts : (h : Holdings) (c : Command) (n : ℕ) (before i : Instance) (o : Opti
 reverts h c n before i None f = refuses h c NoSuch
 reverts h c n before i (Some s) f = search (reverts_to)
 
-pub gives_edit : (h : Holdings) (e : Edit) → Gives h (commands.Edit e) (asked_edit h e)
+gives_edit : (h : Holdings) (e : Edit) → Gives h (commands.Edit e) (asked_edit h e)
 unfolding asked_edit
 gives_edit h (asked_for.AddService name) = add_service h _ name (service h name)
 gives_edit h (asked_for.AddInstance s name) = add_instance h _ name (service h s)
@@ -313,3 +315,22 @@ gives_edit h (asked_for.Refresh n) = by_found h _ n (asked_refresh h) (refuses h
 gives_edit h (asked_for.Clear n) = by_found h _ n (asked_clear h) (refuses h _ NoSuch) (λ (before i : Instance) f. asks_where h _ n before i (same_state i.row.state Maintenance || same_state i.row.state Degraded) 32 f)
 gives_edit h (asked_for.Mark n mark) = by_found h _ n (asked_mark h mark) (refuses h _ NoSuch) (marking h _ n mark)
 gives_edit h (asked_for.Revert n name) = by_found h _ n (asked_revert h name) (refuses h _ NoSuch) (λ (before i : Instance) f. reverts h _ n before i (named_snapshot h (number_of i name)) f)
+
+-- ---- owners that are written
+
+abbrev pub Leaves : Holdings → Command → Asked → Type 0
+Leaves h c a = ListLeft h (installed h a.changes).next_snapshot c (bare (installed h a.changes).instances)
+
+owners_follow : (h : Holdings) (c : Command) (o : Option Owner) (a : Asked) → Gives h c a → Leaves h c (with_owners h o a)
+owners_follow h c o a g =
+    owners_behind (λ (cs : List Change). ListLeft h (installed h cs).next_snapshot c (bare (installed h cs).instances)) h o a (as_put g) (λ owner done. both owner)
+  where
+    both : (owner : Owner)
+        → ListLeft h (installed h (a.changes ++ owners_written (installed h a.changes) owner)).next_snapshot c (bare (installed h (a.changes ++ owners_written (installed h a.changes) owner)).instances)
+    both owner =
+        let k : Holdings = installed h a.changes in
+        subst (λ (m : ℕ). ListLeft h m c (bare (installed h (a.changes ++ owners_written k owner)).instances)) (sym (owned_snapshot h a.changes owner))
+        (written (instances k) g (groups_of k) (unwritten k owner) (λ numbered. unwritten_held k owner (apart_after h a.changes numbered)) (owned_instances h a.changes owner))
+
+pub edit_leaves : (h : Holdings) (e : Edit) → Leaves h (commands.Edit e) (with_owners h (restarters_named h e) (asked_edit h e))
+edit_leaves h e = owners_follow h (commands.Edit e) (restarters_named h e) (asked_edit h e) (gives_edit h e)

@@ -15,7 +15,6 @@ use Rattle.smf_model.specs.Holdings.{Holdings}
 use Rattle.smf_model.specs.Laws.{IsNumbered, Stays}
 use Rattle.smf_model.specs.Look.{instance, launch_of}
 use Rattle.smf_model.specs.Next.{booted_row}
-use Rattle.smf_state.specs.OwnName.{startd}
 use Rattle.smf_model.proofs.LawLists.{some_same}
 use Rattle.smf_model.proofs.LawOutcomes.{stays_on}
 use Rattle.smf_world.proofs.RowClauses.{AreFit, HasRuns, IsBefore, IsFit, IsLeft, IsShaped, IsUnbegun, WasRow}
@@ -29,7 +28,7 @@ use Rattle.smf_world.proofs.SaidClauses.{IsProposal}
 -- a row behind a command, by what was there before
 pub data CameOf (h : Holdings) (m : ℕ) (c : Command) (n : ℕ) (o : Option Instance) (r : Row) : Type 0 where
   changed : (i : Instance) → o ≡ Some i → RowPut h m c n i.row r → CameOf h m c n o r
-  began : o ≡ None → n ≡ h.next_instance → r ≡ fresh startd → CameOf h m c n o r
+  began : o ≡ None → n ≡ h.next_instance → r ≡ fresh r.owner → CameOf h m c n o r
   booted : (i : Instance) (owner : List ℕ) → o ≡ Some i → c ≡ commands.Boot → r ≡ booted_row i.row owner → CameOf h m c n o r
 
 none_some : {X : Type 0} (o : Option X) (x : X) → o ≡ None → o ≡ Some x → ⊥
@@ -38,7 +37,7 @@ none_some o x e f = cc
 came_by : (h : Holdings) (m : ℕ) (c : Command) (n : ℕ) (o p : Option Instance) (j : Instance) → RowMoves h m c n o p → p ≡ Some j → CameOf h m c n o j.row
 came_by h m c n o p j (absent e f) g = absurd (none_some p j f g)
 came_by h m c n o p j (goes i k e f q) g = changed i e (subst (λ (x : Instance). RowPut h m c n i.row x.row) (some_same k j (sym f ∙ g)) q)
-came_by h m c n o p j (joins k e f is new) g = began e is (ap (λ (x : Instance). x.row) (some_same j k (sym g ∙ f)) ∙ new)
+came_by h m c n o p j (joins k e f is new) g = began e is (subst (λ (x : Instance). x.row ≡ fresh x.row.owner) (some_same k j (sym f ∙ g)) new)
 came_by h m c n o p j (leaves i e f is rest) g = absurd (none_some p j f g)
 came_by h m c n o p j (boots i k owner e f is new) g = booted i owner e is (ap (λ (x : Instance). x.row) (some_same j k (sym g ∙ f)) ∙ new)
 
@@ -330,5 +329,5 @@ fit_later h c k m proper fit n j e = by (came_of h c k n j m e)
 
     by : CameOf h k.next_snapshot c n (instance h n) j.row → IsFit k j.row
     by (changed i there p) = put_by i there p
-    by (began none is new) = subst (IsFit k) (sym new) (fit_fresh k startd)
+    by (began none is new) = subst (IsFit k) (sym new) (fit_fresh k j.row.owner)
     by (booted i owner there is new) = fit_booted k i.row j.row owner new

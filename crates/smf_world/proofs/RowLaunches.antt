@@ -34,11 +34,12 @@ use Rattle.smf_model.specs.declared.held.Owner.TheVariants as owners
 use Rattle.smf_model.specs.declared.held.Service.{Service}
 use Rattle.smf_model.specs.declared.held.Snapshot.{Snapshot}
 use Rattle.smf_model.specs.Holdings.{Holdings}
-use Rattle.smf_model.specs.Laws.{IsNumbered}
+use Rattle.smf_model.specs.Laws.{IsNumbered, is_accepted}
 use Rattle.smf_model.specs.Look.{by_launch, changed, group, groups_of, installed, instances, launch_of, named, service}
-use Rattle.smf_model.specs.Setting.{general, general_ovr, setting}
-use Rattle.smf_model.specs.Next.{greatest, greatest_instance, greatest_snapshot, refused, accepted, found, asked_add_service, joining, added_at, added_named, asked_add_instance, is_instance_of, asked_delete_service, is_in_use, leaving, asked_delete_instance, is_there, is_made, has_room, group_put, group_dropped, guarded, added_group, deleted_group, property_changed, put_or_denied, changed_group, enabling_of, enabled_for_good, enabled_for_now, asked_enable, asking, asked_if, asked_where, asked_restart, asked_clear, asked_mark, with_snapshot, snapshot_of, target_by, may_be_moved, moved_instance, moved, refreshed_instance, refreshed, asked_refresh, number_of, named_snapshot, reverting, reverted_to, reverted, asked_revert, asked_edit, is_again, is_past_most, stale, with_row, with_running, takes_running, granted, step_answer, fresh_answer, answer_at, answer, next_launch, asked_launch, relaunched, persistent, has_dropped, instance_kept, service_kept, kept_of_services, kept_of_instances, booted, all_booted, booting, may_not_boot, asked_boot, asked, next}
-use Rattle.smf_model.proofs.LawOutcomes.{installed_append, installed_closed}
+use Rattle.smf_model.specs.Setting.{Groups, current, general, general_ovr, setting}
+use Rattle.smf_model.specs.Next.{greatest, greatest_instance, greatest_snapshot, refused, accepted, found, asked_add_service, joining, added_at, added_named, asked_add_instance, is_instance_of, asked_delete_service, is_in_use, leaving, asked_delete_instance, is_there, is_made, has_room, group_put, group_dropped, guarded, added_group, deleted_group, property_changed, put_or_denied, changed_group, enabling_of, enabled_for_good, enabled_for_now, asked_enable, asking, asked_if, asked_where, asked_restart, asked_clear, asked_mark, with_snapshot, snapshot_of, target_by, may_be_moved, moved_instance, moved, refreshed_instance, refreshed, asked_refresh, number_of, named_snapshot, reverting, reverted_to, reverted, asked_revert, asked_edit, owners_written, restarters_named, unwritten, with_owners, is_again, is_past_most, stale, with_row, with_running, takes_running, granted, step_answer, fresh_answer, answer_at, answer, next_launch, asked_launch, relaunched, persistent, has_dropped, instance_kept, service_kept, kept_of_services, kept_of_instances, booted, all_booted, booting, may_not_boot, asked_boot, asked, next}
+use Rattle.smf_model.proofs.LawOutcomes.{installed_append, installed_closed, next_revision}
+use Rattle.smf_world.proofs.Owned.{owners_behind, owners_or_none, reply_stays}
 use Rattle.smf_world.proofs.ItemsMade.{AreMade}
 
 -- ---- changes without a launch
@@ -202,6 +203,23 @@ edit h (asked_for.Clear n) = clear h (found h n)
 edit h (asked_for.Mark n mark) = mark_one h mark (found h n)
 edit h (asked_for.Revert n name) = revert h name (found h n)
 
+-- ---- owners that are written
+
+none_put : (gs : Groups) (is : List Instance) → NoLaunch (map (λ (i : Instance). PutInstance (current gs i)) is)
+none_put gs [] = tt
+none_put gs (i ∷ is) = none_put gs is
+
+none_both : (cs ds : List Change) → NoLaunch cs → NoLaunch ds → NoLaunch (cs ++ ds)
+none_both [] ds o p = p
+none_both (PutLaunch l ∷ cs) ds o p = absurd o
+none_both (c ∷ cs) ds o p = none_both cs ds o p
+
+none_owned : (h : Holdings) (o : Option Owner) (a : Asked) → NoLaunch a.changes → NoLaunch (with_owners h o a).changes
+none_owned h o a n = owners_behind NoLaunch h o a n (λ owner done. both owner)
+  where
+    both : (owner : Owner) → NoLaunch (a.changes ++ owners_written (installed h a.changes) owner)
+    both owner = none_both a.changes (owners_written (installed h a.changes) owner) n (none_put (groups_of (installed h a.changes)) (unwritten (installed h a.changes) owner))
+
 -- ---- proposals
 
 grants : (h : Holdings) (i : Instance) (row : Row) (b : Bool) → Without h (granted h i row b)
@@ -228,7 +246,7 @@ answers h p = answers_at h p (found h p.instance)
 
 edit_stays : (h : Holdings) (e : Edit) → (next h (commands.Edit e)).0.launches ≡ h.launches
 unfolding next asked
-edit_stays h e = keeps h _ (edit h e).none
+edit_stays h e = keeps h _ (none_owned h (restarters_named h e) (asked_edit h e) (edit h e).none)
 
 proposal_stays : (h : Holdings) (p : Proposal) → (next h (commands.Propose p)).0.launches ≡ h.launches
 unfolding next asked
@@ -434,7 +452,10 @@ boot_revises h = by (may_not_boot h)
 
 pub revised : (h : Holdings) (c : Command) → AreMade (asked h c).changes → (next h c).0.revision ≡ h.revision + 1
 unfolding next asked
-revised h (commands.Edit e) m = (edit h e).revised m
+revised h (commands.Edit e) m =
+    let a : Asked = asked_edit h e in
+    owners_or_none (Revises h) h (restarters_named h e) a (edit h e).revised
+    (λ done _. next_revision h (commands.Edit e) (ap is_accepted (reply_stays h (restarters_named h e) a ∙ done))) m
 revised h (commands.Propose p) m = (answers h p).revised m
 revised h (commands.Launch name) m = launch_revises h name m
 revised h commands.Boot m = boot_revises h m

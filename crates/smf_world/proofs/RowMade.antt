@@ -3,6 +3,8 @@ use Rattle.std.proofs.Common.{◌≡◌, inl, inr, ℕ, ◌+◌, nat_lt, Bool, t
 use Rattle.std.specs.Ordering.{is_eq, nat_cmp}
 use Rattle.smf_fmri.specs.ByKey.{lookup, put as put_in, without}
 use Rattle.smf_fmri.proofs.Lookups.{equal_from_test, lookup_put, lookup_without}
+use Rattle.smf_state.specs.declared.row.Row.{Row}
+use Rattle.smf_state.specs.Rows.{fresh}
 use Rattle.smf_model.specs.declared.change.Change.{Change}
 use Rattle.smf_model.specs.declared.change.Change.TheVariants.{PutInstance, PutLaunch}
 use Rattle.smf_model.specs.declared.command.Command.{Command}
@@ -13,13 +15,14 @@ use Rattle.smf_model.specs.declared.held.Instance.{Instance}
 use Rattle.smf_model.specs.Holdings.{Holdings}
 use Rattle.smf_model.specs.Laws.{IsNumbered}
 use Rattle.smf_model.specs.Look.{bare, by_instance, groups_of, in_place, installed, instance, instances, launch_of, put_over}
-use Rattle.smf_model.specs.Setting.{Groups, setting, owner_by}
-use Rattle.smf_model.specs.Next.{greatest, new_instance, next_launch, asked_launch, relaunched, persistent, kept_of_services, kept_of_instances, booted, booting, may_not_boot, asked_boot, asked, next}
-use Rattle.smf_model.proofs.LawLists.{at_put, is_number}
+use Rattle.smf_model.specs.Setting.{Groups, current, setting, owner_by}
+use Rattle.smf_model.specs.Next.{booted_row, greatest, new_instance, next_launch, asked_launch, relaunched, persistent, kept_of_services, kept_of_instances, booted, booting, may_not_boot, asked_boot, asked, next}
+use Rattle.smf_model.proofs.LawLists.{at_put, is_number, no_such, some_same}
 use Rattle.smf_model.proofs.LawNumbers.{instances_rise, snapshots_rise}
-use Rattle.smf_model.proofs.LawOutcomes.{Elsewhere, booted_at, each_put, elsewhere, installed_append, instances_keep, put_each, relaunches, services_keep}
-use Rattle.smf_world.proofs.RowMoves.{IsAtRest, ListPut, Moves, RowMoves, RowPut, absent, alike, boots, each, goes, joined, joins, leaves, left, put, quiet}
-use Rattle.smf_world.proofs.RowCommands.{Gives, accepts, edits, either, gives_edit, refuses}
+use Rattle.smf_model.proofs.LawOutcomes.{Elsewhere, booted_at, each_put, elsewhere, installed_append, instances_keep, current_row, relaunches, services_keep, stays_on}
+use Rattle.smf_model.proofs.Written.{IsShown, Written, at_written, is_read, is_shown, put_each, stays_so}
+use Rattle.smf_world.proofs.RowMoves.{IsAtRest, ListLeft, ListPut, Moves, RowMoves, RowPut, TakesOrKeeps, absent, alike, as_put, boots, each, goes, granted, handed, joined, joins, leaves, left, put, quiet, written}
+use Rattle.smf_world.proofs.RowCommands.{Gives, Leaves, accepts, edit_leaves, edits, either, refuses}
 use Rattle.smf_world.proofs.ItemsMade.{AreMade}
 use Rattle.smf_world.proofs.RowGrants.{gives_answer, in_its_place}
 use Rattle.smf_world.proofs.RowLaunches.{launches_rise, revised}
@@ -48,16 +51,16 @@ gives_boot h =
     either h commands.Boot (may_not_boot h) _ _ (refuses h commands.Boot replies.Limit)
     (accepts h commands.Boot (booting h) replies.Done (each refl gs (puts_each (booted gs) h (front h) (instances h) (front_elsewhere h))))
 
-gives_command : (h : Holdings) (c : Command) → Gives h c (asked h c)
+command_leaves : (h : Holdings) (c : Command) → Leaves h c (asked h c)
 unfolding asked
-gives_command h (commands.Edit e) = gives_edit h e
-gives_command h (commands.Propose p) = gives_answer h p
-gives_command h (commands.Launch name) = gives_launch h (commands.Launch name) name
-gives_command h commands.Boot = gives_boot h
+command_leaves h (commands.Edit e) = edit_leaves h e
+command_leaves h (commands.Propose p) = as_put (gives_answer h p)
+command_leaves h (commands.Launch name) = as_put (gives_launch h (commands.Launch name) name)
+command_leaves h commands.Boot = as_put (gives_boot h)
 
-pub list_put : (h : Holdings) (c : Command) → ListPut h (next h c).0.next_snapshot c (instances (next h c).0)
+list_left : (h : Holdings) (c : Command) → ListLeft h (next h c).0.next_snapshot c (instances (next h c).0)
 unfolding next
-list_put h c = gives_command h c
+list_left h c = command_leaves h c
 
 -- ---- each instance
 
@@ -116,6 +119,36 @@ at_booted h m c n gs is b = found_as h m c n _ _ (booted_at h gs n b) (by (insta
     by None e = absent e refl
     by (Some i) e = boots i (booted gs i) (owner_by (setting gs i)) e refl is refl
 
+-- a number that was raised is not 0
+raised : (m n : ℕ) → m ≡ n + 1 → m ≡ 0 → ⊥
+raised m n e f = omega arith
+
+owned_put : (h : Holdings) (m : ℕ) (c : Command) (n : ℕ) (before : Row) (gs : Groups) (j : Instance) → j.row.number ≡ 0 → RowPut h m c n before j.row → RowPut h m c n before (current gs j).row
+owned_put h m c n before gs j zero (quiet q) =
+    let shows : IsShown j (current gs j) = is_shown gs j in
+    quiet (record {
+      stays = stays_on before j.row (current gs j).row q.stays (current_row gs j).row;
+      running = subst (λ (x : Option ℕ). TakesOrKeeps h m before (record j.row { running = x })) (ap (λ (r : Row). r.running) (sym shows.row)) q.running;
+    })
+owned_put h m c n before gs j zero (granted p is at g) = absurd (raised j.row.number g.read.number (ap (λ (r : Row). r.number) g.left) zero)
+owned_put h m c n before gs j zero (handed is g) = absurd (raised j.row.number before.number (ap (λ (r : Row). r.number) g.left) zero)
+
+at_owned : (h : Holdings) (m : ℕ) (c : Command) (n : ℕ) (gs : Groups) (o p q : Option Instance) → RowMoves h m c n o p → Written gs p q → RowMoves h m c n o q
+at_owned h m c n gs o p q a (stays_so e) = subst (RowMoves h m c n o) (sym e) a
+at_owned h m c n gs o p q a (is_read j there zero e) = by a
+  where
+    new : j.row ≡ fresh j.row.owner → (current gs j).row ≡ fresh (current gs j).row.owner
+    new f = (is_shown gs j).row ∙ ap (λ (r : Row). record r { owner = (current gs j).row.owner }) f
+
+    by : RowMoves h m c n o p → RowMoves h m c n o q
+    by (absent f g) = absurd (no_such p j g there)
+    by (goes i k f g r) = goes i (current gs j) f e (owned_put h m c n i.row gs j zero (subst (λ (x : Instance). RowPut h m c n i.row x.row) (some_same k j (sym g ∙ there)) r))
+    by (joins k f g is began) = joins (current gs j) f e is (new (subst (λ (x : Instance). x.row ≡ fresh x.row.owner) (some_same k j (sym g ∙ there)) began))
+    by (leaves i f g is rest) = absurd (no_such p j g there)
+    by (boots i k owner f g is began) =
+        let booted_now : j.row ≡ booted_row i.row owner = subst (λ (x : Instance). x.row ≡ booted_row i.row owner) (some_same k j (sym g ∙ there)) began in
+        absurd (raised j.row.number i.row.number (ap (λ (r : Row). r.number) booted_now) zero)
+
 moves_at : (h : Holdings) (m : ℕ) (c : Command) (n : ℕ) (xs : List Instance) → ListPut h m c xs → IsNumbered h → At h m c n xs
 moves_at h m c n xs (alike e) b = at_list h m c n xs _ e (unmoved h m c n (instance h n))
 moves_at h m c n xs (joined name e) b = at_list h m c n xs _ e (at_joined h m c n name b)
@@ -123,8 +156,14 @@ moves_at h m c n xs (left d i there is rest e) b = at_list h m c n xs _ e (at_le
 moves_at h m c n xs (put l i x there number p e) b = at_list h m c n xs _ e (at_over h m c n l i x there number p)
 moves_at h m c n xs (each is gs e) b = at_list h m c n xs _ e (at_booted h m c n gs is b)
 
+left_at : (h : Holdings) (m : ℕ) (c : Command) (n : ℕ) (xs : List Instance) → ListLeft h m c xs → IsNumbered h → At h m c n xs
+left_at h m c n xs (as_put p) b = moves_at h m c n xs p b
+left_at h m c n xs (written ys p gs js held e) b =
+    at_list h m c n xs (put_each (current gs) js ys) e
+    (at_owned h m c n gs (instance h n) (lookup by_instance ys n) (lookup by_instance (put_each (current gs) js ys) n) (moves_at h m c n ys p b) (at_written gs js ys n (held b)))
+
 pub row_moves : (h : Holdings) (c : Command) (n : ℕ) → IsNumbered h → RowMoves h (next h c).0.next_snapshot c n (instance h n) (instance (next h c).0 n)
-row_moves h c n b = moves_at h (next h c).0.next_snapshot c n (instances (next h c).0) (list_put h c) b
+row_moves h c n b = left_at h (next h c).0.next_snapshot c n (instances (next h c).0) (list_left h c) b
 
 -- ---- the whole
 

@@ -15,12 +15,11 @@ use Rattle.smf_state.specs.declared.refusal.Why.{Why}
 use Rattle.smf_state.specs.declared.refusal.Why.TheVariants as whys
 use Rattle.smf_model.specs.declared.held.Instance.{Instance}
 use Rattle.smf_model.specs.Holdings.{Holdings}
-use Rattle.smf_model.specs.Laws.{Stays}
+use Rattle.smf_model.specs.Laws.{IsNumbered, Stays}
 use Rattle.smf_model.specs.Look.{by_instance, installed, instance, instances, launch_of, put_over}
 use Rattle.smf_model.specs.Next.{booted, booted_row, is_again, is_other_snapshot, moved_row, new_instance}
-use Rattle.smf_state.specs.OwnName.{startd}
-use Rattle.smf_model.specs.Setting.{Groups}
-use Rattle.smf_model.proofs.LawOutcomes.{put_each}
+use Rattle.smf_model.specs.Setting.{Groups, current}
+use Rattle.smf_model.proofs.Written.{AreHeldAtZero, put_each}
 use Rattle.smf_world.proofs.RowClauses.{fits}
 
 -- ---- one row
@@ -85,11 +84,16 @@ pub data ListPut (h : Holdings) (m : ℕ) (c : Command) (xs : List Instance) : T
   put : (n : ℕ) (i x : Instance) → instance h n ≡ Some i → x.number ≡ n → RowPut h m c n i.row x.row → xs ≡ put_over x (instances h) → ListPut h m c xs
   each : c ≡ commands.Boot → (gs : Groups) → xs ≡ put_each (booted gs) (instances h) (instances h) → ListPut h m c xs
 
+-- what it leaves of the list: owners may be written behind, into rows with number 0
+pub data ListLeft (h : Holdings) (m : ℕ) (c : Command) (xs : List Instance) : Type 0 where
+  as_put : ListPut h m c xs → ListLeft h m c xs
+  written : (ys : List Instance) → ListPut h m c ys → (gs : Groups) (js : List Instance) → (IsNumbered h → AreHeldAtZero ys js) → xs ≡ put_each (current gs) js ys → ListLeft h m c xs
+
 -- the instance n before a command and behind it
 pub data RowMoves (h : Holdings) (m : ℕ) (c : Command) (n : ℕ) (o p : Option Instance) : Type 0 where
   absent : o ≡ None → p ≡ None → RowMoves h m c n o p
   goes : (i j : Instance) → o ≡ Some i → p ≡ Some j → RowPut h m c n i.row j.row → RowMoves h m c n o p
-  joins : (j : Instance) → o ≡ None → p ≡ Some j → n ≡ h.next_instance → j.row ≡ fresh startd → RowMoves h m c n o p
+  joins : (j : Instance) → o ≡ None → p ≡ Some j → n ≡ h.next_instance → j.row ≡ fresh j.row.owner → RowMoves h m c n o p
   leaves : (i : Instance) → o ≡ Some i → p ≡ None → c ≡ commands.Edit (edits.DeleteInstance n) → IsAtRest i.row → RowMoves h m c n o p
   boots : (i j : Instance) (owner : List ℕ) → o ≡ Some i → p ≡ Some j → c ≡ commands.Boot → j.row ≡ booted_row i.row owner → RowMoves h m c n o p
 

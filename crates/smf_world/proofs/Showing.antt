@@ -23,3 +23,7 @@ next_over o before x e d = rw (e, is_next x.row.number before.row.number d) refl
 pub not_shown : {X : Type 0} (f : X → Option Item) (xs : List X) (x : X) → f x ≡ None → filter_map f (xs ++ x ∷ []) ≡ filter_map f xs
 not_shown f [] x e = ap (λ (o : Option Item). cons_option o []) e
 not_shown f (y ∷ ys) x e = ap (λ (zs : List Item). cons_option (f y) zs) (not_shown f ys x e)
+
+pub none_shown : {X : Type 0} (f : X → Option Item) (xs ys : List X) → filter_map f ys ≡ [] → filter_map f (xs ++ ys) ≡ filter_map f xs
+none_shown f [] ys e = e
+none_shown f (x ∷ xs) ys e = ap (λ (zs : List Item). cons_option (f x) zs) (none_shown f xs ys e)
