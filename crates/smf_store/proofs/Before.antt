@@ -7,7 +7,7 @@ use Rattle.sqlite.specs.State.{State, IsLive, Survives}
 use Rattle.sqlite.proofs.StateLemmas.{survives_then}
 use Rattle.smf_tables.specs.Layout.{Begins, Rest, StandsNamed, StandsSomewhere, begun_1, begun_2, begun_3, begun_4, begun_5, begun_6}
 use Rattle.smf_tables.specs.Reading.{Looks, LooksAtMeta, LooksAtServices, LooksAtInstances, LooksAtGroups, LooksAtSnapshots, LooksAtLaunches, LooksForSnapshots, AreShown}
-use Rattle.smf_tables.specs.Rows.{IsKeyed}
+use Rattle.smf_tables.specs.Rows.{AreKeyed}
 use Rattle.smf_tables.specs.Schema.{snap_at, store_schema}
 use Rattle.smf_tables.proofs.Begun.{begins_1, begins_2, begins_3, begins_4, begins_5, begins_6}
 use Rattle.smf_store.specs.declared.judging.StoreRows.{StoreRows}
@@ -86,7 +86,7 @@ module _ (begun : Rest → Schema) (tree : ℕ) (places : List ℕ) (rows : List
   open_if true l back o = back l.shows.was_open
   open_if false l back o = back (l.1 o)
 
-  listed_if : (b : Bool) → (b ≡ true → Begins begun a.now.schema) → LooksIf b (Looks begun tree places) p n rows → p.now ≡ a.now → (IsTrue p.is_open → IsTrue a.is_open) → IsLive a → IsKeyed rows
+  listed_if : (b : Bool) → (b ≡ true → Begins begun a.now.schema) → LooksIf b (Looks begun tree places) p n rows → p.now ≡ a.now → (IsTrue p.is_open → IsTrue a.is_open) → IsLive a → AreKeyed rows
       → ListedIf b tree places a.now.trees rows
   listed_if true has l is back live keyed = record {
     shown = subst (λ (d : Database). AreShown places (d.trees tree) rows) is
@@ -106,7 +106,7 @@ module _ (rows : List Row) (a p n : State) where
   same_named false has l is back live = l.0 ∙ is
 
   looked_for : (are_there : Bool) → (IsTrue are_there ↔ StandsSomewhere a.now.schema snap_at) → LooksIf are_there LooksForSnapshots p n rows → p.now ≡ a.now → (IsTrue p.is_open → IsTrue a.is_open) → IsLive a
-      → IsKeyed rows → AreLookedFor a.now rows
+      → AreKeyed rows → AreLookedFor a.now rows
   looked_for true has l is back live keyed = record {
     listed = λ tree first. record {
       shown = subst (λ (d : Database). AreShown (0 ∷ 0 ∷ 2 ∷ 3 ∷ []) (d.trees tree) rows) is
@@ -132,7 +132,7 @@ module _ (rows : List Row) (a p n : State) where
     same_snapshots (Some Restarter) first l named = same_if begun_5 8 (0 ∷ 0 ∷ 2 ∷ 3 ∷ []) rows a p n true (has_5 a.now.schema (Some Restarter) first) l is
 
     are_snapshots : (other : Option StoreTable) → IsFirstOther a.now.schema other → LooksIf (reads_snapshots other are_there) LooksAtSnapshots p n rows
-        → LooksIf (reads_snapshots other are_there) LooksForSnapshots p n rows → IsKeyed rows → AreSnapshots other a.now rows
+        → LooksIf (reads_snapshots other are_there) LooksForSnapshots p n rows → AreKeyed rows → AreSnapshots other a.now rows
     are_snapshots (Some Group) first l named keyed = looked_for are_there has named is back live keyed
     are_snapshots None first l named keyed = listed_if begun_5 8 (0 ∷ 0 ∷ 2 ∷ 3 ∷ []) rows a p n true (has_5 a.now.schema None first) l is back live keyed
     are_snapshots (Some Meta) first l named keyed = l.2

@@ -123,7 +123,7 @@ listed_none : {X : Type 0} (S : X → Row → Type 0) (rows : List Row) → rows
 listed_none S rows is = subst (Listed (λ x. ⊥) S) (sym is) (record { there = λ x h. absurd h; only = λ r h. absurd h; keyed = keyed_none })
 
 counted_none : (rows : List Row) → rows ≡ [] → Counted (λ x. ⊥) rows
-counted_none rows is = subst (Counted (λ x. ⊥)) (sym is) (record { there = λ x h. absurd h; only = λ r h c key. absurd h; keyed = keyed_none })
+counted_none rows is = subst (Counted (λ x. ⊥)) (sym is) (record { there = λ x h. absurd h; only = λ r h c key. absurd h; texts = λ r h. absurd h; keyed = keyed_none })
 
 abbrev none : Six
 none = record { counts = λ x. ⊥; services = λ x. ⊥; instances = λ x. ⊥; groups = λ x. ⊥; snapshots = λ x. ⊥; launches = λ x. ⊥ }

@@ -86,11 +86,13 @@ second_finds c rows a NextSnapshot = a.next_snapshot
 counts_in : (version : StoreVersion) (c : Counters) (rows : List Row) → AreCounters version c rows → AreCounted (HasCountIn version (begun c)) rows
 counts_in versions.First c rows a = record {
   there = λ x m. let f = first_finds c rows a x.counter x.value m in (f.row, f.there, record { counter_is = f.key_is; value_is = f.value_is });
-  only = λ r h k key. first_shown c rows a r h k (a.known r h k key) key;
+  only = λ r h k key. first_shown c rows a r h k ((a.known r h).counter k key) key;
+  texts = λ r h. (a.known r h).text;
 }
 counts_in versions.Second c rows a = record {
   there = λ x m. let f = second_finds c rows a x.counter in (f.row, f.there, record { counter_is = f.key_is; value_is = f.value_is ∙ ap (λ n. Int (pos n)) m });
   only = λ r h k key. (record { counter = k; value = count_of (begun c) k }, refl, record { counter_is = key; value_is = (second_finds c rows a k).only r h key });
+  texts = λ r h. (a.known r h).text;
 }
 
 module _ (version : StoreVersion) (c : Counters) (rows : List Row) (a : AreCounters version c rows) where

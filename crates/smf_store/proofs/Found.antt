@@ -16,7 +16,7 @@ module _ {X K : Type 0} (o : By X K) where
   found_has [] k x e = absurd cc
   found_has (y ∷ ys) k x e = found_by k y ys x (has_key o k y) e (found_has ys k x)
 
-  all_above : (xs : List X) (k : K) (x : X) → IsBelowFirst o k xs → Rises o xs → Has xs x → o.cmp k (o.key x) ≡ Less
+  pub all_above : (xs : List X) (k : K) (x : X) → IsBelowFirst o k xs → Rises o xs → Has xs x → o.cmp k (o.key x) ≡ Less
   all_above [] k x b r h = absurd h
   all_above (y ∷ ys) k x b r (inl same) = ap (λ z. o.cmp k (o.key z)) same ∙ b
   all_above (y ∷ ys) k x b r (inr more) = all_above ys k x (first_below o k (o.key y) ys b r.0) r.1 more

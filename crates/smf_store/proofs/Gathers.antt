@@ -53,6 +53,7 @@ counts_before : {M N : Count → Type 0} {rows : List Row} → AreCounted M rows
 counts_before m forth back = record {
   there = λ x n. m.there x (back x n);
   only = λ r h c key. let x = m.only r h c key in (x.0, forth x.0 x.1, x.2);
+  texts = m.texts;
 }
 
 -- ---- a service, which has no groups yet

@@ -1,6 +1,9 @@
 -- The keys of counters, and the counters of a store.
 use Rattle.std.proofs.Common.{◌≡◌, ◌≤◌, inl, inr, ℕ, ℤ, List, [], ◌∷◌, ◌&&◌, Bool, true, false, Option, Some, None, refl, ap, ◌∙◌, arith, codes, sym}
-use Rattle.std.specs.Prelude.{nat_le, IfSome}
+use Rattle.std.specs.Prelude.{nat_le, IfSome, IsUtf8}
+use Rattle.std.proofs.lemmas.Str.{IsUtf8-from_is_utf8}
+use Rattle.sqlite.specs.declared.types.Value.{Value}
+use Rattle.sqlite.specs.declared.types.Value.TheVariants.{Null, Int, Real, Text, Blob}
 use Rattle.std.proofs.lemmas.Bool.Decides.{nat_tests}
 use Rattle.std.specs.List.{list_all}
 use Rattle.std.specs.Option.{option_map_or}
@@ -39,9 +42,21 @@ known_by versions.First r e NextInstance key = tt
 known_by versions.First r e NextSnapshot key = tt
 known_by versions.Second r e c key = tt
 
+text_by : (b : Bool) (p : List ℕ → Bool) (t : List ℕ) → is_utf8 t ≡ b → option_map_or p (given b t) false ≡ true → IsUtf8 t
+text_by true p t e h = IsUtf8-from_is_utf8 t e
+text_by false p t e h = absurd cc
+
+-- a value that a test of texts passes is a text
+text_of : (p : List ℕ → Bool) (v : Value) → option_map_or p (text_in v) false ≡ true → (t : List ℕ) × (v ≡ Text t) × IsUtf8 t
+text_of p Null h = absurd cc
+text_of p (Int n) h = absurd cc
+text_of p (Real x) h = absurd cc
+text_of p (Text t) h = (t, refl, text_by (is_utf8 t) p t refl h)
+text_of p (Blob b) h = absurd cc
+
 known_row : (version : StoreVersion) (r : Row) → is_known version r ≡ true → IsKnown version r
 unfolding is_known
-known_row version r e = known_by version r e
+known_row version r e = record { text = text_of (may_stand version) (column r 1) e; counter = known_by version r e }
 
 pub all_known : (version : StoreVersion) (rows : List Row) → list_all (is_known version) rows ≡ true → (r : Row) → Has rows r → IsKnown version r
 all_known version [] e r h = absurd h

@@ -22,3 +22,16 @@ pub mod Before
 pub mod Crashes
 pub mod Agreeing
 pub mod Keys
+pub mod Spelt
+pub mod Once
+pub mod Sole
+pub mod InTurn
+pub mod Again
+pub mod Recount
+pub mod TakenRows
+pub mod TakenGroups
+pub mod StandsAgain
+pub mod OpensAgain
+pub mod Accepts
+pub mod KeepsRules
+pub mod ConsistentAgain

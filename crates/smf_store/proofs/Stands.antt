@@ -61,28 +61,29 @@ counted all rows seen keyed m = record {
       let s = seen.sound r.0 r.1 in
       (s.0, s.1, count_back x s.0 (subst (ShowsCount x) s.2 r.2));
   only = λ r h c key. let x = m.only (shown (0 ∷ 1 ∷ 2 ∷ []) r) (seen.complete r h) c key in (x.0, x.1, count_back x.0 r x.2);
+  texts = λ r h. m.texts (shown (0 ∷ 1 ∷ 2 ∷ []) r) (seen.complete r h);
   keyed = seen.keyed keyed;
 }
 
-instance_forth : (x : Instance) (r : Row) → ShowsInstance x r → ShowsInstance x (shown (0 ∷ 0 ∷ 2 ∷ 3 ∷ 4 ∷ 5 ∷ 6 ∷ []) r)
+pub instance_forth : (x : Instance) (r : Row) → ShowsInstance x r → ShowsInstance x (shown (0 ∷ 0 ∷ 2 ∷ 3 ∷ 4 ∷ 5 ∷ 6 ∷ []) r)
 instance_forth x r s = record { again = s.again; service = s.service; name = s.name; split = s.split; number_is = s.number_is; service_is = s.service_is; name_is = s.name_is; row_is = s.row_is; start_is = s.start_is; previous_is = s.previous_is }
 
 instance_back : (x : Instance) (r : Row) → ShowsInstance x (shown (0 ∷ 0 ∷ 2 ∷ 3 ∷ 4 ∷ 5 ∷ 6 ∷ []) r) → ShowsInstance x r
 instance_back x r s = record { again = s.again; service = s.service; name = s.name; split = s.split; number_is = s.number_is; service_is = s.service_is; name_is = s.name_is; row_is = s.row_is; start_is = s.start_is; previous_is = s.previous_is }
 
-group_forth : (x : OwnedGroup) (r : Row) → ShowsGroup x r → ShowsGroup x (shown (0 ∷ 1 ∷ 2 ∷ 3 ∷ 4 ∷ []) r)
+pub group_forth : (x : OwnedGroup) (r : Row) → ShowsGroup x r → ShowsGroup x (shown (0 ∷ 1 ∷ 2 ∷ 3 ∷ 4 ∷ []) r)
 group_forth x r s = record { formed = s.formed; service_is = s.service_is; number_is = s.number_is; name_is = s.name_is; body_is = s.body_is }
 
 group_back : (x : OwnedGroup) (r : Row) → ShowsGroup x (shown (0 ∷ 1 ∷ 2 ∷ 3 ∷ 4 ∷ []) r) → ShowsGroup x r
 group_back x r s = record { formed = s.formed; service_is = s.service_is; number_is = s.number_is; name_is = s.name_is; body_is = s.body_is }
 
-snapshot_forth : (x : Snapshot) (r : Row) → ShowsSnapshot x r → ShowsSnapshot x (shown (0 ∷ 0 ∷ 2 ∷ 3 ∷ []) r)
+pub snapshot_forth : (x : Snapshot) (r : Row) → ShowsSnapshot x r → ShowsSnapshot x (shown (0 ∷ 0 ∷ 2 ∷ 3 ∷ []) r)
 snapshot_forth x r s = record { service = s.service; instance = s.instance; number_is = s.number_is; instance_is = s.instance_is; body_is = s.body_is }
 
 snapshot_back : (x : Snapshot) (r : Row) → ShowsSnapshot x (shown (0 ∷ 0 ∷ 2 ∷ 3 ∷ []) r) → ShowsSnapshot x r
 snapshot_back x r s = record { service = s.service; instance = s.instance; number_is = s.number_is; instance_is = s.instance_is; body_is = s.body_is }
 
-launch_forth : (x : Launch) (r : Row) → ShowsLaunch x r → ShowsLaunch x (shown (0 ∷ 1 ∷ 2 ∷ []) r)
+pub launch_forth : (x : Launch) (r : Row) → ShowsLaunch x r → ShowsLaunch x (shown (0 ∷ 1 ∷ 2 ∷ []) r)
 launch_forth x r s = record { restarter_is = s.restarter_is; count_is = s.count_is }
 
 launch_back : (x : Launch) (r : Row) → ShowsLaunch x (shown (0 ∷ 1 ∷ 2 ∷ []) r) → ShowsLaunch x r
@@ -95,12 +96,12 @@ module _ (db : Database) (rows : StoreRows) (h : Holdings) (has : db.schema ≡ 
       schema = has;
       sound = sound;
       show = record {
-        counts = counted (db.trees 0) rows.counts.items l.counts.shown l.counts.keyed a.counts;
-        services = listed (0 ∷ 1 ∷ []) (db.trees 2) rows.services.items l.services.shown l.services.keyed (λ x r s. s) (λ x r s. s) a.services;
-        instances = listed (0 ∷ 0 ∷ 2 ∷ 3 ∷ 4 ∷ 5 ∷ 6 ∷ []) (db.trees 4) rows.instances.items l.instances.shown l.instances.keyed instance_forth instance_back a.instances;
-        groups = listed (0 ∷ 1 ∷ 2 ∷ 3 ∷ 4 ∷ []) (db.trees 6) rows.groups.items l.groups.shown l.groups.keyed group_forth group_back a.groups;
-        snapshots = listed (0 ∷ 0 ∷ 2 ∷ 3 ∷ []) (db.trees 8) rows.snapshots.items l.snapshots.shown l.snapshots.keyed snapshot_forth snapshot_back a.snapshots;
-        launches = listed (0 ∷ 1 ∷ 2 ∷ []) (db.trees 9) rows.launches.items l.launches.shown l.launches.keyed launch_forth launch_back a.launches;
+        counts = counted (db.trees 0) rows.counts.items l.counts.shown l.counts.keyed.keyed a.counts;
+        services = listed (0 ∷ 1 ∷ []) (db.trees 2) rows.services.items l.services.shown l.services.keyed.keyed (λ x r s. s) (λ x r s. s) a.services;
+        instances = listed (0 ∷ 0 ∷ 2 ∷ 3 ∷ 4 ∷ 5 ∷ 6 ∷ []) (db.trees 4) rows.instances.items l.instances.shown l.instances.keyed.keyed instance_forth instance_back a.instances;
+        groups = listed (0 ∷ 1 ∷ 2 ∷ 3 ∷ 4 ∷ []) (db.trees 6) rows.groups.items l.groups.shown l.groups.keyed.keyed group_forth group_back a.groups;
+        snapshots = listed (0 ∷ 0 ∷ 2 ∷ 3 ∷ []) (db.trees 8) rows.snapshots.items l.snapshots.shown l.snapshots.keyed.keyed snapshot_forth snapshot_back a.snapshots;
+        launches = listed (0 ∷ 1 ∷ 2 ∷ []) (db.trees 9) rows.launches.items l.launches.shown l.launches.keyed.keyed launch_forth launch_back a.launches;
       };
       arranged = a.arranged;
     };
@@ -111,12 +112,12 @@ module _ (db : Database) (rows : StoreRows) (h : Holdings) (has : db.schema ≡ 
   stands_first a = record {
     schema = has;
     sound = sound;
-    counts = counted (db.trees 0) rows.counts.items l.counts.shown l.counts.keyed a.counts;
-    services = listed (0 ∷ 1 ∷ []) (db.trees 2) rows.services.items l.services.shown l.services.keyed (λ x r s. s) (λ x r s. s) a.services;
-    instances = listed (0 ∷ 0 ∷ 2 ∷ 3 ∷ 4 ∷ 5 ∷ 6 ∷ []) (db.trees 4) rows.instances.items l.instances.shown l.instances.keyed instance_forth instance_back a.instances;
-    groups = listed (0 ∷ 1 ∷ 2 ∷ 3 ∷ 4 ∷ []) (db.trees 6) rows.groups.items l.groups.shown l.groups.keyed group_forth group_back a.groups;
-    snapshots = listed (0 ∷ 0 ∷ 2 ∷ 3 ∷ []) (db.trees 8) rows.snapshots.items l.snapshots.shown l.snapshots.keyed snapshot_forth snapshot_back a.snapshots;
-    launches = listed (0 ∷ 1 ∷ 2 ∷ []) (db.trees 9) rows.launches.items l.launches.shown l.launches.keyed launch_forth launch_back a.launches;
+    counts = counted (db.trees 0) rows.counts.items l.counts.shown l.counts.keyed.keyed a.counts;
+    services = listed (0 ∷ 1 ∷ []) (db.trees 2) rows.services.items l.services.shown l.services.keyed.keyed (λ x r s. s) (λ x r s. s) a.services;
+    instances = listed (0 ∷ 0 ∷ 2 ∷ 3 ∷ 4 ∷ 5 ∷ 6 ∷ []) (db.trees 4) rows.instances.items l.instances.shown l.instances.keyed.keyed instance_forth instance_back a.instances;
+    groups = listed (0 ∷ 1 ∷ 2 ∷ 3 ∷ 4 ∷ []) (db.trees 6) rows.groups.items l.groups.shown l.groups.keyed.keyed group_forth group_back a.groups;
+    snapshots = listed (0 ∷ 0 ∷ 2 ∷ 3 ∷ []) (db.trees 8) rows.snapshots.items l.snapshots.shown l.snapshots.keyed.keyed snapshot_forth snapshot_back a.snapshots;
+    launches = listed (0 ∷ 1 ∷ 2 ∷ []) (db.trees 9) rows.launches.items l.launches.shown l.launches.keyed.keyed launch_forth launch_back a.launches;
     arranged = a.arranged;
     numbered = a.numbered;
   }
@@ -236,7 +237,7 @@ failure_said trees (OtherVersion n) f = absurd f
 failure_said trees (Damaged table) f = absurd f
 failure_said trees TooManyInstances f = absurd f
 
-failure_of : (w : WriteFault) → IsFailure (open_fault w)
+pub failure_of : (w : WriteFault) → IsFailure (open_fault w)
 failure_of write.Memory = tt
 failure_of write.Database = tt
 

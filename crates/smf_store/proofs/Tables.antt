@@ -4,8 +4,9 @@ use Rattle.sqlite.specs.Order.{Row}
 use Rattle.sqlite_rules.specs.Lists.{Has}
 use Rattle.smf_value.specs.Groups.{GroupRecord}
 use Rattle.smf_tables.specs.Rows.{Loses, Gains}
-use Rattle.smf_store.specs.Shown.{OwnedGroup, ShowsGroup, Count, ShowsCount}
+use Rattle.smf_store.specs.Shown.{OwnedGroup, ShowsGroup, Count, ShowsCount, HasTextKey}
 use Rattle.smf_store.specs.Holds.{Listed, Counted}
+use Rattle.smf_store.proofs.Spelt.{text_key}
 use Rattle.smf_store.specs.Steps.{Adds, Grows, owned_by}
 
 module _ {X : Type 0} {M : X → Type 0} {S : X → Row → Type 0} {old : List Row} (is : Listed M S old) where
@@ -48,6 +49,7 @@ module _ {M : Count → Type 0} {old : List Row} (is : Counted M old) where
   counts_lost picked l Goes kept spared = record {
     there = λ x m. let r = is.there x m.0 in (r.0, l.stays r.0 r.1 (spared x r.0 r.2 m.1), r.2);
     only = λ r h c key. let w = l.was r h in let x = is.only r w.0 c key in (x.0, (x.1, kept x.0 r x.2 w.1), x.2);
+    texts = λ r h. is.texts r (l.was r h).0;
     keyed = l.keyed;
   }
 
@@ -61,6 +63,7 @@ module _ {M : Count → Type 0} {old : List Row} (is : Counted M old) where
       | inl same ↦ (x, inl refl, subst (ShowsCount x) (sym same) shows)
       | inr old_one ↦ let y = is.only r old_one c key in (y.0, inr y.1, y.2)
     ];
+    texts = λ r h. elim (g.was r h) [ inl same ↦ subst HasTextKey (sym same) (text_key x row shows) | inr old_one ↦ is.texts r old_one ];
     keyed = g.keyed;
   }
 
@@ -68,6 +71,7 @@ module _ {M : Count → Type 0} {old : List Row} (is : Counted M old) where
   counts_become forth back = record {
     there = λ x n. is.there x (back x n);
     only = λ r h c key. let x = is.only r h c key in (x.0, forth x.0 x.1, x.2);
+    texts = is.texts;
     keyed = is.keyed;
   }
 

@@ -20,3 +20,7 @@ pub record NameOwn (h : Holdings) : Type 0 where
 -- the launch of a row is not past the last of its restarter
 pub record AreLaunched (h : Holdings) : Type 0 where
   pub launched : (k : ℕ) (i : Instance) → instance h k ≡ Some i → i.row.launch ≤ launch_of h i.row.owner
+
+-- a row with the number 0 keeps no launch; an open does not judge this
+abbrev pub AreUnlaunched : Holdings → Type 0
+AreUnlaunched h = (n : ℕ) (i : Instance) → instance h n ≡ Some i → i.row.number ≡ 0 → i.row.launch ≡ 0

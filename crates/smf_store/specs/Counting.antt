@@ -6,7 +6,7 @@ use Rattle.sqlite_rules.specs.Lists.{Has}
 use Rattle.smf_store.specs.declared.counting.Counters.{Counters}
 use Rattle.smf_store.specs.declared.counting.StoreVersion.{StoreVersion}
 use Rattle.smf_store.specs.declared.counting.StoreVersion.TheVariants as versions
-use Rattle.smf_store.specs.Shown.{Counter, Layout, HasKey}
+use Rattle.smf_store.specs.Shown.{Counter, Layout, HasKey, HasTextKey}
 
 -- one row has the key, and this value, and no other row has the key with another
 pub record Finds (key : List ℕ) (v : ℤ) (rows : List Row) : Type 0 where
@@ -32,9 +32,10 @@ IsCounterOf versions.First Layout = ⊥
 IsCounterOf versions.First _ = Unit {0}
 IsCounterOf versions.Second _ = Unit {0}
 
--- a row has no key of the other version alone
-abbrev pub IsKnown : StoreVersion → Row → Type 0
-IsKnown version r = (c : Counter) → HasKey r c → IsCounterOf version c
+-- the key of a row is a text, and not one of the other version alone
+pub record IsKnown (version : StoreVersion) (r : Row) : Type 0 where
+  pub text : HasTextKey r
+  pub counter : (c : Counter) → HasKey r c → IsCounterOf version c
 
 abbrev pub number_of_version : StoreVersion → ℕ
 number_of_version versions.First = 1

@@ -6,7 +6,7 @@ use Rattle.smf_model.specs.Holdings.{Holdings}
 use Rattle.smf_model.specs.Laws.{IsNumbered}
 use Rattle.smf_store.specs.declared.counting.StoreVersion.{StoreVersion}
 use Rattle.smf_store.specs.declared.judging.StoreRows.{StoreRows}
-use Rattle.smf_store.specs.Shown.{HasCountIn, ShowsCount, HasService, ShowsService, HasInstance, ShowsInstance, HasGroup, ShowsGroup, HasSnapshot, ShowsSnapshot, HasLaunch, ShowsLaunch, Count, Counter, HasKey}
+use Rattle.smf_store.specs.Shown.{HasCountIn, ShowsCount, HasService, ShowsService, HasInstance, ShowsInstance, HasGroup, ShowsGroup, HasSnapshot, ShowsSnapshot, HasLaunch, ShowsLaunch, Count, Counter, HasKey, HasTextKey}
 use Rattle.smf_store.specs.Holds.{IsArranged}
 
 -- each member has a row, and each row shows a member
@@ -14,10 +14,11 @@ pub record Matches {X : Type 0} (Member : X → Type 0) (Shows : X → Row → T
   pub there : (x : X) → Member x → (r : Row) × Has rows r × Shows x r
   pub only : (r : Row) → Has rows r → (x : X) × Member x × Shows x r
 
--- the same of the counters, of which each has a key: other rows say nothing
+-- the same of the counters, of which each has a key: a row whose key is another text says nothing
 pub record AreCounted (Member : Count → Type 0) (rows : List Row) : Type 0 where
   pub there : (x : Count) → Member x → (r : Row) × Has rows r × ShowsCount x r
   pub only : (r : Row) → Has rows r → (c : Counter) → HasKey r c → (x : Count) × Member x × ShowsCount x r
+  pub texts : (r : Row) → Has rows r → HasTextKey r
 
 -- the rows of each table that were read, of a store of this version
 pub record Rows : Type 0 where

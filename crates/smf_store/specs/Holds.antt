@@ -15,7 +15,7 @@ use Rattle.smf_model.specs.Holdings.{Holdings}
 use Rattle.smf_model.specs.Laws.{IsNumbered, IsOrdered}
 use Rattle.smf_model.specs.Look.{by_entry, service}
 use Rattle.smf_store.specs.declared.counting.StoreVersion.TheVariants as versions
-use Rattle.smf_store.specs.Shown.{HasCount, HasCountIn, ShowsCount, HasService, ShowsService, HasInstance, ShowsInstance, HasGroup, ShowsGroup, HasSnapshot, ShowsSnapshot, HasLaunch, ShowsLaunch, Count, Counter, HasKey}
+use Rattle.smf_store.specs.Shown.{HasCount, HasCountIn, ShowsCount, HasService, ShowsService, HasInstance, ShowsInstance, HasGroup, ShowsGroup, HasSnapshot, ShowsSnapshot, HasLaunch, ShowsLaunch, Count, Counter, HasKey, HasTextKey}
 
 -- each member has a row, each row shows a member, and each rowid names one row
 pub record Listed {X : Type 0} (Member : X → Type 0) (Shows : X → Row → Type 0) (rows : List Row) : Type 0 where
@@ -23,10 +23,11 @@ pub record Listed {X : Type 0} (Member : X → Type 0) (Shows : X → Row → Ty
   pub only : (r : Row) → Has rows r → (x : X) × Member x × Shows x r
   pub keyed : IsKeyed rows
 
--- the same of the counters: a row that has no counter's key says nothing, and may stand there
+-- the same of the counters: a row whose key is another text says nothing, and may stand there
 pub record Counted (Member : Count → Type 0) (rows : List Row) : Type 0 where
   pub there : (x : Count) → Member x → (r : Row) × Has rows r × ShowsCount x r
   pub only : (r : Row) → Has rows r → (c : Counter) → HasKey r c → (x : Count) × Member x × ShowsCount x r
+  pub texts : (r : Row) → Has rows r → HasTextKey r
   pub keyed : IsKeyed rows
 
 -- the six tables show a value

@@ -1,5 +1,6 @@
 -- What the opening of a store does.
 use Rattle.std.specs.Prelude.{◌≡◌, Ok}
+use Rattle.sqlite.specs.Effect.{Database}
 use Rattle.sqlite.specs.Held.{Held, state}
 use Rattle.sqlite.specs.State.{State, HasCleanDisk}
 use Rattle.sqlite.specs.Store.{Ghosts}
@@ -16,6 +17,11 @@ use Rattle.smf_store.specs.Stages.{IsFailure, IsRaised, Says}
 pub data IsFoundIn (old new : State) (h : Holdings) : Type 0 where
   made : old.now.schema ≡ no_schema → h ≡ empty → IsFoundIn old new h
   read : IsRaised old.now new.now h → Says old.now.trees (Ok h) → IsFoundIn old new h
+
+-- a database is a store of this value, in either version
+pub data IsStoreOf (db : Database) (h : Holdings) : Type 0 where
+  in_second : Stands db h → IsStoreOf db h
+  in_first : StandsFirst db h → IsStoreOf db h
 
 -- a crash of an open may leave this in the file, besides what it could leave before:
 -- of an empty database, a store of the empty value;

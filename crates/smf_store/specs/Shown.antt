@@ -1,5 +1,5 @@
 -- How what is held is shown by the rows of the tables: a row shows by its columns, of which the first is its rowid.
-use Rattle.std.specs.Prelude.{◌≡◌, ℕ, ◌<◌, pos, List, [], ◌∷◌, ◌++◌, codes, Option, Some, None, option_map, Ok}
+use Rattle.std.specs.Prelude.{◌≡◌, ℕ, ◌<◌, pos, List, [], ◌∷◌, ◌++◌, codes, Option, Some, None, option_map, Ok, IsUtf8}
 use Rattle.sqlite.specs.declared.types.Value.{Value}
 use Rattle.sqlite.specs.declared.types.Value.TheVariants.{Int, Text, Blob}
 use Rattle.sqlite.specs.Values.{or_null}
@@ -67,6 +67,10 @@ HasCountIn versions.Second h c = HasCount h c
 -- a row has the key of a counter
 abbrev pub HasKey : Row → Counter → Type 0
 HasKey r c = column r 1 ≡ Text (counter_text c)
+
+-- the key of a row is a text
+abbrev pub HasTextKey : Row → Type 0
+HasTextKey r = (text : List ℕ) × (column r 1 ≡ Text text) × IsUtf8 text
 
 pub record ShowsCount (c : Count) (r : Row) : Type 0 where
   pub counter_is : column r 1 ≡ Text (counter_text c.counter)

@@ -6,7 +6,7 @@ use Rattle.sqlite.specs.Effect.{Database, IsDatabase}
 use Rattle.sqlite.specs.State.{State, Shows}
 use Rattle.smf_tables.specs.Layout.{StandsNamed, StandsSomewhere}
 use Rattle.smf_tables.specs.Reading.{AreShown}
-use Rattle.smf_tables.specs.Rows.{IsKeyed}
+use Rattle.smf_tables.specs.Rows.{AreKeyed}
 use Rattle.smf_tables.specs.Schema.{snap_at, store_schema}
 use Rattle.smf_model.specs.Holdings.{Holdings}
 use Rattle.smf_store.specs.declared.counting.StoreVersion.{StoreVersion}
@@ -23,7 +23,7 @@ use Rattle.smf_store.specs.Judged.{first_broken, judged}
 -- these are the rows of a table, by the columns at these places, and no rowid stands twice
 pub record IsListed (tree : ℕ) (places : List ℕ) (trees : Trees) (rows : List Row) : Type 0 where
   pub shown : AreShown places (trees tree) rows
-  pub keyed : IsKeyed rows
+  pub keyed : AreKeyed rows
 
 -- the same of the six tables; a number that is a rowid stands twice, so that each other column has its own place
 pub record AreListed (rows : StoreRows) (trees : Trees) : Type 0 where
@@ -65,12 +65,12 @@ LooksIf true Looks old new rows = Looks old new rows
 LooksIf false Looks old new rows = (new.now ≡ old.now) × (IsTrue new.is_open → IsTrue old.is_open) × (rows ≡ [])
 
 pub record AreAllKeyed (rows : StoreRows) : Type 0 where
-  pub counts : IsKeyed rows.counts.items
-  pub services : IsKeyed rows.services.items
-  pub instances : IsKeyed rows.instances.items
-  pub groups : IsKeyed rows.groups.items
-  pub snapshots : IsKeyed rows.snapshots.items
-  pub launches : IsKeyed rows.launches.items
+  pub counts : AreKeyed rows.counts.items
+  pub services : AreKeyed rows.services.items
+  pub instances : AreKeyed rows.instances.items
+  pub groups : AreKeyed rows.groups.items
+  pub snapshots : AreKeyed rows.snapshots.items
+  pub launches : AreKeyed rows.launches.items
 
 -- the database was looked at, and stays
 pub record Lists (old new : State) (rows : StoreRows) : Type 0 where

@@ -34,10 +34,10 @@ use Rattle.smf_store.specs.Holds.{Listed, Show, IsArranged, Stands, IsSound, Kee
 
 -- ---- one field
 
-int_is : (a b : ℕ) → ◌≡◌ {A = Value} (Int (pos a)) (Int (pos b)) → a ≡ b
+pub int_is : (a b : ℕ) → ◌≡◌ {A = Value} (Int (pos a)) (Int (pos b)) → a ≡ b
 int_is a b h = cc
 
-text_is : (a b : List ℕ) → ◌≡◌ {A = Value} (Text a) (Text b) → a ≡ b
+pub text_is : (a b : List ℕ) → ◌≡◌ {A = Value} (Text a) (Text b) → a ≡ b
 text_is a b h = cc
 
 blob_is : (a b : List ℕ) → ◌≡◌ {A = Value} (Blob a) (Blob b) → a ≡ b
@@ -49,7 +49,7 @@ optional_is None (Some b) h = absurd cc
 optional_is (Some a) None h = absurd cc
 optional_is (Some a) (Some b) h = ap Some (int_is a b h)
 
-counter_is : (a b : Counter) → counter_text a ≡ counter_text b → a ≡ b
+pub counter_is : (a b : Counter) → counter_text a ≡ counter_text b → a ≡ b
 counter_is Version Version e = refl
 counter_is Version Layout e = absurd cc
 counter_is Version Revision e = absurd cc
@@ -110,7 +110,7 @@ one_list o xs ys r s f g = same_lists o xs ys r s (λ k. lookups_by (lookup o xs
 
 -- ---- rows that are one
 
-one_instance : (i j : Instance) (r : Row) → ShowsInstance i r → ShowsInstance j r → i ≡ j
+pub one_instance : (i j : Instance) (r : Row) → ShowsInstance i r → ShowsInstance j r → i ≡ j
 one_instance i j r p q =
     let service : p.service ≡ q.service = text_is p.service q.service (sym p.service_is ∙ q.service_is) in
     let name : p.name ≡ q.name = text_is p.name q.name (sym p.name_is ∙ q.name_is) in
@@ -121,7 +121,7 @@ one_instance i j r p q =
     let previous : i.previous ≡ j.previous = optional_is i.previous j.previous (sym p.previous_is ∙ q.previous_is) in
     λ z. record { number = number z; name = whole z; row = row z; start = start z; previous = previous z }
 
-one_group : (x y : OwnedGroup) (r : Row) → ShowsGroup x r → ShowsGroup y r → x ≡ y
+pub one_group : (x y : OwnedGroup) (r : Row) → ShowsGroup x r → ShowsGroup y r → x ≡ y
 one_group x y r p q =
     let service : x.service ≡ y.service = text_is x.service y.service (sym p.service_is ∙ q.service_is) in
     let number : x.number ≡ y.number = int_is x.number y.number (sym p.number_is ∙ q.number_is) in
@@ -131,7 +131,7 @@ one_group x y r p q =
 abbrev kept_in : Snapshot → Kept
 kept_in s = record { service = s.service_groups; instance = s.instance_groups }
 
-one_snapshot : (s t : Snapshot) (r : Row) → ShowsSnapshot s r → ShowsSnapshot t r → s ≡ t
+pub one_snapshot : (s t : Snapshot) (r : Row) → ShowsSnapshot s r → ShowsSnapshot t r → s ≡ t
 one_snapshot s t r p q =
     let number : s.number ≡ t.number = int_is s.number t.number (sym p.number_is ∙ q.number_is) in
     let owner : s.instance ≡ t.instance = int_is s.instance t.instance (sym p.instance_is ∙ q.instance_is) in
@@ -140,7 +140,7 @@ one_snapshot s t r p q =
     (blob_is (spelled_both s.service_groups s.instance_groups) (spelled_both t.service_groups t.instance_groups) (sym p.body_is ∙ q.body_is)) in
     λ z. record { number = number z; instance = owner z; service_groups = (both z).service; instance_groups = (both z).instance }
 
-one_launch : (l m : Launch) (r : Row) → ShowsLaunch l r → ShowsLaunch m r → l ≡ m
+pub one_launch : (l m : Launch) (r : Row) → ShowsLaunch l r → ShowsLaunch m r → l ≡ m
 one_launch l m r p q =
     let name : l.restarter ≡ m.restarter = text_is l.restarter m.restarter (sym p.restarter_is ∙ q.restarter_is) in
     let count : l.count ≡ m.count = int_is l.count m.count (sym p.count_is ∙ q.count_is) in

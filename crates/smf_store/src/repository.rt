@@ -1,12 +1,14 @@
 ghost use Rattle.std.specs.Prelude.{IfErr, IfOk};
 ghost use Rattle.sqlite.specs.Held.{state};
 ghost use Rattle.sqlite.specs.State.{HasCleanDisk};
+ghost use Rattle.smf_laws.specs.Consistent.{IsConsistent};
+ghost use Rattle.smf_model.specs.Holdings.{Holdings};
 ghost use Rattle.smf_model.specs.Laws.{IsNumbered};
-ghost use Rattle.smf_store.specs.Agreement.{AreLaunched, NameOwn};
+ghost use Rattle.smf_store.specs.Agreement.{AreLaunched, AreUnlaunched, NameOwn};
 ghost use Rattle.smf_store.specs.Ends.{LeavesOr};
 ghost use Rattle.smf_store.specs.Holds.{IsSound, Keeps};
-ghost use Rattle.smf_store.specs.Opens.{IsFoundIn, IsOpenedAs, MayFailToOpen, MayOpen};
-ghost use Rattle.smf_store.specs.Stages.{IsRefused};
+ghost use Rattle.smf_store.specs.Opens.{IsFoundIn, IsOpenedAs, IsStoreOf, MayFailToOpen, MayOpen};
+ghost use Rattle.smf_store.specs.Stages.{IsFailure, IsRefused};
 ghost use Rattle.smf_store.specs.Steps.{Kept};
 
 use crate::refusal::OpenFault;
@@ -28,11 +30,16 @@ pub fn open_repository<S: Alter>(
     ensures numbered { IfOk result (λ r. IsNumbered r.held) }
     ensures named { IfOk result (λ r. NameOwn r.held) }
     ensures launched { IfOk result (λ r. AreLaunched r.held) }
+    // The value keeps the rules that commands keep, if no row with the number 0 keeps a launch.
+    // No open judges this one.
+    ensures consistent { IfOk result (λ r. HasCleanDisk (state S.Store r.journal.conn) → AreUnlaunched r.held → IsConsistent r.held) }
     // What callers need that see no store.
     ensures opened { IfOk result (λ r. IsOpenedAs S.Store conn r.held) }
     ensures crash { IfOk result (λ r. LeavesOr MayOpen S.Store conn r.journal.conn) }
     // A fault that names a version or a table says what the rows of the tables say.
     ensures refused { IfErr result (λ e. HasCleanDisk (state S.Store e.1) → IsRefused (state S.Store conn).now e.0) }
+    // No verdict refuses a store of a value that commands make: it is opened, or the opening fails.
+    ensures opens_again { IfErr result (λ e. HasCleanDisk (state S.Store e.1) → (h : Holdings) → IsStoreOf (state S.Store conn).now h → IsConsistent h → IsFailure e.0) }
     ensures crash_err { IfErr result (λ e. LeavesOr (MayFailToOpen e.0) S.Store conn e.1) }
     ensures kept { IfErr result (λ e. HasCleanDisk (state S.Store e.1) → Kept (state S.Store conn) (state S.Store e.1)) }
 {

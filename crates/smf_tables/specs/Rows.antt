@@ -5,7 +5,7 @@ use Rattle.sqlite_sql.specs.declared.ops.BinaryOp.TheVariants.{Compare}
 use Rattle.sqlite_sql.specs.declared.ops.CompareOp.TheVariants.{Eq}
 use Rattle.sqlite.specs.Collation.TheVariants.{Binary}
 use Rattle.sqlite.specs.Order.{Row, column}
-use Rattle.sqlite.specs.Tree.{rowid}
+use Rattle.sqlite.specs.Tree.{IsAscending, rowid}
 use Rattle.sqlite.specs.View.{is_int}
 use Rattle.sqlite.specs.Term.{Term, col, op2, holds}
 use Rattle.sqlite.specs.Table.{Table}
@@ -22,6 +22,14 @@ SameColumns a b = (at : ℕ) → at < 8 → column a at ≡ column b at
 pub record IsKeyed (rows : List Row) : Type 0 where
   pub ints : (r : Row) → Has rows r → is_int (rowid r) ≡ true
   pub one : (a b : Row) → Has rows a → Has rows b → rowid a ≡ rowid b → SameColumns a b
+
+-- no rowid stands twice in the list
+abbrev pub AreApart : List Row → Type 0
+AreApart = IsAscending (λ a b. rowid a ≢ rowid b)
+
+pub record AreKeyed (rows : List Row) : Type 0 where
+  pub keyed : IsKeyed rows
+  pub apart : AreApart rows
 
 -- the row has the value of this parameter in this column
 abbrev pub equal : ℕ → ℕ → Term

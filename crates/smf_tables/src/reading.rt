@@ -1,7 +1,7 @@
 ghost use Rattle.std.specs.Prelude.{◌≡◌, ◌<ℤ◌, IfSome, IsTrue};
 ghost use Rattle.smf_tables.specs.Calls.{CommitsNone, Finds, IsInside, LeavesAsBefore};
 ghost use Rattle.smf_tables.specs.Reading.{LooksAtGroups, LooksAtInstances, LooksAtLaunches, LooksAtMeta, LooksAtServices, LooksAtSnapshots, LooksForSnapshots};
-ghost use Rattle.smf_tables.specs.Rows.{IsKeyed};
+ghost use Rattle.smf_tables.specs.Rows.{AreKeyed};
 
 use sqlite::{Alter, Error, Row, Transaction};
 
@@ -112,7 +112,7 @@ fn is_past(last: Option<i64>, id: i64) -> bool
 
 /// Whether the rows show rowids that rise, so that none comes twice.
 pub fn are_keyed(rows: &[Row]) -> bool
-    ensures { IsTrue result → IsKeyed rows.now }
+    ensures { IsTrue result → AreKeyed rows.now }
 {
     let mut last: Option<i64> = None;
     for row in rows {

@@ -1,5 +1,5 @@
 use Rattle.std.proofs.Common.{rules, ◌≡◌, ◌<ℤ◌, ◌+◌, take, IfSome, to_z, of_z, w64, Some, refl, subst, sym, take_all}
-use Rattle.smf_tables.specs.Rows.{IsKeyed}
+use Rattle.smf_tables.specs.Rows.{AreKeyed}
 use Rattle.smf_tables.proofs.Rowed.{RisesTo, rises_more, rises_keyed}
 use Rattle.smf_tables.proofs.reading.are_keyed.Goals as goal
 
@@ -11,4 +11,4 @@ loop-row-preserved c =
     (rises_more c.args.rows.now c.loop-row.row-index c.row-item.result c.loop-row.last c.in-Ok.id c.loop-row-test.true c.row-item.is c.in-Ok.ensures.ok.1 past c.loop-row.invariant)
 
 pub returns : goal.returns
-returns c = λ _. subst IsKeyed (take_all _ _ c.loop-row-test.false) (rises_keyed c.loop-row.last _ c.loop-row.invariant)
+returns c = λ _. subst AreKeyed (take_all _ _ c.loop-row-test.false) (rises_keyed c.loop-row.last _ c.loop-row.invariant)
