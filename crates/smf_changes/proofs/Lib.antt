@@ -1,0 +1,4 @@
+pub mod Sameness
+pub mod Merging
+pub mod Patching
+pub mod Touching

@@ -1,0 +1,5 @@
+use Rattle.smf_changes.proofs.Patching.{view_patched}
+use Rattle.smf_changes.proofs.changes.a_view_is_patched.Goals as goal
+
+pub returns : goal.returns
+returns c = view_patched

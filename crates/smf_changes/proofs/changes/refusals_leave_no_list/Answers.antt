@@ -1,0 +1,5 @@
+use Rattle.smf_changes.proofs.Patching.{recent_accepted}
+use Rattle.smf_changes.proofs.changes.refusals_leave_no_list.Goals as goal
+
+pub returns : goal.returns
+returns c = recent_accepted
