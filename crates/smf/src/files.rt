@@ -1,8 +1,8 @@
-use smf_edge::OsKids;
+use smf_edge::{OsKids, TableKids};
 use smf_lines::{LineReader, NotedReader};
 use smf_program::{tell_no_database, tell_no_input};
-use smf_serve::{Closed, serve_cfg_file, serve_file};
-use sqlite::{Connection, Error};
+use smf_serve::{Closed, FileBytes, serve_cfg_file, serve_copy, serve_file};
+use sqlite::{Connection, Error, ErrorCode};
 use sqlite_std_file::File as DatabaseFile;
 use sqlite_store::FileStore;
 use std::fs::File;
@@ -52,6 +52,92 @@ pub(crate) fn run_over(rt: &HostRuntime, database: &str) -> io::Result<u8> {
             );
             status
         }
+        Err(fault) => tell_no_database(&mut errors, &fault),
+    })
+}
+
+/// Why a file is not read, as the library says why it is not opened.
+fn read_fault(fault: &io::Error) -> Error {
+    match fault.kind() {
+        io::ErrorKind::OutOfMemory => Error::SqliteFailure(ErrorCode::OutOfMemory),
+        _ => Error::SqliteFailure(ErrorCode::CannotOpen),
+    }
+}
+
+/// The bytes of a regular file.
+fn bytes_of(rt: &HostRuntime, path: &str) -> io::Result<Vec<u8>> {
+    if !fs::metadata(rt, path)?.is_file() {
+        return Err(io::ErrorKind::Unsupported.into());
+    }
+    fs::read(rt, path)
+}
+
+/// The bytes of a file beside a database; none where it is not there.
+fn bytes_beside(rt: &HostRuntime, path: &str) -> io::Result<Vec<u8>> {
+    match bytes_of(rt, path) {
+        Err(fault) if fault.kind() == io::ErrorKind::NotFound => Ok(Vec::new(rt.alloc())),
+        found => found,
+    }
+}
+
+/// Whether a journal is left beside a database, which SQLite alone can play back.
+fn has_journal(rt: &HostRuntime, path: &str) -> io::Result<bool> {
+    let bytes = bytes_beside(rt, path)?;
+    Ok(match bytes.first() {
+        Some(byte) => *byte != 0,
+        None => false,
+    })
+}
+
+/// What a database file and its log hold, which lie where a link leads.
+fn read_once(rt: &HostRuntime, database: &str) -> io::Result<FileBytes> {
+    let alloc = rt.alloc();
+    let real = fs::canonicalize(rt, database)?;
+    let journal = format!(in alloc; "{}-journal", real.as_str())?;
+    if has_journal(rt, journal.as_str())? {
+        return Err(io::ErrorKind::Unsupported.into());
+    }
+    let log = format!(in alloc; "{}-wal", real.as_str())?;
+    Ok(FileBytes {
+        db: bytes_of(rt, real.as_str())?,
+        log: bytes_beside(rt, log.as_str())?,
+    })
+}
+
+/// What a database file and its log hold at one moment. They are read twice: where another program writes to them, the two
+/// may differ, and then the database is in use.
+fn read_files(rt: &HostRuntime, database: &str) -> Result<FileBytes, Error> {
+    let first = read_once(rt, database).map_err(|fault| read_fault(&fault))?;
+    let second = read_once(rt, database).map_err(|fault| read_fault(&fault))?;
+    if first.db.as_slice() == second.db.as_slice()
+        && first.log.as_slice() == second.log.as_slice()
+    {
+        Ok(first)
+    } else {
+        Err(Error::SqliteFailure(ErrorCode::DatabaseBusy))
+    }
+}
+
+/// Does a script over a copy in memory of the database in a file, with processes that a contract table simulates. No file
+/// is written.
+pub(crate) fn sim_over(rt: &HostRuntime, database: &str) -> io::Result<u8> {
+    let alloc = rt.alloc();
+    let mut reader = NotedReader::new(BufReader::new(alloc, rt.reader())?);
+    let mut errors = rt.stderr();
+    let found = match read_files(rt, database) {
+        Ok(found) => found,
+        Err(fault) => return Ok(tell_no_database(&mut errors, &fault)),
+    };
+    let ran = serve_copy(
+        alloc,
+        &found,
+        &mut reader,
+        &mut io::writer(rt),
+        &mut errors,
+        &mut TableKids::new(alloc),
+    );
+    Ok(match ran {
+        Ok(status) => status,
         Err(fault) => tell_no_database(&mut errors, &fault),
     })
 }

@@ -1,11 +1,12 @@
-//! `smf`: does scripts of a service manager on standard input, over a repository in memory or over a database and the
-//! processes of its services, and lines of svccfg over a database. It opens files; all else is decided below.
+//! `smf`: does scripts of a service manager on standard input, over a repository in memory, over a copy in memory of a
+//! database, or over a database and the processes of its services, and lines of svccfg over a database. It opens files; all
+//! else is decided below.
 //! Modules: `files` (the files that words name).
 #![tactic(auto)]
 
 mod files;
 
-use crate::files::{cfg_over, run_over};
+use crate::files::{cfg_over, run_over, sim_over};
 use smf_edge::TableKids;
 use smf_lines::NotedReader;
 use smf_program::{Task, read_task, refusal_of_words, refuse, tell_no_memory};
@@ -29,7 +30,10 @@ fn sim(rt: &HostRuntime) -> io::Result<u8> {
 
 fn do_task(rt: &HostRuntime, task: Task<'_>) -> io::Result<u8> {
     match task {
-        Task::Sim => sim(rt),
+        Task::Sim { database: None } => sim(rt),
+        Task::Sim {
+            database: Some(database),
+        } => sim_over(rt, database),
         Task::Run { database } => run_over(rt, database),
         Task::Cfg { lines, database } => cfg_over(rt, lines, database),
     }

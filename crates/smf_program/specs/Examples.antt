@@ -12,7 +12,8 @@ smf words = codes "smf" ∷ words
 
 abbrev pub TasksAreRead : Type 0
 TasksAreRead =
-    (task_of (smf (codes "sim" ∷ [])) ≡ Some Sim)
+    (task_of (smf (codes "sim" ∷ [])) ≡ Some (Sim None))
+    × (task_of (smf (codes "sim" ∷ codes "a.db" ∷ [])) ≡ Some (Sim (Some (codes "a.db"))))
     × (task_of (smf (codes "run" ∷ codes "a.db" ∷ [])) ≡ Some (Run (codes "a.db")))
     × (task_of (smf (codes "cfg" ∷ codes "a.db" ∷ [])) ≡ Some (Cfg None (codes "a.db")))
 
@@ -31,7 +32,7 @@ abbrev pub OthersAreRefused : Type 0
 OthersAreRefused =
     (task_of (smf []) ≡ None)
     × (task_of (smf (codes "walk" ∷ [])) ≡ None)
-    × (task_of (smf (codes "sim" ∷ codes "a.db" ∷ [])) ≡ None)
+    × (task_of (smf (codes "sim" ∷ codes "a.db" ∷ codes "b.db" ∷ [])) ≡ None)
     × (task_of (smf (codes "run" ∷ codes "a.db" ∷ codes "b.db" ∷ [])) ≡ None)
 
 abbrev pub HelpIsShown : Type 0

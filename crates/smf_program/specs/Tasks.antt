@@ -9,17 +9,20 @@ use Rattle.smf_program.specs.Words.{smf_app}
 
 -- a task by its texts
 pub data TaskTexts : Type 0 where
-  Sim : TaskTexts
+  Sim : Option (List ℕ) → TaskTexts
   Run : List ℕ → TaskTexts
   Cfg : Option (List ℕ) → List ℕ → TaskTexts
 
 abbrev pub texts_of : Task → TaskTexts
-texts_of tasks.Sim = Sim
+texts_of (tasks.Sim database) = Sim (option_map (λ s. s.now) database)
 texts_of (tasks.Run database) = Run database.now
 texts_of (tasks.Cfg lines database) = Cfg (option_map (λ s. s.now) lines) database.now
 
 abbrev pub rows_in : ArgMatches → List Row
 rows_in m = rows_of (found_of m)
+
+abbrev pub sim_in : List Row → Option TaskTexts
+sim_in rows = Some (Sim (first_of (codes "DB") rows))
 
 abbrev pub run_in : List Row → Option TaskTexts
 run_in rows = option_map Run (first_of (codes "DB") rows)
@@ -30,7 +33,7 @@ cfg_in rows = option_map (Cfg (first_of (codes "FILE") rows)) (first_of (codes "
 -- the task of a subcommand, by its name and what stands behind it
 abbrev pub task_at : List ℕ → List Row → Option TaskTexts
 task_at name rows =
-    if pointwise nat_eq name (codes "sim") then Some Sim
+    if pointwise nat_eq name (codes "sim") then sim_in rows
     else if pointwise nat_eq name (codes "run") then run_in rows
     else if pointwise nat_eq name (codes "cfg") then cfg_in rows
     else None

@@ -11,8 +11,12 @@ file_rule = record (new_rule (codes "FILE")) { short = Some 102 }
 abbrev pub database_rule : Rule
 database_rule = record (new_rule (codes "DB")) { required = true }
 
+-- one may be named, which is only read
+abbrev pub read_rule : Rule
+read_rule = new_rule (codes "DB")
+
 abbrev pub sim_app : App
-sim_app = new_app (codes "sim")
+sim_app = with_rule (new_app (codes "sim")) read_rule
 
 abbrev pub run_app : App
 run_app = with_rule (new_app (codes "run")) database_rule

@@ -2,7 +2,7 @@ ghost use Rattle.std.specs.Prelude.{◌≡◌, IfErr, IfOk, IsTrue, Some, [], ma
 ghost use Rattle.std.specs.String.{string_bytes};
 ghost use Rattle.clap.specs.Words.{HasKind, app_of, fault_of, is_simple, is_simple_and_free, subcommand_of, subcommand_rows_of};
 ghost use Rattle.smf_program.specs.Refusals.{IsWhy};
-ghost use Rattle.smf_program.specs.Tasks.{cfg_in, rows_in, run_in, task_at, task_in, task_of, texts_of};
+ghost use Rattle.smf_program.specs.Tasks.{cfg_in, rows_in, run_in, sim_in, task_at, task_in, task_of, texts_of};
 
 use crate::refusal::{Refusal, refusal_of};
 use crate::words::smf_command;
@@ -12,8 +12,10 @@ use std::alloc::Global;
 /// What the program's words ask for.
 #[derive(Clone, Copy)]
 pub enum Task<'a> {
-    /// A script in memory.
-    Sim,
+    /// A script in memory: over nothing, or over what the database in a file holds, which is only read.
+    Sim {
+        database: Option<&'a str>,
+    },
     /// A script over the database in a file.
     Run {
         database: &'a str,
@@ -23,6 +25,13 @@ pub enum Task<'a> {
         lines: Option<&'a str>,
         database: &'a str,
     },
+}
+
+fn sim_in<'a>(found: &ArgMatches<'a>) -> Option<Task<'a>>
+    ensures { option_map texts_of result ≡ sim_in (rows_in found.now) }
+{
+    let database = found.get_str("DB");
+    Some(Task::Sim { database })
 }
 
 fn run_in<'a>(found: &ArgMatches<'a>) -> Option<Task<'a>>
@@ -49,7 +58,7 @@ fn task_at<'a>(name: &str, found: &ArgMatches<'a>) -> Option<Task<'a>>
     ensures { option_map texts_of result ≡ task_at name.now (rows_in found.now) }
 {
     match name {
-        "sim" => Some(Task::Sim),
+        "sim" => sim_in(found),
         "run" => run_in(found),
         "cfg" => cfg_in(found),
         _ => None,

@@ -1,7 +1,7 @@
 ghost use Rattle.std.specs.Prelude.{◌≡◌, IfOk, false};
 ghost use Rattle.clap.specs.Words.{app_of, rule_of};
 ghost use Rattle.clap.specs.declared.builder.command.Command.TheViews.{out-Command as fields_of};
-ghost use Rattle.smf_program.specs.Words.{bare_app, cfg_app, database_rule, file_rule, run_app, sim_app, smf_app};
+ghost use Rattle.smf_program.specs.Words.{bare_app, cfg_app, database_rule, file_rule, read_rule, run_app, sim_app, smf_app};
 
 use clap::{Arg, Command};
 use std::alloc::{AllocError, Global};
@@ -20,13 +20,24 @@ fn database<'a>(alloc: Global) -> Arg<'a>
     Arg::new(alloc, "DB").required(true)
 }
 
-fn sim_command<'a>(alloc: Global) -> Command<'a>
-    ensures app { app_of result ≡ sim_app }
-    ensures local { (fields_of result).has_globals ≡ false }
+/// A database that is only read, if one is named.
+fn read_database<'a>(alloc: Global) -> Arg<'a>
+    ensures rule { rule_of result ≡ read_rule }
+    ensures local { result.global ≡ false }
 {
-    Command::new(alloc, "sim").about(
-        "Does a script over a repository in memory, with simulated processes",
-    )
+    Arg::new(alloc, "DB")
+}
+
+fn sim_command<'a>(alloc: Global) -> Result<Command<'a>, AllocError>
+    ensures app { IfOk result (λ c. app_of c ≡ sim_app) }
+    ensures local { IfOk result (λ c. (fields_of c).has_globals ≡ false) }
+{
+    let command = Command::new(alloc, "sim")
+        .about(
+            "Does a script in memory, with simulated processes, over nothing or over what a database holds",
+        )
+        .arg(read_database(alloc))?;
+    Ok(command)
 }
 
 fn run_command<'a>(alloc: Global) -> Result<Command<'a>, AllocError>
@@ -56,14 +67,16 @@ fn bare_command<'a>(alloc: Global) -> Command<'a>
     Command::new(alloc, "smf").subcommand_required(true)
 }
 
-/// The program as clap knows it: `sim`, `run` with a database, or `cfg` with a database and, behind `-f`, a file of lines.
+/// The program as clap knows it: `sim` with or without a database, `run` with one, or `cfg` with one and, behind `-f`, a
+/// file of lines.
 pub(crate) fn smf_command<'a>(alloc: Global) -> Result<Command<'a>, AllocError>
     ensures { IfOk result (λ c. app_of c ≡ smf_app) }
 {
+    let sim = sim_command(alloc)?;
     let run = run_command(alloc)?;
     let cfg = cfg_command(alloc)?;
     let command = bare_command(alloc)
-        .subcommand(sim_command(alloc))?
+        .subcommand(sim)?
         .subcommand(run)?
         .subcommand(cfg)?;
     Ok(command)

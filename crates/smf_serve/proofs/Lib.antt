@@ -1,3 +1,4 @@
 pub mod Told
 pub mod Ended
 pub mod Closes
+pub mod Copied

@@ -3,3 +3,4 @@ pub mod Cfgs
 pub mod Runs
 pub mod Sims
 pub mod Closed
+pub mod Copies

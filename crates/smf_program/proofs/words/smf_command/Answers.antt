@@ -8,6 +8,6 @@ unfolding smf_app
 returns c =
     c.in_ok-command.ensures.shape c.in_ok-cfg.ensures.local
     ∙ ap₂ with_subcommand (c.in_ok-subcommand-2.ensures.shape c.in_ok-run.ensures.local
-    ∙ ap₂ with_subcommand (c.in_ok-subcommand.ensures.shape c.sim_command.ensures.local
-    ∙ ap₂ with_subcommand c.bare_command.ensures (ap (λ (a : App). a.top) c.sim_command.ensures.app)) (ap (λ (a : App). a.top) c.in_ok-run.ensures.app))
+    ∙ ap₂ with_subcommand (c.in_ok-subcommand.ensures.shape c.in_ok-sim.ensures.local
+    ∙ ap₂ with_subcommand c.bare_command.ensures (ap (λ (a : App). a.top) c.in_ok-sim.ensures.app)) (ap (λ (a : App). a.top) c.in_ok-run.ensures.app))
     (ap (λ (a : App). a.top) c.in_ok-cfg.ensures.app)
