@@ -5,6 +5,7 @@ use crate::{
     config, contracts, cookies, dependencies, fields, groups, lines, methods, names, refusals,
     repository, rows, snapshots, steps, values, views,
 };
+use smf_changes::Repository;
 use smf_contract::Table;
 use smf_model::{NoJournal, Plain};
 use smf_value::Group;
@@ -17,7 +18,7 @@ pub(crate) struct Session {
     /// None before the first line `group`.
     group: Option<Group>,
     views: Views,
-    repository: Plain<NoJournal>,
+    repository: Repository<NoJournal>,
 }
 
 impl Session {
@@ -26,7 +27,7 @@ impl Session {
             table: Table::new(alloc),
             group: None,
             views: Views::new(alloc),
-            repository: Plain::new(alloc, NoJournal {}),
+            repository: Repository::over(alloc, Plain::new(alloc, NoJournal {})),
         }
     }
 }

@@ -7,29 +7,36 @@ use crate::snapshots::put_names;
 use crate::steps::{proposal_of, step_of};
 use crate::values::kind_of;
 use crate::words::{number_of, put_count, split_two, split_word, truth};
+use smf_changes::Repository;
 use smf_fmri::{Items, Ordered, ServiceFmri, Text, read_count};
-use smf_model::{Command, Edit, Instance, Mark, NoJournal, Owner, Plain, PropertyChange, Reply};
+use smf_model::{
+    Command, Edit, Instance, Mark, NoJournal, Outcome, Owner, Plain, PropertyChange, Reply,
+    RepoFault,
+};
 use smf_snap::SnapshotName;
 use smf_state::{View, ViewItem};
 use smf_value::Group;
+use smf_wire::{Message, ViewChanges, decode, encode};
 use std::alloc::{AllocError, Global};
 
 /// Answers a call of the repository; whether it is one.
 pub(crate) fn answer(
     alloc: Global,
-    repository: &mut Plain<NoJournal>,
+    repository: &mut Repository<NoJournal>,
     out: &mut Answer,
     call: &str,
     text: &str,
 ) -> bool {
     match call {
         "repository" => {
-            *repository = Plain::new(alloc, NoJournal {});
+            *repository = Repository::over(alloc, Plain::new(alloc, NoJournal {}));
             out.put("done");
         }
         "edit" => edited(alloc, repository, out, text),
+        "edits" => edited_often(alloc, repository, out, text),
         "propose" => proposed(alloc, repository, out, text),
-        "held" => held(alloc, repository, out, text),
+        "held" => held(alloc, repository.plain(), out, text),
+        "ask" => ask(alloc, repository, out, text),
         _ => return false,
     }
     true
@@ -174,28 +181,102 @@ fn put_reply(out: &mut Answer, reply: &Reply) {
     }
 }
 
-/// The reply to a command. Over no journal nothing but want of memory can fail.
-fn apply(repository: &mut Plain<NoJournal>, out: &mut Answer, command: &Command) {
-    match repository.apply(command) {
+/// Carries out a command. Over no journal nothing but want of memory can fail.
+fn carried_out(
+    repository: &mut Repository<NoJournal>,
+    command: &Command,
+) -> Result<Reply, RepoFault> {
+    let Outcome { changes, reply } = repository.plain().asked(command)?;
+    repository.commit(changes)?;
+    Ok(reply)
+}
+
+fn apply(repository: &mut Repository<NoJournal>, out: &mut Answer, command: &Command) {
+    match carried_out(repository, command) {
         Ok(reply) => put_reply(out, &reply),
         Err(_) => out.want_memory(),
     }
 }
 
 /// The same of a command that is done with, if there is one.
-fn applied(repository: &mut Plain<NoJournal>, out: &mut Answer, command: Option<Command>) {
+fn applied(repository: &mut Repository<NoJournal>, out: &mut Answer, command: Option<Command>) {
     if let Some(command) = command {
         apply(repository, out, &command);
     }
 }
 
-fn edited(alloc: Global, repository: &mut Plain<NoJournal>, out: &mut Answer, text: &str) {
+fn edited(alloc: Global, repository: &mut Repository<NoJournal>, out: &mut Answer, text: &str) {
     let command = command_of(alloc, out, text);
     applied(repository, out, command);
 }
 
+/// Carries out a command so often, and shows the last reply.
+fn apply_often(
+    repository: &mut Repository<NoJournal>,
+    out: &mut Answer,
+    count: u64,
+    command: &Command,
+) {
+    for _ in 1..count {
+        let _reply = carried_out(repository, command);
+    }
+    apply(repository, out, command);
+}
+
+/// `COUNT EDIT`: the same command so often, at least once; the last reply.
+fn edited_often(
+    alloc: Global,
+    repository: &mut Repository<NoJournal>,
+    out: &mut Answer,
+    text: &str,
+) {
+    let (count, text) = split_word(text);
+    if let Some(count) = out.found(read_count(count))
+        && let Some(command) = command_of(alloc, out, text)
+    {
+        apply_often(repository, out, count, &command);
+    }
+}
+
+fn put_line(alloc: Global, out: &mut Answer, message: &Message) {
+    if let Some(line) = out.made(encode(alloc, message)) {
+        out.put(line.as_str());
+    }
+}
+
+/// The line of the whole view.
+fn put_whole(alloc: Global, repository: &Repository<NoJournal>, out: &mut Answer) {
+    if let Some(view) = out.made(repository.plain().view()) {
+        put_line(alloc, out, &Message::View(view));
+    }
+}
+
+/// The line of what changed since a revision; that of the whole view if this is not known.
+fn put_changes(alloc: Global, repository: &Repository<NoJournal>, out: &mut Answer, from: u64) {
+    match out.made(repository.changes_since(from)) {
+        Some(Some((to, items))) => {
+            put_line(
+                alloc,
+                out,
+                &Message::Changes(ViewChanges { from, to, items }),
+            );
+        }
+        Some(None) => put_whole(alloc, repository, out),
+        None => {}
+    }
+}
+
+/// The line of a question: the line of the repository's answer.
+fn ask(alloc: Global, repository: &Repository<NoJournal>, out: &mut Answer, line: &str) {
+    match decode(alloc, line) {
+        Ok(Message::AskView) => put_whole(alloc, repository, out),
+        Ok(Message::AskChange(from)) => put_changes(alloc, repository, out, from),
+        _ => out.bad_line(),
+    }
+}
+
 /// `NUMBER STEP`: a step of instance 1, by the proposer's first launch; the serial is the number.
-fn proposed(alloc: Global, repository: &mut Plain<NoJournal>, out: &mut Answer, text: &str) {
+fn proposed(alloc: Global, repository: &mut Repository<NoJournal>, out: &mut Answer, text: &str) {
     let (number, step) = split_word(text);
     if let Some(number) = out.found(read_count(number))
         && let Some(step) = step_of(out, step)
@@ -335,7 +416,7 @@ fn put_item(out: &mut Answer, item: &ViewItem) {
 /// The revision, and each instance.
 fn put_view(out: &mut Answer, view: Result<View, AllocError>) {
     if let Some(view) = out.made(view) {
-        let revision = view.revision.get();
+        let revision = view.revision;
         write!(out, "{revision}:");
         for item in view.items.as_slice() {
             put_item(out, item);

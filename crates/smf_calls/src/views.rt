@@ -10,10 +10,10 @@ use smf_admin::{
     svcs_text, svcs_usage,
 };
 use smf_engine::{Engine, orders};
-use smf_fmri::{Bytes, Items, Number, Shared, Table, Text, read_count};
+use smf_fmri::{Bytes, Items, Number, Ordered, SharedOrdered, Table, Text, read_count};
 use smf_model::{Edit, InstanceName, Mark};
 use smf_state::{Row, SharedRow, State, View, ViewItem};
-use smf_wire::{Order, What};
+use smf_wire::{Message, Order, ViewChanges, What, decode, encode};
 use std::alloc::{AllocError, Global};
 
 /// A view, and a graph that views are given to.
@@ -51,6 +51,12 @@ pub(crate) fn answer(
         }
         "view_item" => add_item(alloc, views, out, text),
         "take_view" => take_view(alloc, views, out, text),
+        "hear" => hear(alloc, &mut views.engine, out, text),
+        "question" if text.is_empty() => put_question(alloc, &views.engine, out),
+        "graph" if text.is_empty() => {
+            views.engine = Engine::new();
+            out.put("done");
+        }
         "svcs" => svcs(alloc, views.items.as_slice(), out, text),
         "svcadm" => svcadm(alloc, views.items.as_slice(), out, text),
         "orders" => all_orders(alloc, views.items.as_slice(), out, text),
@@ -323,13 +329,47 @@ fn decided(alloc: Global, engine: &Engine, out: &mut Answer, text: &str) {
     }
 }
 
+/// A copy of the items, in number order.
+fn ordered(alloc: Global, items: &[ViewItem]) -> Result<Ordered<ViewItem>, AllocError> {
+    let mut all = Ordered::new(alloc);
+    for item in items {
+        all.put(item.clone()?)?;
+    }
+    Ok(all)
+}
+
 /// `REVISION`: gives a copy of the view to the graph, as that of this revision.
 fn take_view(alloc: Global, views: &mut Views, out: &mut Answer, text: &str) {
-    if let Some(revision) = out.found(number_of(text))
-        && let Some(items) = out.made(views.items.clone())
-        && let Some(items) = out.made(Shared::of(alloc, items))
+    if let Some(revision) = out.found(read_count(text))
+        && let Some(items) = out.made(ordered(alloc, views.items.as_slice()))
+        && let Some(items) = out.made(SharedOrdered::of(alloc, items))
     {
-        views.engine.take_view(View { revision, items });
+        views.engine.take_view(alloc, View { revision, items });
         out.put("done");
+    }
+}
+
+fn take_changes(alloc: Global, engine: &mut Engine, out: &mut Answer, changes: &ViewChanges) {
+    if out.made(engine.take_changes(alloc, changes)).is_some() {
+        out.put("done");
+    }
+}
+
+/// The line of a view or of changes, which the graph gets.
+fn hear(alloc: Global, engine: &mut Engine, out: &mut Answer, line: &str) {
+    match decode(alloc, line) {
+        Ok(Message::View(view)) => {
+            engine.take_view(alloc, view);
+            out.put("done");
+        }
+        Ok(Message::Changes(changes)) => take_changes(alloc, engine, out, &changes),
+        _ => out.bad_line(),
+    }
+}
+
+/// The line of what the graph asks the repository.
+fn put_question(alloc: Global, engine: &Engine, out: &mut Answer) {
+    if let Some(line) = out.made(encode(alloc, &engine.question())) {
+        out.put(line.as_str());
     }
 }

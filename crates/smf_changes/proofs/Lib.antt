@@ -2,3 +2,5 @@ pub mod Sameness
 pub mod Merging
 pub mod Patching
 pub mod Touching
+pub mod Entering
+pub mod Recording

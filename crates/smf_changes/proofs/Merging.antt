@@ -1,46 +1,40 @@
 -- Lists in number order: numbers put together, and view items brought up to date.
-use Rattle.std.proofs.Common.{◌≡◌, ℕ, Bool, true, false, cond, not, if◌then◌else◌, List, [], ◌∷◌, map, Option, Some, None, option_map, refl, sym, ap, ◌∙◌, subst}
+use Rattle.std.proofs.Common.{◌≡◌, ℕ, zero, suc, ◌≤◌, Bool, true, false, cond, not, if◌then◌else◌, List, [], ◌∷◌, ◌++◌, map, take, Option, Some, None, option_map, refl, sym, ap, ◌∙◌, subst, arith}
 use Rattle.std.specs.Option.{option_eq}
 use Rattle.std.specs.Ordering.{is_eq, nat_cmp}
 use Rattle.std.proofs.lemmas.Map.Entries.{option_filter}
-use Rattle.smf_fmri.specs.ByKey.{IsBelowFirst, Rises, by_number, lookup, put, put_all, with_answer}
+use Rattle.smf_fmri.specs.ByKey.{By, Rises, lookup, put, put_all, with_answer}
 use Rattle.smf_fmri.proofs.Lookups.{equal_from_test, lookup_put, lookup_without}
 use Rattle.smf_fmri.proofs.Rising.{rises_put, rises_put_all, rises_without}
 use Rattle.smf_fmri.proofs.SameLists.{found_key, lookup_filter, same_lists}
+use Rattle.smf_state.specs.declared.view.ChangedItem.{ChangedItem}
 use Rattle.smf_state.specs.declared.view.View.{View}
 use Rattle.smf_state.specs.declared.view.ViewItem.{ViewItem}
+use Rattle.smf_state.specs.Patched.{by_changed, by_item, patched, with_item, with_items}
 use Rattle.smf_model.specs.declared.held.Instance.{Instance}
 use Rattle.smf_model.specs.Holdings.{Holdings}
 use Rattle.smf_model.specs.Look.{by_instance, instances}
 use Rattle.smf_model.specs.Shown.{view, view_item}
-use Rattle.smf_changes.specs.Changes.{Changed, as_it_is, by_changed, by_item, by_itself, has_changed, item, items, numbers, patched, with_items, together, touched, with_item}
+use Rattle.smf_model.proofs.Mapped.{lookup_map, rises_map}
+use Rattle.smf_changes.specs.Changes.{as_it_is, by_itself, has_changed, item, items, numbers, together, touched}
 use Rattle.smf_changes.specs.Same.{same_item}
 use Rattle.smf_changes.proofs.Sameness.{items_are}
-
--- ---- a list of numbered things, seen another way
-
-pub lookup_map : {X Y : Type 0} (a : X → ℕ) (b : Y → ℕ) (f : X → Y) (xs : List X) (k : ℕ) → ((x : X) → b (f x) ≡ a x) → lookup (by_number b) (map f xs) k ≡ option_map f (lookup (by_number a) xs k)
-lookup_map a b f [] k same = refl
-lookup_map a b f (x ∷ xs) k same = rw (same x) (by (is_eq (nat_cmp (a x) k)) (lookup_map a b f xs k same))
-  where
-    by : (t : Bool) → lookup (by_number b) (map f xs) k ≡ option_map f (lookup (by_number a) xs k)
-        → cond t (Some (f x)) (lookup (by_number b) (map f xs) k) ≡ option_map f (cond t (Some x) (lookup (by_number a) xs k))
-    by true ih = refl
-    by false ih = ih
-
-below_map : {X Y : Type 0} (a : X → ℕ) (b : Y → ℕ) (f : X → Y) (k : ℕ) (xs : List X) → ((x : X) → b (f x) ≡ a x) → IsBelowFirst (by_number a) k xs → IsBelowFirst (by_number b) k (map f xs)
-below_map a b f k [] same r = tt
-below_map a b f k (x ∷ xs) same r = rw (same x) r
-
-pub rises_map : {X Y : Type 0} (a : X → ℕ) (b : Y → ℕ) (f : X → Y) (xs : List X) → ((x : X) → b (f x) ≡ a x) → Rises (by_number a) xs → Rises (by_number b) (map f xs)
-rises_map a b f [] same r = tt
-rises_map a b f (x ∷ xs) same r = (rw (same x) (below_map a b f (a x) xs same r.0), rises_map a b f xs same r.1)
 
 none_mapped : {X Y : Type 0} (f : X → Y) (o : Option X) → option_map f o ≡ None → o ≡ None
 none_mapped f None e = refl
 none_mapped f (Some x) e = absurd cc
 
 -- ---- numbers put together
+
+pub put_all_append : {X K : Type 0} (o : By X K) (xs ys zs : List X) → put_all o (xs ++ ys) zs ≡ put_all o ys (put_all o xs zs)
+put_all_append o [] ys zs = refl
+put_all_append o (x ∷ xs) ys zs = put_all_append o xs ys (put o x zs)
+
+pub take_kept : {X : Type 0} (m n : ℕ) (xs : List X) → m ≤ n → take m (take n xs) ≡ take m xs
+take_kept zero n xs e = refl
+take_kept (suc m) zero xs e = absurd (omega arith)
+take_kept (suc m) (suc n) [] e = refl
+take_kept {X = X} (suc m) (suc n) (x ∷ xs) e = ap (λ (l : List X). x ∷ l) (take_kept m n xs (omega arith))
 
 pub misses_both : (ms ns : List ℕ) (n : ℕ) → lookup by_itself (put_all by_itself ms ns) n ≡ None → (lookup by_itself ms n ≡ None) × (lookup by_itself ns n ≡ None)
 misses_both [] ns n e = (refl, e)
@@ -121,7 +115,7 @@ with_item_rises : (n : ℕ) (o : Option ViewItem) (xs : List ViewItem) → Rises
 with_item_rises n None xs r = rises_without by_item n xs r
 with_item_rises n (Some x) xs r = rises_put by_item x xs r
 
-patched_rises : (cs : List Changed) (xs : List ViewItem) → Rises by_item xs → Rises by_item (with_items cs xs)
+patched_rises : (cs : List ChangedItem) (xs : List ViewItem) → Rises by_item xs → Rises by_item (with_items cs xs)
 patched_rises [] xs r = r
 patched_rises (c ∷ cs) xs r = patched_rises cs (with_item c.instance c.item xs) (with_item_rises c.instance c.item xs r)
 
@@ -137,4 +131,4 @@ view_from v u ns r s same =
 
 -- changes stand in number order
 pub changed_rise : (h : Holdings) (ns : List ℕ) → Rises by_itself ns → Rises by_changed (map (as_it_is h) ns)
-changed_rise h ns r = rises_map (λ (n : ℕ). n) (λ (c : Changed). c.instance) (as_it_is h) ns (λ n. refl) r
+changed_rise h ns r = rises_map (λ (n : ℕ). n) (λ (c : ChangedItem). c.instance) (as_it_is h) ns (λ n. refl) r

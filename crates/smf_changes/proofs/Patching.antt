@@ -4,6 +4,8 @@ use Rattle.std.specs.Prelude.{min}
 use Rattle.std.proofs.lemmas.Bool.Decides.{Decides-eqb}
 use Rattle.std.proofs.lemmas.List.{length-take}
 use Rattle.smf_fmri.specs.ByKey.{Rises, lookup}
+use Rattle.smf_state.specs.declared.view.ChangedItem.{ChangedItem}
+use Rattle.smf_state.specs.Patched.{by_changed, patched}
 use Rattle.smf_model.specs.declared.command.Command.{Command}
 use Rattle.smf_model.specs.History.{History, history, is_revised, made, noted, now, told}
 use Rattle.smf_model.specs.Holdings.{Holdings}
@@ -15,8 +17,8 @@ use Rattle.smf_model.proofs.Entries.{rises_bare}
 use Rattle.smf_model.proofs.LawEvents.{numbered_made}
 use Rattle.smf_model.proofs.LawHistory.{now_made}
 use Rattle.smf_model.proofs.LawOutcomes.{one_revision}
-use Rattle.smf_changes.specs.Changes.{Changed, IsBeyond, IsPatched, as_it_is, by_changed, by_itself, changes_since, is_beyond, item, most_recent, with_newest, patched, recent, together, touched}
-use Rattle.smf_changes.proofs.Merging.{changed_rise, misses_both, together_rises, untouched, view_from}
+use Rattle.smf_changes.specs.Changes.{IsBeyond, IsPatched, as_it_is, by_itself, changes_since, is_beyond, item, most_recent, with_newest, recent, together, touched}
+use Rattle.smf_changes.proofs.Merging.{changed_rise, misses_both, take_kept, together_rises, untouched, view_from}
 
 -- ---- revisions
 
@@ -60,12 +62,6 @@ pub in_order : (h : Holdings) (cs : List Command) → IsNumbered h → Rises by_
 in_order h cs numbered = rises_bare (made h cs).instances (numbered_made h cs numbered).ordered.instances
 
 -- ---- numbers that no list names
-
-take_kept : {X : Type 0} (m n : ℕ) (xs : List X) → m ≤ n → take m (take n xs) ≡ take m xs
-take_kept zero n xs e = refl
-take_kept (suc m) zero xs e = absurd (omega arith)
-take_kept (suc m) (suc n) [] e = refl
-take_kept {X = X} (suc m) (suc n) (x ∷ xs) e = ap (λ (l : List X). x ∷ l) (take_kept m n xs (omega arith))
 
 none_between : (m n k : ℕ) → m + zero ≡ k → k ≡ n + 1 → m ≤ n → ⊥
 none_between m n k e f low = omega arith
@@ -152,7 +148,7 @@ recent_accepted h (c ∷ cs) =
 from_pair : {X : Type 0} (x y : X) → Some x ≡ Some y → x ≡ y
 from_pair x y e = cc
 
-abbrev given : Holdings → List ℕ → ℕ × List Changed
+abbrev given : Holdings → List ℕ → ℕ × List ChangedItem
 given h ns = (h.revision, map (as_it_is h) ns)
 
 neither : (a b : Bool) → (a || b) ≡ false → (a ≡ false) × (b ≡ false)
@@ -166,7 +162,7 @@ one_of false b e = inr e
 far_enough : (l m n k : ℕ) → m ≤ k → l ≡ min most_recent (k - n) → nat_lt l (k - m) ≡ false → (m + (k - m) ≡ k) × (k - m ≤ most_recent)
 far_enough l m n k low e f = let kept : k - m ≤ l = ltb-false l (k - m) f in (omega arith, omega arith)
 
-pub view_patched : (h : Holdings) (cs ds : List Command) (to : ℕ) (items : List Changed) → IsNumbered h → IsPatched (recent h (ds ++ cs)) (made h cs) (made h (ds ++ cs)) to items
+pub view_patched : (h : Holdings) (cs ds : List Command) (to : ℕ) (items : List ChangedItem) → IsNumbered h → IsPatched (recent h (ds ++ cs)) (made h cs) (made h (ds ++ cs)) to items
 unfolding changes_since
 view_patched h cs ds to items numbered = by (is_beyond (recent h (ds ++ cs)) (made h (ds ++ cs)) (made h cs).revision) refl
   where
@@ -181,7 +177,7 @@ view_patched h cs ds to items numbered = by (is_beyond (recent h (ds ++ cs)) (ma
         let j : ℕ = (made h (ds ++ cs)).revision - (made h cs).revision in
         let far = far_enough (length (recent h (ds ++ cs))) (made h cs).revision h.revision (made h (ds ++ cs)).revision (revisions_rise h cs ds) (kept_lists h (ds ++ cs)) (neither _ _ f).1 in
         let same : (n : ℕ) → lookup by_itself (ns j) n ≡ None → item (made h cs) n ≡ item (made h (ds ++ cs)) n = λ n none. between h cs ds j n numbered far.0 far.1 none in
-        let P : ℕ × List Changed → Type 0 = λ p. (p.0 ≡ (made h (ds ++ cs)).revision) × (patched (view (made h cs)) p.0 p.1 ≡ view (made h (ds ++ cs))) in
+        let P : ℕ × List ChangedItem → Type 0 = λ p. (p.0 ≡ (made h (ds ++ cs)).revision) × (patched (view (made h cs)) p.0 p.1 ≡ view (made h (ds ++ cs))) in
         let pair : given (made h (ds ++ cs)) (ns j) ≡ (to, items) = from_pair _ _ e in
         subst P pair (refl, view_from (made h cs) (made h (ds ++ cs)) (ns j) (in_order h cs numbered) (in_order h (ds ++ cs) numbered) same)
 
@@ -219,17 +215,17 @@ pub beyond_none : (h : Holdings) (cs : List Command) (from : ℕ) → changes_si
 unfolding changes_since
 beyond_none h cs from e = kept_beyond (length (recent h cs)) h.revision (made h cs).revision from (first_least h cs) (kept_lists h cs) (by (is_beyond (recent h cs) (made h cs) from) _ e)
   where
-    by : (b : Bool) (some : ℕ × List Changed) → (if b then None else Some some) ≡ None → b ≡ true
+    by : (b : Bool) (some : ℕ × List ChangedItem) → (if b then None else Some some) ≡ None → b ≡ true
     by true some e = refl
     by false some e = absurd cc
 
-pub changes_rise : (nss : List (List ℕ)) (h : Holdings) (from to : ℕ) (items : List Changed) → changes_since nss h from ≡ Some (to, items) → Rises by_changed items
+pub changes_rise : (nss : List (List ℕ)) (h : Holdings) (from to : ℕ) (items : List ChangedItem) → changes_since nss h from ≡ Some (to, items) → Rises by_changed items
 unfolding changes_since
 changes_rise nss h from to items = by (is_beyond nss h from)
   where
     by : (b : Bool) → (if b then None else Some (given h (together (take (h.revision - from) nss)))) ≡ Some (to, items) → Rises by_changed items
     by true e = absurd cc
     by false e =
-        let P : ℕ × List Changed → Type 0 = λ p. Rises by_changed p.1 in
+        let P : ℕ × List ChangedItem → Type 0 = λ p. Rises by_changed p.1 in
         let pair : given h (together (take (h.revision - from) nss)) ≡ (to, items) = from_pair _ _ e in
         subst P pair (changed_rise h (together (take (h.revision - from) nss)) (together_rises (take (h.revision - from) nss)))

@@ -27,11 +27,12 @@ use Rattle.smf_model.specs.Setting.{current, enabled, enabled_property, general,
 use Rattle.smf_model.specs.Shown.{body_of, view_item}
 use Rattle.smf_model.proofs.Entries.{lookup_bare, rises_bare}
 use Rattle.smf_model.proofs.LawLists.{differs, no_such, none_filter, none_put_new, some_filter, some_put_new, some_same}
+use Rattle.smf_model.proofs.Mapped.{lookup_map}
 use Rattle.smf_model.proofs.Order.{ordered_after}
 use Rattle.smf_changes.specs.Candidates.{AllRunTheirOwn, candidates, is_number, is_of, instances_named, named_by, numbers_where, of_service, running_by, runs_of, touched_among, waits_for}
 use Rattle.smf_changes.specs.Changes.{by_itself, has_changed, item, numbers, touched}
 use Rattle.smf_laws.specs.Consistent.{IsOwn}
-use Rattle.smf_changes.proofs.Merging.{item_at, lookup_map, misses_both, numbers_miss, numbers_rise}
+use Rattle.smf_changes.proofs.Merging.{item_at, misses_both, numbers_miss, numbers_rise}
 use Rattle.smf_changes.proofs.Sameness.{items_are}
 
 -- ---- lists that have no number

@@ -2,9 +2,10 @@
 use Rattle.std.specs.Prelude.{◌≡◌, ◌⊎◌, ℕ, ◌+◌, ◌-◌, ◌<◌, ◌||◌, not, nat_lt, List, [], ◌∷◌, length, map, filter, take}
 use Rattle.std.specs.Prelude.{Bool, true, false, if◌then◌else◌, Option, Some, None}
 use Rattle.std.specs.Option.{option_eq}
-use Rattle.smf_fmri.specs.ByKey.{By, by_number, lookup, put, put_all, without}
-use Rattle.smf_state.specs.declared.view.View.{View}
+use Rattle.smf_fmri.specs.ByKey.{By, by_number, lookup, put_all}
+use Rattle.smf_state.specs.declared.view.ChangedItem.{ChangedItem}
 use Rattle.smf_state.specs.declared.view.ViewItem.{ViewItem}
+use Rattle.smf_state.specs.Patched.{by_item, patched}
 use Rattle.smf_model.specs.declared.command.Command.{Command}
 use Rattle.smf_model.specs.History.{is_revised, made}
 use Rattle.smf_model.specs.Holdings.{Holdings}
@@ -12,21 +13,10 @@ use Rattle.smf_model.specs.Look.{instances}
 use Rattle.smf_model.specs.Shown.{view, view_item}
 use Rattle.smf_changes.specs.Same.{same_item}
 
--- an instance by its number, with its view item of today, or none where it is gone
-pub record Changed : Type 0 where
-  pub instance : ℕ
-  pub item : Option ViewItem
-
 -- ---- items by number
-
-abbrev pub by_item : By ViewItem ℕ
-by_item = by_number (λ x. x.instance)
 
 abbrev pub by_itself : By ℕ ℕ
 by_itself = by_number (λ n. n)
-
-abbrev pub by_changed : By Changed ℕ
-by_changed = by_number (λ c. c.instance)
 
 abbrev pub items : Holdings → List ViewItem
 items h = map (view_item h) (instances h)
@@ -68,7 +58,7 @@ abbrev pub together : List (List ℕ) → List ℕ
 together [] = []
 together (ns ∷ nss) = put_all by_itself ns (together nss)
 
-abbrev pub as_it_is : Holdings → ℕ → Changed
+abbrev pub as_it_is : Holdings → ℕ → ChangedItem
 as_it_is h n = record { instance = n; item = item h n }
 
 -- no list is kept for a revision that is to come, or that is too old
@@ -76,29 +66,15 @@ abbrev pub is_beyond : List (List ℕ) → Holdings → ℕ → Bool
 is_beyond nss h from = nat_lt h.revision from || nat_lt (length nss) (h.revision - from)
 
 -- the revision of a value, and the items of today of all that was touched since another
-unfoldable pub changes_since : List (List ℕ) → Holdings → ℕ → Option (ℕ × List Changed)
+unfoldable pub changes_since : List (List ℕ) → Holdings → ℕ → Option (ℕ × List ChangedItem)
 changes_since nss h from =
     if is_beyond nss h from then None
     else Some (h.revision, map (as_it_is h) (together (take (h.revision - from) nss)))
 
--- ---- a view that is brought up to date
-
-abbrev pub with_item : ℕ → Option ViewItem → List ViewItem → List ViewItem
-with_item n None xs = without by_item n xs
-with_item n (Some x) xs = put by_item x xs
-
--- each item put in its place, or taken out
-abbrev pub with_items : List Changed → List ViewItem → List ViewItem
-with_items [] xs = xs
-with_items (c ∷ cs) xs = with_items cs (with_item c.instance c.item xs)
-
-unfoldable pub patched : View → ℕ → List Changed → View
-patched v to cs = record { revision = to; items = with_items cs v.items }
-
 -- ---- laws
 
 -- with the changes since its revision, the view of one value is that of a newer one
-abbrev pub IsPatched : List (List ℕ) → Holdings → Holdings → ℕ → List Changed → Type 0
+abbrev pub IsPatched : List (List ℕ) → Holdings → Holdings → ℕ → List ChangedItem → Type 0
 IsPatched nss v u to cs =
     changes_since nss u v.revision ≡ Some (to, cs) → (to ≡ u.revision) × (patched (view v) to cs ≡ view u)
 

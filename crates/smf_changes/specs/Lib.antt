@@ -1,3 +1,5 @@
 pub mod Same
 pub mod Changes
 pub mod Candidates
+pub mod Recorded
+pub mod Keeping

@@ -1,7 +1,9 @@
 ghost use Rattle.std.specs.Prelude.{◌≡◌, ◌++◌, ◌-◌, ℕ, IsSome, List, None, Some, length, min};
 ghost use Rattle.smf_fmri.specs.ByKey.{Rises, lookup};
 ghost use Rattle.smf_changes.specs.Candidates.{AllRunTheirOwn, candidates, instances_named, touched_among};
-ghost use Rattle.smf_changes.specs.Changes.{Changed, IsBeyond, IsPatched, by_changed, by_itself, changes_since, most_recent, recent, touched};
+ghost use Rattle.smf_changes.specs.Changes.{IsBeyond, IsPatched, by_itself, changes_since, most_recent, recent, touched};
+ghost use Rattle.smf_state.specs.declared.view.ChangedItem.{ChangedItem};
+ghost use Rattle.smf_state.specs.Patched.{by_changed};
 ghost use Rattle.smf_model.specs.declared.change.Change.{Change as AnyChange};
 ghost use Rattle.smf_model.specs.declared.command.Command.{Command as AnyCommand};
 ghost use Rattle.smf_model.specs.History.{history, made};
@@ -11,7 +13,7 @@ ghost use Rattle.smf_model.specs.Look.{installed};
 
 /// The view of a value, with the changes made since, is the view of the newest value.
 pub fn a_view_is_patched()
-    ensures { (h : Holdings) (cs ds : List AnyCommand) (to : ℕ) (items : List Changed) → IsNumbered h
+    ensures { (h : Holdings) (cs ds : List AnyCommand) (to : ℕ) (items : List ChangedItem) → IsNumbered h
         → IsPatched (recent h (ds ++ cs)) (made h cs) (made h (ds ++ cs)) to items }
 {}
 
@@ -23,7 +25,7 @@ pub fn changes_are_exact()
         → changes_since (recent h cs) (made h cs) from ≡ None → IsBeyond h (made h cs) from }
     ensures kept { (h : Holdings) (cs : List AnyCommand)
         → length (recent h cs) ≡ min most_recent ((made h cs).revision - h.revision) }
-    ensures rising { (nss : List (List ℕ)) (h : Holdings) (from to : ℕ) (items : List Changed)
+    ensures rising { (nss : List (List ℕ)) (h : Holdings) (from to : ℕ) (items : List ChangedItem)
         → changes_since nss h from ≡ Some (to, items) → Rises by_changed items }
 {}
 

@@ -156,6 +156,8 @@ call_delivered w (messages.Ack name launch serial i row) = call_told (messages.A
 call_delivered w (messages.Nack name launch serial i why row) = call_told (messages.Nack name launch serial i why row) (restarter w name)
 call_delivered w messages.AskView = refl
 call_delivered w (messages.View v) = refl
+call_delivered w (messages.AskChange from) = refl
+call_delivered w (messages.Changes c) = refl
 call_delivered w (messages.Order o) = call_told (messages.Order o) (restarter w o.restarter)
 
 call_sent : (w : World) (o : Option Message) → (delivered_if w o).call ≡ calls.Nothing

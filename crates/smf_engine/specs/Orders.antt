@@ -1,5 +1,5 @@
 -- What svc.startd's graph orders, by what it sees of the instances.
-use Rattle.std.specs.Prelude.{ℕ, ◌==◌, ◌||◌, not, nat_lt, List, [], ◌∷◌, Bool, true, false, if◌then◌else◌, Option, Some, None, find, option_map, slice_get, Ok, Err}
+use Rattle.std.specs.Prelude.{ℕ, ◌==◌, ◌&&◌, ◌||◌, not, nat_lt, List, [], ◌∷◌, Bool, true, false, if◌then◌else◌, Option, Some, None, find, option_map, slice_get, Ok, Err}
 use Rattle.std.specs.Int.RustNames.{bit_and}
 use Rattle.std.specs.List.{filter_map}
 use Rattle.smf_contract.specs.declared.cookie.Method.{Method}
@@ -18,6 +18,10 @@ use Rattle.smf_dep.specs.declared.member.Member.{Member}
 use Rattle.smf_dep.specs.Members.{member_of, members}
 use Rattle.smf_dep.specs.Methods.{MethodRead, has_unfit_methods, method_by}
 use Rattle.smf_dep.specs.Places.{finding_of}
+use Rattle.smf_state.specs.Patched.{patched}
+use Rattle.smf_wire.specs.declared.message.Message.{Message}
+use Rattle.smf_wire.specs.declared.message.Message.TheVariants as messages
+use Rattle.smf_wire.specs.declared.message.ViewChanges.{ViewChanges}
 use Rattle.smf_wire.specs.declared.order.Order.{Order}
 use Rattle.smf_wire.specs.declared.order.What.{What}
 use Rattle.smf_wire.specs.declared.order.What.TheVariants as whats
@@ -160,6 +164,20 @@ orders revision items = filter_map (order revision items) items
 abbrev pub newer : Option View → View → Option View
 newer None seen = Some seen
 newer (Some held) seen = if nat_lt held.revision seen.revision then Some seen else Some held
+
+-- changes go on from the view of the revision that they begin with
+abbrev pub goes_on : View → ViewChanges → Bool
+goes_on v c = (v.revision == c.from) && not (nat_lt c.to c.from)
+
+-- the view that is held, with the changes where they go on from it
+abbrev pub with_changes : Option View → ViewChanges → Option View
+with_changes None c = None
+with_changes (Some v) c = if goes_on v c then Some (patched v c.to c.items) else Some v
+
+-- what the graph asks: for the view, or for what changed since the one that it holds
+abbrev pub question : Option View → Message
+question None = messages.AskView
+question (Some v) = messages.AskChange v.revision
 
 abbrev pub orders_seen : Option View → List Order
 orders_seen None = []

@@ -1,5 +1,5 @@
-ghost use Rattle.std.specs.Prelude.{◌≡◌, List, ℕ};
-ghost use Rattle.smf_fmri.specs.ByKey.{By, Rises, by_text};
+ghost use Rattle.std.specs.Prelude.{◌≡◌, List, ℕ, refl};
+ghost use Rattle.smf_fmri.specs.ByKey.{By, Rises, by_number, by_text};
 
 /// What has a key, by which it is found and put in order: `by` says it in contracts, and compares as the key's type.
 pub trait Keyed {
@@ -38,4 +38,21 @@ pub trait HasPart: Keyed {
 /// What is cloned as it is.
 pub trait ExactClone: Clone {
     ghost exact: { (x copy : Self) → Self.is_clone x copy → copy ≡ x };
+}
+
+/// A number is its own key.
+impl Keyed for u64 {
+    type Key = u64;
+
+    ghost by = { by_number (λ n. n) };
+
+    fn key(&self) -> &u64 {
+        self
+    }
+
+    ghost same = { refl };
+}
+
+impl ExactClone for u64 {
+    ghost exact = { λ n copy same. same };
 }

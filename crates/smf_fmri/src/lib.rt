@@ -1,7 +1,8 @@
 //! Names of services and instances, and the small types that every crate shares.
 //! Modules: `fmri`, `instance` and `service` (names), `pattern` (abbreviations), `count` (numbers as texts), `reader`,
-//! `items`, `shared` (a list that is not changed any more), `text`, `bytes`, `number`, `fault`. Lists in the order of a key: `keyed` (what has a key), `sorted` (what
-//! is done to a vector in that order), `ordered` (such a list), `table` (the same, with room that is made beforehand).
+//! `items`, `text`, `bytes`, `number`, `fault`. Lists in the order of a key: `keyed` (what has a key), `sorted` (what
+//! is done to a vector in that order), `ordered` (such a list), `table` (the same, with room that is made beforehand),
+//! `shared` (the same, not changed any more).
 #![tactic(auto)]
 
 mod bytes;
@@ -33,6 +34,6 @@ pub use ordered::Ordered;
 pub use pattern::{Pattern, pick};
 pub use reader::strip;
 pub use service::ServiceFmri;
-pub use shared::Shared;
+pub use shared::SharedOrdered;
 pub use table::Table;
 pub use text::Text;

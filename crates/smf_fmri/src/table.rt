@@ -5,7 +5,7 @@ ghost use Rattle.std.specs.Prelude.{◌≡◌, ◌↔◌, ◌+◌, ◌++◌, ◌
 ghost use Rattle.smf_fmri.specs.ByKey.{IsAbove, Rises, amend, by_text, lookup, put, without};
 
 use crate::keyed::{ExactClone, HasPart, Keyed, TextKeyed};
-use crate::ordered::copied;
+use crate::ordered::{Ordered, copied};
 use crate::sorted::{amend_in, find_in, find_text_in, put_in, take_from};
 use std::alloc::{AllocError, Global};
 use std::marker::Model;
@@ -35,6 +35,15 @@ impl<T: Keyed> Table<T> {
     {
         Table {
             items: Vec::new(alloc),
+        }
+    }
+
+    /// The items of an ordered list.
+    pub fn from_ordered(items: Ordered<T>) -> Self
+        ensures { result.items ≡ items }
+    {
+        Table {
+            items: items.into_vec(),
         }
     }
 

@@ -15,7 +15,7 @@ use Rattle.smf_model.specs.declared.command.Reply.TheVariants as replies
 use Rattle.smf_model.specs.Holdings.{Holdings}
 use Rattle.smf_model.specs.Laws.{IsNumbered}
 use Rattle.smf_model.specs.Look.{installed, launch_of}
-use Rattle.smf_model.specs.Next.{asked}
+use Rattle.smf_model.specs.Next.{asked, next}
 use Rattle.smf_restarter.specs.declared.reply.Reply.{Reply}
 use Rattle.smf_restarter.specs.Knowledge.{Knowledge}
 use Rattle.smf_restarter.specs.Replies.{heard}
@@ -30,12 +30,16 @@ use Rattle.smf_world.specs.declared.work.Becomes.{Becomes}
 use Rattle.smf_world.specs.declared.work.Work.{Work}
 use Rattle.smf_world.specs.Worked.{accepted, acted, booted, booted_as, calling, commanded, crashed, delivered, delivered_if, heard_by, holder, is_launched, is_named, joined, knowing, launched, launched_as, launched_if, no_work, own_ticked, process_call, proposed, reported_by, reported_to, restarter, sent_at, ticked_for, timed, told, worked}
 use Rattle.smf_world.specs.World.{World}
-use Rattle.smf_machine.specs.Install.{CanInstall}
+use Rattle.smf_world.proofs.ItemsMade.{AreMade}
+use Rattle.smf_world.proofs.RowLaunches.{revised}
+use Rattle.smf_machine.specs.Done.{changes_in, changes_of}
+use Rattle.smf_machine.specs.Install.{AreOf, CanInstall}
 use Rattle.smf_machine.specs.Lists.{AllFresh, AtMostOne, NoTwins}
 
 record IsOrderly (w : World) (k : Work) : Type 0 where
   asked : (k.changes ≡ []) ⊎ ((c : Command) × (k.changes ≡ (asked w.now c).changes))
   command : AtMostOne k.command
+  of_command : AreOf w.now k.command k.changes
   becomes : AtMostOne k.becomes
   fresh : AllFresh w.restarters k.becomes
 
@@ -43,66 +47,74 @@ one_accepted : (c : Command) (xs : List Change) → AtMostOne (accepted c xs)
 one_accepted c [] = tt
 one_accepted c (x ∷ xs) = tt
 
+-- the changes that a command asks for are those of the command that is accepted
+are_of : (h : Holdings) (c : Command) (xs : List Change) → xs ≡ (asked h c).changes → AreOf h (accepted c xs) xs
+unfolding next
+are_of h c [] e = refl
+are_of h c (x ∷ xs) e = (ap (installed h) e, revised h c (subst AreMade e tt))
+
 by_command : (w : World) (c : Command) → IsOrderly w (commanded w c)
 unfolding commanded
-by_command w c = record { asked = inr (c, refl); command = one_accepted c (asked w.now c).changes; becomes = tt; fresh = tt }
+by_command w c = record { asked = inr (c, refl); command = one_accepted c (asked w.now c).changes; of_command = are_of w.now c (asked w.now c).changes refl; becomes = tt; fresh = tt }
 
 by_told : (w : World) (m : Message) (k : Option Knowledge) → IsOrderly w (told m k)
 unfolding heard_by
-by_told w m None = record { asked = inl refl; command = tt; becomes = tt; fresh = tt }
-by_told w m (Some k) = record { asked = inl refl; command = tt; becomes = tt; fresh = (tt, tt) }
+by_told w m None = record { asked = inl refl; command = tt; of_command = refl; becomes = tt; fresh = tt }
+by_told w m (Some k) = record { asked = inl refl; command = tt; of_command = refl; becomes = tt; fresh = (tt, tt) }
 
 by_joined : (w : World) (name : List ℕ) (launch : ℕ) (last : Bool) → IsOrderly w (joined w name launch last)
-by_joined w name launch true = record { asked = inl refl; command = tt; becomes = tt; fresh = tt }
-by_joined w name launch false = record { asked = inl refl; command = tt; becomes = tt; fresh = tt }
+by_joined w name launch true = record { asked = inl refl; command = tt; of_command = refl; becomes = tt; fresh = tt }
+by_joined w name launch false = record { asked = inl refl; command = tt; of_command = refl; becomes = tt; fresh = tt }
 
 by_delivered : (w : World) (m : Message) → IsOrderly w (delivered w m)
 unfolding delivered
 by_delivered w (messages.Join name launch) = by_joined w name launch (launch == launch_of w.now name)
 by_delivered w (messages.Rows name launch rows) = by_told w (messages.Rows name launch rows) (restarter w name)
-by_delivered w (messages.Propose p) = let k = by_command w (commands.Propose p) in record { asked = k.asked; command = k.command; becomes = k.becomes; fresh = k.fresh }
+by_delivered w (messages.Propose p) = let k = by_command w (commands.Propose p) in record { asked = k.asked; command = k.command; of_command = k.of_command; becomes = k.becomes; fresh = k.fresh }
 by_delivered w (messages.Ack name launch serial i row) = by_told w (messages.Ack name launch serial i row) (restarter w name)
 by_delivered w (messages.Nack name launch serial i why row) = by_told w (messages.Nack name launch serial i why row) (restarter w name)
-by_delivered w messages.AskView = record { asked = inl refl; command = tt; becomes = tt; fresh = tt }
-by_delivered w (messages.View v) = record { asked = inl refl; command = tt; becomes = tt; fresh = tt }
+by_delivered w messages.AskView = record { asked = inl refl; command = tt; of_command = refl; becomes = tt; fresh = tt }
+by_delivered w (messages.AskChange from) = record { asked = inl refl; command = tt; of_command = refl; becomes = tt; fresh = tt }
+by_delivered w (messages.Changes c) = record { asked = inl refl; command = tt; of_command = refl; becomes = tt; fresh = tt }
+by_delivered w (messages.View v) = record { asked = inl refl; command = tt; of_command = refl; becomes = tt; fresh = tt }
 by_delivered w (messages.Order o) = by_told w (messages.Order o) (restarter w o.restarter)
 
 by_delivered_if : (w : World) (m : Option Message) → IsOrderly w (delivered_if w m)
-by_delivered_if w None = record { asked = inl refl; command = tt; becomes = tt; fresh = tt }
+by_delivered_if w None = record { asked = inl refl; command = tt; of_command = refl; becomes = tt; fresh = tt }
 by_delivered_if w (Some m) = by_delivered w m
 
 by_acted : (w : World) (k : Knowledge) (n : ℕ) (spawn : SpawnAnswer) (r : Reply) → IsOrderly w (acted w k n spawn r)
 unfolding acted
-by_acted w k n spawn r = record { asked = inl refl; command = tt; becomes = tt; fresh = (tt, tt) }
+by_acted w k n spawn r = record { asked = inl refl; command = tt; of_command = refl; becomes = tt; fresh = (tt, tt) }
 
 by_own_tick : (w : World) (k : Option Knowledge) → IsOrderly w (own_ticked w k)
-by_own_tick w None = record { asked = inl refl; command = tt; becomes = tt; fresh = tt }
+by_own_tick w None = record { asked = inl refl; command = tt; of_command = refl; becomes = tt; fresh = tt }
 by_own_tick w (Some k) = by_acted w k 0 spawns.Made (own_tick k k.stage)
 
 by_tick : (w : World) (n : ℕ) (spawn : SpawnAnswer) (k : Option Knowledge) → IsOrderly w (ticked_for w n spawn k)
-by_tick w n spawn None = record { asked = inl refl; command = tt; becomes = tt; fresh = tt }
+by_tick w n spawn None = record { asked = inl refl; command = tt; of_command = refl; becomes = tt; fresh = tt }
 by_tick w n spawn (Some k) = by_acted w k n spawn (ticked k n)
 
 by_calling : (w : World) (t : Contracts) (call : ContractCall) → IsOrderly w (calling t call)
 unfolding calling
-by_calling w t call = record { asked = inl refl; command = tt; becomes = tt; fresh = tt }
+by_calling w t call = record { asked = inl refl; command = tt; of_command = refl; becomes = tt; fresh = tt }
 
 by_report : (w : World) (r : Report) (k : Option Knowledge) → IsOrderly w (reported_by r k)
-by_report w r None = record { asked = inl refl; command = tt; becomes = tt; fresh = tt }
-by_report w r (Some k) = record { asked = inl refl; command = tt; becomes = tt; fresh = (tt, tt) }
+by_report w r None = record { asked = inl refl; command = tt; of_command = refl; becomes = tt; fresh = tt }
+by_report w r (Some k) = record { asked = inl refl; command = tt; of_command = refl; becomes = tt; fresh = (tt, tt) }
 
 by_reported : (w : World) (r : Option Report) → IsOrderly w (reported_to w r)
-by_reported w None = record { asked = inl refl; command = tt; becomes = tt; fresh = tt }
+by_reported w None = record { asked = inl refl; command = tt; of_command = refl; becomes = tt; fresh = tt }
 by_reported w (Some r) = by_report w r (holder w r.contract.holder)
 
 by_timeout : (w : World) (n : ℕ) (k : Option Knowledge) → IsOrderly w (timed n k)
-by_timeout w n None = record { asked = inl refl; command = tt; becomes = tt; fresh = tt }
-by_timeout w n (Some k) = record { asked = inl refl; command = tt; becomes = tt; fresh = (tt, tt) }
+by_timeout w n None = record { asked = inl refl; command = tt; of_command = refl; becomes = tt; fresh = tt }
+by_timeout w n (Some k) = record { asked = inl refl; command = tt; of_command = refl; becomes = tt; fresh = (tt, tt) }
 
 by_crash : (w : World) (k : Option Knowledge) → IsOrderly w (crashed w k)
 unfolding calling
-by_crash w None = record { asked = inl refl; command = tt; becomes = tt; fresh = tt }
-by_crash w (Some k) = record { asked = inl refl; command = tt; becomes = tt; fresh = (tt, tt) }
+by_crash w None = record { asked = inl refl; command = tt; of_command = refl; becomes = tt; fresh = tt }
+by_crash w (Some k) = record { asked = inl refl; command = tt; of_command = refl; becomes = tt; fresh = (tt, tt) }
 
 one_launched : (w : World) (name : List ℕ) (rs : List CommandReply) → AtMostOne (launched_as w name rs)
 one_launched w name [] = tt
@@ -131,17 +143,17 @@ fresh_launched w name (replies.Limit ∷ rs) e = tt
 fresh_launched w name (replies.Stale why row ∷ rs) e = tt
 
 by_launch : (w : World) (name : List ℕ) (b : Bool) → is_launched w name ≡ b → IsOrderly w (launched_if w name b)
-by_launch w name true e = record { asked = inl refl; command = tt; becomes = tt; fresh = tt }
+by_launch w name true e = record { asked = inl refl; command = tt; of_command = refl; becomes = tt; fresh = tt }
 by_launch w name false e =
     let k = by_command w (commands.Launch name) in
     let rs = (commanded w (commands.Launch name)).reply in
-    record { asked = k.asked; command = k.command; becomes = one_launched w name rs; fresh = fresh_launched w name rs e }
+    record { asked = k.asked; command = k.command; of_command = k.of_command; becomes = one_launched w name rs; fresh = fresh_launched w name rs e }
 
 by_boot : (w : World) (k : Work) (rs : List CommandReply) → IsOrderly w k → IsOrderly w (booted_as k rs)
 by_boot w k [] o = o
 by_boot w k (replies.Made launch ∷ rs) o = o
 by_boot w k (replies.Granted row ∷ rs) o = o
-by_boot w k (replies.Done ∷ rs) o = record { asked = o.asked; command = o.command; becomes = tt; fresh = (tt, tt) }
+by_boot w k (replies.Done ∷ rs) o = record { asked = o.asked; command = o.command; of_command = o.of_command; becomes = tt; fresh = (tt, tt) }
 by_boot w k (replies.NoSuch ∷ rs) o = o
 by_boot w k (replies.InUse ∷ rs) o = o
 by_boot w k (replies.NotInState ∷ rs) o = o
@@ -154,8 +166,8 @@ orderly : (w : World) (e : Event) → IsOrderly w (worked w e)
 unfolding worked
 orderly w (events.Deliver place) = by_delivered_if w (sent_at w place)
 orderly w (events.Client edit) = by_command w (commands.Edit edit)
-orderly w events.Ask = record { asked = inl refl; command = tt; becomes = tt; fresh = tt }
-orderly w events.Orders = record { asked = inl refl; command = tt; becomes = tt; fresh = tt }
+orderly w events.Ask = record { asked = inl refl; command = tt; of_command = refl; becomes = tt; fresh = tt }
+orderly w events.Orders = record { asked = inl refl; command = tt; of_command = refl; becomes = tt; fresh = tt }
 orderly w (events.OwnTick name) = by_own_tick w (restarter w name)
 orderly w (events.Tick name n spawn) = by_tick w n spawn (restarter w name)
 orderly w (events.Process process what) = by_calling w w.table (process_call process what)
@@ -178,6 +190,98 @@ numbered_worked w e n = numbered_by w.now (worked w e).changes n (orderly w e).a
 pub fresh_worked : (w : World) (e : Event) → AllFresh w.restarters (worked w e).becomes
 fresh_worked w e = (orderly w e).fresh
 
-pub can_install : (w : World) (e : Event) → IsNumbered w.now → NoTwins w.restarters → CanInstall w.now w.restarters (worked w e)
-can_install w e n apart =
-    let o = orderly w e in record { numbered = numbered_worked w e n; apart = apart; command = o.command; becomes = o.becomes }
+-- ---- the graph's view is patched by changes alone
+
+by_told_patches : (m : Message) (k : Option Knowledge) → (told m k).patches ≡ []
+unfolding heard_by
+by_told_patches m None = refl
+by_told_patches m (Some k) = refl
+
+by_joined_patches : (w : World) (name : List ℕ) (launch : ℕ) (b : Bool) → (joined w name launch b).patches ≡ []
+by_joined_patches w name launch true = refl
+by_joined_patches w name launch false = refl
+
+delivered_patches : (w : World) (m : Message) → changes_in (Some m) ≡ None → (delivered w m).patches ≡ []
+unfolding delivered commanded
+delivered_patches w (messages.Join name launch) e = by_joined_patches w name launch (launch == launch_of w.now name)
+delivered_patches w (messages.Rows name launch rows) e = by_told_patches (messages.Rows name launch rows) (restarter w name)
+delivered_patches w (messages.Propose p) e = refl
+delivered_patches w (messages.Ack name launch serial i row) e = by_told_patches (messages.Ack name launch serial i row) (restarter w name)
+delivered_patches w (messages.Nack name launch serial i why row) e = by_told_patches (messages.Nack name launch serial i why row) (restarter w name)
+delivered_patches w messages.AskView e = refl
+delivered_patches w (messages.View v) e = refl
+delivered_patches w (messages.AskChange from) e = refl
+delivered_patches w (messages.Changes c) e = absurd cc
+delivered_patches w (messages.Order o) e = by_told_patches (messages.Order o) (restarter w o.restarter)
+
+sent_patches : (w : World) (o : Option Message) → changes_in o ≡ None → (delivered_if w o).patches ≡ []
+sent_patches w None e = refl
+sent_patches w (Some m) e = delivered_patches w m e
+
+tick_patches : (w : World) (n : ℕ) (spawn : SpawnAnswer) (k : Option Knowledge) → (ticked_for w n spawn k).patches ≡ []
+unfolding acted
+tick_patches w n spawn None = refl
+tick_patches w n spawn (Some k) = refl
+
+own_patches : (w : World) (k : Option Knowledge) → (own_ticked w k).patches ≡ []
+unfolding acted
+own_patches w None = refl
+own_patches w (Some k) = refl
+
+report_patches : (r : Report) (k : Option Knowledge) → (reported_by r k).patches ≡ []
+report_patches r None = refl
+report_patches r (Some k) = refl
+
+reported_patches : (w : World) (r : Option Report) → (reported_to w r).patches ≡ []
+reported_patches w None = refl
+reported_patches w (Some r) = report_patches r (holder w r.contract.holder)
+
+timed_patches : (n : ℕ) (k : Option Knowledge) → (timed n k).patches ≡ []
+timed_patches n None = refl
+timed_patches n (Some k) = refl
+
+crash_patches : (w : World) (k : Option Knowledge) → (crashed w k).patches ≡ []
+unfolding calling
+crash_patches w None = refl
+crash_patches w (Some k) = refl
+
+launch_patches : (w : World) (name : List ℕ) (b : Bool) → (launched_if w name b).patches ≡ []
+unfolding commanded
+launch_patches w name true = refl
+launch_patches w name false = refl
+
+boot_patches : (k : Work) (rs : List CommandReply) → k.patches ≡ [] → (booted_as k rs).patches ≡ []
+boot_patches k [] e = e
+boot_patches k (replies.Done ∷ rs) e = e
+boot_patches k (replies.Made launch ∷ rs) e = e
+boot_patches k (replies.Granted row ∷ rs) e = e
+boot_patches k (replies.NoSuch ∷ rs) e = e
+boot_patches k (replies.InUse ∷ rs) e = e
+boot_patches k (replies.NotInState ∷ rs) e = e
+boot_patches k (replies.Exists ∷ rs) e = e
+boot_patches k (replies.Denied fault ∷ rs) e = e
+boot_patches k (replies.Limit ∷ rs) e = e
+boot_patches k (replies.Stale why row ∷ rs) e = e
+
+no_patches : (w : World) (e : Event) → changes_of w e ≡ None → (worked w e).patches ≡ []
+unfolding worked commanded calling
+no_patches w (events.Deliver place) none = sent_patches w (sent_at w place) none
+no_patches w (events.Client edit) none = refl
+no_patches w events.Ask none = refl
+no_patches w events.Orders none = refl
+no_patches w (events.OwnTick name) none = own_patches w (restarter w name)
+no_patches w (events.Tick name n spawn) none = tick_patches w n spawn (restarter w name)
+no_patches w (events.Process process what) none = refl
+no_patches w (events.Report contract number) none = reported_patches w (report_at w.table contract number)
+no_patches w (events.Timeout name n) none = timed_patches n (restarter w name)
+no_patches w (events.Crash name) none = crash_patches w (restarter w name)
+no_patches w (events.Launch name) none = launch_patches w name (is_launched w name)
+no_patches w events.Boot none = boot_patches (commanded w commands.Boot) (commanded w commands.Boot).reply refl
+
+pub one_becomes : (w : World) (e : Event) → AtMostOne (worked w e).becomes
+one_becomes w e = (orderly w e).becomes
+
+pub can_install : (w : World) (e : Event) → IsNumbered w.now → NoTwins w.restarters → changes_of w e ≡ None → CanInstall w.now w.restarters (worked w e)
+can_install w e n apart none =
+    let o = orderly w e in
+    record { numbered = numbered_worked w e n; apart = apart; command = o.command; of_command = o.of_command; becomes = o.becomes; patches = no_patches w e none }

@@ -1,5 +1,5 @@
 -- A boot of what was found, and what an event of a world that is reached installs.
-use Rattle.std.proofs.Common.{◌≡◌, ◌⊎◌, inl, inr, List, [], ◌∷◌, Bool, true, false, refl, subst, sym, ap, ◌∙◌, Result, Ok, Err, IfOk, OnErr}
+use Rattle.std.proofs.Common.{◌≡◌, ◌⊎◌, inl, inr, List, [], ◌∷◌, Bool, true, false, refl, subst, sym, ap, ◌∙◌, None, Result, Ok, Err, IfOk, OnErr}
 use Rattle.std.specs.Prelude.{nat_lt, ◌+◌, ◌++◌, if◌then◌else◌, IfErr}
 use Rattle.smf_model.specs.declared.change.Outcome.{Outcome}
 use Rattle.smf_model.specs.declared.change.Change.TheVariants.{SetRevision}
@@ -20,17 +20,18 @@ use Rattle.smf_machine.proofs.Asking.{can_install}
 use Rattle.smf_machine.proofs.Reaching.{reached_installs}
 use Rattle.smf_machine.specs.declared.fault.MachineFault.{MachineFault}
 use Rattle.smf_machine.specs.declared.fault.MachineFault.TheVariants as faults
+use Rattle.smf_machine.specs.Done.{changes_of}
 use Rattle.smf_machine.specs.Faults.{IsUnbooted, IsUndone}
 use Rattle.smf_machine.specs.Given.{is_done}
 use Rattle.smf_machine.specs.Install.{CanInstall}
 use Rattle.smf_machine.specs.Lists.{NoTwins}
 use Rattle.std.specs.Result.{IsErrAnd}
 
-pub installs_worked : (w : World) (e : Event) (k : Work) → IsReached w → k ≡ worked w e → CanInstall w.now w.restarters k
-installs_worked w e k r is = subst (λ x. CanInstall w.now w.restarters x) (sym is) (reached_installs w e r)
+pub installs_worked : (w : World) (e : Event) (k : Work) → IsReached w → changes_of w e ≡ None → k ≡ worked w e → CanInstall w.now w.restarters k
+installs_worked w e k r none is = subst (λ x. CanInstall w.now w.restarters x) (sym is) (reached_installs w e r none)
 
 pub installs_boot : (w : World) (k : Work) → IsNumbered w.now → NoTwins w.restarters → k ≡ worked w events.Boot → CanInstall w.now w.restarters k
-installs_boot w k n apart is = subst (λ x. CanInstall w.now w.restarters x) (sym is) (can_install w events.Boot n apart)
+installs_boot w k n apart is = subst (λ x. CanInstall w.now w.restarters x) (sym is) (can_install w events.Boot n apart refl)
 
 -- a boot changes and replies what the repository does
 kept : (k : Work) (rs : List Reply) → ((booted_as k rs).changes ≡ k.changes) × ((booted_as k rs).reply ≡ k.reply)

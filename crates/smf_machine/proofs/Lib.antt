@@ -3,6 +3,8 @@ pub mod Given
 pub mod Find
 pub mod Known
 pub mod Worlds
+pub mod Linked
+pub mod Delivered
 pub mod Asking
 pub mod Reaching
 pub mod Booting

@@ -24,8 +24,9 @@ use Rattle.smf_world.specs.Reached.{IsReached}
 use Rattle.smf_world.specs.Runs.{run}
 use Rattle.smf_world.specs.Worked.{is_named, worked}
 use Rattle.smf_world.specs.World.{World, found}
-use Rattle.smf_machine.proofs.Asking.{can_install, fresh_worked, numbered_worked}
+use Rattle.smf_machine.proofs.Asking.{can_install, fresh_worked, numbered_worked, one_becomes}
 use Rattle.smf_machine.proofs.Known.{none_named}
+use Rattle.smf_machine.specs.Done.{changes_of}
 use Rattle.smf_machine.specs.Install.{CanInstall}
 use Rattle.smf_machine.specs.Lists.{AllFresh, AtMostOne, IsFresh, NoneNamed, NoTwins}
 
@@ -109,7 +110,7 @@ unfolding happens done
 ordered_next w e o =
     record {
       numbered = numbered_worked w e o.numbered;
-      apart = apart_all (worked w e).becomes w.restarters (can_install w e o.numbered o.apart).becomes (fresh_worked w e) o.apart;
+      apart = apart_all (worked w e).becomes w.restarters (one_becomes w e) (fresh_worked w e) o.apart;
     }
 
 ordered_run : (es : List Event) (w : World) → IsOrdered w → IsOrdered (run es w)
@@ -125,11 +126,8 @@ ordered w r =
 pub reached_numbered : (w : World) → IsReached w → IsNumbered w.now
 reached_numbered w r = (ordered w r).numbered
 
-pub reached_installs : (w : World) (e : Event) → IsReached w → CanInstall w.now w.restarters (worked w e)
-reached_installs w e r = let o = ordered w r in can_install w e o.numbered o.apart
-
-pub found_installs : (h : Holdings) (e : Event) → IsNumbered h → CanInstall h [] (worked (found h) e)
-found_installs h e n = can_install (found h) e n tt
+pub reached_installs : (w : World) (e : Event) → IsReached w → changes_of w e ≡ None → CanInstall w.now w.restarters (worked w e)
+reached_installs w e r none = let o = ordered w r in can_install w e o.numbered o.apart none
 
 -- ---- one event more
 

@@ -41,15 +41,19 @@ none_installed : (h : Holdings) (cs : List Change) → cs ≡ [] → h ≡ insta
 unfolding installed
 none_installed h cs e = subst (λ xs. h ≡ installed h xs) (sym e) refl
 
-turned : (b : Bool) (h : Holdings) (p m q : Parts) (k : Work) → IsSame p m → IsInstalledIf b m q (rest_of k) → k.changes ≡ [] → AtMostOne k.command → world_of h q ≡ done_if b (world_of h p) k
-turned true h p m q k s i plain one = done_is h h p m q k s (none_installed h k.changes plain) i one
-turned false h p m q k s i plain one = ap (world_of h) i ∙ same_world h h p m refl s
+turned : (b : Bool) (h : Holdings) (p m q : Parts) (k : Work) → IsSame p m → IsInstalledIf b m q (rest_of k) → k.changes ≡ [] → AtMostOne k.command → k.patches ≡ [] → world_of h q ≡ done_if b (world_of h p) k
+turned true h p m q k s i plain one none = done_is h h p m q k s (none_installed h k.changes plain) i one none
+turned false h p m q k s i plain one none = ap (world_of h) i ∙ same_world h h p m refl s
 
 -- room was made, a call was made or not, and the rest of the work was made with it
-pub turned_parts : (a b : Bool) (h : Holdings) (p m q : Parts) (k : Work) (r : Rest) → a ≡ b → r ≡ rest_of k → IsSame p m → IsInstalledIf a m q r → k.changes ≡ [] → AtMostOne k.command
+pub turned_parts : (a b : Bool) (h : Holdings) (p m q : Parts) (k : Work) (r : Rest) → a ≡ b → r ≡ rest_of k → IsSame p m → IsInstalledIf a m q r → k.changes ≡ [] → AtMostOne k.command → k.patches ≡ []
     → world_of h q ≡ done_if b (world_of h p) k
-turned_parts a b h p m q k r same rest s i plain one =
-    turned b h p m q k s (subst (λ x. IsInstalledIf b m q x) rest (subst (λ (x : Bool). IsInstalledIf x m q r) same i)) plain one
+turned_parts a b h p m q k r same rest s i plain one none =
+    turned b h p m q k s (subst (λ x. IsInstalledIf b m q x) rest (subst (λ (x : Bool). IsInstalledIf x m q r) same i)) plain one none
+
+pub at_most_none : {A : Type 0} (xs : List A) → xs ≡ [] → AtMostOne xs
+at_most_none [] e = tt
+at_most_none (x ∷ xs) e = absurd cc
 
 pub single_kept : (p m : Parts) (k : Work) (r : Rest) → IsSame p m → r ≡ rest_of k → IsSingle (map knowledge p.restarters.items) (rest_of k) → IsSingle (map knowledge m.restarters.items) r
 single_kept p m k r s e h =
@@ -68,6 +72,19 @@ plain_tick w name n a = plain_by w n a (restarter w name)
 
 pub tick_plain : (w : World) (e : Event) (k : Work) (name : List ℕ) (n : ℕ) (a : SpawnAnswer) → e ≡ events.Tick name n a → k ≡ worked w e → k.changes ≡ []
 tick_plain w e k name n a at is = ap (λ (x : Work). x.changes) is ∙ ap (λ (x : Event). (worked w x).changes) at ∙ plain_tick w name n a
+
+-- nor is there a command
+none_by : (w : World) (n : ℕ) (a : SpawnAnswer) (o : Option Knowledge) → (ticked_for w n a o).command ≡ []
+unfolding acted
+none_by w n a None = refl
+none_by w n a (Some k) = refl
+
+none_tick : (w : World) (name : List ℕ) (n : ℕ) (a : SpawnAnswer) → (worked w (events.Tick name n a)).command ≡ []
+unfolding worked
+none_tick w name n a = none_by w n a (restarter w name)
+
+pub tick_silent : (w : World) (e : Event) (k : Work) (name : List ℕ) (n : ℕ) (a : SpawnAnswer) → e ≡ events.Tick name n a → k ≡ worked w e → k.command ≡ []
+tick_silent w e k name n a at is = ap (λ (x : Work). x.command) is ∙ ap (λ (x : Event). (worked w x).command) at ∙ none_tick w name n a
 
 none_written : (cs : List Change) → cs ≡ [] → 0 < length cs → ⊥
 none_written cs e more = let none : length cs ≡ 0 = ap length e in absurd (omega (arith, none, more))
@@ -156,5 +173,5 @@ pub answer_made : (w v : World) (e : Event) (k : Work) → k ≡ worked w e → 
 answer_made w v e k is h = turn_made w v e k is h
 
 -- room was made, a process was asked for, and what comes of the answer was made
-pub answer_parts : (h : Holdings) (p m q : Parts) (k : Work) (r : Rest) → r ≡ rest_of k → IsSame p m → IsInstalled m q r → k.changes ≡ [] → AtMostOne k.command → world_of h q ≡ done (world_of h p) k
-answer_parts h p m q k r rest s i plain one = done_is h h p m q k s (none_installed h k.changes plain) (subst (λ x. IsInstalled m q x) rest i) one
+pub answer_parts : (h : Holdings) (p m q : Parts) (k : Work) (r : Rest) → r ≡ rest_of k → IsSame p m → IsInstalled m q r → k.changes ≡ [] → AtMostOne k.command → k.patches ≡ [] → world_of h q ≡ done (world_of h p) k
+answer_parts h p m q k r rest s i plain one none = done_is h h p m q k s (none_installed h k.changes plain) (subst (λ x. IsInstalled m q x) rest i) one none

@@ -11,7 +11,7 @@ use Rattle.smf_restarter.specs.Knowledge.{Knowledge}
 use Rattle.smf_wire.specs.declared.message.Message.{Message}
 use Rattle.smf_world.specs.declared.item.Item.{Item}
 use Rattle.smf_world.specs.declared.work.Work.{Work}
-use Rattle.smf_world.specs.Happens.{done}
+use Rattle.smf_world.specs.Happens.{done, seen_after, with_patches}
 use Rattle.smf_world.specs.World.{World}
 use Rattle.smf_machine.specs.declared.parts.Parts.{Parts}
 use Rattle.smf_machine.specs.Install.{IsInstalled, IsSame, rest_of}
@@ -34,20 +34,20 @@ pub behind : {A : Type 0} (xs zs ys : List A) → ys ≡ xs ++ zs → reverse ys
 behind xs zs ys e = ap reverse e ∙ reverse-append xs zs
 
 -- a list of one at most is itself turned round
-one_reversed : {A : Type 0} (xs : List A) → AtMostOne xs → reverse xs ≡ xs
+pub one_reversed : {A : Type 0} (xs : List A) → AtMostOne xs → reverse xs ≡ xs
 one_reversed [] h = refl
 one_reversed (x ∷ []) h = refl
 one_reversed (x ∷ y ∷ ys) h = absurd h
 
 -- room was made, the changes were made of what is held, and the rest was installed
-pub done_is : (h k : Holdings) (p m q : Parts) (w : Work) → IsSame p m → k ≡ installed h w.changes → IsInstalled m q (rest_of w) → AtMostOne w.command → world_of k q ≡ done (world_of h p) w
+pub done_is : (h k : Holdings) (p m q : Parts) (w : Work) → IsSame p m → k ≡ installed h w.changes → IsInstalled m q (rest_of w) → AtMostOne w.command → w.patches ≡ [] → world_of k q ≡ done (world_of h p) w
 unfolding world_of done
-done_is h k p m q w s e i one =
+done_is h k p m q w s e i one none =
     let same : world_of h m ≡ world_of h p = same_world h h p m refl s in
     let past : reverse q.commands.items ≡ w.command ++ reverse m.commands.items =
     behind m.commands.items w.command q.commands.items i.commands ∙ ap (λ cs. cs ++ reverse m.commands.items) (one_reversed w.command one) in
     let step : world_of k q ≡ done (world_of h m) w =
-    world_is _ _ _ _ _ _ _ _ _ _ _ _ _ _ _ _ i.first past e i.restarters i.seen i.table
+    world_is _ _ _ _ _ _ _ _ _ _ _ _ _ _ _ _ i.first past e i.restarters (i.seen ∙ ap (with_patches (seen_after w.forgets m.engine w.seen)) (sym none)) i.table
     (behind m.messages.items w.messages q.messages.items i.messages) (behind m.trail.items w.items q.trail.items i.trail) in
     step ∙ ap (λ v. done v w) same
 

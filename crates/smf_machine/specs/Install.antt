@@ -1,11 +1,19 @@
 -- Room for what an event makes, and what is made of it.
 use Rattle.std.specs.Prelude.{◌≡◌, ℕ, ◌+◌, ◌<◌, ◌≤◌, List, [], ◌∷◌, ◌++◌, length, map, position, reverse, slice_get, vec_capacity, vec_len, Bool, true, false, Option, Some}
 use Rattle.smf_contract.specs.Called.{called}
+use Rattle.smf_model.specs.declared.change.Change.{Change}
+use Rattle.smf_model.specs.declared.command.Command.{Command}
 use Rattle.smf_model.specs.Holdings.{Holdings}
 use Rattle.smf_model.specs.Laws.{IsNumbered}
 use Rattle.smf_model.specs.Look.{installed}
-use Rattle.smf_restarter.specs.declared.reply.Change.{Change}
+use Rattle.smf_model.specs.Next.{next}
+use Rattle.smf_restarter.specs.declared.reply.Change.{Change as KnowledgeChange}
 use Rattle.smf_restarter.specs.Knowledge.{Kept, Knowledge}
+use Rattle.smf_state.specs.declared.view.View.{View}
+use Rattle.smf_engine.specs.Orders.{with_changes}
+use Rattle.smf_wire.specs.declared.message.Message.{Message}
+use Rattle.smf_wire.specs.declared.message.ViewChanges.{ViewChanges}
+use Rattle.smf_machine.specs.Done.{changes_in}
 use Rattle.smf_world.specs.declared.event.SpawnAnswer.{SpawnAnswer}
 use Rattle.smf_world.specs.declared.event.SpawnAnswer.TheVariants as spawns
 use Rattle.smf_world.specs.declared.work.Becomes.{Becomes}
@@ -23,12 +31,12 @@ use Rattle.smf_machine.specs.Parts.{knowledge}
 -- ---- room
 
 -- a restarter has room for a change
-pub record FitsIn (c : Change) (r : Kept) : Type 0 where
+pub record FitsIn (c : KnowledgeChange) (r : Kept) : Type 0 where
   pub instances : length c.put ≤ r.instances_room
   pub runs : length c.listed + 1 ≤ r.runs_room
 
 -- the restarter of a name has
-abbrev pub RoomOf : List ℕ → Change → List Kept → Type 0
+abbrev pub RoomOf : List ℕ → KnowledgeChange → List Kept → Type 0
 RoomOf name c rs = (k : ℕ) (r : Kept) → position (is_named name) (map knowledge rs) ≡ Some k → slice_get rs k ≡ Some r → FitsIn c r
 
 abbrev pub RoomFor : Becomes → List Kept → Type 0
@@ -112,13 +120,26 @@ pub record IsSingle (ks : List Knowledge) (k : Rest) : Type 0 where
   pub apart : NoTwins ks
   pub becomes : AtMostOne k.becomes
 
--- numbers stay given once, names are apart, and there is one command at most, and one thing that becomes of the
--- restarters
+-- nothing was asked, or one command made these changes
+abbrev pub AreOf : Holdings → List Command → List Change → Type 0
+AreOf h [] xs = xs ≡ []
+AreOf h (c ∷ []) [] = ⊥
+AreOf h (c ∷ []) (x ∷ xs) = (installed h (x ∷ xs) ≡ (next h c).0) × ((next h c).0.revision ≡ h.revision + 1)
+AreOf h (c ∷ d ∷ cs) xs = ⊥
+
+-- numbers stay given once, names are apart, there is one command at most and it made the changes, and one thing that
+-- becomes of the restarters; the graph's view is not patched
 pub record CanInstall (h : Holdings) (ks : List Knowledge) (k : Work) : Type 0 where
   pub numbered : IsNumbered (installed h k.changes)
   pub apart : NoTwins ks
   pub command : AtMostOne k.command
+  pub of_command : AreOf h k.command k.changes
   pub becomes : AtMostOne k.becomes
+  pub patches : k.patches ≡ []
+
+-- the graph has taken the changes that the message at a place is
+abbrev pub HasTaken : List Message → ℕ → Option View → Option View → Type 0
+HasTaken ms place old new = (c : ViewChanges) × (changes_in (slice_get ms place) ≡ Some c) × (new ≡ with_changes old c)
 
 -- ---- what is installed
 

@@ -1,6 +1,8 @@
 -- The machine's lists, seen as the world.
-use Rattle.std.specs.Prelude.{ℕ, List, map, reverse}
+use Rattle.std.specs.Prelude.{◌≡◌, ℕ, List, map, reverse}
+use Rattle.smf_model.specs.History.{History, made}
 use Rattle.smf_model.specs.Holdings.{Holdings}
+use Rattle.smf_changes.specs.Changes.{recent}
 use Rattle.smf_restarter.specs.Knowledge.{Kept, Knowledge}
 use Rattle.smf_world.specs.World.{World}
 use Rattle.smf_machine.specs.declared.parts.Parts.{Parts}
@@ -8,11 +10,20 @@ use Rattle.smf_machine.specs.declared.parts.Parts.{Parts}
 abbrev pub knowledge : Kept → Knowledge
 knowledge r = r.known
 
+-- the first value and the accepted commands, newest first
+abbrev pub history_of : Parts → History
+history_of p = record { first = p.first; past = reverse p.commands.items }
+
+-- what the repository holds is the newest value of a history, and its record is of the history's commands
+pub record IsLinked (h : Holdings) (nss : List (List ℕ)) (y : History) : Type 0 where
+  pub newest : h ≡ made y.first y.past
+  pub lists : nss ≡ recent y.first y.past
+
 -- what the repository holds, and the rest
 unfoldable pub world_of : Holdings → Parts → World
 world_of h p =
     record {
-      history = record { first = p.first; past = reverse p.commands.items };
+      history = history_of p;
       now = h;
       restarters = map knowledge p.restarters.items;
       seen = p.engine;

@@ -24,6 +24,7 @@ pub(crate) fn no_work(alloc: Global) -> Work
         messages: Items::new(alloc),
         becomes: Items::new(alloc),
         seen: Items::new(alloc),
+        patches: Items::new(alloc),
         forgets: false,
         call: ContractCall::Nothing,
     }
@@ -41,6 +42,7 @@ pub(crate) fn saying(alloc: Global, messages: Items<Message>) -> Work
         messages,
         becomes: Items::new(alloc),
         seen: Items::new(alloc),
+        patches: Items::new(alloc),
         forgets: false,
         call: ContractCall::Nothing,
     }
@@ -191,6 +193,7 @@ impl<J: Journal> System<J> {
             messages: Items::new(self.alloc),
             becomes: Items::new(self.alloc),
             seen: Items::new(self.alloc),
+            patches: Items::new(self.alloc),
             forgets: false,
             call: ContractCall::Nothing,
         })

@@ -3,14 +3,14 @@ ghost use Rattle.smf_model.specs.declared.command.Command.TheVariants as command
 ghost use Rattle.smf_model.specs.Look.{launch_of};
 ghost use Rattle.smf_model.specs.Shown.{view};
 ghost use Rattle.smf_wire.specs.declared.message.Message.TheVariants as messages;
-ghost use Rattle.smf_world.specs.Worked.{answer_to, answers_to, commanded, delivered, delivered_if, joined, known_of, no_work, proposed, saying, sent_at};
+ghost use Rattle.smf_world.specs.Worked.{answer_since, answer_to, answers_to, commanded, delivered, delivered_if, joined, known_of, no_work, proposed, saying, sent_at};
 
 use crate::commanding::{no_work, one, saying};
 use crate::parts::System;
 use smf_fmri::{InstanceFmri, Items};
 use smf_model::{Command, Instance, Journal, Reply};
 use smf_state::{Proposal, SharedRow, View};
-use smf_wire::{Known, Message};
+use smf_wire::{Known, Message, ViewChanges};
 use smf_world::Work;
 use std::alloc::{AllocError, Global};
 
@@ -118,6 +118,16 @@ fn shown_to_graph(alloc: Global, view: &View) -> Result<Work, AllocError>
     Ok(work)
 }
 
+/// What changed of the graph's view is given to it.
+fn patching(alloc: Global, changes: &ViewChanges) -> Result<Work, AllocError>
+    ensures { IfOk result (λ k. k ≡ record no_work { patches = changes.now ∷ [] }) }
+{
+    let mut work = no_work(alloc);
+    let changes = changes.clone()?;
+    work.patches = one(alloc, changes)?;
+    Ok(work)
+}
+
 impl<J: Journal> System<J> {
     /// The rows of a restarter, where the launch is its last one.
     fn joined(&self, name: &InstanceFmri, launch: u64) -> Result<Work, AllocError>
@@ -149,6 +159,24 @@ impl<J: Journal> System<J> {
         Ok(saying(self.alloc, messages))
     }
 
+    /// The repository answers with what changed since a revision, or else with the view.
+    fn answer_since(&self, from: u64) -> Result<Message, AllocError>
+        ensures { IfOk result (λ m. m ≡ answer_since self.now from) }
+    {
+        match self.changes_since(from)? {
+            None => Ok(Message::View(self.view()?)),
+            Some((to, items)) => Ok(Message::Changes(ViewChanges { from, to, items })),
+        }
+    }
+
+    fn changed(&self, from: u64) -> Result<Work, AllocError>
+        ensures { IfOk result (λ k. k ≡ saying (answer_since self.now from ∷ [])) }
+    {
+        let answer = self.answer_since(from)?;
+        let messages = one(self.alloc, answer)?;
+        Ok(saying(self.alloc, messages))
+    }
+
     /// A message is delivered.
     #[tactic(auto, unfolding(smf_world::specs::Worked::delivered))]
     fn delivered(&self, message: &Message) -> Result<Work, AllocError>
@@ -162,6 +190,8 @@ impl<J: Journal> System<J> {
             Message::Nack { name, .. } => self.told(name, message),
             Message::AskView => self.shown(),
             Message::View(view) => shown_to_graph(self.alloc, view),
+            Message::AskChange(from) => self.changed(*from),
+            Message::Changes(changes) => patching(self.alloc, changes),
             Message::Order(order) => self.told(&order.restarter, message),
         }
     }

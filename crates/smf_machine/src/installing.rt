@@ -4,7 +4,7 @@ ghost use Rattle.smf_machine.specs.Faults.{IsUndone};
 ghost use Rattle.smf_machine.specs.Given.{is_named_kept};
 ghost use Rattle.smf_machine.specs.Install.{CanInstall, HasRoomLeft, IsInstalled, IsInstalledIf, IsSame, IsSingle, RoomFor, RoomForAll, RoomOf, rest_of};
 ghost use Rattle.smf_machine.specs.Lists.{AtMostOne, NoTwins};
-ghost use Rattle.smf_machine.specs.Parts.{knowledge, world_of};
+ghost use Rattle.smf_machine.specs.Parts.{IsLinked, history_of, knowledge, world_of};
 ghost use Rattle.smf_restarter.specs.Knowledge.{at_first};
 ghost use Rattle.smf_world.specs.declared.work.Becomes.TheVariants as kinds;
 ghost use Rattle.smf_world.specs.Happens.{all_becoming, becoming, done, newest, seen_after};
@@ -13,10 +13,11 @@ ghost use Rattle.smf_world.specs.Worked.{is_named};
 use crate::fault::MachineFault;
 use crate::parts::{Parts, System};
 use crate::room::{make_room, place_of};
+use smf_changes::Repository;
 use smf_contract::ContractCall;
 use smf_engine::Engine;
 use smf_fmri::{InstanceFmri, Items};
-use smf_model::{Command, Journal, Plain, Reply};
+use smf_model::{Command, Journal, Reply};
 use smf_restarter::{Change, Restarter};
 use smf_state::View;
 use smf_wire::Message;
@@ -105,21 +106,21 @@ fn become_all(alloc: Global, restarters: &mut Vec<Restarter>, becomes: Items<Bec
     }
 }
 
-fn take_views(engine: &mut Engine, views: Items<View>)
+fn take_views(alloc: Global, engine: &mut Engine, views: Items<View>)
     ensures { engine.new ≡ newest engine.old views }
 {
     for view in views.into_vec() {
-        engine.take_view(view);
+        engine.take_view(alloc, view);
     }
 }
 
-fn see(engine: &mut Engine, forgets: bool, views: Items<View>)
+fn see(alloc: Global, engine: &mut Engine, forgets: bool, views: Items<View>)
     ensures { engine.new ≡ seen_after forgets engine.old views }
 {
     if forgets {
         engine.forget();
     } else {
-        take_views(engine, views);
+        take_views(alloc, engine, views);
     }
 }
 
@@ -139,7 +140,7 @@ pub(crate) fn install(alloc: Global, parts: &mut Parts, work: Rest)
         call,
     } = work;
     become_all(alloc, &mut parts.restarters, becomes);
-    see(&mut parts.engine, forgets, seen);
+    see(alloc, &mut parts.engine, forgets, seen);
     parts.table.call(call);
     parts.commands.append(&mut command.into_vec()).unwrap();
     parts.trail.append(&mut items.into_vec()).unwrap();
@@ -195,12 +196,14 @@ pub(crate) fn install_if(alloc: Global, parts: &mut Parts, rest: Rest, is_made: 
 /// Makes what an event makes: room first, then the repository commits, and what is left cannot fail.
 fn take<J: Journal>(
     alloc: Global,
-    repository: &mut Plain<J>,
+    repository: &mut Repository<J>,
     parts: &mut Parts,
     work: Work,
 ) -> Result<Items<Reply>, MachineFault>
-    requires { CanInstall repository.old.held (map knowledge parts.old.restarters.items) work }
+    requires can { CanInstall repository.old.held (map knowledge parts.old.restarters.items) work }
+    requires linked { IsLinked repository.old.held repository.old.recent (history_of parts.old) }
     ensures ok { IfOk result (λ r. (world_of repository.new.held parts.new ≡ done (world_of repository.old.held parts.old) work) × (r ≡ work.reply)) }
+    ensures linked { IsLinked repository.new.held repository.new.recent (history_of parts.new) }
     ensures err { OnErr result (world_of repository.new.held parts.new ≡ world_of repository.old.held parts.old) }
     ensures fault { IfErr result (λ e. IsUndone J.write_fails work.changes e) }
 {
@@ -213,6 +216,7 @@ fn take<J: Journal>(
         messages,
         becomes,
         seen,
+        patches: _,
         forgets,
         call,
     } = work;

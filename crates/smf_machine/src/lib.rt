@@ -14,6 +14,7 @@ mod hearing;
 mod installing;
 mod machine;
 mod parts;
+mod patching;
 mod replying;
 mod requests;
 mod room;

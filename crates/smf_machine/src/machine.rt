@@ -1,11 +1,11 @@
-ghost use Rattle.std.specs.Prelude.{◌≡◌, [], map, option_map, reverse, true, IfErr, IfOk, OnErr, OnOk};
+ghost use Rattle.std.specs.Prelude.{◌≡◌, [], false, map, option_map, reverse, true, IfErr, IfOk, None, OnErr, OnOk};
 ghost use Rattle.std.specs.Option.{option_copied};
 ghost use Rattle.smf_engine.specs.Orders.{has_no_orders};
 ghost use Rattle.smf_model.specs.Shown.{view};
 ghost use Rattle.smf_machine.specs.Children.{heard};
 ghost use Rattle.smf_machine.specs.declared.fault.MachineFault.TheVariants.{Memory};
 ghost use Rattle.smf_machine.specs.Faults.{IsUnbooted, IsUndone};
-ghost use Rattle.smf_machine.specs.Done.{IsDone, is_beginning};
+ghost use Rattle.smf_machine.specs.Done.{IsDone, changes_of, is_beginning};
 ghost use Rattle.smf_machine.specs.Lists.{NoTwins};
 ghost use Rattle.smf_machine.specs.Parts.{knowledge};
 ghost use Rattle.smf_machine.specs.Runners.{HasTicked};
@@ -24,8 +24,10 @@ ghost use Rattle.smf_world.specs.World.{found};
 use crate::commanding::is_done;
 use crate::fault::MachineFault;
 use crate::parts::{System, parts_of};
+use crate::patching::{delivered_place, take_changes_at};
 use crate::runner::Runner;
 use crate::seeing::{see_event, stored_in};
+use smf_changes::Repository;
 use smf_contract::{Event as ContractEvent, Table};
 use smf_fmri::{InstanceFmri, Items};
 use smf_model::{Journal, Plain, Reply};
@@ -95,6 +97,33 @@ impl<J: Journal> System<J> {
         }
     }
 
+    /// The graph takes changes, if the event delivers some to it. If memory runs out, all is as it was.
+    #[tactic(auto, unfolding(crate::specs::Parts::world_of))]
+    fn take_changes(&mut self, event: &Event) -> Result<bool, AllocError>
+        ensures took { IfOk result (λ b. b ≡ true → IsDone self.old event.now self.new []) }
+        ensures left { IfOk result (λ b. b ≡ false → self.new ≡ self.old) }
+        ensures none { IfOk result (λ b. b ≡ false → changes_of self.old event.now ≡ None) }
+        ensures err { OnErr result (self.new ≡ self.old) }
+    {
+        match delivered_place(event) {
+            None => Ok(false),
+            Some(place) => take_changes_at(self.alloc, &mut self.parts, place),
+        }
+    }
+
+    /// Makes what an event makes, which delivers no changes.
+    #[tactic(auto, unfolding(smf_world::specs::Happens::happens))]
+    fn make(&mut self, event: &Event) -> Result<Items<Reply>, MachineFault>
+        requires reached { IsReached self.old }
+        requires none { changes_of self.old event.now ≡ None }
+        ensures ok { IfOk result (λ r. IsDone self.old event.now self.new r) }
+        ensures err { OnErr result (self.new ≡ self.old) }
+        ensures fault { IfErr result (λ e. IsUndone J.write_fails (worked self.old event.now).changes e) }
+    {
+        let work = self.worked(event)?;
+        self.take(work)
+    }
+
     /// An event happens.
     #[tactic(auto, unfolding(smf_world::specs::Happens::happens))]
     pub(crate) fn happen(&mut self, event: &Event) -> Result<Items<Reply>, MachineFault>
@@ -106,8 +135,10 @@ impl<J: Journal> System<J> {
         if self.is_let_go(event) {
             return Ok(Items::new(self.alloc));
         }
-        let work = self.worked(event)?;
-        self.take(work)
+        if self.take_changes(event)? {
+            return Ok(Items::new(self.alloc));
+        }
+        self.make(event)
     }
 }
 
@@ -126,12 +157,12 @@ impl<J: Journal> Machine<J> {
         };
         let mut system = System {
             alloc,
-            repository,
+            repository: Repository::over(alloc, repository),
             parts: parts_of(alloc, first),
         };
         match system.boot() {
             Ok(()) => Ok(Machine { system }),
-            Err(fault) => Err((fault, system.repository)),
+            Err(fault) => Err((fault, system.repository.into_plain())),
         }
     }
 
@@ -180,10 +211,10 @@ impl<J: Journal> Machine<J> {
     pub fn repository(&self) -> &Plain<J>
         ensures { result.now.held ≡ self.now.now }
     {
-        &self.system.repository
+        self.system.repository.plain()
     }
 
-    /// Keeps what the graph sees of what is held until something changes, so that it is worked out once.
+    /// Keeps what the graph sees of what is held, and brings it up to date by what changed.
     pub fn keep_view(&mut self) -> Result<(), AllocError>
         ensures { self.new ≡ self.old }
     {
@@ -244,6 +275,6 @@ impl<J: Journal> Machine<J> {
     pub fn into_repository(self) -> Plain<J>
         ensures { result.held ≡ self.now }
     {
-        self.system.repository
+        self.system.repository.into_plain()
     }
 }

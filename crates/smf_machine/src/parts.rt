@@ -1,7 +1,7 @@
 ghost use Rattle.std.specs.Option.{option_copied};
 ghost use Rattle.std.specs.Prelude.{◌≡◌, ◌+◌, ◌<◌, find, length, map, option_map, position, IfOk, IfSome};
 ghost use Rattle.smf_contract.specs.Entries.{statuses};
-ghost use Rattle.smf_engine.specs.Orders.{has_no_orders, orders_seen};
+ghost use Rattle.smf_engine.specs.Orders.{has_no_orders, orders_seen, question};
 ghost use Rattle.smf_machine.specs.Given.{is_actor_kept, is_named_kept};
 ghost use Rattle.smf_machine.specs.Parts.{knowledge, world_of};
 ghost use Rattle.smf_model.specs.Look.{instance, launch_of};
@@ -10,13 +10,15 @@ ghost use Rattle.smf_model.specs.Shown.{rows_of, view};
 ghost use Rattle.smf_world.specs.Worked.{is_actor, is_launched, is_named, restarter, sent_at};
 ghost use Rattle.smf_world.specs.World.{found};
 ghost use Rattle.smf_model.specs.Holdings.{Holdings as AnyHoldings};
+ghost use Rattle.smf_changes.specs.Changes.{changes_since, recent};
 
+use smf_changes::Repository;
 use smf_contract::{Status, Table};
 use smf_engine::Engine;
 use smf_fmri::{InstanceFmri, Items};
-use smf_model::{Command, Instance, Journal, Outcome, Plain, Tables};
+use smf_model::{Command, Instance, Journal, Outcome, Tables};
 use smf_restarter::Restarter;
-use smf_state::View;
+use smf_state::{ChangedItem, HeldView, View};
 use smf_wire::{Message, Order};
 use smf_world::Item;
 use std::alloc::{AllocError, Global};
@@ -53,11 +55,12 @@ pub(crate) fn parts_of(alloc: Global, first: Tables) -> Parts
     }
 }
 
-/// The repository and the other actors, which contracts see as the world.
+/// The repository and the other actors, which contracts see as the world. The repository's record of changes is of the
+/// commands that were accepted.
 #[derive(Drop)]
 pub(crate) struct System<J: Journal> {
     pub(crate) alloc: Global,
-    pub(crate) repository: Plain<J>,
+    pub(crate) repository: Repository<J>,
     pub(crate) parts: Parts,
 }
 
@@ -68,6 +71,10 @@ impl<J: Journal> Model for System<J> {
     ghost Value = { World };
 
     ghost view = { λ s. world_of s.repository.held s.parts };
+
+    ghost use Rattle.smf_machine.specs.Parts.{IsLinked, history_of};
+
+    ghost invariant = { λ s. IsLinked s.repository.held s.repository.recent (history_of s.parts) };
 }
 
 fn named_in<'a>(restarters: &'a [Restarter], name: &InstanceFmri) -> Option<&'a Restarter>
@@ -104,42 +111,52 @@ impl<J: Journal> System<J> {
     pub(crate) fn asked(&self, command: &Command) -> Result<Outcome, AllocError>
         ensures { IfOk result (λ r. r ≡ asked self.now.now command.now) }
     {
-        self.repository.asked(command)
+        self.repository.plain().asked(command)
     }
 
     /// The number of the row of an instance, where it is there.
     pub(crate) fn row_number(&self, number: u64) -> Option<u64>
         ensures { result ≡ option_map (λ i. i.row.number) (instance self.now.now number) }
     {
-        self.repository.row_number(number)
+        self.repository.plain().row_number(number)
     }
 
     /// The revision of the next command that is accepted.
     pub(crate) fn next_revision(&self) -> u64
         ensures { result ≡ self.now.now.revision + 1 }
     {
-        self.repository.revision().get() + 1
+        self.repository.plain().revision().get() + 1
     }
 
     pub(crate) fn launch_of(&self, name: &InstanceFmri) -> u64
         ensures { result ≡ launch_of self.now.now name.now }
     {
-        self.repository.launch_of(name)
+        self.repository.plain().launch_of(name)
     }
 
     pub(crate) fn rows_of(&self, name: &InstanceFmri) -> Result<Items<Instance>, AllocError>
         ensures { IfOk result (λ all. all ≡ rows_of self.now.now name.now) }
     {
-        self.repository.rows_of(name)
+        self.repository.plain().rows_of(name)
     }
 
     pub(crate) fn view(&self) -> Result<View, AllocError>
         ensures { IfOk result (λ v. v ≡ view self.now.now) }
     {
-        self.repository.view()
+        self.repository.plain().view()
     }
 
-    /// Keeps the view until something changes.
+    /// The repository's revision and what changed since another, where that is known.
+    pub(crate) fn changes_since(
+        &self,
+        from: u64,
+    ) -> Result<Option<(u64, Items<ChangedItem>)>, AllocError>
+        ensures { IfOk result (λ c. c ≡ changes_since (recent self.now.history.first self.now.history.past) self.now.now from) }
+    {
+        self.repository.changes_since(from)
+    }
+
+    /// Keeps the view, and brings it up to date.
     pub(crate) fn keep_view(&mut self) -> Result<(), AllocError>
         ensures { self.new ≡ self.old }
     {
@@ -153,12 +170,24 @@ impl<J: Journal> System<J> {
         self.parts.engine.decide_all(self.alloc)
     }
 
+    /// What the graph asks the repository.
+    pub(crate) fn question(&self) -> Message
+        ensures { result ≡ question self.now.seen }
+    {
+        self.parts.engine.question()
+    }
+
     /// Whether nothing is ordered of what is held.
     pub(crate) fn has_no_orders(&self) -> Result<bool, AllocError>
         ensures { IfOk result (λ b. b ≡ has_no_orders (view self.now.now)) }
     {
-        let view = self.view()?;
-        self.parts.engine.orders_nothing(self.alloc, &view)
+        match self.repository.shown() {
+            Some(shown) => self.parts.engine.orders_nothing(self.alloc, shown),
+            None => {
+                let view = HeldView::of(self.alloc, self.view()?);
+                self.parts.engine.orders_nothing(self.alloc, &view)
+            }
+        }
     }
 
     /// The launched restarter of a name.

@@ -365,6 +365,7 @@ impl<J: Journal> System<J> {
             messages,
             becomes,
             seen: Items::new(self.alloc),
+            patches: Items::new(self.alloc),
             forgets: false,
             call: made,
         })

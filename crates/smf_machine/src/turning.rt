@@ -3,7 +3,6 @@ ghost use Rattle.smf_machine.specs.Children.{done_if, heard};
 ghost use Rattle.smf_machine.specs.declared.fault.MachineFault.TheVariants.{Memory};
 ghost use Rattle.smf_machine.specs.declared.requests.Ask.TheVariants as requests;
 ghost use Rattle.smf_machine.specs.Install.{AreCovered, CanInstall, HasRoomLeft, IsInstalled, IsSame, IsSingle, rest_of, rest_with, work_with};
-ghost use Rattle.smf_machine.specs.Lists.{AtMostOne};
 ghost use Rattle.smf_machine.specs.Parts.{knowledge, world_of};
 ghost use Rattle.smf_machine.specs.Requests.{asked};
 ghost use Rattle.smf_machine.specs.Runners.{HasTicked, TickedBy};
@@ -109,7 +108,8 @@ fn spawn_with<R: Runner>(
     works: SpawnWorks,
 ) -> Result<SpawnAnswer, MachineFault>
     requires plain { (any : AnyAnswer) → (work_with works any).changes ≡ [] }
-    requires command { (any : AnyAnswer) → AtMostOne (work_with works any).command }
+    requires command { (any : AnyAnswer) → (work_with works any).command ≡ [] }
+    requires patches { (any : AnyAnswer) → (work_with works any).patches ≡ [] }
     requires single { (any : AnyAnswer) → IsSingle (map knowledge parts.old.restarters.items) (rest_of (work_with works any)) }
     requires covered { AreCovered works }
     ensures made { (h : AnyHoldings) → IfOk result (λ answer. world_of h parts.new ≡ done (world_of h parts.old) (work_with works answer)) }
@@ -140,7 +140,8 @@ fn kill_with<R: Runner>(
     work: Work,
 ) -> Result<bool, MachineFault>
     requires plain { work.changes ≡ [] }
-    requires command { AtMostOne work.command }
+    requires command { work.command ≡ [] }
+    requires patches { work.patches ≡ [] }
     requires single { IsSingle (map knowledge parts.old.restarters.items) (rest_of work) }
     ensures made { (h : AnyHoldings) → IfOk result (λ did. world_of h parts.new ≡ done_if did (world_of h parts.old) work) }
     ensures answered { IfOk result (λ did. R.rules.kills id did (R.seen runner.old) (R.seen runner.new)) }
@@ -191,6 +192,7 @@ impl<J: Journal> System<J> {
         works: SpawnWorks,
     ) -> Result<SpawnAnswer, MachineFault>
         requires plain { (any : AnyAnswer) → (work_with works any).changes ≡ [] }
+        requires command { (any : AnyAnswer) → (work_with works any).command ≡ [] }
         requires can { (any : AnyAnswer) → CanInstall self.old.now self.old.restarters (work_with works any) }
         requires covered { AreCovered works }
         ensures made { IfOk result (λ answer. self.new ≡ done self.old (work_with works answer)) }
@@ -210,6 +212,7 @@ impl<J: Journal> System<J> {
         work: Work,
     ) -> Result<bool, MachineFault>
         requires plain { work.changes ≡ [] }
+        requires command { work.command ≡ [] }
         requires can { CanInstall self.old.now self.old.restarters work }
         ensures made { IfOk result (λ did. self.new ≡ done_if did self.old work) }
         ensures answered { IfOk result (λ did. R.rules.kills id did (R.seen runner.old) (R.seen runner.new)) }

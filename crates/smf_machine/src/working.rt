@@ -1,6 +1,6 @@
 ghost use Rattle.std.specs.Prelude.{◌≡◌, ◌∷◌, [], map, option_map, IfOk};
 ghost use Rattle.std.specs.Option.{option_copied};
-ghost use Rattle.smf_engine.specs.Orders.{orders_seen};
+ghost use Rattle.smf_engine.specs.Orders.{orders_seen, question};
 ghost use Rattle.smf_contract.specs.Entries.{reported as report_at};
 ghost use Rattle.smf_machine.specs.Parts.{knowledge};
 ghost use Rattle.smf_model.specs.declared.command.Command.TheVariants as commands;
@@ -17,13 +17,6 @@ use smf_restarter::Restarter;
 use smf_wire::{Message, Order};
 use smf_world::{Becomes, Event, ProcessEvent, Work};
 use std::alloc::{AllocError, Global};
-
-fn asking(alloc: Global) -> Result<Work, AllocError>
-    ensures { IfOk result (λ k. k ≡ saying (messages.AskView ∷ [])) }
-{
-    let messages = one(alloc, Message::AskView)?;
-    Ok(saying(alloc, messages))
-}
 
 fn order_messages(alloc: Global, orders: Items<Order>) -> Result<Items<Message>, AllocError>
     ensures { IfOk result (λ all. all ≡ map (λ o. messages.Order o) orders) }
@@ -72,6 +65,14 @@ impl<J: Journal> System<J> {
     {
         let orders = self.orders()?;
         let messages = order_messages(self.alloc, orders)?;
+        Ok(saying(self.alloc, messages))
+    }
+
+    /// The graph asks the repository.
+    fn asking(&self) -> Result<Work, AllocError>
+        ensures { IfOk result (λ k. k ≡ saying (question self.now.seen ∷ [])) }
+    {
+        let messages = one(self.alloc, self.question())?;
         Ok(saying(self.alloc, messages))
     }
 
@@ -163,7 +164,7 @@ impl<J: Journal> System<J> {
         match event {
             Event::Deliver(place) => self.delivered_at(*place),
             Event::Client(edit) => self.client(edit),
-            Event::Ask => asking(self.alloc),
+            Event::Ask => self.asking(),
             Event::Orders => self.ordering(),
             Event::OwnTick(name) => self.own_ticked(name),
             Event::Tick {

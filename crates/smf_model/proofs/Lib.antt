@@ -12,6 +12,7 @@ pub mod LawOutcomes
 pub mod LawRows
 pub mod Lists
 pub mod Made
+pub mod Mapped
 pub mod Members
 pub mod Names
 pub mod Order

@@ -1,5 +1,5 @@
 -- What the reads of a repository show.
-use Rattle.std.specs.Prelude.{◌≡◌, ℕ, nat_eq, List, [], ◌∷◌, map, filter, Bool, true, codes, Option, Some, None, option_map}
+use Rattle.std.specs.Prelude.{ℕ, nat_eq, List, [], ◌∷◌, map, filter, Bool, true, codes, Option, Some, None, option_map}
 use Rattle.std.specs.Cmp.Lexicographic.{pointwise}
 use Rattle.smf_state.specs.declared.row.Row.{Row}
 use Rattle.smf_state.specs.declared.state.State.{State}
@@ -120,8 +120,3 @@ rows h = map (row_item h) (instances h)
 -- the revision, and an item for each instance in number order
 unfoldable pub view : Holdings → View
 view h = record { revision = h.revision; items = map (view_item h) (instances h) }
-
--- a view that is kept is that of what is held
-abbrev pub IsKept : Option View → Holdings → Type 0
-IsKept None h = Unit {0}
-IsKept (Some v) h = v ≡ view h

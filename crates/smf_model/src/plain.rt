@@ -7,9 +7,8 @@ ghost use Rattle.smf_model.specs.Laws.{IsNumbered, is_refusal};
 ghost use Rattle.smf_model.specs.Look.{empty, groups_of, installed, instance, launch_of, named, service, snapshot};
 ghost use Rattle.smf_model.specs.Next.{asked, found, may_not_boot, next};
 ghost use Rattle.smf_model.specs.Setting.{enabled, owner_by, setting};
-ghost use Rattle.smf_model.specs.Holdings.{Holdings as AnyHoldings};
-ghost use Rattle.smf_model.specs.Shown.{IsKept, all_read, children, composed_groups, rows, rows_of};
-ghost use Rattle.smf_model.specs.Shown.{shown_groups, snapshot_number, snapshots_of, view};
+ghost use Rattle.smf_model.specs.Shown.{all_read, children, composed_groups, rows, rows_of};
+ghost use Rattle.smf_model.specs.Shown.{shown_groups, snapshot_number, snapshots_of, view, view_item};
 ghost use Rattle.smf_model.specs.Tables.{held_in};
 
 use crate::change::{Change, Outcome};
@@ -31,8 +30,6 @@ pub struct Plain<J: Journal> {
     alloc: Global,
     tables: Tables,
     journal: J,
-    /// The view of what is held, where it was asked to be kept.
-    shown: Option<View>,
 }
 
 impl<J: Journal> Model for Plain<J> {
@@ -43,9 +40,7 @@ impl<J: Journal> Model for Plain<J> {
 
     ghost view = { λ r. record { held = r.tables; journal = r.journal } };
 
-    ghost use Rattle.smf_model.specs.Shown.{IsKept};
-
-    ghost invariant = { λ r. J.stands r.journal r.tables × IsNumbered r.tables × IsKept r.shown r.tables };
+    ghost invariant = { λ r. J.stands r.journal r.tables × IsNumbered r.tables };
 }
 
 impl<J: Journal> Plain<J> {
@@ -60,7 +55,6 @@ impl<J: Journal> Plain<J> {
             alloc,
             tables,
             journal,
-            shown: None,
         }
     }
 
@@ -74,7 +68,6 @@ impl<J: Journal> Plain<J> {
             alloc,
             tables: Tables::new(alloc),
             journal,
-            shown: None,
         }
     }
 
@@ -124,7 +117,6 @@ impl<J: Journal> Plain<J> {
         ensures settled { J.is_sound self.new.journal → LeavesOnly J.could self.new.journal self.new.held }
         ensures fault { IfErr result (IsUnwritten J.write_fails changes) }
     {
-        let_go_if(&mut self.shown, &changes);
         let tables = &mut self.tables;
         commit(&mut self.journal, &mut tables.lists, changes.into_vec())
     }
@@ -280,25 +272,26 @@ impl<J: Journal> Plain<J> {
         self.planner().snapshot_number(instance, name)
     }
 
-    /// What svc.startd's graph sees. It is worked out where it is not kept.
+    /// What svc.startd's graph sees.
     pub fn view(&self) -> Result<View, AllocError>
         ensures { IfOk result (λ v. v ≡ view self.now.held) }
     {
-        match &self.shown {
-            Some(shown) => shown.clone(),
-            None => self.planner().view(),
-        }
+        self.planner().view()
     }
 
-    /// Keeps the view until something changes.
-    pub fn keep_view(&mut self) -> Result<(), AllocError>
-        ensures { self.new ≡ self.old }
+    /// The item of svc.startd's graph of one instance.
+    pub fn view_item(&self, number: u64) -> Result<Option<ViewItem>, AllocError>
+        ensures { IfOk result (λ i. i ≡ option_map (view_item self.now.held) (instance self.now.held number)) }
     {
-        if self.shown.is_none() {
-            let view = self.planner().view()?;
-            self.shown = Some(view);
-        }
-        Ok(())
+        self.planner().item_of(number)
+    }
+
+    /// Says what is known of every repository, and does nothing else.
+    pub fn see_standing(&self)
+        ensures stands { J.stands self.now.journal self.now.held }
+        ensures numbered { IsNumbered self.now.held }
+    {
+        let _tables = &self.tables;
     }
 
     /// Whether an instance that is there is enabled.
@@ -328,16 +321,6 @@ impl<J: Journal> Plain<J> {
         ensures { result ≡ self.now.held.revision }
     {
         self.tables.revision()
-    }
-}
-
-/// A view that is kept is let go where something changes.
-fn let_go_if(shown: &mut Option<View>, changes: &Items<Change>)
-    ensures changed { (h : AnyHoldings) → IsKept shown.old h → IsKept shown.new (installed h changes.now) }
-    ensures unchanged { (h : AnyHoldings) → IsKept shown.old h → IsKept shown.new h }
-{
-    if !changes.is_empty() {
-        *shown = None;
     }
 }
 

@@ -144,7 +144,7 @@ impl Tables {
     }
 
     /// An instance with its groups.
-    fn entry(&self, number: u64) -> Option<&InstanceEntry>
+    pub(crate) fn entry(&self, number: u64) -> Option<&InstanceEntry>
         ensures { option_copied result ≡ lookup by_entry self.now.instances number }
     {
         self.lists.instances.get(&number)

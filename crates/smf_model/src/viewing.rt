@@ -1,6 +1,6 @@
 ghost use Rattle.std.specs.Option.{option_copied};
 ghost use Rattle.std.specs.Prelude.{◌≡◌, map, option_map, true, IfOk};
-ghost use Rattle.smf_model.specs.Look.{group, groups_of, instances, no_service_has};
+ghost use Rattle.smf_model.specs.Look.{group, groups_of, instance, instances, no_service_has};
 ghost use Rattle.smf_model.specs.Next.{named_snapshot};
 ghost use Rattle.smf_model.specs.Setting.{general, service_fmri};
 ghost use Rattle.smf_model.specs.Shown.{body_of, row_item, rows, snapshot_names};
@@ -10,7 +10,7 @@ use crate::held::{Instance, InstanceEntry, Owner};
 use crate::planner::Planner;
 use crate::reverting::number_of;
 use crate::setting::{enabled_property, is_readable, is_true, row_by, setting_by};
-use smf_fmri::{Bytes, InstanceFmri, Items, Shared};
+use smf_fmri::{Bytes, InstanceFmri, Items, Ordered, SharedOrdered};
 use smf_snap::{SnapshotName, names};
 use smf_state::{View, ViewItem};
 use smf_value::Group;
@@ -139,8 +139,21 @@ impl Planner<'_> {
         Ok(item)
     }
 
-    fn view_items(&self) -> Result<Vec<ViewItem>, AllocError>
-        ensures { IfOk result (λ all. all.items ≡ map (view_item self.now) (instances self.now)) }
+    /// The item of the instance of a number. The other services are not looked at.
+    pub(crate) fn item_of(&self, number: u64) -> Result<Option<ViewItem>, AllocError>
+        ensures { IfOk result (λ i. i ≡ option_map (view_item self.now) (instance self.now number)) }
+    {
+        match self.tables.entry(number) {
+            None => Ok(None),
+            Some(entry) => {
+                let item = self.view_item(entry, false)?;
+                Ok(Some(item))
+            }
+        }
+    }
+
+    fn view_items(&self) -> Result<Ordered<ViewItem>, AllocError>
+        ensures { IfOk result (λ all. all ≡ map (view_item self.now) (instances self.now)) }
     {
         let entries = self.tables.entries();
         let none_has = self.tables.no_service_has("general");
@@ -148,7 +161,7 @@ impl Planner<'_> {
         for entry in entries {
             all.push(self.view_item(entry, none_has)?)?;
         }
-        Ok(all)
+        Ok(Ordered::from_vec(all))
     }
 
     /// What svc.startd's graph sees.
@@ -158,8 +171,8 @@ impl Planner<'_> {
     {
         let items = self.view_items()?;
         Ok(View {
-            revision: self.tables.revision(),
-            items: Shared::of(self.alloc, Items::from_vec(items))?,
+            revision: self.tables.revision().get(),
+            items: SharedOrdered::of(self.alloc, items)?,
         })
     }
 }

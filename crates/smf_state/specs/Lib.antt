@@ -3,3 +3,4 @@ pub mod Rows
 pub mod Fields
 pub mod Texts
 pub mod OwnName
+pub mod Patched

@@ -1,12 +1,13 @@
 //! States of instances, their rows, the steps that change them, and the texts of both.
 //! Modules: `state`, `flags` (asks, failures left out), `step`, `refusal` (why a step is not granted), `row`,
 //! `shared_row` (a row that its copies share), `fields` (readers of a line), `text`, `view` (what svc.startd's graph sees),
-//! `own_name` (that of svc.startd's restarter), `fault`.
+//! `held_view` (a view that is brought up to date in place), `own_name` (that of svc.startd's restarter), `fault`.
 #![tactic(auto)]
 
 mod fault;
 mod fields;
 mod flags;
+mod held_view;
 mod own_name;
 mod refusal;
 mod row;
@@ -22,6 +23,7 @@ pub use fields::{
     optional_cause_at, optional_number_at, optional_state_at, state_at,
 };
 pub use flags::{Asks, Failures, Ignore};
+pub use held_view::HeldView;
 pub use own_name::{is_startd, startd};
 pub use refusal::Why;
 pub use row::{MAX_NUMBER, MAX_RUN, Row, steps_go_along_the_diagram};
@@ -29,4 +31,4 @@ pub use shared_row::SharedRow;
 pub use state::{Cause, Duration, State, edge};
 pub use step::{Proposal, Step, Verb};
 pub use text::{row_at, step_at};
-pub use view::{View, ViewItem};
+pub use view::{ChangedItem, View, ViewItem};

@@ -1,7 +1,8 @@
-ghost use Rattle.std.specs.Prelude.{◌≡◌, IfOk};
+ghost use Rattle.std.specs.Prelude.{◌≡◌, IfOk, refl};
+ghost use Rattle.smf_state.specs.Patched.{by_item};
 
 use crate::shared_row::SharedRow;
-use smf_fmri::{Bytes, InstanceFmri, Number, Shared};
+use smf_fmri::{Bytes, ExactClone, InstanceFmri, Keyed, SharedOrdered};
 use std::alloc::AllocError;
 
 /// What svc.startd's graph sees of an instance.
@@ -15,6 +16,18 @@ pub struct ViewItem {
     pub row: SharedRow,
     /// The body of the running snapshot, where there is one.
     pub body: Option<Bytes>,
+}
+
+impl Keyed for ViewItem {
+    type Key = u64;
+
+    ghost by = { by_item };
+
+    fn key(&self) -> &u64 {
+        &self.instance
+    }
+
+    ghost same = { refl };
 }
 
 impl Clone for ViewItem {
@@ -35,6 +48,10 @@ impl Clone for ViewItem {
     }
 }
 
+impl ExactClone for ViewItem {
+    ghost exact = { λ item copy same. same };
+}
+
 fn copy_of(body: &Option<Bytes>) -> Result<Option<Bytes>, AllocError>
     ensures { IfOk result (λ copy. copy ≡ body.now) }
 {
@@ -47,9 +64,10 @@ fn copy_of(body: &Option<Bytes>) -> Result<Option<Bytes>, AllocError>
 /// What svc.startd's graph sees of the repository.
 #[derive(Drop)]
 pub struct View {
-    pub revision: Number,
+    /// How many commands the repository had accepted. In a message it is any number.
+    pub revision: u64,
     /// One for each instance, in number order.
-    pub items: Shared<ViewItem>,
+    pub items: SharedOrdered<ViewItem>,
 }
 
 impl Clone for View {
@@ -60,6 +78,29 @@ impl Clone for View {
         Ok(View {
             revision: self.revision,
             items,
+        })
+    }
+}
+
+/// An instance of which svc.startd's graph sees something else than before.
+#[derive(Drop)]
+pub struct ChangedItem {
+    pub instance: u64,
+    /// The item of today; none if the instance is gone.
+    pub item: Option<ViewItem>,
+}
+
+impl Clone for ChangedItem {
+    ghost is_clone = { λ s copy. copy ≡ s };
+
+    fn clone(&self) -> Result<ChangedItem, AllocError> {
+        let item = match &self.item {
+            None => None,
+            Some(item) => Some(item.clone()?),
+        };
+        Ok(ChangedItem {
+            instance: self.instance,
+            item,
         })
     }
 }

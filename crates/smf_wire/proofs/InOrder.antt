@@ -1,5 +1,5 @@
 -- Items in number order: what is written is read, and what is read was written so.
-use Rattle.std.proofs.Common.{◌≡◌, ℕ, zero, suc, ◌<◌, ◌≤◌, List, [], ◌∷◌, ◌++◌, length, map, Bool, true, false, Option, Some, None, IfSome, Result, Ok, Err, refl, sym, ◌∙◌, ap, arith, nat_lt, ltb-true, ltb-false, inl, inr}
+use Rattle.std.proofs.Common.{◌≡◌, ℕ, zero, suc, ◌<◌, ◌≤◌, List, [], ◌∷◌, ◌++◌, length, map, Bool, true, false, Option, Some, None, IfSome, Result, Ok, Err, refl, sym, ◌∙◌, ap, arith, codes, nat_lt, ltb-true, ltb-false, inl, inr}
 use Rattle.std.specs.Cmp.{nat_cmp_is}
 use Rattle.std.specs.Fmt.{decimal}
 use Rattle.std.specs.List.{AllByRecursion}
@@ -8,15 +8,17 @@ use Rattle.std.specs.declared.cmp.Ordering.{Ordering}
 use Rattle.std.specs.declared.cmp.Ordering.TheVariants.{Less, Equal, Greater}
 use Rattle.std.proofs.lemmas.Bool.{cases_lt}
 use Rattle.smf_fmri.specs.ByKey.{IsBelowFirst, Rises, by_number}
-use Rattle.smf_fmri.specs.Matching.{read_short}
+use Rattle.smf_fmri.specs.Matching.{IsInstanceName, read_short}
+use Rattle.smf_fmri.specs.Name.{read, strip}
 use Rattle.smf_state.specs.Fields.{◌>>=◌, flag_text, optional_text, read_flag, read_optional, taken}
 use Rattle.smf_state.specs.Texts.{IsSmall, row_at, row_text}
+use Rattle.smf_state.specs.declared.view.ChangedItem.{ChangedItem}
 use Rattle.smf_state.specs.declared.view.ViewItem.{ViewItem}
-use Rattle.smf_state.proofs.Lines.{IsTaken, OptionalIn, behind, bind_ok, takes, took}
+use Rattle.smf_state.proofs.Lines.{IsSpelling, IsTaken, OptionalIn, behind, bind_ok, optional, takes, took}
 use Rattle.smf_state.proofs.Words.{flag, name}
 use Rattle.smf_wire.specs.Digits.{hex_text}
-use Rattle.smf_wire.specs.Grammar.{Field, all_known_at, is_above, item_at, items_at, known_at, read_above, read_body}
-use Rattle.smf_wire.specs.Lines.{AreBytes, HasBody, IsBody, IsItem, IsKnown, item_text, known_text}
+use Rattle.smf_wire.specs.Grammar.{Field, all_changed_at, all_known_at, changed_at, changed_behind, is_above, item_at, item_behind, items_at, known_at, read_above, read_body}
+use Rattle.smf_wire.specs.Lines.{AreBytes, HasBody, IsBody, IsChanged, IsItem, IsKnown, IsSpelledChange, change_parts, changed_text, item_parts, item_text, known_text}
 use Rattle.smf_wire.specs.declared.message.Known.{Known}
 use Rattle.smf_wire.proofs.DigitFields.{IsWritten, optional_body}
 use Rattle.smf_wire.proofs.NumberFields.{above}
@@ -159,15 +161,48 @@ body_of : (body : Option (List ℕ)) → OptionalIn IsWritten body → IfSome bo
 body_of None h = tt
 body_of (Some bytes) h = h.1
 
-item_on : (before : Option ℕ) (i : ViewItem) → IsWholeItem i → is_above before i.instance ≡ true → (rest : Option (List ℕ))
-    → item_at before (on (decimal i.instance ∷ i.name ∷ flag_text i.enabled ∷ flag_text i.readable ∷ row_text i.row ∷ optional_text hex_text i.body ∷ []) rest) ≡ Ok (i, rest)
+-- the parts of an item after its name
+abbrev fields_of : ViewItem → List (List ℕ)
+fields_of i = flag_text i.enabled ∷ flag_text i.readable ∷ row_text i.row ∷ optional_text hex_text i.body ∷ []
+
+fields_on : (i : ViewItem) → IsItem i → HasBody i → (rest : Option (List ℕ)) → item_behind i.instance i.name (on (fields_of i) rest) ≡ Ok (i, rest)
+unfolding item_behind
+fields_on i h k rest =
+    rw (takes flag i.enabled tt (on (flag_text i.readable ∷ row_text i.row ∷ optional_text hex_text i.body ∷ []) rest), takes flag i.readable tt (on (row_text i.row ∷ optional_text hex_text i.body ∷ []) rest), row_is_read i.row h.row (on (optional_text hex_text i.body ∷ []) rest), takes optional_body i.body (written_in i.body h.body k) rest) refl
+
+-- what was read after a number and a name
+record AreFieldsOf (n : ℕ) (named : List ℕ) (s : Option (List ℕ)) (i : ViewItem) (rest : Option (List ℕ)) : Type 0 where
+  line : s ≡ on (fields_of i) rest
+  instance : i.instance ≡ n
+  name : i.name ≡ named
+  body : HasBody i
+
+fields_were : (n : ℕ) (named : List ℕ) (s : Option (List ℕ)) (i : ViewItem) (rest : Option (List ℕ)) → item_behind n named s ≡ Ok (i, rest) → AreFieldsOf n named s i rest
+unfolding item_behind
+fields_were n named s i rest h =
+    let c = bind_ok (taken read_flag s) _ _ h in
+    let d = bind_ok (taken read_flag c.0.1) _ _ c.2 in
+    let e = bind_ok (row_at d.0.1) _ _ d.2 in
+    let f = bind_ok (taken (read_optional read_body) e.0.1) _ _ e.2 in
+    let tc = took flag s c.0.0 c.0.1 c.1 in
+    let td = took flag c.0.1 d.0.0 d.0.1 d.1 in
+    let le = row_was d.0.1 e.0.0 e.0.1 e.1 in
+    let tf = took optional_body e.0.1 f.0.0 f.0.1 f.1 in
+    let line : s ≡ on (flag_text c.0.0 ∷ flag_text d.0.0 ∷ row_text e.0.0 ∷ optional_text hex_text f.0.0 ∷ []) f.0.1 = joins s c.0.1 _ (flag_text c.0.0) tc.line (joins c.0.1 d.0.1 _ (flag_text d.0.0) td.line (joins d.0.1 e.0.1 _ (row_text e.0.0) le tf.line)) in
+    found_as (λ x r. AreFieldsOf n named s x r) (record { instance = n; name = named; enabled = c.0.0; readable = d.0.0; row = e.0.0; body = f.0.0 }) i f.0.1 rest f.2 (record {
+      line = line;
+      instance = refl;
+      name = refl;
+      body = body_of f.0.0 tf.inside;
+    })
+
+item_on : (before : Option ℕ) (i : ViewItem) → IsWholeItem i → is_above before i.instance ≡ true → (rest : Option (List ℕ)) → item_at before (on (decimal i.instance ∷ item_parts i) rest) ≡ Ok (i, rest)
 unfolding item_at
 item_on before i h up rest =
-    rw (takes (above before) i.instance (h.item.instance, up) (on (i.name ∷ flag_text i.enabled ∷ flag_text i.readable ∷ row_text i.row ∷ optional_text hex_text i.body ∷ []) rest), takes name i.name h.item.name (on (flag_text i.enabled ∷ flag_text i.readable ∷ row_text i.row ∷ optional_text hex_text i.body ∷ []) rest), takes flag i.enabled tt (on (flag_text i.readable ∷ row_text i.row ∷ optional_text hex_text i.body ∷ []) rest), takes flag i.readable tt (on (row_text i.row ∷ optional_text hex_text i.body ∷ []) rest), row_is_read i.row h.item.row (on (optional_text hex_text i.body ∷ []) rest), takes optional_body i.body (written_in i.body h.item.body h.body) rest) refl
+    rw (takes (above before) i.instance (h.item.instance, up) (on (item_parts i) rest), takes name i.name h.item.name (on (fields_of i) rest)) (fields_on i h.item h.body rest)
 
 item_is_read : (before : Option ℕ) (i : ViewItem) → IsWholeItem i → is_above before i.instance ≡ true → (rest : Option (List ℕ)) → item_at before (Some (item_text i ++ behind rest)) ≡ Ok (i, rest)
-item_is_read before i h up rest =
-    ap (λ (l : List ℕ). item_at before (Some l)) (spaced_on (decimal i.instance) (i.name ∷ flag_text i.enabled ∷ flag_text i.readable ∷ row_text i.row ∷ optional_text hex_text i.body ∷ []) rest) ∙ item_on before i h up rest
+item_is_read before i h up rest = ap (λ (l : List ℕ). item_at before (Some l)) (spaced_on (decimal i.instance) (item_parts i) rest) ∙ item_on before i h up rest
 
 abbrev ItemOf : Option ℕ → Option (List ℕ) → ViewItem → Option (List ℕ) → Type 0
 ItemOf before s i rest = IsTaken item_text (λ (y : ViewItem). (is_above before y.instance ≡ true) × HasBody y) s i rest
@@ -177,22 +212,16 @@ unfolding item_at
 item_was before s i rest h =
     let a = bind_ok (taken (read_above before) s) _ _ h in
     let b = bind_ok (taken read_short a.0.1) _ _ a.2 in
-    let c = bind_ok (taken read_flag b.0.1) _ _ b.2 in
-    let d = bind_ok (taken read_flag c.0.1) _ _ c.2 in
-    let e = bind_ok (row_at d.0.1) _ _ d.2 in
-    let f = bind_ok (taken (read_optional read_body) e.0.1) _ _ e.2 in
     let ta = took (above before) s a.0.0 a.0.1 a.1 in
     let tb = took name a.0.1 b.0.0 b.0.1 b.1 in
-    let tc = took flag b.0.1 c.0.0 c.0.1 c.1 in
-    let td = took flag c.0.1 d.0.0 d.0.1 d.1 in
-    let le = row_was d.0.1 e.0.0 e.0.1 e.1 in
-    let tf = took optional_body e.0.1 f.0.0 f.0.1 f.1 in
-    let parts : List (List ℕ) = b.0.0 ∷ flag_text c.0.0 ∷ flag_text d.0.0 ∷ row_text e.0.0 ∷ optional_text hex_text f.0.0 ∷ [] in
-    let line : s ≡ on (decimal a.0.0 ∷ parts) f.0.1 = joins s a.0.1 _ (decimal a.0.0) ta.line (joins a.0.1 b.0.1 _ b.0.0 tb.line (joins b.0.1 c.0.1 _ (flag_text c.0.0) tc.line (joins c.0.1 d.0.1 _ (flag_text d.0.0) td.line (joins d.0.1 e.0.1 _ (row_text e.0.0) le tf.line)))) in
-    found_as (λ x r. ItemOf before s x r) (record { instance = a.0.0; name = b.0.0; enabled = c.0.0; readable = d.0.0; row = e.0.0; body = f.0.0 }) i f.0.1 rest f.2 (record {
-      line = as_text s (decimal a.0.0) parts f.0.1 line;
-      inside = (ta.inside.1, body_of f.0.0 tf.inside);
-    })
+    let f = fields_were a.0.0 b.0.0 b.0.1 i rest b.2 in
+    let shown : s ≡ on (decimal a.0.0 ∷ b.0.0 ∷ fields_of i) rest = joins s a.0.1 _ (decimal a.0.0) ta.line (joins a.0.1 b.0.1 _ b.0.0 tb.line f.line) in
+    let named : s ≡ on (decimal a.0.0 ∷ item_parts i) rest = shown ∙ ap (λ (l : List ℕ). on (decimal a.0.0 ∷ l ∷ fields_of i) rest) (sym f.name) in
+    let line : s ≡ on (decimal i.instance ∷ item_parts i) rest = named ∙ ap (λ (n : ℕ). on (decimal n ∷ item_parts i) rest) (sym f.instance) in
+    record {
+      line = as_text s (decimal i.instance) (item_parts i) rest line;
+      inside = (ap (is_above before) f.instance ∙ ta.inside.1, f.body);
+    }
 
 pub view_items : IsItemReader item_number item_at item_text IsWholeItem HasBody
 view_items = record { reads = item_is_read; found = item_was }
@@ -200,3 +229,83 @@ view_items = record { reads = item_is_read; found = item_was }
 pub view_all : IsAll item_number item_at items_at
 unfolding items_at
 view_all = record { none = λ before rest. refl; more = λ before n rest. refl }
+
+-- items that were read for a view stand in its order
+pub items_rise : (n : ℕ) (s : Option (List ℕ)) (xs : List ViewItem) (rest : Option (List ℕ)) → items_at None n s ≡ Ok (xs, rest) → Rises (by_number item_number) xs
+items_rise n s xs rest h = chain_rises item_number None xs (all_found view_all view_items n None s xs rest h).chain
+
+-- ---- changes of a view
+
+abbrev pub changed_number : ChangedItem → ℕ
+changed_number c = c.instance
+
+-- a change whose item, if there is one, is that of its instance
+pub record IsWholeChange (c : ChangedItem) : Type 0 where
+  pub changed : IsChanged c
+  pub spelled : IsSpelledChange c
+
+no_dash_name : read_short (codes "-") ≡ None
+unfolding read_short read strip
+no_dash_name = refl
+
+abbrev name_itself : List ℕ → List ℕ
+name_itself n = n
+
+optional_name : IsSpelling (read_optional read_short) (optional_text name_itself) (OptionalIn IsInstanceName)
+optional_name = optional name no_dash_name
+
+abbrev change_of : ℕ → Option ViewItem → ChangedItem
+change_of n item = record { instance = n; item = item }
+
+change_on : (before : Option ℕ) (n : ℕ) (item : Option ViewItem) → IsSmall n → IfSome item IsItem → IfSome item (λ i. i.instance ≡ n) → IfSome item HasBody → is_above before n ≡ true → (rest : Option (List ℕ))
+    → changed_at before (on (decimal n ∷ change_parts item) rest) ≡ Ok (change_of n item, rest)
+unfolding changed_at
+change_on before n None small h same k up rest = rw (takes (above before) n (small, up) (on (codes "-" ∷ []) rest), takes optional_name None tt rest) refl
+change_on before n (Some i) small h same k up rest =
+    let fields : item_behind n i.name (on (fields_of i) rest) ≡ Ok (i, rest) = ap (λ (m : ℕ). item_behind m i.name (on (fields_of i) rest)) (sym same) ∙ fields_on i h k rest in
+    rw (takes (above before) n (small, up) (on (item_parts i) rest), takes optional_name (Some i.name) h.name (on (fields_of i) rest), fields) refl
+
+change_is_read : (before : Option ℕ) (c : ChangedItem) → IsWholeChange c → is_above before c.instance ≡ true → (rest : Option (List ℕ)) → changed_at before (Some (changed_text c ++ behind rest)) ≡ Ok (c, rest)
+change_is_read before c h up rest =
+    ap (λ (l : List ℕ). changed_at before (Some l)) (spaced_on (decimal c.instance) (change_parts c.item) rest)
+    ∙ change_on before c.instance c.item h.changed.instance h.changed.item h.spelled.same h.spelled.body up rest
+
+-- what was read after a number, or after a number and a name
+record IsChangeOf (n : ℕ) (s : Option (List ℕ)) (c : ChangedItem) (rest : Option (List ℕ)) : Type 0 where
+  line : s ≡ on (change_parts c.item) rest
+  instance : c.instance ≡ n
+  spelled : IsSpelledChange c
+
+change_behind_was : (n : ℕ) (named : Option (List ℕ)) (s a : Option (List ℕ)) (c : ChangedItem) (rest : Option (List ℕ)) → s ≡ Some (optional_text name_itself named ++ behind a) → changed_behind n named a ≡ Ok (c, rest) → IsChangeOf n s c rest
+change_behind_was n None s a c rest t h = found_as (λ x r. IsChangeOf n s x r) (change_of n None) c a rest h (record { line = t; instance = refl; spelled = record { same = tt; body = tt } })
+change_behind_was n (Some named) s a c rest t h =
+    let b = bind_ok (item_behind n named a) _ _ h in
+    let f = fields_were n named a b.0.0 b.0.1 b.1 in
+    let shown : s ≡ on (named ∷ fields_of b.0.0) b.0.1 = joins s a _ named t f.line in
+    let line : s ≡ on (item_parts b.0.0) b.0.1 = shown ∙ ap (λ (l : List ℕ). on (l ∷ fields_of b.0.0) b.0.1) (sym f.name) in
+    found_as (λ x r. IsChangeOf n s x r) (change_of n (Some b.0.0)) c b.0.1 rest b.2 (record { line = line; instance = refl; spelled = record { same = f.instance; body = f.body } })
+
+abbrev ChangeOf : Option ℕ → Option (List ℕ) → ChangedItem → Option (List ℕ) → Type 0
+ChangeOf before s c rest = IsTaken changed_text (λ (y : ChangedItem). (is_above before y.instance ≡ true) × IsSpelledChange y) s c rest
+
+change_was : (before : Option ℕ) (s : Option (List ℕ)) (c : ChangedItem) (rest : Option (List ℕ)) → changed_at before s ≡ Ok (c, rest) → ChangeOf before s c rest
+unfolding changed_at
+change_was before s c rest h =
+    let a = bind_ok (taken (read_above before) s) _ _ h in
+    let b = bind_ok (taken (read_optional read_short) a.0.1) _ _ a.2 in
+    let ta = took (above before) s a.0.0 a.0.1 a.1 in
+    let tb = took optional_name a.0.1 b.0.0 b.0.1 b.1 in
+    let f = change_behind_was a.0.0 b.0.0 a.0.1 b.0.1 c rest tb.line b.2 in
+    let shown : s ≡ on (decimal a.0.0 ∷ change_parts c.item) rest = joins s a.0.1 _ (decimal a.0.0) ta.line f.line in
+    let line : s ≡ on (decimal c.instance ∷ change_parts c.item) rest = shown ∙ ap (λ (n : ℕ). on (decimal n ∷ change_parts c.item) rest) (sym f.instance) in
+    record {
+      line = as_text s (decimal c.instance) (change_parts c.item) rest line;
+      inside = (ap (is_above before) f.instance ∙ ta.inside.1, f.spelled);
+    }
+
+pub change_items : IsItemReader changed_number changed_at changed_text IsWholeChange IsSpelledChange
+change_items = record { reads = change_is_read; found = change_was }
+
+pub change_all : IsAll changed_number changed_at all_changed_at
+unfolding all_changed_at
+change_all = record { none = λ before rest. refl; more = λ before n rest. refl }

@@ -1,15 +1,14 @@
 -- Numbers that pass a test: what is written is read, and what is read was written so.
-use Rattle.std.proofs.Common.{◌≡◌, ℕ, ◌<◌, ◌≤◌, ◌==◌, List, Bool, true, false, cond, Option, Some, None, IfSome, refl, sym, ◌∙◌, ap, arith, codes, nat_lt, nat_le, ltb-true, lt-ltb, eqb-true, ne_eqb}
+use Rattle.std.proofs.Common.{◌≡◌, ℕ, ◌<◌, ◌==◌, List, Bool, true, false, cond, Option, Some, None, IfSome, refl, sym, ◌∙◌, ap, arith, codes, nat_lt, ltb-true, lt-ltb, eqb-true, ne_eqb}
 use Rattle.std.specs.Fmt.{decimal}
 use Rattle.std.specs.Prelude.{◌||◌}
-use Rattle.std.proofs.lemmas.Bool.Decides.{nat_tests}
 use Rattle.smf_fmri.specs.Counts.{no_space, read_count}
 use Rattle.smf_fmri.proofs.Counts.{decimal_spaceless, printed_is_read, read_is_printed, read_is_small}
 use Rattle.smf_method.specs.Timeouts.{IsTimeout, timeout_of}
 use Rattle.smf_state.specs.Fields.{optional_text, read_optional}
 use Rattle.smf_state.specs.Texts.{IsSmall}
 use Rattle.smf_state.proofs.Lines.{IsSpelling, OptionalIn, optional}
-use Rattle.smf_wire.specs.Grammar.{are_seconds, is_above, is_revision, number_if, read_above, read_revision, read_seconds}
+use Rattle.smf_wire.specs.Grammar.{are_seconds, is_above, number_if, read_above, read_seconds}
 use Rattle.smf_wire.specs.Lines.{seconds_of}
 
 abbrev pub Passes : (ℕ → Bool) → ℕ → Type 0
@@ -39,9 +38,6 @@ passing test = record {
 pub above : (before : Option ℕ) → IsSpelling (read_above before) decimal (Passes (is_above before))
 above before = passing (is_above before)
 
-pub revision : IsSpelling read_revision decimal (Passes is_revision)
-revision = passing is_revision
-
 pub seconds : IsSpelling read_seconds decimal (Passes are_seconds)
 seconds = passing are_seconds
 
@@ -51,9 +47,6 @@ no_dash_seconds = refl
 
 pub optional_seconds : IsSpelling (read_optional read_seconds) (optional_text decimal) (OptionalIn (Passes are_seconds))
 optional_seconds = optional seconds no_dash_seconds
-
-pub revision_in : (n : ℕ) → n ≤ 0x7fff_ffff_ffff_ffff → Passes is_revision n
-revision_in n h = let low : is_revision n ≡ true = grind (arith, nat_tests) in (omega arith, low)
 
 -- ---- timeouts
 

@@ -6,6 +6,7 @@ use Rattle.std.specs.Option.{option_to_list}
 use Rattle.std.specs.Prelude.{is_some}
 use Rattle.smf_fmri.specs.Counts.{read_count}
 use Rattle.smf_fmri.specs.Matching.{read_short}
+use Rattle.smf_state.specs.declared.view.ChangedItem.{ChangedItem}
 use Rattle.smf_state.specs.declared.view.View.{View}
 use Rattle.smf_state.specs.Fields.{◌>>=◌, taken}
 use Rattle.smf_state.specs.Texts.{IsRow, row_at, row_text, step_at, step_text}
@@ -14,19 +15,19 @@ use Rattle.smf_state.specs.declared.step.Proposal.{Proposal}
 use Rattle.smf_state.specs.declared.view.ViewItem.{ViewItem}
 use Rattle.smf_state.proofs.Lines.{IsTaken, behind, bind_ok, takes, took}
 use Rattle.smf_state.proofs.Words.{name, number}
-use Rattle.smf_wire.specs.Grammar.{Field, all_known_at, close_at, items_at, message_at, message_behind, nothing_behind, order_at, placed, proposal_at, read_close, read_line, read_revision, row_if, view_at, what_at, whole_message}
-use Rattle.smf_wire.specs.Lines.{HasBody, IsItem, IsMessage, IsSpelled, IsSpelledView, has_row, item_text, known_text, line_text, message_parts, message_text, what_text}
+use Rattle.smf_wire.specs.Grammar.{Field, all_changed_at, all_known_at, changes_at, close_at, items_at, message_at, message_behind, nothing_behind, order_at, placed, proposal_at, read_close, read_line, row_if, view_at, what_at, whole_message}
+use Rattle.smf_wire.specs.Lines.{AreSpelledChanges, HasBody, IsChanged, IsItem, IsMessage, IsSpelled, IsSpelledChange, IsSpelledView, changed_text, has_row, item_text, known_text, line_text, message_parts, message_text, what_text}
 use Rattle.smf_wire.specs.Words.{message_word, message_word_text, read_message_word, read_why, why_text}
 use Rattle.smf_wire.specs.declared.fault.WireFault.{WireFault}
 use Rattle.smf_wire.specs.declared.message.Known.{Known}
 use Rattle.smf_wire.specs.declared.message.Message.{Message}
-use Rattle.smf_wire.specs.declared.message.Message.TheVariants.{Join, Rows, Propose, Ack, Nack, AskView, View as Seen, Order as Ordered}
+use Rattle.smf_wire.specs.declared.message.ViewChanges.{ViewChanges}
+use Rattle.smf_wire.specs.declared.message.Message.TheVariants.{Join, Rows, Propose, Ack, Nack, AskView, View as Seen, AskChange, Changes, Order as Ordered}
 use Rattle.smf_wire.specs.declared.order.Order.{Order}
 use Rattle.smf_wire.specs.declared.word.MessageWord.{MessageWord}
 use Rattle.smf_wire.specs.declared.word.MessageWord.TheVariants as words
-use Rattle.smf_wire.proofs.InOrder.{IsWholeItem, all_found, all_reads, chain_rises, item_number, known_all, known_items, known_number, rises_chain, view_all, view_items}
+use Rattle.smf_wire.proofs.InOrder.{IsWholeChange, IsWholeItem, all_found, all_reads, chain_rises, change_all, change_items, changed_number, item_number, known_all, known_items, known_number, rises_chain, view_all, view_items}
 use Rattle.smf_wire.proofs.Methods.{what_is_read, what_was}
-use Rattle.smf_wire.proofs.NumberFields.{revision, revision_in}
 use Rattle.smf_wire.proofs.Parts.{as_text, found_as, joins, on, row_is_read, row_was, spaced_on, step_is_read, step_was}
 use Rattle.smf_wire.proofs.WordFields as fields
 
@@ -42,8 +43,12 @@ whole_items : (xs : List ViewItem) → AllByRecursion IsItem xs → AllByRecursi
 whole_items [] h k = tt
 whole_items (x ∷ xs) h k = (record { item = h.0; body = k.0 }, whole_items xs h.1 k.1)
 
+whole_changes : (xs : List ChangedItem) → AllByRecursion IsChanged xs → AllByRecursion IsSpelledChange xs → AllByRecursion IsWholeChange xs
+whole_changes [] h k = tt
+whole_changes (x ∷ xs) h k = (record { changed = h.0; spelled = k.0 }, whole_changes xs h.1 k.1)
+
 message_on : (m : Message) → IsMessage m → IsSpelled m → (rest : Option (List ℕ)) → message_behind (message_word m) (on (message_parts m) rest) ≡ Ok (m, rest)
-unfolding message_behind proposal_at order_at view_at
+unfolding message_behind proposal_at order_at view_at changes_at
 message_on (Join n launch) h k rest = rw (takes name n h.0 (on (decimal launch ∷ []) rest), takes number launch h.1 rest) refl
 message_on (Rows n launch rows) h k rest =
     rw (takes name n h.0 (on (decimal launch ∷ decimal (length rows) ∷ map known_text rows) rest), takes number launch h.1 (on (decimal (length rows) ∷ map known_text rows) rest), takes number (length rows) h.2.count (on (map known_text rows) rest), all_reads known_all known_items None rows h.2.rows (rises_chain known_number rows k) rest) refl
@@ -55,7 +60,10 @@ message_on (Nack n launch serial instance why row) h k rest =
     rw (takes name n h.0.name (on (decimal launch ∷ decimal serial ∷ decimal instance ∷ why_text why ∷ map row_text (option_to_list row)) rest), takes number launch h.0.launch (on (decimal serial ∷ decimal instance ∷ why_text why ∷ map row_text (option_to_list row)) rest), takes number serial h.0.serial (on (decimal instance ∷ why_text why ∷ map row_text (option_to_list row)) rest), takes number instance h.0.instance (on (why_text why ∷ map row_text (option_to_list row)) rest), takes fields.why why tt (on (map row_text (option_to_list row)) rest), row_if_on (has_row why) row k h.1 rest) refl
 message_on AskView h k rest = refl
 message_on (Seen v) h k rest =
-    rw (takes revision v.revision (revision_in v.revision h.revision) (on (decimal (length v.items) ∷ map item_text v.items) rest), takes number (length v.items) h.count (on (map item_text v.items) rest), all_reads view_all view_items None v.items (whole_items v.items h.items k.bodies) (rises_chain item_number v.items k.rises) rest) refl
+    rw (takes number v.revision h.revision (on (decimal (length v.items) ∷ map item_text v.items) rest), takes number (length v.items) h.count (on (map item_text v.items) rest), all_reads view_all view_items None v.items (whole_items v.items h.items k.bodies) (rises_chain item_number v.items k.rises) rest) refl
+message_on (AskChange revision) h k rest = rw (takes number revision h rest) refl
+message_on (Changes c) h k rest =
+    rw (takes number c.from h.from (on (decimal c.to ∷ decimal (length c.items) ∷ map changed_text c.items) rest), takes number c.to h.to (on (decimal (length c.items) ∷ map changed_text c.items) rest), takes number (length c.items) h.count (on (map changed_text c.items) rest), all_reads change_all change_items None c.items (whole_changes c.items h.items k.changes) (rises_chain changed_number c.items k.rises) rest) refl
 message_on (Ordered o) h k rest =
     rw (takes name o.restarter h.restarter (on (decimal o.instance ∷ o.name ∷ decimal o.revision ∷ row_text o.row ∷ what_text o.what ∷ []) rest), takes number o.instance h.instance (on (o.name ∷ decimal o.revision ∷ row_text o.row ∷ what_text o.what ∷ []) rest), takes name o.name h.name (on (decimal o.revision ∷ row_text o.row ∷ what_text o.what ∷ []) rest), takes number o.revision h.revision (on (row_text o.row ∷ what_text o.what ∷ []) rest), row_is_read o.row h.row (on (what_text o.what ∷ []) rest), what_is_read o.what h.what rest) refl
 
@@ -178,10 +186,10 @@ view_was : (s : Option (List ℕ)) (m : Message) (rest : Option (List ℕ)) → 
 unfolding message_behind view_at
 view_was s m rest h =
     let p = bind_ok (view_at s) _ _ h in
-    let a = bind_ok (taken read_revision s) _ _ p.1 in
+    let a = bind_ok (taken read_count s) _ _ p.1 in
     let b = bind_ok (taken read_count a.0.1) _ _ a.2 in
     let c = bind_ok (items_at None b.0.0 b.0.1) _ _ b.2 in
-    let ta = took revision s a.0.0 a.0.1 a.1 in
+    let ta = took number s a.0.0 a.0.1 a.1 in
     let tb = took number a.0.1 b.0.0 b.0.1 b.1 in
     let items = all_found view_all view_items b.0.0 None b.0.1 c.0.0 c.0.1 c.1 in
     let counted : s ≡ on (decimal a.0.0 ∷ decimal b.0.0 ∷ map item_text c.0.0) c.0.1 = joins s a.0.1 _ (decimal a.0.0) ta.line (joins a.0.1 b.0.1 _ (decimal b.0.0) tb.line items.line) in
@@ -189,6 +197,31 @@ view_was s m rest h =
     let spelled : IsSpelled (Seen (record { revision = a.0.0; items = c.0.0 })) = record { rises = chain_rises item_number None c.0.0 items.chain; bodies = items.each } in
     let made : IsMessageOf words.View s (Seen p.0.0) p.0.1 = found_as (λ (x : View) r. IsMessageOf words.View s (Seen x) r) (record { revision = a.0.0; items = c.0.0 }) p.0.0 c.0.1 p.0.1 c.2 (record { line = line; of = refl; spelled = spelled }) in
     found_as (λ x r. IsMessageOf words.View s x r) (Seen p.0.0) m p.0.1 rest p.2 made
+
+ask_change_was : (s : Option (List ℕ)) (m : Message) (rest : Option (List ℕ)) → message_behind words.AskChange s ≡ Ok (m, rest) → IsMessageOf words.AskChange s m rest
+unfolding message_behind
+ask_change_was s m rest h =
+    let a = bind_ok (taken read_count s) _ _ h in
+    let ta = took number s a.0.0 a.0.1 a.1 in
+    found_as (λ x r. IsMessageOf words.AskChange s x r) (AskChange a.0.0) m a.0.1 rest a.2 (record { line = ta.line; of = refl; spelled = tt })
+
+changes_was : (s : Option (List ℕ)) (m : Message) (rest : Option (List ℕ)) → message_behind words.Changes s ≡ Ok (m, rest) → IsMessageOf words.Changes s m rest
+unfolding message_behind changes_at
+changes_was s m rest h =
+    let p = bind_ok (changes_at s) _ _ h in
+    let a = bind_ok (taken read_count s) _ _ p.1 in
+    let b = bind_ok (taken read_count a.0.1) _ _ a.2 in
+    let c = bind_ok (taken read_count b.0.1) _ _ b.2 in
+    let d = bind_ok (all_changed_at None c.0.0 c.0.1) _ _ c.2 in
+    let ta = took number s a.0.0 a.0.1 a.1 in
+    let tb = took number a.0.1 b.0.0 b.0.1 b.1 in
+    let tc = took number b.0.1 c.0.0 c.0.1 c.1 in
+    let items = all_found change_all change_items c.0.0 None c.0.1 d.0.0 d.0.1 d.1 in
+    let counted : s ≡ on (decimal a.0.0 ∷ decimal b.0.0 ∷ decimal c.0.0 ∷ map changed_text d.0.0) d.0.1 = joins s a.0.1 _ (decimal a.0.0) ta.line (joins a.0.1 b.0.1 _ (decimal b.0.0) tb.line (joins b.0.1 c.0.1 _ (decimal c.0.0) tc.line items.line)) in
+    let line : s ≡ on (decimal a.0.0 ∷ decimal b.0.0 ∷ decimal (length d.0.0) ∷ map changed_text d.0.0) d.0.1 = counted ∙ ap (λ (n : ℕ). on (decimal a.0.0 ∷ decimal b.0.0 ∷ decimal n ∷ map changed_text d.0.0) d.0.1) (sym items.count) in
+    let spelled : IsSpelled (Changes (record { from = a.0.0; to = b.0.0; items = d.0.0 })) = record { rises = chain_rises changed_number None d.0.0 items.chain; changes = items.each } in
+    let made : IsMessageOf words.Changes s (Changes p.0.0) p.0.1 = found_as (λ (x : ViewChanges) r. IsMessageOf words.Changes s (Changes x) r) (record { from = a.0.0; to = b.0.0; items = d.0.0 }) p.0.0 d.0.1 p.0.1 d.2 (record { line = line; of = refl; spelled = spelled }) in
+    found_as (λ x r. IsMessageOf words.Changes s x r) (Changes p.0.0) m p.0.1 rest p.2 made
 
 order_was : (s : Option (List ℕ)) (m : Message) (rest : Option (List ℕ)) → message_behind words.Order s ≡ Ok (m, rest) → IsMessageOf words.Order s m rest
 unfolding message_behind order_at
@@ -219,6 +252,8 @@ message_found words.Ack s m rest h = ack_was s m rest h
 message_found words.Nack s m rest h = nack_was s m rest h
 message_found words.AskView s m rest h = found_as (λ x r. IsMessageOf words.AskView s x r) AskView m s rest h (record { line = refl; of = refl; spelled = tt })
 message_found words.View s m rest h = view_was s m rest h
+message_found words.AskChange s m rest h = ask_change_was s m rest h
+message_found words.Changes s m rest h = changes_was s m rest h
 message_found words.Order s m rest h = order_was s m rest h
 
 message_was : (s : Option (List ℕ)) (m : Message) (rest : Option (List ℕ)) → message_at s ≡ Ok (m, rest) → IsTaken message_text IsSpelled s m rest

@@ -25,20 +25,24 @@ message_word_reads words.Ack = refl
 message_word_reads words.Nack = refl
 message_word_reads words.AskView = refl
 message_word_reads words.View = refl
+message_word_reads words.AskChange = refl
+message_word_reads words.Changes = refl
 message_word_reads words.Order = refl
 
-message_word_is : (p0 p1 p2 p3 p4 p5 p6 p7 : Bool) (t : List ℕ) (s : MessageWord)
-    → pointwise nat_eq t (codes "join") ≡ p0 → pointwise nat_eq t (codes "rows") ≡ p1 → pointwise nat_eq t (codes "propose") ≡ p2 → pointwise nat_eq t (codes "ack") ≡ p3 → pointwise nat_eq t (codes "nack") ≡ p4 → pointwise nat_eq t (codes "askview") ≡ p5 → pointwise nat_eq t (codes "view") ≡ p6 → pointwise nat_eq t (codes "order") ≡ p7
-    → cond p0 (Some words.Join) (cond p1 (Some words.Rows) (cond p2 (Some words.Propose) (cond p3 (Some words.Ack) (cond p4 (Some words.Nack) (cond p5 (Some words.AskView) (cond p6 (Some words.View) (cond p7 (Some words.Order) None))))))) ≡ Some s → t ≡ message_word_text s
-message_word_is true p1 p2 p3 p4 p5 p6 p7 t s e0 e1 e2 e3 e4 e5 e6 e7 h = let is : words.Join ≡ s = cc in (same_text t _).0 e0 ∙ ap message_word_text is
-message_word_is false true p2 p3 p4 p5 p6 p7 t s e0 e1 e2 e3 e4 e5 e6 e7 h = let is : words.Rows ≡ s = cc in (same_text t _).0 e1 ∙ ap message_word_text is
-message_word_is false false true p3 p4 p5 p6 p7 t s e0 e1 e2 e3 e4 e5 e6 e7 h = let is : words.Propose ≡ s = cc in (same_text t _).0 e2 ∙ ap message_word_text is
-message_word_is false false false true p4 p5 p6 p7 t s e0 e1 e2 e3 e4 e5 e6 e7 h = let is : words.Ack ≡ s = cc in (same_text t _).0 e3 ∙ ap message_word_text is
-message_word_is false false false false true p5 p6 p7 t s e0 e1 e2 e3 e4 e5 e6 e7 h = let is : words.Nack ≡ s = cc in (same_text t _).0 e4 ∙ ap message_word_text is
-message_word_is false false false false false true p6 p7 t s e0 e1 e2 e3 e4 e5 e6 e7 h = let is : words.AskView ≡ s = cc in (same_text t _).0 e5 ∙ ap message_word_text is
-message_word_is false false false false false false true p7 t s e0 e1 e2 e3 e4 e5 e6 e7 h = let is : words.View ≡ s = cc in (same_text t _).0 e6 ∙ ap message_word_text is
-message_word_is false false false false false false false true t s e0 e1 e2 e3 e4 e5 e6 e7 h = let is : words.Order ≡ s = cc in (same_text t _).0 e7 ∙ ap message_word_text is
-message_word_is false false false false false false false false t s e0 e1 e2 e3 e4 e5 e6 e7 h = cc
+message_word_is : (p0 p1 p2 p3 p4 p5 p6 p7 p8 p9 : Bool) (t : List ℕ) (s : MessageWord)
+    → pointwise nat_eq t (codes "join") ≡ p0 → pointwise nat_eq t (codes "rows") ≡ p1 → pointwise nat_eq t (codes "propose") ≡ p2 → pointwise nat_eq t (codes "ack") ≡ p3 → pointwise nat_eq t (codes "nack") ≡ p4 → pointwise nat_eq t (codes "askview") ≡ p5 → pointwise nat_eq t (codes "view") ≡ p6 → pointwise nat_eq t (codes "order") ≡ p7 → pointwise nat_eq t (codes "askchange") ≡ p8 → pointwise nat_eq t (codes "changes") ≡ p9
+    → cond p0 (Some words.Join) (cond p1 (Some words.Rows) (cond p2 (Some words.Propose) (cond p3 (Some words.Ack) (cond p4 (Some words.Nack) (cond p5 (Some words.AskView) (cond p6 (Some words.View) (cond p7 (Some words.Order) (cond p8 (Some words.AskChange) (cond p9 (Some words.Changes) None))))))))) ≡ Some s → t ≡ message_word_text s
+message_word_is true p1 p2 p3 p4 p5 p6 p7 p8 p9 t s e0 e1 e2 e3 e4 e5 e6 e7 e8 e9 h = let is : words.Join ≡ s = cc in (same_text t _).0 e0 ∙ ap message_word_text is
+message_word_is false true p2 p3 p4 p5 p6 p7 p8 p9 t s e0 e1 e2 e3 e4 e5 e6 e7 e8 e9 h = let is : words.Rows ≡ s = cc in (same_text t _).0 e1 ∙ ap message_word_text is
+message_word_is false false true p3 p4 p5 p6 p7 p8 p9 t s e0 e1 e2 e3 e4 e5 e6 e7 e8 e9 h = let is : words.Propose ≡ s = cc in (same_text t _).0 e2 ∙ ap message_word_text is
+message_word_is false false false true p4 p5 p6 p7 p8 p9 t s e0 e1 e2 e3 e4 e5 e6 e7 e8 e9 h = let is : words.Ack ≡ s = cc in (same_text t _).0 e3 ∙ ap message_word_text is
+message_word_is false false false false true p5 p6 p7 p8 p9 t s e0 e1 e2 e3 e4 e5 e6 e7 e8 e9 h = let is : words.Nack ≡ s = cc in (same_text t _).0 e4 ∙ ap message_word_text is
+message_word_is false false false false false true p6 p7 p8 p9 t s e0 e1 e2 e3 e4 e5 e6 e7 e8 e9 h = let is : words.AskView ≡ s = cc in (same_text t _).0 e5 ∙ ap message_word_text is
+message_word_is false false false false false false true p7 p8 p9 t s e0 e1 e2 e3 e4 e5 e6 e7 e8 e9 h = let is : words.View ≡ s = cc in (same_text t _).0 e6 ∙ ap message_word_text is
+message_word_is false false false false false false false true p8 p9 t s e0 e1 e2 e3 e4 e5 e6 e7 e8 e9 h = let is : words.Order ≡ s = cc in (same_text t _).0 e7 ∙ ap message_word_text is
+message_word_is false false false false false false false false true p9 t s e0 e1 e2 e3 e4 e5 e6 e7 e8 e9 h = let is : words.AskChange ≡ s = cc in (same_text t _).0 e8 ∙ ap message_word_text is
+message_word_is false false false false false false false false false true t s e0 e1 e2 e3 e4 e5 e6 e7 e8 e9 h = let is : words.Changes ≡ s = cc in (same_text t _).0 e9 ∙ ap message_word_text is
+message_word_is false false false false false false false false false false t s e0 e1 e2 e3 e4 e5 e6 e7 e8 e9 h = cc
 
 message_word_spaceless : (s : MessageWord) → no_space (message_word_text s) ≡ true
 message_word_spaceless words.Join = refl
@@ -48,12 +52,14 @@ message_word_spaceless words.Ack = refl
 message_word_spaceless words.Nack = refl
 message_word_spaceless words.AskView = refl
 message_word_spaceless words.View = refl
+message_word_spaceless words.AskChange = refl
+message_word_spaceless words.Changes = refl
 message_word_spaceless words.Order = refl
 
 pub message_word : IsSpelling read_message_word message_word_text Any
 message_word = record {
   reads = λ s h. message_word_reads s;
-  spelled = λ t s h. (message_word_is _ _ _ _ _ _ _ _ t s refl refl refl refl refl refl refl refl h, tt);
+  spelled = λ t s h. (message_word_is _ _ _ _ _ _ _ _ _ _ t s refl refl refl refl refl refl refl refl refl refl h, tt);
   spaceless = λ s h. message_word_spaceless s;
 }
 

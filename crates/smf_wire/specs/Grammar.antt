@@ -7,6 +7,7 @@ use Rattle.smf_method.specs.Commands.{command_of}
 use Rattle.smf_method.specs.Timeouts.{timeout_of}
 use Rattle.smf_method.specs.declared.call.MethodCall.{MethodCall}
 use Rattle.smf_state.specs.declared.refusal.Why.{Why}
+use Rattle.smf_state.specs.declared.view.ChangedItem.{ChangedItem}
 use Rattle.smf_state.specs.declared.view.View.{View}
 use Rattle.smf_state.specs.Fields.{◌>>=◌, read_flag, read_ignore, read_optional, taken}
 use Rattle.smf_state.specs.declared.fault.FieldFault.{FieldFault}
@@ -24,7 +25,8 @@ use Rattle.smf_wire.specs.declared.fault.WireFault.{WireFault}
 use Rattle.smf_wire.specs.declared.fault.WireFault.TheVariants.{Memory, NotInGrammar}
 use Rattle.smf_wire.specs.declared.message.Known.{Known}
 use Rattle.smf_wire.specs.declared.message.Message.{Message}
-use Rattle.smf_wire.specs.declared.message.Message.TheVariants.{Join, Rows, Propose, Ack, Nack, AskView, View as Seen, Order as Ordered}
+use Rattle.smf_wire.specs.declared.message.ViewChanges.{ViewChanges}
+use Rattle.smf_wire.specs.declared.message.Message.TheVariants.{Join, Rows, Propose, Ack, Nack, AskView, View as Seen, AskChange, Changes, Order as Ordered}
 use Rattle.smf_wire.specs.declared.order.Order.{Order}
 use Rattle.smf_wire.specs.declared.order.What.{What}
 use Rattle.smf_wire.specs.declared.order.What.TheVariants.{To, Start, Stop, Refresh}
@@ -50,13 +52,6 @@ number_if test (Some number) = if test number then Some number else None
 
 abbrev pub read_above : Option ℕ → List ℕ → Option ℕ
 read_above before text = number_if (is_above before) (read_count text)
-
--- the revision of a view is below 2^63, as every revision
-abbrev pub is_revision : ℕ → Bool
-is_revision number = nat_le number 0x7fff_ffff_ffff_ffff
-
-abbrev pub read_revision : List ℕ → Option ℕ
-read_revision text = number_if is_revision (read_count text)
 
 -- the seconds of a timeout are below 2^64 - 1
 abbrev pub are_seconds : ℕ → Bool
@@ -145,15 +140,20 @@ all_known_at before (suc n) rest = do
   others ← all_known_at (Some first.0.instance) n first.1
   Ok (first.0 ∷ others.0, others.1)
 
+-- after the number and the name
+unfoldable pub item_behind : ℕ → List ℕ → Option (List ℕ) → Field ViewItem
+item_behind number name rest = do
+  enabled ← taken read_flag rest
+  readable ← taken read_flag enabled.1
+  row ← row_at readable.1
+  body ← taken (read_optional read_body) row.1
+  Ok (record { instance = number; name = name; enabled = enabled.0; readable = readable.0; row = row.0; body = body.0 }, body.1)
+
 unfoldable pub item_at : Option ℕ → Option (List ℕ) → Field ViewItem
 item_at before rest = do
   instance ← taken (read_above before) rest
   name ← taken read_short instance.1
-  enabled ← taken read_flag name.1
-  readable ← taken read_flag enabled.1
-  row ← row_at readable.1
-  body ← taken (read_optional read_body) row.1
-  Ok (record { instance = instance.0; name = name.0; enabled = enabled.0; readable = readable.0; row = row.0; body = body.0 }, body.1)
+  item_behind instance.0 name.0 name.1
 
 abbrev pub last_item : List ViewItem → Option ℕ
 last_item items = option_map (λ i. i.instance) (slice_get items (length items - 1))
@@ -163,6 +163,29 @@ items_at before zero rest = Ok ([], rest)
 items_at before (suc n) rest = do
   first ← item_at before rest
   others ← items_at (Some first.0.instance) n first.1
+  Ok (first.0 ∷ others.0, others.1)
+
+-- after the name, or after "-"
+abbrev pub changed_behind : ℕ → Option (List ℕ) → Option (List ℕ) → Field ChangedItem
+changed_behind number None rest = Ok (record { instance = number; item = None }, rest)
+changed_behind number (Some name) rest = do
+  item ← item_behind number name rest
+  Ok (record { instance = number; item = Some item.0 }, item.1)
+
+unfoldable pub changed_at : Option ℕ → Option (List ℕ) → Field ChangedItem
+changed_at before rest = do
+  instance ← taken (read_above before) rest
+  name ← taken (read_optional read_short) instance.1
+  changed_behind instance.0 name.0 name.1
+
+abbrev pub last_changed : List ChangedItem → Option ℕ
+last_changed items = option_map (λ c. c.instance) (slice_get items (length items - 1))
+
+unfoldable pub all_changed_at : Option ℕ → ℕ → Option (List ℕ) → Field (List ChangedItem)
+all_changed_at before zero rest = Ok ([], rest)
+all_changed_at before (suc n) rest = do
+  first ← changed_at before rest
+  others ← all_changed_at (Some first.0.instance) n first.1
   Ok (first.0 ∷ others.0, others.1)
 
 -- ---- messages
@@ -195,10 +218,18 @@ row_if true rest = do
 
 unfoldable pub view_at : Option (List ℕ) → Field View
 view_at rest = do
-  revision ← taken read_revision rest
+  revision ← taken read_count rest
   count ← taken read_count revision.1
   items ← items_at None count.0 count.1
   Ok (record { revision = revision.0; items = items.0 }, items.1)
+
+unfoldable pub changes_at : Option (List ℕ) → Field ViewChanges
+changes_at rest = do
+  from ← taken read_count rest
+  to ← taken read_count from.1
+  count ← taken read_count to.1
+  items ← all_changed_at None count.0 count.1
+  Ok (record { from = from.0; to = to.0; items = items.0 }, items.1)
 
 -- the fields behind the word
 unfoldable pub message_behind : MessageWord → Option (List ℕ) → Field Message
@@ -234,6 +265,12 @@ message_behind words.AskView rest = Ok (AskView, rest)
 message_behind words.View rest = do
   view ← view_at rest
   Ok (Seen view.0, view.1)
+message_behind words.AskChange rest = do
+  revision ← taken read_count rest
+  Ok (AskChange revision.0, revision.1)
+message_behind words.Changes rest = do
+  changes ← changes_at rest
+  Ok (Changes changes.0, changes.1)
 message_behind words.Order rest = do
   order ← order_at rest
   Ok (Ordered order.0, order.1)

@@ -11,21 +11,20 @@ use Rattle.smf_method.specs.Timeouts.{IsTimeout}
 use Rattle.smf_method.specs.declared.call.MethodCall.{MethodCall}
 use Rattle.smf_state.specs.declared.refusal.Why.{Why}
 use Rattle.smf_state.specs.declared.refusal.Why.TheVariants as reasons
+use Rattle.smf_state.specs.declared.view.ChangedItem.{ChangedItem}
 use Rattle.smf_state.specs.declared.view.View.{View}
-use Rattle.smf_snap.specs.Body.{decoded_snapshot}
-use Rattle.smf_snap.specs.declared.body.Snapshot.{Snapshot}
 use Rattle.smf_state.specs.Fields.{flag_text, optional_text}
 use Rattle.smf_state.specs.States.{cause_text, duration_text, state_text}
 use Rattle.smf_state.specs.Texts.{IsRow, IsSmall, IsStep, row_text, step_text}
 use Rattle.smf_state.specs.declared.row.Row.{Row}
 use Rattle.smf_state.specs.declared.step.Proposal.{Proposal}
 use Rattle.smf_state.specs.declared.view.ViewItem.{ViewItem}
-use Rattle.smf_value.specs.declared.fault.BodyFault.{BodyFault}
 use Rattle.smf_wire.specs.Digits.{hex_text}
 use Rattle.smf_wire.specs.Words.{message_word, message_word_text, order_word, order_word_text, why_text}
 use Rattle.smf_wire.specs.declared.message.Known.{Known}
 use Rattle.smf_wire.specs.declared.message.Message.{Message}
-use Rattle.smf_wire.specs.declared.message.Message.TheVariants.{Join, Rows, Propose, Ack, Nack, AskView, View as Seen, Order as Ordered}
+use Rattle.smf_wire.specs.declared.message.ViewChanges.{ViewChanges}
+use Rattle.smf_wire.specs.declared.message.Message.TheVariants.{Join, Rows, Propose, Ack, Nack, AskView, View as Seen, AskChange, Changes, Order as Ordered}
 use Rattle.smf_wire.specs.declared.order.Order.{Order}
 use Rattle.smf_wire.specs.declared.order.What.{What}
 use Rattle.smf_wire.specs.declared.order.What.TheVariants.{To, Start, Stop, Refresh}
@@ -60,10 +59,20 @@ what_text w = spaced (order_word_text (order_word w) ∷ what_parts w)
 abbrev pub known_text : Known → List ℕ
 known_text k = spaced (decimal k.instance ∷ k.name ∷ row_text k.row ∷ [])
 
+-- the parts of a view item behind its number
+abbrev pub item_parts : ViewItem → List (List ℕ)
+item_parts i = i.name ∷ flag_text i.enabled ∷ flag_text i.readable ∷ row_text i.row ∷ optional_text hex_text i.body ∷ []
+
 abbrev pub item_text : ViewItem → List ℕ
-item_text i =
-    spaced (decimal i.instance ∷ i.name ∷ flag_text i.enabled ∷ flag_text i.readable ∷ row_text i.row
-    ∷ optional_text hex_text i.body ∷ [])
+item_text i = spaced (decimal i.instance ∷ item_parts i)
+
+-- "-" for an instance that is gone
+abbrev pub change_parts : Option ViewItem → List (List ℕ)
+change_parts None = codes "-" ∷ []
+change_parts (Some i) = item_parts i
+
+abbrev pub changed_text : ChangedItem → List ℕ
+changed_text c = spaced (decimal c.instance ∷ change_parts c.item)
 
 -- the parts of a message behind its word
 abbrev pub message_parts : Message → List (List ℕ)
@@ -77,6 +86,8 @@ message_parts (Nack name launch serial instance why row) =
     name ∷ decimal launch ∷ decimal serial ∷ decimal instance ∷ why_text why ∷ map row_text (option_to_list row)
 message_parts AskView = []
 message_parts (Seen view) = decimal view.revision ∷ decimal (length view.items) ∷ map item_text view.items
+message_parts (AskChange revision) = decimal revision ∷ []
+message_parts (Changes c) = decimal c.from ∷ decimal c.to ∷ decimal (length c.items) ∷ map changed_text c.items
 message_parts (Ordered o) =
     o.restarter ∷ decimal o.instance ∷ o.name ∷ decimal o.revision ∷ row_text o.row ∷ what_text o.what ∷ []
 
@@ -138,9 +149,19 @@ pub record IsAnswer (restarter : List ℕ) (l s i : ℕ) : Type 0 where
   pub instance : IsSmall i
 
 pub record IsView (v : View) : Type 0 where
-  pub revision : v.revision ≤ 0x7fff_ffff_ffff_ffff
+  pub revision : IsSmall v.revision
   pub count : IsSmall (length v.items)
   pub items : AllByRecursion IsItem v.items
+
+pub record IsChanged (c : ChangedItem) : Type 0 where
+  pub instance : IsSmall c.instance
+  pub item : IfSome c.item IsItem
+
+pub record AreChanges (c : ViewChanges) : Type 0 where
+  pub from : IsSmall c.from
+  pub to : IsSmall c.to
+  pub count : IsSmall (length c.items)
+  pub items : AllByRecursion IsChanged c.items
 
 pub record AreRows (all : List Known) : Type 0 where
   pub count : IsSmall (length all)
@@ -154,6 +175,8 @@ IsMessage (Ack name launch serial instance row) = IsAnswer name launch serial in
 IsMessage (Nack name launch serial instance why row) = IsAnswer name launch serial instance × IfSome row IsRow
 IsMessage AskView = Unit {0}
 IsMessage (Seen view) = IsView view
+IsMessage (AskChange revision) = IsSmall revision
+IsMessage (Changes c) = AreChanges c
 IsMessage (Ordered order) = IsOrder order
 
 -- ---- what a message keeps to that has a line, and the types let others through
@@ -163,14 +186,10 @@ abbrev pub has_row : Why → Bool
 has_row reasons.NoSuch = false
 has_row _ = true
 
-abbrev pub is_ok : Result Snapshot BodyFault → Bool
-is_ok (Ok snapshot) = true
-is_ok (Err e) = false
-
--- some bytes, and those of a snapshot
+-- some bytes; those that are no snapshot's count as a group that can't be read
 abbrev pub is_body : List ℕ → Bool
 is_body [] = false
-is_body (b ∷ bs) = is_ok (decoded_snapshot (b ∷ bs))
+is_body (b ∷ bs) = true
 
 pub record IsBody (bytes : List ℕ) : Type 0 where
   pub read : is_body bytes ≡ true
@@ -182,10 +201,20 @@ pub record IsSpelledView (v : View) : Type 0 where
   pub rises : Rises (by_number (λ i. i.instance)) v.items
   pub bodies : AllByRecursion HasBody v.items
 
+-- a changed item is of the instance that it stands for
+pub record IsSpelledChange (c : ChangedItem) : Type 0 where
+  pub same : IfSome c.item (λ i. i.instance ≡ c.instance)
+  pub body : IfSome c.item HasBody
+
+pub record AreSpelledChanges (c : ViewChanges) : Type 0 where
+  pub rises : Rises (by_number (λ i. i.instance)) c.items
+  pub changes : AllByRecursion IsSpelledChange c.items
+
 abbrev pub IsSpelled : Message → Type 0
 IsSpelled (Rows name launch rows) = Rises (by_number (λ k. k.instance)) rows
 IsSpelled (Nack name launch serial instance why row) = is_some row ≡ has_row why
 IsSpelled (Seen view) = IsSpelledView view
+IsSpelled (Changes c) = AreSpelledChanges c
 IsSpelled _ = Unit {0}
 
 pub record HasLine (m : Message) : Type 0 where

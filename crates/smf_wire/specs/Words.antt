@@ -24,6 +24,8 @@ message_word (messages.Ack name launch serial instance row) = words.Ack
 message_word (messages.Nack name launch serial instance why row) = words.Nack
 message_word messages.AskView = words.AskView
 message_word (messages.View view) = words.View
+message_word (messages.AskChange revision) = words.AskChange
+message_word (messages.Changes changes) = words.Changes
 message_word (messages.Order order) = words.Order
 
 abbrev pub message_word_text : MessageWord → List ℕ
@@ -34,6 +36,8 @@ message_word_text words.Ack = codes "ack"
 message_word_text words.Nack = codes "nack"
 message_word_text words.AskView = codes "askview"
 message_word_text words.View = codes "view"
+message_word_text words.AskChange = codes "askchange"
+message_word_text words.Changes = codes "changes"
 message_word_text words.Order = codes "order"
 
 abbrev pub read_message_word : List ℕ → Option MessageWord
@@ -46,6 +50,8 @@ read_message_word text =
     else if pointwise nat_eq text (codes "askview") then Some words.AskView
     else if pointwise nat_eq text (codes "view") then Some words.View
     else if pointwise nat_eq text (codes "order") then Some words.Order
+    else if pointwise nat_eq text (codes "askchange") then Some words.AskChange
+    else if pointwise nat_eq text (codes "changes") then Some words.Changes
     else None
 
 -- ---- the word that begins what an order says

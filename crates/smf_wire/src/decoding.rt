@@ -1,12 +1,14 @@
 //! Messages read from lines, from left to right.
 
-ghost use Rattle.std.specs.Prelude.{◌≡◌, ◌≤◌, IfOk, None, Ok};
+ghost use Rattle.std.specs.Prelude.{◌≡◌, IfOk, None, Ok};
+ghost use Rattle.smf_fmri.specs.ByKey.{Rises};
+ghost use Rattle.smf_fmri.specs.Matching.{read_short};
 ghost use Rattle.smf_method.specs.Commands.{command_of};
-ghost use Rattle.smf_snap.specs.Body.{decoded_snapshot};
 ghost use Rattle.smf_state.specs.Fields.{GivesAt, IsRead, left_of, read_optional, seen, taken};
+ghost use Rattle.smf_state.specs.Patched.{by_item};
 ghost use Rattle.smf_state.specs.Texts.{row_at};
-ghost use Rattle.smf_wire.specs.Grammar.{GivesMessage, GivesWhole, IsClosed, all_known_at, close_at, is_above, item_at, items_at, known_at, last_item, last_known, message_at, message_behind, method_at, method_behind, method_of, optional_method_at, order_at, proposal_at, read_above, read_body, read_command, read_line, read_revision, read_seconds, row_if, view_at, what_at, what_behind, whole_message};
-ghost use Rattle.smf_wire.specs.Lines.{HasLine, IsSpelled, has_row, is_body, is_ok, line_text};
+ghost use Rattle.smf_wire.specs.Grammar.{GivesMessage, GivesWhole, IsClosed, all_changed_at, all_known_at, changed_at, changed_behind, changes_at, close_at, is_above, item_at, item_behind, items_at, known_at, last_changed, last_item, last_known, message_at, message_behind, method_at, method_behind, method_of, optional_method_at, order_at, proposal_at, read_above, read_body, read_command, read_line, read_seconds, row_if, view_at, what_at, what_behind, whole_message};
+ghost use Rattle.smf_wire.specs.Lines.{HasLine, IsSpelled, has_row, is_body, line_text};
 ghost use Rattle.smf_wire.specs.Words.{read_message_word, read_order_word, read_why};
 ghost use Rattle.smf_wire.specs.declared.message.Message.{Message as AnyMessage};
 ghost use Rattle.smf_wire.specs.declared.word.MessageWord.TheVariants as words;
@@ -14,18 +16,16 @@ ghost use Rattle.smf_wire.specs.declared.word.OrderWord.TheVariants as order_wor
 
 use crate::digits::read_hex;
 use crate::fault::WireFault;
-use crate::message::{Known, Message};
+use crate::message::{Known, Message, ViewChanges};
 use crate::order::{Order, What};
 use crate::word::{MessageWord, OrderWord, read_why};
-use smf_fmri::{Bytes, Items, Number, Shared, read_count};
+use smf_fmri::{Bytes, InstanceFmri, Items, Ordered, SharedOrdered, read_count};
 use smf_method::{Command, MethodCall, Timeout};
-use smf_snap::decode_snapshot;
 use smf_state::{
-    FieldFault, Ignore, Proposal, SharedRow, View, ViewItem, Why, WrongField, cause_at,
-    duration_at, field_at, flag_at, ignore_at, left_of, name_at, number_at, row_at, state_at,
-    step_at,
+    ChangedItem, FieldFault, Ignore, Proposal, SharedRow, View, ViewItem, Why, WrongField,
+    cause_at, duration_at, field_at, flag_at, ignore_at, left_of, name_at, number_at, row_at,
+    state_at, step_at,
 };
-use smf_value::BodyFault;
 use std::alloc::{AllocError, Global};
 use std::str;
 
@@ -109,21 +109,6 @@ fn above_at(before: Option<u64>, rest: Option<&str>) -> Result<(u64, Option<&str
     }
 }
 
-/// A revision, which is below 2^63.
-#[tactic(auto, unfolding(smf_state::specs::Fields::taken))]
-fn revision_at(rest: Option<&str>) -> Result<(u64, Option<&str>), WrongField>
-    ensures read { IsRead result (taken read_revision (seen rest.entry)) }
-    ensures small { IfOk result (λ x. x.0 ≤ 0x7fff_ffff_ffff_ffff) }
-{
-    let Some((field, after)) = field_at(rest) else {
-        return Err(wrong(rest));
-    };
-    match read_count(field) {
-        Some(number) if number <= Number::MAX => Ok((number, after)),
-        _ => Err(wrong(rest)),
-    }
-}
-
 /// The seconds of a timeout, which are below 2^64 - 1.
 fn read_seconds(text: &str) -> Option<u64>
     ensures { result ≡ read_seconds text.now }
@@ -195,24 +180,11 @@ fn command_at(alloc: Global, rest: Option<&str>) -> Result<(Command, Option<&str
     }
 }
 
-/// Whether bytes are those of a snapshot.
-fn is_snapshot(alloc: Global, bytes: &[u8]) -> Result<bool, AllocError>
-    ensures { IfOk result (λ b. b ≡ is_ok (decoded_snapshot bytes.now)) }
+/// Whether bytes can be a body: any can, if there are some.
+fn is_body(bytes: &[u8]) -> bool
+    ensures { result ≡ is_body bytes.now }
 {
-    match decode_snapshot(alloc, bytes) {
-        Ok(_) => Ok(true),
-        Err(BodyFault::Memory) => Err(AllocError),
-        Err(BodyFault::BadBody(_)) => Ok(false),
-    }
-}
-
-fn is_body(alloc: Global, bytes: &[u8]) -> Result<bool, AllocError>
-    ensures { IfOk result (λ b. b ≡ is_body bytes.now) }
-{
-    if bytes.is_empty() {
-        return Ok(false);
-    }
-    is_snapshot(alloc, bytes)
+    !bytes.is_empty()
 }
 
 fn read_body(alloc: Global, text: &str) -> Result<Option<Bytes>, AllocError>
@@ -221,7 +193,7 @@ fn read_body(alloc: Global, text: &str) -> Result<Option<Bytes>, AllocError>
     let Some(bytes) = read_hex(alloc, text)? else {
         return Ok(None);
     };
-    if !is_body(alloc, bytes.as_slice())? {
+    if !is_body(bytes.as_slice()) {
         return Ok(None);
     }
     Ok(Some(bytes))
@@ -397,16 +369,16 @@ fn all_known_at(
     Ok((rows, left))
 }
 
-#[tactic(auto, unfolding(crate::specs::Grammar::item_at))]
-fn item_at(
+/// The fields of an item after its number and its name.
+#[tactic(auto, unfolding(crate::specs::Grammar::item_behind))]
+fn item_behind(
     alloc: Global,
-    before: Option<u64>,
+    instance: u64,
+    name: InstanceFmri,
     rest: Option<&str>,
 ) -> Result<(ViewItem, Option<&str>), FieldFault>
-    ensures { GivesAt result (item_at before (seen rest.entry)) }
+    ensures { GivesAt result (item_behind instance name (seen rest.entry)) }
 {
-    let (instance, rest) = above_at(before, rest)?;
-    let (name, rest) = name_at(alloc, rest)?;
     let (enabled, rest) = flag_at(rest)?;
     let (readable, rest) = flag_at(rest)?;
     let (row, rest) = shared_row_at(alloc, rest)?;
@@ -420,6 +392,19 @@ fn item_at(
         body,
     };
     Ok((item, rest))
+}
+
+#[tactic(auto, unfolding(crate::specs::Grammar::item_at))]
+fn item_at(
+    alloc: Global,
+    before: Option<u64>,
+    rest: Option<&str>,
+) -> Result<(ViewItem, Option<&str>), FieldFault>
+    ensures { GivesAt result (item_at before (seen rest.entry)) }
+{
+    let (instance, rest) = above_at(before, rest)?;
+    let (name, rest) = name_at(alloc, rest)?;
+    item_behind(alloc, instance, name, rest)
 }
 
 fn last_item(items: &[ViewItem]) -> Option<u64>
@@ -441,6 +426,90 @@ fn items_at(
     for _ in 0..count {
         let (item, after) = item_at(alloc, last_item(items.as_slice()), left)?;
         items.push(item)?;
+        left = after;
+    }
+    Ok((items, left))
+}
+
+#[tactic(auto, unfolding(smf_state::specs::Fields::taken))]
+fn optional_name_at(
+    alloc: Global,
+    rest: Option<&str>,
+) -> Result<(Option<InstanceFmri>, Option<&str>), FieldFault>
+    ensures { GivesAt result (taken (read_optional read_short) (seen rest.entry)) }
+{
+    let Some((field, after)) = field_at(rest) else {
+        return Err(FieldFault::Left(left_of(rest)));
+    };
+    if field == "-" {
+        return Ok((None, after));
+    }
+    match InstanceFmri::read_short(alloc, field)? {
+        Some(name) => Ok((Some(name), after)),
+        None => Err(FieldFault::Left(left_of(rest))),
+    }
+}
+
+/// The change of an instance: its item after its name, or none after `-`.
+fn changed_behind(
+    alloc: Global,
+    instance: u64,
+    name: Option<InstanceFmri>,
+    rest: Option<&str>,
+) -> Result<(ChangedItem, Option<&str>), FieldFault>
+    ensures { GivesAt result (changed_behind instance name (seen rest.entry)) }
+{
+    match name {
+        None => {
+            let gone = ChangedItem {
+                instance,
+                item: None,
+            };
+            Ok((gone, rest))
+        }
+        Some(name) => {
+            let (item, rest) = item_behind(alloc, instance, name, rest)?;
+            let changed = ChangedItem {
+                instance,
+                item: Some(item),
+            };
+            Ok((changed, rest))
+        }
+    }
+}
+
+#[tactic(auto, unfolding(crate::specs::Grammar::changed_at))]
+fn changed_at(
+    alloc: Global,
+    before: Option<u64>,
+    rest: Option<&str>,
+) -> Result<(ChangedItem, Option<&str>), FieldFault>
+    ensures { GivesAt result (changed_at before (seen rest.entry)) }
+{
+    let (instance, rest) = above_at(before, rest)?;
+    let (name, rest) = optional_name_at(alloc, rest)?;
+    changed_behind(alloc, instance, name, rest)
+}
+
+fn last_changed(items: &[ChangedItem]) -> Option<u64>
+    ensures { result ≡ last_changed items.now }
+{
+    items.last().map(|changed| changed.instance)
+}
+
+/// So many changes, their numbers rising.
+fn all_changed_at(
+    alloc: Global,
+    count: u64,
+    rest: Option<&str>,
+) -> Result<(Items<ChangedItem>, Option<&str>), FieldFault>
+    ensures { GivesAt result (all_changed_at None count (seen rest.entry)) }
+{
+    let mut items: Items<ChangedItem> = Items::new(alloc);
+    let mut left = rest;
+    for _ in 0..count {
+        let (changed, after) = changed_at(alloc, last_changed(items.as_slice()), left)?;
+        items.push(changed)?;
         left = after;
     }
     Ok((items, left))
@@ -492,16 +561,34 @@ fn order_at(alloc: Global, rest: Option<&str>) -> Result<(Order, Option<&str>), 
     Ok((order, rest))
 }
 
+/// Items in number order, as a view holds them.
+fn shared(alloc: Global, items: Items<ViewItem>) -> Result<SharedOrdered<ViewItem>, AllocError>
+    requires { Rises by_item items }
+    ensures { IfOk result (λ s. s ≡ items) }
+{
+    SharedOrdered::of(alloc, Ordered::from_vec(items.into_vec()))
+}
+
 #[tactic(auto, unfolding(crate::specs::Grammar::view_at))]
 fn view_at(alloc: Global, rest: Option<&str>) -> Result<(View, Option<&str>), FieldFault>
     ensures { GivesAt result (view_at (seen rest.entry)) }
 {
-    let (revision, rest) = revision_at(rest)?;
+    let (revision, rest) = number_at(rest)?;
     let (count, rest) = number_at(rest)?;
     let (items, rest) = items_at(alloc, count, rest)?;
-    let revision = Number::new(revision).unwrap();
-    let items = Shared::of(alloc, items)?;
+    let items = shared(alloc, items)?;
     Ok((View { revision, items }, rest))
+}
+
+#[tactic(auto, unfolding(crate::specs::Grammar::changes_at))]
+fn changes_at(alloc: Global, rest: Option<&str>) -> Result<(ViewChanges, Option<&str>), FieldFault>
+    ensures { GivesAt result (changes_at (seen rest.entry)) }
+{
+    let (from, rest) = number_at(rest)?;
+    let (to, rest) = number_at(rest)?;
+    let (count, rest) = number_at(rest)?;
+    let (items, rest) = all_changed_at(alloc, count, rest)?;
+    Ok((ViewChanges { from, to, items }, rest))
 }
 
 fn has_row(why: Why) -> bool
@@ -614,6 +701,14 @@ fn message_behind(
         MessageWord::View => {
             let (view, rest) = view_at(alloc, rest)?;
             Ok((Message::View(view), rest))
+        }
+        MessageWord::AskChange => {
+            let (revision, rest) = number_at(rest)?;
+            Ok((Message::AskChange(revision), rest))
+        }
+        MessageWord::Changes => {
+            let (changes, rest) = changes_at(alloc, rest)?;
+            Ok((Message::Changes(changes), rest))
         }
         MessageWord::Order => {
             let (order, rest) = order_at(alloc, rest)?;

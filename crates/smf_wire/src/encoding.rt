@@ -10,17 +10,19 @@ ghost use Rattle.smf_state.specs.Fields.{flag_text, optional_text};
 ghost use Rattle.smf_state.specs.Texts.{IsRow, row_text};
 ghost use Rattle.smf_wire.specs.Digits.{hex_text};
 ghost use Rattle.smf_wire.specs.Grammar.{read_line};
-ghost use Rattle.smf_wire.specs.Lines.{AreBytes, IsItem, IsKnown, IsMessage, IsMethod, IsOrder, IsProposal, IsSpelled, IsView, IsWhat, each_behind, item_text, known_text, line_text, message_text, method_text, seconds_of, spaced, what_text};
+ghost use Rattle.smf_wire.specs.Lines.{AreBytes, AreChanges, IsChanged, IsItem, IsKnown, IsMessage, IsMethod, IsOrder, IsProposal, IsSpelled, IsView, IsWhat, change_parts, changed_text, each_behind, item_parts, item_text, known_text, line_text, message_text, method_text, seconds_of, spaced, what_text};
 ghost use Rattle.smf_wire.specs.declared.message.Message.TheVariants as messages;
 ghost use Rattle.smf_wire.specs.declared.order.What.TheVariants as whats;
 
 use crate::digits::hex_text;
-use crate::message::{Known, Message};
+use crate::message::{Known, Message, ViewChanges};
 use crate::order::{Order, What};
 use crate::word::why_text;
 use smf_fmri::{Bytes, InstanceFmri, Items, Text};
 use smf_method::{MethodCall, Timeout};
-use smf_state::{Cause, Duration, Ignore, Proposal, Row, SharedRow, State, View, ViewItem, Why};
+use smf_state::{
+    Cause, ChangedItem, Duration, Ignore, Proposal, Row, SharedRow, State, View, ViewItem, Why,
+};
 use std::alloc::{AllocError, Global};
 use std::fmt::Write;
 
@@ -147,18 +149,29 @@ fn flag_text(flag: bool) -> &'static str
     if flag { "1" } else { "0" }
 }
 
+/// The fields of an item after its number, with a space before each.
+fn put_fields(alloc: Global, out: &mut String, item: &ViewItem) -> Result<(), AllocError>
+    ensures text { OnOk result (string_bytes out.new ≡ string_bytes out.old ++ 32 ∷ spaced (item_parts item.now)) }
+    ensures known { OnOk result (IsItem item.now) }
+{
+    let _instance = item.instance;
+    let name = item.name.print();
+    let enabled = flag_text(item.enabled);
+    let readable = flag_text(item.readable);
+    write!(out, " {name} {enabled} {readable} ")?;
+    item.row.print_onto(out)?;
+    out.push_str(" ")?;
+    put_body(alloc, out, &item.body)
+}
+
 /// An item, with a space before it.
 fn put_item(alloc: Global, out: &mut String, item: &ViewItem) -> Result<(), AllocError>
     ensures text { OnOk result (string_bytes out.new ≡ string_bytes out.old ++ 32 ∷ item_text item.now) }
     ensures known { OnOk result (IsItem item.now) }
 {
-    let (instance, name) = (item.instance, item.name.print());
-    let enabled = flag_text(item.enabled);
-    let readable = flag_text(item.readable);
-    write!(out, " {instance} {name} {enabled} {readable} ")?;
-    item.row.print_onto(out)?;
-    out.push_str(" ")?;
-    put_body(alloc, out, &item.body)
+    let instance = item.instance;
+    write!(out, " {instance}")?;
+    put_fields(alloc, out, item)
 }
 
 /// Items, with a space before each.
@@ -176,7 +189,7 @@ fn put_view(alloc: Global, out: &mut String, view: &View) -> Result<(), AllocErr
     ensures text { OnOk result (string_bytes out.new ≡ string_bytes out.old ++ message_text (messages.View view.now)) }
     ensures known { OnOk result (IsView view.now) }
 {
-    put_view_head(out, view.revision.get(), view.items.len())?;
+    put_view_head(out, view.revision, view.items.len())?;
     put_items(alloc, out, view.items.as_slice())
 }
 
@@ -184,6 +197,52 @@ fn put_view_head(out: &mut String, revision: u64, count: usize) -> Result<(), Al
     ensures { OnOk result (string_bytes out.new ≡ string_bytes out.old ++ spaced (codes "view" ∷ decimal revision ∷ decimal count ∷ [])) }
 {
     write!(out, "view {revision} {count}")
+}
+
+/// The fields of a change after its number, with a space before each.
+fn put_change(alloc: Global, out: &mut String, item: &Option<ViewItem>) -> Result<(), AllocError>
+    ensures text { OnOk result (string_bytes out.new ≡ string_bytes out.old ++ 32 ∷ spaced (change_parts item.now)) }
+    ensures known { OnOk result (IfSome item.now IsItem) }
+{
+    match item {
+        None => out.push_str(" -"),
+        Some(item) => put_fields(alloc, out, item),
+    }
+}
+
+/// A change, with a space before it.
+fn put_changed(alloc: Global, out: &mut String, changed: &ChangedItem) -> Result<(), AllocError>
+    ensures text { OnOk result (string_bytes out.new ≡ string_bytes out.old ++ 32 ∷ changed_text changed.now) }
+    ensures known { OnOk result (IsChanged changed.now) }
+{
+    let instance = changed.instance;
+    write!(out, " {instance}")?;
+    put_change(alloc, out, &changed.item)
+}
+
+/// Changes, with a space before each.
+fn put_all_changed(alloc: Global, out: &mut String, items: &[ChangedItem]) -> Result<(), AllocError>
+    ensures text { OnOk result (string_bytes out.new ≡ string_bytes out.old ++ each_behind changed_text items.now) }
+    ensures known { OnOk result (AllByRecursion IsChanged items.now) }
+{
+    for changed in items {
+        put_changed(alloc, out, changed)?;
+    }
+    Ok(())
+}
+
+fn put_changes(alloc: Global, out: &mut String, changes: &ViewChanges) -> Result<(), AllocError>
+    ensures text { OnOk result (string_bytes out.new ≡ string_bytes out.old ++ message_text (messages.Changes changes.now)) }
+    ensures known { OnOk result (AreChanges changes.now) }
+{
+    put_changes_head(out, changes.from, changes.to, changes.items.len())?;
+    put_all_changed(alloc, out, changes.items.as_slice())
+}
+
+fn put_changes_head(out: &mut String, from: u64, to: u64, count: usize) -> Result<(), AllocError>
+    ensures { OnOk result (string_bytes out.new ≡ string_bytes out.old ++ spaced (codes "changes" ∷ decimal from ∷ decimal to ∷ decimal count ∷ [])) }
+{
+    write!(out, "changes {from} {to} {count}")
 }
 
 fn put_rows_of(
@@ -311,6 +370,11 @@ fn put_message(alloc: Global, out: &mut String, message: &Message) -> Result<(),
         } => put_nack(out, name, *launch, *serial, *instance, *why, row),
         Message::AskView => out.push_str("askview"),
         Message::View(view) => put_view(alloc, out, view),
+        Message::AskChange(revision) => {
+            let revision = *revision;
+            write!(out, "askchange {revision}")
+        }
+        Message::Changes(changes) => put_changes(alloc, out, changes),
         Message::Order(order) => put_order(alloc, out, order),
     }
 }

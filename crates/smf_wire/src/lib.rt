@@ -15,5 +15,5 @@ pub use decoding::decode;
 pub use encoding::encode;
 pub use fault::WireFault;
 pub use law::{lines_are_read_again, no_line_begins_another};
-pub use message::{Known, Message};
+pub use message::{Known, Message, ViewChanges};
 pub use order::{Order, What};

@@ -2,7 +2,7 @@ ghost use Rattle.std.specs.Prelude.{◌≡◌, IfOk};
 
 use crate::order::Order;
 use smf_fmri::{InstanceFmri, Items};
-use smf_state::{Proposal, SharedRow, View, Why};
+use smf_state::{ChangedItem, Proposal, SharedRow, View, Why};
 use std::alloc::AllocError;
 
 /// An instance as a restarter knows it.
@@ -11,6 +11,15 @@ pub struct Known {
     pub instance: u64,
     pub name: InstanceFmri,
     pub row: SharedRow,
+}
+
+/// What changed of what svc.startd's graph sees, from one revision to another.
+#[derive(Drop)]
+pub struct ViewChanges {
+    pub from: u64,
+    pub to: u64,
+    /// The instances whose items are other than they were, in number order.
+    pub items: Items<ChangedItem>,
 }
 
 /// What the actors send to one another. Launches and serials are those of the restarter that is named.
@@ -50,6 +59,10 @@ pub enum Message {
     AskView,
     /// What the repository holds.
     View(View),
+    /// The graph, which holds the view of a revision, asks what changed since.
+    AskChange(u64),
+    /// What changed.
+    Changes(ViewChanges),
     Order(Order),
 }
 
@@ -63,6 +76,26 @@ impl Clone for Known {
             instance: self.instance,
             name,
             row,
+        })
+    }
+}
+
+#[tactic(auto, using(crate::proofs::Lists::same_items))]
+fn copy_of_changes(items: &Items<ChangedItem>) -> Result<Items<ChangedItem>, AllocError>
+    ensures { IfOk result (λ copy. copy ≡ items.now) }
+{
+    items.clone()
+}
+
+impl Clone for ViewChanges {
+    ghost is_clone = { λ s copy. copy ≡ s };
+
+    fn clone(&self) -> Result<ViewChanges, AllocError> {
+        let items = copy_of_changes(&self.items)?;
+        Ok(ViewChanges {
+            from: self.from,
+            to: self.to,
+            items,
         })
     }
 }
@@ -128,6 +161,8 @@ impl Clone for Message {
             }),
             Message::AskView => Ok(Message::AskView),
             Message::View(view) => Ok(Message::View(view.clone()?)),
+            Message::AskChange(revision) => Ok(Message::AskChange(*revision)),
+            Message::Changes(changes) => Ok(Message::Changes(changes.clone()?)),
             Message::Order(order) => Ok(Message::Order(order.clone()?)),
         }
     }

@@ -13,6 +13,8 @@ pub(crate) enum MessageWord {
     Nack,
     AskView,
     View,
+    AskChange,
+    Changes,
     Order,
 }
 
@@ -45,6 +47,10 @@ impl MessageWord {
             Some(MessageWord::View)
         } else if text == "order" {
             Some(MessageWord::Order)
+        } else if text == "askchange" {
+            Some(MessageWord::AskChange)
+        } else if text == "changes" {
+            Some(MessageWord::Changes)
         } else {
             None
         }

@@ -13,8 +13,10 @@ use Rattle.smf_model.specs.Holdings.{Holdings}
 use Rattle.smf_model.specs.Laws.{IsNumbered}
 use Rattle.smf_model.specs.Shown.{view}
 use Rattle.smf_engine.specs.Orders.{decided, has_fault, is_about, method_in}
+use Rattle.smf_state.specs.Patched.{patched}
 use Rattle.smf_wire.specs.declared.message.Message.{Message}
 use Rattle.smf_wire.specs.declared.message.Message.TheVariants as messages
+use Rattle.smf_wire.specs.declared.message.ViewChanges.{ViewChanges}
 use Rattle.smf_wire.specs.declared.order.Order.{Order}
 use Rattle.smf_world.proofs.LiveLists.{Each}
 
@@ -25,11 +27,21 @@ pub record IsViewIn (y : History) (v : View) : Type 0 where
   pub numbered : IsNumbered value
   pub shown : v ≡ view value
 
+-- changes lead from the view of one value of the history to that of another
+pub record AreChangesIn (y : History) (c : ViewChanges) : Type 0 where
+  pub before : Holdings
+  pub before_is : value_at y c.from ≡ Some before
+  pub after : Holdings
+  pub after_is : value_at y c.to ≡ Some after
+  pub numbered : IsNumbered after
+  pub leads : patched (view before) c.to c.items ≡ view after
+
 abbrev pub ViewSaid : History → Message → Type 0
 ViewSaid y (messages.View v) = IsViewIn y v
+ViewSaid y (messages.Changes c) = AreChangesIn y c
 ViewSaid y _ = Unit {0}
 
--- M.view: each view that was sent
+-- M.view, M.changes: each view and all changes that were sent
 abbrev pub ViewsSaid : History → List Message → Type 0
 ViewsSaid y sent = Each (ViewSaid y) sent
 

@@ -49,9 +49,10 @@ IsAsked _ = ⊥
 abbrev pub Quiet : Reply → Type 0
 Quiet r = Each IsAsked r.messages
 
--- neither a view nor an order
+-- neither a view, nor changes, nor an order
 abbrev pub IsQuiet : Message → Type 0
 IsQuiet (messages.View v) = ⊥
+IsQuiet (messages.Changes news) = ⊥
 IsQuiet (messages.Order o) = ⊥
 IsQuiet _ = Unit {0}
 
@@ -62,7 +63,9 @@ asked_quiet (messages.Rows name launch rows) a = tt
 asked_quiet (messages.Ack name launch serial n row) a = tt
 asked_quiet (messages.Nack name launch serial n why row) a = tt
 asked_quiet messages.AskView a = tt
+asked_quiet (messages.AskChange since) a = tt
 asked_quiet (messages.View v) a = a
+asked_quiet (messages.Changes news) a = a
 asked_quiet (messages.Order o) a = a
 
 proposes_if : (b : Bool) (k : Knowledge) (i : KnownInstance) (step : Step) (after : After) (taken : List Known) → Quiet (proposing_if b k i step after taken)
@@ -150,7 +153,9 @@ heard_quiet k (messages.Nack name launch serial n why row) = nacks launch serial
 heard_quiet k (messages.Join name launch) = tt
 heard_quiet k (messages.Propose p) = tt
 heard_quiet k messages.AskView = tt
+heard_quiet k (messages.AskChange since) = tt
 heard_quiet k (messages.View v) = tt
+heard_quiet k (messages.Changes news) = tt
 
 -- ---- ticks
 

@@ -9,6 +9,7 @@ use Rattle.smf_model.specs.declared.command.Command.{Command}
 use Rattle.smf_model.specs.declared.command.Command.TheVariants as commands
 use Rattle.smf_model.specs.declared.command.Reply.{Reply as CommandReply}
 use Rattle.smf_model.specs.declared.command.Reply.TheVariants as replies
+use Rattle.smf_state.specs.declared.view.ChangedItem.{ChangedItem}
 use Rattle.smf_state.specs.declared.view.View.{View}
 use Rattle.smf_model.specs.History.{History, made}
 use Rattle.smf_model.specs.Holdings.{Holdings}
@@ -19,12 +20,14 @@ use Rattle.smf_model.specs.Shown.{view}
 use Rattle.smf_model.proofs.LawNumbers.{stays_numbered}
 use Rattle.smf_wire.specs.declared.message.Message.{Message}
 use Rattle.smf_wire.specs.declared.message.Message.TheVariants as messages
+use Rattle.smf_wire.specs.declared.message.ViewChanges.{ViewChanges}
 use Rattle.smf_wire.specs.declared.order.Order.{Order}
 use Rattle.smf_restarter.specs.declared.reply.Reply.{Reply}
 use Rattle.smf_restarter.specs.Knowledge.{Knowledge}
 use Rattle.smf_restarter.specs.Replies.{heard}
 use Rattle.smf_restarter.specs.Ticks.{own_tick, ticked}
-use Rattle.smf_engine.specs.Orders.{newer, orders_seen}
+use Rattle.smf_changes.specs.Changes.{changes_since, recent}
+use Rattle.smf_engine.specs.Orders.{newer, orders_seen, question}
 use Rattle.smf_world.specs.declared.event.Event.{Event}
 use Rattle.smf_world.specs.declared.event.Event.TheVariants as events
 use Rattle.smf_world.specs.declared.event.SpawnAnswer.{SpawnAnswer}
@@ -32,15 +35,17 @@ use Rattle.smf_world.specs.declared.event.SpawnAnswer.TheVariants as spawns
 use Rattle.smf_world.specs.declared.work.Work.{Work}
 use Rattle.smf_world.specs.Happens.{done, happens, newest, seen_after}
 use Rattle.smf_world.specs.Runs.{run}
-use Rattle.smf_world.specs.Worked.{acted, answer_to, booted_as, calling, commanded, crashed, delivered, delivered_if, heard_by, holder, is_launched, joined, launched_if, own_ticked, process_call, proposed, reported_by, reported_to, restarter, sent_at, ticked_for, timed, told, worked}
+use Rattle.smf_world.specs.Worked.{acted, answer_since, answer_to, booted_as, changes_or_view, calling, commanded, crashed, delivered, delivered_if, heard_by, holder, is_launched, joined, launched_if, own_ticked, process_call, proposed, reported_by, reported_to, restarter, sent_at, ticked_for, timed, told, worked}
 use Rattle.smf_world.specs.World.{World, found}
-use Rattle.smf_world.proofs.DecidedClauses.{IsOrderIn, IsViewIn, OrderSaid, OrdersSaid, ViewSaid, ViewSeen, ViewsSaid}
+use Rattle.smf_world.proofs.DecidedChanges.{changes_later, patches_seen, since_in}
+use Rattle.smf_world.proofs.DecidedClauses.{AreChangesIn, IsOrderIn, IsViewIn, OrderSaid, OrdersSaid, ViewSaid, ViewSeen, ViewsSaid}
 use Rattle.smf_world.proofs.DecidedHistory.{Grew, grew_by, newest_value}
 use Rattle.smf_world.proofs.DecidedOrders.{orders_in_history}
 use Rattle.smf_world.proofs.DecidedQuiet.{IsAsked, IsQuiet, Quiet, asked_quiet, heard_quiet, own_quiet, tick_quiet}
 use Rattle.smf_world.proofs.LiveEach.{each_later, each_reversed, each_sent}
 use Rattle.smf_world.proofs.LiveLists.{Each}
 use Rattle.smf_world.proofs.Lasting.{Fact, IsKept, Of, of_event}
+use Rattle.smf_world.proofs.Questions.{of_question}
 
 -- ---- a history that grew
 
@@ -56,6 +61,7 @@ Said y m = ViewSaid y m × OrderSaid y m
 
 said_later : (y z : History) → Grew y z → (m : Message) → Said y m → Said z m
 said_later y z g (messages.View v) s = (view_later y z g v s.0, tt)
+said_later y z g (messages.Changes news) s = (changes_later y z g news s.0, tt)
 said_later y z g (messages.Order o) s = (tt, order_later y z g o s.1)
 said_later y z g (messages.Join name launch) s = (tt, tt)
 said_later y z g (messages.Rows name launch rows) s = (tt, tt)
@@ -63,9 +69,11 @@ said_later y z g (messages.Propose p) s = (tt, tt)
 said_later y z g (messages.Ack name launch serial n row) s = (tt, tt)
 said_later y z g (messages.Nack name launch serial n why row) s = (tt, tt)
 said_later y z g messages.AskView s = (tt, tt)
+said_later y z g (messages.AskChange since) s = (tt, tt)
 
 quiet_said : (y : History) (m : Message) → IsQuiet m → Said y m
 quiet_said y (messages.View v) q = absurd q
+quiet_said y (messages.Changes news) q = absurd q
 quiet_said y (messages.Order o) q = absurd q
 quiet_said y (messages.Join name launch) q = (tt, tt)
 quiet_said y (messages.Rows name launch rows) q = (tt, tt)
@@ -73,6 +81,7 @@ quiet_said y (messages.Propose p) q = (tt, tt)
 quiet_said y (messages.Ack name launch serial n row) q = (tt, tt)
 quiet_said y (messages.Nack name launch serial n why row) q = (tt, tt)
 quiet_said y messages.AskView q = (tt, tt)
+quiet_said y (messages.AskChange since) q = (tt, tt)
 
 seen_later : (y z : History) → Grew y z → (o : Option View) → ViewSeen y o → ViewSeen z o
 seen_later y z g None s = tt
@@ -98,6 +107,7 @@ after_seen y false o vs a b = newest_seen y o vs a b
 
 -- M.view, M.engine and M.order, where the newest value is what is held
 pub record IsShown (y : History) (h : Holdings) (seen : Option View) (sent : List Message) : Type 0 where
+  pub first : IsNumbered y.first
   pub numbered : IsNumbered h
   pub newest : h ≡ made y.first y.past
   pub views : ViewsSaid y sent
@@ -108,18 +118,19 @@ abbrev pub Shown : World → Type 0
 Shown w = IsShown w.history w.now w.seen w.sent
 
 -- what work says and sees is in the history
-record Shows (y : History) (ms : List Message) (vs : List View) : Type 0 where
+record Shows (y : History) (ms : List Message) (vs : List View) (cs : List ViewChanges) : Type 0 where
   says : Each (Said y) ms
   sees : Each (IsViewIn y) vs
+  learns : Each (AreChangesIn y) cs
 
 abbrev WorkShows : World → Work → Type 0
-WorkShows w k = Shows w.history k.messages k.seen
+WorkShows w k = Shows w.history k.messages k.seen k.patches
 
-silent : (y : History) → Shows y [] []
-silent y = record { says = tt; sees = tt }
+silent : (y : History) → Shows y [] [] []
+silent y = record { says = tt; sees = tt; learns = tt }
 
-quiet_shows : (y : History) (ms : List Message) → Each IsQuiet ms → Shows y ms []
-quiet_shows y ms q = record { says = each_later IsQuiet (Said y) (quiet_said y) ms q; sees = tt }
+quiet_shows : (y : History) (ms : List Message) → Each IsQuiet ms → Shows y ms [] []
+quiet_shows y ms q = record { says = each_later IsQuiet (Said y) (quiet_said y) ms q; sees = tt; learns = tt }
 
 now_in : (y : History) (h : Holdings) → IsNumbered h → h ≡ made y.first y.past → IsViewIn y (view h)
 unfolding view
@@ -158,6 +169,13 @@ joined_shows : (w : World) (name : List ℕ) (launch : ℕ) (b : Bool) → WorkS
 joined_shows w name launch true = quiet_shows w.history _ (tt, tt)
 joined_shows w name launch false = silent w.history
 
+answer_said : (w : World) (from : ℕ) → Shown w → Said w.history (answer_since w from)
+answer_said w from f = by (changes_since (recent w.history.first w.history.past) w.now from) (λ c e. since_in w.history w.now from c f.first f.newest e)
+  where
+    by : (o : Option (ℕ × List ChangedItem)) → ((c : ℕ × List ChangedItem) → o ≡ Some c → AreChangesIn w.history (record { from = from; to = c.0; items = c.1 })) → Said w.history (changes_or_view w.now from o)
+    by None is = (now_in w.history w.now f.numbered f.newest, tt)
+    by (Some c) is = (is c refl, tt)
+
 delivered_shows : (w : World) (m : Message) → Shown w → Said w.history m → WorkShows w (delivered w m)
 unfolding delivered
 delivered_shows w (messages.Join name launch) f s = joined_shows w name launch (launch == launch_of w.now name)
@@ -165,8 +183,10 @@ delivered_shows w (messages.Rows name launch rows) f s = told_shows w (messages.
 delivered_shows w (messages.Propose p) f s = proposal_shows w p
 delivered_shows w (messages.Ack name launch serial i row) f s = told_shows w (messages.Ack name launch serial i row) (restarter w name)
 delivered_shows w (messages.Nack name launch serial i why row) f s = told_shows w (messages.Nack name launch serial i why row) (restarter w name)
-delivered_shows w messages.AskView f s = record { says = ((now_in w.history w.now f.numbered f.newest, tt), tt); sees = tt }
-delivered_shows w (messages.View v) f s = record { says = tt; sees = (s.0, tt) }
+delivered_shows w messages.AskView f s = record { says = ((now_in w.history w.now f.numbered f.newest, tt), tt); sees = tt; learns = tt }
+delivered_shows w (messages.View v) f s = record { says = tt; sees = (s.0, tt); learns = tt }
+delivered_shows w (messages.AskChange from) f s = record { says = (answer_said w from f, tt); sees = tt; learns = tt }
+delivered_shows w (messages.Changes c) f s = record { says = tt; sees = tt; learns = (s.0, tt) }
 delivered_shows w (messages.Order o) f s = told_shows w (messages.Order o) (restarter w o.restarter)
 
 both : (y : History) (ms : List Message) → ViewsSaid y ms → OrdersSaid y ms → Each (Said y) ms
@@ -218,8 +238,8 @@ work_shows : (w : World) (e : Event) → Shown w → WorkShows w (worked w e)
 unfolding worked
 work_shows w (events.Deliver place) f = sent_shows w place (sent_at w place) refl f
 work_shows w (events.Client edit) f = command_shows w (commands.Edit edit)
-work_shows w events.Ask f = quiet_shows w.history (messages.AskView ∷ []) (tt, tt)
-work_shows w events.Orders f = record { says = orders_said w.history (orders_seen w.seen) (orders_in_history w.history w.seen f.engine); sees = tt }
+work_shows w events.Ask f = quiet_shows w.history (question w.seen ∷ []) (of_question IsQuiet w.seen tt (λ n. tt), tt)
+work_shows w events.Orders f = record { says = orders_said w.history (orders_seen w.seen) (orders_in_history w.history w.seen f.engine); sees = tt; learns = tt }
 work_shows w (events.OwnTick name) f = own_shows w (restarter w name)
 work_shows w (events.Tick name n spawn) f = ticked_shows w n spawn (restarter w name)
 work_shows w (events.Process process what) f = calling_shows w w.table (process_call process what)
@@ -238,9 +258,9 @@ IsNewest y h t = IsNumbered h × (h ≡ made y.first y.past)
 newest_kept : IsKept IsNewest
 newest_kept = record { numbered = λ y h t f. f.0; kept = λ y h c t m f. (stays_numbered h c f.0, ap (λ (k : Holdings). (next k c).0) f.1) }
 
-shown_by : (w : World) (e : Event) → Of IsNewest (happens w e) → ViewsSaid w.history w.sent → OrdersSaid w.history w.sent → ViewSeen w.history w.seen → WorkShows w (worked w e) → Shown (happens w e)
+shown_by : (w : World) (e : Event) → IsNumbered w.history.first → Of IsNewest (happens w e) → ViewsSaid w.history w.sent → OrdersSaid w.history w.sent → ViewSeen w.history w.seen → WorkShows w (worked w e) → Shown (happens w e)
 unfolding happens done
-shown_by w e is views orders engine s =
+shown_by w e first is views orders engine s =
     let k : Work = worked w e in
     let y : History = w.history in
     let z : History = record y { past = k.command ++ y.past } in
@@ -249,15 +269,19 @@ shown_by w e is views orders engine s =
     let before : Each (Said z) w.sent = each_later (Said y) (Said z) (said_later y z g) w.sent (both y w.sent views orders) in
     let after : Each (Said z) (reverse k.messages ++ w.sent) = each_reversed (Said z) k.messages w.sent says before in
     record {
+      first = first;
       numbered = is.0;
       newest = is.1;
       views = each_later (Said z) (ViewSaid z) (λ m x. x.0) (reverse k.messages ++ w.sent) after;
-      engine = after_seen z k.forgets w.seen k.seen (seen_later y z g w.seen engine) (each_later (IsViewIn y) (IsViewIn z) (view_later y z g) k.seen s.sees);
+      engine =
+          patches_seen z (seen_after k.forgets w.seen k.seen) k.patches
+          (after_seen z k.forgets w.seen k.seen (seen_later y z g w.seen engine) (each_later (IsViewIn y) (IsViewIn z) (view_later y z g) k.seen s.sees))
+          (each_later (AreChangesIn y) (AreChangesIn z) (changes_later y z g) k.patches s.learns);
       orders = each_later (Said z) (OrderSaid z) (λ m x. x.1) (reverse k.messages ++ w.sent) after;
     }
 
 pub shown_event : (w : World) (e : Event) → Shown w → Shown (happens w e)
-shown_event w e f = shown_by w e (of_event IsNewest newest_kept w e (f.numbered, f.newest)) f.views f.orders f.engine (work_shows w e f)
+shown_event w e f = shown_by w e f.first (of_event IsNewest newest_kept w e (f.numbered, f.newest)) f.views f.orders f.engine (work_shows w e f)
 
 pub shown_run : (es : List Event) (w : World) → Shown w → Shown (run es w)
 shown_run [] w f = f
@@ -265,4 +289,4 @@ shown_run (e ∷ es) w f = shown_run es (happens w e) (shown_event w e f)
 
 -- from what was found on
 pub shown_first : (h : Holdings) → IsNumbered h → Shown (found h)
-shown_first h n = record { numbered = n; newest = refl; views = tt; engine = tt; orders = tt }
+shown_first h n = record { first = n; numbered = n; newest = refl; views = tt; engine = tt; orders = tt }

@@ -152,7 +152,9 @@ heard_told t k (messages.Nack name launch serial n why row) a = nack_told t k la
 heard_told t k (messages.Join name launch) a = (tt, tt)
 heard_told t k (messages.Propose p) a = (tt, tt)
 heard_told t k messages.AskView a = (tt, tt)
+heard_told t k (messages.AskChange since) a = (tt, tt)
 heard_told t k (messages.View v) a = (tt, tt)
+heard_told t k (messages.Changes news) a = (tt, tt)
 
 -- ---- ticks
 

@@ -24,13 +24,15 @@ use Rattle.smf_wire.specs.declared.message.Known.{Known}
 use Rattle.smf_wire.specs.declared.message.Message.{Message}
 use Rattle.smf_wire.specs.declared.message.Message.TheVariants as messages
 use Rattle.smf_wire.specs.declared.order.Order.{Order}
+use Rattle.smf_wire.specs.declared.message.ViewChanges.{ViewChanges}
 use Rattle.smf_restarter.specs.declared.reply.Answer.{Answer}
 use Rattle.smf_restarter.specs.declared.reply.Begun.{Begun}
 use Rattle.smf_restarter.specs.declared.reply.Reply.{Reply}
 use Rattle.smf_restarter.specs.Knowledge.{Knowledge}
 use Rattle.smf_restarter.specs.Replies.{heard}
 use Rattle.smf_restarter.specs.Ticks.{own_tick, ticked}
-use Rattle.smf_engine.specs.Orders.{orders_seen}
+use Rattle.smf_changes.specs.Changes.{recent}
+use Rattle.smf_engine.specs.Orders.{orders_seen, question}
 use Rattle.smf_world.specs.declared.event.Event.{Event}
 use Rattle.smf_world.specs.declared.event.Event.TheVariants as events
 use Rattle.smf_world.specs.declared.event.SpawnAnswer.{SpawnAnswer}
@@ -42,15 +44,16 @@ use Rattle.smf_world.specs.Happens.{done, happens, seen_after}
 use Rattle.smf_world.specs.Items.{boot_items, change_item, items_of, row_if, row_over}
 use Rattle.smf_world.specs.Runs.{run}
 use Rattle.smf_world.specs.Safe.{HeldWereCommitted, IsRecorded, commits, is_commit}
-use Rattle.smf_world.specs.Worked.{acted, answer_of, answer_to, begun_in, begun_items, booted_as, call_of, calling, commanded, crashed, delivered, delivered_if, emptied_items, heard_by, held_item, held_items, holder, is_launched, joined, launched_if, own_ticked, process_call, proposed, reported_by, reported_to, restarter, sent_at, ticked_for, timed, told, worked}
+use Rattle.smf_world.specs.Worked.{acted, answer_of, answer_since, answer_to, begun_in, begun_items, booted_as, call_of, calling, commanded, crashed, delivered, delivered_if, emptied_items, heard_by, held_item, held_items, holder, is_launched, joined, launched_if, own_ticked, process_call, proposed, reported_by, reported_to, restarter, sent_at, ticked_for, timed, told, worked}
 use Rattle.smf_world.specs.World.{World, found}
 use Rattle.smf_world.proofs.Answered.{Answers, IsRowIn, IsRowOf, answered}
 use Rattle.smf_world.proofs.Heard.{ReplyTold, heard_told, own_told, tick_told}
 use Rattle.smf_world.proofs.Lasting.{of_command, of_event}
 use Rattle.smf_world.proofs.Noting.{AllCommit, both_commit, noted, noted_both, noted_more}
 use Rattle.smf_world.proofs.Pushed.{last_held, tracked_at}
-use Rattle.smf_world.proofs.Told.{InstancesTold, MessageTold, MessagesTold, OneTold, OptionTold, RowTold, RowsTold, ViewTold, ViewsTold, all_reversed, grows, held_commits, last_was, messages_later, newest_told, orders_told, rows_told, sent_told, tracked_told, view_later, view_told, views_later, was_in}
+use Rattle.smf_world.proofs.Told.{InstancesTold, MessageTold, MessagesTold, OneTold, OptionTold, PatchesTold, RowTold, RowsTold, ViewTold, ViewsTold, all_reversed, changes_told, grows, held_commits, last_was, messages_later, newest_told, orders_told, patches_later, patches_told, rows_told, sent_told, tracked_told, view_later, view_told, views_later, was_in}
 use Rattle.smf_world.proofs.Once.{once}
+use Rattle.smf_world.proofs.Questions.{of_question}
 use Rattle.smf_world.proofs.Tracked.{IsTracked, Tracked, first_tracked, run_along, tracked_kept}
 use Rattle.smf_world.proofs.Logged.{run_follows}
 
@@ -64,16 +67,17 @@ abbrev pub Honest : World → Type 0
 Honest w = IsHonest w.now w.seen w.sent w.trail
 
 -- what work says tells rows that were committed by then, what it shows was seen, and what it notes as held was committed
-record IsTold (t items : List Item) (ms : List Message) (vs : List View) : Type 0 where
+record IsTold (t items : List Item) (ms : List Message) (vs : List View) (cs : List ViewChanges) : Type 0 where
   sent : MessagesTold (noted items t) ms
   seen : ViewsTold t vs
+  patches : PatchesTold t cs
   held : HeldWereCommitted t → HeldWereCommitted (noted items t)
 
 abbrev WorkTold : World → Work → Type 0
-WorkTold w k = IsTold w.trail k.items k.messages k.seen
+WorkTold w k = IsTold w.trail k.items k.messages k.seen k.patches
 
-nothing_told : (t : List Item) → IsTold t [] [] []
-nothing_told t = record { sent = tt; seen = tt; held = λ x. x }
+nothing_told : (t : List Item) → IsTold t [] [] [] []
+nothing_told t = record { sent = tt; seen = tt; patches = tt; held = λ x. x }
 
 -- ---- rows that are told
 
@@ -134,6 +138,7 @@ command_told w c =
     record {
       sent = tt;
       seen = tt;
+      patches = tt;
       held = held_commits (items_of w.now c (asked w.now c).changes) w.trail (items_commit w.now c (asked w.now c).changes);
     }
 
@@ -154,6 +159,7 @@ proposal_told w p f =
     record {
       sent = answer_told (next w.now c).0 u p (asked w.now c).reply (of_command Tracked tracked_kept w c f.tracked) (answered w.now p);
       seen = tt;
+      patches = tt;
       held = held_commits (items_of w.now c (asked w.now c).changes) w.trail (items_commit w.now c (asked w.now c).changes);
     }
 
@@ -201,6 +207,7 @@ heard_told_by w k r a =
     record {
       sent = messages_later w.trail (noted (held_items k r.taken) w.trail) (grows (held_items k r.taken) w.trail) r.messages a.1;
       seen = tt;
+      patches = tt;
       held = held_taken k r.taken w.trail a.0;
     }
 
@@ -215,6 +222,7 @@ acted_told w k n spawn r a =
     record {
       sent = messages_later w.trail (noted (taken ++ begun ++ emptied) w.trail) (grows (taken ++ begun ++ emptied) w.trail) r.messages a.1;
       seen = tt;
+      patches = tt;
       held = λ h.
           subst HeldWereCommitted (sym (noted_both (taken ++ begun) emptied w.trail))
           (held_emptied (noted (taken ++ begun) w.trail) w.table call
@@ -224,7 +232,7 @@ acted_told w k n spawn r a =
 
 calling_told : (w : World) (call : ContractCall) → WorkTold w (calling w.table call)
 unfolding calling
-calling_told w call = record { sent = tt; seen = tt; held = held_emptied w.trail w.table call }
+calling_told w call = record { sent = tt; seen = tt; patches = tt; held = held_emptied w.trail w.table call }
 
 -- ---- messages
 
@@ -232,8 +240,8 @@ message_told : (w : World) (m : Message) (o : Option Knowledge) → MessageTold 
 message_told w m None a = nothing_told w.trail
 message_told w m (Some k) a = heard_told_by w k (heard k m) (heard_told w.trail k m a)
 
-said_told : (t : List Item) (ms : List Message) → MessagesTold t ms → IsTold t [] ms []
-said_told t ms a = record { sent = a; seen = tt; held = λ x. x }
+said_told : (t : List Item) (ms : List Message) → MessagesTold t ms → IsTold t [] ms [] []
+said_told t ms a = record { sent = a; seen = tt; patches = tt; held = λ x. x }
 
 joined_told : (w : World) (name : List ℕ) (launch : ℕ) (b : Bool) → Honest w → WorkTold w (joined w name launch b)
 joined_told w name launch true f = said_told w.trail _ (rows_told w.trail w.now name (told_now w.now w.trail f.tracked), tt)
@@ -247,7 +255,10 @@ delivered_told w (messages.Propose p) a f = proposal_told w p f
 delivered_told w (messages.Ack name launch serial i row) a f = message_told w (messages.Ack name launch serial i row) (restarter w name) a
 delivered_told w (messages.Nack name launch serial i why row) a f = message_told w (messages.Nack name launch serial i why row) (restarter w name) a
 delivered_told w messages.AskView a f = said_told w.trail (messages.View (view w.now) ∷ []) (view_told w.trail w.now (told_now w.now w.trail f.tracked), tt)
-delivered_told w (messages.View v) a f = record { sent = tt; seen = (a, tt); held = λ x. x }
+delivered_told w (messages.View v) a f = record { sent = tt; seen = (a, tt); patches = tt; held = λ x. x }
+delivered_told w (messages.AskChange from) a f =
+    said_told w.trail (answer_since w from ∷ []) (changes_told w.trail (recent w.history.first w.history.past) w.now from (view_told w.trail w.now (told_now w.now w.trail f.tracked)), tt)
+delivered_told w (messages.Changes c) a f = record { sent = tt; seen = tt; patches = (a, tt); held = λ x. x }
 delivered_told w (messages.Order o) a f = message_told w (messages.Order o) (restarter w o.restarter) a
 
 any_told : (w : World) (o : Option Message) → OneTold w.trail o → Honest w → WorkTold w (delivered_if w o)
@@ -293,7 +304,7 @@ work_told : (w : World) (e : Event) → Honest w → WorkTold w (worked w e)
 unfolding worked
 work_told w (events.Deliver place) f = any_told w (sent_at w place) (sent_told w.trail w.sent place f.sent) f
 work_told w (events.Client edit) f = command_told w (commands.Edit edit)
-work_told w events.Ask f = said_told w.trail (messages.AskView ∷ []) (tt, tt)
+work_told w events.Ask f = said_told w.trail (question w.seen ∷ []) (of_question (MessageTold w.trail) w.seen tt (λ n. tt), tt)
 work_told w events.Orders f = said_told w.trail (map (λ (o : Order). messages.Order o) (orders_seen w.seen)) (orders_told w.trail w.seen f.seen)
 work_told w (events.OwnTick name) f = own_ticked_told w (restarter w name)
 work_told w (events.Tick name n spawn) f = ticked_told w n spawn (restarter w name)
@@ -317,7 +328,10 @@ honest_by w e tracked seen sent held a =
     let u : List Item = noted k.items w.trail in
     record {
       tracked = tracked;
-      seen = seen_told u k.forgets w.seen k.seen (view_later w.trail u (grows k.items w.trail) w.seen seen) (views_later w.trail u (grows k.items w.trail) k.seen a.seen);
+      seen =
+          patches_told u (seen_after k.forgets w.seen k.seen) k.patches
+          (seen_told u k.forgets w.seen k.seen (view_later w.trail u (grows k.items w.trail) w.seen seen) (views_later w.trail u (grows k.items w.trail) k.seen a.seen))
+          (patches_later w.trail u (grows k.items w.trail) k.patches a.patches);
       sent = all_reversed u k.messages w.sent a.sent (messages_later w.trail u (grows k.items w.trail) w.sent sent);
       held = a.held held;
     }

@@ -340,7 +340,9 @@ told_in w (messages.Order o) k h s e =
 told_in w (messages.Join name launch) k h s e = record { said = s; to = tt }
 told_in w (messages.Propose p) k h s e = record { said = s; to = tt }
 told_in w messages.AskView k h s e = record { said = s; to = tt }
+told_in w (messages.AskChange since) k h s e = record { said = s; to = tt }
 told_in w (messages.View v) k h s e = record { said = s; to = tt }
+told_in w (messages.Changes news) k h s e = record { said = s; to = tt }
 
 -- the restarters of a world say what may be said
 pub may_say : (w : World) → AreRowsOf w → HasOrders w → AreInformedOf w → MaySay w

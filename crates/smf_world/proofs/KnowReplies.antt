@@ -234,4 +234,6 @@ heard_does k T (messages.Nack name launch serial n why row) t = nack_does k T na
 heard_does k T (messages.Join name launch) t = still k T
 heard_does k T (messages.Propose p) t = still k T
 heard_does k T messages.AskView t = still k T
+heard_does k T (messages.AskChange since) t = still k T
 heard_does k T (messages.View v) t = still k T
+heard_does k T (messages.Changes news) t = still k T

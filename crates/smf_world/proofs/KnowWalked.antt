@@ -21,6 +21,7 @@ use Rattle.smf_model.specs.Holdings.{Holdings}
 use Rattle.smf_model.specs.Laws.{IsNumbered}
 use Rattle.smf_model.specs.Look.{launch_of}
 use Rattle.smf_model.specs.Next.{asked, asked_boot, booting, greatest, may_not_boot, refused as refusing}
+use Rattle.smf_changes.specs.Changes.{changes_since, recent}
 use Rattle.smf_engine.specs.Orders.{orders_seen}
 use Rattle.smf_wire.specs.declared.message.Known.{Known}
 use Rattle.smf_wire.specs.declared.message.Message.{Message}
@@ -50,6 +51,7 @@ use Rattle.smf_world.specs.World.{World}
 use Rattle.smf_world.proofs.LiveEach.{each_in}
 use Rattle.smf_world.proofs.LiveLists.{Each, IsIn}
 use Rattle.smf_world.proofs.Noting.{noted, noted_both, noted_more}
+use Rattle.smf_world.proofs.Questions.{of_answer, of_question}
 use Rattle.smf_world.proofs.RowClauses.{WasProposed, WasSaid}
 use Rattle.smf_world.proofs.RowEvents.{sent_was_said}
 use Rattle.smf_world.proofs.RowWorld.{NoneBegun, none_begun}
@@ -227,6 +229,9 @@ delivered_knows w (messages.Ack name launch serial i row) h s = told_knows w (me
 delivered_knows w (messages.Nack name launch serial i why row) h s = told_knows w (messages.Nack name launch serial i why row) name (λ l e. record { said = s; to = sym e })
 delivered_knows w messages.AskView h s = idles (record { changes = refl; command = refl; messages = (tt, tt); begun = tt }) refl
 delivered_knows w (messages.View v) h s = idles (record { changes = refl; command = refl; messages = tt; begun = tt }) refl
+delivered_knows w (messages.AskChange from) h s =
+    idles (record { changes = refl; command = refl; messages = (of_answer IsAside w.now from (changes_since (recent w.history.first w.history.past) w.now from) tt (λ c. tt), tt); begun = tt }) refl
+delivered_knows w (messages.Changes c) h s = idles (record { changes = refl; command = refl; messages = tt; begun = tt }) refl
 delivered_knows w (messages.Order o) h s =
     told_knows w (messages.Order o) o.restarter
     (λ l e. record { said = s; to = order_given w.history w.now l o h.numbered h.newest (each_in (OrderSaid w.history) (messages.Order o) w.sent h.orders s) (sym e) })
@@ -341,7 +346,7 @@ pub knowing : (w : World) (e : Event) → HasOrders w → IsKnowing w (worked w 
 unfolding worked
 knowing w (events.Deliver place) h = sent_knows w place h
 knowing w (events.Client edit) h = edit_knows w edit
-knowing w events.Ask h = idles (record { changes = refl; command = refl; messages = (tt, tt); begun = tt }) refl
+knowing w events.Ask h = idles (record { changes = refl; command = refl; messages = (of_question IsAside w.seen tt (λ n. tt), tt); begun = tt }) refl
 knowing w events.Orders h = idles (record { changes = refl; command = refl; messages = all_aside (orders_seen w.seen); begun = tt }) refl
 knowing w (events.OwnTick name) h = own_knows w name
 knowing w (events.Tick name n spawn) h = ticked_knows w name n spawn

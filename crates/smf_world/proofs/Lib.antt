@@ -43,6 +43,8 @@ pub mod RowSteps
 pub mod RowLater
 pub mod LiveEach
 pub mod DecidedHistory
+pub mod DecidedChanges
+pub mod Questions
 pub mod RowHistory
 pub mod SaidLater
 pub mod RowDead
@@ -90,6 +92,7 @@ pub mod FormedGroups
 pub mod FormedHoldings
 pub mod FormedCommands
 pub mod SpelledShown
+pub mod SpelledChanges
 pub mod SpelledMessages
 pub mod SpelledRuns
 pub mod TablesInherit

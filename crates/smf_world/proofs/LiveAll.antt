@@ -68,7 +68,9 @@ none_frees h t none (messages.Rows name launch rows) = tt
 none_frees h t none (messages.Ack name launch serial n row) = tt
 none_frees h t none (messages.Nack name launch serial n why row) = tt
 none_frees h t none messages.AskView = tt
+none_frees h t none (messages.AskChange since) = tt
 none_frees h t none (messages.View v) = tt
+none_frees h t none (messages.Changes news) = tt
 none_frees h t none (messages.Order o) = tt
 
 pub lives_well_first : (h : Holdings) → IsNumbered h → (next h commands.Boot).1 ≡ replies.Done → LivesWell (happens (found h) events.Boot)

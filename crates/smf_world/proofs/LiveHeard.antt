@@ -160,7 +160,9 @@ heard_notes t k (messages.Nack name launch serial n why row) a = nack_notes t la
 heard_notes t k (messages.Join name launch) a = unchanged_notes t
 heard_notes t k (messages.Propose p) a = unchanged_notes t
 heard_notes t k messages.AskView a = unchanged_notes t
+heard_notes t k (messages.AskChange since) a = unchanged_notes t
 heard_notes t k (messages.View v) a = unchanged_notes t
+heard_notes t k (messages.Changes news) a = unchanged_notes t
 
 -- ---- reports and time-outs
 

@@ -126,7 +126,9 @@ delivered_hears w (messages.Propose p) h = proposed_hears w p
 delivered_hears w (messages.Ack name launch serial i row) h = told_hears w (messages.Ack name launch serial i row) name h
 delivered_hears w (messages.Nack name launch serial i why row) h = told_hears w (messages.Nack name launch serial i why row) name h
 delivered_hears w messages.AskView h = silent tt
+delivered_hears w (messages.AskChange since) h = silent tt
 delivered_hears w (messages.View v) h = silent tt
+delivered_hears w (messages.Changes news) h = silent tt
 delivered_hears w (messages.Order o) h = told_hears w (messages.Order o) o.restarter h
 
 sent_hears : (w : World) (o : Option Message) → CanHear w → Hears w (delivered_if w o)

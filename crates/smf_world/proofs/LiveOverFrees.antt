@@ -128,7 +128,9 @@ aside_dead h t (messages.Nack name launch serial n why row) a = absurd a
 aside_dead h t (messages.Join name launch) a = tt
 aside_dead h t (messages.Rows name launch rows) a = tt
 aside_dead h t messages.AskView a = tt
+aside_dead h t (messages.AskChange since) a = tt
 aside_dead h t (messages.View v) a = tt
+aside_dead h t (messages.Changes news) a = tt
 aside_dead h t (messages.Order o) a = tt
 
 answer_dead : (h : Holdings) (t : List Item) (p : Proposal) (r : CommandReply) → Each (FreesTheDead h t) (answer_to p r)

@@ -100,7 +100,9 @@ free_over y h ms t ks (messages.Rows name launch rows) all fit said dead = tt
 free_over y h ms t ks (messages.Ack name launch serial n row) all fit said dead = tt
 free_over y h ms t ks (messages.Nack name launch serial n why row) all fit said dead = tt
 free_over y h ms t ks messages.AskView all fit said dead = tt
+free_over y h ms t ks (messages.AskChange since) all fit said dead = tt
 free_over y h ms t ks (messages.View v) all fit said dead = tt
+free_over y h ms t ks (messages.Changes news) all fit said dead = tt
 free_over y h ms t ks (messages.Order o) all fit said dead = tt
 
 pub over_dead : (h : Holdings) (ks : List Knowledge) (t u : List Item) (m : Message) → ((n run : ℕ) → IsOver ks t n run → Lives n run u → ⊥) → FreesTheOver h ks t m → FreesTheDead h u m
@@ -110,7 +112,9 @@ over_dead h ks t u (messages.Rows name launch rows) later over = tt
 over_dead h ks t u (messages.Ack name launch serial n row) later over = tt
 over_dead h ks t u (messages.Nack name launch serial n why row) later over = tt
 over_dead h ks t u messages.AskView later over = tt
+over_dead h ks t u (messages.AskChange since) later over = tt
 over_dead h ks t u (messages.View v) later over = tt
+over_dead h ks t u (messages.Changes news) later over = tt
 over_dead h ks t u (messages.Order o) later over = tt
 
 each_among : (P Q : Message → Type 0) (all ms : List Message) → ((m : Message) → IsIn m ms → WasSaid m all) → ((m : Message) → WasSaid m all → P m → Q m) → Each P ms → Each Q ms

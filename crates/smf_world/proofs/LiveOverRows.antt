@@ -56,7 +56,9 @@ over_at h ks t u (messages.Rows name launch rows) later over = tt
 over_at h ks t u (messages.Ack name launch serial n row) later over = tt
 over_at h ks t u (messages.Nack name launch serial n why row) later over = tt
 over_at h ks t u messages.AskView later over = tt
+over_at h ks t u (messages.AskChange since) later over = tt
 over_at h ks t u (messages.View v) later over = tt
+over_at h ks t u (messages.Changes news) later over = tt
 over_at h ks t u (messages.Order o) later over = tt
 
 -- the proposals that were said before an event free what is over behind its items

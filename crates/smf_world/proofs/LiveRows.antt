@@ -223,7 +223,9 @@ free_commanded h k c ks t ms (messages.Rows name launch rows) moves said over = 
 free_commanded h k c ks t ms (messages.Ack name launch serial n row) moves said over = tt
 free_commanded h k c ks t ms (messages.Nack name launch serial n why row) moves said over = tt
 free_commanded h k c ks t ms messages.AskView moves said over = tt
+free_commanded h k c ks t ms (messages.AskChange since) moves said over = tt
 free_commanded h k c ks t ms (messages.View v) moves said over = tt
+free_commanded h k c ks t ms (messages.Changes news) moves said over = tt
 free_commanded h k c ks t ms (messages.Order o) moves said over = tt
 
 pub all_free_commanded : (h k : Holdings) (c : Command) (ks : List Knowledge) (t : List Item) (all ms : List Message) → Moves h c k → Each (IsSaid h all) ms → AllFreeTheOver h ks t ms → AllFreeTheOver k ks t ms

@@ -13,6 +13,7 @@ use Rattle.smf_model.specs.declared.command.Reply.{Reply as CommandReply}
 use Rattle.smf_model.specs.declared.command.Reply.TheVariants as replies
 use Rattle.smf_model.specs.Look.{launch_of}
 use Rattle.smf_model.specs.Next.{asked}
+use Rattle.smf_changes.specs.Changes.{changes_since, recent}
 use Rattle.smf_wire.specs.declared.message.Known.{Known}
 use Rattle.smf_wire.specs.declared.message.Message.{Message}
 use Rattle.smf_wire.specs.declared.message.Message.TheVariants as messages
@@ -30,20 +31,23 @@ use Rattle.smf_world.specs.World.{World}
 use Rattle.smf_world.proofs.DecidedQuiet.{IsAsked, heard_quiet}
 use Rattle.smf_world.proofs.FormedHoldings.{every_both}
 use Rattle.smf_world.proofs.LiveLists.{Each}
+use Rattle.smf_world.proofs.Questions.{of_answer}
 
 -- ---- ranks
 
--- a restarter proposes on an order; the repository answers a proposal, a join and a question for the view; nobody sends
+-- a restarter proposes on an order; the repository answers a proposal, a join and a question for the view or for what changed; nobody sends
 -- anything on an answer
 abbrev pub rank : Message → ℕ
 rank (messages.Order o) = 3
 rank (messages.Propose p) = 2
 rank (messages.Join name launch) = 2
 rank messages.AskView = 2
+rank (messages.AskChange since) = 2
 rank (messages.Rows name launch rows) = 1
 rank (messages.Ack name launch serial n row) = 1
 rank (messages.Nack name launch serial n why row) = 1
 rank (messages.View v) = 1
+rank (messages.Changes news) = 1
 
 abbrev pub IsBelow : ℕ → Message → Type 0
 IsBelow n m = rank m < n
@@ -99,7 +103,9 @@ asked_below (messages.Rows name launch rows) a = absurd a
 asked_below (messages.Ack name launch serial n row) a = absurd a
 asked_below (messages.Nack name launch serial n why row) a = absurd a
 asked_below messages.AskView a = absurd a
+asked_below (messages.AskChange since) a = absurd a
 asked_below (messages.View v) a = absurd a
+asked_below (messages.Changes news) a = absurd a
 asked_below (messages.Order o) a = absurd a
 
 all_asked : (ms : List Message) → Each IsAsked ms → AreBelow 3 ms
@@ -135,7 +141,9 @@ heard_sends k (messages.Order o) b = absurd (omega arith)
 heard_sends k (messages.Join name launch) b = tt
 heard_sends k (messages.Propose p) b = tt
 heard_sends k messages.AskView b = tt
+heard_sends k (messages.AskChange since) b = tt
 heard_sends k (messages.View v) b = tt
+heard_sends k (messages.Changes news) b = tt
 
 -- a delivery sends only messages of lower ranks
 pub delivery_sends : (w : World) (m : Message) → AreBelow (rank m) (delivered w m).messages
@@ -147,6 +155,8 @@ delivery_sends w (messages.Ack name launch serial n row) = told_sends 1 (message
 delivery_sends w (messages.Nack name launch serial n why row) = told_sends 1 (messages.Nack name launch serial n why row) (restarter w name) (λ k. heard_sends k (messages.Nack name launch serial n why row) one_below_two)
 delivery_sends w messages.AskView = (one_below_two, tt)
 delivery_sends w (messages.View v) = tt
+delivery_sends w (messages.AskChange from) = (of_answer (IsBelow 2) w.now from (changes_since (recent w.history.first w.history.past) w.now from) one_below_two (λ c. one_below_two), tt)
+delivery_sends w (messages.Changes c) = tt
 delivery_sends w (messages.Order o) = told_sends 3 (messages.Order o) (restarter w o.restarter) (λ k. all_asked (heard k (messages.Order o)).messages (heard_quiet k (messages.Order o)))
 
 -- ---- the front of what waits
@@ -250,10 +260,12 @@ all_below_four (m ∷ ms) = (below_four m, all_below_four ms)
     below_four (messages.Propose p) = omega arith
     below_four (messages.Join name launch) = omega arith
     below_four messages.AskView = omega arith
+    below_four (messages.AskChange since) = omega arith
     below_four (messages.Rows name launch rows) = omega arith
     below_four (messages.Ack name launch serial n row) = omega arith
     below_four (messages.Nack name launch serial n why row) = omega arith
     below_four (messages.View v) = omega arith
+    below_four (messages.Changes news) = omega arith
 
 -- and none is below one
 none_below_one : (ms : List Message) → AreBelow 1 ms → length ms ≡ 0
@@ -265,10 +277,12 @@ none_below_one (m ∷ ms) a = absurd (above m a.0)
     above (messages.Propose p) b = omega arith
     above (messages.Join name launch) b = omega arith
     above messages.AskView b = omega arith
+    above (messages.AskChange since) b = omega arith
     above (messages.Rows name launch rows) b = omega arith
     above (messages.Ack name launch serial n row) b = omega arith
     above (messages.Nack name launch serial n why row) b = omega arith
     above (messages.View v) b = omega arith
+    above (messages.Changes news) b = omega arith
 
 -- after three turns of messages nothing waits
 pub none_waits : (p : Progress) → waiting_count (turn_of_messages (turn_of_messages (turn_of_messages p))) ≡ 0

@@ -68,7 +68,9 @@ asks_delivered w (messages.Propose p) s = commands_ask w (commands.Propose p) (Î
 asks_delivered w (messages.Ack name launch serial i row) s = asks_told w (messages.Ack name launch serial i row) (restarter w name)
 asks_delivered w (messages.Nack name launch serial i why row) s = asks_told w (messages.Nack name launch serial i why row) (restarter w name)
 asks_delivered w messages.AskView s = still refl refl
+asks_delivered w (messages.AskChange since) s = still refl refl
 asks_delivered w (messages.View v) s = still refl refl
+asks_delivered w (messages.Changes news) s = still refl refl
 asks_delivered w (messages.Order o) s = asks_told w (messages.Order o) (restarter w o.restarter)
 
 -- each message is among all

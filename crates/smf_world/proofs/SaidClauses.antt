@@ -93,7 +93,9 @@ IsSaid h ms (messages.Propose q) = IsProposal h q
 IsSaid h ms (messages.Ack name launch serial n r) = IsAck h ms name launch serial n r
 IsSaid h ms (messages.Nack name launch serial n why r) = IsNack h ms name launch serial n why r
 IsSaid h ms messages.AskView = Unit {0}
+IsSaid h ms (messages.AskChange since) = Unit {0}
 IsSaid h ms (messages.View v) = Unit {0}
+IsSaid h ms (messages.Changes news) = Unit {0}
 IsSaid h ms (messages.Order o) = WasRow h o.instance o.row
 
 -- ---- all of them

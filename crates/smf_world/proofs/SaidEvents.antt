@@ -23,6 +23,7 @@ use Rattle.smf_model.specs.Setting.{Groups, current}
 use Rattle.smf_model.specs.Shown.{is_run_by, rows_of, view, view_item}
 use Rattle.smf_model.proofs.LawNumbers.{asked_numbered}
 use Rattle.smf_model.proofs.LawOutcomes.{apart, current_row}
+use Rattle.smf_changes.specs.Changes.{changes_since, recent}
 use Rattle.smf_engine.specs.Orders.{order, orders_seen}
 use Rattle.smf_engine.proofs.Shape.{order_shape}
 use Rattle.smf_wire.specs.declared.message.Message.{Message}
@@ -55,7 +56,8 @@ use Rattle.smf_world.proofs.RowLaunches.{launches_rise}
 use Rattle.smf_world.proofs.RowMoves.{IsRead}
 use Rattle.smf_world.proofs.RowWorld.{rows_noted, rows_said}
 use Rattle.smf_world.proofs.SaidAnswers.{may_answer}
-use Rattle.smf_world.proofs.SaidClauses.{AllMayBeSaid, AreRows, IsRowOf}
+use Rattle.smf_world.proofs.Questions.{of_answer, of_question}
+use Rattle.smf_world.proofs.SaidClauses.{AllMayBeSaid, AreRows, IsRowOf, MayBeSaid}
 
 -- what holds of a world's rows, proposals and answers
 abbrev pub AreRowsOf : World → Type 0
@@ -188,6 +190,9 @@ says_delivered w (messages.Ack name launch serial i row) r may s = says_told w (
 says_delivered w (messages.Nack name launch serial i why row) r may s = says_told w (messages.Nack name launch serial i why row) (restarter w name) (λ k e. may.hears (messages.Nack name launch serial i why row) k s e)
 says_delivered w messages.AskView r may s = (record { is = tt; once = tt }, tt)
 says_delivered w (messages.View v) r may s = tt
+says_delivered w (messages.AskChange from) r may s =
+    (of_answer (MayBeSaid w.now w.sent) w.now from (changes_since (recent w.history.first w.history.past) w.now from) (record { is = tt; once = tt }) (λ c. record { is = tt; once = tt }), tt)
+says_delivered w (messages.Changes c) r may s = tt
 says_delivered w (messages.Order o) r may s = says_told w (messages.Order o) (restarter w o.restarter) (λ k e. may.hears (messages.Order o) k s e)
 
 says_sent : (w : World) (place : ℕ) → AreRowsOf w → MaySay w → Says w (delivered_if w (sent_at w place))
@@ -254,7 +259,7 @@ pub event_says : (w : World) (e : Event) → AreRowsOf w → ViewSeen w.history 
 unfolding worked installed
 event_says w (events.Deliver place) r seen may = says_sent w place r may
 event_says w (events.Client edit) r seen may = silent_says w (commanded w (commands.Edit edit)) (silent_command w (commands.Edit edit))
-event_says w events.Ask r seen may = (record { is = tt; once = tt }, tt)
+event_says w events.Ask r seen may = (of_question (MayBeSaid w.now w.sent) w.seen (record { is = tt; once = tt }) (λ n. record { is = tt; once = tt }), tt)
 event_says w events.Orders r seen may = says_orders w w.seen r.were seen
 event_says w (events.OwnTick name) r seen may = says_own w (restarter w name) (λ k e. may.turns name k e)
 event_says w (events.Tick name n spawn) r seen may = says_ticked w n spawn (restarter w name) (λ k e. may.acts name n k e)

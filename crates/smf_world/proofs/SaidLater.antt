@@ -96,7 +96,9 @@ said_later h c k ms (messages.Nack name launch serial n why r) fit v s =
       answers = s.answers;
     }
 said_later h c k ms messages.AskView fit v s = tt
+said_later h c k ms (messages.AskChange since) fit v s = tt
 said_later h c k ms (messages.View view) fit v s = tt
+said_later h c k ms (messages.Changes news) fit v s = tt
 said_later h c k ms (messages.Order o) fit v s = was_later h c k o.instance o.row fit v s
 
 pub are_said_later : (h : Holdings) (c : Command) (k : Holdings) (ms : List Message) → AreFit h → Moves h c k → AreSaid h ms → AreSaid k ms
@@ -133,7 +135,9 @@ said_more h ms ns (messages.Ack name launch serial n r) w s =
 said_more h ms ns (messages.Nack name launch serial n why r) w s =
     record { bound = s.bound; was = s.was; told = s.told; owner = s.owner; to = s.to; answers = answer_more ms ns name launch serial n s.to w s.answers }
 said_more h ms ns messages.AskView w s = tt
+said_more h ms ns (messages.AskChange since) w s = tt
 said_more h ms ns (messages.View view) w s = tt
+said_more h ms ns (messages.Changes news) w s = tt
 said_more h ms ns (messages.Order o) w s = s
 
 propose_is : (p q : Proposal) → messages.Propose p ≡ messages.Propose q → p ≡ q

@@ -4,9 +4,11 @@ use Rattle.std.specs.List.{AllByRecursion}
 use Rattle.smf_contract.specs.declared.call.ContractCall.{ContractCall}
 use Rattle.smf_contract.specs.declared.contract.Report.{Report}
 use Rattle.smf_contract.specs.Entries.{Contracts, reported as report_at}
-use Rattle.smf_engine.specs.Orders.{orders_seen}
+use Rattle.smf_changes.specs.Changes.{changes_since, recent}
+use Rattle.smf_engine.specs.Orders.{orders_seen, question}
 use Rattle.smf_state.specs.declared.row.Row.{Row}
 use Rattle.smf_state.specs.declared.step.Proposal.{Proposal}
+use Rattle.smf_state.specs.declared.view.View.{View}
 use Rattle.smf_model.specs.declared.change.Change.{Change}
 use Rattle.smf_model.specs.declared.change.Outcome.{Outcome}
 use Rattle.smf_model.specs.declared.command.Command.{Command}
@@ -35,7 +37,7 @@ use Rattle.smf_world.specs.declared.event.SpawnAnswer.TheVariants as spawns
 use Rattle.smf_world.specs.declared.work.Work.{Work}
 use Rattle.smf_world.specs.Formed.{IsFormed}
 use Rattle.smf_world.specs.Spelled.{IsFormedEvent, IsInOrder}
-use Rattle.smf_world.specs.Worked.{acted, answer_to, booted_as, calling, commanded, crashed, delivered, delivered_if, heard_by, holder, is_launched, joined, known_of, launched_if, own_ticked, process_call, proposed, reported_by, reported_to, restarter, sent_at, ticked_for, timed, told, worked}
+use Rattle.smf_world.specs.Worked.{acted, answer_to, booted_as, calling, changes_or_view, commanded, crashed, delivered, delivered_if, heard_by, holder, is_launched, joined, known_of, launched_if, own_ticked, process_call, proposed, reported_by, reported_to, restarter, sent_at, ticked_for, timed, told, worked}
 use Rattle.smf_world.specs.World.{World}
 use Rattle.smf_world.proofs.DecidedQuiet.{IsAsked, Quiet, heard_quiet, own_quiet, tick_quiet}
 use Rattle.smf_world.proofs.FormedCommands.{command_formed}
@@ -43,6 +45,8 @@ use Rattle.smf_world.proofs.FormedHoldings.{IsFormedBy}
 use Rattle.smf_world.proofs.LiveLists.{Each}
 use Rattle.smf_world.proofs.RowGrants.{answers}
 use Rattle.smf_world.proofs.RowMoves.{Answers, Refuses, again, anew, limited, refused}
+use Rattle.smf_world.proofs.Questions.{of_question}
+use Rattle.smf_world.proofs.SpelledChanges.{answer_in_order, answer_spelled}
 use Rattle.smf_world.proofs.SpelledShown.{known_rise, view_has_bodies, view_rises}
 
 -- ---- what is asked of messages and of changes
@@ -56,11 +60,12 @@ IsOwn _ = Unit {0}
 pub record Says (P : Message → Type 0) (Q : Change → Type 0) (h : Holdings) : Type 0 where
   pub own : (m : Message) → IsAsked m → P m
   pub ack : (name : List ℕ) (launch serial n : ℕ) (row : Row) → P (messages.Ack name launch serial n row)
-  pub ask : P messages.AskView
+  pub ask : (seen : Option View) → P (question seen)
   pub order : (o : Order) → P (messages.Order o)
   pub rows : (name : List ℕ) (launch : ℕ) → P (messages.Rows name launch (map known_of (rows_of h name)))
   pub nack : (name : List ℕ) (launch serial n : ℕ) (why : Why) (row : Option Row) → is_some row ≡ has_row why → P (messages.Nack name launch serial n why row)
   pub shown : P (messages.View (view h))
+  pub since : (nss : List (List ℕ)) (from : ℕ) → P (changes_or_view h from (changes_since nss h from))
   pub changes : (c : Command) → IsOwn c → AllByRecursion Q (asked h c).changes
 
 -- of the changes that a client asks for
@@ -150,6 +155,8 @@ delivered_does P Q w (messages.Ack name launch serial i row) s = told_does P Q w
 delivered_does P Q w (messages.Nack name launch serial i why row) s = told_does P Q w (messages.Nack name launch serial i why row) (restarter w name) s
 delivered_does P Q w messages.AskView s = record { says = (s.shown, tt); makes = tt }
 delivered_does P Q w (messages.View v) s = record { says = tt; makes = tt }
+delivered_does P Q w (messages.AskChange from) s = record { says = (s.since (recent w.history.first w.history.past) from, tt); makes = tt }
+delivered_does P Q w (messages.Changes c) s = record { says = tt; makes = tt }
 delivered_does P Q w (messages.Order o) s = told_does P Q w (messages.Order o) (restarter w o.restarter) s
 
 sent_does : (P : Message → Type 0) (Q : Change → Type 0) (w : World) (o : Option Message) → Says P Q w.now → Does P Q (delivered_if w o)
@@ -200,7 +207,7 @@ pub work_does : (P : Message → Type 0) (Q : Change → Type 0) (w : World) (e 
 unfolding worked
 work_does P Q w (events.Deliver place) s g = sent_does P Q w (sent_at w place) s
 work_does P Q w (events.Client edit) s g = command_does P Q w (commands.Edit edit) g
-work_does P Q w events.Ask s g = record { says = (s.ask, tt); makes = tt }
+work_does P Q w events.Ask s g = record { says = (s.ask w.seen, tt); makes = tt }
 work_does P Q w events.Orders s g = record { says = all_orders P s.order (orders_seen w.seen); makes = tt }
 work_does P Q w (events.OwnTick name) s g = own_does P Q w (restarter w name) s
 work_does P Q w (events.Tick name n spawn) s g = ticked_does P Q w n spawn (restarter w name) s
@@ -228,7 +235,9 @@ own_in_order (messages.Rows name launch rows) a = absurd a
 own_in_order (messages.Ack name launch serial n row) a = tt
 own_in_order (messages.Nack name launch serial n why row) a = absurd a
 own_in_order messages.AskView a = tt
+own_in_order (messages.AskChange since) a = tt
 own_in_order (messages.View v) a = absurd a
+own_in_order (messages.Changes news) a = absurd a
 own_in_order (messages.Order o) a = tt
 
 own_spelled : (m : Message) → IsAsked m → IsSpelled m
@@ -238,7 +247,9 @@ own_spelled (messages.Rows name launch rows) a = absurd a
 own_spelled (messages.Ack name launch serial n row) a = tt
 own_spelled (messages.Nack name launch serial n why row) a = absurd a
 own_spelled messages.AskView a = tt
+own_spelled (messages.AskChange since) a = tt
 own_spelled (messages.View v) a = absurd a
+own_spelled (messages.Changes news) a = absurd a
 own_spelled (messages.Order o) a = tt
 
 pub says_in_order : (h : Holdings) → IsNumbered h → Says IsInOrder AnyChange h
@@ -246,11 +257,12 @@ says_in_order h n =
     record {
       own = own_in_order;
       ack = λ name launch serial i row. tt;
-      ask = tt;
+      ask = λ seen. of_question IsInOrder seen tt (λ m. tt);
       order = λ o. tt;
       rows = λ name launch. known_rise h name n;
       nack = λ name launch serial i why row e. e;
       shown = view_rises h n;
+      since = λ nss from. answer_in_order h nss from (view_rises h n);
       changes = λ c own. any_changes (asked h c).changes;
     }
 
@@ -279,11 +291,12 @@ says_spelled h n f =
     record {
       own = own_spelled;
       ack = λ name launch serial i row. tt;
-      ask = tt;
+      ask = λ seen. of_question IsSpelled seen tt (λ m. tt);
       order = λ o. tt;
       rows = λ name launch. known_rise h name n;
       nack = λ name launch serial i why row e. e;
       shown = record { rises = view_rises h n; bodies = view_has_bodies h f };
+      since = λ nss from. answer_spelled h nss from (view_rises h n) (view_has_bodies h f);
       changes = λ c own. own_formed h c f own;
     }
 

@@ -24,6 +24,7 @@ use Rattle.smf_world.proofs.FormedHoldings.{IsFormedBy, formed_installed}
 use Rattle.smf_world.proofs.LiveEach.{each_reversed, each_sent}
 use Rattle.smf_world.proofs.LiveLists.{Each}
 use Rattle.smf_world.proofs.Logged.{numbered}
+use Rattle.smf_world.proofs.SpelledChanges.{all_spelled}
 use Rattle.smf_world.proofs.SpelledMessages.{AnyChange, Does, gives_any, gives_formed, says_in_order, says_spelled, work_does}
 
 to_each : (P : Message → Type 0) (ms : List Message) → AllByRecursion P ms → Each P ms
@@ -68,6 +69,8 @@ ordered_spelled (messages.Ack name launch serial n row) a b = tt
 ordered_spelled (messages.Nack name launch serial n why row) a b = a
 ordered_spelled messages.AskView a b = tt
 ordered_spelled (messages.View v) a b = record { rises = a; bodies = b }
+ordered_spelled (messages.AskChange since) a b = tt
+ordered_spelled (messages.Changes news) a b = record { rises = a.0; changes = all_spelled news.items a.1 b }
 ordered_spelled (messages.Order o) a b = tt
 
 spelled_if : (o : Option Message) → ((m : Message) → o ≡ Some m → IsInOrder m) → IfSome o (λ m. HasBodies m → IsSpelled m)

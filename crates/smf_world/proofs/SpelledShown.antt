@@ -19,7 +19,7 @@ use Rattle.smf_model.specs.Next.{named_snapshot}
 use Rattle.smf_model.specs.Setting.{Groups, current, owned_by_setting, setting}
 use Rattle.smf_model.specs.Shown.{all_read, body_of, is_run_by, rows_of, view, view_item}
 use Rattle.smf_model.proofs.Entries.{rises_bare}
-use Rattle.smf_wire.specs.Lines.{HasBody, IsBody, is_body, is_ok}
+use Rattle.smf_wire.specs.Lines.{HasBody, IsBody, is_body}
 use Rattle.smf_world.specs.Formed.{IsFormed, IsFormedSnapshot}
 use Rattle.smf_world.specs.Worked.{known_of}
 use Rattle.smf_world.proofs.FormedHoldings.{formed_snapshot}
@@ -64,7 +64,7 @@ nothing_is_read s e = cc
 
 is_read : (bytes : List ℕ) (s : Body) → decoded_snapshot bytes ≡ Ok s → is_body bytes ≡ true
 is_read [] s e = absurd (nothing_is_read s e)
-is_read (b ∷ bs) s e = ap is_ok e
+is_read (b ∷ bs) s e = refl
 
 snapshot_is_body : (s : Snapshot) → IsFormedSnapshot s → IsBody (body_of s)
 snapshot_is_body s f =

@@ -194,7 +194,9 @@ delivered_asks w (messages.Propose p) = tt
 delivered_asks w (messages.Ack name launch serial i row) = told_asks (messages.Ack name launch serial i row) (restarter w name)
 delivered_asks w (messages.Nack name launch serial i why row) = told_asks (messages.Nack name launch serial i why row) (restarter w name)
 delivered_asks w messages.AskView = tt
+delivered_asks w (messages.AskChange since) = tt
 delivered_asks w (messages.View v) = tt
+delivered_asks w (messages.Changes news) = tt
 delivered_asks w (messages.Order o) = told_asks (messages.Order o) (restarter w o.restarter)
 
 sent_asks : (w : World) (o : Option Message) → Asks (delivered_if w o).call

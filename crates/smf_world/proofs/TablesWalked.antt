@@ -383,7 +383,9 @@ delivered_tabled w (messages.Propose p) = command_tabled w (commands.Propose p) 
 delivered_tabled w (messages.Ack name launch serial i row) = told_tabled w (messages.Ack name launch serial i row) (restarter w name)
 delivered_tabled w (messages.Nack name launch serial i why row) = told_tabled w (messages.Nack name launch serial i why row) (restarter w name)
 delivered_tabled w messages.AskView = passes refl tt
+delivered_tabled w (messages.AskChange since) = passes refl tt
 delivered_tabled w (messages.View v) = passes refl tt
+delivered_tabled w (messages.Changes news) = passes refl tt
 delivered_tabled w (messages.Order o) = told_tabled w (messages.Order o) (restarter w o.restarter)
 
 sent_tabled : (w : World) (o : Option Message) → Tabled w (delivered_if w o)

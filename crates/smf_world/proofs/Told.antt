@@ -1,29 +1,37 @@
 -- Rows that are told were committed.
-use Rattle.std.proofs.Common.{◌≡◌, ◌⊎◌, ◌==◌, nat_lt, ℕ, zero, suc, Bool, true, false, cond, if◌then◌else◌, List, [], ◌∷◌, ◌++◌, map, filter, reverse, Option, Some, None, option_map, refl, sym, ap, ◌∙◌, subst, inl, inr, append-nil, eqb-true}
+use Rattle.std.proofs.Common.{◌≡◌, ◌⊎◌, ◌==◌, ◌-◌, nat_lt, not, ℕ, zero, suc, Bool, true, false, cond, if◌then◌else◌, List, [], ◌∷◌, ◌++◌, map, filter, reverse, take, Option, Some, None, option_map, refl, sym, ap, ◌∙◌, subst, inl, inr, append-nil, eqb-true}
 use Rattle.std.specs.Prelude.{slice_get}
 use Rattle.std.specs.List.{cons_option, filter_map}
 use Rattle.std.proofs.lemmas.Grind.{reverse_onto}
 use Rattle.std.proofs.lemmas.List.{append_assoc}
+use Rattle.std.specs.Ordering.{nat_cmp}
+use Rattle.std.specs.declared.cmp.Ordering.{Ordering}
+use Rattle.std.specs.declared.cmp.Ordering.TheVariants.{Less, Equal, Greater}
+use Rattle.smf_fmri.specs.ByKey.{has_key, lookup, put, put_by}
 use Rattle.smf_state.specs.declared.row.Row.{Row}
 use Rattle.smf_state.specs.declared.state.State.{State}
 use Rattle.smf_state.specs.declared.view.ViewItem.{ViewItem}
 use Rattle.smf_model.specs.declared.held.Instance.{Instance}
+use Rattle.smf_state.specs.declared.view.ChangedItem.{ChangedItem}
 use Rattle.smf_state.specs.declared.view.View.{View}
+use Rattle.smf_state.specs.Patched.{by_item, patched, with_item, with_items}
 use Rattle.smf_model.specs.Holdings.{Holdings}
 use Rattle.smf_model.specs.Look.{groups_of, instances}
 use Rattle.smf_model.specs.Setting.{Groups, current}
 use Rattle.smf_model.specs.Shown.{is_run_by, rows_of, view, view_item}
 use Rattle.smf_model.proofs.LawOutcomes.{current_row}
-use Rattle.smf_engine.specs.Orders.{newer, order, orders_seen}
+use Rattle.smf_changes.specs.Changes.{as_it_is, changes_since, is_beyond, items, together}
+use Rattle.smf_engine.specs.Orders.{goes_on, newer, order, orders_seen, with_changes}
 use Rattle.smf_engine.proofs.Shape.{order_shape}
 use Rattle.smf_wire.specs.declared.message.Known.{Known}
 use Rattle.smf_wire.specs.declared.message.Message.{Message}
 use Rattle.smf_wire.specs.declared.message.Message.TheVariants as messages
+use Rattle.smf_wire.specs.declared.message.ViewChanges.{ViewChanges}
 use Rattle.smf_wire.specs.declared.order.Order.{Order}
 use Rattle.smf_world.specs.declared.item.Item.{Item}
 use Rattle.smf_world.specs.declared.item.Item.TheVariants.{Boot, Committed, Held, Spawned, Emptied}
-use Rattle.smf_world.specs.Happens.{newest}
-use Rattle.smf_world.specs.Worked.{known_of}
+use Rattle.smf_world.specs.Happens.{newest, with_patches}
+use Rattle.smf_world.specs.Worked.{changes_or_view, known_of}
 use Rattle.smf_world.specs.Safe.{HeldWereCommitted, Last, WasCommitted, behind_boot, commits, is_commit, last_of}
 use Rattle.smf_world.proofs.Noting.{AllCommit, noted, noted_more}
 use Rattle.smf_world.proofs.Pushed.{AreTracked, last_held}
@@ -75,11 +83,20 @@ abbrev pub OptionTold : List Item → ℕ → Option Row → Type 0
 OptionTold t i None = Unit {0}
 OptionTold t i (Some row) = RowTold t i row
 
+abbrev pub ChangedTold : List Item → Option ViewItem → Type 0
+ChangedTold t None = Unit {0}
+ChangedTold t (Some x) = RowTold t x.instance x.row
+
+abbrev pub ChangesTold : List Item → List ChangedItem → Type 0
+ChangesTold t [] = Unit {0}
+ChangesTold t (c ∷ cs) = ChangedTold t c.item × ChangesTold t cs
+
 abbrev pub MessageTold : List Item → Message → Type 0
 MessageTold t (messages.Rows name launch rows) = RowsTold t rows
 MessageTold t (messages.Ack name launch serial i row) = RowTold t i row
 MessageTold t (messages.Nack name launch serial i why row) = OptionTold t i row
 MessageTold t (messages.View v) = ItemsTold t v.items
+MessageTold t (messages.Changes c) = ChangesTold t c.items
 MessageTold t (messages.Order o) = RowTold t o.instance o.row
 MessageTold t _ = Unit {0}
 
@@ -90,6 +107,10 @@ MessagesTold t (m ∷ ms) = MessageTold t m × MessagesTold t ms
 abbrev pub ViewTold : List Item → Option View → Type 0
 ViewTold t None = Unit {0}
 ViewTold t (Some v) = ItemsTold t v.items
+
+abbrev pub PatchesTold : List Item → List ViewChanges → Type 0
+PatchesTold t [] = Unit {0}
+PatchesTold t (c ∷ cs) = ChangesTold t c.items × PatchesTold t cs
 
 abbrev pub ViewsTold : List Item → List View → Type 0
 ViewsTold t [] = Unit {0}
@@ -107,6 +128,18 @@ option_later : (t u : List Item) → Grows t u → (i : ℕ) (o : Option Row) �
 option_later t u g i None a = tt
 option_later t u g i (Some row) a = g i row.number row.state a
 
+changed_later : (t u : List Item) → Grows t u → (o : Option ViewItem) → ChangedTold t o → ChangedTold u o
+changed_later t u g None a = tt
+changed_later t u g (Some x) a = g x.instance x.row.number x.row.state a
+
+changes_later : (t u : List Item) → Grows t u → (cs : List ChangedItem) → ChangesTold t cs → ChangesTold u cs
+changes_later t u g [] a = tt
+changes_later t u g (c ∷ cs) a = (changed_later t u g c.item a.0, changes_later t u g cs a.1)
+
+pub patches_later : (t u : List Item) → Grows t u → (cs : List ViewChanges) → PatchesTold t cs → PatchesTold u cs
+patches_later t u g [] a = tt
+patches_later t u g (c ∷ cs) a = (changes_later t u g c.items a.0, patches_later t u g cs a.1)
+
 message_later : (t u : List Item) → Grows t u → (m : Message) → MessageTold t m → MessageTold u m
 message_later t u g (messages.Rows name launch rows) a = rows_later t u g rows a
 message_later t u g (messages.Ack name launch serial i row) a = g i row.number row.state a
@@ -116,6 +149,8 @@ message_later t u g (messages.Order o) a = g o.instance o.row.number o.row.state
 message_later t u g (messages.Join name launch) a = tt
 message_later t u g (messages.Propose p) a = tt
 message_later t u g messages.AskView a = tt
+message_later t u g (messages.AskChange since) a = tt
+message_later t u g (messages.Changes news) a = changes_later t u g news.items a
 
 pub messages_later : (t u : List Item) → Grows t u → (ms : List Message) → MessagesTold t ms → MessagesTold u ms
 messages_later t u g [] a = tt
@@ -240,6 +275,79 @@ newer_told t (Some held) v a b = by (nat_lt held.revision v.revision)
 pub newest_told : (t : List Item) (o : Option View) (vs : List View) → ViewTold t o → ViewsTold t vs → ViewTold t (newest o vs)
 newest_told t o [] a b = a
 newest_told t o (v ∷ vs) a b = newest_told t (newer o v) vs (newer_told t o v a b.0) b.1
+
+put_told : (t : List Item) (x : ViewItem) (xs : List ViewItem) → RowTold t x.instance x.row → ItemsTold t xs → ItemsTold t (put by_item x xs)
+put_told t x [] a b = (a, tt)
+put_told t x (y ∷ ys) a b = by (nat_cmp y.instance x.instance) (put_told t x ys a b.1)
+  where
+    by : (o : Ordering) → ItemsTold t (put by_item x ys) → ItemsTold t (put_by o x y ys (put by_item x ys))
+    by Less ih = (b.0, ih)
+    by Equal ih = (a, b.1)
+    by Greater ih = (a, b)
+
+items_some : (t : List Item) (test : ViewItem → Bool) (xs : List ViewItem) → ItemsTold t xs → ItemsTold t (filter test xs)
+items_some t test [] a = tt
+items_some t test (x ∷ xs) a = by (test x) (items_some t test xs a.1)
+  where
+    by : (b : Bool) → ItemsTold t (filter test xs) → ItemsTold t (cond b (x ∷ filter test xs) (filter test xs))
+    by true ih = (a.0, ih)
+    by false ih = ih
+
+item_told : (t : List Item) (n : ℕ) (o : Option ViewItem) (xs : List ViewItem) → ChangedTold t o → ItemsTold t xs → ItemsTold t (with_item n o xs)
+item_told t n None xs a b = items_some t (λ x. not (has_key by_item n x)) xs b
+item_told t n (Some x) xs a b = put_told t x xs a b
+
+all_told : (t : List Item) (cs : List ChangedItem) (xs : List ViewItem) → ChangesTold t cs → ItemsTold t xs → ItemsTold t (with_items cs xs)
+all_told t [] xs a b = b
+all_told t (c ∷ cs) xs a b = all_told t cs (with_item c.instance c.item xs) a.1 (item_told t c.instance c.item xs a.0 b)
+
+patch_told : (t : List Item) (o : Option View) (c : ViewChanges) → ViewTold t o → ChangesTold t c.items → ViewTold t (with_changes o c)
+unfolding patched
+patch_told t None c a b = tt
+patch_told t (Some v) c a b = by (goes_on v c)
+  where
+    by : (d : Bool) → ViewTold t (if d then Some (patched v c.to c.items) else Some v)
+    by true = all_told t c.items v.items b a
+    by false = a
+
+pub patches_told : (t : List Item) (o : Option View) (cs : List ViewChanges) → ViewTold t o → PatchesTold t cs → ViewTold t (with_patches o cs)
+patches_told t o [] a b = a
+patches_told t o (c ∷ cs) a b = patches_told t (with_changes o c) cs (patch_told t o c a b.0) b.1
+
+-- ---- what the repository tells of changes
+
+item_of : (t : List Item) (n : ℕ) (xs : List ViewItem) → ItemsTold t xs → ChangedTold t (lookup by_item xs n)
+item_of t n [] a = tt
+item_of t n (x ∷ xs) a = by (has_key by_item n x) (item_of t n xs a.1)
+  where
+    by : (b : Bool) → ChangedTold t (lookup by_item xs n) → ChangedTold t (cond b (Some x) (lookup by_item xs n))
+    by true ih = a.0
+    by false ih = ih
+
+all_as_they_are : (t : List Item) (h : Holdings) (ns : List ℕ) → ItemsTold t (items h) → ChangesTold t (map (as_it_is h) ns)
+all_as_they_are t h [] a = tt
+all_as_they_are t h (n ∷ ns) a = (item_of t n (items h) a, all_as_they_are t h ns a)
+
+inside : {X : Type 0} (x y : X) → Some x ≡ Some y → x ≡ y
+inside x y e = cc
+
+since_told : (t : List Item) (nss : List (List ℕ)) (h : Holdings) (from : ℕ) (c : ℕ × List ChangedItem) → ItemsTold t (view h).items → changes_since nss h from ≡ Some c → ChangesTold t c.1
+unfolding changes_since view
+since_told t nss h from c a e = by (is_beyond nss h from) e
+  where
+    given : ℕ × List ChangedItem
+    given = (h.revision, map (as_it_is h) (together (take (h.revision - from) nss)))
+
+    by : (b : Bool) → (if b then None else Some given) ≡ Some c → ChangesTold t c.1
+    by true f = absurd cc
+    by false f = subst (λ (p : ℕ × List ChangedItem). ChangesTold t p.1) (inside given c f) (all_as_they_are t h (together (take (h.revision - from) nss)) a)
+
+pub changes_told : (t : List Item) (nss : List (List ℕ)) (h : Holdings) (from : ℕ) → ItemsTold t (view h).items → MessageTold t (changes_or_view h from (changes_since nss h from))
+changes_told t nss h from a = by (changes_since nss h from) (λ c e. since_told t nss h from c a e)
+  where
+    by : (o : Option (ℕ × List ChangedItem)) → ((c : ℕ × List ChangedItem) → o ≡ Some c → ChangesTold t c.1) → MessageTold t (changes_or_view h from o)
+    by None told = a
+    by (Some c) told = told c refl
 
 abbrev OrderTold : List Item → Option Order → Type 0
 OrderTold t None = Unit {0}

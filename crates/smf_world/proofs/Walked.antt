@@ -82,7 +82,9 @@ walk_delivered w (messages.Propose p) = walk_command w (commands.Propose p)
 walk_delivered w (messages.Ack name launch serial i row) = walk_told w (messages.Ack name launch serial i row) (restarter w name)
 walk_delivered w (messages.Nack name launch serial i why row) = walk_told w (messages.Nack name launch serial i why row) (restarter w name)
 walk_delivered w messages.AskView = still refl refl tt
+walk_delivered w (messages.AskChange since) = still refl refl tt
 walk_delivered w (messages.View v) = still refl refl tt
+walk_delivered w (messages.Changes news) = still refl refl tt
 walk_delivered w (messages.Order o) = walk_told w (messages.Order o) (restarter w o.restarter)
 
 walk_sent : (w : World) (o : Option Message) → Walked w (delivered_if w o)

@@ -3,9 +3,10 @@ use Rattle.std.specs.Prelude.{not, List, [], ◌∷◌, ◌++◌, map, filter, r
 use Rattle.smf_contract.specs.Called.{called}
 use Rattle.smf_state.specs.declared.view.View.{View}
 use Rattle.smf_model.specs.Look.{installed}
-use Rattle.smf_engine.specs.Orders.{newer}
+use Rattle.smf_engine.specs.Orders.{newer, with_changes}
 use Rattle.smf_restarter.specs.Changes.{changed}
 use Rattle.smf_restarter.specs.Knowledge.{Knowledge, at_first}
+use Rattle.smf_wire.specs.declared.message.ViewChanges.{ViewChanges}
 use Rattle.smf_world.specs.declared.event.Event.{Event}
 use Rattle.smf_world.specs.declared.work.Becomes.{Becomes}
 use Rattle.smf_world.specs.declared.work.Becomes.TheVariants as becomes
@@ -32,13 +33,17 @@ abbrev pub seen_after : Bool → Option View → List View → Option View
 seen_after true seen vs = None
 seen_after false seen vs = newest seen vs
 
+abbrev pub with_patches : Option View → List ViewChanges → Option View
+with_patches seen [] = seen
+with_patches seen (c ∷ cs) = with_patches (with_changes seen c) cs
+
 unfoldable pub done : World → Work → World
 done w k =
     record {
       history = record w.history { past = k.command ++ w.history.past };
       now = installed w.now k.changes;
       restarters = all_becoming k.becomes w.restarters;
-      seen = seen_after k.forgets w.seen k.seen;
+      seen = with_patches (seen_after k.forgets w.seen k.seen) k.patches;
       sent = reverse k.messages ++ w.sent;
       trail = reverse k.items ++ w.trail;
       table = called w.table k.call;

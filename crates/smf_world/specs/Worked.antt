@@ -11,6 +11,7 @@ use Rattle.smf_contract.specs.Called.{emptied_by}
 use Rattle.smf_contract.specs.Calls.{adopted, next_contract}
 use Rattle.smf_contract.specs.Entries.{Contracts, statuses, reported as report_at}
 use Rattle.smf_state.specs.declared.step.Proposal.{Proposal}
+use Rattle.smf_state.specs.declared.view.ChangedItem.{ChangedItem}
 use Rattle.smf_model.specs.declared.change.Change.{Change}
 use Rattle.smf_model.specs.declared.command.Command.{Command}
 use Rattle.smf_model.specs.declared.command.Command.TheVariants as commands
@@ -22,7 +23,8 @@ use Rattle.smf_model.specs.Holdings.{Holdings}
 use Rattle.smf_model.specs.Look.{launch_of}
 use Rattle.smf_model.specs.Next.{asked}
 use Rattle.smf_model.specs.Shown.{rows_of, view}
-use Rattle.smf_engine.specs.Orders.{orders_seen}
+use Rattle.smf_changes.specs.Changes.{changes_since, recent}
+use Rattle.smf_engine.specs.Orders.{orders_seen, question}
 use Rattle.smf_wire.specs.declared.message.Known.{Known}
 use Rattle.smf_wire.specs.declared.message.Message.{Message}
 use Rattle.smf_wire.specs.declared.message.Message.TheVariants as messages
@@ -61,6 +63,7 @@ no_work =
       messages = [];
       becomes = [];
       seen = [];
+      patches = [];
       forgets = false;
       call = calls.Nothing;
     }
@@ -147,6 +150,14 @@ abbrev pub told : Message → Option Knowledge → Work
 told m None = no_work
 told m (Some k) = heard_by k (heard k m)
 
+-- the repository answers with what changed since a revision, or with the view
+abbrev pub changes_or_view : Holdings → ℕ → Option (ℕ × List ChangedItem) → Message
+changes_or_view h from None = messages.View (view h)
+changes_or_view h from (Some c) = messages.Changes (record { from = from; to = c.0; items = c.1 })
+
+abbrev pub answer_since : World → ℕ → Message
+answer_since w from = changes_or_view w.now from (changes_since (recent w.history.first w.history.past) w.now from)
+
 -- a message is delivered; one to an actor that is not launched does nothing
 unfoldable pub delivered : World → Message → Work
 delivered w (messages.Join name launch) = joined w name launch (launch == launch_of w.now name)
@@ -157,6 +168,8 @@ delivered w (messages.Nack name launch serial i why row) =
     told (messages.Nack name launch serial i why row) (restarter w name)
 delivered w messages.AskView = saying (messages.View (view w.now) ∷ [])
 delivered w (messages.View v) = record no_work { seen = v ∷ [] }
+delivered w (messages.AskChange from) = saying (answer_since w from ∷ [])
+delivered w (messages.Changes c) = record no_work { patches = c ∷ [] }
 delivered w (messages.Order o) = told (messages.Order o) (restarter w o.restarter)
 
 abbrev pub delivered_if : World → Option Message → Work
@@ -312,7 +325,7 @@ booted k = booted_as k k.reply
 unfoldable pub worked : World → Event → Work
 worked w (events.Deliver place) = delivered_if w (sent_at w place)
 worked w (events.Client edit) = commanded w (commands.Edit edit)
-worked w events.Ask = saying (messages.AskView ∷ [])
+worked w events.Ask = saying (question w.seen ∷ [])
 worked w events.Orders = saying (map (λ o. messages.Order o) (orders_seen w.seen))
 worked w (events.OwnTick name) = own_ticked w (restarter w name)
 worked w (events.Tick name n spawn) = ticked_for w n spawn (restarter w name)

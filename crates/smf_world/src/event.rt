@@ -27,7 +27,7 @@ pub enum Event {
     Deliver(u64),
     /// A client gives a command.
     Client(Edit),
-    /// The graph asks for the view.
+    /// The graph asks for the view, or for what changed since the one that it holds.
     Ask,
     /// The graph sends the orders of the view that it holds.
     Orders,

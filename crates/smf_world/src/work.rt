@@ -3,7 +3,7 @@ use smf_contract::ContractCall;
 use smf_fmri::{InstanceFmri, Items};
 use smf_model::{Command, Reply};
 use smf_state::View;
-use smf_wire::Message;
+use smf_wire::{Message, ViewChanges};
 
 /// What becomes of the restarters.
 #[derive(Drop)]
@@ -39,6 +39,8 @@ pub struct Work {
     pub becomes: Items<Becomes>,
     /// The views that are shown to the graph.
     pub seen: Items<View>,
+    /// What changed of the view that the graph holds.
+    pub patches: Items<ViewChanges>,
     /// Whether the graph lets go of the view that it holds.
     pub forgets: bool,
     /// What is asked of the contracts.

@@ -1,5 +1,5 @@
 use Rattle.std.proofs.Common.{refl}
-use Rattle.smf_machine.proofs.Turned.{answer_parts, single_kept}
+use Rattle.smf_machine.proofs.Turned.{answer_parts, at_most_none, single_kept}
 use Rattle.smf_machine.proofs.Worlds.{on_err, same_world}
 use Rattle.smf_machine.proofs.turning.spawn_with.Goals as goal
 use Rattle.smf_machine.specs.Install.{rest_with, work_with}
@@ -17,4 +17,4 @@ returns-in-Err-clause-err g c = λ h. same_world h h c.args.parts.now c.prepare_
 pub returns-in-Ok-clause-made : goal.returns-in-Ok-clause-made
 returns-in-Ok-clause-made g c = λ h.
     answer_parts h c.args.parts.now c.prepare_all.new.parts c.install_answer.new.parts (work_with c.args.works c.in-Ok.answer) (rest_with c.in_ok-rests.rests c.in-Ok.answer)
-    (c.in_ok-rests.ensures.rests c.in-Ok.answer) c.prepare_all.ensures.same c.install_answer.ensures (c.requires.plain c.in-Ok.answer) (c.requires.command c.in-Ok.answer)
+    (c.in_ok-rests.ensures.rests c.in-Ok.answer) c.prepare_all.ensures.same c.install_answer.ensures (c.requires.plain c.in-Ok.answer) (at_most_none _ (c.requires.command c.in-Ok.answer)) (c.requires.patches c.in-Ok.answer)

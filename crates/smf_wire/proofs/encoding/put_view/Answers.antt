@@ -7,5 +7,5 @@ use Rattle.smf_wire.proofs.encoding.put_view.Goals as goal
 pub returns-clause-text : goal.returns-clause-text
 returns-clause-text c =
     on_ok c.put_items.result
-    (λ more. printed_more item_text (codes "view") (decimal c.args.view.now.revision ∷ decimal (length c.args.view.now.items) ∷ []) c.args.view.now.items _ _ _ (rw (c.get.ensures.value, c.len.ensures) at c.in_ok-put_view_head.ensures) (rw c.as_slice.ensures at more))
+    (λ more. printed_more item_text (codes "view") (decimal c.args.view.now.revision ∷ decimal (length c.args.view.now.items) ∷ []) c.args.view.now.items _ _ _ (rw c.len.ensures at c.in_ok-put_view_head.ensures) (rw c.as_slice.ensures.all at more))
     c.put_items.ensures.text

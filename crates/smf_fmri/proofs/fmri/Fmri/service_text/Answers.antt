@@ -1,4 +1,4 @@
-use Rattle.std.proofs.Common.{◌≡◌, ◌++◌, ◌+◌, List, ℕ, Ok, length, sym, subst, ap, ◌∙◌}
+use Rattle.std.proofs.Common.{◌≡◌, ◌++◌, List, ℕ, Ok, sym, subst, ap, ◌∙◌}
 use Rattle.smf_fmri.specs.Name.{short, read}
 use Rattle.smf_fmri.specs.Matching.{service_of}
 use Rattle.smf_fmri.proofs.Services.{front_is, is_cut}

@@ -1,9 +1,10 @@
+use Rattle.std.proofs.Common.{refl}
 use Rattle.smf_machine.proofs.Booting.{installs_worked, passed_on}
 use Rattle.smf_machine.proofs.Turned.{memory_only, turn_made}
 use Rattle.smf_machine.proofs.parts.System.answer.Goals as goal
 
 pub take-requires : goal.take-requires
-take-requires g c = installs_worked _ _ _ c.requires c.in_ok-work.ensures
+take-requires g c = installs_worked _ _ _ c.requires refl c.in_ok-work.ensures
 
 pub returns-clause-ok : goal.returns-clause-ok
 returns-clause-ok g c = turn_made _ _ _ _ c.in_ok-work.ensures c.in_ok-take.ensures.ok.0

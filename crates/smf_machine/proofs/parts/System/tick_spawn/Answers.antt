@@ -2,7 +2,7 @@ use Rattle.std.proofs.Common.{refl}
 use Rattle.smf_world.specs.declared.event.Event.TheVariants as events
 use Rattle.smf_machine.proofs.Booting.{installs_worked}
 use Rattle.smf_machine.proofs.Covered.{covered_works}
-use Rattle.smf_machine.proofs.Turned.{answer_made, tick_plain}
+use Rattle.smf_machine.proofs.Turned.{answer_made, tick_plain, tick_silent}
 use Rattle.smf_machine.proofs.parts.System.tick_spawn.Goals as goal
 use Rattle.smf_machine.specs.Install.{work_with}
 
@@ -10,9 +10,13 @@ pub spawn_with-requires-clause-plain : goal.spawn_with-requires-clause-plain
 spawn_with-requires-clause-plain g c = λ any.
     tick_plain c.args.self.now (events.Tick c.args.name.now c.args.instance any) (work_with c.in_ok-works.works any) c.args.name.now c.args.instance any refl (c.in_ok-works.ensures any)
 
+pub spawn_with-requires-clause-command : goal.spawn_with-requires-clause-command
+spawn_with-requires-clause-command g c = λ any.
+    tick_silent c.args.self.now (events.Tick c.args.name.now c.args.instance any) (work_with c.in_ok-works.works any) c.args.name.now c.args.instance any refl (c.in_ok-works.ensures any)
+
 pub spawn_with-requires-clause-can : goal.spawn_with-requires-clause-can
 spawn_with-requires-clause-can g c = λ any.
-    installs_worked c.args.self.now (events.Tick c.args.name.now c.args.instance any) (work_with c.in_ok-works.works any) c.requires.reached (c.in_ok-works.ensures any)
+    installs_worked c.args.self.now (events.Tick c.args.name.now c.args.instance any) (work_with c.in_ok-works.works any) c.requires.reached refl (c.in_ok-works.ensures any)
 
 pub spawn_with-requires-clause-covered : goal.spawn_with-requires-clause-covered
 spawn_with-requires-clause-covered g c = covered_works c.args.self.now c.args.name.now c.args.instance c.args.wanted.now c.in_ok-works.works c.requires.asks c.in_ok-works.ensures

@@ -1,5 +1,0 @@
-use Rattle.smf_machine.proofs.Booting.{installs_worked}
-use Rattle.smf_machine.proofs.parts.System.happen.Goals as goal
-
-pub take-requires : goal.take-requires
-take-requires g c = installs_worked _ _ _ c.requires c.in_ok-work.ensures

@@ -1,0 +1,11 @@
+use Rattle.std.proofs.Common.{◌≡◌, ◌∙◌, Bool, false, Option, None, IfOk, subst, sym}
+use Rattle.smf_world.specs.Worked.{sent_at}
+use Rattle.smf_world.specs.World.{World}
+use Rattle.smf_machine.specs.Done.{changes_in}
+use Rattle.smf_machine.proofs.Delivered.{none_of}
+use Rattle.smf_machine.proofs.parts.System.take_changes.Goals as goal
+
+pub returns-in-Some-clause-none : goal.returns-in-Some-clause-none
+returns-in-Some-clause-none g c =
+    none_of c.args.self.now c.args.event.now c.in-Some.place c.take_changes_at.result (sym c.delivered_place.ensures ∙ c.in-Some.is)
+    (subst (λ (w : World). IfOk c.take_changes_at.result (λ (b : Bool). b ≡ false → changes_in (sent_at w c.in-Some.place) ≡ None)) c.self.view_is (c.take_changes_at.ensures.none c.self.inside.repository.held))
