@@ -60,14 +60,7 @@ fn session_answer(
     text: &str,
 ) -> bool {
     methods::answer(alloc, &session.group, out, call, text)
-        || dependencies::answer(
-            alloc,
-            &session.group,
-            session.views.items(),
-            out,
-            call,
-            text,
-        )
+        || dependencies::answer(alloc, &session.group, &mut session.views, out, call, text)
         || groups::answer(alloc, &mut session.group, out, call, text)
         || views::answer(alloc, &mut session.views, out, call, text)
         || repository::answer(alloc, &mut session.repository, out, call, text)

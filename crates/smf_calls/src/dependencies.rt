@@ -3,12 +3,13 @@
 use crate::answers::Answer;
 use crate::groups::alone;
 use crate::names::names_of;
+use crate::views::{Views, item_of};
 use crate::words::split_word;
 use smf_dep::{
     Dependency, DependencyFault, Finding, Graph, Grouping, RestartOn, Verdict, read_groups,
 };
-use smf_fmri::Items;
-use smf_state::ViewItem;
+use smf_fmri::{Items, Ordered, read_count};
+use smf_state::{ChangedItem, ViewItem};
 use smf_value::Group;
 use std::alloc::{AllocError, Global};
 
@@ -16,15 +17,19 @@ use std::alloc::{AllocError, Global};
 pub(crate) fn answer(
     alloc: Global,
     group: &Option<Group>,
-    items: &[ViewItem],
+    views: &mut Views,
     out: &mut Answer,
     call: &str,
     text: &str,
 ) -> bool {
     match call {
         "dependency" => read(alloc, group, out),
-        "verdict" => judged(alloc, items, out, text),
-        "found" => found(alloc, items, out),
+        "verdict" => judged(alloc, &views.items, out, text),
+        "found" => found(alloc, &views.items, out),
+        "keep" => keep(alloc, views, out),
+        "change" => change(alloc, views, out, text),
+        "gone" => lose(alloc, views, out, text),
+        "kept_verdict" => judged_again(alloc, &views.graph, out, text),
         _ => return false,
     }
     true
@@ -100,9 +105,9 @@ fn put_verdict(out: &mut Answer, verdict: Result<Verdict, AllocError>) {
 }
 
 /// `GROUPING ENTITY..`: how such a group stands over the view.
-fn judged(alloc: Global, items: &[ViewItem], out: &mut Answer, text: &str) {
+fn judged(alloc: Global, items: &Ordered<ViewItem>, out: &mut Answer, text: &str) {
     if let Some(dependency) = dependency_of(alloc, out, text)
-        && let Some(graph) = out.made(Graph::of(alloc, items))
+        && let Some(graph) = out.made(Graph::of(alloc, items.as_slice()))
     {
         put_verdict(out, graph.verdict(alloc, &dependency));
     }
@@ -117,12 +122,90 @@ fn put_finding(out: &mut Answer, finding: Finding) {
 
 /// What is found of each instance of the view: `u` where its groups can't be read, `m` where all are met, `s` where one
 /// stops it, `c` where it is on a cycle.
-fn found(alloc: Global, items: &[ViewItem], out: &mut Answer) {
-    if let Some(graph) = out.made(Graph::of(alloc, items)) {
+fn found(alloc: Global, items: &Ordered<ViewItem>, out: &mut Answer) {
+    if let Some(graph) = out.made(Graph::of(alloc, items.as_slice())) {
         for place in 0..items.len() {
             if let Some(finding) = graph.finding(place) {
                 put_finding(out, finding);
             }
         }
+    }
+}
+
+/// The graph of the view is kept from now on.
+fn keep(alloc: Global, views: &mut Views, out: &mut Answer) {
+    views.graph = out.made(Graph::of(alloc, views.items.as_slice()));
+    out.put("done");
+}
+
+/// Whether a graph that was kept finds what a new one does.
+fn are_same(kept: &Graph, new: &Graph, count: usize) -> bool {
+    for place in 0..count {
+        if kept.finding(place) != new.finding(place) {
+            return false;
+        }
+    }
+    true
+}
+
+/// Compares the graph that was kept with a new one.
+fn put_compared(alloc: Global, views: &Views, out: &mut Answer) {
+    if let Some(kept) = &views.graph
+        && let Some(new) = out.made(Graph::of(alloc, views.items.as_slice()))
+    {
+        let is_same = are_same(kept, &new, views.items.len());
+        out.put(if is_same { "same" } else { "other" });
+    }
+}
+
+fn update(alloc: Global, graph: &mut Option<Graph>, out: &mut Answer, changed: ChangedItem) {
+    let Some(graph) = graph else {
+        return;
+    };
+    if let Some(changes) = out.made(one(alloc, changed)) {
+        let _touched = out.made(graph.update(alloc, changes.as_slice()));
+    }
+}
+
+fn one(alloc: Global, changed: ChangedItem) -> Result<Items<ChangedItem>, AllocError> {
+    let mut all = Items::new(alloc);
+    all.push(changed)?;
+    Ok(all)
+}
+
+/// An item as `view_item` has it: the view gets it, and the graph that is kept. Says whether that finds what a new one does.
+fn change(alloc: Global, views: &mut Views, out: &mut Answer, text: &str) {
+    if let Some(item) = item_of(alloc, out, text)
+        && let Some(copy) = out.made(item.clone())
+        && out.made(views.items.put(copy)).is_some()
+    {
+        let changed = ChangedItem {
+            instance: item.instance,
+            item: Some(item),
+        };
+        update(alloc, &mut views.graph, out, changed);
+        put_compared(alloc, views, out);
+    }
+}
+
+/// `NUMBER`: the instance goes from the view and from the graph that is kept.
+fn lose(alloc: Global, views: &mut Views, out: &mut Answer, text: &str) {
+    if let Some(instance) = out.found(read_count(text)) {
+        views.items.remove(&instance);
+        let changed = ChangedItem {
+            instance,
+            item: None,
+        };
+        update(alloc, &mut views.graph, out, changed);
+        put_compared(alloc, views, out);
+    }
+}
+
+/// `GROUPING ENTITY..`: how such a group stands by the graph that is kept.
+fn judged_again(alloc: Global, graph: &Option<Graph>, out: &mut Answer, text: &str) {
+    if let Some(dependency) = dependency_of(alloc, out, text)
+        && let Some(graph) = graph
+    {
+        put_verdict(out, graph.verdict(alloc, &dependency));
     }
 }

@@ -9,6 +9,7 @@ use smf_admin::{
     Asked, Listing, Options, commands_of, no_match_text, options_of, several_text, svcadm_usage,
     svcs_text, svcs_usage,
 };
+use smf_dep::Graph;
 use smf_engine::{Engine, orders};
 use smf_fmri::{Bytes, Items, Number, Ordered, SharedOrdered, Table, Text, read_count};
 use smf_model::{Edit, InstanceName, Mark};
@@ -19,20 +20,19 @@ use std::alloc::{AllocError, Global};
 /// A view, and a graph that views are given to.
 #[derive(Drop)]
 pub(crate) struct Views {
-    items: Items<ViewItem>,
+    pub(crate) items: Ordered<ViewItem>,
+    /// The graph of these items, once it is kept.
+    pub(crate) graph: Option<Graph>,
     engine: Engine,
 }
 
 impl Views {
     pub(crate) fn new(alloc: Global) -> Views {
         Views {
-            items: Items::new(alloc),
+            items: Ordered::new(alloc),
+            graph: None,
             engine: Engine::new(),
         }
-    }
-
-    pub(crate) fn items(&self) -> &[ViewItem] {
-        self.items.as_slice()
     }
 }
 
@@ -46,7 +46,7 @@ pub(crate) fn answer(
 ) -> bool {
     match call {
         "view" => {
-            views.items = Items::new(alloc);
+            views.items = Ordered::new(alloc);
             out.put("done");
         }
         "view_item" => add_item(alloc, views, out, text),
@@ -59,7 +59,7 @@ pub(crate) fn answer(
         }
         "svcs" => svcs(alloc, views.items.as_slice(), out, text),
         "svcadm" => svcadm(alloc, views.items.as_slice(), out, text),
-        "orders" => all_orders(alloc, views.items.as_slice(), out, text),
+        "orders" => all_orders(alloc, &views.items, out, text),
         "decide" => decided(alloc, &views.engine, out, text),
         "decide_all" => put_orders(out, views.engine.decide_all(alloc)),
         _ => return false,
@@ -118,7 +118,7 @@ fn number_and_flag(number: &str, flag: &str) -> Option<(u64, bool)> {
 }
 
 /// `NUMBER NAME enabled|disabled STATE NEXT BODY`, and where it is another than svc.startd the restarter behind it.
-fn item_of(alloc: Global, out: &mut Answer, text: &str) -> Option<ViewItem> {
+pub(crate) fn item_of(alloc: Global, out: &mut Answer, text: &str) -> Option<ViewItem> {
     let (number, name, rest) = split_two(text);
     let (flag, state, rest) = split_two(rest);
     let (next, body, owner) = split_two(rest);
@@ -140,7 +140,7 @@ fn item_of(alloc: Global, out: &mut Answer, text: &str) -> Option<ViewItem> {
 
 fn add_item(alloc: Global, views: &mut Views, out: &mut Answer, text: &str) {
     if let Some(item) = item_of(alloc, out, text)
-        && out.made(views.items.push(item)).is_some()
+        && out.made(views.items.put(item)).is_some()
     {
         out.put("done");
     }
@@ -306,9 +306,9 @@ fn put_orders(out: &mut Answer, orders: Result<Items<Order>, AllocError>) {
 }
 
 /// `REVISION`: the orders for the instances of the view.
-fn all_orders(alloc: Global, items: &[ViewItem], out: &mut Answer, text: &str) {
+fn all_orders(alloc: Global, items: &Ordered<ViewItem>, out: &mut Answer, text: &str) {
     match read_count(text) {
-        Some(revision) => put_orders(out, orders(alloc, revision, items)),
+        Some(revision) => put_orders(out, orders(alloc, revision, items.as_slice())),
         None => out.bad_line(),
     }
 }
@@ -329,19 +329,10 @@ fn decided(alloc: Global, engine: &Engine, out: &mut Answer, text: &str) {
     }
 }
 
-/// A copy of the items, in number order.
-fn ordered(alloc: Global, items: &[ViewItem]) -> Result<Ordered<ViewItem>, AllocError> {
-    let mut all = Ordered::new(alloc);
-    for item in items {
-        all.put(item.clone()?)?;
-    }
-    Ok(all)
-}
-
 /// `REVISION`: gives a copy of the view to the graph, as that of this revision.
 fn take_view(alloc: Global, views: &mut Views, out: &mut Answer, text: &str) {
     if let Some(revision) = out.found(read_count(text))
-        && let Some(items) = out.made(ordered(alloc, views.items.as_slice()))
+        && let Some(items) = out.made(views.items.clone())
         && let Some(items) = out.made(SharedOrdered::of(alloc, items))
     {
         views.engine.take_view(alloc, View { revision, items });

@@ -3,4 +3,5 @@ pub mod Merging
 pub mod Patching
 pub mod Touching
 pub mod Entering
+pub mod Waiting
 pub mod Recording

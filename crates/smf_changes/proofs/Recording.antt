@@ -15,9 +15,10 @@ use Rattle.smf_model.proofs.Entries.{rises_bare}
 use Rattle.smf_changes.specs.declared.keeping.Kept.{Kept}
 use Rattle.smf_changes.specs.Candidates.{candidates, touched_among}
 use Rattle.smf_changes.specs.Changes.{as_it_is, by_itself, has_changed, most_recent, together, touched}
-use Rattle.smf_changes.specs.Keeping.{IsKept, lists_of}
+use Rattle.smf_changes.specs.Keeping.{AreUpTo, IsKept, lists_of, put_by_all}
 use Rattle.smf_changes.specs.Recorded.{IsShown, differs, newest, next_lists, old_items, touched_by, with_stale}
 use Rattle.smf_changes.proofs.Merging.{take_kept, untouched, view_from}
+use Rattle.smf_changes.proofs.Waiting.{changes_keep}
 use Rattle.smf_changes.proofs.Touching.{touched_found}
 
 -- ---- lists together
@@ -65,12 +66,12 @@ next_made h [] nss some = absurd (some refl)
 next_made h (c ∷ cs) nss some = refl
 
 -- the record of changes that were just made
-abbrev pub with_olds : Kept → List ChangedItem → Kept
-with_olds k olds = record k { stale = Some olds }
+abbrev pub with_olds : Kept → List ChangedItem → ℕ → Kept
+with_olds k olds top = record k { stale = Some olds; greatest_running = top }
 
-pub lists_then : (k : Kept) (h u : Holdings) (cs : List Change) (olds : List ChangedItem) → IsNumbered h → (cs ≡ [] → ⊥) → u ≡ installed h cs → olds ≡ old_items h cs → k.stale ≡ None
-    → lists_of (with_olds k olds) u ≡ next_lists h cs (lists_of k h)
-lists_then k h u cs olds numbered some made same settled =
+pub lists_then : (k : Kept) (h u : Holdings) (cs : List Change) (olds : List ChangedItem) (top : ℕ) → IsNumbered h → (cs ≡ [] → ⊥) → u ≡ installed h cs → olds ≡ old_items h cs → k.stale ≡ None
+    → lists_of (with_olds k olds top) u ≡ next_lists h cs (lists_of k h)
+lists_then k h u cs olds top numbered some made same settled =
     (λ j. take most_recent (touched_by (made j) (same j) ∷ k.recent.items))
     ∙ ap (λ (ns : List ℕ). take most_recent (ns ∷ k.recent.items)) (touched_then h cs numbered)
     ∙ next_made h cs k.recent.items some
@@ -83,9 +84,14 @@ shown_then (Some v) h cs numbered rises s =
     ap (λ (w : View). patched w u.revision (map (as_it_is u) (touched h u))) s
     ∙ view_from h u (touched h u) (rises_bare h.instances numbered.ordered.instances) rises (λ n none. untouched h u n rises none)
 
-pub kept_then : (k : Kept) (h u : Holdings) (cs : List Change) (olds : List ChangedItem) → IsNumbered h → IsNumbered (installed h cs) → u ≡ installed h cs → olds ≡ old_items h cs → k.stale ≡ None
-    → IsKept k h → IsKept (with_olds k olds) u
-kept_then k h u cs olds numbered after made same settled kept =
+runs_then : (most top : ℕ) (h u : Holdings) (cs : List Change) → top ≡ put_by_all most cs → u ≡ installed h cs → AreUpTo most h.instances → AreUpTo top u.instances
+runs_then most top h u cs is made runs =
+    let P : Holdings → Type 0 = λ w. AreUpTo (put_by_all most cs) w.instances in
+    subst (λ (n : ℕ). AreUpTo n u.instances) (sym is) (subst P (sym made) (changes_keep most h cs runs))
+
+pub kept_then : (k : Kept) (h u : Holdings) (cs : List Change) (olds : List ChangedItem) (top : ℕ) → top ≡ put_by_all k.greatest_running cs → IsNumbered h → IsNumbered (installed h cs) → u ≡ installed h cs → olds ≡ old_items h cs → k.stale ≡ None
+    → IsKept k h → IsKept (with_olds k olds top) u
+kept_then k h u cs olds top most numbered after made same settled kept =
     let before : IsShown k.shown None h = subst (λ (o : Option (List ChangedItem)). IsShown k.shown (newest h o) h) settled kept.shown in
     let rises : Rises by_instance (instances (installed h cs)) = rises_bare (installed h cs).instances after.ordered.instances in
     let later : IsShown k.shown (Some (touched h (installed h cs))) (installed h cs) = shown_then k.shown h cs numbered rises before in
@@ -93,6 +99,7 @@ kept_then k h u cs olds numbered after made same settled kept =
     record {
       few = kept.few;
       shown = subst (λ (ns : List ℕ). IsShown k.shown (Some ns) u) (sym ((λ j. touched_by (made j) (same j)) ∙ touched_then h cs numbered)) (subst P (sym made) later);
+      runs = runs_then k.greatest_running top h u cs most made kept.runs;
     }
 
 -- ---- no changes
@@ -115,13 +122,14 @@ nothing_recorded k h u cs none (Ok x) same = ap (lists_of k) same ∙ sym (ap (�
 
 -- ---- what is settled
 
-pub kept_as : (k l : Kept) (h : Holdings) → l.recent.items ≡ k.recent.items → l.stale ≡ k.stale → l.shown ≡ k.shown → IsKept k h → IsKept l h
-kept_as k l h lists stale shown kept =
+pub kept_as : (k l : Kept) (h : Holdings) → l.recent.items ≡ k.recent.items → l.stale ≡ k.stale → l.shown ≡ k.shown → l.greatest_running ≡ k.greatest_running → IsKept k h → IsKept l h
+kept_as k l h lists stale shown most kept =
     let S : List (List ℕ) → Type 0 = λ nss. length nss ≤ most_recent in
     let P : Option View → Type 0 = λ v. IsShown v (newest h k.stale) h in
     record {
       few = subst S (sym lists) kept.few;
       shown = subst (λ (o : Option (List ChangedItem)). IsShown l.shown (newest h o) h) (sym stale) (subst P (sym shown) kept.shown);
+      runs = subst (λ (n : ℕ). AreUpTo n h.instances) (sym most) kept.runs;
     }
 
 pub lists_as : (k l : Kept) (h : Holdings) → l.recent.items ≡ k.recent.items → l.stale ≡ k.stale → lists_of l h ≡ lists_of k h
@@ -141,14 +149,15 @@ no_more : (nss : List (List ℕ)) → length (take most_recent nss) ≤ most_rec
 no_more nss = let e = length-take most_recent nss in omega arith
 
 pub kept_settled : (k l : Kept) (h : Holdings) (olds : List ChangedItem) → k.stale ≡ Some olds → l.stale ≡ None → l.recent.items ≡ take most_recent (touched_by h olds ∷ k.recent.items)
-    → l.shown ≡ option_map (λ v. patched v h.revision (map (as_it_is h) (touched_by h olds))) k.shown → IsKept k h → IsKept l h
-kept_settled k l h olds was none lists shown kept =
+    → l.shown ≡ option_map (λ v. patched v h.revision (map (as_it_is h) (touched_by h olds))) k.shown → l.greatest_running ≡ k.greatest_running → IsKept k h → IsKept l h
+kept_settled k l h olds was none lists shown most kept =
     let S : List (List ℕ) → Type 0 = λ nss. length nss ≤ most_recent in
     let before : IsShown k.shown (Some (touched_by h olds)) h = subst (λ (o : Option (List ChangedItem)). IsShown k.shown (newest h o) h) was kept.shown in
     let P : Option View → Type 0 = λ v. IsShown v None h in
     record {
       few = subst S (sym lists) (no_more (touched_by h olds ∷ k.recent.items));
       shown = subst (λ (o : Option (List ChangedItem)). IsShown l.shown (newest h o) h) (sym none) (subst P (sym shown) (settled_shown k.shown (touched_by h olds) h before));
+      runs = subst (λ (n : ℕ). AreUpTo n h.instances) (sym most) kept.runs;
     }
 
 pub lists_settled : (k l : Kept) (h : Holdings) (olds : List ChangedItem) → k.stale ≡ Some olds → l.stale ≡ None → l.recent.items ≡ take most_recent (touched_by h olds ∷ k.recent.items) → lists_of l h ≡ lists_of k h

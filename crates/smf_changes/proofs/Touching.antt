@@ -1,12 +1,12 @@
 -- A view item stays as it is where no change names its instance, its service or its snapshot.
-use Rattle.std.proofs.Common.{◌≡◌, ℕ, ◌==◌, ◌&&◌, not, Bool, true, false, cond, List, [], ◌∷◌, ◌++◌, Option, Some, None, IsSome, is_none, option_map, unwrap_or, refl, sym, ap, ◌∙◌, subst}
+use Rattle.std.proofs.Common.{◌≡◌, inl, inr, ℕ, ◌==◌, ◌&&◌, not, Bool, true, false, cond, List, [], ◌∷◌, ◌++◌, Option, Some, None, IsSome, is_none, is_some, option_map, unwrap_or, refl, sym, ap, ◌∙◌, subst}
 use Rattle.std.specs.Prelude.{filter, flat_map}
 use Rattle.std.specs.List.{AllByRecursion}
 use Rattle.std.specs.Ordering.{is_eq, nat_cmp}
 use Rattle.std.proofs.lemmas.Bool.Decides.{Decides-eqb}
 use Rattle.std.proofs.lemmas.Map.Entries.{option_filter}
 use Rattle.smf_fmri.specs.ByKey.{Rises, has_key, lookup, put_all}
-use Rattle.smf_fmri.proofs.Lookups.{lookup_amend, lookup_put, lookup_without, same_key, with_answer_other}
+use Rattle.smf_fmri.proofs.Lookups.{key_cases, lookup_amend, lookup_put, lookup_without, same_key, with_answer_other}
 use Rattle.smf_fmri.proofs.Matching.{same_text}
 use Rattle.smf_fmri.proofs.Rising.{rises_filter, rises_put_all}
 use Rattle.smf_fmri.proofs.SameLists.{found_key, lookup_filter, same_lists}
@@ -29,7 +29,7 @@ use Rattle.smf_model.proofs.Entries.{lookup_bare, rises_bare}
 use Rattle.smf_model.proofs.LawLists.{differs, no_such, none_filter, none_put_new, some_filter, some_put_new, some_same}
 use Rattle.smf_model.proofs.Mapped.{lookup_map}
 use Rattle.smf_model.proofs.Order.{ordered_after}
-use Rattle.smf_changes.specs.Candidates.{AllRunTheirOwn, candidates, is_number, is_of, instances_named, named_by, numbers_where, of_service, running_by, runs_of, touched_among, waits_for}
+use Rattle.smf_changes.specs.Candidates.{AllRunTheirOwn, candidates, has_general, is_number, is_of, instances_named, lacks_general, named_by, numbers_where, of_general, of_service, running_by, runs_of, touched_among, waits_for}
 use Rattle.smf_changes.specs.Changes.{by_itself, has_changed, item, numbers, touched}
 use Rattle.smf_laws.specs.Consistent.{IsOwn}
 use Rattle.smf_changes.proofs.Merging.{item_at, misses_both, numbers_miss, numbers_rise}
@@ -76,10 +76,14 @@ fails_test test h n i rises there e = by (test i) refl
 abbrev entry : Holdings → ℕ → Option InstanceEntry
 entry h n = lookup by_entry h.instances n
 
+-- the group `general` of a service
+abbrev shown_of : Holdings → List ℕ → Option GroupRecord
+shown_of h name = group_in (groups_of h (owners.Service name)) general
+
 -- another value holds all that the item of number n shows
 record Alike (h : Holdings) (n : ℕ) (k : Holdings) : Type 0 where
   held : entry k n ≡ entry h n
-  service : (e : InstanceEntry) → entry h n ≡ Some e → groups_of k (service_owner e.instance) ≡ groups_of h (service_owner e.instance)
+  service : (e : InstanceEntry) → entry h n ≡ Some e → shown_of k (service_fmri e.instance.name) ≡ shown_of h (service_fmri e.instance.name)
   running : (e : InstanceEntry) → entry h n ≡ Some e → named_snapshot k e.instance.row.running ≡ named_snapshot h e.instance.row.running
 
 -- a change leaves a snapshot that is there, and does not add one that is waited for
@@ -130,33 +134,80 @@ other_service h n e name rises there m = differs by_service name (service_fmri e
     clash : true ≡ false → ⊥
     clash e = cc
 
-groups_in : (x y : Holdings) (name : List ℕ) → service x name ≡ service y name → groups_of x (owners.Service name) ≡ groups_of y (owners.Service name)
-unfolding groups_of
-groups_in x y name e = ap (λ (o : Option Service). unwrap_or (option_map (λ (s : Service). s.groups) o) []) e
+-- the group `general` of a service that may be there
+abbrev general_in : Option Service → Option GroupRecord
+general_in o = group_in (unwrap_or (option_map (λ (s : Service). s.groups) o) []) general
 
-service_stays : (h x : Holdings) (n : ℕ) (c : Change) (e : InstanceEntry) → Rises by_instance (instances h) → entry h n ≡ Some e → Misses (named_by h c) n
-    → service (changed x c) (service_fmri e.instance.name) ≡ service x (service_fmri e.instance.name)
-service_stays h x n (AddService s) e rises there m =
-    lookup_put by_service s x.services (service_fmri e.instance.name)
-    ∙ with_answer_other by_service (lookup by_service x.services) s.name (Some s) (service_fmri e.instance.name) (other_service h n e s.name rises there m)
-service_stays h x n (DropService name) e rises there m =
-    lookup_without by_service name x.services (service_fmri e.instance.name)
-    ∙ with_answer_other by_service (lookup by_service x.services) name None (service_fmri e.instance.name) (other_service h n e name rises there m)
-service_stays h x n (PutGroups (owners.Service name) gs) e rises there m =
-    lookup_amend by_service name (λ s. record s { groups = gs }) x.services (service_fmri e.instance.name) (λ s. refl)
-    ∙ with_answer_other by_service (lookup by_service x.services) name (option_map (λ (s : Service). record s { groups = gs }) (lookup by_service x.services (service_fmri e.instance.name))) (service_fmri e.instance.name) (other_service h n e name rises there m)
-service_stays h x n (PutGroups (owners.Instance j) gs) e rises there m = refl
-service_stays h x n (AddInstance z) e rises there m = refl
-service_stays h x n (PutInstance i) e rises there m = refl
-service_stays h x n (DropInstance j) e rises there m = refl
-service_stays h x n (PutName z) e rises there m = refl
-service_stays h x n (DropName name) e rises there m = refl
-service_stays h x n (AddSnapshot s) e rises there m = refl
-service_stays h x n (DropSnapshots j) e rises there m = refl
-service_stays h x n (PutLaunch l) e rises there m = refl
-service_stays h x n (NextInstance j) e rises there m = refl
-service_stays h x n (NextSnapshot j) e rises there m = refl
-service_stays h x n (SetRevision j) e rises there m = refl
+shown_in : (h : Holdings) (name : List ℕ) → shown_of h name ≡ general_in (service h name)
+unfolding groups_of
+shown_in h name = refl
+
+none_shown : (o : Option GroupRecord) → not (is_some o) ≡ true → o ≡ None
+none_shown None e = refl
+none_shown (Some g) e = absurd cc
+
+both_lack : (a b : Bool) → (a && b) ≡ true → (a ≡ true) × (b ≡ true)
+both_lack true b e = (refl, e)
+both_lack false b e = absurd cc
+
+either : (b : Bool) (a o : Option Service) (g : Option GroupRecord) → general_in a ≡ g → general_in o ≡ g → general_in (cond b a o) ≡ g
+either true a o g e f = e
+either false a o g e f = f
+
+-- after the groups of a service are others, the group `general` that an instance sees stays: the service is another one,
+-- or neither has the group
+put_shown : (h x : Holdings) (n : ℕ) (e : InstanceEntry) (name : List ℕ) (gs : List GroupRecord) (a : Option Service) → Rises by_instance (instances h) → entry h n ≡ Some e
+    → Misses (of_general (lacks_general h name gs) h name) n → (group_in gs general ≡ None → general_in a ≡ None)
+    → general_in (service x (service_fmri e.instance.name)) ≡ shown_of h (service_fmri e.instance.name)
+    → general_in (cond (is_eq (by_service.cmp name (service_fmri e.instance.name))) a (service x (service_fmri e.instance.name))) ≡ shown_of h (service_fmri e.instance.name)
+put_shown h x n e name gs a rises there m put alike = by (lacks_general h name gs) refl m
+  where
+    own : List ℕ
+    own = service_fmri e.instance.name
+
+    by : (b : Bool) → lacks_general h name gs ≡ b → Misses (of_general b h name) n → general_in (cond (is_eq (by_service.cmp name own)) a (service x own)) ≡ shown_of h own
+    by true l f =
+        let both = both_lack (not (has_general gs)) (not (has_general (groups_of h (owners.Service name)))) l in
+        elim (key_cases by_service name own (is_eq (by_service.cmp name own)) refl) [
+          | inl same ↦ either (is_eq (by_service.cmp name own)) a (service x own) (shown_of h own) (put (none_shown (group_in gs general) both.0) ∙ sym (none_shown (shown_of h name) both.1) ∙ ap (shown_of h) same) alike
+          | inr apart ↦ ap (λ (t : Bool). general_in (cond t a (service x own))) apart ∙ alike
+        ]
+    by false l f = ap (λ (t : Bool). general_in (cond t a (service x own))) (other_service h n e name rises there f) ∙ alike
+
+put_none : (o : Option Service) (gs : List GroupRecord) → group_in gs general ≡ None → general_in (option_map (λ (s : Service). record s { groups = gs }) o) ≡ None
+put_none None gs e = refl
+put_none (Some s) gs e = e
+
+general_stays : (h x : Holdings) (n : ℕ) (c : Change) (e : InstanceEntry) → Rises by_instance (instances h) → entry h n ≡ Some e → Misses (named_by h c) n
+    → shown_of x (service_fmri e.instance.name) ≡ shown_of h (service_fmri e.instance.name) → shown_of (changed x c) (service_fmri e.instance.name) ≡ shown_of h (service_fmri e.instance.name)
+general_stays h x n c e rises there m alike = by c m
+  where
+    own : List ℕ
+    own = service_fmri e.instance.name
+
+    before : general_in (service x own) ≡ shown_of h own
+    before = sym (shown_in x own) ∙ alike
+
+    by : (c : Change) → Misses (named_by h c) n → shown_of (changed x c) own ≡ shown_of h own
+    by (AddService s) m = shown_in (changed x (AddService s)) own ∙ ap general_in (lookup_put by_service s x.services own)
+        ∙ put_shown h x n e s.name s.groups (Some s) rises there m (λ none. none) before
+    by (DropService name) m = shown_in (changed x (DropService name)) own ∙ ap general_in (lookup_without by_service name x.services own)
+        ∙ put_shown h x n e name [] None rises there m (λ none. refl) before
+    by (PutGroups (owners.Service name) gs) m =
+        shown_in (changed x (PutGroups (owners.Service name) gs)) own ∙ ap general_in (lookup_amend by_service name (λ s. record s { groups = gs }) x.services own (λ s. refl))
+        ∙ put_shown h x n e name gs (option_map (λ (s : Service). record s { groups = gs }) (service x own)) rises there m (put_none (service x own) gs) before
+    by (PutGroups (owners.Instance j) gs) m = shown_in (changed x (PutGroups (owners.Instance j) gs)) own ∙ before
+    by (AddInstance z) m = shown_in (changed x (AddInstance z)) own ∙ before
+    by (PutInstance i) m = shown_in (changed x (PutInstance i)) own ∙ before
+    by (DropInstance j) m = shown_in (changed x (DropInstance j)) own ∙ before
+    by (PutName z) m = shown_in (changed x (PutName z)) own ∙ before
+    by (DropName name) m = shown_in (changed x (DropName name)) own ∙ before
+    by (AddSnapshot s) m = shown_in (changed x (AddSnapshot s)) own ∙ before
+    by (DropSnapshots j) m = shown_in (changed x (DropSnapshots j)) own ∙ before
+    by (PutLaunch l) m = shown_in (changed x (PutLaunch l)) own ∙ before
+    by (NextInstance j) m = shown_in (changed x (NextInstance j)) own ∙ before
+    by (NextSnapshot j) m = shown_in (changed x (NextSnapshot j)) own ∙ before
+    by (SetRevision j) m = shown_in (changed x (SetRevision j)) own ∙ before
 
 -- ---- the snapshot
 
@@ -203,7 +254,7 @@ own_stays h x (Some m) c e l = snapshot_stays h x m c e l
 alike_step : (h x : Holdings) (n : ℕ) (c : Change) → Rises by_instance (instances h) → Misses (named_by h c) n → LeavesRunning h n c → Alike h n x → Alike h n (changed x c)
 alike_step h x n c rises m l a = record {
   held = entry_stays h x n c m ∙ a.held;
-  service = λ e there. groups_in (changed x c) x (service_fmri e.instance.name) (service_stays h x n c e rises there m) ∙ a.service e there;
+  service = λ e there. general_stays h x n c e rises there m (a.service e there);
   running = λ e there. own_stays h x e.instance.row.running c (a.running e there) (l e there);
 }
 
@@ -214,18 +265,18 @@ alike_after h x n (c ∷ cs) rises m l a = alike_after h (changed x c) n cs rise
 
 -- ---- the item
 
-abbrev shown_by : Instance → List GroupRecord → List GroupRecord → Option Snapshot → ViewItem
+abbrev shown_by : Instance → List GroupRecord → Option GroupRecord → Option Snapshot → ViewItem
 shown_by i own services s =
     record {
       instance = i.number;
       name = i.name;
-      enabled = is_true (enabled_property (group_in own general_ovr) (group_in own general) (group_in services general));
-      readable = is_readable (setting_by (group_in own general) (group_in services general));
-      row = (owned_by_setting (i.row.number == 0) (setting_by (group_in own general) (group_in services general)) i).row;
+      enabled = is_true (enabled_property (group_in own general_ovr) (group_in own general) services);
+      readable = is_readable (setting_by (group_in own general) services);
+      row = (owned_by_setting (i.row.number == 0) (setting_by (group_in own general) services) i).row;
       body = option_map body_of s;
     }
 
-shown_is : (h : Holdings) (i : Instance) → view_item h i ≡ shown_by i (groups_of h (owners.Instance i.number)) (groups_of h (service_owner i)) (named_snapshot h i.row.running)
+shown_is : (h : Holdings) (i : Instance) → view_item h i ≡ shown_by i (groups_of h (owners.Instance i.number)) (group_in (groups_of h (service_owner i)) general) (named_snapshot h i.row.running)
 unfolding enabled setting current
 shown_is h i = refl
 

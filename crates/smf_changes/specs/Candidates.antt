@@ -1,5 +1,5 @@
 -- The instances whose view items a list of changes may touch.
-use Rattle.std.specs.Prelude.{◌≡◌, ℕ, ◌==◌, ◌&&◌, List, [], ◌∷◌, ◌++◌, map, filter, flat_map, Bool, false, Option, Some, None, is_none}
+use Rattle.std.specs.Prelude.{◌≡◌, ℕ, ◌==◌, ◌&&◌, not, List, [], ◌∷◌, ◌++◌, map, filter, flat_map, Bool, true, false, Option, Some, None, is_none, is_some}
 use Rattle.smf_fmri.specs.ByKey.{put_all}
 use Rattle.smf_model.specs.declared.change.Change.{Change}
 use Rattle.smf_model.specs.declared.change.Change.TheVariants.{AddInstance, AddService, AddSnapshot, DropInstance}
@@ -9,8 +9,10 @@ use Rattle.smf_model.specs.declared.held.Owner.{Owner}
 use Rattle.smf_model.specs.declared.held.Owner.TheVariants as owners
 use Rattle.smf_model.specs.declared.held.Snapshot.{Snapshot}
 use Rattle.smf_model.specs.Holdings.{Holdings}
-use Rattle.smf_model.specs.Look.{instance, instances, is_snapshot_of, snapshot}
+use Rattle.smf_model.specs.Look.{group_in, groups_of, instance, instances, is_snapshot_of, snapshot}
 use Rattle.smf_model.specs.Next.{is_instance_of, named_snapshot}
+use Rattle.smf_model.specs.Setting.{general}
+use Rattle.smf_value.specs.Groups.{GroupRecord}
 use Rattle.smf_changes.specs.Changes.{by_itself, has_changed}
 use Rattle.smf_laws.specs.Consistent.{IsOwn}
 
@@ -21,18 +23,30 @@ numbers_where test h = map (λ i. i.number) (filter test (instances h))
 abbrev pub of_service : Holdings → List ℕ → List ℕ
 of_service h name = numbers_where (is_instance_of name) h
 
-abbrev pub of_owner : Holdings → Owner → List ℕ
-of_owner h (owners.Service name) = of_service h name
-of_owner h (owners.Instance n) = n ∷ []
+abbrev pub has_general : List GroupRecord → Bool
+has_general gs = is_some (group_in gs general)
 
--- the instance that a change names, or those of the service whose groups it puts or drops
+-- neither these groups nor those of a service have a group `general` among them
+abbrev pub lacks_general : Holdings → List ℕ → List GroupRecord → Bool
+lacks_general h name gs = not (has_general gs) && not (has_general (groups_of h (owners.Service name)))
+
+-- the instances of a service, if they see its groups change: a view shows `general` alone of these
+abbrev pub of_general : Bool → Holdings → List ℕ → List ℕ
+of_general true h name = []
+of_general false h name = of_service h name
+
+abbrev pub of_owner : Holdings → Owner → List GroupRecord → List ℕ
+of_owner h (owners.Service name) gs = of_general (lacks_general h name gs) h name
+of_owner h (owners.Instance n) gs = n ∷ []
+
+-- the instance that a change names, or those of the service whose group `general` it may put or drop
 abbrev pub named_by : Holdings → Change → List ℕ
-named_by h (AddService s) = of_service h s.name
-named_by h (DropService name) = of_service h name
+named_by h (AddService s) = of_general (lacks_general h s.name s.groups) h s.name
+named_by h (DropService name) = of_general (lacks_general h name []) h name
 named_by h (AddInstance e) = e.instance.number ∷ []
 named_by h (PutInstance i) = i.number ∷ []
 named_by h (DropInstance n) = n ∷ []
-named_by h (PutGroups owner gs) = of_owner h owner
+named_by h (PutGroups owner gs) = of_owner h owner gs
 named_by h (DropSnapshots n) = n ∷ []
 named_by h _ = []
 

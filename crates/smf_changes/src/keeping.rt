@@ -3,11 +3,12 @@ ghost use Rattle.std.specs.Prelude.{◌≡◌, ◌∷◌, [], ◌-◌, ◌<◌, 
 ghost use Rattle.std.specs.Prelude.{IfOk, OnErr, OnOk, Some, None, vec_len, vec_capacity};
 ghost use Rattle.smf_state.specs.Patched.{patched};
 ghost use Rattle.smf_changes.specs.Changes.{as_it_is, changes_since, most_recent};
-ghost use Rattle.smf_changes.specs.Keeping.{IsKept, lists_of};
+ghost use Rattle.smf_changes.specs.Keeping.{AreUpTo, IsKept, lists_of};
 ghost use Rattle.smf_changes.specs.Recorded.{newest, old_items, settled_view, with_stale};
 
 use crate::candidates::all_candidates;
 use crate::lists::{items_of, newest_together, touched_by};
+use crate::running::greatest_of;
 use smf_fmri::Items;
 use smf_model::{Change, Journal, Plain};
 use smf_state::{ChangedItem, HeldView};
@@ -25,6 +26,8 @@ pub(crate) struct Kept {
     pub(crate) stale: Option<Items<ChangedItem>>,
     /// The view before that commit, if it was asked to be kept.
     pub(crate) shown: Option<HeldView>,
+    /// No row names a snapshot above it as `running`, so no row waits for one above it.
+    pub(crate) greatest_running: u64,
 }
 
 /// Brings a view that is kept up to date. If memory runs out it is as it was.
@@ -69,15 +72,18 @@ fn lists_since(revision: u64, from: u64, kept: usize) -> Option<usize>
 
 impl Kept {
     /// Nothing is recorded.
-    pub(crate) fn new(alloc: Global) -> Kept
+    pub(crate) fn over<J: Journal>(alloc: Global, plain: &Plain<J>) -> Kept
         ensures recent { result.recent.items ≡ [] }
         ensures stale { result.stale ≡ None }
         ensures shown { result.shown ≡ None }
+        ensures runs { AreUpTo result.greatest_running plain.now.held.instances }
     {
+        let greatest_running = greatest_of(plain.entries());
         Kept {
             recent: Vec::new(alloc),
             stale: None,
             shown: None,
+            greatest_running,
         }
     }
 
@@ -113,7 +119,7 @@ impl Kept {
         ensures olds { IfOk result (λ olds. olds ≡ old_items plain.now.held changes.now) }
     {
         self.settle(alloc, plain)?;
-        old_items(alloc, plain, changes)
+        old_items(alloc, plain, self.greatest_running, changes)
     }
 
     /// Keeps the view, brought up to date.
@@ -198,10 +204,12 @@ fn lists_kept(newest: &Option<Items<u64>>, older: &[Items<u64>]) -> usize
 fn old_items<J: Journal>(
     alloc: Global,
     plain: &Plain<J>,
+    top: u64,
     changes: &[Change],
 ) -> Result<Items<ChangedItem>, AllocError>
+    requires { AreUpTo top plain.now.held.instances }
     ensures { IfOk result (λ olds. olds ≡ old_items plain.now.held changes.now) }
 {
-    let numbers = all_candidates(alloc, plain, changes)?;
+    let numbers = all_candidates(alloc, plain, top, changes)?;
     items_of(alloc, plain, numbers.as_slice())
 }

@@ -9,6 +9,7 @@ ghost use Rattle.smf_changes.specs.Keeping.{IsKept, lists_of};
 ghost use Rattle.smf_changes.specs.Recorded.{next_lists};
 
 use crate::keeping::Kept;
+use crate::running::put_by_all;
 use smf_fmri::Items;
 use smf_model::{Change, Journal, Plain, RepoFault};
 use smf_state::{ChangedItem, HeldView};
@@ -41,11 +42,8 @@ impl<J: Journal> Repository<J> {
         ensures journal { result.journal ≡ plain.journal }
         ensures recent { result.recent ≡ [] }
     {
-        Repository {
-            alloc,
-            plain,
-            kept: Kept::new(alloc),
-        }
+        let kept = Kept::over(alloc, &plain);
+        Repository { alloc, plain, kept }
     }
 
     /// The repository, to be read.
@@ -131,7 +129,9 @@ fn commit<J: Journal>(
     }
     plain.see_standing();
     let olds = kept.prepare(alloc, plain, changes.as_slice())?;
+    let top = put_by_all(kept.greatest_running, changes.as_slice());
     plain.commit(changes)?;
     kept.stale = Some(olds);
+    kept.greatest_running = top;
     Ok(())
 }

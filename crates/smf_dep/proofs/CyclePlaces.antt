@@ -15,7 +15,7 @@ use Rattle.smf_dep.specs.declared.member.Member.{Member}
 use Rattle.smf_dep.specs.Cycles.{IsAmong, IsPath, asked_for, asks_for, cites, excludes, on_cycle}
 use Rattle.smf_dep.specs.Places.{AreCycles, edges_in, edges_of, flag_at, joined, link_of, links_of, node_of, nodes_of, places, places_from}
 use Rattle.smf_dep.specs.Verdicts.{is_cited}
-use Rattle.smf_dep.proofs.Flagged.{any_mapped}
+use Rattle.smf_dep.proofs.Looked.{any_mapped}
 use Rattle.smf_dep.proofs.LawCycles.{found, listed}
 
 -- ---- places of what an entity stands for

@@ -4,3 +4,6 @@ pub mod Members
 pub mod Verdicts
 pub mod Cycles
 pub mod Places
+pub mod Parking
+pub mod Stamps
+pub mod Updates

@@ -1,7 +1,7 @@
 -- What a verdict looks at: of each instance its state, its revisions, and what it depends on.
 use Rattle.std.specs.Prelude.{◌≡◌, ℕ, nat_eq, List, [], ◌∷◌, ◌++◌, map, Bool, if◌then◌else◌, Option, Some, None, Result, Ok, Err}
 use Rattle.std.specs.Cmp.Lexicographic.{pointwise}
-use Rattle.smf_fmri.specs.ByKey.{put_all}
+use Rattle.smf_fmri.specs.ByKey.{By, by_number, put_all}
 use Rattle.smf_state.specs.declared.row.Row.{Row}
 use Rattle.smf_state.specs.declared.view.ViewItem.{ViewItem}
 use Rattle.smf_value.specs.declared.fault.BodyFault.{BodyFault}
@@ -105,3 +105,6 @@ pub record HasNumbersOf (r : Row) (m : Member) : Type 0 where
 
 abbrev pub members : List ViewItem → List Member
 members items = map member_of items
+
+abbrev pub by_member : By Member ℕ
+by_member = by_number (λ m. m.instance)

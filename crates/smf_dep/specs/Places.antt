@@ -1,17 +1,18 @@
 -- Dependencies by the places of instances in a list, so that a name is looked for once.
-use Rattle.std.specs.Prelude.{◌≡◌, ℕ, zero, suc, ◌+◌, List, [], ◌∷◌, ◌++◌, map, Bool, false, not, ◌&&◌, ◌||◌, if◌then◌else◌, Option, Some, None, unwrap_or, is_some, slice_get}
-use Rattle.std.specs.List.{list_all, list_any}
+use Rattle.std.specs.Prelude.{◌≡◌, ℕ, ◌+◌, List, [], ◌∷◌, ◌++◌, map, Bool, false, ◌&&◌, if◌then◌else◌, Option, Some, None, unwrap_or, is_some, slice_get}
+use Rattle.std.specs.List.{list_any}
 use Rattle.std.specs.Option.{option_map_or}
 use Rattle.smf_dep.specs.declared.dependency.Dependency.{Dependency}
-use Rattle.smf_dep.specs.declared.dependency.Grouping.{Grouping}
-use Rattle.smf_dep.specs.declared.dependency.Grouping.TheVariants.{RequireAll, RequireAny, OptionalAll, ExcludeAll}
+use Rattle.smf_fmri.specs.ByKey.{Rises}
 use Rattle.smf_dep.specs.declared.graph.Finding.{Finding}
 use Rattle.smf_dep.specs.declared.link.Link.{Link}
 use Rattle.smf_dep.specs.declared.link.Node.{Node}
 use Rattle.smf_dep.specs.declared.link.Flags.{Flags}
 use Rattle.smf_dep.specs.declared.member.Member.{Member}
 use Rattle.smf_dep.specs.Cycles.{excludes, on_cycle}
-use Rattle.smf_dep.specs.Verdicts.{all_met, any_must_stop, is_cited, is_idle, is_off, is_parked, is_running, is_waiting, stops_by}
+use Rattle.smf_dep.specs.Members.{by_member}
+use Rattle.smf_dep.specs.Parking.{met_at}
+use Rattle.smf_dep.specs.Verdicts.{all_met, any_must_stop, is_cited, is_idle, is_off, is_running, is_waiting, stops_by}
 
 -- the places, counted from at, of the instances that an entity stands for
 abbrev pub places_from : ℕ → List ℕ → List Member → List ℕ
@@ -28,9 +29,13 @@ abbrev pub links_of : List Member → Option (List Dependency) → List Link
 links_of ms None = []
 links_of ms (Some ds) = map (link_of ms) ds
 
+-- what an instance is by its state
+abbrev pub flags_of : Member → Flags
+flags_of m = record { running = is_running m; off = is_off m; idle = is_idle m; waiting = is_waiting m }
+
 -- an instance with what it depends on by places, none where a group can't be read
 abbrev pub node_of : List Member → Member → Node
-node_of ms m = record { idle = is_idle m; waiting = is_waiting m; readable = is_some m.dependencies; base = m.base; links = links_of ms m.dependencies }
+node_of ms m = record { flags = flags_of m; links = links_of ms m.dependencies }
 
 abbrev pub nodes_of : List Member → List Node
 nodes_of ms = map (node_of ms) ms
@@ -43,53 +48,9 @@ all_links nodes = map (λ (n : Node). n.links) nodes
 abbrev pub links_among : List Member → List Member → List (List Link)
 links_among all ms = map (λ (m : Member). links_of all m.dependencies) ms
 
--- ---- flags, one for each instance
-
+-- one of a list of flags, one for each instance
 abbrev pub flag_at : List Bool → ℕ → Bool
 flag_at flags place = unwrap_or (slice_get flags place) false
-
-abbrev pub has_flag : List Bool → List ℕ → Bool
-has_flag flags ps = list_any (flag_at flags) ps
-
-abbrev pub has_flags : List Bool → List ℕ → Bool
-has_flags flags ps = list_all (flag_at flags) ps
-
--- what the instances are by their states
-abbrev pub flags_of : List Member → Flags
-flags_of ms = record { running = map is_running ms; off = map is_off ms }
-
-abbrev pub blocks_at : Grouping → Flags → List Bool → List (List ℕ) → Bool
-blocks_at RequireAll f parked es = not (list_all (has_flag f.running) es) && list_any (has_flags parked) es
-blocks_at RequireAny f parked es = not (list_any (has_flag f.running) es) && list_all (has_flags parked) es
-blocks_at OptionalAll f parked es = false
-blocks_at ExcludeAll f parked es = not (list_all (has_flags f.off) es) && list_any (has_flag f.running) es
-
-abbrev pub is_link_blocked : Flags → List Bool → Link → Bool
-is_link_blocked f parked l = blocks_at l.grouping f parked l.cited
-
-abbrev pub all_settled : Flags → List Bool → List ℕ → Bool
-all_settled f parked ps = list_all (λ p. flag_at f.running p || flag_at parked p) ps
-
-abbrev pub meets_at : Grouping → Flags → List Bool → List (List ℕ) → Bool
-meets_at RequireAll f parked es = list_all (has_flag f.running) es
-meets_at RequireAny f parked es = list_any (has_flag f.running) es
-meets_at OptionalAll f parked es = list_all (all_settled f parked) es
-meets_at ExcludeAll f parked es = list_all (has_flags f.off) es
-
-abbrev pub is_link_met : Flags → List Bool → Link → Bool
-is_link_met f parked l = meets_at l.grouping f parked l.cited
-
--- ---- rounds
-
-abbrev pub node_parked : Flags → List Bool → Node → Bool
-node_parked f parked n = n.idle || (n.waiting && list_any (is_link_blocked f parked) n.links)
-
-abbrev pub round : Flags → List Node → List Bool → List Bool
-round f nodes parked = map (node_parked f parked) nodes
-
-unfoldable pub rounds : ℕ → Flags → List Node → List Bool
-rounds zero f nodes = map (λ n. n.idle) nodes
-rounds (suc k) f nodes = round f nodes (rounds k f nodes)
 
 -- ---- what stops a running instance, by places
 
@@ -98,6 +59,10 @@ event_at is_event ms place = option_map_or is_event (slice_get ms place) false
 
 abbrev pub link_stops : List Member → ℕ → Link → Bool
 link_stops ms base l = list_any (λ ps. list_any (event_at (stops_by l.grouping l.restart_on base) ms) ps) l.cited
+
+abbrev pub node_stops : List Member → ℕ → Option Node → Bool
+node_stops ms base None = false
+node_stops ms base (Some n) = list_any (link_stops ms base) n.links
 
 -- ---- edges
 
@@ -129,23 +94,15 @@ finding_of ms m =
       on_cycle = on_cycle ms m;
     }
 
-abbrev pub findings : List Member → List Finding
-findings ms = map (finding_of ms) ms
-
 -- the same by places
-abbrev pub finding_at : List Member → Flags → List Bool → Bool → Node → Finding
-finding_at ms f parked on_cycle n =
+abbrev pub finding_at : List Member → List Node → List Bool → Member → ℕ → Finding
+finding_at ms ns cycles m place =
     record {
-      readable = n.readable;
-      all_met = n.readable && list_all (is_link_met f parked) n.links;
-      must_stop = list_any (link_stops ms n.base) n.links;
-      on_cycle = on_cycle;
+      readable = is_some m.dependencies;
+      all_met = is_some m.dependencies && met_at ns place;
+      must_stop = node_stops ms m.base (slice_get ns place);
+      on_cycle = flag_at cycles place;
     }
-
-abbrev pub findings_from : ℕ → List Member → Flags → List Bool → List Bool → List Node → List Finding
-findings_from at ms f parked cycles [] = []
-findings_from at ms f parked cycles (n ∷ ns) =
-    finding_at ms f parked (flag_at cycles at) n ∷ findings_from (at + 1) ms f parked cycles ns
 
 -- the same of all instances with these edges
 pub record AreCyclesOf (nodes : List Node) (flags : List Bool) : Type 0 where
@@ -158,9 +115,7 @@ IsBeginning (x ∷ xs) [] = ⊥
 IsBeginning (x ∷ xs) (y ∷ ys) = (x ≡ y) × IsBeginning xs ys
 
 -- what a graph keeps beside its instances
-pub record IsGraph (ms : List Member) (ns : List Node) (cycles : List Bool) (fs : List Finding) (flags : Flags) (parked : List Bool) : Type 0 where
+pub record IsGraph (ms : List Member) (ns : List Node) (cycles : List Bool) : Type 0 where
   pub linked : ns ≡ nodes_of ms
   pub turning : AreCyclesOf ns cycles
-  pub found : fs ≡ findings ms
-  pub states : flags ≡ flags_of ms
-  pub rounds : parked ≡ map (is_parked ms) ms
+  pub rises : Rises by_member ms

@@ -1,18 +1,22 @@
-ghost use Rattle.std.specs.List.{AllZip, list_all, list_any};
+ghost use Rattle.std.specs.List.{AllZip, list_any, position};
 ghost use Rattle.std.specs.Option.{option_copied};
-ghost use Rattle.std.specs.Prelude.{◌≡◌, IfOk, map, option_map, slice_get};
-ghost use Rattle.smf_dep.specs.Members.{IsOfItem, members};
-ghost use Rattle.smf_dep.specs.Places.{AreCyclesOf, event_at, finding_at, finding_of, findings_from, flags_of, is_link_met, link_stops, nodes_of};
-ghost use Rattle.smf_dep.specs.Verdicts.{is_parked, must_stop, stops_by, verdict, verdict_by};
+ghost use Rattle.std.specs.Prelude.{◌≡◌, IfOk, List, OnErr, OnOk, option_map, slice_get};
+ghost use Rattle.smf_fmri.specs.ByKey.{Rises, has_key};
+ghost use Rattle.smf_state.specs.Patched.{by_item, with_items};
+ghost use Rattle.smf_state.specs.declared.view.ViewItem.{ViewItem as AnyItem};
+ghost use Rattle.smf_dep.specs.Members.{IsOfItem, by_member, members};
+ghost use Rattle.smf_dep.specs.Places.{AreCyclesOf, event_at, finding_at, finding_of, flag_at, link_stops, node_stops, nodes_of};
+ghost use Rattle.smf_dep.specs.Verdicts.{must_stop, stops_by, verdict, verdict_by};
+ghost use Rattle.smf_dep.specs.Updates.{AreAlike, OthersStay, with_members};
 
 use crate::cycle::on_cycles;
 use crate::dependency::{Dependency, Grouping, RestartOn};
-use crate::link::{Flags, Link, Node, flags_of, link_of, nodes_of};
+use crate::kept::Kept;
+use crate::link::{Link, Node, link_of, nodes_of};
 use crate::member::{Member, ReadMember, Standing, members_again, renewed_members, standing_of};
-use crate::parking::{flag_at, is_link_blocked, is_link_met, parked};
-use crate::room::with_room;
+use crate::update::{are_alike, changed_members, numbers_of, place_in, put_touched, take_changes};
 use smf_fmri::Items;
-use smf_state::ViewItem;
+use smf_state::{ChangedItem, ViewItem};
 use std::alloc::{AllocError, Global};
 use std::marker::Model;
 
@@ -41,12 +45,9 @@ pub struct Finding {
 /// Instances and what is found of each.
 #[derive(Drop)]
 pub struct Graph {
-    members: Items<ReadMember>,
-    nodes: Items<Node>,
+    members: Vec<ReadMember>,
+    kept: Kept,
     cycles: Vec<bool>,
-    findings: Items<Finding>,
-    flags: Flags,
-    parked: Items<bool>,
 }
 
 impl Model for Graph {
@@ -56,9 +57,9 @@ impl Model for Graph {
 
     ghost Value = { List Member };
 
-    ghost view = { λ g. g.members };
+    ghost view = { λ g. g.members.items };
 
-    ghost invariant = { λ g. IsGraph g.members g.nodes g.cycles.items g.findings g.flags g.parked };
+    ghost invariant = { λ g. IsGraph g.members.items g.kept g.cycles.items };
 }
 
 /// Whether the events after a revision of an instance that is cited stop the one that cites it.
@@ -108,48 +109,39 @@ fn any_stops(members: &[ReadMember], links: &[Link], base: u64) -> bool
     links.iter().any(|link| link_stops(members, link, base))
 }
 
-fn each_is_met(links: &[Link], flags: &Flags, parked: &[bool]) -> bool
-    ensures { result ≡ list_all (is_link_met flags.now parked.now) links.now }
+fn node_stops(members: &[ReadMember], node: Option<&Node>, base: u64) -> bool
+    ensures { result ≡ node_stops members.now base (option_copied node.entry) }
 {
-    links.iter().all(|link| is_link_met(link, flags, parked))
+    match node {
+        Some(node) => any_stops(members, node.links.as_slice(), base),
+        None => false,
+    }
+}
+
+fn flag_at(flags: &[bool], place: usize) -> bool
+    ensures { result ≡ flag_at flags.now place }
+{
+    match flags.get(place) {
+        Some(flag) => *flag,
+        None => false,
+    }
 }
 
 fn finding_at(
     members: &[ReadMember],
-    flags: &Flags,
-    parked: &[bool],
-    on_cycle: bool,
-    node: &Node,
-) -> Finding
-    ensures { result ≡ finding_at members.now flags.now parked.now on_cycle node.now }
-{
-    let links = node.links.as_slice();
-    Finding {
-        readable: node.readable,
-        all_met: node.readable && each_is_met(links, flags, parked),
-        must_stop: any_stops(members, links, node.base),
-        on_cycle,
-    }
-}
-
-fn findings_from(
-    alloc: Global,
-    members: &[ReadMember],
-    flags: &Flags,
-    parked: &[bool],
+    kept: &Kept,
     cycles: &[bool],
-    nodes: &[Node],
-) -> Result<Items<Finding>, AllocError>
-    ensures { IfOk result (λ fs. fs ≡ findings_from 0 members.now flags.now parked.now cycles.now nodes.now) }
+    member: &Member,
+    place: usize,
+) -> Finding
+    ensures { result ≡ finding_at members.now kept.now cycles.now member.now place }
 {
-    let mut all = with_room(alloc, nodes.len())?;
-    let mut place = 0;
-    for node in nodes {
-        let on_cycle = flag_at(cycles, place);
-        all.push(finding_at(members, flags, parked, on_cycle, node))?;
-        place += 1;
+    Finding {
+        readable: member.dependencies.is_some(),
+        all_met: member.dependencies.is_some() && kept.all_met(place),
+        must_stop: node_stops(members, kept.node(place), member.base),
+        on_cycle: flag_at(cycles, place),
     }
-    Ok(all)
 }
 
 fn verdict_by(met: bool, blocked: bool) -> Verdict
@@ -167,45 +159,49 @@ fn verdict_by(met: bool, blocked: bool) -> Verdict
 impl Graph {
     /// The graph of the items of a view.
     pub fn of(alloc: Global, items: &[ViewItem]) -> Result<Graph, AllocError>
+        requires { Rises by_item items.now }
         ensures { IfOk result (λ g. g ≡ members items.now) }
     {
         let all = renewed_members(alloc, Items::new(alloc), items)?;
-        Graph::linked(alloc, all)
+        Graph::linked(alloc, all.into_vec())
     }
 
     /// The graph of the items of another view. What this one read and found is not read or looked for again.
     pub fn renewed(self, alloc: Global, items: &[ViewItem]) -> Result<Graph, AllocError>
+        requires { Rises by_item items.now }
         ensures { IfOk result (λ g. g ≡ members items.now) }
     {
         match standing_of(self.members.as_slice(), items) {
             Standing::Same => Ok(self),
             Standing::Alike => self.again(alloc, items),
             Standing::Other => {
-                let all = renewed_members(alloc, self.members, items)?;
-                Graph::linked(alloc, all)
+                let kept = Items::from_vec(self.members);
+                let all = renewed_members(alloc, kept, items)?;
+                Graph::linked(alloc, all.into_vec())
             }
         }
     }
 
     /// The graph of the same instances in another view, whose dependencies are what they were.
     fn again(self, alloc: Global, items: &[ViewItem]) -> Result<Graph, AllocError>
-        requires { AllZip IsOfItem items.now self }
+        requires alike { AllZip IsOfItem items.now self }
+        requires rises { Rises by_item items.now }
         ensures { IfOk result (λ g. g ≡ members items.now) }
     {
         let Graph {
             members,
-            nodes,
+            kept,
             cycles,
-            ..
         } = self;
-        let all = members_again(alloc, members, items)?;
-        let nodes = nodes_of(alloc, all.as_slice(), nodes)?;
-        Graph::found(alloc, all, nodes, cycles)
+        let all = members_again(alloc, Items::from_vec(members), items)?;
+        let nodes = nodes_of(alloc, all.as_slice(), Items::from_vec(kept.into_nodes()))?;
+        Graph::found(alloc, all.into_vec(), nodes, cycles)
     }
 
     /// The graph of instances whose dependencies have to be looked for.
-    fn linked(alloc: Global, members: Items<ReadMember>) -> Result<Graph, AllocError>
-        ensures { IfOk result (λ g. g ≡ members) }
+    fn linked(alloc: Global, members: Vec<ReadMember>) -> Result<Graph, AllocError>
+        requires { Rises by_member members.items }
+        ensures { IfOk result (λ g. g ≡ members.items) }
     {
         let nodes = nodes_of(alloc, members.as_slice(), Items::new(alloc))?;
         let cycles = on_cycles(alloc, nodes.as_slice())?;
@@ -215,32 +211,81 @@ impl Graph {
     /// The graph of instances whose dependencies by places are known, and which of them depend on themselves.
     fn found(
         alloc: Global,
-        members: Items<ReadMember>,
+        members: Vec<ReadMember>,
         nodes: Items<Node>,
         cycles: Vec<bool>,
     ) -> Result<Graph, AllocError>
-        requires nodes { nodes ≡ nodes_of members }
+        requires nodes { nodes ≡ nodes_of members.items }
         requires cycles { AreCyclesOf nodes cycles.items }
-        ensures { IfOk result (λ g. g ≡ members) }
+        requires rises { Rises by_member members.items }
+        ensures { IfOk result (λ g. g ≡ members.items) }
     {
-        let flags = flags_of(alloc, members.as_slice())?;
-        let parked = parked(alloc, nodes.as_slice(), &flags)?;
-        let findings = findings_from(
-            alloc,
-            members.as_slice(),
-            &flags,
-            parked.as_slice(),
-            &cycles,
-            nodes.as_slice(),
-        )?;
+        let kept = Kept::of(alloc, nodes.into_vec())?;
         Ok(Graph {
             members,
-            nodes,
+            kept,
             cycles,
-            findings,
-            flags,
-            parked,
         })
+    }
+
+    /// Brings the graph up to date by items that changed. The numbers that are given back are those of all instances of
+    /// which something that is found may be another, in no order; one may come twice. If memory runs out, the graph is as
+    /// it was.
+    pub fn update(
+        &mut self,
+        alloc: Global,
+        changes: &[ChangedItem],
+    ) -> Result<Items<u64>, AllocError>
+        ensures shown { OnOk result ((items : List AnyItem) → self.old ≡ members items → self.new ≡ members (with_items changes.now items)) }
+        ensures others { IfOk result (λ touched. OthersStay self.old self.new touched) }
+        ensures err { OnErr result (self.new ≡ self.old) }
+    {
+        if are_alike(self.members.as_slice(), changes) {
+            return self.update_states(alloc, changes);
+        }
+        self.update_all(alloc, changes)
+    }
+
+    /// Where each item that changed is of an instance that is there, and its groups are read from the same. All that may
+    /// fail goes first.
+    fn update_states(
+        &mut self,
+        alloc: Global,
+        changes: &[ChangedItem],
+    ) -> Result<Items<u64>, AllocError>
+        requires { AreAlike changes.now self.old }
+        ensures with { OnOk result (self.new ≡ with_members changes.now self.old) }
+        ensures others { IfOk result (λ touched. OthersStay self.old self.new touched) }
+        ensures err { OnErr result (self.new ≡ self.old) }
+    {
+        let mut touched = Vec::with_capacity(alloc, self.members.len())?;
+        let mut numbers = Vec::with_capacity(alloc, self.members.len())?;
+        take_changes(&mut self.members, &mut self.kept, changes, &mut touched);
+        put_touched(&mut numbers, self.members.as_slice(), touched.as_slice());
+        Ok(Items::from_vec(numbers))
+    }
+
+    /// Where instances come or go, or depend on other things. What did not change is not read again.
+    fn update_all(
+        &mut self,
+        alloc: Global,
+        changes: &[ChangedItem],
+    ) -> Result<Items<u64>, AllocError>
+        ensures with { OnOk result (self.new ≡ with_members changes.now self.old) }
+        ensures others { IfOk result (λ touched. OthersStay self.old self.new touched) }
+        ensures err { OnErr result (self.new ≡ self.old) }
+    {
+        let members = changed_members(alloc, self.members.as_slice(), changes)?;
+        let numbers = numbers_of(alloc, self.members.as_slice(), members.as_slice())?;
+        *self = Graph::linked(alloc, members)?;
+        Ok(numbers)
+    }
+
+    /// The place of the instance that has the number.
+    pub fn place_of(&self, instance: u64) -> Option<usize>
+        ensures { result ≡ position (has_key by_member instance) self.now }
+    {
+        place_in(self.members.as_slice(), instance)
     }
 
     /// The instance at a place in the order of the items.
@@ -254,7 +299,16 @@ impl Graph {
     pub fn finding(&self, place: usize) -> Option<Finding>
         ensures { result ≡ option_map (finding_of self.now) (slice_get self.now place) }
     {
-        self.findings.as_slice().get(place).copied()
+        match self.members.as_slice().get(place) {
+            None => None,
+            Some(member) => Some(finding_at(
+                self.members.as_slice(),
+                &self.kept,
+                self.cycles.as_slice(),
+                member.member(),
+                place,
+            )),
+        }
     }
 
     /// How a dependency group stands.
@@ -262,8 +316,8 @@ impl Graph {
         ensures { IfOk result (λ v. v ≡ verdict self.now dependency.now) }
     {
         let link = link_of(alloc, self.members.as_slice(), dependency)?;
-        let met = is_link_met(&link, &self.flags, self.parked.as_slice());
-        let blocked = is_link_blocked(&link, &self.flags, self.parked.as_slice());
+        let met = self.kept.is_met(&link);
+        let blocked = self.kept.is_blocked(&link);
         Ok(verdict_by(met, blocked))
     }
 

@@ -1,11 +1,11 @@
 ghost use Rattle.std.specs.Prelude.{◌≡◌, IfOk, IfSome, List, map};
 ghost use Rattle.smf_dep.specs.Places.{IsBeginning, all_links, flags_of, link_of, links_among, links_of, node_of, nodes_of, places};
 ghost use Rattle.smf_dep.specs.declared.member.Member.{Member as AnyMember};
-ghost use Rattle.smf_dep.specs.Verdicts.{is_off, is_running};
 
 use crate::dependency::{Dependency, Grouping, RestartOn};
 use crate::member::{Member, ReadMember};
 use crate::room::with_room;
+use crate::shared::Shared;
 use smf_fmri::{Fmri, Items};
 use std::alloc::{AllocError, Global};
 
@@ -17,23 +17,23 @@ pub struct Link {
     pub cited: Items<Items<usize>>,
 }
 
+/// What an instance is by its state.
+#[derive(Clone, Copy)]
+pub struct Flags {
+    pub running: bool,
+    /// Disabled, or in maintenance.
+    pub off: bool,
+    /// Not enabled, or in maintenance.
+    pub idle: bool,
+    /// Enabled and offline, with nothing under way.
+    pub waiting: bool,
+}
+
 /// An instance, with what it depends on: nothing where a group can't be read.
 #[derive(Drop)]
 pub struct Node {
-    pub idle: bool,
-    pub waiting: bool,
-    pub readable: bool,
-    /// The revision on which its last start was decided.
-    pub base: u64,
+    pub flags: Flags,
     pub links: Items<Link>,
-}
-
-/// What the instances are, one flag for each.
-#[derive(Drop)]
-pub struct Flags {
-    pub running: Items<bool>,
-    /// Disabled, or in maintenance.
-    pub off: Items<bool>,
 }
 
 #[tactic(auto, unfolding(crate::specs::Places::places))]
@@ -99,7 +99,7 @@ fn links(
 fn links_of(
     alloc: Global,
     members: &[ReadMember],
-    dependencies: &Option<Items<Dependency>>,
+    dependencies: &Option<Shared<Items<Dependency>>>,
 ) -> Result<Items<Link>, AllocError>
     ensures { IfOk result (λ ls. ls ≡ links_of members.now dependencies.now) }
 {
@@ -109,15 +109,24 @@ fn links_of(
     }
 }
 
+/// What an instance is by its state.
+pub(crate) fn flags_of(member: &Member) -> Flags
+    ensures { result ≡ flags_of member.now }
+{
+    Flags {
+        running: member.is_running(),
+        off: member.is_off(),
+        idle: member.is_idle(),
+        waiting: member.is_waiting(),
+    }
+}
+
 /// An instance, with its dependencies by places.
 fn node_with(member: &Member, links: Items<Link>) -> Node
     ensures { (ms : List AnyMember) → links ≡ links_of ms member.now.dependencies → result ≡ node_of ms member.now }
 {
     Node {
-        idle: member.is_idle(),
-        waiting: member.is_waiting(),
-        readable: member.dependencies.is_some(),
-        base: member.base,
+        flags: flags_of(member),
         links,
     }
 }
@@ -156,33 +165,4 @@ pub(crate) fn nodes_of(
         nodes.push(node_of(alloc, members, member.member(), kept.next())?)?;
     }
     Ok(nodes)
-}
-
-fn running(alloc: Global, members: &[ReadMember]) -> Result<Items<bool>, AllocError>
-    ensures { IfOk result (λ fs. fs ≡ map is_running members.now) }
-{
-    let mut flags = with_room(alloc, members.len())?;
-    for member in members {
-        flags.push(member.member().is_running())?;
-    }
-    Ok(flags)
-}
-
-fn off(alloc: Global, members: &[ReadMember]) -> Result<Items<bool>, AllocError>
-    ensures { IfOk result (λ fs. fs ≡ map is_off members.now) }
-{
-    let mut flags = with_room(alloc, members.len())?;
-    for member in members {
-        flags.push(member.member().is_off())?;
-    }
-    Ok(flags)
-}
-
-/// What each instance is by its state.
-pub(crate) fn flags_of(alloc: Global, members: &[ReadMember]) -> Result<Flags, AllocError>
-    ensures { IfOk result (λ f. f ≡ flags_of members.now) }
-{
-    let running = running(alloc, members)?;
-    let off = off(alloc, members)?;
-    Ok(Flags { running, off })
 }

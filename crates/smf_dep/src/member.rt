@@ -1,8 +1,8 @@
 ghost use Rattle.std.specs.List.{AllZip};
-ghost use Rattle.std.specs.Prelude.{◌≡◌, true, IfOk};
+ghost use Rattle.std.specs.Prelude.{◌≡◌, true, IfOk, refl};
 ghost use Rattle.smf_value.specs.Reading.{Gives};
 ghost use Rattle.smf_dep.specs.Requirements.{read_groups};
-ghost use Rattle.smf_dep.specs.Members.{HasNumbersOf, HasStateOf, IsOfItem, composed, implicit, member_of, member_with, members, snapshot_in, when_there, with_implicit};
+ghost use Rattle.smf_dep.specs.Members.{HasNumbersOf, HasStateOf, IsOfItem, by_member, composed, implicit, member_of, member_with, members, snapshot_in, when_there, with_implicit};
 ghost use Rattle.smf_dep.specs.Methods.{has_unfit_methods};
 ghost use Rattle.smf_dep.specs.Verdicts.{cites_by, is_cited, is_idle, is_off, is_running, is_waiting};
 
@@ -11,7 +11,8 @@ use crate::fault::DependencyFault;
 use crate::methods::has_unfit_methods;
 use crate::reading::read_groups;
 use crate::room::with_room;
-use smf_fmri::{Bytes, Fmri, InstanceFmri, Items, Ordered};
+use crate::shared::Shared;
+use smf_fmri::{Bytes, ExactClone, Fmri, InstanceFmri, Items, Keyed, Ordered};
 use smf_snap::{Snapshot, decode_snapshot};
 use smf_state::{Row, State, ViewItem, is_startd};
 use smf_value::{BodyFault, Group};
@@ -34,9 +35,9 @@ pub struct Member {
     pub refresh: u64,
     pub start: u64,
     /// The groups of its running snapshot, by name its own, else those of its service.
-    pub composed: Ordered<Group>,
+    pub composed: Shared<Ordered<Group>>,
     /// What it depends on, or none where a group can't be read.
-    pub dependencies: Option<Items<Dependency>>,
+    pub dependencies: Option<Shared<Items<Dependency>>>,
 }
 
 /// An instance as a verdict looks at it, with what its groups were read from: where that is the same in a later view, they
@@ -58,6 +59,38 @@ impl Model for ReadMember {
     ghost view = { λ r. r.member };
 
     ghost invariant = { λ r. IsReadFrom r.owner r.body r.has_unfit_methods r.member };
+}
+
+impl Keyed for ReadMember {
+    type Key = u64;
+
+    ghost by = { by_member };
+
+    fn key(&self) -> &u64 {
+        &self.member.instance
+    }
+
+    ghost same = { refl };
+}
+
+impl Clone for ReadMember {
+    ghost is_clone = { λ s copy. copy ≡ s };
+
+    fn clone(&self) -> Result<ReadMember, AllocError> {
+        let member = copy_of_member(&self.member)?;
+        let owner = self.owner.clone()?;
+        let body = copy_of(&self.body)?;
+        Ok(ReadMember {
+            member,
+            owner,
+            body,
+            has_unfit_methods: self.has_unfit_methods,
+        })
+    }
+}
+
+impl ExactClone for ReadMember {
+    ghost exact = { λ member copy same. same };
 }
 
 fn snapshot_in(alloc: Global, item: &ViewItem) -> Result<Snapshot, BodyFault>
@@ -120,8 +153,8 @@ fn dependencies_in(
 fn member_named(
     item: &ViewItem,
     name: InstanceFmri,
-    composed: Ordered<Group>,
-    dependencies: Option<Items<Dependency>>,
+    composed: Shared<Ordered<Group>>,
+    dependencies: Option<Shared<Items<Dependency>>>,
 ) -> Member
     ensures { name ≡ item.now.name → result ≡ member_with item.now composed dependencies }
 {
@@ -141,7 +174,20 @@ fn member_named(
     }
 }
 
+fn shared_dependencies(
+    alloc: Global,
+    dependencies: Option<Items<Dependency>>,
+) -> Result<Option<Shared<Items<Dependency>>>, AllocError>
+    ensures { IfOk result (λ ds. ds ≡ dependencies) }
+{
+    match dependencies {
+        None => Ok(None),
+        Some(dependencies) => Ok(Some(Shared::of(alloc, dependencies)?)),
+    }
+}
+
 fn member_with(
+    alloc: Global,
     item: &ViewItem,
     composed: Ordered<Group>,
     dependencies: Option<Items<Dependency>>,
@@ -149,6 +195,8 @@ fn member_with(
     ensures { IfOk result (λ m. m ≡ member_with item.now composed dependencies) }
 {
     let name = item.name.clone()?;
+    let composed = Shared::of(alloc, composed)?;
+    let dependencies = shared_dependencies(alloc, dependencies)?;
     Ok(member_named(item, name, composed, dependencies))
 }
 
@@ -173,11 +221,11 @@ fn member_of(alloc: Global, item: &ViewItem) -> Result<Member, AllocError>
     let snapshot = match snapshot_in(alloc, item) {
         Ok(snapshot) => snapshot,
         Err(BodyFault::Memory) => return Err(AllocError),
-        Err(BodyFault::BadBody(_)) => return member_with(item, Ordered::new(alloc), None),
+        Err(BodyFault::BadBody(_)) => return member_with(alloc, item, Ordered::new(alloc), None),
     };
     let composed = compose(snapshot)?;
     let dependencies = dependencies_in(alloc, &item.row.owner, &composed)?;
-    member_with(item, composed, dependencies)
+    member_with(alloc, item, composed, dependencies)
 }
 
 /// Whether what an instance is and is to be are those of an item.
@@ -222,6 +270,57 @@ fn is_body(kept: &Option<Bytes>, body: &Option<Bytes>) -> bool
     }
 }
 
+fn copy_of_dependencies(
+    dependencies: &Option<Shared<Items<Dependency>>>,
+) -> Result<Option<Shared<Items<Dependency>>>, AllocError>
+    ensures { IfOk result (λ copy. copy ≡ dependencies.now) }
+{
+    match dependencies {
+        None => Ok(None),
+        Some(dependencies) => Ok(Some(dependencies.clone()?)),
+    }
+}
+
+/// A copy, which shares what was read.
+fn copy_of_member(member: &Member) -> Result<Member, AllocError>
+    ensures { IfOk result (λ copy. copy ≡ member.now) }
+{
+    let name = member.name.clone()?;
+    let composed = member.composed.clone()?;
+    let dependencies = copy_of_dependencies(&member.dependencies)?;
+    Ok(Member {
+        instance: member.instance,
+        name,
+        enabled: member.enabled,
+        state: member.state,
+        next: member.next,
+        base: member.base,
+        err: member.err,
+        stop: member.stop,
+        refresh: member.refresh,
+        start: member.start,
+        composed,
+        dependencies,
+    })
+}
+
+/// Gives a member the state of an item from which its groups would be read the same.
+fn take_state(member: &mut Member, item: &ViewItem, row: &Row)
+    requires alike { IsOfItem item.now member.old }
+    requires row { row.now ≡ item.now.row }
+    ensures { member.new ≡ member_of item.now }
+{
+    member.instance = item.instance;
+    member.enabled = item.enabled;
+    member.state = row.state;
+    member.next = row.next;
+    member.base = row.base;
+    member.err = row.err;
+    member.stop = row.stop;
+    member.refresh = row.refresh;
+    member.start = row.start;
+}
+
 impl ReadMember {
     /// What a verdict looks at.
     pub fn member(&self) -> &Member
@@ -245,7 +344,7 @@ impl ReadMember {
         has_unfit_methods(alloc, restarter, instance, &self.member.composed)
     }
 
-    fn read(alloc: Global, item: &ViewItem) -> Result<ReadMember, AllocError>
+    pub(crate) fn read(alloc: Global, item: &ViewItem) -> Result<ReadMember, AllocError>
         ensures { IfOk result (λ r. r ≡ member_of item.now) }
     {
         let member = member_of(alloc, item)?;
@@ -261,7 +360,7 @@ impl ReadMember {
     }
 
     /// Whether its groups would be read of an item from the same.
-    fn is_read_from(&self, item: &ViewItem) -> bool
+    pub(crate) fn is_read_from(&self, item: &ViewItem) -> bool
         ensures { result ≡ true → IsOfItem item.now self.now }
     {
         self.member.name == item.name
@@ -278,7 +377,7 @@ impl ReadMember {
     }
 
     /// The same instance in a later view.
-    fn again(self, item: &ViewItem) -> ReadMember
+    pub(crate) fn again(self, item: &ViewItem) -> ReadMember
         requires { IsOfItem item.now self }
         ensures { result ≡ member_of item.now }
     {
@@ -294,6 +393,14 @@ impl ReadMember {
             body,
             has_unfit_methods,
         }
+    }
+
+    /// Gives it the state of an item from which its groups would be read the same.
+    pub(crate) fn take_state(&mut self, item: &ViewItem)
+        requires { IsOfItem item.now self.old }
+        ensures { self.new ≡ member_of item.now }
+    {
+        take_state(&mut self.member, item, &item.row);
     }
 }
 

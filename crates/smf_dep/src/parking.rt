@@ -1,189 +1,175 @@
+//! What a link and an instance are, by the flags of what is cited and by stamps.
+
 ghost use Rattle.std.specs.List.{list_all, list_any};
-ghost use Rattle.std.specs.Prelude.{◌≡◌, IfOk, length, map, true};
-ghost use Rattle.smf_dep.specs.Places.{all_settled, flag_at, has_flag, has_flags, is_link_blocked, is_link_met, node_parked, round, rounds};
+ghost use Rattle.std.specs.Prelude.{◌≡◌, ◌||◌, slice_index};
+ghost use Rattle.smf_dep.specs.Parking.{blocked_by, met_by, off_at, parks, parks_by, runs_at};
+ghost use Rattle.smf_dep.specs.Stamps.{before};
 
 use crate::dependency::Grouping;
-use crate::link::{Flags, Link, Node};
-use crate::room::with_room;
+use crate::link::{Link, Node};
 use smf_fmri::Items;
-use std::alloc::{AllocError, Global};
 
-pub(crate) fn flag_at(flags: &[bool], place: usize) -> bool
-    ensures { result ≡ flag_at flags.now place }
+pub(crate) fn runs_at(nodes: &[Node], place: usize) -> bool
+    ensures { result ≡ runs_at nodes.now place }
 {
-    match flags.get(place) {
-        Some(flag) => *flag,
+    match nodes.get(place) {
+        Some(node) => node.flags.running,
         None => false,
     }
 }
 
-fn has_flag(flags: &[bool], places: &[usize]) -> bool
-    ensures { result ≡ has_flag flags.now places.now }
+pub(crate) fn off_at(nodes: &[Node], place: usize) -> bool
+    ensures { result ≡ off_at nodes.now place }
 {
-    places.iter().any(|place| flag_at(flags, *place))
+    match nodes.get(place) {
+        Some(node) => node.flags.off,
+        None => false,
+    }
 }
 
-fn has_flags(flags: &[bool], places: &[usize]) -> bool
-    ensures { result ≡ has_flags flags.now places.now }
+pub(crate) fn stamp_at(stamps: &[usize], place: usize) -> usize
+    ensures { result ≡ slice_index stamps.now place }
 {
-    places.iter().all(|place| flag_at(flags, *place))
+    stamps.get(place).copied().unwrap_or(0)
 }
 
-/// Some of what some entity stands for has the flag.
-fn any_has_flag(flags: &[bool], cited: &[Items<usize>]) -> bool
-    ensures { result ≡ list_any (has_flag flags.now) cited.now }
+fn is_before(stamps: &[usize], limit: usize, place: usize) -> bool
+    ensures { result ≡ before stamps.now limit place }
+{
+    let stamp = stamp_at(stamps, place);
+    0 < stamp && stamp < limit
+}
+
+fn is_settled(nodes: &[Node], stamps: &[usize], limit: usize, place: usize) -> bool
+    ensures { result ≡ (runs_at nodes.now place || before stamps.now limit place) }
+{
+    runs_at(nodes, place) || is_before(stamps, limit, place)
+}
+
+fn any_runs(nodes: &[Node], places: &[usize]) -> bool
+    ensures { result ≡ list_any (runs_at nodes.now) places.now }
+{
+    places.iter().any(|place| runs_at(nodes, *place))
+}
+
+fn all_off(nodes: &[Node], places: &[usize]) -> bool
+    ensures { result ≡ list_all (off_at nodes.now) places.now }
+{
+    places.iter().all(|place| off_at(nodes, *place))
+}
+
+fn all_before(stamps: &[usize], limit: usize, places: &[usize]) -> bool
+    ensures { result ≡ list_all (before stamps.now limit) places.now }
+{
+    places.iter().all(|place| is_before(stamps, limit, *place))
+}
+
+fn all_settled(nodes: &[Node], stamps: &[usize], limit: usize, places: &[usize]) -> bool
+    ensures { result ≡ list_all (λ p. runs_at nodes.now p || before stamps.now limit p) places.now }
+{
+    places
+        .iter()
+        .all(|place| is_settled(nodes, stamps, limit, *place))
+}
+
+/// Something of each entity runs.
+fn each_runs(nodes: &[Node], cited: &[Items<usize>]) -> bool
+    ensures { result ≡ list_all (list_any (runs_at nodes.now)) cited.now }
 {
     cited
         .iter()
-        .any(|places| has_flag(flags, places.as_slice()))
+        .all(|places| any_runs(nodes, places.as_slice()))
 }
 
-/// Some of what each entity stands for has the flag.
-fn each_has_flag(flags: &[bool], cited: &[Items<usize>]) -> bool
-    ensures { result ≡ list_all (has_flag flags.now) cited.now }
+/// Something of some entity runs.
+fn some_runs(nodes: &[Node], cited: &[Items<usize>]) -> bool
+    ensures { result ≡ list_any (list_any (runs_at nodes.now)) cited.now }
 {
     cited
         .iter()
-        .all(|places| has_flag(flags, places.as_slice()))
+        .any(|places| any_runs(nodes, places.as_slice()))
 }
 
-/// All of what some entity stands for has the flag.
-fn any_has_flags(flags: &[bool], cited: &[Items<usize>]) -> bool
-    ensures { result ≡ list_any (has_flags flags.now) cited.now }
+fn each_off(nodes: &[Node], cited: &[Items<usize>]) -> bool
+    ensures { result ≡ list_all (list_all (off_at nodes.now)) cited.now }
+{
+    cited.iter().all(|places| all_off(nodes, places.as_slice()))
+}
+
+fn some_before(stamps: &[usize], limit: usize, cited: &[Items<usize>]) -> bool
+    ensures { result ≡ list_any (list_all (before stamps.now limit)) cited.now }
 {
     cited
         .iter()
-        .any(|places| has_flags(flags, places.as_slice()))
+        .any(|places| all_before(stamps, limit, places.as_slice()))
 }
 
-/// All of what each entity stands for has the flag.
-fn each_has_flags(flags: &[bool], cited: &[Items<usize>]) -> bool
-    ensures { result ≡ list_all (has_flags flags.now) cited.now }
+fn each_before(stamps: &[usize], limit: usize, cited: &[Items<usize>]) -> bool
+    ensures { result ≡ list_all (list_all (before stamps.now limit)) cited.now }
 {
     cited
         .iter()
-        .all(|places| has_flags(flags, places.as_slice()))
+        .all(|places| all_before(stamps, limit, places.as_slice()))
 }
 
-/// Whether a group is not met and can't be by waiting alone.
-pub(crate) fn is_link_blocked(link: &Link, flags: &Flags, parked: &[bool]) -> bool
-    ensures { result ≡ is_link_blocked flags.now parked.now link.now }
+fn each_settled(nodes: &[Node], stamps: &[usize], limit: usize, cited: &[Items<usize>]) -> bool
+    ensures { result ≡ list_all (list_all (λ p. runs_at nodes.now p || before stamps.now limit p)) cited.now }
+{
+    cited.iter().all(|places| all_settled(nodes, stamps, limit, places.as_slice()))
+}
+
+/// Whether a link is blocked by what has a stamp below the limit.
+pub(crate) fn is_blocked(nodes: &[Node], stamps: &[usize], limit: usize, link: &Link) -> bool
+    ensures { result ≡ blocked_by (runs_at nodes.now) (off_at nodes.now) (before stamps.now limit) link.now }
 {
     let cited = link.cited.as_slice();
-    let running = flags.running.as_slice();
     match link.grouping {
-        Grouping::RequireAll => !each_has_flag(running, cited) && any_has_flags(parked, cited),
-        Grouping::RequireAny => !any_has_flag(running, cited) && each_has_flags(parked, cited),
+        Grouping::RequireAll => !each_runs(nodes, cited) && some_before(stamps, limit, cited),
+        Grouping::RequireAny => !some_runs(nodes, cited) && each_before(stamps, limit, cited),
         Grouping::OptionalAll => false,
-        Grouping::ExcludeAll => {
-            !each_has_flags(flags.off.as_slice(), cited) && any_has_flag(running, cited)
-        }
+        Grouping::ExcludeAll => !each_off(nodes, cited) && some_runs(nodes, cited),
     }
 }
 
-/// Whether all of these run or are parked.
-fn all_settled(flags: &Flags, parked: &[bool], places: &[usize]) -> bool
-    ensures { result ≡ all_settled flags.now parked.now places.now }
-{
-    let running = flags.running.as_slice();
-    places.iter().all(|place| flag_at(running, *place) || flag_at(parked, *place))
-}
-
-fn each_is_settled(flags: &Flags, parked: &[bool], cited: &[Items<usize>]) -> bool
-    ensures { result ≡ list_all (all_settled flags.now parked.now) cited.now }
-{
-    cited
-        .iter()
-        .all(|places| all_settled(flags, parked, places.as_slice()))
-}
-
-/// Whether a group is met.
-pub(crate) fn is_link_met(link: &Link, flags: &Flags, parked: &[bool]) -> bool
-    ensures { result ≡ is_link_met flags.now parked.now link.now }
+pub(crate) fn is_met(nodes: &[Node], stamps: &[usize], limit: usize, link: &Link) -> bool
+    ensures { result ≡ met_by (runs_at nodes.now) (off_at nodes.now) (before stamps.now limit) link.now }
 {
     let cited = link.cited.as_slice();
-    let running = flags.running.as_slice();
     match link.grouping {
-        Grouping::RequireAll => each_has_flag(running, cited),
-        Grouping::RequireAny => any_has_flag(running, cited),
-        Grouping::OptionalAll => each_is_settled(flags, parked, cited),
-        Grouping::ExcludeAll => each_has_flags(flags.off.as_slice(), cited),
+        Grouping::RequireAll => each_runs(nodes, cited),
+        Grouping::RequireAny => some_runs(nodes, cited),
+        Grouping::OptionalAll => each_settled(nodes, stamps, limit, cited),
+        Grouping::ExcludeAll => each_off(nodes, cited),
     }
 }
 
-fn any_blocked(links: &[Link], flags: &Flags, parked: &[bool]) -> bool
-    ensures { result ≡ list_any (is_link_blocked flags.now parked.now) links.now }
+fn any_blocked(nodes: &[Node], stamps: &[usize], limit: usize, links: &[Link]) -> bool
+    ensures { result ≡ list_any (blocked_by (runs_at nodes.now) (off_at nodes.now) (before stamps.now limit)) links.now }
 {
     links
         .iter()
-        .any(|link| is_link_blocked(link, flags, parked))
+        .any(|link| is_blocked(nodes, stamps, limit, link))
 }
 
-fn is_parked(node: &Node, flags: &Flags, parked: &[bool]) -> bool
-    ensures { result ≡ node_parked flags.now parked.now node.now }
+pub(crate) fn each_met(nodes: &[Node], stamps: &[usize], limit: usize, links: &[Link]) -> bool
+    ensures { result ≡ list_all (met_by (runs_at nodes.now) (off_at nodes.now) (before stamps.now limit)) links.now }
 {
-    node.idle || (node.waiting && any_blocked(node.links.as_slice(), flags, parked))
+    links.iter().all(|link| is_met(nodes, stamps, limit, link))
 }
 
-/// One round more.
-fn round(
-    alloc: Global,
-    nodes: &[Node],
-    flags: &Flags,
-    parked: &[bool],
-) -> Result<Items<bool>, AllocError>
-    ensures { IfOk result (λ fs. fs ≡ round flags.now nodes.now parked.now) }
+fn parks_by(nodes: &[Node], stamps: &[usize], limit: usize, node: &Node) -> bool
+    ensures { result ≡ parks_by (runs_at nodes.now) (off_at nodes.now) (before stamps.now limit) node.now }
 {
-    let mut next = with_room(alloc, nodes.len())?;
-    for node in nodes {
-        next.push(is_parked(node, flags, parked))?;
+    node.flags.idle
+        || (node.flags.waiting && any_blocked(nodes, stamps, limit, node.links.as_slice()))
+}
+
+/// Whether an instance is idle, or waits and is blocked by what has a stamp below the limit.
+pub(crate) fn parks(nodes: &[Node], stamps: &[usize], limit: usize, place: usize) -> bool
+    ensures { result ≡ parks nodes.now (before stamps.now limit) place }
+{
+    match nodes.get(place) {
+        Some(node) => parks_by(nodes, stamps, limit, node),
+        None => false,
     }
-    Ok(next)
-}
-
-/// Those that are parked in no round.
-fn idle(alloc: Global, nodes: &[Node]) -> Result<Items<bool>, AllocError>
-    ensures { IfOk result (λ fs. fs ≡ map (λ n. n.idle) nodes.now) }
-{
-    let mut flags = with_room(alloc, nodes.len())?;
-    for node in nodes {
-        flags.push(node.idle)?;
-    }
-    Ok(flags)
-}
-
-/// Whether a round changed nothing.
-fn are_same(next: &[bool], parked: &[bool]) -> bool
-    ensures { result ≡ true → next.now ≡ parked.now }
-{
-    next == parked
-}
-
-/// Whether an instance waits, so that its dependencies may park it.
-fn any_waits(nodes: &[Node]) -> bool
-    ensures { result ≡ list_any (λ n. n.waiting) nodes.now }
-{
-    nodes.iter().any(|node| node.waiting)
-}
-
-/// Which instances are parked, in as many rounds as there are instances. A round that changes nothing is the last.
-pub(crate) fn parked(
-    alloc: Global,
-    nodes: &[Node],
-    flags: &Flags,
-) -> Result<Items<bool>, AllocError>
-    ensures { IfOk result (λ fs. fs ≡ rounds (length nodes.now) flags.now nodes.now) }
-{
-    let mut parked = idle(alloc, nodes)?;
-    if !any_waits(nodes) {
-        return Ok(parked);
-    }
-    for _ in 0..nodes.len() {
-        let next = round(alloc, nodes, flags, parked.as_slice())?;
-        if are_same(next.as_slice(), parked.as_slice()) {
-            return Ok(parked);
-        }
-        parked = next;
-    }
-    Ok(parked)
 }

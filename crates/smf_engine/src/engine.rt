@@ -1,31 +1,134 @@
-ghost use Rattle.std.specs.Prelude.{◌≡◌, IfOk, None, OnErr, OnOk};
-ghost use Rattle.smf_dep.specs.Members.{members};
-ghost use Rattle.smf_engine.specs.Orders.{decided, has_no_orders, newer, orders, orders_seen, question, with_changes};
+ghost use Rattle.std.specs.Prelude.{◌≡◌, IfOk, None, OnErr, OnOk, Some, [], find, map, option_map};
+ghost use Rattle.smf_engine.specs.Coverage.{IsBeside, IsNoted, number_put};
+ghost use Rattle.smf_engine.specs.Orders.{decided, has_no_orders, is_about, is_none_left, newer, order_in, orders, orders_seen, question, with_changes};
+ghost use Rattle.smf_state.specs.declared.view.View.{View as AnyView};
+ghost use Rattle.smf_state.specs.Patched.{patched};
 
-use crate::ordering::{has_no_orders_by, order_of, orders_by};
+use crate::looked::{Looked, graph_of};
+use crate::ordering::{has_no_orders_by, order_of, orders};
 use smf_dep::Graph;
 use smf_fmri::Items;
-use smf_state::{HeldView, View, ViewItem};
+use smf_state::{ChangedItem, HeldView, View};
 use smf_wire::{Message, Order, ViewChanges};
 use std::alloc::{AllocError, Global};
-use std::cell::Cell;
 use std::marker::Model;
 
 /// svc.startd's graph, which contracts see as the view that it holds.
 #[derive(Drop)]
 pub struct Engine {
     seen: Option<HeldView>,
-    /// The graph of the items that were looked at last: what it read of them is not read again. Nothing else comes of it.
-    last: Cell<Option<Graph>>,
+    /// The view that was looked at last, from which that one differs in few instances.
+    looked: Option<Looked>,
+    /// The graph of an older view: what it read of instances is not read again. Nothing else comes of it.
+    last: Option<Graph>,
 }
 
 impl Model for Engine {
     ghost use Rattle.std.specs.Prelude.{Option};
+    ghost use Rattle.smf_engine.specs.Coverage.{IsBeside};
     ghost use Rattle.smf_state.specs.declared.view.View.{View as AnyView};
 
     ghost Value = { Option AnyView };
 
     ghost view = { λ e. e.seen };
+
+    ghost invariant = { λ e. IsBeside e.seen e.looked };
+}
+
+/// What was read of instances, and nothing else of what was looked at.
+fn graph_left(looked: Option<Looked>, last: Option<Graph>) -> Option<Graph> {
+    match looked {
+        None => last,
+        Some(looked) => Some(looked.into_graph()),
+    }
+}
+
+/// Notes what changed in the view that is held. If memory runs out, nothing is known of what was looked at.
+fn note(looked: &mut Option<Looked>, changes: &[ChangedItem])
+    ensures { IsNoted looked.old (map number_put changes.now) looked.new }
+{
+    let Some(kept) = looked else {
+        return;
+    };
+    if kept.note(changes).is_err() {
+        *looked = None;
+    }
+}
+
+/// Brings a view up to date, and notes what changed. If memory runs out the view is as it was.
+fn take_in(
+    alloc: Global,
+    held: &mut HeldView,
+    looked: &mut Option<Looked>,
+    changes: &ViewChanges,
+) -> Result<(), AllocError>
+    requires { IsBeside (Some held.old) looked.old }
+    ensures ok { OnOk result (held.new ≡ patched held.old changes.now.to changes.now.items) }
+    ensures err { OnErr result (held.new ≡ held.old) }
+    ensures beside { IsBeside (Some held.new) looked.new }
+{
+    let items = changes.items.as_slice();
+    note(looked, items);
+    held.patch(alloc, changes.to, items)
+}
+
+/// Looks at a view, of which most may have been looked at already.
+fn look_at(
+    alloc: Global,
+    seen: &HeldView,
+    looked: Option<Looked>,
+    last: Option<Graph>,
+) -> Result<Looked, AllocError>
+    requires { IsBeside (Some seen.now) looked }
+    ensures items { IfOk result (λ l. l.items ≡ seen.now.items) }
+    ensures stale { IfOk result (λ l. l.stale ≡ []) }
+{
+    match looked {
+        None => Looked::of(alloc, seen, last),
+        Some(looked) => looked.up_to(alloc, seen),
+    }
+}
+
+/// All orders of a view, by what was looked at if that is the same.
+fn orders_of_seen(
+    alloc: Global,
+    seen: &HeldView,
+    looked: &Option<Looked>,
+) -> Result<Items<Order>, AllocError>
+    requires { IsBeside (Some seen.now) looked.now }
+    ensures { IfOk result (λ os. os ≡ orders seen.now.revision seen.now.items) }
+{
+    let items = seen.items();
+    match looked {
+        Some(looked) if looked.is_fresh() => looked.orders(alloc, seen.revision()),
+        _ => orders(alloc, seen.revision(), items),
+    }
+}
+
+/// The order for one instance of a view, by what was looked at if that is the same.
+fn order_of_seen(
+    alloc: Global,
+    seen: &HeldView,
+    looked: &Option<Looked>,
+    instance: u64,
+) -> Result<Option<Order>, AllocError>
+    requires { IsBeside (Some seen.now) looked.now }
+    ensures { IfOk result (λ o. o ≡ order_in seen.now.revision seen.now.items (find (is_about instance) seen.now.items)) }
+{
+    let items = seen.items();
+    match looked {
+        Some(looked) if looked.is_fresh() => looked.order_for(alloc, seen.revision(), instance),
+        _ => order_of(alloc, seen.revision(), items, instance),
+    }
+}
+
+fn is_none_left(orders: &[Order]) -> bool
+    ensures { result ≡ is_none_left orders.now }
+{
+    match orders.first() {
+        None => true,
+        Some(_) => false,
+    }
 }
 
 impl Engine {
@@ -35,7 +138,8 @@ impl Engine {
     {
         Engine {
             seen: None,
-            last: Cell::new(None),
+            looked: None,
+            last: None,
         }
     }
 
@@ -43,6 +147,7 @@ impl Engine {
     pub fn forget(&mut self)
         ensures { self.new ≡ None }
     {
+        self.last = graph_left(self.looked.take(), self.last.take());
         self.seen = None;
     }
 
@@ -52,7 +157,10 @@ impl Engine {
     {
         match &self.seen {
             Some(held) if held.revision() >= view.revision => {}
-            _ => self.seen = Some(HeldView::of(alloc, view)),
+            _ => {
+                self.last = graph_left(self.looked.take(), self.last.take());
+                self.seen = Some(HeldView::of(alloc, view));
+            }
         }
     }
 
@@ -64,7 +172,7 @@ impl Engine {
     {
         match &mut self.seen {
             Some(held) if held.revision() == changes.from && changes.from <= changes.to => {
-                held.patch(alloc, changes.to, changes.items.as_slice())
+                take_in(alloc, held, &mut self.looked, changes)
             }
             _ => Ok(()),
         }
@@ -80,53 +188,78 @@ impl Engine {
         }
     }
 
+    /// Looks at what changed of the view that is held, so that the orders of it are found without looking at the others. If
+    /// memory runs out, all is looked at the next time.
+    pub fn look(&mut self, alloc: Global) -> Result<(), AllocError>
+        ensures { self.new ≡ self.old }
+    {
+        let Some(seen) = &self.seen else {
+            return Ok(());
+        };
+        let looked = look_at(alloc, seen, self.looked.take(), self.last.take())?;
+        self.looked = Some(looked);
+        Ok(())
+    }
+
     /// The order for one instance, by the view that is held. It takes the whole view into account.
     pub fn decide(&self, alloc: Global, instance: u64) -> Result<Option<Order>, AllocError>
         ensures { IfOk result (λ o. o ≡ decided self.now instance) }
     {
         match &self.seen {
             None => Ok(None),
-            Some(seen) => order_of(alloc, seen.revision(), seen.items(), instance),
+            Some(seen) => order_of_seen(alloc, seen, &self.looked, instance),
         }
     }
 
-    /// All orders of the view that is held, in number order.
+    /// All orders of the view that is held, in number order. After `look` the others are not looked at.
     pub fn decide_all(&self, alloc: Global) -> Result<Items<Order>, AllocError>
         ensures { IfOk result (λ os. os ≡ orders_seen self.now) }
     {
         match &self.seen {
             None => Ok(Items::new(alloc)),
-            Some(seen) => self.orders_of(alloc, seen),
+            Some(seen) => orders_of_seen(alloc, seen, &self.looked),
         }
     }
 
-    fn graph_of(&self, alloc: Global, items: &[ViewItem]) -> Result<Graph, AllocError>
-        ensures { IfOk result (λ g. g ≡ members items.now) }
+    /// Whether nothing would be ordered of a view, whatever view is held. It looks at all of it.
+    pub fn orders_nothing(&mut self, alloc: Global, view: &HeldView) -> Result<bool, AllocError>
+        ensures same { self.new ≡ self.old }
+        ensures nothing { IfOk result (λ b. b ≡ has_no_orders view.now) }
     {
-        match self.last.replace(None) {
-            Some(last) => last.renewed(alloc, items),
-            None => Graph::of(alloc, items),
-        }
-    }
-
-    fn orders_of(&self, alloc: Global, view: &HeldView) -> Result<Items<Order>, AllocError>
-        ensures { IfOk result (λ os. os ≡ orders view.now.revision view.now.items) }
-    {
-        let items = view.items();
-        let graph = self.graph_of(alloc, items)?;
-        let orders = orders_by(alloc, view.revision(), &graph, items)?;
-        self.last.set(Some(graph));
-        Ok(orders)
-    }
-
-    /// Whether nothing would be ordered of a view, whatever view is held.
-    pub fn orders_nothing(&self, alloc: Global, view: &HeldView) -> Result<bool, AllocError>
-        ensures { IfOk result (λ b. b ≡ has_no_orders view.now) }
-    {
-        let items = view.items();
-        let graph = self.graph_of(alloc, items)?;
-        let is_nothing = has_no_orders_by(alloc, view.revision(), &graph, items)?;
-        self.last.set(Some(graph));
+        let last = graph_left(self.looked.take(), self.last.take());
+        let graph = graph_of(alloc, last, view)?;
+        let is_nothing = has_no_orders_by(alloc, view.revision(), &graph, view.items())?;
+        self.last = Some(graph);
         Ok(is_nothing)
+    }
+
+    /// The revision of the view that is held.
+    pub fn revision(&self) -> Option<u64>
+        ensures { result ≡ option_map (λ v. v.revision) self.now }
+    {
+        match &self.seen {
+            None => None,
+            Some(seen) => Some(seen.revision()),
+        }
+    }
+
+    /// Whether nothing would be ordered of the view that is held once these changes are made. It looks at what changed.
+    pub fn would_order_nothing(
+        &mut self,
+        alloc: Global,
+        to: u64,
+        changes: &[ChangedItem],
+    ) -> Result<bool, AllocError>
+        ensures same { self.new ≡ self.old }
+        ensures nothing { IfOk result (λ b. (v : AnyView) → self.old ≡ Some v → b ≡ has_no_orders (patched v to changes.now)) }
+    {
+        let Some(seen) = &self.seen else {
+            return Ok(true);
+        };
+        let looked = look_at(alloc, seen, self.looked.take(), self.last.take())?;
+        let looked = looked.ahead(alloc, to, changes)?;
+        let orders = looked.orders(alloc, to)?;
+        self.looked = Some(looked);
+        Ok(is_none_left(orders.as_slice()))
     }
 }

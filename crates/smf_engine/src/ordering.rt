@@ -1,5 +1,7 @@
 ghost use Rattle.std.specs.Prelude.{◌≡◌, ℕ, IfOk, None, Some, false, find, is_some, slice_get};
 ghost use Rattle.smf_dep.specs.Members.{members};
+ghost use Rattle.smf_fmri.specs.ByKey.{Rises};
+ghost use Rattle.smf_state.specs.Patched.{by_item};
 ghost use Rattle.smf_engine.specs.Orders.{decision, is_about, is_none_left, order, order_in, order_to, order_under, order_placed, orders, what_by};
 
 use crate::deciding::{decide_instance, what_of};
@@ -57,7 +59,7 @@ pub(crate) fn order_under(
 }
 
 /// The order for an item, by what a graph has at a place.
-fn order_with(
+pub(crate) fn order_with(
     alloc: Global,
     revision: u64,
     graph: &Graph,
@@ -76,7 +78,7 @@ fn order_with(
 }
 
 /// Whether something is to be done with an item, by what a graph has at a place.
-fn has_decision(
+pub(crate) fn has_decision(
     alloc: Global,
     graph: &Graph,
     item: &ViewItem,
@@ -198,6 +200,7 @@ pub(crate) fn has_no_orders_by(
 
 /// The orders for all instances of a view, in their order.
 pub fn orders(alloc: Global, revision: u64, items: &[ViewItem]) -> Result<Items<Order>, AllocError>
+    requires { Rises by_item items.now }
     ensures { IfOk result (λ os. os ≡ orders revision items.now) }
 {
     let graph = Graph::of(alloc, items)?;
@@ -232,6 +235,7 @@ pub(crate) fn order_of(
     items: &[ViewItem],
     instance: u64,
 ) -> Result<Option<Order>, AllocError>
+    requires { Rises by_item items.now }
     ensures { IfOk result (λ o. o ≡ order_in revision items.now (find (is_about instance) items.now)) }
 {
     let graph = Graph::of(alloc, items)?;

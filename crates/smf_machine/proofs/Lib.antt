@@ -14,3 +14,4 @@ pub mod Telling
 pub mod Turned
 pub mod Covered
 pub mod Seen
+pub mod NothingAhead

@@ -111,6 +111,16 @@ impl<J: Journal> System<J> {
         }
     }
 
+    /// Before the orders are made, the graph looks at what changed in the view that it holds.
+    fn look_before(&mut self, event: &Event) -> Result<(), AllocError>
+        ensures { self.new ≡ self.old }
+    {
+        match event {
+            Event::Orders => self.look(),
+            _ => Ok(()),
+        }
+    }
+
     /// Makes what an event makes, which delivers no changes.
     #[tactic(auto, unfolding(smf_world::specs::Happens::happens))]
     fn make(&mut self, event: &Event) -> Result<Items<Reply>, MachineFault>
@@ -138,6 +148,7 @@ impl<J: Journal> System<J> {
         if self.take_changes(event)? {
             return Ok(Items::new(self.alloc));
         }
+        self.look_before(event)?;
         self.make(event)
     }
 }
@@ -221,9 +232,10 @@ impl<J: Journal> Machine<J> {
         self.system.keep_view()
     }
 
-    /// Whether svc.startd's graph would order nothing of what is held.
-    pub fn has_no_orders(&self) -> Result<bool, AllocError>
-        ensures { IfOk result (λ b. b ≡ has_no_orders (view self.now.now)) }
+    /// Whether svc.startd's graph would order nothing of what is held. It looks at what changed since the view that it holds.
+    pub fn has_no_orders(&mut self) -> Result<bool, AllocError>
+        ensures same { self.new ≡ self.old }
+        ensures nothing { IfOk result (λ b. b ≡ has_no_orders (view self.old.now)) }
     {
         self.system.has_no_orders()
     }

@@ -8,6 +8,7 @@ ghost use Rattle.smf_model.specs.Look.{instance, launch_of};
 ghost use Rattle.smf_model.specs.Next.{asked};
 ghost use Rattle.smf_model.specs.Shown.{rows_of, view};
 ghost use Rattle.smf_world.specs.Worked.{is_actor, is_launched, is_named, restarter, sent_at};
+ghost use Rattle.smf_world.specs.Reached.{IsReached};
 ghost use Rattle.smf_world.specs.World.{found};
 ghost use Rattle.smf_model.specs.Holdings.{Holdings as AnyHoldings};
 ghost use Rattle.smf_changes.specs.Changes.{changes_since, recent};
@@ -177,9 +178,17 @@ impl<J: Journal> System<J> {
         self.parts.engine.question()
     }
 
-    /// Whether nothing is ordered of what is held.
-    pub(crate) fn has_no_orders(&self) -> Result<bool, AllocError>
-        ensures { IfOk result (λ b. b ≡ has_no_orders (view self.now.now)) }
+    /// The graph looks at what changed in the view that it holds.
+    pub(crate) fn look(&mut self) -> Result<(), AllocError>
+        ensures { self.new ≡ self.old }
+    {
+        self.parts.engine.look(self.alloc)
+    }
+
+    /// Whether nothing is ordered of what is held. The graph looks at all of it.
+    fn shows_no_orders(&mut self) -> Result<bool, AllocError>
+        ensures same { self.new ≡ self.old }
+        ensures nothing { IfOk result (λ b. b ≡ has_no_orders (view self.old.now)) }
     {
         match self.repository.shown() {
             Some(shown) => self.parts.engine.orders_nothing(self.alloc, shown),
@@ -188,6 +197,23 @@ impl<J: Journal> System<J> {
                 self.parts.engine.orders_nothing(self.alloc, &view)
             }
         }
+    }
+
+    /// Whether nothing is ordered of what is held. The graph looks at what changed since the view that it holds.
+    pub(crate) fn has_no_orders(&mut self) -> Result<bool, AllocError>
+        requires { IsReached self.old }
+        ensures same { self.new ≡ self.old }
+        ensures nothing { IfOk result (λ b. b ≡ has_no_orders (view self.old.now)) }
+    {
+        let Some(from) = self.parts.engine.revision() else {
+            return self.shows_no_orders();
+        };
+        let Some((to, items)) = self.changes_since(from)? else {
+            return self.shows_no_orders();
+        };
+        self.parts
+            .engine
+            .would_order_nothing(self.alloc, to, items.as_slice())
     }
 
     /// The launched restarter of a name.

@@ -12,3 +12,4 @@ mod Giving
 mod Booting
 pub mod Lining
 pub mod Resting
+mod Skipping

@@ -1,13 +1,17 @@
--- A turn of a restarter for an instance that changes nothing.
-use Rattle.std.specs.Prelude.{◌≡◌, ℕ, List, false}
+-- The turns of a restarter for its instances that change nothing, and those that are left.
+use Rattle.std.specs.Prelude.{◌≡◌, ℕ, List, [], map, false, Option, Some, None}
 use Rattle.smf_machine.specs.declared.requests.Ask.TheVariants.{Nothing}
 use Rattle.smf_machine.specs.Requests.{asked}
 use Rattle.smf_world.specs.declared.event.Event.TheVariants as events
 use Rattle.smf_world.specs.declared.event.SpawnAnswer.TheVariants as spawns
+use Rattle.smf_restarter.specs.Knowledge.{Knowledge}
+use Rattle.smf_restarter.specs.Watched.{IsOrdered, restless}
+use Rattle.smf_world.specs.declared.schedule.Deed.{Deed}
+use Rattle.smf_world.specs.declared.schedule.Deed.TheVariants as deeds
 use Rattle.smf_world.specs.declared.schedule.Turn.{Turn}
 use Rattle.smf_world.specs.declared.schedule.Turn.TheVariants as turns
 use Rattle.smf_world.specs.Happens.{happens}
-use Rattle.smf_world.specs.Schedule.{asks_spawn}
+use Rattle.smf_world.specs.Schedule.{Progress, asks_spawn, deeds_of}
 use Rattle.smf_world.specs.Worked.{restarter}
 use Rattle.smf_world.specs.World.{World}
 
@@ -17,7 +21,22 @@ pub record RestsOn (w : World) (name : List ℕ) (n : ℕ) : Type 0 where
   pub no_spawn : asks_spawn (restarter w name) n ≡ false
   pub same : happens w (events.Tick name n spawns.Made) ≡ w
 
--- all turns of a restarter for its instances do
-abbrev pub AllRest : World → Turn → Type 0
-AllRest w (turns.Ticks name) = (n : ℕ) → RestsOn w name n
-AllRest w _ = ⊥
+-- ---- the deeds that are left where those that change nothing are left out
+
+abbrev pub numbers_restless : Option Knowledge → List ℕ
+numbers_restless None = []
+numbers_restless (Some k) = restless k
+
+-- a restarter has turns for those of its instances that are not at rest
+unfoldable pub restless_deeds : Progress → Turn → List Deed
+restless_deeds p (turns.Ticks name) = map (λ n. deeds.Tick name n) (numbers_restless (restarter p.world name))
+restless_deeds p t = deeds_of p t
+
+-- what a restarter knows stands in order
+abbrev pub IsInOrder : Option Knowledge → Type 0
+IsInOrder None = Unit {0}
+IsInOrder (Some k) = IsOrdered k
+
+abbrev pub IsTurnInOrder : World → Turn → Type 0
+IsTurnInOrder w (turns.Ticks name) = IsInOrder (restarter w name)
+IsTurnInOrder w _ = Unit {0}

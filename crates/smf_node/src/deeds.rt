@@ -223,16 +223,6 @@ impl<J: Journal> Node<J> {
         }
     }
 
-    /// Whether it is found at once that the turns of a restarter for all its instances change nothing.
-    pub(crate) fn rests_on_all(&self, name: &InstanceFmri) -> bool
-        ensures { result ≡ true → (instance : ℕ) → RestsOn self.now.world name.now instance }
-    {
-        match self.restarter(name) {
-            None => true,
-            Some(restarter) => restarter.is_at_rest(),
-        }
-    }
-
     /// Whether the turn of a restarter for an instance asks for a spawn that is to be refused.
     fn refuses(&self, name: &InstanceFmri, instance: u64) -> Result<bool, AllocError>
         ensures { IfOk result (λ b. b ≡ refuses self.now name.now instance) }

@@ -4,7 +4,6 @@ ghost use Rattle.smf_model.specs.Shown.{view};
 ghost use Rattle.smf_node.specs.Marks.{progress_of};
 ghost use Rattle.smf_node.specs.Partly.{DeedsFail, RestartersFail, RoundFails, SettleFails, TurnFails, TurnsFail};
 ghost use Rattle.smf_node.specs.Rounds.{AreDone, AreTaken, HasSettled, IsRound, IsTaken, course};
-ghost use Rattle.smf_node.specs.Rests.{AllRest};
 ghost use Rattle.smf_restarter.specs.Ticks.{at_rest};
 ghost use Rattle.smf_world.specs.Safe.{IsSafe};
 ghost use Rattle.smf_world.specs.Schedule.{deliveries, first_turns, is_quiet, launched_names, turns_of, turns_of_all};
@@ -89,9 +88,6 @@ impl<J: Journal> Node<J> {
         ensures err { IfErr result (λ e. TurnFails R.rules J.write_fails turn.now (course self.old (R.seen runner.old)) (course self.new (R.seen runner.new)) e) }
     {
         self.enter(runner, turn)?;
-        if self.rests_in(turn) {
-            return Ok(());
-        }
         let deeds = self.deeds_of(turn)?;
         self.go_all(runner, &deeds)
     }
@@ -114,16 +110,6 @@ impl<J: Journal> Node<J> {
     {
         let turns = first_turns(self.alloc)?;
         self.turn_all(runner, &turns)
-    }
-
-    /// Whether it is found at once that the deeds of a turn change nothing.
-    fn rests_in(&self, turn: &Turn) -> bool
-        ensures { result ≡ true → AllRest self.now.world turn.now }
-    {
-        match turn {
-            Turn::Ticks(name) => self.rests_on_all(name),
-            _ => false,
-        }
     }
 
     fn restarter_turns(&self) -> Result<Vec<Turn>, AllocError>
@@ -153,8 +139,9 @@ impl<J: Journal> Node<J> {
 
     /// Whether nothing is ordered of what is held.
     #[tactic(auto, unfolding(crate::specs::Marks::progress_of))]
-    fn has_no_orders(&self) -> Result<bool, AllocError>
-        ensures { IfOk result (λ b. b ≡ has_no_orders (view self.now.world.now)) }
+    fn has_no_orders(&mut self) -> Result<bool, AllocError>
+        ensures same { self.new ≡ self.old }
+        ensures nothing { IfOk result (λ b. b ≡ has_no_orders (view self.old.world.now)) }
     {
         self.machine.has_no_orders()
     }
@@ -168,8 +155,9 @@ impl<J: Journal> Node<J> {
 
     /// Whether nothing is left to do. What is ordered is looked at only if all restarters are at rest.
     #[tactic(auto, unfolding(smf_world::specs::Schedule::is_quiet))]
-    fn is_quiet(&self) -> Result<bool, AllocError>
-        ensures { IfOk result (λ b. b ≡ is_quiet self.now.world) }
+    fn is_quiet(&mut self) -> Result<bool, AllocError>
+        ensures same { self.new ≡ self.old }
+        ensures quiet { IfOk result (λ b. b ≡ is_quiet self.old.world) }
     {
         if !self.all_rest() {
             return Ok(false);
@@ -186,14 +174,22 @@ impl<J: Journal> Node<J> {
         self.machine.keep_view()
     }
 
+    /// Keeps what the graph sees of what is held, and finds out whether nothing is left to do.
+    fn is_settled(&mut self) -> Result<bool, AllocError>
+        ensures same { self.new ≡ self.old }
+        ensures quiet { IfOk result (λ b. b ≡ is_quiet self.new.world) }
+    {
+        self.keep_view()?;
+        self.is_quiet()
+    }
+
     fn drive_rounds<R: Runner>(&mut self, runner: &mut R, rounds: u64) -> Result<Settled, NodeFault>
         ensures ok { IfOk result (λ how. HasSettled R.rules rounds (course self.old (R.seen runner.old)) (course self.new (R.seen runner.new)) how) }
         ensures err { IfErr result (λ e. SettleFails R.rules J.write_fails rounds (course self.old (R.seen runner.old)) (course self.new (R.seen runner.new)) e) }
     {
         for _ in 0..rounds {
             self.round(runner)?;
-            self.keep_view()?;
-            if self.is_quiet()? {
+            if self.is_settled()? {
                 return Ok(Settled::Quiet);
             }
         }

@@ -2,8 +2,9 @@ ghost use Rattle.smf_node.specs.Marks.{progress_of};
 ghost use Rattle.smf_model.specs.Look.{groups_of};
 ghost use Rattle.smf_model.specs.Setting.{owner_by, setting};
 ghost use Rattle.smf_node.specs.Owners.{has_all_owners, has_launched_owner};
+ghost use Rattle.smf_node.specs.Rests.{IsInOrder, IsTurnInOrder, numbers_restless, restless_deeds};
 ghost use Rattle.smf_world.specs.declared.schedule.Deed.TheVariants as deeds;
-ghost use Rattle.smf_world.specs.Schedule.{deeds_of, in_order, launch_deeds, launched_names, numbers_known, owners, unlooked, waiting_count, was_heard};
+ghost use Rattle.smf_world.specs.Schedule.{in_order, launch_deeds, launched_names, owners, unlooked, waiting_count, was_heard};
 ghost use Rattle.smf_world.specs.Worked.{is_launched, restarter};
 ghost use Rattle.std.specs.List.{list_all};
 ghost use Rattle.std.specs.Prelude.{◌≡◌, ◌∷◌, ◌++◌, [], drop, filter, map, not, replicate, IfOk, OnOk};
@@ -14,7 +15,6 @@ use crate::node::Node;
 use smf_contract::Event as ContractEvent;
 use smf_fmri::InstanceFmri;
 use smf_model::{Instance, InstanceEntry, Journal};
-use smf_restarter::KnownInstance;
 use smf_state::startd;
 use smf_world::{Deed, EventKey, Turn};
 use std::alloc::{AllocError, Global};
@@ -99,18 +99,14 @@ fn not_heard(
     Ok(all)
 }
 
-fn ticks(
-    alloc: Global,
-    name: &InstanceFmri,
-    instances: &[KnownInstance],
-) -> Result<Vec<Deed>, AllocError>
-    ensures { IfOk result (λ ds. ds.items ≡ map (λ n. deeds.Tick name.now n) (map (λ i. i.instance) instances.now)) }
+fn ticks(alloc: Global, name: &InstanceFmri, numbers: &[u64]) -> Result<Vec<Deed>, AllocError>
+    ensures { IfOk result (λ ds. ds.items ≡ map (λ n. deeds.Tick name.now n) numbers.now) }
 {
     let mut all = Vec::new(alloc);
-    for known in instances {
+    for number in numbers {
         all.push(Deed::Tick {
             restarter: name.clone()?,
-            instance: known.instance,
+            instance: *number,
         })?;
     }
     Ok(all)
@@ -267,20 +263,22 @@ impl<J: Journal> Node<J> {
         Ok(all)
     }
 
-    #[tactic(auto, unfolding(crate::specs::Marks::progress_of))]
+    /// The turns of a restarter for those of its instances that are not at rest.
     fn tick_deeds(&self, name: &InstanceFmri) -> Result<Vec<Deed>, AllocError>
-        ensures { IfOk result (λ ds. ds.items ≡ map (λ n. deeds.Tick name.now n) (numbers_known (restarter self.now.world name.now))) }
+        ensures deeds { IfOk result (λ ds. ds.items ≡ map (λ n. deeds.Tick name.now n) (numbers_restless (restarter self.now.world name.now))) }
+        ensures ordered { IsInOrder (restarter self.now.world name.now) }
     {
-        match self.machine.restarter(name) {
+        match self.restarter(name) {
             None => Ok(Vec::new(self.alloc)),
-            Some(restarter) => ticks(self.alloc, name, restarter.instances()),
+            Some(restarter) => ticks(self.alloc, name, restarter.restless()),
         }
     }
 
-    /// The deeds of a turn that was entered.
-    #[tactic(auto, unfolding(smf_world::specs::Schedule::deeds_of))]
+    /// The deeds of a turn that was entered, but for the turns of a restarter for instances that are at rest.
+    #[tactic(auto, unfolding(crate::specs::Rests::restless_deeds, smf_world::specs::Schedule::deeds_of))]
     pub(crate) fn deeds_of(&self, turn: &Turn) -> Result<Vec<Deed>, AllocError>
-        ensures { IfOk result (λ ds. ds.items ≡ deeds_of self.now turn.now) }
+        ensures deeds { IfOk result (λ ds. ds.items ≡ restless_deeds self.now turn.now) }
+        ensures ordered { IsTurnInOrder self.now.world turn.now }
     {
         match turn {
             Turn::Launches => self.launch_deeds(),

@@ -1,2 +1,5 @@
+mod Judging
+pub mod Leaving
 pub mod Lists
 pub mod Resting
+mod RestlessList

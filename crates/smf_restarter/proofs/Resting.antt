@@ -5,18 +5,17 @@ use Rattle.smf_restarter.specs.declared.known.KnownInstance.{KnownInstance}
 use Rattle.smf_restarter.specs.declared.known.KnownRun.{KnownRun}
 use Rattle.smf_restarter.specs.declared.known.Phase.{Phase}
 use Rattle.smf_restarter.specs.declared.known.Phase.TheVariants.{Idle, Waiting, Owes, Running, Ending as Ends}
-use Rattle.smf_restarter.specs.declared.reply.Reply.{Reply}
 use Rattle.smf_restarter.specs.Changes.{nothing}
 use Rattle.smf_restarter.specs.Knowledge.{Knowledge}
 use Rattle.smf_restarter.specs.Runs.{known_run, orphan}
-use Rattle.smf_restarter.specs.Ticks.{adopting_or, note, note_due, noted_by, rests, rests_in, ticked_in}
+use Rattle.smf_restarter.specs.Ticks.{adopting_or, note_due, noted_by, rests, rests_in, ticked_in}
 
-both : (a b : Bool) → (a && b) ≡ true → (a ≡ true) × (b ≡ true)
+pub both : (a b : Bool) → (a && b) ≡ true → (a ≡ true) × (b ≡ true)
 both true true e = (refl, refl)
 both true false e = cc
 both false b e = cc
 
-none_if : {X : Type 0} (o : Option X) → is_none o ≡ true → o ≡ None
+pub none_if : {X : Type 0} (o : Option X) → is_none o ≡ true → o ≡ None
 none_if None e = refl
 none_if (Some x) e = cc
 

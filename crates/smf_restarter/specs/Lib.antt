@@ -6,3 +6,5 @@ pub mod Orders
 pub mod Replies
 pub mod Ticks
 pub mod Answers
+pub mod Watched
+pub mod Left

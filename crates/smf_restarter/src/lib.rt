@@ -2,7 +2,8 @@
 //! a report.
 //! Modules: `known` (what it knows), `reply` (what a step is, and what it changes), `changing` (changes and replies by
 //! what they do), `running` (runs and their contracts), `ending` (ends that follow on methods), `orders` (proposals),
-//! `hearing` (messages), `ticking` (ticks), `answering` (answers and reports), `restarter`.
+//! `hearing` (messages), `ticking` (ticks), `answering` (answers and reports), `watching` (which instances rest),
+//! `restarter`.
 #![tactic(auto)]
 
 mod answering;
@@ -15,6 +16,7 @@ mod reply;
 mod restarter;
 mod running;
 mod ticking;
+mod watching;
 
 pub use known::{
     After, Drain, Ending, KnownInstance, KnownRun, Owed, Phase, RunKey, RunningMethod, Stage,

@@ -1,19 +1,21 @@
 ghost use Rattle.std.specs.Option.{option_copied};
-ghost use Rattle.std.specs.Prelude.{◌≡◌, ◌+◌, ◌≤◌, length, option_to_list, true, IfOk, OnOk};
-ghost use Rattle.smf_fmri.specs.ByKey.{put_all};
+ghost use Rattle.std.specs.Prelude.{◌≡◌, ◌+◌, ◌<◌, ◌≤◌, length, option_to_list, true, IfOk, OnOk};
+ghost use Rattle.smf_fmri.specs.ByKey.{put, put_all};
 ghost use Rattle.smf_restarter.specs.Answers.{answered, listed, reported, timed_out};
 ghost use Rattle.smf_restarter.specs.Changes.{changed, forgotten, nothing, phase_on, turned};
-ghost use Rattle.smf_restarter.specs.Knowledge.{at_first, by_run, known};
+ghost use Rattle.smf_restarter.specs.Knowledge.{at_first, by_instance, by_run, known};
 ghost use Rattle.smf_restarter.specs.Replies.{heard};
 ghost use Rattle.smf_restarter.specs.Ticks.{at_rest, own_tick, ticked};
+ghost use Rattle.smf_restarter.specs.Watched.{IsOrdered, IsWatched, restless};
 
 use crate::answering::{answered, listed, reported, timed_out};
 use crate::hearing::heard;
 use crate::known::{KnownInstance, KnownRun, Phase, Stage};
 use crate::reply::{Answer, Change, Course, Reply, Turn};
-use crate::ticking::{is_at_rest, own_tick, rests_on, ticked};
+use crate::ticking::{own_tick, ticked};
+use crate::watching::{has_none, is_noted, is_up, judge, reserve_touched};
 use smf_contract::{Report, Status};
-use smf_fmri::{InstanceFmri, Items, Keyed, Number, Table};
+use smf_fmri::{InstanceFmri, Items, Number, Table};
 use smf_wire::Message;
 use std::alloc::{AllocError, Global};
 use std::marker::Model;
@@ -30,10 +32,16 @@ pub struct Restarter {
     pub(crate) stage: Stage,
     instances: Table<KnownInstance>,
     pub(crate) runs: Table<KnownRun>,
+    /// The numbers of the instances that are not at rest.
+    restless: Table<u64>,
+    /// For so many more instances and runs there is room in all lists.
+    instances_room: usize,
+    runs_room: usize,
 }
 
 impl Model for Restarter {
     ghost use Rattle.smf_restarter.specs.Knowledge.{Kept, kept};
+    ghost use Rattle.smf_restarter.specs.Watched.{IsRestarter};
 
     ghost Value = { Kept };
 
@@ -46,7 +54,9 @@ impl Model for Restarter {
           stage = r.stage;
           instances = r.instances.items;
           runs = r.runs.items;
-        }) r.instances.room r.runs.room };
+        }) r.instances_room r.runs_room };
+
+    ghost invariant = { λ r. IsRestarter r.restless r.instances r.runs r.instances_room r.runs_room };
 }
 
 impl Restarter {
@@ -63,6 +73,9 @@ impl Restarter {
             stage: Stage::Joining,
             instances: Table::new(alloc),
             runs: Table::new(alloc),
+            restless: Table::new(alloc),
+            instances_room: 0,
+            runs_room: 0,
         }
     }
 
@@ -132,10 +145,24 @@ impl Restarter {
     }
 
     /// Whether it is found at once that a tick of an instance does nothing.
+    #[tactic(auto, unfolding(crate::specs::Ticks::ticked))]
     pub fn rests_on(&self, instance: u64) -> bool
         ensures { result ≡ true → ticked self.now.known instance ≡ nothing }
     {
-        rests_on(self, instance)
+        if self.stage != Stage::Up {
+            return true;
+        }
+        !is_noted(&self.restless, instance)
+    }
+
+    /// The numbers of the instances that are not at rest, in order.
+    pub fn restless(&self) -> &[u64]
+        ensures numbers { result.now ≡ restless self.now.known }
+        ensures ordered { IsOrdered self.now.known }
+    {
+        let _instances = self.instances.as_slice();
+        let _runs = self.runs.as_slice();
+        self.restless.as_slice()
     }
 
     /// What becomes of it when it is told which contracts there are.
@@ -172,8 +199,13 @@ impl Restarter {
         ensures instances_room { OnOk result (instances ≤ self.new.instances_room) }
         ensures runs_room { OnOk result (runs ≤ self.new.runs_room) }
     {
+        self.instances_room = 0;
+        self.runs_room = 0;
         self.instances.reserve(instances)?;
         self.runs.reserve(runs)?;
+        reserve_touched(&mut self.restless, instances, runs)?;
+        self.instances_room = instances;
+        self.runs_room = runs;
         Ok(())
     }
 
@@ -195,29 +227,60 @@ impl Restarter {
         } = change;
         self.stage = stage.unwrap_or(self.stage);
         self.serial = serial.unwrap_or(self.serial);
-        put_all(&mut self.instances, put);
-        turn_in(&mut self.instances, turn);
-        forget_in(&mut self.instances, forget);
-        put_all(&mut self.runs, listed);
-        put_run(&mut self.runs, run);
+        put_listed(&mut self.runs, &mut self.restless, &self.instances, listed);
+        put_if(&mut self.runs, &mut self.restless, &self.instances, run);
+        put_all(&mut self.instances, &mut self.restless, &self.runs, put);
+        turn_in(&mut self.instances, &mut self.restless, &self.runs, turn);
+        forget_in(&mut self.instances, &mut self.restless, &self.runs, forget);
+        self.instances_room = 0;
+        self.runs_room = 0;
     }
 
     /// Whether it is up, and awaits and owes nothing.
     pub fn is_at_rest(&self) -> bool
         ensures { result ≡ at_rest self.now.known }
     {
-        is_at_rest(self)
+        let none = has_none(self.restless());
+        is_up(self.stage) && none
     }
 }
 
-/// Puts items in their places, one after another. There is room for all.
-fn put_all<T: Keyed + Drop>(table: &mut Table<T>, items: Items<T>)
-    requires { length items ≤ table.old.room }
-    ensures items { table.new.items ≡ put_all T.by items table.old.items }
-    ensures room { table.old.room ≤ table.new.room + length items }
+/// Puts an instance in its place, for which there is room.
+fn put_known(
+    instances: &mut Table<KnownInstance>,
+    restless: &mut Table<u64>,
+    runs: &Table<KnownRun>,
+    known: KnownInstance,
+)
+    requires watched { IsWatched restless.old.items instances.old.items runs.now.items }
+    requires room { 0 < instances.old.room }
+    requires touched { 0 < restless.old.room }
+    ensures items { instances.new.items ≡ put by_instance known instances.old.items }
+    ensures room { instances.old.room ≤ instances.new.room + 1 }
+    ensures touched { restless.old.room ≤ restless.new.room + 1 }
+    ensures watched { IsWatched restless.new.items instances.new.items runs.now.items }
 {
-    for item in items.into_vec() {
-        table.put(item);
+    let number = known.instance;
+    instances.put(known);
+    judge(restless, instances, runs, number);
+}
+
+/// Puts instances in their places, one after another. There is room for all.
+fn put_all(
+    instances: &mut Table<KnownInstance>,
+    restless: &mut Table<u64>,
+    runs: &Table<KnownRun>,
+    all: Items<KnownInstance>,
+)
+    requires watched { IsWatched restless.old.items instances.old.items runs.now.items }
+    requires room { length all ≤ instances.old.room }
+    requires touched { length all ≤ restless.old.room }
+    ensures items { instances.new.items ≡ put_all by_instance all instances.old.items }
+    ensures touched { restless.old.room ≤ restless.new.room + length all }
+    ensures watched { IsWatched restless.new.items instances.new.items runs.now.items }
+{
+    for known in all.into_vec() {
+        put_known(instances, restless, runs, known);
     }
 }
 
@@ -230,27 +293,95 @@ fn phase_on(course: Course) -> Phase
     }
 }
 
-fn turn_in(instances: &mut Table<KnownInstance>, turn: Option<Turn>)
-    ensures { instances.new.items ≡ turned turn instances.old.items }
+/// Lets an instance take another course. There is room to note that it does not rest.
+fn turn_in(
+    instances: &mut Table<KnownInstance>,
+    restless: &mut Table<u64>,
+    runs: &Table<KnownRun>,
+    turn: Option<Turn>,
+)
+    requires watched { IsWatched restless.old.items instances.old.items runs.now.items }
+    requires touched { 0 < restless.old.room }
+    ensures items { instances.new.items ≡ turned turn instances.old.items }
+    ensures touched { restless.old.room ≤ restless.new.room + 1 }
+    ensures watched { IsWatched restless.new.items instances.new.items runs.now.items }
 {
     if let Some(turn) = turn {
         instances.amend(&turn.instance, phase_on(turn.course));
+        judge(restless, instances, runs, turn.instance);
     }
 }
 
-fn forget_in(instances: &mut Table<KnownInstance>, forget: Option<u64>)
-    ensures { instances.new.items ≡ forgotten forget instances.old.items }
+fn forget_in(
+    instances: &mut Table<KnownInstance>,
+    restless: &mut Table<u64>,
+    runs: &Table<KnownRun>,
+    forget: Option<u64>,
+)
+    requires { IsWatched restless.old.items instances.old.items runs.now.items }
+    ensures items { instances.new.items ≡ forgotten forget instances.old.items }
+    ensures watched { IsWatched restless.new.items instances.new.items runs.now.items }
 {
     if let Some(instance) = forget {
         instances.remove(&instance);
+        restless.remove(&instance);
     }
 }
 
-fn put_run(runs: &mut Table<KnownRun>, run: Option<KnownRun>)
-    requires { 1 ≤ runs.old.room }
-    ensures { runs.new.items ≡ put_all by_run (option_to_list run) runs.old.items }
+/// Puts a run in its place, for which there is room, and judges its instance again.
+fn put_run(
+    runs: &mut Table<KnownRun>,
+    restless: &mut Table<u64>,
+    instances: &Table<KnownInstance>,
+    run: KnownRun,
+)
+    requires watched { IsWatched restless.old.items instances.now.items runs.old.items }
+    requires room { 0 < runs.old.room }
+    requires touched { 0 < restless.old.room }
+    ensures items { runs.new.items ≡ put by_run run runs.old.items }
+    ensures room { runs.old.room ≤ runs.new.room + 1 }
+    ensures touched { restless.old.room ≤ restless.new.room + 1 }
+    ensures watched { IsWatched restless.new.items instances.now.items runs.new.items }
+{
+    let number = run.key.instance;
+    runs.put(run);
+    judge(restless, instances, runs, number);
+}
+
+/// Puts runs in their places, one after another. There is room for all.
+fn put_listed(
+    runs: &mut Table<KnownRun>,
+    restless: &mut Table<u64>,
+    instances: &Table<KnownInstance>,
+    all: Items<KnownRun>,
+)
+    requires watched { IsWatched restless.old.items instances.now.items runs.old.items }
+    requires room { length all ≤ runs.old.room }
+    requires touched { length all ≤ restless.old.room }
+    ensures items { runs.new.items ≡ put_all by_run all runs.old.items }
+    ensures room { runs.old.room ≤ runs.new.room + length all }
+    ensures touched { restless.old.room ≤ restless.new.room + length all }
+    ensures watched { IsWatched restless.new.items instances.now.items runs.new.items }
+{
+    for run in all.into_vec() {
+        put_run(runs, restless, instances, run);
+    }
+}
+
+fn put_if(
+    runs: &mut Table<KnownRun>,
+    restless: &mut Table<u64>,
+    instances: &Table<KnownInstance>,
+    run: Option<KnownRun>,
+)
+    requires watched { IsWatched restless.old.items instances.now.items runs.old.items }
+    requires room { 0 < runs.old.room }
+    requires touched { 0 < restless.old.room }
+    ensures items { runs.new.items ≡ put_all by_run (option_to_list run) runs.old.items }
+    ensures touched { restless.old.room ≤ restless.new.room + 1 }
+    ensures watched { IsWatched restless.new.items instances.now.items runs.new.items }
 {
     if let Some(run) = run {
-        runs.put(run);
+        put_run(runs, restless, instances, run);
     }
 }

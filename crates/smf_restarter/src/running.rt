@@ -45,7 +45,7 @@ fn is_orphan(instance: u64, run: &KnownRun) -> bool
     run.key.instance == instance && !run.empty && !run.held
 }
 
-fn orphan_in(runs: &[KnownRun], instance: u64) -> Option<&KnownRun>
+pub(crate) fn orphan_in(runs: &[KnownRun], instance: u64) -> Option<&KnownRun>
     ensures { option_copied result ≡ find (is_orphan instance) runs.now }
 {
     for run in runs {

@@ -1,11 +1,10 @@
-//! What a restarter does in its turn, for itself and for an instance, and whether it has anything left to do.
+//! What a restarter does in its turn, for itself and for an instance.
 
-ghost use Rattle.std.specs.List.{list_all};
 ghost use Rattle.std.specs.Option.{option_copied};
-ghost use Rattle.std.specs.Prelude.{◌≡◌, true, IfOk};
+ghost use Rattle.std.specs.Prelude.{◌≡◌, IfOk};
 ghost use Rattle.smf_method.specs.Commands.{builtin};
 ghost use Rattle.smf_restarter.specs.Changes.{nothing};
-ghost use Rattle.smf_restarter.specs.Ticks.{at_rest, begun_by, begun_of, built_in, drain_call, end_step, ending, fatal_bits, fatal_if, fatal_of, first_call, is_ended, is_failed, is_refresh_end, keeps, keeps_run, kill_of, leads_to, note, note_bits, note_due, own_tick, rests, rests_idle, rests_in, spawning, terms_of, ticked, ticked_in};
+ghost use Rattle.smf_restarter.specs.Ticks.{begun_by, begun_of, built_in, drain_call, end_step, ending, fatal_bits, fatal_if, fatal_of, first_call, is_ended, is_failed, is_refresh_end, keeps, keeps_run, kill_of, leads_to, note, note_bits, note_due, own_tick, spawning, terms_of, ticked, ticked_in};
 
 use crate::changing::{beginning, calling, nothing, sending, turning, unchanged};
 use crate::ending::succeeded;
@@ -312,7 +311,7 @@ fn note_bits(duration: Duration, live: Option<&KnownRun>) -> Option<u8>
 }
 
 /// A note is due where the instance runs with a live run, and nothing is under way.
-fn note_due(row: &Row, live: Option<&KnownRun>) -> Option<u8>
+pub(crate) fn note_due(row: &Row, live: Option<&KnownRun>) -> Option<u8>
     ensures { result ≡ note_due row.now (option_copied live.entry) }
 {
     if row.next.is_none() && row.state.runs() && row.live.is_some() {
@@ -394,55 +393,4 @@ pub(crate) fn ticked(
         None => Ok(nothing(alloc)),
         Some(known) => ticked_in(alloc, restarter, known, &known.phase),
     }
-}
-
-fn rests_idle(restarter: &Restarter, known: &KnownInstance) -> bool
-    ensures { result ≡ rests_idle restarter.now.known known.now }
-{
-    let live = known_run(restarter, known.instance, known.row.live);
-    orphan(restarter, known.instance).is_none() && note_due(&known.row, live).is_none()
-}
-
-fn rests_in(restarter: &Restarter, known: &KnownInstance, phase: &Phase) -> bool
-    ensures { result ≡ rests_in restarter.now.known known.now phase.now }
-{
-    match phase {
-        Phase::Idle => rests_idle(restarter, known),
-        Phase::Running(_) => true,
-        _ => false,
-    }
-}
-
-fn rests(restarter: &Restarter, known: &KnownInstance) -> bool
-    ensures { result ≡ rests restarter.now.known known.now }
-{
-    rests_in(restarter, known, &known.phase)
-}
-
-/// Whether it is found at once that a tick of an instance does nothing.
-#[tactic(auto, unfolding(crate::specs::Ticks::ticked), using(crate::proofs::Resting::rested))]
-pub(crate) fn rests_on(restarter: &Restarter, instance: u64) -> bool
-    ensures { result ≡ true → ticked restarter.now.known instance ≡ nothing }
-{
-    if restarter.stage != Stage::Up {
-        return true;
-    }
-    match restarter.known(instance) {
-        None => true,
-        Some(known) => rests(restarter, known),
-    }
-}
-
-fn all_rest(restarter: &Restarter, instances: &[KnownInstance]) -> bool
-    ensures { result ≡ list_all (rests restarter.now.known) instances.now }
-{
-    instances.iter().all(|known| rests(restarter, known))
-}
-
-/// Whether a restarter is up, and nothing is awaited or owed.
-#[tactic(auto, unfolding(crate::specs::Ticks::at_rest))]
-pub(crate) fn is_at_rest(restarter: &Restarter) -> bool
-    ensures { result ≡ at_rest restarter.now.known }
-{
-    restarter.stage == Stage::Up && all_rest(restarter, restarter.instances())
 }

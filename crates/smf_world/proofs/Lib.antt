@@ -64,6 +64,7 @@ pub mod KnowEvents
 pub mod KnowFrees
 pub mod DecidedQuiet
 pub mod DecidedShown
+pub mod Ahead
 pub mod DecidedLast
 pub mod DecidedStarts
 pub mod DecidedLasting

@@ -1,5 +1,5 @@
 use Rattle.std.proofs.Common.{◌∙◌}
-use Rattle.smf_dep.proofs.Kept.{of_item}
+use Rattle.smf_dep.proofs.Alike.{of_item}
 use Rattle.smf_dep.proofs.member.member_again.Goals as goal
 
 pub returns : goal.returns

@@ -1,12 +1,17 @@
 use Rattle.std.proofs.Common.{◌≡◌, ◌+◌, ◌≤◌, length}
 use Rattle.std.specs.Vec.Iter.{into_iter_items}
 use Rattle.smf_fmri.specs.ByKey.{put_all}
+use Rattle.smf_restarter.specs.Knowledge.{by_instance}
+use Rattle.smf_restarter.specs.Watched.{IsWatched}
 use Rattle.smf_restarter.proofs.restarter.put_all.Given as goal
 
-abbrev pub invariant-loop-item : goal.invariant-loop-item
-invariant-loop-item g l =
-    let rest = into_iter_items l.item-iterator in
+abbrev pub invariant-loop-known : goal.invariant-loop-known
+invariant-loop-known l =
+    let rest = into_iter_items l.known-iterator in
     record {
-      items : put_all g.T.Keyed.by rest l.table.items ≡ put_all g.T.Keyed.by l.fn.items l.fn.table.items;
-      room : length rest + l.fn.table.room ≤ l.table.room + length l.fn.items;
+      items : put_all by_instance rest l.instances.items ≡ put_all by_instance l.fn.all l.fn.instances.items;
+      room : length rest ≤ l.instances.room;
+      touched : length rest ≤ l.restless.room;
+      left : length rest + l.fn.restless.room ≤ l.restless.room + length l.fn.all;
+      watched : IsWatched l.restless.items l.instances.items l.runs.items;
     }

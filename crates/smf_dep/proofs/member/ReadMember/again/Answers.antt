@@ -1,6 +1,6 @@
 use Rattle.std.proofs.Common.{subst, sym}
 use Rattle.smf_dep.specs.Members.{IsOfItem}
-use Rattle.smf_dep.proofs.Kept.{read_again}
+use Rattle.smf_dep.proofs.Alike.{read_again}
 use Rattle.smf_dep.proofs.member.ReadMember.again.Goals as goal
 
 pub invariant_of-result : goal.invariant_of-result

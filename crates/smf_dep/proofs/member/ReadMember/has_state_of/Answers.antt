@@ -1,6 +1,6 @@
 use Rattle.std.proofs.Common.{◌∙◌, subst, sym}
 use Rattle.smf_dep.specs.Members.{HasNumbersOf, IsOfItem}
-use Rattle.smf_dep.proofs.Kept.{of_state}
+use Rattle.smf_dep.proofs.Alike.{of_state}
 use Rattle.smf_dep.proofs.member.ReadMember.has_state_of.Goals as goal
 
 pub returns-then-has_state_of : goal.returns-then-has_state_of

@@ -1,0 +1,151 @@
+-- Stamps of places: 0 where an instance is not parked, else a number by which what parks it has a smaller one.
+use Rattle.std.specs.Prelude.{◌≡◌, ◌⊎◌, ℕ, ◌+◌, ◌*◌, ◌≤◌, ◌<◌, nat_lt, List, [], ◌∷◌, ◌++◌, length, drop, slice_get, slice_index, slice_set, Bool, true, false, not, ◌&&◌, if◌then◌else◌, Some}
+use Rattle.std.specs.Option.{unwrap_or}
+use Rattle.smf_dep.specs.declared.link.Link.{Link}
+use Rattle.smf_dep.specs.declared.link.Node.{Node}
+use Rattle.smf_dep.specs.Parking.{IsOut, met_at, parks}
+
+-- what is stamped, and what is stamped with a smaller number
+abbrev pub stamped : List ℕ → ℕ → Bool
+stamped ss p = nat_lt 0 (slice_index ss p)
+
+abbrev pub before : List ℕ → ℕ → ℕ → Bool
+before ss limit p = nat_lt 0 (slice_index ss p) && nat_lt (slice_index ss p) limit
+
+-- ---- what has to hold of each place
+
+-- what is stamped is parked by what has smaller stamps
+abbrev pub IsSound : List Node → List ℕ → ℕ → Type 0
+IsSound ns ss a = stamped ss a ≡ true → parks ns (before ss (slice_index ss a)) a ≡ true
+
+-- what is not stamped is not parked by all that is
+abbrev pub IsComplete : List Node → List ℕ → ℕ → Type 0
+IsComplete ns ss a = stamped ss a ≡ false → parks ns (stamped ss) a ≡ false
+
+-- ---- which places cite a place
+
+-- no entity, and no link, cites the place
+abbrev pub AreOut : ℕ → List (List ℕ) → Type 0
+AreOut p [] = Unit
+AreOut p (ps ∷ pss) = IsOut p ps × AreOut p pss
+
+abbrev pub Avoid : ℕ → List Link → Type 0
+Avoid p [] = Unit
+Avoid p (l ∷ ls) = AreOut p l.cited × Avoid p ls
+
+abbrev pub citing_at : List (List ℕ) → ℕ → List ℕ
+citing_at cs p = unwrap_or (slice_get cs p) []
+
+-- an instance that is not among those that cite a place does not cite it
+pub record IsIndex (ns : List Node) (cs : List (List ℕ)) : Type 0 where
+  pub size : length cs ≡ length ns
+  pub cites : (p a : ℕ) (n : Node) → p < length ns → slice_get ns a ≡ Some n → IsOut a (citing_at cs p) → Avoid p n.links
+
+-- ---- the index, place by place
+
+abbrev pub noted : List (List ℕ) → ℕ → ℕ → List (List ℕ)
+noted cs at p = slice_set cs p (citing_at cs p ++ at ∷ [])
+
+-- what is indexed stays, and what cites by P is
+pub record Notes (P : ℕ → Type 0) (at : ℕ) (cs cs' : List (List ℕ)) : Type 0 where
+  pub size : length cs' ≡ length cs
+  pub stays : (p a : ℕ) → IsOut a (citing_at cs' p) → IsOut a (citing_at cs p)
+  pub notes : (p : ℕ) → p < length cs → IsOut at (citing_at cs' p) → P p
+
+-- ---- how much work there can be
+
+abbrev pub total : List (List ℕ) → ℕ
+total [] = 0
+total (c ∷ cs) = length c + total cs
+
+-- of what is stamped
+abbrev pub weight : List ℕ → List (List ℕ) → ℕ
+weight [] cs = 0
+weight (s ∷ ss) [] = 0
+weight (s ∷ ss) (c ∷ cs) = (if nat_lt 0 s then length c else 0) + weight ss cs
+
+-- ---- one step
+
+-- a place loses its stamp where what has smaller stamps does not park it
+unfoldable pub drops : List Node → List ℕ → ℕ → Bool
+drops ns ss x = stamped ss x && not (parks ns (before ss (slice_index ss x)) x)
+
+-- a place gets a stamp where what is stamped parks it
+unfoldable pub gains : List Node → List ℕ → ℕ → ℕ → Bool
+gains ns ss limit x = not (stamped ss x) && parks ns (before ss limit) x
+
+abbrev pub stamps_by : Bool → List ℕ → ℕ → ℕ → List ℕ
+stamps_by true ss x s = slice_set ss x s
+stamps_by false ss x s = ss
+
+-- more places stand behind the work, so that these are among what is left of it
+pub record Adds (next : ℕ) (places work work' : List ℕ) : Type 0 where
+  pub added : List ℕ
+  pub behind : work' ≡ work ++ added
+  pub size : length work' ≤ length work + length places
+  pub left : (a : ℕ) → IsOut a (drop next work') → IsOut a places
+
+abbrev pub AddsBy : Bool → ℕ → List ℕ → List ℕ → List ℕ → Type 0
+AddsBy true next places work work' = Adds next places work work'
+AddsBy false next places work work' = work' ≡ work
+
+-- ---- what holds while stamps are taken away, and while they are given
+
+pub record IsLoosening (ns : List Node) (cs : List (List ℕ)) (limit capacity : ℕ) (ss work : List ℕ) (at : ℕ) : Type 0 where
+  pub index : IsIndex ns cs
+  pub size : length ss ≡ length ns
+  pub low : (a : ℕ) → slice_index ss a < limit
+  pub sound : (a : ℕ) → IsOut a (drop at work) → IsSound ns ss a
+  pub complete : (a : ℕ) → IsOut a work → IsComplete ns ss a
+  pub space : length work + weight ss cs + total cs ≤ capacity
+
+pub record IsSpreading (ns : List Node) (cs : List (List ℕ)) (limit capacity : ℕ) (ss work : List ℕ) (at : ℕ) : Type 0 where
+  pub index : IsIndex ns cs
+  pub size : length ss ≡ length ns
+  pub low : (a : ℕ) → slice_index ss a < limit
+  pub sound : (a : ℕ) → IsSound ns ss a
+  pub complete : (a : ℕ) → IsOut a (drop at work) → IsComplete ns ss a
+  pub space : length work + total cs ≤ capacity + weight ss cs
+
+-- what is kept beside the instances
+pub record IsKept (ns : List Node) (ss : List ℕ) (cs : List (List ℕ)) (next capacity : ℕ) : Type 0 where
+  pub index : IsIndex ns cs
+  pub size : length ss ≡ length ns
+  pub low : (a : ℕ) → slice_index ss a < next
+  pub sound : (a : ℕ) → IsSound ns ss a
+  pub complete : (a : ℕ) → IsComplete ns ss a
+  pub space : length ns + 1 + 3 * total cs ≤ capacity
+
+-- the same where the flags of one instance changed
+pub record IsTouched (ns : List Node) (ss : List ℕ) (cs : List (List ℕ)) (next capacity place : ℕ) : Type 0 where
+  pub index : IsIndex ns cs
+  pub size : length ss ≡ length ns
+  pub low : (a : ℕ) → slice_index ss a < next
+  pub sound : (a : ℕ) → (place ≡ a → ⊥) → IsOut a (citing_at cs place) → IsSound ns ss a
+  pub complete : (a : ℕ) → (place ≡ a → ⊥) → IsOut a (citing_at cs place) → IsComplete ns ss a
+  pub space : length ns + 1 + 3 * total cs ≤ capacity
+
+-- ---- what a change reached
+
+-- what is out of the work has its stamp as before, and so has all that it cites
+pub record Spreads (ns : List Node) (cs : List (List ℕ)) (ss work ss' work' : List ℕ) : Type 0 where
+  pub grown : (a : ℕ) → IsOut a work' → IsOut a work
+  pub same : (a : ℕ) → IsOut a work' → stamped ss' a ≡ stamped ss a
+  pub reached : (x : ℕ) → (stamped ss' x ≡ stamped ss x) ⊎ ((a : ℕ) → IsOut a work' → IsOut a (citing_at cs x))
+
+-- the same of instances that are there, where the flags of a place changed
+pub record Touches (ns : List Node) (cs : List (List ℕ)) (ss ss' work : List ℕ) (place : ℕ) : Type 0 where
+  pub begun : (a : ℕ) → IsOut a work → a < length ns → (place ≡ a → ⊥) × IsOut a (citing_at cs place)
+  pub same : (a : ℕ) → IsOut a work → a < length ns → stamped ss' a ≡ stamped ss a
+  pub reached : (x : ℕ) → (stamped ss' x ≡ stamped ss x) ⊎ ((a : ℕ) → IsOut a work → a < length ns → IsOut a (citing_at cs x))
+
+-- the work begins with what the change of a place touches, or with all places
+pub record Begins (ns : List Node) (cs : List (List ℕ)) (ss ss' work : List ℕ) (place : ℕ) : Type 0 where
+  pub begins : ((ss' ≡ ss) × (work ≡ place ∷ citing_at cs place)) ⊎ ((a : ℕ) → IsOut a work → length ns ≤ a)
+
+-- where the flags of a place are others: an instance whose place is not touched does not cite that place, and its links
+-- are met as before
+pub record Reaches (before after : List Node) (place : ℕ) (was touched : List ℕ) : Type 0 where
+  pub grown : (a : ℕ) → IsOut a touched → a < length before → IsOut a was
+  pub apart : (a : ℕ) (n : Node) → IsOut a touched → slice_get before a ≡ Some n → (place ≡ a → ⊥) × Avoid place n.links
+  pub met : (a : ℕ) → IsOut a touched → a < length before → met_at after a ≡ met_at before a

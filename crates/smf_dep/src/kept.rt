@@ -1,0 +1,274 @@
+ghost use Rattle.std.specs.List.{list_all};
+ghost use Rattle.std.specs.Option.{option_copied};
+ghost use Rattle.std.specs.Prelude.{◌≡◌, ◌<◌, ◌≤◌, ◌+◌, ◌*◌, ◌^◌, IfOk, OnOk, [], ◌∷◌, ◌++◌, length, slice_get, slice_index, vec_capacity, ℕ};
+ghost use Rattle.smf_dep.specs.declared.link.Node.{Node};
+ghost use Rattle.smf_dep.specs.Parking.{IsOut, met_at, blocked_by, is_parked, met_by, node_is, off_at, runs_at, with_flags};
+ghost use Rattle.smf_dep.specs.Stamps.{Begins, IsKept, IsLoosening, IsTouched, Reaches, Touches, before, citing_at, total};
+
+use crate::index::{citing_of, index_of, total_of};
+use crate::link::{Flags, Link, Node};
+use crate::parking::{each_met, is_blocked, is_met, stamp_at};
+use crate::stamps::{add, add_one, settle};
+use smf_fmri::Items;
+use std::alloc::{AllocError, Global};
+use std::marker::Model;
+
+/// Above this number all stamps are given anew.
+const LAST: usize = 1 << 62;
+
+/// Instances, and which of them are parked.
+#[derive(Drop)]
+pub struct Kept {
+    nodes: Vec<Node>,
+    stamps: Vec<usize>,
+    citing: Vec<Items<usize>>,
+    next: usize,
+    work: Vec<usize>,
+    /// Where each place may stand in the work: a hint.
+    slots: Vec<usize>,
+}
+
+impl Model for Kept {
+    ghost use Rattle.std.specs.Prelude.{List, vec_capacity, ◌≡◌, ◌<◌};
+    ghost use Rattle.smf_dep.specs.declared.link.Node.{Node};
+    ghost use Rattle.smf_dep.specs.Stamps.{IsKept};
+
+    ghost Value = { List Node };
+
+    ghost view = { λ k. k.nodes.items };
+
+    ghost invariant = { λ k. IsKept k.nodes.items k.stamps.items k.citing.items k.next (vec_capacity k.work) × (0 < k.next) };
+}
+
+fn set_flags(nodes: &mut Vec<Node>, place: usize, flags: Flags)
+    ensures { nodes.new.items ≡ with_flags nodes.old.items place flags }
+{
+    if place < nodes.len() {
+        nodes[place].flags = flags;
+    }
+}
+
+fn clear(stamps: &mut [usize])
+    ensures size { length stamps.new ≡ length stamps.old }
+    ensures none { (a : ℕ) → slice_index stamps.new a ≡ 0 }
+{
+    for stamp in stamps.iter_mut() {
+        *stamp = 0;
+    }
+}
+
+/// No stamps.
+fn zeros(alloc: Global, count: usize) -> Result<Vec<usize>, AllocError>
+    ensures size { IfOk result (λ s. length s.items ≡ count) }
+    ensures none { IfOk result (λ s. (a : ℕ) → slice_index s.items a ≡ 0) }
+{
+    let stamps = vec![in alloc; 0; count]?;
+    Ok(stamps)
+}
+
+/// Puts each place below the count behind others.
+fn add_all(work: &mut Vec<usize>, count: usize)
+    requires empty { work.old.items ≡ [] }
+    requires room { count ≤ vec_capacity work.old }
+    ensures each { (a : ℕ) → IsOut a work.new.items → count ≤ a }
+    ensures size { length work.new.items ≡ count }
+    ensures capacity { vec_capacity work.old ≤ vec_capacity work.new }
+{
+    for place in 0..count {
+        add_one(work, place);
+    }
+}
+
+/// Puts places behind those that are touched. If these are to be more than there are instances, all instances are.
+fn note(touched: &mut Vec<usize>, work: &[usize], count: usize)
+    requires { count ≤ vec_capacity touched.old }
+    ensures noted { (a : ℕ) → IsOut a touched.new.items → a < count → IsOut a touched.old.items × IsOut a work.now }
+    ensures room { vec_capacity touched.old ≤ vec_capacity touched.new }
+{
+    if touched.len() + work.len() > touched.capacity() {
+        touched.clear();
+        add_all(touched, count);
+        return;
+    }
+    add(touched, work);
+}
+
+/// Puts a place and all that cites it into the work.
+fn add_touched(work: &mut Vec<usize>, citing: &[Items<usize>], place: usize)
+    requires empty { work.old.items ≡ [] }
+    requires room { 1 + length (citing_at citing.now place) ≤ vec_capacity work.old }
+    ensures items { work.new.items ≡ place ∷ citing_at citing.now place }
+    ensures capacity { vec_capacity work.old ≤ vec_capacity work.new }
+{
+    add_one(work, place);
+    add(work, citing_of(citing, place));
+}
+
+/// How much work there can be at once.
+fn room_for(count: usize, total: usize) -> Result<usize, AllocError>
+    ensures { IfOk result (λ n. n ≡ count + 1 + 3 * total) }
+{
+    let triple = total.checked_mul(3).ok_or(AllocError)?;
+    let more = count.checked_add(1).ok_or(AllocError)?;
+    more.checked_add(triple).ok_or(AllocError)
+}
+
+/// Puts what may be wrong into the work: what the change of a place touches, or all, where the numbers run out. Gives
+/// the number from which on stamps are free.
+fn begin(
+    nodes: &[Node],
+    citing: &[Items<usize>],
+    stamps: &mut [usize],
+    work: &mut Vec<usize>,
+    next: usize,
+    place: usize,
+) -> usize
+    requires next { 0 < next }
+    requires touched { IsTouched nodes.now stamps.old citing.now next (vec_capacity work.old) place }
+    ensures begun { IsLoosening nodes.now citing.now result (vec_capacity work.new) stamps.new work.new.items 0 }
+    ensures base { (0 < result) × (result ≤ 2 ^ 62) }
+    ensures work { Begins nodes.now citing.now stamps.old stamps.new work.new.items place }
+    ensures capacity { vec_capacity work.old ≤ vec_capacity work.new }
+{
+    work.clear();
+    if next > LAST {
+        clear(stamps);
+        add_all(work, nodes.len());
+        return 1;
+    }
+    add_touched(work, citing, place);
+    next
+}
+
+/// Makes the stamps right where the flags of one place changed, and says from which number on they are free.
+fn settle_touched(
+    nodes: &[Node],
+    citing: &[Items<usize>],
+    stamps: &mut [usize],
+    work: &mut Vec<usize>,
+    slots: &mut [usize],
+    next: usize,
+    place: usize,
+) -> usize
+    requires next { 0 < next }
+    requires touched { IsTouched nodes.now stamps.old citing.now next (vec_capacity work.old) place }
+    ensures kept { IsKept nodes.now stamps.new citing.now result (vec_capacity work.new) }
+    ensures next { 0 < result }
+    ensures touches { Touches nodes.now citing.now stamps.old stamps.new work.new.items place }
+{
+    let base = begin(nodes, citing, stamps, work, next, place);
+    settle(nodes, citing, stamps, work, slots, base);
+    base + work.len()
+}
+
+fn all_met_at(nodes: &[Node], stamps: &[usize], limit: usize, place: usize) -> bool
+    ensures { result ≡ node_is (λ (n : Node). list_all (met_by (runs_at nodes.now) (off_at nodes.now) (before stamps.now limit)) n.links) nodes.now place }
+{
+    match nodes.get(place) {
+        Some(node) => each_met(nodes, stamps, limit, node.links.as_slice()),
+        None => false,
+    }
+}
+
+impl Kept {
+    /// Works out which of the instances are parked.
+    pub fn of(alloc: Global, nodes: Vec<Node>) -> Result<Kept, AllocError>
+        ensures { IfOk result (λ k. k ≡ nodes.items) }
+    {
+        let citing = index_of(alloc, nodes.as_slice())?;
+        let total = total_of(citing.as_slice())?;
+        let room = room_for(nodes.len(), total)?;
+        let mut work = Vec::with_capacity(alloc, room)?;
+        let mut stamps = zeros(alloc, nodes.len())?;
+        let mut slots = zeros(alloc, nodes.len())?;
+        add_all(&mut work, nodes.len());
+        settle(
+            nodes.as_slice(),
+            citing.as_slice(),
+            stamps.as_mut_slice(),
+            &mut work,
+            slots.as_mut_slice(),
+            1,
+        );
+        let next = 1 + work.len();
+        Ok(Kept {
+            nodes,
+            stamps,
+            citing,
+            next,
+            work,
+            slots,
+        })
+    }
+
+    /// Gives other flags to the instance at a place. The places of all of which something that is found may be another
+    /// are among those that are touched from then on.
+    pub fn set(&mut self, place: usize, flags: Flags, touched: &mut Vec<usize>)
+        requires within { place < length self.old }
+        requires room { length self.old ≤ vec_capacity touched.old }
+        ensures set { self.new ≡ with_flags self.old place flags }
+        ensures reaches { Reaches self.old self.new place touched.old.items touched.new.items }
+        ensures room { vec_capacity touched.old ≤ vec_capacity touched.new }
+    {
+        set_flags(&mut self.nodes, place, flags);
+        self.next = settle_touched(
+            self.nodes.as_slice(),
+            self.citing.as_slice(),
+            self.stamps.as_mut_slice(),
+            &mut self.work,
+            self.slots.as_mut_slice(),
+            self.next,
+            place,
+        );
+        note(touched, self.work.as_slice(), self.nodes.len());
+    }
+
+    /// The instances alone.
+    pub fn into_nodes(self) -> Vec<Node>
+        ensures { result.items ≡ self }
+    {
+        self.nodes
+    }
+
+    pub fn node(&self, place: usize) -> Option<&Node>
+        ensures { option_copied result ≡ slice_get self.now place }
+    {
+        self.nodes.as_slice().get(place)
+    }
+
+    /// Whether a link is blocked.
+    pub fn is_blocked(&self, link: &Link) -> bool
+        ensures { result ≡ blocked_by (runs_at self.now) (off_at self.now) (is_parked self.now) link.now }
+    {
+        is_blocked(
+            self.nodes.as_slice(),
+            self.stamps.as_slice(),
+            self.next,
+            link,
+        )
+    }
+
+    /// Whether a link is met.
+    pub fn is_met(&self, link: &Link) -> bool
+        ensures { result ≡ met_by (runs_at self.now) (off_at self.now) (is_parked self.now) link.now }
+    {
+        is_met(
+            self.nodes.as_slice(),
+            self.stamps.as_slice(),
+            self.next,
+            link,
+        )
+    }
+
+    /// Whether each link of an instance is met.
+    pub fn all_met(&self, place: usize) -> bool
+        ensures { result ≡ met_at self.now place }
+    {
+        all_met_at(
+            self.nodes.as_slice(),
+            self.stamps.as_slice(),
+            self.next,
+            place,
+        )
+    }
+}

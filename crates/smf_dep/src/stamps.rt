@@ -1,0 +1,163 @@
+//! Taking stamps away where their support is gone, and giving them to what is parked.
+
+ghost use Rattle.std.specs.Prelude.{◌≡◌, [], ◌∷◌, ◌++◌, ◌+◌, ◌^◌, ◌≤◌, ◌<◌, ℕ, true, drop, length, slice_index, slice_set, vec_capacity};
+ghost use Rattle.smf_dep.specs.Parking.{IsOut};
+ghost use Rattle.smf_dep.specs.Stamps.{Adds, AddsBy, IsComplete, IsLoosening, IsSound, Spreads, citing_at, drops, gains, stamps_by};
+
+use crate::index::citing_of;
+use crate::link::Node;
+use crate::parking::{parks, stamp_at};
+use smf_fmri::Items;
+
+#[tactic(auto, unfolding(crate::specs::Stamps::drops))]
+fn drops(nodes: &[Node], stamps: &[usize], place: usize) -> bool
+    ensures { result ≡ drops nodes.now stamps.now place }
+{
+    let stamp = stamp_at(stamps, place);
+    0 < stamp && !parks(nodes, stamps, stamp, place)
+}
+
+#[tactic(auto, unfolding(crate::specs::Stamps::gains))]
+fn gains(nodes: &[Node], stamps: &[usize], limit: usize, place: usize) -> bool
+    ensures { result ≡ gains nodes.now stamps.now limit place }
+{
+    let stamp = stamp_at(stamps, place);
+    !(0 < stamp) && parks(nodes, stamps, limit, place)
+}
+
+fn set_stamp(stamps: &mut [usize], place: usize, stamp: usize)
+    ensures { stamps.new ≡ slice_set stamps.old place stamp }
+{
+    if place < stamps.len() {
+        stamps[place] = stamp;
+    }
+}
+
+/// Puts places behind others, where there is room for them.
+pub(crate) fn add(work: &mut Vec<usize>, places: &[usize])
+    requires { length work.old.items + length places.now ≤ vec_capacity work.old }
+    ensures items { work.new.items ≡ work.old.items ++ places.now }
+    ensures capacity { vec_capacity work.old ≤ vec_capacity work.new }
+{
+    let _ = work.extend_from_slice(places);
+}
+
+/// Puts a place behind others, where there is room for it.
+pub(crate) fn add_one(work: &mut Vec<usize>, place: usize)
+    requires { length work.old.items < vec_capacity work.old }
+    ensures items { work.new.items ≡ work.old.items ++ place ∷ [] }
+    ensures capacity { vec_capacity work.old ≤ vec_capacity work.new }
+{
+    let _ = work.push(place);
+}
+
+/// Puts a place behind the work, if it is not among what is left of that. A slot is where a place may stand there.
+fn add_new(work: &mut Vec<usize>, slots: &mut [usize], next: usize, place: usize)
+    requires next { next ≤ length work.old.items }
+    requires room { length work.old.items < vec_capacity work.old }
+    ensures adds { Adds next (place ∷ []) work.old.items work.new.items }
+    ensures capacity { vec_capacity work.old ≤ vec_capacity work.new }
+{
+    let slot = stamp_at(slots, place);
+    if stands(work.as_slice(), next, slot, place) {
+        return;
+    }
+    set_stamp(slots, place, work.len());
+    add_one(work, place);
+}
+
+/// Whether a place stands in a slot of what is left.
+fn stands(work: &[usize], next: usize, slot: usize, place: usize) -> bool
+    ensures { result ≡ true → (a : ℕ) → IsOut a (drop next work.now) → IsOut a (place ∷ []) }
+{
+    if next <= slot && slot < work.len() {
+        return work[slot] == place;
+    }
+    false
+}
+
+fn add_each(work: &mut Vec<usize>, slots: &mut [usize], next: usize, places: &[usize])
+    requires next { next ≤ length work.old.items }
+    requires room { length work.old.items + length places.now ≤ vec_capacity work.old }
+    ensures adds { Adds next places.now work.old.items work.new.items }
+    ensures capacity { vec_capacity work.old ≤ vec_capacity work.new }
+{
+    for place in places {
+        add_new(work, slots, next, *place);
+    }
+}
+
+/// Takes the stamp of a place where what has smaller ones does not park it.
+fn loosen(
+    nodes: &[Node],
+    citing: &[Items<usize>],
+    stamps: &mut [usize],
+    work: &mut Vec<usize>,
+    slots: &mut [usize],
+    at: usize,
+)
+    requires at { at < length work.old.items }
+    requires room { drops nodes.now stamps.old (slice_index work.old.items at) ≡ true → length work.old.items + length (citing_at citing.now (slice_index work.old.items at)) ≤ vec_capacity work.old }
+    ensures stamps { stamps.new ≡ stamps_by (drops nodes.now stamps.old (slice_index work.old.items at)) stamps.old (slice_index work.old.items at) 0 }
+    ensures work { AddsBy (drops nodes.now stamps.old (slice_index work.old.items at)) (at + 1) (citing_at citing.now (slice_index work.old.items at)) work.old.items work.new.items }
+    ensures capacity { vec_capacity work.old ≤ vec_capacity work.new }
+{
+    let place = work[at];
+    if drops(nodes, stamps, place) {
+        set_stamp(stamps, place, 0);
+        add_each(work, slots, at + 1, citing_of(citing, place));
+    }
+}
+
+/// Gives a stamp to a place where what is stamped parks it.
+fn spread(
+    nodes: &[Node],
+    citing: &[Items<usize>],
+    stamps: &mut [usize],
+    work: &mut Vec<usize>,
+    slots: &mut [usize],
+    stamp: usize,
+    at: usize,
+)
+    requires at { at < length work.old.items }
+    requires room { gains nodes.now stamps.old stamp (slice_index work.old.items at) ≡ true → length work.old.items + length (citing_at citing.now (slice_index work.old.items at)) ≤ vec_capacity work.old }
+    ensures stamps { stamps.new ≡ stamps_by (gains nodes.now stamps.old stamp (slice_index work.old.items at)) stamps.old (slice_index work.old.items at) stamp }
+    ensures work { AddsBy (gains nodes.now stamps.old stamp (slice_index work.old.items at)) (at + 1) (citing_at citing.now (slice_index work.old.items at)) work.old.items work.new.items }
+    ensures capacity { vec_capacity work.old ≤ vec_capacity work.new }
+{
+    let place = work[at];
+    if gains(nodes, stamps, stamp, place) {
+        set_stamp(stamps, place, stamp);
+        add_each(work, slots, at + 1, citing_of(citing, place));
+    }
+}
+
+/// Makes the stamps right again, where each that may be wrong is among the work. New ones begin at the base.
+pub(crate) fn settle(
+    nodes: &[Node],
+    citing: &[Items<usize>],
+    stamps: &mut [usize],
+    work: &mut Vec<usize>,
+    slots: &mut [usize],
+    base: usize,
+)
+    requires base { (0 < base) × (base ≤ 2 ^ 62) }
+    requires begun { IsLoosening nodes.now citing.now base (vec_capacity work.old) stamps.old work.old.items 0 }
+    ensures size { length stamps.new ≡ length nodes.now }
+    ensures low { (a : ℕ) → slice_index stamps.new a < base + length work.new.items }
+    ensures sound { (a : ℕ) → IsSound nodes.now stamps.new a }
+    ensures complete { (a : ℕ) → IsComplete nodes.now stamps.new a }
+    ensures spread { Spreads nodes.now citing.now stamps.old work.old.items stamps.new work.new.items }
+    ensures capacity { vec_capacity work.old ≤ vec_capacity work.new }
+{
+    let mut at = 0;
+    'loosening: while at < work.len() {
+        loosen(nodes, citing, stamps, work, slots, at);
+        at += 1;
+    }
+    let mut done = 0;
+    'spreading: while done < work.len() {
+        spread(nodes, citing, stamps, work, slots, base + done, done);
+        done += 1;
+    }
+}

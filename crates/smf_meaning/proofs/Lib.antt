@@ -1,0 +1,16 @@
+mod Codes
+mod Commands
+mod Composed
+mod Editing
+mod Ignoring
+mod Restored
+mod Rounds
+mod RunsTaken
+mod Walks
+mod WordsAsked
+mod WrongBodies
+mod WrongBytes
+mod WrongRows
+mod WrongSnapshots
+mod WrongSteps
+mod WrongWords

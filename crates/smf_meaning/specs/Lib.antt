@@ -1,0 +1,11 @@
+pub mod Asked
+pub mod Composing
+pub mod Edited
+pub mod FirstWrong
+pub mod Ignored
+pub mod NameFaults
+pub mod Parking
+pub mod Replacing
+pub mod Runs
+pub mod WrongFields
+pub mod WrongParts

@@ -1,0 +1,18 @@
+-- Which instances won't run, in the words of smf(5) and without rounds.
+use Rattle.std.specs.Prelude.{◌≡◌, ℕ, List, Bool, true, ◌&&◌, ◌||◌}
+use Rattle.smf_dep.specs.declared.member.Member.{Member}
+use Rattle.smf_dep.specs.Cycles.{IsAmong}
+use Rattle.smf_dep.specs.Verdicts.{any_blocked, is_idle, is_parked, is_waiting, parked_in}
+
+-- an instance is parked where it is idle, and besides where it waits and one of its groups is blocked by what is parked
+abbrev pub parks : List Member → (Member → Bool) → Member → Bool
+parks ms is_parked m = is_idle m || (is_waiting m && any_blocked is_parked ms m.dependencies)
+
+-- each test that parks as much parks each instance that is parked
+abbrev pub IsLeast : List Member → Type 0
+IsLeast ms = (f : Member → Bool) → ((m : Member) → parks ms f m ≡ true → f m ≡ true)
+    → (m : Member) → is_parked ms m ≡ true → f m ≡ true
+
+-- each instance that is there is parked in a round as it is in the last
+abbrev pub IsSettled : List Member → ℕ → Type 0
+IsSettled ms k = (m : Member) → IsAmong m ms → parked_in k ms m ≡ is_parked ms m

@@ -1,0 +1,20 @@
+ghost use Rattle.std.specs.Prelude.{◌≡◌, ℕ, List, Err};
+ghost use Rattle.smf_value.specs.declared.fault.BodyFault.{BodyFault as AnyBodyFault};
+ghost use Rattle.smf_value.specs.Body.{spelled};
+ghost use Rattle.smf_value.specs.Groups.{GroupRecord};
+ghost use Rattle.smf_value.specs.Reading.{decoded};
+ghost use Rattle.smf_snap.specs.Body.{decoded_snapshot};
+ghost use Rattle.smf_meaning.specs.WrongParts.{AreBytes, IsBodyFault, IsSnapshotFault, body_fields, bytes_of};
+
+/// Bytes that are no body are refused at the place where the first wrong field begins, or at the end where one is
+/// missing: what stands before is fields that a body can begin with.
+pub fn bodies_are_wrong_at_a_field()
+    ensures spelled { (gs : List GroupRecord) → bytes_of (body_fields gs) ≡ spelled gs }
+    ensures wrong { (bytes : List ℕ) (fault : AnyBodyFault) → AreBytes bytes → decoded bytes ≡ Err fault → IsBodyFault bytes fault }
+{}
+
+/// The same of bytes that are no snapshot: the first of the two bodies is wrong, or the second one after it.
+pub fn snapshots_are_wrong_at_a_field()
+    ensures { (bytes : List ℕ) (fault : AnyBodyFault) → AreBytes bytes → decoded_snapshot bytes ≡ Err fault
+        → IsSnapshotFault bytes fault }
+{}

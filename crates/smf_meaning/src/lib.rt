@@ -1,0 +1,30 @@
+//! Laws above definitions that are the code again: each is a function whose contract is the law, in the words of the
+//! manual and apart from how anything is read or worked out. A definition and a body that are wrong alike are refused here.
+//! Modules: `places`, `lines` and `bodies` (where texts and bytes are wrong), `waits` (parked instances), `asking`
+//! (dependency groups), `groups` (edits of a group), `composing` and `reverts` (the groups of an instance, by name),
+//! `methods` (commands), `steps` (runs).
+#![tactic(auto)]
+
+mod asking;
+mod bodies;
+mod composing;
+mod groups;
+mod lines;
+mod methods;
+mod places;
+mod reverts;
+mod steps;
+mod waits;
+
+pub use asking::groups_ask_what_they_say;
+pub use bodies::{bodies_are_wrong_at_a_field, snapshots_are_wrong_at_a_field};
+pub use composing::groups_are_composed_alike;
+pub use groups::edits_make_the_stated_property;
+pub use lines::{rows_are_wrong_at_a_field, steps_are_wrong_at_a_field};
+pub use methods::{
+    commands_are_their_texts, ignored_failures_are_words, tokens_are_wrong_at_a_percent,
+};
+pub use places::names_are_wrong_at_a_byte;
+pub use reverts::reverts_bring_back;
+pub use steps::steps_take_the_next_run;
+pub use waits::parked_stays;

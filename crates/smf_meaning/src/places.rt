@@ -1,0 +1,14 @@
+ghost use Rattle.std.specs.Prelude.{◌≡◌, ℕ, List, Err};
+ghost use Rattle.smf_fmri.specs.declared.fault.FmriFault.{FmriFault};
+ghost use Rattle.smf_fmri.specs.Name.{read, read_pattern};
+ghost use Rattle.smf_value.specs.declared.fault.NameFault.{NameFault};
+ghost use Rattle.smf_value.specs.Names.{read_name};
+ghost use Rattle.smf_meaning.specs.NameFaults.{IsNameFault, IsPatternFault, IsWordFault};
+
+/// A text that is no name, no pattern or no word is refused with why it is none. A place is that of the first byte that
+/// is wrong, or the length where the text ends too early: what stands before it can go on to one.
+pub fn names_are_wrong_at_a_byte()
+    ensures name { (text : List ℕ) (fault : FmriFault) → read text ≡ Err fault → IsNameFault text fault }
+    ensures pattern { (text : List ℕ) (fault : FmriFault) → read_pattern text ≡ Err fault → IsPatternFault text fault }
+    ensures word { (text : List ℕ) (fault : NameFault) → read_name text ≡ Err fault → IsWordFault text fault }
+{}

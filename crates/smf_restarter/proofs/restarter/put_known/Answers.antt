@@ -1,0 +1,5 @@
+use Rattle.smf_restarter.proofs.Judging.{but_put}
+use Rattle.smf_restarter.proofs.restarter.put_known.Goals as goal
+
+pub judge-requires-clause-others : goal.judge-requires-clause-others
+judge-requires-clause-others c = rw c.put.ensures.put (but_put _ _ _ _ c.requires.watched)

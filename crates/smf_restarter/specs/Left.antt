@@ -1,0 +1,22 @@
+-- What the turn of a restarter for one instance leaves of the others.
+use Rattle.std.specs.Prelude.{◌≡◌, ℕ, true, Some}
+use Rattle.smf_restarter.specs.declared.known.KnownInstance.{KnownInstance}
+use Rattle.smf_restarter.specs.declared.reply.Call.{Call}
+use Rattle.smf_restarter.specs.declared.reply.Call.TheVariants as calls
+use Rattle.smf_restarter.specs.declared.reply.Change.{Change}
+use Rattle.smf_restarter.specs.Changes.{changed}
+use Rattle.smf_restarter.specs.Knowledge.{Knowledge, known}
+use Rattle.smf_restarter.specs.Ticks.{rests}
+use Rattle.smf_restarter.specs.Watched.{IsOrdered}
+
+-- an instance is at rest, or it is not known
+abbrev pub IsAtRest : Knowledge → ℕ → Type 0
+IsAtRest k m = (i : KnownInstance) → known k m ≡ Some i → rests k i ≡ true
+
+-- after a change each other instance is at rest that was
+abbrev pub LeavesOthers : Knowledge → ℕ → Change → Type 0
+LeavesOthers k n c = (m : ℕ) → (n ≡ m → ⊥) → IsOrdered k → IsAtRest k m → IsOrdered (changed k c) × IsAtRest (changed k c) m
+
+abbrev pub IsNoList : Call → Type 0
+IsNoList calls.List = ⊥
+IsNoList _ = Unit {0}
