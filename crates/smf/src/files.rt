@@ -24,7 +24,10 @@ fn has_log(rt: &HostRuntime, database: &str) -> bool {
 }
 
 /// Opens the database in a file. The log of a run that was cut off is copied into the file first, by a close.
-fn open(rt: &HostRuntime, database: &str) -> Result<Connection<FileStore<DatabaseFile>>, Error> {
+pub(crate) fn open(
+    rt: &HostRuntime,
+    database: &str,
+) -> Result<Connection<FileStore<DatabaseFile>>, Error> {
     let had_log = has_log(rt, database);
     let conn = Connection::open(rt, database)?;
     if !had_log {

@@ -1,12 +1,14 @@
 //! `smf`: does scripts of a service manager on standard input, over a repository in memory, over a copy in memory of a
 //! database, or over a database and the processes of its services, and lines of svccfg over a database. It opens files; all
 //! else is decided below.
-//! Modules: `files` (the files that words name).
+//! Modules: `files` (the files that words name), `following` (contracts that are followed through forks).
 #![tactic(auto)]
 
 mod files;
+mod following;
 
 use crate::files::{cfg_over, run_over, sim_over};
+use crate::following::follow_over;
 use smf_edge::TableKids;
 use smf_lines::NotedReader;
 use smf_program::{Task, read_task, refusal_of_words, refuse, tell_no_memory};
@@ -34,7 +36,14 @@ fn do_task(rt: &HostRuntime, task: Task<'_>) -> io::Result<u8> {
         Task::Sim {
             database: Some(database),
         } => sim_over(rt, database),
-        Task::Run { database } => run_over(rt, database),
+        Task::Run {
+            follow: false,
+            database,
+        } => run_over(rt, database),
+        Task::Run {
+            follow: true,
+            database,
+        } => follow_over(rt, database),
         Task::Cfg { lines, database } => cfg_over(rt, lines, database),
     }
 }

@@ -1,5 +1,5 @@
 -- What words of the program ask for, one example for each rule.
-use Rattle.std.specs.Prelude.{◌≡◌, ℕ, List, [], ◌∷◌, codes, Some, None}
+use Rattle.std.specs.Prelude.{◌≡◌, ℕ, List, [], ◌∷◌, codes, Some, None, true, false}
 use Rattle.clap.specs.Words.{fault_of}
 use Rattle.clap.specs.declared.error.kind.ErrorKind.TheVariants as kinds
 use Rattle.smf_program.specs.Tasks.{task_of}
@@ -14,7 +14,7 @@ abbrev pub TasksAreRead : Type 0
 TasksAreRead =
     (task_of (smf (codes "sim" ∷ [])) ≡ Some (Sim None))
     × (task_of (smf (codes "sim" ∷ codes "a.db" ∷ [])) ≡ Some (Sim (Some (codes "a.db"))))
-    × (task_of (smf (codes "run" ∷ codes "a.db" ∷ [])) ≡ Some (Run (codes "a.db")))
+    × (task_of (smf (codes "run" ∷ codes "a.db" ∷ [])) ≡ Some (Run false (codes "a.db")))
     × (task_of (smf (codes "cfg" ∷ codes "a.db" ∷ [])) ≡ Some (Cfg None (codes "a.db")))
 
 -- before the database or behind it, joined or not
@@ -22,6 +22,12 @@ abbrev pub FilesAreRead : Type 0
 FilesAreRead =
     (task_of (smf (codes "cfg" ∷ codes "-f" ∷ codes "x" ∷ codes "a.db" ∷ [])) ≡ Some (Cfg (Some (codes "x")) (codes "a.db")))
     × (task_of (smf (codes "cfg" ∷ codes "a.db" ∷ codes "-fx" ∷ [])) ≡ Some (Cfg (Some (codes "x")) (codes "a.db")))
+
+-- before the database or after it
+abbrev pub ContractsAreFollowed : Type 0
+ContractsAreFollowed =
+    (task_of (smf (codes "run" ∷ codes "--follow" ∷ codes "a.db" ∷ [])) ≡ Some (Run true (codes "a.db")))
+    × (task_of (smf (codes "run" ∷ codes "a.db" ∷ codes "--follow" ∷ [])) ≡ Some (Run true (codes "a.db")))
 
 abbrev pub DatabaseIsWanted : Type 0
 DatabaseIsWanted =
@@ -34,6 +40,7 @@ OthersAreRefused =
     × (task_of (smf (codes "walk" ∷ [])) ≡ None)
     × (task_of (smf (codes "sim" ∷ codes "a.db" ∷ codes "b.db" ∷ [])) ≡ None)
     × (task_of (smf (codes "run" ∷ codes "a.db" ∷ codes "b.db" ∷ [])) ≡ None)
+    × (task_of (smf (codes "sim" ∷ codes "--follow" ∷ codes "a.db" ∷ [])) ≡ None)
 
 abbrev pub HelpIsShown : Type 0
 HelpIsShown =

@@ -1,21 +1,21 @@
 -- What the words of the program ask for.
-use Rattle.std.specs.Prelude.{ℕ, List, [], ◌∷◌, nat_eq, codes, if◌then◌else◌, Option, Some, None, option_map}
+use Rattle.std.specs.Prelude.{ℕ, List, [], ◌∷◌, Bool, nat_eq, codes, if◌then◌else◌, Option, Some, None, option_map}
 use Rattle.std.specs.Cmp.Lexicographic.{pointwise}
 use Rattle.clap.specs.Words.{Kinds, Row, fault_of, first_of, found_of, rows_of, subcommand_of}
 use Rattle.clap.specs.declared.parser.matches.ArgMatches.{ArgMatches}
 use Rattle.smf_program.specs.declared.task.Task.{Task}
 use Rattle.smf_program.specs.declared.task.Task.TheVariants as tasks
-use Rattle.smf_program.specs.Words.{smf_app}
+use Rattle.smf_program.specs.Words.{is_set, smf_app}
 
 -- a task by its texts
 pub data TaskTexts : Type 0 where
   Sim : Option (List ℕ) → TaskTexts
-  Run : List ℕ → TaskTexts
+  Run : Bool → List ℕ → TaskTexts
   Cfg : Option (List ℕ) → List ℕ → TaskTexts
 
 abbrev pub texts_of : Task → TaskTexts
 texts_of (tasks.Sim database) = Sim (option_map (λ s. s.now) database)
-texts_of (tasks.Run database) = Run database.now
+texts_of (tasks.Run follow database) = Run follow database.now
 texts_of (tasks.Cfg lines database) = Cfg (option_map (λ s. s.now) lines) database.now
 
 abbrev pub rows_in : ArgMatches → List Row
@@ -25,7 +25,7 @@ abbrev pub sim_in : List Row → Option TaskTexts
 sim_in rows = Some (Sim (first_of (codes "DB") rows))
 
 abbrev pub run_in : List Row → Option TaskTexts
-run_in rows = option_map Run (first_of (codes "DB") rows)
+run_in rows = option_map (Run (is_set (codes "FOLLOW") rows)) (first_of (codes "DB") rows)
 
 abbrev pub cfg_in : List Row → Option TaskTexts
 cfg_in rows = option_map (Cfg (first_of (codes "FILE") rows)) (first_of (codes "DB") rows)

@@ -1,11 +1,18 @@
 -- The words of the program, as clap is told of them.
-use Rattle.std.specs.Prelude.{true, codes, Some}
-use Rattle.clap.specs.Words.{App, Rule, new_app, new_rule, with_rule, with_subcommand}
+use Rattle.std.specs.Prelude.{ℕ, List, Bool, true, false, codes, Some}
+use Rattle.std.specs.Option.{option_map_or}
+use Rattle.std.specs.Str.{bytes_eq}
+use Rattle.clap.specs.Words.{App, Row, Rule, first_of, new_app, new_rule, with_rule, with_subcommand}
+use Rattle.clap.specs.declared.builder.ArgAction.TheVariants.{SetTrue}
 use Rattle.clap.specs.Simple.{on_top}
 
 -- `-f FILE`
 abbrev pub file_rule : Rule
 file_rule = record (new_rule (codes "FILE")) { short = Some 102 }
+
+-- `--follow`: contracts are followed through forks
+abbrev pub follow_rule : Rule
+follow_rule = record (new_rule (codes "FOLLOW")) { long = Some (codes "follow"); action = Some SetTrue }
 
 -- a database has to be named
 abbrev pub database_rule : Rule
@@ -19,7 +26,7 @@ abbrev pub sim_app : App
 sim_app = with_rule (new_app (codes "sim")) read_rule
 
 abbrev pub run_app : App
-run_app = with_rule (new_app (codes "run")) database_rule
+run_app = with_rule (with_rule (new_app (codes "run")) follow_rule) database_rule
 
 abbrev pub cfg_app : App
 cfg_app = with_rule (with_rule (new_app (codes "cfg")) file_rule) database_rule
@@ -30,3 +37,7 @@ bare_app = on_top (λ s. record s { subcommand_required = true }) (new_app (code
 
 unfoldable pub smf_app : App
 smf_app = with_subcommand (with_subcommand (with_subcommand bare_app sim_app.top) run_app.top) cfg_app.top
+
+-- whether a flag was found
+abbrev pub is_set : List ℕ → List Row → Bool
+is_set id rows = option_map_or (λ text. bytes_eq text (codes "true")) (first_of id rows) false

@@ -2,6 +2,7 @@ ghost use Rattle.std.specs.Prelude.{◌≡◌, IfErr, IfOk, IsTrue, Some, [], ma
 ghost use Rattle.std.specs.String.{string_bytes};
 ghost use Rattle.clap.specs.Words.{HasKind, app_of, fault_of, is_simple, is_simple_and_free, subcommand_of, subcommand_rows_of};
 ghost use Rattle.smf_program.specs.Refusals.{IsWhy};
+ghost use Rattle.smf_program.specs.Words.{is_set};
 ghost use Rattle.smf_program.specs.Tasks.{cfg_in, rows_in, run_in, sim_in, task_at, task_in, task_of, texts_of};
 
 use crate::refusal::{Refusal, refusal_of};
@@ -16,8 +17,9 @@ pub enum Task<'a> {
     Sim {
         database: Option<&'a str>,
     },
-    /// A script over the database in a file.
+    /// A script over the database in a file, with contracts that are followed through forks or not.
     Run {
+        follow: bool,
         database: &'a str,
     },
     /// Lines of svccfg, of a file or of standard input, over the database in a file.
@@ -25,6 +27,16 @@ pub enum Task<'a> {
         lines: Option<&'a str>,
         database: &'a str,
     },
+}
+
+/// Whether a flag was found.
+fn is_set<'a>(found: &ArgMatches<'a>, id: &str) -> bool
+    ensures { result ≡ is_set id.now (rows_in found.now) }
+{
+    match found.get_str(id) {
+        Some(text) => text == "true",
+        None => false,
+    }
 }
 
 fn sim_in<'a>(found: &ArgMatches<'a>) -> Option<Task<'a>>
@@ -37,8 +49,9 @@ fn sim_in<'a>(found: &ArgMatches<'a>) -> Option<Task<'a>>
 fn run_in<'a>(found: &ArgMatches<'a>) -> Option<Task<'a>>
     ensures { option_map texts_of result ≡ run_in (rows_in found.now) }
 {
+    let follow = is_set(found, "FOLLOW");
     match found.get_str("DB") {
-        Some(database) => Some(Task::Run { database }),
+        Some(database) => Some(Task::Run { follow, database }),
         None => None,
     }
 }

@@ -1,9 +1,9 @@
 ghost use Rattle.std.specs.Prelude.{◌≡◌, IfOk, false};
 ghost use Rattle.clap.specs.Words.{app_of, rule_of};
 ghost use Rattle.clap.specs.declared.builder.command.Command.TheViews.{out-Command as fields_of};
-ghost use Rattle.smf_program.specs.Words.{bare_app, cfg_app, database_rule, file_rule, read_rule, run_app, sim_app, smf_app};
+ghost use Rattle.smf_program.specs.Words.{bare_app, cfg_app, database_rule, file_rule, follow_rule, read_rule, run_app, sim_app, smf_app};
 
-use clap::{Arg, Command};
+use clap::{Arg, ArgAction, Command};
 use std::alloc::{AllocError, Global};
 
 fn file<'a>(alloc: Global) -> Arg<'a>
@@ -11,6 +11,16 @@ fn file<'a>(alloc: Global) -> Arg<'a>
     ensures local { result.global ≡ false }
 {
     Arg::new(alloc, "FILE").short('f')
+}
+
+/// Whether contracts are followed through forks.
+fn follow<'a>(alloc: Global) -> Arg<'a>
+    ensures rule { rule_of result ≡ follow_rule }
+    ensures local { result.global ≡ false }
+{
+    Arg::new(alloc, "FOLLOW")
+        .long("follow")
+        .action(ArgAction::SetTrue)
 }
 
 fn database<'a>(alloc: Global) -> Arg<'a>
@@ -46,6 +56,7 @@ fn run_command<'a>(alloc: Global) -> Result<Command<'a>, AllocError>
 {
     let command = Command::new(alloc, "run")
         .about("Does a script over a database, with the processes of its services")
+        .arg(follow(alloc))?
         .arg(database(alloc))?;
     Ok(command)
 }
@@ -67,7 +78,8 @@ fn bare_command<'a>(alloc: Global) -> Command<'a>
     Command::new(alloc, "smf").subcommand_required(true)
 }
 
-/// The program as clap knows it: `sim` with or without a database, `run` with one, or `cfg` with one and, behind `-f`, a
+/// The program as clap knows it: `sim` with or without a database, `run` with one, where
+/// contracts may be followed, or `cfg` with one and, behind `-f`, a
 /// file of lines.
 pub(crate) fn smf_command<'a>(alloc: Global) -> Result<Command<'a>, AllocError>
     ensures { IfOk result (λ c. app_of c ≡ smf_app) }

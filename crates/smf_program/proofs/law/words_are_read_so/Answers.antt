@@ -12,13 +12,17 @@ pub returns-clause-files : goal.returns-clause-files
 unfolding task_of smf_app clap_on_literals
 returns-clause-files c = (refl, refl)
 
+pub returns-clause-followed : goal.returns-clause-followed
+unfolding task_of smf_app clap_on_literals
+returns-clause-followed c = (refl, refl)
+
 pub returns-clause-database : goal.returns-clause-database
 unfolding smf_app clap_on_literals
 returns-clause-database c = (refl, refl)
 
 pub returns-clause-others : goal.returns-clause-others
 unfolding task_of smf_app clap_on_literals
-returns-clause-others c = (refl, refl, refl, refl)
+returns-clause-others c = (refl, refl, refl, refl, refl)
 
 pub returns-clause-help : goal.returns-clause-help
 unfolding smf_app clap_on_literals

@@ -1,0 +1,5 @@
+mod Sizes
+mod Following
+mod Places
+mod Polling
+mod Starting

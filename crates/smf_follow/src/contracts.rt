@@ -1,0 +1,41 @@
+// The contracts of the system, and what is known of them.
+ghost use Rattle.std.specs.Prelude.{◌≡◌, IfErr, IfOk, OnErr, false, true};
+ghost use Rattle.smf_follow.specs.Facts.{ContractFacts, launch_of};
+ghost use Rattle.smf_method.specs.Tokens.{method_text};
+
+use crate::stand::Stand;
+use smf_contract::Method;
+use smf_fmri::{InstanceFmri, Number};
+use smf_method::Command;
+use std::io;
+
+/// A system that keeps contracts: all that comes of one process, wherever it forks. Two questions are asked of it: how a
+/// contract stands, and that it be ended. A caller knows a fact of a contract only from the call that finds it.
+pub trait Contracts {
+    type Held: Drop;
+
+    ghost facts: { ContractFacts Self.Held };
+
+    /// Starts the first process of a contract of its own. Where it fails, it leaves no process.
+    fn start(
+        &self,
+        id: Number,
+        command: &Command,
+        restarter: &InstanceFmri,
+        method: Method,
+        instance: &InstanceFmri,
+    ) -> io::Result<Self::Held>
+        ensures started { IfOk result (λ held. facts.is_of (launch_of id command.now restarter.now (method_text method) instance.now) held) }
+        ensures failed { IfErr result facts.start_fails };
+
+    /// How the contract stands. It does not wait.
+    fn stand(&self, held: &mut Self::Held) -> io::Result<Stand>
+        ensures stood { IfOk result (facts.stands held.old) }
+        ensures lost { OnErr result (facts.is_lost held.old) };
+
+    /// Ends all of the contract, and says whether nothing is left of it.
+    fn end(&self, held: &mut Self::Held) -> io::Result<bool>
+        ensures ended { IfOk result (λ done. done ≡ true → facts.is_ended held.old) }
+        ensures living { IfOk result (λ done. done ≡ false → facts.may_live held.old) }
+        ensures lost { OnErr result (facts.may_live held.old) };
+}

@@ -1,0 +1,257 @@
+ghost use Rattle.std.specs.Prelude.{◌≡◌, ◌≢◌, ◌⊎◌, IfErr, IfOk};
+ghost use Rattle.std.specs.IoError.{error_kind};
+ghost use Rattle.std_io.specs.declared.io.kind.ErrorKind.TheVariants.{OutOfMemory};
+ghost use Rattle.smf_edge.specs.Answers.{HasFailed};
+ghost use Rattle.smf_edge.specs.Ends.{StartRefused};
+ghost use Rattle.smf_edge.specs.declared.fault.KidsFault.TheVariants.{Memory, Refused};
+ghost use Rattle.smf_follow.specs.Facts.{launch_of};
+ghost use Rattle.smf_follow.specs.declared.kid.Phase.TheVariants.{First};
+ghost use Rattle.smf_method.specs.Tokens.{method_text};
+
+use crate::book::Book;
+use crate::contracts::Contracts;
+use crate::kid::{Kid, Phase, end_one, forget, put};
+use crate::seeing::{Sight, see_all};
+use smf_contract::{Event, Method, Terms};
+use smf_edge::{Happening, Kids, KidsFault, Note, Run};
+use smf_fmri::{InstanceFmri, Items, Number};
+use smf_method::Command;
+use smf_state::Duration;
+use std::alloc::Global;
+use std::io;
+use std::io::ErrorKind;
+use std::marker::Model;
+
+/// One failure more, up to the greatest count.
+fn one_more(faults: u64) -> u64
+    ensures { HasFailed faults result }
+{
+    faults.saturating_add(1)
+}
+
+/// Why the system started no process.
+fn start_fault(error: &io::Error) -> KidsFault
+    ensures memory { error_kind error.now ≡ OutOfMemory → result ≡ Memory }
+    ensures refused { error_kind error.now ≢ OutOfMemory → result ≡ Refused }
+{
+    if error.kind() == ErrorKind::OutOfMemory {
+        return KidsFault::Memory;
+    }
+    KidsFault::Refused
+}
+
+/// Starts a method in a contract of the system.
+fn start<C: Contracts>(
+    contracts: &C,
+    id: Number,
+    command: &Command,
+    restarter: &InstanceFmri,
+    method: Method,
+    instance: &InstanceFmri,
+) -> Result<Kid<C::Held>, KidsFault>
+    ensures contract { IfOk result (λ kid. kid.contract ≡ id) }
+    ensures phase { IfOk result (λ kid. kid.phase ≡ First) }
+    ensures of { IfOk result (λ kid. C.facts.is_of (launch_of id command.now restarter.now (method_text method) instance.now) kid.held) }
+    ensures fault { IfErr result (λ e. (e ≡ Memory) ⊎ ((e ≡ Refused) × StartRefused C.facts.start_fails)) }
+{
+    match contracts.start(id, command, restarter, method, instance) {
+        Ok(held) => Ok(Kid {
+            contract: id,
+            phase: Phase::First,
+            held,
+        }),
+        Err(error) => Err(start_fault(&error)),
+    }
+}
+
+/// Children that are processes of the system, in contracts that follow them through forks. Of each contract two members
+/// are told at the most: its first process, and one that stands for all others.
+#[derive(Drop)]
+pub struct FollowedKids<C: Contracts> {
+    alloc: Global,
+    contracts: C,
+    book: Book,
+    kids: Vec<Kid<C::Held>>,
+    /// It stops at its greatest.
+    faults: u64,
+}
+
+impl<C: Contracts> Model for FollowedKids<C> {
+    ghost use Rattle.std.specs.Prelude.{ℕ, List};
+    ghost use Rattle.smf_edge.specs.Ledgers.{Ledger};
+    ghost use Rattle.smf_follow.specs.declared.kid.Kid.{Kid};
+
+    ghost Value = { Ledger × ℕ × List (Kid C.Held) };
+
+    ghost use Rattle.smf_follow.specs.Books.{ledger_of};
+    ghost use Rattle.smf_follow.specs.Followed.{IsKept};
+    ghost use Rattle.smf_follow.specs.Phases.{posts};
+
+    ghost view = { λ s. (ledger_of s.book, s.faults, s.kids.items) };
+
+    ghost invariant = { λ s. IsKept (ledger_of s.book) (posts s.kids.items) };
+}
+
+impl<C: Contracts> FollowedKids<C> {
+    ghost use Rattle.std.specs.Prelude.{◌≡◌, []};
+    ghost use Rattle.smf_contract.specs.Entries.{empty};
+
+    /// No children yet.
+    pub fn new(alloc: Global, contracts: C) -> FollowedKids<C>
+        ensures { result ≡ (record { notes = []; table = empty; due = []; pending = [] }, 0, []) }
+    {
+        FollowedKids {
+            alloc,
+            contracts,
+            book: Book::new(alloc),
+            kids: Vec::new(alloc),
+            faults: 0,
+        }
+    }
+}
+
+impl<C: Contracts> Kids for FollowedKids<C> {
+    ghost use Rattle.std.specs.Prelude.{◌≡◌, IfErr, IfOk, IfSome, OnErr, OnOk, Err, filter, false, true};
+    ghost use Rattle.smf_method.specs.Tokens.{method_text};
+    ghost use Rattle.smf_edge.specs.Answers.{MayNotAnswer, MayNotDo, MayNotSpawn};
+    ghost use Rattle.smf_edge.specs.Ends.{MayRefuse};
+    ghost use Rattle.smf_edge.specs.Ledgers.{left};
+    ghost use Rattle.smf_edge.specs.Running.{run_of};
+    ghost use Rattle.smf_edge.specs.Steps.{IsKilled, IsPolled, IsSpawned};
+    ghost use Rattle.smf_edge.specs.declared.fault.KidsFault.TheVariants.{Device, NotFollowed};
+    ghost use Rattle.smf_follow.specs.Facts.{launch_of};
+    ghost use Rattle.smf_follow.specs.Followed.{IsFollowed};
+    ghost use Rattle.smf_follow.specs.Phases.{SomeKid, is_other_post, posts};
+    ghost use Rattle.smf_follow.specs.Sights.{EmptiesOnly, IsStarted, OneFails, PollsKids, follow_skills};
+
+    ghost ledger = { λ s. s.0 };
+
+    ghost failures = { λ s. s.1 };
+
+    ghost skills = { follow_skills C.facts.start_fails };
+
+    fn spawn(
+        &mut self,
+        id: Number,
+        cookie: u64,
+        _style: Duration,
+        terms: Terms,
+        command: &Command,
+        restarter: &InstanceFmri,
+        method: Method,
+        instance: &InstanceFmri,
+    ) -> Result<(), KidsFault>
+        ensures made { OnOk result (IsSpawned (run_of id cookie terms command.now) self.old.0 self.new.0) }
+        ensures refused { OnErr result (self.new.0 ≡ self.old.0) }
+        ensures not_followed { true ≡ false → result ≡ Err NotFollowed }
+        ensures fault { IfErr result (MayNotSpawn (MayRefuse C.facts.start_fails self.old.0 id) true) }
+        ensures started { OnOk result
+            (IsStarted C.facts (launch_of id command.now restarter.now (method_text method) instance.now) self.old.2 self.new.2) }
+        ensures same { OnErr result (self.new.2 ≡ self.old.2) }
+    {
+        let words = command.clone()?;
+        self.kids.reserve(1)?;
+        match self.book.prepare(id) {
+            Ok(()) => {}
+            Err(KidsFault::Memory) => return Err(KidsFault::Memory),
+            Err(_) => return Err(KidsFault::Refused),
+        }
+        let kid = start(&self.contracts, id, command, restarter, method, instance)?;
+        self.book.make(Run {
+            contract: id,
+            cookie,
+            terms,
+            command: words,
+        });
+        self.kids.push(kid).unwrap();
+        Ok(())
+    }
+
+    /// The clause `seen` says what is told of contracts: a fork and then the end of the first process if others live, and
+    /// the last end only after the system said that nothing is left. The clause `empties` says that of all contracts.
+    fn poll(&mut self) -> Result<Option<Event>, KidsFault>
+        ensures polled { IfOk result (λ event. IsPolled event self.old.0 self.new.0) }
+        ensures refused { OnErr result (self.new.0 ≡ self.old.0) }
+        ensures fault { IfErr result (MayNotAnswer (follow_skills C.facts.start_fails) true self.old.1 self.new.1) }
+        ensures seen { IfOk result (λ event. PollsKids C.facts event self.old.0 self.new.0 self.old.2 self.new.2) }
+        ensures empties { OnOk result (EmptiesOnly C.facts self.old.2 self.old.0 self.new.0) }
+        ensures failed { IfErr result (λ e. e ≡ Device → OneFails C.facts self.old.2) }
+        ensures same { OnErr result (posts self.new.2 ≡ posts self.old.2) }
+    {
+        if let Some(event) = self.book.give() {
+            return Ok(Some(event));
+        }
+        let sight = see_all(&self.contracts, &self.book, &mut self.kids);
+        match sight {
+            Sight::Still => Ok(None),
+            Sight::Failed => {
+                self.faults = one_more(self.faults);
+                Err(KidsFault::Device)
+            }
+            Sight::Left(id, end) => {
+                let event = self.book.find(id, Happening::Fork)?;
+                put(&mut self.kids, id, Phase::Forked(end));
+                Ok(Some(event))
+            }
+            Sight::Over(id, end) => {
+                let event = self.book.find(id, end.happening())?;
+                put(&mut self.kids, id, Phase::Others);
+                Ok(Some(event))
+            }
+            Sight::Gone(id, end) => {
+                let event = self.book.find(id, end.happening())?;
+                forget(&mut self.kids, id);
+                Ok(Some(event))
+            }
+        }
+    }
+
+    fn join(&mut self, _id: Number) -> Result<(), KidsFault> {
+        Err(KidsFault::NotHere)
+    }
+
+    fn kill(&mut self, id: Number) -> Result<(), KidsFault>
+        ensures killed { OnOk result (IsKilled id self.old.0 self.new.0) }
+        ensures refused { OnErr result (self.new.0 ≡ self.old.0) }
+        ensures fault { IfErr result
+            (MayNotDo (follow_skills C.facts.start_fails) true (left self.old.0 id) self.old.1 self.new.1) }
+        ensures ended { OnOk result (SomeKid id self.old.2 (λ kid. C.facts.is_ended kid.held)) }
+        ensures failed { IfErr result (λ e. e ≡ Device → SomeKid id self.old.2 (λ kid. C.facts.may_live kid.held)) }
+        ensures forgotten { OnOk result (posts self.new.2 ≡ filter (is_other_post id) (posts self.old.2)) }
+        ensures same { OnErr result (posts self.new.2 ≡ posts self.old.2) }
+    {
+        let kill = self.book.prepare_kill(id)?;
+        if !end_one(&self.contracts, &mut self.kids, id) {
+            self.faults = one_more(self.faults);
+            return Err(KidsFault::Device);
+        }
+        self.book.kill(kill);
+        forget(&mut self.kids, id);
+        Ok(())
+    }
+
+    fn act(&mut self, _id: Number, _happening: Happening) -> Result<(), KidsFault> {
+        Err(KidsFault::NotHere)
+    }
+
+    fn reboot(&mut self) -> Result<(), KidsFault> {
+        Err(KidsFault::NotHere)
+    }
+
+    fn list(&mut self) -> Result<Items<Number>, KidsFault> {
+        let ids = self.book.list()?;
+        Ok(ids)
+    }
+
+    /// The clause `followed` says that each contract with members stands with the system, and has as many as was told.
+    fn faults(&self) -> u64
+        ensures faults { result ≡ self.now.1 }
+        ensures followed { IsFollowed self.now.0 (posts self.now.2) }
+    {
+        self.faults
+    }
+
+    fn notes(&self) -> &[Note] {
+        self.book.notes()
+    }
+}

@@ -1,0 +1,15 @@
+//! Children of services whose contracts are followed through forks.
+//! Modules: `contracts` (what is asked of the system), `stand` (what it answers), `followed` (the children).
+#![tactic(auto)]
+
+mod book;
+mod contracts;
+mod edits;
+mod followed;
+mod kid;
+mod seeing;
+mod stand;
+
+pub use contracts::Contracts;
+pub use followed::FollowedKids;
+pub use stand::{FirstEnd, Stand};
