@@ -4,4 +4,5 @@ pub mod Patching
 pub mod Touching
 pub mod Entering
 pub mod Waiting
+pub mod Owned
 pub mod Recording

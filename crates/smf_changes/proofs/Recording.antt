@@ -10,12 +10,13 @@ use Rattle.smf_model.specs.declared.change.Change.{Change}
 use Rattle.smf_model.specs.Holdings.{Holdings}
 use Rattle.smf_model.specs.Laws.{IsNumbered}
 use Rattle.smf_model.specs.Look.{by_instance, installed, instances}
-use Rattle.smf_model.specs.Shown.{view}
 use Rattle.smf_model.proofs.Entries.{rises_bare}
 use Rattle.smf_changes.specs.declared.keeping.Kept.{Kept}
+use Rattle.smf_changes.specs.declared.owning.Owners.{Owners}
 use Rattle.smf_changes.specs.Candidates.{candidates, touched_among}
 use Rattle.smf_changes.specs.Changes.{as_it_is, by_itself, has_changed, most_recent, together, touched}
 use Rattle.smf_changes.specs.Keeping.{AreUpTo, IsKept, lists_of, put_by_all}
+use Rattle.smf_changes.specs.Owned.{AreTold}
 use Rattle.smf_changes.specs.Recorded.{IsShown, differs, newest, next_lists, old_items, touched_by, with_stale}
 use Rattle.smf_changes.proofs.Merging.{take_kept, untouched, view_from}
 use Rattle.smf_changes.proofs.Waiting.{changes_keep}
@@ -89,9 +90,9 @@ runs_then most top h u cs is made runs =
     let P : Holdings → Type 0 = λ w. AreUpTo (put_by_all most cs) w.instances in
     subst (λ (n : ℕ). AreUpTo n u.instances) (sym is) (subst P (sym made) (changes_keep most h cs runs))
 
-pub kept_then : (k : Kept) (h u : Holdings) (cs : List Change) (olds : List ChangedItem) (top : ℕ) → top ≡ put_by_all k.greatest_running cs → IsNumbered h → IsNumbered (installed h cs) → u ≡ installed h cs → olds ≡ old_items h cs → k.stale ≡ None
+pub kept_then : (k : Kept) (h u : Holdings) (cs : List Change) (olds : List ChangedItem) (top : ℕ) → top ≡ put_by_all k.greatest_running cs → AreTold k.owners (installed h cs).instances → IsNumbered h → IsNumbered (installed h cs) → u ≡ installed h cs → olds ≡ old_items h cs → k.stale ≡ None
     → IsKept k h → IsKept (with_olds k olds top) u
-kept_then k h u cs olds top most numbered after made same settled kept =
+kept_then k h u cs olds top most told numbered after made same settled kept =
     let before : IsShown k.shown None h = subst (λ (o : Option (List ChangedItem)). IsShown k.shown (newest h o) h) settled kept.shown in
     let rises : Rises by_instance (instances (installed h cs)) = rises_bare (installed h cs).instances after.ordered.instances in
     let later : IsShown k.shown (Some (touched h (installed h cs))) (installed h cs) = shown_then k.shown h cs numbered rises before in
@@ -100,6 +101,7 @@ kept_then k h u cs olds top most numbered after made same settled kept =
       few = kept.few;
       shown = subst (λ (ns : List ℕ). IsShown k.shown (Some ns) u) (sym ((λ j. touched_by (made j) (same j)) ∙ touched_then h cs numbered)) (subst P (sym made) later);
       runs = runs_then k.greatest_running top h u cs most made kept.runs;
+      told = subst (λ (w : Holdings). AreTold k.owners w.instances) (sym made) told;
     }
 
 -- ---- no changes
@@ -122,14 +124,15 @@ nothing_recorded k h u cs none (Ok x) same = ap (lists_of k) same ∙ sym (ap (�
 
 -- ---- what is settled
 
-pub kept_as : (k l : Kept) (h : Holdings) → l.recent.items ≡ k.recent.items → l.stale ≡ k.stale → l.shown ≡ k.shown → l.greatest_running ≡ k.greatest_running → IsKept k h → IsKept l h
-kept_as k l h lists stale shown most kept =
+pub kept_as : (k l : Kept) (h : Holdings) → l.recent.items ≡ k.recent.items → l.stale ≡ k.stale → l.shown ≡ k.shown → l.greatest_running ≡ k.greatest_running → l.owners ≡ k.owners → IsKept k h → IsKept l h
+kept_as k l h lists stale shown most owners kept =
     let S : List (List ℕ) → Type 0 = λ nss. length nss ≤ most_recent in
     let P : Option View → Type 0 = λ v. IsShown v (newest h k.stale) h in
     record {
       few = subst S (sym lists) kept.few;
       shown = subst (λ (o : Option (List ChangedItem)). IsShown l.shown (newest h o) h) (sym stale) (subst P (sym shown) kept.shown);
       runs = subst (λ (n : ℕ). AreUpTo n h.instances) (sym most) kept.runs;
+      told = subst (λ (o : Owners). AreTold o h.instances) (sym owners) kept.told;
     }
 
 pub lists_as : (k l : Kept) (h : Holdings) → l.recent.items ≡ k.recent.items → l.stale ≡ k.stale → lists_of l h ≡ lists_of k h
@@ -149,8 +152,8 @@ no_more : (nss : List (List ℕ)) → length (take most_recent nss) ≤ most_rec
 no_more nss = let e = length-take most_recent nss in omega arith
 
 pub kept_settled : (k l : Kept) (h : Holdings) (olds : List ChangedItem) → k.stale ≡ Some olds → l.stale ≡ None → l.recent.items ≡ take most_recent (touched_by h olds ∷ k.recent.items)
-    → l.shown ≡ option_map (λ v. patched v h.revision (map (as_it_is h) (touched_by h olds))) k.shown → l.greatest_running ≡ k.greatest_running → IsKept k h → IsKept l h
-kept_settled k l h olds was none lists shown most kept =
+    → l.shown ≡ option_map (λ v. patched v h.revision (map (as_it_is h) (touched_by h olds))) k.shown → l.greatest_running ≡ k.greatest_running → l.owners ≡ k.owners → IsKept k h → IsKept l h
+kept_settled k l h olds was none lists shown most owners kept =
     let S : List (List ℕ) → Type 0 = λ nss. length nss ≤ most_recent in
     let before : IsShown k.shown (Some (touched_by h olds)) h = subst (λ (o : Option (List ChangedItem)). IsShown k.shown (newest h o) h) was kept.shown in
     let P : Option View → Type 0 = λ v. IsShown v None h in
@@ -158,6 +161,7 @@ kept_settled k l h olds was none lists shown most kept =
       few = subst S (sym lists) (no_more (touched_by h olds ∷ k.recent.items));
       shown = subst (λ (o : Option (List ChangedItem)). IsShown l.shown (newest h o) h) (sym none) (subst P (sym shown) (settled_shown k.shown (touched_by h olds) h before));
       runs = subst (λ (n : ℕ). AreUpTo n h.instances) (sym most) kept.runs;
+      told = subst (λ (o : Owners). AreTold o h.instances) (sym owners) kept.told;
     }
 
 pub lists_settled : (k l : Kept) (h : Holdings) (olds : List ChangedItem) → k.stale ≡ Some olds → l.stale ≡ None → l.recent.items ≡ take most_recent (touched_by h olds ∷ k.recent.items) → lists_of l h ≡ lists_of k h

@@ -2,20 +2,18 @@
 use Rattle.std.proofs.Common.{◌≡◌, ℕ, ◌≤◌, ◌<◌, ◌==◌, ◌&&◌, not, Bool, true, false, cond, List, [], ◌∷◌, map, filter, Option, Some, None, is_none, refl, sym, ap, ◌∙◌, arith}
 use Rattle.std.specs.Prelude.{max}
 use Rattle.std.specs.List.{AllByRecursion}
-use Rattle.std.specs.Ordering.{is_eq, nat_cmp}
 use Rattle.std.specs.declared.cmp.Ordering.{Ordering}
 use Rattle.std.specs.declared.cmp.Ordering.TheVariants.{Less, Equal, Greater}
 use Rattle.std.proofs.lemmas.Bool.Decides.{Decides-eqb}
-use Rattle.smf_fmri.specs.ByKey.{By, amend, has_key, put, put_by as put_at, without}
+use Rattle.smf_fmri.specs.ByKey.{amend, has_key, put, put_by as put_at, without}
 use Rattle.smf_laws.specs.Consistent.{IsUpTo}
-use Rattle.smf_value.specs.Groups.{GroupRecord}
 use Rattle.smf_model.specs.declared.change.Change.{Change}
 use Rattle.smf_model.specs.declared.change.Change.TheVariants.{AddService, DropService, AddInstance, PutInstance, DropInstance, PutName, DropName, PutGroups, AddSnapshot, DropSnapshots, PutLaunch, NextInstance, NextSnapshot, SetRevision}
 use Rattle.smf_model.specs.declared.held.Instance.{Instance}
 use Rattle.smf_model.specs.declared.held.InstanceEntry.{InstanceEntry}
 use Rattle.smf_model.specs.declared.held.Owner.TheVariants as owners
 use Rattle.smf_model.specs.Holdings.{Holdings}
-use Rattle.smf_model.specs.Look.{bare, by_entry, changed, installed, instances, snapshot, with_instance}
+use Rattle.smf_model.specs.Look.{bare, by_entry, changed, installed, snapshot, with_instance}
 use Rattle.smf_changes.specs.Candidates.{is_number, numbers_where, waits_for}
 use Rattle.smf_changes.specs.Keeping.{AreUpTo, greater, greatest_of, put_by, put_by_all}
 
@@ -65,7 +63,7 @@ are_up_to top (e ∷ es) =
 
 -- ---- lists that change
 
-put_keeps : (P : InstanceEntry → Type 0) (x : InstanceEntry) (es : List InstanceEntry) → P x → AllByRecursion P es → AllByRecursion P (put by_entry x es)
+pub put_keeps : (P : InstanceEntry → Type 0) (x : InstanceEntry) (es : List InstanceEntry) → P x → AllByRecursion P es → AllByRecursion P (put by_entry x es)
 put_keeps P x [] p f = (p, tt)
 put_keeps P x (y ∷ ys) p f = by (by_entry.cmp (by_entry.key y) (by_entry.key x)) (put_keeps P x ys p f.1)
   where
@@ -74,7 +72,7 @@ put_keeps P x (y ∷ ys) p f = by (by_entry.cmp (by_entry.key y) (by_entry.key x
     by Equal ih = (p, f.1)
     by Greater ih = (p, f)
 
-without_keeps : (P : InstanceEntry → Type 0) (n : ℕ) (es : List InstanceEntry) → AllByRecursion P es → AllByRecursion P (without by_entry n es)
+pub without_keeps : (P : InstanceEntry → Type 0) (n : ℕ) (es : List InstanceEntry) → AllByRecursion P es → AllByRecursion P (without by_entry n es)
 without_keeps P n [] f = tt
 without_keeps P n (y ∷ ys) f = by (not (has_key by_entry n y)) (without_keeps P n ys f.1)
   where
@@ -82,7 +80,7 @@ without_keeps P n (y ∷ ys) f = by (not (has_key by_entry n y)) (without_keeps 
     by true ih = (f.0, ih)
     by false ih = ih
 
-amend_keeps : (P : InstanceEntry → Type 0) (n : ℕ) (g : InstanceEntry → InstanceEntry) (es : List InstanceEntry) → ((e : InstanceEntry) → P e → P (g e)) → AllByRecursion P es → AllByRecursion P (amend by_entry n g es)
+pub amend_keeps : (P : InstanceEntry → Type 0) (n : ℕ) (g : InstanceEntry → InstanceEntry) (es : List InstanceEntry) → ((e : InstanceEntry) → P e → P (g e)) → AllByRecursion P es → AllByRecursion P (amend by_entry n g es)
 amend_keeps P n g [] keeps f = tt
 amend_keeps P n g (y ∷ ys) keeps f = (by (has_key by_entry n y), amend_keeps P n g ys keeps f.1)
   where

@@ -8,6 +8,7 @@ use Rattle.smf_model.specs.declared.held.InstanceEntry.{InstanceEntry}
 use Rattle.smf_model.specs.Holdings.{Holdings}
 use Rattle.smf_changes.specs.declared.keeping.Kept.{Kept}
 use Rattle.smf_changes.specs.Changes.{most_recent}
+use Rattle.smf_changes.specs.Owned.{AreTold}
 use Rattle.smf_changes.specs.Recorded.{IsShown, newest, with_stale}
 
 abbrev pub lists_of : Kept → Holdings → List (List ℕ)
@@ -41,3 +42,4 @@ pub record IsKept (k : Kept) (h : Holdings) : Type 0 where
   pub few : length k.recent.items ≤ most_recent
   pub shown : IsShown k.shown (newest h k.stale) h
   pub runs : AreUpTo k.greatest_running h.instances
+  pub told : AreTold k.owners h.instances

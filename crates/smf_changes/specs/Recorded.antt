@@ -1,5 +1,5 @@
 -- The repository with the record of its newest changes.
-use Rattle.std.specs.Prelude.{◌≡◌, ℕ, ◌≤◌, List, [], ◌∷◌, length, map, filter, take, not, Bool, Option, Some, None, option_map}
+use Rattle.std.specs.Prelude.{◌≡◌, ℕ, List, [], ◌∷◌, map, filter, take, not, Bool, Option, Some, None, option_map}
 use Rattle.std.specs.Option.{option_eq}
 use Rattle.smf_fmri.specs.ByKey.{put_all}
 use Rattle.smf_state.specs.declared.view.ChangedItem.{ChangedItem}

@@ -1,13 +1,16 @@
 ghost use Rattle.std.specs.Option.{option_copied};
 ghost use Rattle.std.specs.Prelude.{◌≡◌, ◌∷◌, [], ◌-◌, ◌<◌, ◌||◌, nat_lt, if◌then◌else◌, length, map, option_map, take};
 ghost use Rattle.std.specs.Prelude.{IfOk, OnErr, OnOk, Some, None, vec_len, vec_capacity};
+ghost use Rattle.smf_model.specs.Look.{installed};
 ghost use Rattle.smf_state.specs.Patched.{patched};
 ghost use Rattle.smf_changes.specs.Changes.{as_it_is, changes_since, most_recent};
 ghost use Rattle.smf_changes.specs.Keeping.{AreUpTo, IsKept, lists_of};
+ghost use Rattle.smf_changes.specs.Owned.{AreTold};
 ghost use Rattle.smf_changes.specs.Recorded.{newest, old_items, settled_view, with_stale};
 
 use crate::candidates::all_candidates;
 use crate::lists::{items_of, newest_together, touched_by};
+use crate::owning::Owners;
 use crate::running::greatest_of;
 use smf_fmri::Items;
 use smf_model::{Change, Journal, Plain};
@@ -28,6 +31,8 @@ pub(crate) struct Kept {
     pub(crate) shown: Option<HeldView>,
     /// No row names a snapshot above it as `running`, so no row waits for one above it.
     pub(crate) greatest_running: u64,
+    /// The owners of all rows, as far as they are known.
+    pub(crate) owners: Owners,
 }
 
 /// Brings a view that is kept up to date. If memory runs out it is as it was.
@@ -77,6 +82,7 @@ impl Kept {
         ensures stale { result.stale ≡ None }
         ensures shown { result.shown ≡ None }
         ensures runs { AreUpTo result.greatest_running plain.now.held.instances }
+        ensures told { AreTold result.owners plain.now.held.instances }
     {
         let greatest_running = greatest_of(plain.entries());
         Kept {
@@ -84,6 +90,7 @@ impl Kept {
             stale: None,
             shown: None,
             greatest_running,
+            owners: Owners::unknown(),
         }
     }
 
@@ -105,7 +112,8 @@ impl Kept {
         Ok(())
     }
 
-    /// The items of all that changes may touch, before they are made. The newest list is worked out first.
+    /// The items of all that changes may touch, before they are made, once the owners that they put are noted. The newest
+    /// list is worked out first.
     pub(crate) fn prepare<J: Journal>(
         &mut self,
         alloc: Global,
@@ -117,12 +125,15 @@ impl Kept {
         ensures lists { lists_of self.new plain.now.held ≡ lists_of self.old plain.now.held }
         ensures settled { OnOk result (self.new.stale ≡ None) }
         ensures olds { IfOk result (λ olds. olds ≡ old_items plain.now.held changes.now) }
+        ensures told { OnOk result (AreTold self.new.owners (installed plain.now.held changes.now).instances) }
     {
         self.settle(alloc, plain)?;
-        old_items(alloc, plain, self.greatest_running, changes)
+        let olds = old_items(alloc, plain, self.greatest_running, changes)?;
+        self.owners.note(changes);
+        Ok(olds)
     }
 
-    /// Keeps the view, brought up to date.
+    /// Keeps the view, brought up to date, and finds the owners of rows if they are not known.
     pub(crate) fn keep_view<J: Journal>(
         &mut self,
         alloc: Global,
@@ -133,6 +144,7 @@ impl Kept {
         ensures lists { lists_of self.new plain.now.held ≡ lists_of self.old plain.now.held }
     {
         self.settle(alloc, plain)?;
+        self.owners.find(alloc, plain.entries())?;
         if self.shown.is_none() {
             let view = plain.view()?;
             self.shown = Some(HeldView::of(alloc, view));

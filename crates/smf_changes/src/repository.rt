@@ -6,11 +6,12 @@ ghost use Rattle.smf_model.specs.Look.{installed};
 ghost use Rattle.smf_model.specs.Shown.{view};
 ghost use Rattle.smf_changes.specs.Changes.{changes_since};
 ghost use Rattle.smf_changes.specs.Keeping.{IsKept, lists_of};
+ghost use Rattle.smf_changes.specs.Owned.{HasOwnersAmong};
 ghost use Rattle.smf_changes.specs.Recorded.{next_lists};
 
 use crate::keeping::Kept;
 use crate::running::put_by_all;
-use smf_fmri::Items;
+use smf_fmri::{InstanceFmri, Items};
 use smf_model::{Change, Journal, Plain, RepoFault};
 use smf_state::{ChangedItem, HeldView};
 use std::alloc::{AllocError, Global};
@@ -88,7 +89,7 @@ impl<J: Journal> Repository<J> {
         self.kept.since(self.alloc, &self.plain, from)
     }
 
-    /// Keeps the view of svc.startd's graph, brought up to date.
+    /// Keeps the view of svc.startd's graph, brought up to date, and what `owners` gives.
     pub fn keep_view(&mut self) -> Result<(), AllocError>
         ensures { self.new ≡ self.old }
     {
@@ -100,6 +101,14 @@ impl<J: Journal> Repository<J> {
         ensures { IfSome (option_copied result) (λ v. v ≡ view self.now.held) }
     {
         self.kept.up_to_date()
+    }
+
+    /// The owners of all instances, and maybe others, if they are known and each row has a number. There may be none between
+    /// a commit and the next call that keeps the view, so it is a hint alone.
+    pub fn owners(&self) -> Option<&[InstanceFmri]>
+        ensures { IfSome (option_copied result) (λ names. HasOwnersAmong names self.now.held) }
+    {
+        self.kept.owners.known()
     }
 }
 

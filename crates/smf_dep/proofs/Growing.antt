@@ -31,7 +31,7 @@ all_up P Q up (x ∷ xs) h =
     let two = and_parts (P x) (list_all P xs) h in
     and_from (Q x) (list_all Q xs) (up x two.0) (all_up P Q up xs two.1)
 
-blocks_up : (runs off P Q : ℕ → Bool) → Below P Q → (g : Grouping) (es : List (List ℕ)) → blocks_at g runs off P es ≡ true → blocks_at g runs off Q es ≡ true
+pub blocks_up : (runs off P Q : ℕ → Bool) → Below P Q → (g : Grouping) (es : List (List ℕ)) → blocks_at g runs off P es ≡ true → blocks_at g runs off Q es ≡ true
 blocks_up runs off P Q up RequireAll es h =
     let two = and_parts (not (list_all (list_any runs) es)) (list_any (list_all P) es) h in
     and_from (not (list_all (list_any runs) es)) (list_any (list_all Q) es) two.0 (any_up (list_all P) (list_all Q) (all_up P Q up) es two.1)
@@ -76,11 +76,11 @@ none_past f ns a le = ap (λ (o : Option Node). option_map_or f o false) (slice_
 abbrev pub Away : ℕ → (ℕ → Bool) → (ℕ → Bool) → Type 0
 Away x P Q = (p : ℕ) → (p ≡ x → ⊥) → P p ≡ Q p
 
-any_same : (x : ℕ) (P Q : ℕ → Bool) → Away x P Q → (ps : List ℕ) → IsOut x ps → list_any P ps ≡ list_any Q ps
+pub any_same : (x : ℕ) (P Q : ℕ → Bool) → Away x P Q → (ps : List ℕ) → IsOut x ps → list_any P ps ≡ list_any Q ps
 any_same x P Q away [] out = refl
 any_same x P Q away (p ∷ ps) out = λ i. away p out.0 i || any_same x P Q away ps out.1 i
 
-all_same : (x : ℕ) (P Q : ℕ → Bool) → Away x P Q → (ps : List ℕ) → IsOut x ps → list_all P ps ≡ list_all Q ps
+pub all_same : (x : ℕ) (P Q : ℕ → Bool) → Away x P Q → (ps : List ℕ) → IsOut x ps → list_all P ps ≡ list_all Q ps
 all_same x P Q away [] out = refl
 all_same x P Q away (p ∷ ps) out = λ i. away p out.0 i && all_same x P Q away ps out.1 i
 

@@ -2,7 +2,8 @@
 use Rattle.std.proofs.Common.{◌≡◌, ℕ, zero, suc, ◌+◌, ◌*◌, ◌<◌, ◌≤◌, List, [], ◌∷◌, length, get_or, replicate, Bool, true, false, Option, Some, refl, sym, ap, ◌∙◌, subst, inl, inr, arith}
 use Rattle.std.specs.Prelude.{nat_lt, slice_get, slice_index, slice_set}
 use Rattle.std.specs.Option.{option_map_or}
-use Rattle.std.proofs.lemmas.Bool.{cases_lt}
+use Rattle.std.proofs.lemmas.Bool.{cases_eq, cases_lt}
+use Rattle.std.proofs.lemmas.List.{get_or-set_other, get_or-set_same, get_or_past}
 use Rattle.smf_dep.specs.declared.link.Flags.{Flags}
 use Rattle.smf_dep.specs.declared.link.Node.{Node}
 use Rattle.smf_dep.specs.Parking.{IsOut, off_at, parks, parks_by, runs_at, with_flags}
@@ -113,6 +114,20 @@ zeros_at (suc n) (suc a) = zeros_at n a
 
 pub zeros_are : (ss : List ℕ) (n : ℕ) → ss ≡ replicate n 0 → (a : ℕ) → slice_index ss a ≡ 0
 zeros_are ss n e a = ap (λ l. slice_index l a) e ∙ zeros_at n a
+
+pub cleared_more : (ss ss' : List ℕ) (i : ℕ) → i < length ss → ss' ≡ slice_set ss i 0 → ((k : ℕ) → k < i → slice_index ss k ≡ 0) → (k : ℕ) → k < i + 1 → slice_index ss' k ≡ 0
+cleared_more ss ss' i lt e none k less =
+    elim (cases_eq k i) [
+      | inl same ↦ ap (λ l. slice_index l k) e ∙ ap (slice_index (slice_set ss i 0)) same ∙ get_or-set_same ss i 0 0 lt
+      | inr ne ↦ let before : k < i = omega arith in ap (λ l. slice_index l k) e ∙ get_or-set_other ss i k 0 0 ne ∙ none k before
+    ]
+
+pub cleared_all : (ss : List ℕ) (i : ℕ) → length ss ≤ i → ((k : ℕ) → k < i → slice_index ss k ≡ 0) → (k : ℕ) → slice_index ss k ≡ 0
+cleared_all ss i le none k =
+    elim (cases_lt k (length ss)) [
+      | inl lt ↦ let before : k < i = omega arith in none k before
+      | inr past ↦ get_or_past ss k 0 past
+    ]
 
 pub begin_touched : (ns : List Node) (ss : List ℕ) (cs : List (List ℕ)) (next capacity capacity' p : ℕ) (work : List ℕ) → work ≡ p ∷ citing_at cs p → capacity ≤ capacity'
     → IsTouched ns ss cs next capacity p → IsLoosening ns cs next capacity' ss work 0

@@ -2,6 +2,7 @@ pub mod Alike
 pub mod Behind
 pub mod ByNumber
 pub mod Copies
+pub mod Counted
 pub mod CyclePlaces
 pub mod Found
 pub mod Growing
@@ -9,9 +10,13 @@ pub mod Keeping
 pub mod LawCycles
 pub mod Least
 pub mod Looked
+pub mod Naming
 pub mod Noting
 pub mod OfItems
 pub mod Reaching
 pub mod Steps
+pub mod Tallying
+pub mod Retallying
 pub mod Updating
+pub mod Wiring
 pub mod Work

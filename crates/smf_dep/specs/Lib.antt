@@ -4,6 +4,9 @@ pub mod Members
 pub mod Verdicts
 pub mod Cycles
 pub mod Places
+pub mod Names
 pub mod Parking
 pub mod Stamps
 pub mod Updates
+pub mod Tallies
+pub mod Wires

@@ -14,6 +14,7 @@ use crate::dependency::{Dependency, Grouping, RestartOn};
 use crate::kept::Kept;
 use crate::link::{Link, Node, link_of, nodes_of};
 use crate::member::{Member, ReadMember, Standing, members_again, renewed_members, standing_of};
+use crate::names::Names;
 use crate::update::{are_alike, changed_members, numbers_of, place_in, put_touched, take_changes};
 use smf_fmri::Items;
 use smf_state::{ChangedItem, ViewItem};
@@ -315,7 +316,8 @@ impl Graph {
     pub fn verdict(&self, alloc: Global, dependency: &Dependency) -> Result<Verdict, AllocError>
         ensures { IfOk result (λ v. v ≡ verdict self.now dependency.now) }
     {
-        let link = link_of(alloc, self.members.as_slice(), dependency)?;
+        let names = Names::of(alloc, self.members.as_slice())?;
+        let link = link_of(alloc, &names, dependency)?;
         let met = self.kept.is_met(&link);
         let blocked = self.kept.is_blocked(&link);
         Ok(verdict_by(met, blocked))
@@ -330,7 +332,8 @@ impl Graph {
     ) -> Result<bool, AllocError>
         ensures { IfOk result (λ b. b ≡ must_stop self.now dependency.now base) }
     {
-        let link = link_of(alloc, self.members.as_slice(), dependency)?;
+        let names = Names::of(alloc, self.members.as_slice())?;
+        let link = link_of(alloc, &names, dependency)?;
         Ok(link_stops(self.members.as_slice(), &link, base))
     }
 }

@@ -27,7 +27,7 @@ fn note(citing: &mut Vec<Items<usize>>, at: usize, place: usize) -> Result<(), A
     Ok(())
 }
 
-fn note_places(
+pub(crate) fn note_places(
     citing: &mut Vec<Items<usize>>,
     at: usize,
     places: &[usize],
@@ -66,7 +66,7 @@ pub(crate) fn note_links(
     Ok(())
 }
 
-fn empty(alloc: Global, count: usize) -> Result<Vec<Items<usize>>, AllocError>
+pub(crate) fn empty(alloc: Global, count: usize) -> Result<Vec<Items<usize>>, AllocError>
     ensures { IfOk result (λ cs. length cs.items ≡ count) }
 {
     let mut citing = Vec::with_capacity(alloc, count)?;

@@ -4,11 +4,15 @@ ghost use Rattle.std.specs.Prelude.{◌≡◌, ◌<◌, ◌≤◌, ◌+◌, ◌*
 ghost use Rattle.smf_dep.specs.declared.link.Node.{Node};
 ghost use Rattle.smf_dep.specs.Parking.{IsOut, met_at, blocked_by, is_parked, met_by, node_is, off_at, runs_at, with_flags};
 ghost use Rattle.smf_dep.specs.Stamps.{Begins, IsKept, IsLoosening, IsTouched, Reaches, Touches, before, citing_at, total};
+ghost use Rattle.smf_dep.specs.Wires.{IsTallied};
 
 use crate::index::{citing_of, index_of, total_of};
 use crate::link::{Flags, Link, Node};
 use crate::parking::{each_met, is_blocked, is_met, stamp_at};
 use crate::stamps::{add, add_one, settle};
+use crate::tallies::{put_stamp, retally, tallies_of};
+use crate::tally::Tally;
+use crate::wires::{Wires, wires_of};
 use smf_fmri::Items;
 use std::alloc::{AllocError, Global};
 use std::marker::Model;
@@ -26,18 +30,21 @@ pub struct Kept {
     work: Vec<usize>,
     /// Where each place may stand in the work: a hint.
     slots: Vec<usize>,
+    wires: Wires,
+    tallies: Vec<Tally>,
 }
 
 impl Model for Kept {
     ghost use Rattle.std.specs.Prelude.{List, vec_capacity, ◌≡◌, ◌<◌};
     ghost use Rattle.smf_dep.specs.declared.link.Node.{Node};
     ghost use Rattle.smf_dep.specs.Stamps.{IsKept};
+    ghost use Rattle.smf_dep.specs.Wires.{IsTallied};
 
     ghost Value = { List Node };
 
     ghost view = { λ k. k.nodes.items };
 
-    ghost invariant = { λ k. IsKept k.nodes.items k.stamps.items k.citing.items k.next (vec_capacity k.work) × (0 < k.next) };
+    ghost invariant = { λ k. IsKept k.nodes.items k.stamps.items k.citing.items k.next (vec_capacity k.work) × (0 < k.next) × IsTallied k.nodes.items k.stamps.items k.wires k.tallies.items };
 }
 
 fn set_flags(nodes: &mut Vec<Node>, place: usize, flags: Flags)
@@ -48,12 +55,33 @@ fn set_flags(nodes: &mut Vec<Node>, place: usize, flags: Flags)
     }
 }
 
-fn clear(stamps: &mut [usize])
+/// Gives an instance other flags.
+fn change_flags(
+    nodes: &mut Vec<Node>,
+    stamps: &[usize],
+    wires: &Wires,
+    tallies: &mut [Tally],
+    place: usize,
+    flags: Flags,
+)
+    requires within { place < length nodes.old.items }
+    requires tallied { IsTallied nodes.old.items stamps.now wires.now tallies.old }
+    ensures nodes { nodes.new.items ≡ with_flags nodes.old.items place flags }
+    ensures tallied { IsTallied nodes.new.items stamps.now wires.now tallies.new }
+{
+    set_flags(nodes, place, flags);
+    retally(nodes.as_slice(), stamps, wires, tallies, place);
+}
+
+/// Takes all stamps away.
+fn clear(nodes: &[Node], wires: &Wires, tallies: &mut [Tally], stamps: &mut [usize])
+    requires { IsTallied nodes.now stamps.old wires.now tallies.old }
     ensures size { length stamps.new ≡ length stamps.old }
     ensures none { (a : ℕ) → slice_index stamps.new a ≡ 0 }
+    ensures tallied { IsTallied nodes.now stamps.new wires.now tallies.new }
 {
-    for stamp in stamps.iter_mut() {
-        *stamp = 0;
+    for place in 0..stamps.len() {
+        put_stamp(nodes, stamps, wires, tallies, place, 0);
     }
 }
 
@@ -118,21 +146,25 @@ fn room_for(count: usize, total: usize) -> Result<usize, AllocError>
 fn begin(
     nodes: &[Node],
     citing: &[Items<usize>],
+    wires: &Wires,
+    tallies: &mut [Tally],
     stamps: &mut [usize],
     work: &mut Vec<usize>,
     next: usize,
     place: usize,
 ) -> usize
     requires next { 0 < next }
+    requires tallied { IsTallied nodes.now stamps.old wires.now tallies.old }
     requires touched { IsTouched nodes.now stamps.old citing.now next (vec_capacity work.old) place }
     ensures begun { IsLoosening nodes.now citing.now result (vec_capacity work.new) stamps.new work.new.items 0 }
     ensures base { (0 < result) × (result ≤ 2 ^ 62) }
+    ensures tallied { IsTallied nodes.now stamps.new wires.now tallies.new }
     ensures work { Begins nodes.now citing.now stamps.old stamps.new work.new.items place }
     ensures capacity { vec_capacity work.old ≤ vec_capacity work.new }
 {
     work.clear();
     if next > LAST {
-        clear(stamps);
+        clear(nodes, wires, tallies, stamps);
         add_all(work, nodes.len());
         return 1;
     }
@@ -144,6 +176,8 @@ fn begin(
 fn settle_touched(
     nodes: &[Node],
     citing: &[Items<usize>],
+    wires: &Wires,
+    tallies: &mut [Tally],
     stamps: &mut [usize],
     work: &mut Vec<usize>,
     slots: &mut [usize],
@@ -151,21 +185,40 @@ fn settle_touched(
     place: usize,
 ) -> usize
     requires next { 0 < next }
+    requires tallied { IsTallied nodes.now stamps.old wires.now tallies.old }
     requires touched { IsTouched nodes.now stamps.old citing.now next (vec_capacity work.old) place }
     ensures kept { IsKept nodes.now stamps.new citing.now result (vec_capacity work.new) }
     ensures next { 0 < result }
+    ensures tallied { IsTallied nodes.now stamps.new wires.now tallies.new }
     ensures touches { Touches nodes.now citing.now stamps.old stamps.new work.new.items place }
 {
-    let base = begin(nodes, citing, stamps, work, next, place);
-    settle(nodes, citing, stamps, work, slots, base);
+    let base = begin(nodes, citing, wires, tallies, stamps, work, next, place);
+    settle(nodes, citing, wires, tallies, stamps, work, slots, base);
     base + work.len()
 }
 
-fn all_met_at(nodes: &[Node], stamps: &[usize], limit: usize, place: usize) -> bool
+fn all_met_at(
+    nodes: &[Node],
+    stamps: &[usize],
+    wires: &Wires,
+    tallies: &[Tally],
+    limit: usize,
+    place: usize,
+) -> bool
+    requires tallied { IsTallied nodes.now stamps.now wires.now tallies.now }
+    requires low { (a : ℕ) → slice_index stamps.now a < limit }
     ensures { result ≡ node_is (λ (n : Node). list_all (met_by (runs_at nodes.now) (off_at nodes.now) (before stamps.now limit)) n.links) nodes.now place }
 {
+    let numbers = citing_of(wires.numbers.as_slice(), place);
     match nodes.get(place) {
-        Some(node) => each_met(nodes, stamps, limit, node.links.as_slice()),
+        Some(node) => each_met(
+            nodes,
+            stamps,
+            limit,
+            tallies,
+            numbers,
+            node.links.as_slice(),
+        ),
         None => false,
     }
 }
@@ -181,10 +234,14 @@ impl Kept {
         let mut work = Vec::with_capacity(alloc, room)?;
         let mut stamps = zeros(alloc, nodes.len())?;
         let mut slots = zeros(alloc, nodes.len())?;
+        let wires = wires_of(alloc, nodes.as_slice())?;
+        let mut tallies = tallies_of(alloc, nodes.as_slice(), stamps.as_slice(), &wires)?;
         add_all(&mut work, nodes.len());
         settle(
             nodes.as_slice(),
             citing.as_slice(),
+            &wires,
+            tallies.as_mut_slice(),
             stamps.as_mut_slice(),
             &mut work,
             slots.as_mut_slice(),
@@ -198,6 +255,8 @@ impl Kept {
             next,
             work,
             slots,
+            wires,
+            tallies,
         })
     }
 
@@ -210,10 +269,19 @@ impl Kept {
         ensures reaches { Reaches self.old self.new place touched.old.items touched.new.items }
         ensures room { vec_capacity touched.old ≤ vec_capacity touched.new }
     {
-        set_flags(&mut self.nodes, place, flags);
+        change_flags(
+            &mut self.nodes,
+            self.stamps.as_slice(),
+            &self.wires,
+            self.tallies.as_mut_slice(),
+            place,
+            flags,
+        );
         self.next = settle_touched(
             self.nodes.as_slice(),
             self.citing.as_slice(),
+            &self.wires,
+            self.tallies.as_mut_slice(),
             self.stamps.as_mut_slice(),
             &mut self.work,
             self.slots.as_mut_slice(),
@@ -267,6 +335,8 @@ impl Kept {
         all_met_at(
             self.nodes.as_slice(),
             self.stamps.as_slice(),
+            &self.wires,
+            self.tallies.as_slice(),
             self.next,
             place,
         )

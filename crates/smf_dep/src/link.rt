@@ -4,6 +4,7 @@ ghost use Rattle.smf_dep.specs.declared.member.Member.{Member as AnyMember};
 
 use crate::dependency::{Dependency, Grouping, RestartOn};
 use crate::member::{Member, ReadMember};
+use crate::names::Names;
 use crate::room::with_room;
 use crate::shared::Shared;
 use smf_fmri::{Fmri, Items};
@@ -36,32 +37,16 @@ pub struct Node {
     pub links: Items<Link>,
 }
 
-#[tactic(auto, unfolding(crate::specs::Places::places))]
-fn places(alloc: Global, members: &[ReadMember], entity: &Fmri) -> Result<Items<usize>, AllocError>
-    ensures { IfOk result (λ ps. ps ≡ places members.now entity.now) }
-{
-    let is_instance = entity.instance().is_some();
-    let mut places = Items::new(alloc);
-    let mut place = 0;
-    for member in members {
-        if member.member().is_cited_by(is_instance, entity) {
-            places.push(place)?;
-        }
-        place += 1;
-    }
-    Ok(places)
-}
-
 fn cited(
     alloc: Global,
-    members: &[ReadMember],
+    names: &Names<'_>,
     entities: &[Fmri],
 ) -> Result<Items<Items<usize>>, AllocError>
-    ensures { IfOk result (λ pss. pss ≡ map (places members.now) entities.now) }
+    ensures { IfOk result (λ pss. pss ≡ map (places names.now) entities.now) }
 {
     let mut cited = Items::new(alloc);
     for entity in entities {
-        cited.push(places(alloc, members, entity)?)?;
+        cited.push(names.places(alloc, entity)?)?;
     }
     Ok(cited)
 }
@@ -69,12 +54,12 @@ fn cited(
 /// A dependency by the places of what it cites.
 pub(crate) fn link_of(
     alloc: Global,
-    members: &[ReadMember],
+    names: &Names<'_>,
     dependency: &Dependency,
 ) -> Result<Link, AllocError>
-    ensures { IfOk result (λ l. l ≡ link_of members.now dependency.now) }
+    ensures { IfOk result (λ l. l ≡ link_of names.now dependency.now) }
 {
-    let cited = cited(alloc, members, dependency.entities.as_slice())?;
+    let cited = cited(alloc, names, dependency.entities.as_slice())?;
     Ok(Link {
         grouping: dependency.grouping,
         restart_on: dependency.restart_on,
@@ -84,28 +69,28 @@ pub(crate) fn link_of(
 
 fn links(
     alloc: Global,
-    members: &[ReadMember],
+    names: &Names<'_>,
     dependencies: &[Dependency],
 ) -> Result<Items<Link>, AllocError>
-    ensures { IfOk result (λ ls. ls ≡ map (link_of members.now) dependencies.now) }
+    ensures { IfOk result (λ ls. ls ≡ map (link_of names.now) dependencies.now) }
 {
     let mut links = Items::new(alloc);
     for dependency in dependencies {
-        links.push(link_of(alloc, members, dependency)?)?;
+        links.push(link_of(alloc, names, dependency)?)?;
     }
     Ok(links)
 }
 
 fn links_of(
     alloc: Global,
-    members: &[ReadMember],
+    names: &Names<'_>,
     dependencies: &Option<Shared<Items<Dependency>>>,
 ) -> Result<Items<Link>, AllocError>
-    ensures { IfOk result (λ ls. ls ≡ links_of members.now dependencies.now) }
+    ensures { IfOk result (λ ls. ls ≡ links_of names.now dependencies.now) }
 {
     match dependencies {
         None => Ok(Items::new(alloc)),
-        Some(dependencies) => links(alloc, members, dependencies.as_slice()),
+        Some(dependencies) => links(alloc, names, dependencies.as_slice()),
     }
 }
 
@@ -134,17 +119,17 @@ fn node_with(member: &Member, links: Items<Link>) -> Node
 /// An instance with what it depends on by places, which is looked for where none was kept.
 fn node_of(
     alloc: Global,
-    members: &[ReadMember],
+    names: &Names<'_>,
     member: &Member,
     kept: Option<Node>,
 ) -> Result<Node, AllocError>
-    requires { IfSome kept (λ n. n.links ≡ links_of members.now member.now.dependencies) }
-    ensures { IfOk result (λ n. n ≡ node_of members.now member.now) }
+    requires { IfSome kept (λ n. n.links ≡ links_of names.now member.now.dependencies) }
+    ensures { IfOk result (λ n. n ≡ node_of names.now member.now) }
 {
     match kept {
         Some(kept) => Ok(node_with(member, kept.links)),
         None => {
-            let links = links_of(alloc, members, &member.dependencies)?;
+            let links = links_of(alloc, names, &member.dependencies)?;
             Ok(node_with(member, links))
         }
     }
@@ -159,10 +144,11 @@ pub(crate) fn nodes_of(
     requires { IsBeginning (all_links kept) (links_among members.now members.now) }
     ensures { IfOk result (λ ns. ns ≡ nodes_of members.now) }
 {
+    let names = Names::of(alloc, members)?;
     let mut kept = kept.into_vec().into_iter();
     let mut nodes = with_room(alloc, members.len())?;
     for member in members {
-        nodes.push(node_of(alloc, members, member.member(), kept.next())?)?;
+        nodes.push(node_of(alloc, &names, member.member(), kept.next())?)?;
     }
     Ok(nodes)
 }

@@ -1,12 +1,17 @@
 //! What a link and an instance are, by the flags of what is cited and by stamps.
 
 ghost use Rattle.std.specs.List.{list_all, list_any};
-ghost use Rattle.std.specs.Prelude.{◌≡◌, ◌||◌, slice_index};
+ghost use Rattle.std.specs.Prelude.{◌≡◌, ◌||◌, map, slice_index};
 ghost use Rattle.smf_dep.specs.Parking.{blocked_by, met_by, off_at, parks, parks_by, runs_at};
-ghost use Rattle.smf_dep.specs.Stamps.{before};
+ghost use Rattle.smf_dep.specs.Stamps.{before, stamped};
+ghost use Rattle.smf_dep.specs.Tallies.{entity_of};
+ghost use Rattle.smf_dep.specs.Wires.{AreTold, IsTallied, tally_at};
 
 use crate::dependency::Grouping;
+use crate::index::citing_of;
 use crate::link::{Link, Node};
+use crate::tally::Tally;
+use crate::wires::Wires;
 use smf_fmri::Items;
 
 pub(crate) fn runs_at(nodes: &[Node], place: usize) -> bool
@@ -46,13 +51,13 @@ fn is_settled(nodes: &[Node], stamps: &[usize], limit: usize, place: usize) -> b
     runs_at(nodes, place) || is_before(stamps, limit, place)
 }
 
-fn any_runs(nodes: &[Node], places: &[usize]) -> bool
+pub(crate) fn any_runs(nodes: &[Node], places: &[usize]) -> bool
     ensures { result ≡ list_any (runs_at nodes.now) places.now }
 {
     places.iter().any(|place| runs_at(nodes, *place))
 }
 
-fn all_off(nodes: &[Node], places: &[usize]) -> bool
+pub(crate) fn all_off(nodes: &[Node], places: &[usize]) -> bool
     ensures { result ≡ list_all (off_at nodes.now) places.now }
 {
     places.iter().all(|place| off_at(nodes, *place))
@@ -143,33 +148,121 @@ pub(crate) fn is_met(nodes: &[Node], stamps: &[usize], limit: usize, link: &Link
     }
 }
 
-fn any_blocked(nodes: &[Node], stamps: &[usize], limit: usize, links: &[Link]) -> bool
+/// Whether a link is blocked by what has a stamp below the limit. Its counts are asked first: by all stamps it is blocked
+/// if it is by some.
+fn is_blocked_by(
+    nodes: &[Node],
+    stamps: &[usize],
+    limit: usize,
+    tallies: &[Tally],
+    number: usize,
+    link: &Link,
+) -> bool
+    requires { tally_at tallies.now number ≡ map (entity_of (runs_at nodes.now) (off_at nodes.now) (stamped stamps.now)) link.now.cited }
+    ensures { result ≡ blocked_by (runs_at nodes.now) (off_at nodes.now) (before stamps.now limit) link.now }
+{
+    match tallies.get(number) {
+        Some(tally) => tally.is_blocked(link.grouping) && is_blocked(nodes, stamps, limit, link),
+        None => is_blocked(nodes, stamps, limit, link),
+    }
+}
+
+/// Whether a link is met, by its counts.
+fn is_met_by(
+    nodes: &[Node],
+    stamps: &[usize],
+    limit: usize,
+    tallies: &[Tally],
+    number: usize,
+    link: &Link,
+) -> bool
+    requires { tally_at tallies.now number ≡ map (entity_of (runs_at nodes.now) (off_at nodes.now) (before stamps.now limit)) link.now.cited }
+    ensures { result ≡ met_by (runs_at nodes.now) (off_at nodes.now) (before stamps.now limit) link.now }
+{
+    match tallies.get(number) {
+        Some(tally) => tally.is_met(link.grouping),
+        None => is_met(nodes, stamps, limit, link),
+    }
+}
+
+fn any_blocked(
+    nodes: &[Node],
+    stamps: &[usize],
+    limit: usize,
+    tallies: &[Tally],
+    numbers: &[usize],
+    links: &[Link],
+) -> bool
+    requires { AreTold (runs_at nodes.now) (off_at nodes.now) (stamped stamps.now) numbers.now tallies.now links.now }
     ensures { result ≡ list_any (blocked_by (runs_at nodes.now) (off_at nodes.now) (before stamps.now limit)) links.now }
 {
-    links
-        .iter()
-        .any(|link| is_blocked(nodes, stamps, limit, link))
+    for (at, link) in links.iter().enumerate() {
+        let number = stamp_at(numbers, at);
+        if is_blocked_by(nodes, stamps, limit, tallies, number, link) {
+            return true;
+        }
+    }
+    false
 }
 
-pub(crate) fn each_met(nodes: &[Node], stamps: &[usize], limit: usize, links: &[Link]) -> bool
+pub(crate) fn each_met(
+    nodes: &[Node],
+    stamps: &[usize],
+    limit: usize,
+    tallies: &[Tally],
+    numbers: &[usize],
+    links: &[Link],
+) -> bool
+    requires { AreTold (runs_at nodes.now) (off_at nodes.now) (before stamps.now limit) numbers.now tallies.now links.now }
     ensures { result ≡ list_all (met_by (runs_at nodes.now) (off_at nodes.now) (before stamps.now limit)) links.now }
 {
-    links.iter().all(|link| is_met(nodes, stamps, limit, link))
+    for (at, link) in links.iter().enumerate() {
+        let number = stamp_at(numbers, at);
+        if !is_met_by(nodes, stamps, limit, tallies, number, link) {
+            return false;
+        }
+    }
+    true
 }
 
-fn parks_by(nodes: &[Node], stamps: &[usize], limit: usize, node: &Node) -> bool
+fn parks_by(
+    nodes: &[Node],
+    stamps: &[usize],
+    limit: usize,
+    tallies: &[Tally],
+    numbers: &[usize],
+    node: &Node,
+) -> bool
+    requires { AreTold (runs_at nodes.now) (off_at nodes.now) (stamped stamps.now) numbers.now tallies.now node.now.links }
     ensures { result ≡ parks_by (runs_at nodes.now) (off_at nodes.now) (before stamps.now limit) node.now }
 {
     node.flags.idle
-        || (node.flags.waiting && any_blocked(nodes, stamps, limit, node.links.as_slice()))
+        || (node.flags.waiting
+            && any_blocked(
+                nodes,
+                stamps,
+                limit,
+                tallies,
+                numbers,
+                node.links.as_slice(),
+            ))
 }
 
 /// Whether an instance is idle, or waits and is blocked by what has a stamp below the limit.
-pub(crate) fn parks(nodes: &[Node], stamps: &[usize], limit: usize, place: usize) -> bool
+pub(crate) fn parks(
+    nodes: &[Node],
+    stamps: &[usize],
+    wires: &Wires,
+    tallies: &[Tally],
+    limit: usize,
+    place: usize,
+) -> bool
+    requires { IsTallied nodes.now stamps.now wires.now tallies.now }
     ensures { result ≡ parks nodes.now (before stamps.now limit) place }
 {
+    let numbers = citing_of(wires.numbers.as_slice(), place);
     match nodes.get(place) {
-        Some(node) => parks_by(nodes, stamps, limit, node),
+        Some(node) => parks_by(nodes, stamps, limit, tallies, numbers, node),
         None => false,
     }
 }

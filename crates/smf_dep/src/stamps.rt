@@ -3,26 +3,39 @@
 ghost use Rattle.std.specs.Prelude.{◌≡◌, [], ◌∷◌, ◌++◌, ◌+◌, ◌^◌, ◌≤◌, ◌<◌, ℕ, true, drop, length, slice_index, slice_set, vec_capacity};
 ghost use Rattle.smf_dep.specs.Parking.{IsOut};
 ghost use Rattle.smf_dep.specs.Stamps.{Adds, AddsBy, IsComplete, IsLoosening, IsSound, Spreads, citing_at, drops, gains, stamps_by};
+ghost use Rattle.smf_dep.specs.Wires.{IsTallied};
 
 use crate::index::citing_of;
 use crate::link::Node;
 use crate::parking::{parks, stamp_at};
+use crate::tallies::put_stamp;
+use crate::tally::Tally;
+use crate::wires::Wires;
 use smf_fmri::Items;
 
 #[tactic(auto, unfolding(crate::specs::Stamps::drops))]
-fn drops(nodes: &[Node], stamps: &[usize], place: usize) -> bool
+fn drops(nodes: &[Node], stamps: &[usize], wires: &Wires, tallies: &[Tally], place: usize) -> bool
+    requires { IsTallied nodes.now stamps.now wires.now tallies.now }
     ensures { result ≡ drops nodes.now stamps.now place }
 {
     let stamp = stamp_at(stamps, place);
-    0 < stamp && !parks(nodes, stamps, stamp, place)
+    0 < stamp && !parks(nodes, stamps, wires, tallies, stamp, place)
 }
 
 #[tactic(auto, unfolding(crate::specs::Stamps::gains))]
-fn gains(nodes: &[Node], stamps: &[usize], limit: usize, place: usize) -> bool
+fn gains(
+    nodes: &[Node],
+    stamps: &[usize],
+    wires: &Wires,
+    tallies: &[Tally],
+    limit: usize,
+    place: usize,
+) -> bool
+    requires { IsTallied nodes.now stamps.now wires.now tallies.now }
     ensures { result ≡ gains nodes.now stamps.now limit place }
 {
     let stamp = stamp_at(stamps, place);
-    !(0 < stamp) && parks(nodes, stamps, limit, place)
+    !(0 < stamp) && parks(nodes, stamps, wires, tallies, limit, place)
 }
 
 fn set_stamp(stamps: &mut [usize], place: usize, stamp: usize)
@@ -91,20 +104,24 @@ fn add_each(work: &mut Vec<usize>, slots: &mut [usize], next: usize, places: &[u
 fn loosen(
     nodes: &[Node],
     citing: &[Items<usize>],
+    wires: &Wires,
+    tallies: &mut [Tally],
     stamps: &mut [usize],
     work: &mut Vec<usize>,
     slots: &mut [usize],
     at: usize,
 )
+    requires tallied { IsTallied nodes.now stamps.old wires.now tallies.old }
     requires at { at < length work.old.items }
     requires room { drops nodes.now stamps.old (slice_index work.old.items at) ≡ true → length work.old.items + length (citing_at citing.now (slice_index work.old.items at)) ≤ vec_capacity work.old }
     ensures stamps { stamps.new ≡ stamps_by (drops nodes.now stamps.old (slice_index work.old.items at)) stamps.old (slice_index work.old.items at) 0 }
+    ensures tallied { IsTallied nodes.now stamps.new wires.now tallies.new }
     ensures work { AddsBy (drops nodes.now stamps.old (slice_index work.old.items at)) (at + 1) (citing_at citing.now (slice_index work.old.items at)) work.old.items work.new.items }
     ensures capacity { vec_capacity work.old ≤ vec_capacity work.new }
 {
     let place = work[at];
-    if drops(nodes, stamps, place) {
-        set_stamp(stamps, place, 0);
+    if drops(nodes, stamps, wires, tallies, place) {
+        put_stamp(nodes, stamps, wires, tallies, place, 0);
         add_each(work, slots, at + 1, citing_of(citing, place));
     }
 }
@@ -113,21 +130,25 @@ fn loosen(
 fn spread(
     nodes: &[Node],
     citing: &[Items<usize>],
+    wires: &Wires,
+    tallies: &mut [Tally],
     stamps: &mut [usize],
     work: &mut Vec<usize>,
     slots: &mut [usize],
     stamp: usize,
     at: usize,
 )
+    requires tallied { IsTallied nodes.now stamps.old wires.now tallies.old }
     requires at { at < length work.old.items }
     requires room { gains nodes.now stamps.old stamp (slice_index work.old.items at) ≡ true → length work.old.items + length (citing_at citing.now (slice_index work.old.items at)) ≤ vec_capacity work.old }
     ensures stamps { stamps.new ≡ stamps_by (gains nodes.now stamps.old stamp (slice_index work.old.items at)) stamps.old (slice_index work.old.items at) stamp }
+    ensures tallied { IsTallied nodes.now stamps.new wires.now tallies.new }
     ensures work { AddsBy (gains nodes.now stamps.old stamp (slice_index work.old.items at)) (at + 1) (citing_at citing.now (slice_index work.old.items at)) work.old.items work.new.items }
     ensures capacity { vec_capacity work.old ≤ vec_capacity work.new }
 {
     let place = work[at];
-    if gains(nodes, stamps, stamp, place) {
-        set_stamp(stamps, place, stamp);
+    if gains(nodes, stamps, wires, tallies, stamp, place) {
+        put_stamp(nodes, stamps, wires, tallies, place, stamp);
         add_each(work, slots, at + 1, citing_of(citing, place));
     }
 }
@@ -136,28 +157,42 @@ fn spread(
 pub(crate) fn settle(
     nodes: &[Node],
     citing: &[Items<usize>],
+    wires: &Wires,
+    tallies: &mut [Tally],
     stamps: &mut [usize],
     work: &mut Vec<usize>,
     slots: &mut [usize],
     base: usize,
 )
+    requires tallied { IsTallied nodes.now stamps.old wires.now tallies.old }
     requires base { (0 < base) × (base ≤ 2 ^ 62) }
     requires begun { IsLoosening nodes.now citing.now base (vec_capacity work.old) stamps.old work.old.items 0 }
     ensures size { length stamps.new ≡ length nodes.now }
     ensures low { (a : ℕ) → slice_index stamps.new a < base + length work.new.items }
     ensures sound { (a : ℕ) → IsSound nodes.now stamps.new a }
     ensures complete { (a : ℕ) → IsComplete nodes.now stamps.new a }
+    ensures tallied { IsTallied nodes.now stamps.new wires.now tallies.new }
     ensures spread { Spreads nodes.now citing.now stamps.old work.old.items stamps.new work.new.items }
     ensures capacity { vec_capacity work.old ≤ vec_capacity work.new }
 {
     let mut at = 0;
     'loosening: while at < work.len() {
-        loosen(nodes, citing, stamps, work, slots, at);
+        loosen(nodes, citing, wires, tallies, stamps, work, slots, at);
         at += 1;
     }
     let mut done = 0;
     'spreading: while done < work.len() {
-        spread(nodes, citing, stamps, work, slots, base + done, done);
+        spread(
+            nodes,
+            citing,
+            wires,
+            tallies,
+            stamps,
+            work,
+            slots,
+            base + done,
+            done,
+        );
         done += 1;
     }
 }

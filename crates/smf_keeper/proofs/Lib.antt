@@ -1,0 +1,4 @@
+pub mod Later
+pub mod Failing
+pub mod Grouping
+pub mod Keeping

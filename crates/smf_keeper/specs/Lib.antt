@@ -1,1 +1,6 @@
 pub mod Words
+pub mod Tellings
+pub mod Kit
+pub mod Ends
+pub mod Grouping
+pub mod Keeping

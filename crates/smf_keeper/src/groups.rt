@@ -1,17 +1,22 @@
-use crate::program::{grouped, start};
-use crate::reading::{end_of, field_of, mount_in, own_group_in, standing};
+ghost use Rattle.std.specs.Prelude.{◌≡◌, IfOk, OnErr, true, false, option_map, string_bytes};
+ghost use Rattle.smf_keeper.specs.Grouping.{Empties, HasLeft, Holds, IsUnclear, SaysNeither, TellsGroup};
+ghost use Rattle.smf_keeper.specs.Tellings.{IsLater};
+
+use crate::grouped::Grouped;
+use crate::host::Host;
+use crate::program::{grouped, path_in};
+use crate::reading::{end_of, has_process, mount_in, own_group_in};
 use crate::room::Room;
 use smf_contract::Method;
 use smf_fmri::{InstanceFmri, Number};
-use smf_follow::{Contracts, FirstEnd, Stand};
+use smf_follow::{Contracts, Stand};
 use smf_method::Command;
-use std::alloc::{AllocError, Global};
+use std::alloc::Global;
 use std::fs::File;
 use std::io::{Read, Stderr};
-use std::process::{Child, Processes};
+use std::process::Processes;
 use std::rt::{Clock, Files};
-use std::time::Duration;
-use std::{fs, io, thread};
+use std::{fs, io};
 
 /// How many milliseconds the system has to end a group, before that is asked again.
 const PATIENCE: u32 = 2000;
@@ -21,22 +26,13 @@ const NAMES: u32 = 1000;
 
 /// Contracts that are control groups of version 2, below one of the server's own.
 #[derive(Drop)]
-pub struct Groups<R: Processes + Files<File = File> + Clock> {
+pub struct Groups<H: Host> {
     alloc: Global,
-    rt: R,
+    host: H,
     /// It is kept for its lock.
     room: Room,
     group: String,
     output: Stderr,
-}
-
-/// A contract, its group and its first process.
-#[derive(Drop)]
-pub struct Grouped<R: Processes> {
-    process: Child<R::Started>,
-    group: String,
-    /// How the first process ended, once that was told.
-    first: Option<FirstEnd>,
 }
 
 /// What a file holds, as far as it is text.
@@ -99,7 +95,7 @@ impl<R: Processes + Files<File = File> + Clock> Groups<R> {
         match noted_group(alloc, &rt, room.path()) {
             Ok(Some(group)) => Ok(Groups {
                 alloc,
-                rt,
+                host: rt,
                 room,
                 group,
                 output,
@@ -107,53 +103,92 @@ impl<R: Processes + Files<File = File> + Clock> Groups<R> {
             _ => Err((rt, room)),
         }
     }
+}
 
-    /// The group of a contract, which is made if it is not there.
-    fn made(&self, id: Number) -> io::Result<String> {
-        let group = format!(in self.alloc; "{}/{}", self.group.as_str(), id.get())?;
-        match fs::create_dir(&self.rt, group.as_str()) {
-            Err(e) if e.kind() != io::ErrorKind::AlreadyExists => Err(e),
-            _ => Ok(group),
-        }
-    }
-
-    /// The file of a group by its name.
-    fn file_of(&self, group: &str, name: &str) -> Result<String, AllocError> {
-        format!(in self.alloc; "{group}/{name}")
-    }
-
-    /// Whether a group has a process.
-    fn is_populated(&self, group: &str) -> io::Result<bool> {
-        let file = self.file_of(group, "cgroup.events")?;
-        let events = text_of(self.alloc, &self.rt, file.as_str())?;
-        match field_of(events.as_str(), "populated") {
-            Some("0") => Ok(false),
-            Some(_) => Ok(true),
+/// What is read of a group: whether it has a process.
+fn is_held(text: &Option<String>) -> io::Result<bool>
+    ensures holds { IfOk result (λ some. Holds (option_map string_bytes text.now) some) }
+    ensures neither { OnErr result (SaysNeither (option_map string_bytes text.now)) }
+{
+    match text {
+        None => Ok(false),
+        Some(text) => match has_process(text.as_str()) {
+            Some(some) => Ok(some),
             None => Err(io::Error::from(io::ErrorKind::InvalidData)),
-        }
-    }
-
-    /// How the first process ended, if it did.
-    fn first_end(&self, grouped: &mut Grouped<R>) -> io::Result<Option<FirstEnd>> {
-        if grouped.first.is_none() {
-            grouped.first = grouped.process.try_wait()?.map(end_of);
-        }
-        Ok(grouped.first)
+        },
     }
 }
 
-impl<R: Processes + Files<File = File> + Clock> Contracts for Groups<R> {
-    type Held = Grouped<R>;
+/// Whether a group has a process. One that is not there has none.
+#[tactic(auto, using(crate::proofs::Later::one_later, crate::proofs::Grouping::tells_group, crate::proofs::Grouping::unclear_text, crate::proofs::Grouping::unclear_lost))]
+fn is_populated<H: Host>(
+    alloc: Global,
+    host: &H,
+    process: &mut H::Process,
+    group: &str,
+) -> io::Result<bool>
+    ensures told { IfOk result (λ some. TellsGroup H.facts group.now some process.old process.new) }
+    ensures later { IsLater H.facts process.old process.new }
+    ensures lost { OnErr result (IsUnclear H.facts group.now process.old) }
+{
+    let text = host.read(alloc, process, group, "/cgroup.events")?;
+    is_held(&text)
+}
+
+/// Whether the first process has ended and after that its group had no process.
+#[tactic(auto, using(crate::proofs::Later::one_later, crate::proofs::Later::then_later, crate::proofs::Grouping::left_none))]
+fn is_empty<H: Host>(
+    alloc: Global,
+    host: &H,
+    process: &mut H::Process,
+    group: &str,
+) -> io::Result<bool>
+    ensures empty { IfOk result (λ empty. empty ≡ true → HasLeft H.facts group.now false (λ _. Unit {0}) process.old) }
+    ensures later { IsLater H.facts process.old process.new }
+{
+    let Some(_status) = host.look(process)? else {
+        return Ok(false);
+    };
+    let some = is_populated(alloc, host, process, group)?;
+    Ok(!some)
+}
+
+/// Waits for a while until a group is empty, and says whether it is.
+#[tactic(auto, using(crate::proofs::Later::not_later, crate::proofs::Later::later_on, crate::proofs::Grouping::empties_now))]
+fn wait_empty<H: Host>(
+    alloc: Global,
+    host: &H,
+    process: &mut H::Process,
+    group: &str,
+) -> io::Result<bool>
+    ensures empty { IfOk result (λ empty. empty ≡ true → Empties H.facts group.now process.old) }
+{
+    for _ in 0..PATIENCE {
+        let empty = is_empty(alloc, host, process, group)?;
+        if empty {
+            return Ok(true);
+        }
+        host.pause();
+    }
+    Ok(false)
+}
+
+impl<H: Host> Contracts for Groups<H> {
+    ghost use Rattle.std.specs.Prelude.{string_bytes};
+    ghost use Rattle.smf_keeper.specs.Grouping.{IsEndedIn, IsGroupOf, IsLostIn, MayLiveIn, MayNotStart, StandsIn};
+
+    type Held = Grouped<H::Process>;
 
     ghost facts = { record {
-      is_of = λ _ _. Unit {0};
-      start_fails = λ _. Unit {0};
-      stands = λ _ _. Unit {0};
-      is_lost = λ _. Unit {0};
-      is_ended = λ _. Unit {0};
-      may_live = λ _. Unit {0};
+      is_of = λ launch held. IsGroupOf H.facts launch (string_bytes held.group) held.process;
+      start_fails = λ e. MayNotStart H.facts e;
+      stands = λ held stand. StandsIn H.facts (string_bytes held.group) stand held.process;
+      is_lost = λ held. IsLostIn H.facts (string_bytes held.group) held.process;
+      is_ended = λ held. IsEndedIn H.facts (string_bytes held.group) held.process;
+      may_live = λ held. MayLiveIn H.facts (string_bytes held.group) held.process;
     } };
 
+    #[tactic(auto, using(crate::proofs::Grouping::has_variables, crate::proofs::Grouping::group_of, crate::proofs::Grouping::refused, crate::proofs::Grouping::short))]
     fn start(
         &self,
         id: Number,
@@ -161,8 +196,9 @@ impl<R: Processes + Files<File = File> + Clock> Contracts for Groups<R> {
         restarter: &InstanceFmri,
         method: Method,
         instance: &InstanceFmri,
-    ) -> io::Result<Grouped<R>> {
-        let group = self.made(id)?;
+    ) -> io::Result<Grouped<H::Process>> {
+        let group = path_in(self.alloc, self.group.as_str(), id)?;
+        self.host.make_folder(group.as_str())?;
         let program = grouped(
             self.alloc,
             group.as_str(),
@@ -172,47 +208,52 @@ impl<R: Processes + Files<File = File> + Clock> Contracts for Groups<R> {
             instance,
             self.output,
         )?;
-        match start(&self.rt, program) {
-            Ok(process) => Ok(Grouped {
-                process,
-                group,
-                first: None,
-            }),
-            Err(e) => Err(e),
-        }
+        let process = self.host.start(program)?;
+        Ok(Grouped { process, group })
     }
 
     /// A group that is empty is removed.
-    fn stand(&self, grouped: &mut Grouped<R>) -> io::Result<Stand> {
-        let Some(end) = self.first_end(grouped)? else {
+    #[tactic(auto, using(crate::proofs::Grouping::stands_runs, crate::proofs::Grouping::stands_left, crate::proofs::Grouping::stands_gone, crate::proofs::Grouping::lost_now, crate::proofs::Grouping::lost_then, crate::proofs::Grouping::lost_after))]
+    fn stand(&self, grouped: &mut Grouped<H::Process>) -> io::Result<Stand> {
+        let Some(status) = self.host.look(&mut grouped.process)? else {
             return Ok(Stand::Runs);
         };
-        if !fs::exists(&self.rt, grouped.group.as_str())? {
-            return Ok(Stand::Gone(end));
+        let end = end_of(status);
+        let some = is_populated(
+            self.alloc,
+            &self.host,
+            &mut grouped.process,
+            grouped.group.as_str(),
+        )?;
+        if some {
+            return Ok(Stand::Left(end));
         }
-        if self.is_populated(grouped.group.as_str())? {
-            return Ok(standing(Some(end)));
-        }
-        fs::remove_dir(&self.rt, grouped.group.as_str())?;
+        self.host
+            .remove_folder(&mut grouped.process, grouped.group.as_str())?;
         Ok(Stand::Gone(end))
     }
 
-    /// A group that was ended before and removed is not asked again.
-    fn end(&self, grouped: &mut Grouped<R>) -> io::Result<bool> {
-        if !fs::exists(&self.rt, grouped.group.as_str())? {
-            return Ok(self.first_end(grouped)?.is_some());
+    /// A group that is empty is removed, if that can be done at once.
+    #[tactic(auto, using(crate::proofs::Grouping::ended_in, crate::proofs::Grouping::may_live_told, crate::proofs::Grouping::may_live_lost))]
+    fn end(&self, grouped: &mut Grouped<H::Process>) -> io::Result<bool> {
+        self.host.write(
+            self.alloc,
+            &mut grouped.process,
+            grouped.group.as_str(),
+            "/cgroup.kill",
+            "1",
+        )?;
+        let empty = wait_empty(
+            self.alloc,
+            &self.host,
+            &mut grouped.process,
+            grouped.group.as_str(),
+        )?;
+        if empty {
+            let _ = self
+                .host
+                .remove_folder(&mut grouped.process, grouped.group.as_str());
         }
-        let kill = self.file_of(grouped.group.as_str(), "cgroup.kill")?;
-        fs::write(&self.rt, kill.as_str(), "1")?;
-        for _ in 0..PATIENCE {
-            if grouped.process.try_wait()?.is_some()
-                && !self.is_populated(grouped.group.as_str())?
-            {
-                let _ = fs::remove_dir(&self.rt, grouped.group.as_str());
-                return Ok(true);
-            }
-            thread::sleep(&self.rt, Duration::from_millis(1));
-        }
-        Ok(false)
+        Ok(empty)
     }
 }

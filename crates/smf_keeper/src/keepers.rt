@@ -1,124 +1,161 @@
-use crate::program::{helper, keeper, start, succeeds};
-use crate::reading::{left_nothing, read_end, standing, untold};
+ghost use Rattle.std.specs.Prelude.{◌≡◌, IfOk, IfSome, OnErr, None, true, false, string_bytes};
+ghost use Rattle.smf_keeper.specs.Keeping.{EndsLater, HasEnded, HasSaid, IsLeft, IsOver, IsSilent};
+ghost use Rattle.smf_keeper.specs.Tellings.{IsLater, NoAnswer};
+
+use crate::host::Host;
+use crate::kept::Kept;
+use crate::program::{keeper, name_of, path_in};
+use crate::reading::{left_nothing, read_end, untold};
 use crate::room::Room;
 use smf_contract::Method;
 use smf_fmri::{InstanceFmri, Number};
 use smf_follow::{Contracts, FirstEnd, Stand};
 use smf_method::Command;
-use std::alloc::{AllocError, Global};
-use std::fs::File;
-use std::io::{Read, Stderr};
-use std::process::{Child, Command as Program, ExitStatus, Processes};
-use std::rt::{Clock, Files};
-use std::time::Duration;
-use std::{fs, io, thread};
+use std::alloc::Global;
+use std::io;
+use std::io::Stderr;
+use std::process::ExitStatus;
 
 /// How many milliseconds a keeper has to end its contract, before that is asked again.
 const PATIENCE: u32 = 2000;
 
 /// Contracts that have a keeper each. It ends by itself when nothing is left of its contract.
 #[derive(Drop)]
-pub struct Keepers<R: Processes + Files<File = File> + Clock> {
+pub struct Keepers<H: Host> {
     alloc: Global,
-    rt: R,
+    host: H,
     room: Room,
     output: Stderr,
 }
 
-/// A contract, and its keeper.
-#[derive(Drop)]
-pub struct Kept<R: Processes> {
-    keeper: Child<R::Started>,
-    /// The mark of its members, and the file in which the keeper tells how the first of them ended.
-    mark: String,
-    /// How the first process ended, once that was told.
-    first: Option<FirstEnd>,
+/// What a keeper's file says, if it is there.
+#[tactic(auto, using(crate::proofs::Later::one_later, crate::proofs::Keeping::has_said, crate::proofs::Keeping::is_silent))]
+fn told<H: Host>(
+    alloc: Global,
+    host: &H,
+    keeper: &mut H::Process,
+    mark: &str,
+) -> io::Result<Option<FirstEnd>>
+    ensures said { IfOk result (λ end. IfSome end (HasSaid H.facts mark.now)) }
+    ensures silent { IfOk result (λ end. end ≡ None → IsSilent H.facts mark.now keeper.old) }
+    ensures later { IsLater H.facts keeper.old keeper.new }
+    ensures lost { OnErr result (H.facts.tells keeper.old NoAnswer keeper.new) }
+{
+    match host.read(alloc, keeper, mark, "")? {
+        Some(text) => Ok(read_end(text.as_str())),
+        None => Ok(None),
+    }
 }
 
-impl<R: Processes + Files<File = File> + Clock> Keepers<R> {
-    pub fn new(alloc: Global, rt: R, room: Room, output: Stderr) -> Keepers<R> {
+/// Whether nothing is left of a contract whose keeper ended so. What a keeper left that was ended itself is found by its
+/// mark and ended.
+#[tactic(auto, using(crate::proofs::Later::not_later, crate::proofs::Later::one_later, crate::proofs::Keeping::over_itself, crate::proofs::Keeping::over_by_ender, crate::proofs::Keeping::is_left))]
+fn is_over<H: Host>(
+    alloc: Global,
+    host: &H,
+    ender: &str,
+    keeper: &mut H::Process,
+    mark: &str,
+    status: ExitStatus,
+) -> io::Result<bool>
+    ensures over { IfOk result (λ over. over ≡ true → IsOver H.facts mark.now status keeper.old keeper.new) }
+    ensures left { IfOk result (λ over. over ≡ false → IsLeft H.facts mark.now keeper.old) }
+    ensures later { IsLater H.facts keeper.old keeper.new }
+    ensures lost { OnErr result (H.facts.tells keeper.old NoAnswer keeper.new) }
+{
+    if left_nothing(status) {
+        return Ok(true);
+    }
+    let over = host.run(alloc, keeper, ender, "--mark", mark)?;
+    Ok(over)
+}
+
+/// Whether a keeper has ended, and nothing is left of its contract.
+#[tactic(auto, using(crate::proofs::Later::one_later, crate::proofs::Later::then_later, crate::proofs::Keeping::has_ended))]
+fn has_ended<H: Host>(
+    alloc: Global,
+    host: &H,
+    ender: &str,
+    keeper: &mut H::Process,
+    mark: &str,
+) -> io::Result<bool>
+    ensures ended { IfOk result (λ ended. ended ≡ true → HasEnded H.facts mark.now (λ _ _. Unit {0}) keeper.old) }
+    ensures later { IsLater H.facts keeper.old keeper.new }
+{
+    let Some(status) = host.look(keeper)? else {
+        return Ok(false);
+    };
+    let over = is_over(alloc, host, ender, keeper, mark, status)?;
+    Ok(over)
+}
+
+/// Waits for a while until a keeper has ended and nothing is left, and says whether that is so.
+#[tactic(auto, using(crate::proofs::Later::not_later, crate::proofs::Later::later_on, crate::proofs::Keeping::ends_later))]
+fn wait_ended<H: Host>(
+    alloc: Global,
+    host: &H,
+    ender: &str,
+    keeper: &mut H::Process,
+    mark: &str,
+) -> io::Result<bool>
+    ensures ended { IfOk result (λ ended. ended ≡ true → EndsLater H.facts mark.now keeper.old) }
+{
+    for _ in 0..PATIENCE {
+        let ended = has_ended(alloc, host, ender, keeper, mark)?;
+        if ended {
+            return Ok(true);
+        }
+        host.pause();
+    }
+    Ok(false)
+}
+
+/// How the first process ended, if its keeper told that. The file is read until then, and is removed.
+#[tactic(auto, using(crate::proofs::Keeping::noted_said, crate::proofs::Keeping::said_here, crate::proofs::Keeping::said_noted))]
+fn first_end<H: Host>(alloc: Global, host: &H, kept: &mut Kept<H>) -> io::Result<Option<FirstEnd>>
+    ensures said { IfOk result (λ end. IfSome end (λ end. ∥ HasSaid H.facts (string_bytes kept.old.mark) end ∥₁)) }
+    ensures silent { IfOk result (λ end. end ≡ None → IsSilent H.facts (string_bytes kept.old.mark) kept.old.keeper) }
+    ensures lost { OnErr result (H.facts.tells kept.old.keeper NoAnswer kept.new.keeper) }
+{
+    if kept.first.is_some() {
+        return Ok(kept.first);
+    }
+    let end = told(alloc, host, &mut kept.keeper, kept.mark.as_str())?;
+    kept.first = end;
+    if end.is_some() {
+        host.forget(kept.mark.as_str());
+    }
+    Ok(end)
+}
+
+impl<H: Host> Keepers<H> {
+    pub fn new(alloc: Global, host: H, room: Room, output: Stderr) -> Keepers<H> {
         Keepers {
             alloc,
-            rt,
+            host,
             room,
             output,
         }
     }
-
-    /// The mark of a contract.
-    fn mark(&self, id: Number) -> Result<String, AllocError> {
-        let room = self.room.path();
-        format!(in self.alloc; "{room}/{}", id.get())
-    }
-
-    /// The keeper of a method.
-    fn program(
-        &self,
-        id: Number,
-        command: &Command,
-        restarter: &InstanceFmri,
-        method: Method,
-        instance: &InstanceFmri,
-    ) -> Result<Program, AllocError> {
-        let name = format!(in self.alloc; "{}", id.get())?;
-        keeper(
-            self.alloc,
-            self.room.keeper(),
-            self.room.path(),
-            name.as_str(),
-            command,
-            restarter,
-            method,
-            instance,
-            self.output,
-        )
-    }
-
-    /// What the file of a contract says, if it is there.
-    fn told(&self, mark: &str) -> io::Result<Option<FirstEnd>> {
-        let mut text = String::new(self.alloc);
-        match File::open(&self.rt, mark) {
-            Ok(mut file) => file.read_to_string(&mut text)?,
-            Err(e) if e.kind() == io::ErrorKind::NotFound => return Ok(None),
-            Err(e) => return Err(e),
-        };
-        Ok(read_end(text.as_str()))
-    }
-
-    /// How the first process ended, if its keeper told that. The file is read once.
-    fn first_end(&self, kept: &mut Kept<R>) -> io::Result<Option<FirstEnd>> {
-        if kept.first.is_none() {
-            kept.first = self.told(kept.mark.as_str())?;
-            if kept.first.is_some() {
-                let _ = fs::remove_file(&self.rt, kept.mark.as_str());
-            }
-        }
-        Ok(kept.first)
-    }
-
-    /// Whether nothing is left of a contract whose keeper ended so. What a keeper left that was ended itself is found by its
-    /// mark and ended.
-    fn is_over(&self, mark: &str, status: ExitStatus) -> io::Result<bool> {
-        if left_nothing(status) {
-            return Ok(true);
-        }
-        let end = helper(self.alloc, self.room.ender(), "--mark", mark)?;
-        succeeds(&self.rt, end)
-    }
 }
 
-impl<R: Processes + Files<File = File> + Clock> Contracts for Keepers<R> {
-    type Held = Kept<R>;
+impl<H: Host> Contracts for Keepers<H> {
+    ghost use Rattle.std.specs.Prelude.{string_bytes};
+    ghost use Rattle.smf_keeper.specs.Grouping.{MayNotStart};
+    ghost use Rattle.smf_keeper.specs.Keeping.{IsEndedWith, IsKeeperOf, IsLostWith, MayLiveWith, StandsWith};
+
+    type Held = Kept<H>;
 
     ghost facts = { record {
-      is_of = λ _ _. Unit {0};
-      start_fails = λ _. Unit {0};
-      stands = λ _ _. Unit {0};
-      is_lost = λ _. Unit {0};
-      is_ended = λ _. Unit {0};
-      may_live = λ _. Unit {0};
+      is_of = λ launch held. IsKeeperOf H.facts launch (string_bytes held.mark) held.keeper;
+      start_fails = λ e. MayNotStart H.facts e;
+      stands = λ held stand. StandsWith H.facts (string_bytes held.mark) stand held.keeper;
+      is_lost = λ held. IsLostWith H.facts (string_bytes held.mark) held.keeper;
+      is_ended = λ held. IsEndedWith H.facts (string_bytes held.mark) held.keeper;
+      may_live = λ held. MayLiveWith H.facts held.keeper;
     } };
 
+    #[tactic(auto, using(crate::proofs::Grouping::has_variables, crate::proofs::Keeping::keeper_of, crate::proofs::Grouping::refused, crate::proofs::Grouping::short))]
     fn start(
         &self,
         id: Number,
@@ -126,40 +163,68 @@ impl<R: Processes + Files<File = File> + Clock> Contracts for Keepers<R> {
         restarter: &InstanceFmri,
         method: Method,
         instance: &InstanceFmri,
-    ) -> io::Result<Kept<R>> {
-        let mark = self.mark(id)?;
-        let program = self.program(id, command, restarter, method, instance)?;
-        match start(&self.rt, program) {
-            Ok(keeper) => Ok(Kept {
-                keeper,
-                mark,
-                first: None,
-            }),
-            Err(e) => Err(e),
-        }
+    ) -> io::Result<Kept<H>> {
+        let room = self.room.path();
+        let name = name_of(self.alloc, id)?;
+        let mark = path_in(self.alloc, room, id)?;
+        let program = keeper(
+            self.alloc,
+            self.room.keeper(),
+            room,
+            name.as_str(),
+            command,
+            restarter,
+            method,
+            instance,
+            self.output,
+        )?;
+        let keeper = self.host.start(program)?;
+        Ok(Kept {
+            keeper,
+            mark,
+            first: None,
+        })
     }
 
-    fn stand(&self, kept: &mut Kept<R>) -> io::Result<Stand> {
-        let Some(status) = kept.keeper.try_wait()? else {
-            return Ok(standing(self.first_end(kept)?));
+    #[tactic(auto, using(crate::proofs::Keeping::stands_runs, crate::proofs::Keeping::stands_left, crate::proofs::Keeping::gone_said, crate::proofs::Keeping::gone_untold, crate::proofs::Keeping::lost_now, crate::proofs::Keeping::lost_then, crate::proofs::Keeping::lost_left, crate::proofs::Keeping::lost_after))]
+    fn stand(&self, kept: &mut Kept<H>) -> io::Result<Stand> {
+        let Some(status) = self.host.look(&mut kept.keeper)? else {
+            return match first_end(self.alloc, &self.host, kept)? {
+                Some(end) => Ok(Stand::Left(end)),
+                None => Ok(Stand::Runs),
+            };
         };
-        if !self.is_over(kept.mark.as_str(), status)? {
+        let over = is_over(
+            self.alloc,
+            &self.host,
+            self.room.ender(),
+            &mut kept.keeper,
+            kept.mark.as_str(),
+            status,
+        )?;
+        if !over {
             return Err(io::Error::from(io::ErrorKind::Other));
         }
-        let end = self.first_end(kept)?.unwrap_or(untold(status));
-        Ok(Stand::Gone(end))
+        match first_end(self.alloc, &self.host, kept)? {
+            Some(end) => Ok(Stand::Gone(end)),
+            None => Ok(Stand::Gone(untold(status))),
+        }
     }
 
     /// It closes the keeper's standard input, and waits for its end for a while.
-    fn end(&self, kept: &mut Kept<R>) -> io::Result<bool> {
-        drop(kept.keeper.stdin.take());
-        for _ in 0..PATIENCE {
-            if let Some(status) = kept.keeper.try_wait()? {
-                let _ = fs::remove_file(&self.rt, kept.mark.as_str());
-                return self.is_over(kept.mark.as_str(), status);
-            }
-            thread::sleep(&self.rt, Duration::from_millis(1));
+    #[tactic(auto, using(crate::proofs::Keeping::ended_with, crate::proofs::Keeping::may_live))]
+    fn end(&self, kept: &mut Kept<H>) -> io::Result<bool> {
+        self.host.close(&mut kept.keeper);
+        let ended = wait_ended(
+            self.alloc,
+            &self.host,
+            self.room.ender(),
+            &mut kept.keeper,
+            kept.mark.as_str(),
+        )?;
+        if ended {
+            self.host.forget(kept.mark.as_str());
         }
-        Ok(false)
+        Ok(ended)
     }
 }

@@ -1,15 +1,21 @@
 //! Contracts of processes that the system runs, in two forms: a control group for each, or a keeper, which is a program of
 //! its own.
-//! Modules: `room` (the folder of a server's contracts), `keepers`, `groups` (the two forms), `program` (what is started),
-//! `reading` (what they tell).
+//! Modules: `host` (what is asked of the system), `room` (the folder of a server's contracts), `keepers` and `kept`, `groups`
+//! and `grouped` (the two forms), `program` (what is started), `reading` (what they tell).
 #![tactic(auto)]
 
+mod grouped;
 mod groups;
+mod host;
 mod keepers;
+mod kept;
 mod program;
 mod reading;
 mod room;
 
-pub use groups::{Grouped, Groups};
-pub use keepers::{Keepers, Kept};
+pub use grouped::Grouped;
+pub use groups::Groups;
+pub use host::Host;
+pub use keepers::Keepers;
+pub use kept::Kept;
 pub use room::{Room, RoomFault};

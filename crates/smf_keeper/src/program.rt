@@ -1,17 +1,34 @@
 // What is started for a contract.
-ghost use Rattle.std.specs.Prelude.{◌≡◌, IfOk, OnOk, ℕ, List, Some, None, true, codes, [], ◌∷◌};
+ghost use Rattle.std.specs.Prelude.{◌≡◌, ◌++◌, IfOk, OnOk, ℕ, List, Some, None, true, codes, string_bytes, [], ◌∷◌};
+ghost use Rattle.std.specs.Fmt.{decimal};
 ghost use Rattle.std.specs.Process.{SameEnv, SameOtherVars, SameProgramAndArgs, clears_env, command_args, command_program, command_var};
 ghost use Rattle.smf_edge.specs.Shell.{IsOther, by_shell};
 ghost use Rattle.smf_keeper.specs.Words.{into_group};
 ghost use Rattle.smf_method.specs.Tokens.{method_text};
 
 use smf_contract::Method;
-use smf_fmri::InstanceFmri;
+use smf_fmri::{InstanceFmri, Number};
 use smf_method::{Command, method_text};
 use std::alloc::{AllocError, Global};
 use std::io;
 use std::io::Stderr;
-use std::process::{Child, Command as Program, Processes, Stdio};
+use std::process::{Command as Program, Processes, Stdio};
+
+/// The path of what has the number of a contract, in a folder.
+pub(crate) fn path_in(alloc: Global, folder: &str, id: Number) -> Result<String, AllocError>
+    ensures { IfOk result (λ path. string_bytes path ≡ folder.now ++ 47 ∷ decimal id) }
+{
+    let number = id.get();
+    format!(in alloc; "{folder}/{number}")
+}
+
+/// The number of a contract as a text.
+pub(crate) fn name_of(alloc: Global, id: Number) -> Result<String, AllocError>
+    ensures { IfOk result (λ name. string_bytes name ≡ decimal id) }
+{
+    let number = id.get();
+    format!(in alloc; "{number}")
+}
 
 fn set(program: &mut Program, name: &str, value: &str) -> Result<(), AllocError>
     ensures set { OnOk result (command_var program.new name.now ≡ Some (Some value.now)) }
@@ -167,16 +184,7 @@ pub(crate) fn helper(
     Ok(program)
 }
 
-/// Starts a program, and lets it go.
-pub(crate) fn start<R: Processes>(rt: &R, mut program: Program) -> io::Result<Child<R::Started>> {
-    program.spawn(rt)
-}
-
 /// Runs a program to its end, and says whether it succeeded.
-pub(crate) fn succeeds<R: Processes>(rt: &R, program: Program) -> io::Result<bool> {
-    let mut child = start(rt, program)?;
-    match child.wait() {
-        Ok(status) => Ok(status.success()),
-        Err(e) => Err(e),
-    }
+pub(crate) fn succeeds<R: Processes>(rt: &R, mut program: Program) -> io::Result<bool> {
+    Ok(program.status(rt)?.success())
 }

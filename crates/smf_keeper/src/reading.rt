@@ -1,54 +1,96 @@
 // What keepers and groups tell.
+ghost use Rattle.std.specs.Prelude.{◌≡◌, ◌⊎◌, true};
+ghost use Rattle.smf_follow.specs.declared.stand.FirstEnd.TheVariants.{Signal, Core};
+ghost use Rattle.smf_keeper.specs.Ends.{IsEndOf, IsUntold, LeftNothing, code_below, read_end};
+ghost use Rattle.smf_fmri.specs.Counts.{read_count};
+ghost use Rattle.smf_keeper.specs.Grouping.{has_process};
 
-use smf_follow::{FirstEnd, Stand};
+use smf_fmri::read_count;
+use smf_follow::FirstEnd;
 use std::os::unix::process::ExitStatusExt;
 use std::process::ExitStatus;
 
 /// The status of a keeper that started nothing.
 const STARTED_NOTHING: i32 = 125;
 
-/// How a first process ended, as a keeper tells it.
-pub(crate) fn read_end(text: &str) -> Option<FirstEnd> {
-    match text.trim_end() {
-        "signal" => Some(FirstEnd::Signal),
-        "core" => Some(FirstEnd::Core),
-        digits => digits.parse::<u8>().ok().map(FirstEnd::Code),
+fn code_of(text: &str) -> Option<FirstEnd>
+    ensures { result ≡ code_below (read_count text.now) }
+{
+    match read_count(text) {
+        Some(number) if number < 256 => Some(FirstEnd::Code(number as u8)),
+        Some(_) => None,
+        None => None,
     }
 }
 
-/// How a contract stands whose keeper lives.
-pub(crate) fn standing(first: Option<FirstEnd>) -> Stand {
-    match first {
-        Some(end) => Stand::Left(end),
-        None => Stand::Runs,
+/// How a first process ended, as a keeper tells it.
+pub(crate) fn read_end(text: &str) -> Option<FirstEnd>
+    ensures { result ≡ read_end text.now }
+{
+    if text == "signal" {
+        Some(FirstEnd::Signal)
+    } else if text == "core" {
+        Some(FirstEnd::Core)
+    } else {
+        code_of(text)
     }
 }
 
 /// Whether a keeper that ended so left nothing: it ended by itself.
-pub(crate) fn left_nothing(status: ExitStatus) -> bool {
+pub(crate) fn left_nothing(status: ExitStatus) -> bool
+    ensures { result ≡ true → LeftNothing status }
+{
     match status.code() {
-        Some(code) => code == 0 || code == STARTED_NOTHING,
-        None => false,
+        Some(0) => true,
+        Some(STARTED_NOTHING) => true,
+        _ => false,
     }
 }
 
 /// How a first process ended that no keeper told of.
-pub(crate) fn untold(status: ExitStatus) -> FirstEnd {
+pub(crate) fn untold(status: ExitStatus) -> FirstEnd
+    ensures { IsUntold status result }
+{
     match status.code() {
         Some(STARTED_NOTHING) => FirstEnd::Code(125),
         _ => FirstEnd::Signal,
     }
 }
 
+/// How a process ended that a signal ended.
+fn signal_end(status: ExitStatus) -> FirstEnd
+    ensures { (result ≡ Signal) ⊎ (result ≡ Core) }
+{
+    if status.core_dumped() {
+        return FirstEnd::Core;
+    }
+    FirstEnd::Signal
+}
+
 /// How a process ended.
-pub(crate) fn end_of(status: ExitStatus) -> FirstEnd {
+pub(crate) fn end_of(status: ExitStatus) -> FirstEnd
+    ensures { IsEndOf status result }
+{
     match status.code() {
         Some(code) => match u8::try_from(code) {
             Ok(code) => FirstEnd::Code(code),
             Err(_) => FirstEnd::Signal,
         },
-        None if status.core_dumped() => FirstEnd::Core,
-        None => FirstEnd::Signal,
+        None => signal_end(status),
+    }
+}
+
+/// Whether the events of a group say that it has a process.
+pub(crate) fn has_process(text: &str) -> Option<bool>
+    ensures { result ≡ has_process text.now }
+{
+    let bytes = text.as_bytes();
+    if bytes.starts_with("populated 1\n".as_bytes()) {
+        Some(true)
+    } else if bytes.starts_with("populated 0\n".as_bytes()) {
+        Some(false)
+    } else {
+        None
     }
 }
 
@@ -69,18 +111,6 @@ pub(crate) fn own_group_in(groups: &str) -> Option<&str> {
     for line in groups.lines() {
         if let Some(group) = line.strip_prefix("0::") {
             return Some(group);
-        }
-    }
-    None
-}
-
-/// What stands after a name at the beginning of a line.
-pub(crate) fn field_of<'a>(text: &'a str, name: &str) -> Option<&'a str> {
-    for line in text.lines() {
-        if let Some((first, rest)) = line.split_once(' ') {
-            if first == name {
-                return Some(rest);
-            }
         }
     }
     None

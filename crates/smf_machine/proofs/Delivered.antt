@@ -1,12 +1,13 @@
 -- Changes that are delivered to the graph change nothing but its view.
 use Rattle.std.proofs.Common.{◌≡◌, ◌∙◌, ℕ, List, [], ◌∷◌, Bool, true, false, Option, Some, None, Result, Ok, Err, IfOk, OnErr, refl, sym, ap, subst}
-use Rattle.std.specs.Prelude.{reverse, slice_get}
+use Rattle.std.specs.Prelude.{reverse, slice_get, IfSome}
 use Rattle.std.proofs.lemmas.List.{reverse-reverse}
 use Rattle.smf_contract.specs.Called.{called}
 use Rattle.smf_state.specs.declared.view.View.{View}
 use Rattle.smf_model.specs.Holdings.{Holdings}
 use Rattle.smf_model.specs.Look.{installed}
 use Rattle.smf_engine.specs.Orders.{with_changes}
+use Rattle.smf_wire.specs.Lines.{IsSpelled}
 use Rattle.smf_wire.specs.declared.message.Message.{Message}
 use Rattle.smf_wire.specs.declared.message.Message.TheVariants as messages
 use Rattle.smf_wire.specs.declared.message.ViewChanges.{ViewChanges}
@@ -14,8 +15,10 @@ use Rattle.smf_world.specs.declared.event.Event.{Event}
 use Rattle.smf_world.specs.declared.event.Event.TheVariants as events
 use Rattle.smf_world.specs.declared.work.Work.{Work}
 use Rattle.smf_world.specs.Happens.{done, happens}
+use Rattle.smf_world.specs.Spelled.{AreSpelled}
 use Rattle.smf_world.specs.Worked.{delivered, delivered_if, sent_at, worked}
 use Rattle.smf_world.specs.World.{World}
+use Rattle.smf_world.proofs.SpelledRuns.{spelled_at}
 use Rattle.smf_machine.specs.declared.parts.Parts.{Parts}
 use Rattle.smf_machine.specs.Done.{IsDone, changes_at, changes_in, changes_of, delivered_place}
 use Rattle.smf_machine.specs.Install.{HasTaken}
@@ -56,6 +59,18 @@ says_nothing w place c at = ap (λ (o : Option Message). (delivered_if w o).repl
 sent_in : (h : Holdings) (p : Parts) (place : ℕ) → sent_at (world_of h p) place ≡ slice_get p.messages.items place
 unfolding world_of
 sent_in h p place = ap (λ (ms : List Message). slice_get ms place) (reverse-reverse p.messages.items)
+
+-- ---- what is delivered has a line
+
+spelled_in : (w : World) (place : ℕ) (o : Option Message) → sent_at w place ≡ o → AreSpelled w → IfSome o IsSpelled
+spelled_in w place None e a = tt
+spelled_in w place (Some m) e a = spelled_at w place m a e
+
+pub spelled_part : (h : Holdings) (p : Parts) (place : ℕ) → AreSpelled (world_of h p) → IfSome (slice_get p.messages.items place) IsSpelled
+spelled_part h p place a =
+    subst (λ (o : Option Message). IfSome o IsSpelled) (sent_in h p place) (spelled_in (world_of h p) place (sent_at (world_of h p) place) refl a)
+
+-- ---- the graph's view
 
 with_engine : (h : Holdings) (p : Parts) (seen : Option View) → world_of h (record p { engine = seen }) ≡ record (world_of h p) { seen = seen }
 unfolding world_of

@@ -137,9 +137,13 @@ pub record CanInstall (h : Holdings) (ks : List Knowledge) (k : Work) : Type 0 w
   pub becomes : AtMostOne k.becomes
   pub patches : k.patches ≡ []
 
+-- the graph has taken the changes that a message is
+abbrev pub HasTakenFrom : Option Message → Option View → Option View → Type 0
+HasTakenFrom m old new = (c : ViewChanges) × (changes_in m ≡ Some c) × (new ≡ with_changes old c)
+
 -- the graph has taken the changes that the message at a place is
 abbrev pub HasTaken : List Message → ℕ → Option View → Option View → Type 0
-HasTaken ms place old new = (c : ViewChanges) × (changes_in (slice_get ms place) ≡ Some c) × (new ≡ with_changes old c)
+HasTaken ms place old new = HasTakenFrom (slice_get ms place) old new
 
 -- ---- what is installed
 

@@ -3,10 +3,11 @@ ghost use Rattle.smf_model.specs.declared.command.Command.TheVariants as command
 ghost use Rattle.smf_model.specs.Look.{launch_of};
 ghost use Rattle.smf_model.specs.Shown.{view};
 ghost use Rattle.smf_wire.specs.declared.message.Message.TheVariants as messages;
-ghost use Rattle.smf_world.specs.Worked.{answer_since, answer_to, answers_to, commanded, delivered, delivered_if, joined, known_of, no_work, proposed, saying, sent_at};
+ghost use Rattle.smf_world.specs.Worked.{answer_since, answer_to, answers_to, commanded, delivered, joined, known_of, no_work, proposed, saying};
 
 use crate::commanding::{no_work, one, saying};
 use crate::parts::System;
+use crate::received::Received;
 use smf_fmri::{InstanceFmri, Items};
 use smf_model::{Command, Instance, Journal, Reply};
 use smf_state::{Proposal, SharedRow, View};
@@ -177,9 +178,8 @@ impl<J: Journal> System<J> {
         Ok(saying(self.alloc, messages))
     }
 
-    /// A message is delivered.
     #[tactic(auto, unfolding(smf_world::specs::Worked::delivered))]
-    fn delivered(&self, message: &Message) -> Result<Work, AllocError>
+    fn delivered_as(&self, message: &Message) -> Result<Work, AllocError>
         ensures { IfOk result (λ k. k ≡ delivered self.now message.now) }
     {
         match message {
@@ -196,13 +196,10 @@ impl<J: Journal> System<J> {
         }
     }
 
-    /// The message at a place is delivered, where there is one.
-    pub(crate) fn delivered_at(&self, place: u64) -> Result<Work, AllocError>
-        ensures { IfOk result (λ k. k ≡ delivered_if self.now (sent_at self.now place)) }
+    /// A message is delivered, as it was received.
+    pub(crate) fn delivered(&self, received: &Received) -> Result<Work, AllocError>
+        ensures { IfOk result (λ k. k ≡ delivered self.now received.now.message) }
     {
-        match self.message_at(place) {
-            None => Ok(no_work(self.alloc)),
-            Some(message) => self.delivered(message),
-        }
+        self.delivered_as(received.message())
     }
 }

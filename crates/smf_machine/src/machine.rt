@@ -1,5 +1,6 @@
-ghost use Rattle.std.specs.Prelude.{◌≡◌, [], false, map, option_map, reverse, true, IfErr, IfOk, None, OnErr, OnOk};
+ghost use Rattle.std.specs.Prelude.{◌≡◌, [], false, map, option_map, reverse, true, IfErr, IfOk, IfSome, None, OnErr, OnOk};
 ghost use Rattle.std.specs.Option.{option_copied};
+ghost use Rattle.smf_changes.specs.Owned.{HasOwnersAmong};
 ghost use Rattle.smf_engine.specs.Orders.{has_no_orders};
 ghost use Rattle.smf_model.specs.Shown.{view};
 ghost use Rattle.smf_machine.specs.Children.{heard};
@@ -66,7 +67,7 @@ impl<J: Journal> System<J> {
         ensures err { OnErr result (self.new ≡ self.old) }
         ensures fault { IfErr result (λ e. IsUnbooted J.write_fails self.old.now e) }
     {
-        let work = self.worked(&Event::Boot)?;
+        let work = self.booting()?;
         if !is_done(work.reply.as_slice()) {
             return Err(MachineFault::Limit);
         }
@@ -100,6 +101,7 @@ impl<J: Journal> System<J> {
     /// The graph takes changes, if the event delivers some to it. If memory runs out, all is as it was.
     #[tactic(auto, unfolding(crate::specs::Parts::world_of))]
     fn take_changes(&mut self, event: &Event) -> Result<bool, AllocError>
+        requires { AreSpelled self.old }
         ensures took { IfOk result (λ b. b ≡ true → IsDone self.old event.now self.new []) }
         ensures left { IfOk result (λ b. b ≡ false → self.new ≡ self.old) }
         ensures none { IfOk result (λ b. b ≡ false → changes_of self.old event.now ≡ None) }
@@ -125,6 +127,7 @@ impl<J: Journal> System<J> {
     #[tactic(auto, unfolding(smf_world::specs::Happens::happens))]
     fn make(&mut self, event: &Event) -> Result<Items<Reply>, MachineFault>
         requires reached { IsReached self.old }
+        requires spelled { AreSpelled self.old }
         requires none { changes_of self.old event.now ≡ None }
         ensures ok { IfOk result (λ r. IsDone self.old event.now self.new r) }
         ensures err { OnErr result (self.new ≡ self.old) }
@@ -137,7 +140,8 @@ impl<J: Journal> System<J> {
     /// An event happens.
     #[tactic(auto, unfolding(smf_world::specs::Happens::happens))]
     pub(crate) fn happen(&mut self, event: &Event) -> Result<Items<Reply>, MachineFault>
-        requires { IsReached self.old }
+        requires reached { IsReached self.old }
+        requires spelled { AreSpelled self.old }
         ensures ok { IfOk result (λ r. IsDone self.old event.now self.new r) }
         ensures err { OnErr result (self.new ≡ self.old) }
         ensures fault { IfErr result (λ e. IsUndone J.write_fails (worked self.old event.now).changes e) }
@@ -223,6 +227,15 @@ impl<J: Journal> Machine<J> {
         ensures { result.now.held ≡ self.now.now }
     {
         self.system.repository.plain()
+    }
+
+    /// The owners of all instances, and maybe others, if they are known and each row has a number. A hint: after an event
+    /// there may be none until the view is kept.
+    #[tactic(auto, unfolding(crate::specs::Parts::world_of))]
+    pub fn owners(&self) -> Option<&[InstanceFmri]>
+        ensures { IfSome (option_copied result) (λ names. HasOwnersAmong names self.now.now) }
+    {
+        self.system.repository.owners()
     }
 
     /// Keeps what the graph sees of what is held, and brings it up to date by what changed.

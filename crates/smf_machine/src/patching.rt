@@ -1,14 +1,16 @@
 ghost use Rattle.std.specs.Option.{option_copied};
-ghost use Rattle.std.specs.Prelude.{◌≡◌, [], false, slice_get, true, IfOk, None, OnErr};
+ghost use Rattle.std.specs.Prelude.{◌≡◌, [], false, slice_get, true, IfOk, IfSome, None, OnErr, Some};
 ghost use Rattle.smf_engine.specs.Orders.{with_changes};
 ghost use Rattle.smf_machine.specs.Done.{IsDone, changes_in, delivered_place};
-ghost use Rattle.smf_machine.specs.Install.{HasTaken};
+ghost use Rattle.smf_machine.specs.Install.{HasTaken, HasTakenFrom};
 ghost use Rattle.smf_machine.specs.Parts.{history_of, world_of};
 ghost use Rattle.smf_model.specs.Holdings.{Holdings as AnyHoldings};
+ghost use Rattle.smf_wire.specs.Lines.{IsSpelled};
 ghost use Rattle.smf_world.specs.declared.event.Event.TheVariants as events;
 ghost use Rattle.smf_world.specs.Worked.{sent_at};
 
 use crate::parts::Parts;
+use crate::received::{LineReader, Received, receive};
 use smf_engine::Engine;
 use smf_wire::{Message, ViewChanges};
 use smf_world::Event;
@@ -53,6 +55,43 @@ pub(crate) fn delivered_place(event: &Event) -> Option<u64>
     }
 }
 
+/// The graph takes changes, if what was received is such.
+fn take_received(
+    alloc: Global,
+    engine: &mut Engine,
+    received: &Received,
+) -> Result<bool, AllocError>
+    ensures took { IfOk result (λ b. b ≡ true → HasTakenFrom (Some received.now.message) engine.old engine.new) }
+    ensures left { IfOk result (λ b. b ≡ false → engine.new ≡ engine.old) }
+    ensures none { IfOk result (λ b. b ≡ false → changes_in (Some received.now.message) ≡ None) }
+    ensures err { OnErr result (engine.new ≡ engine.old) }
+{
+    match changes_in(Some(received.message())) {
+        None => Ok(false),
+        Some(changes) => {
+            engine.take_changes(alloc, changes)?;
+            Ok(true)
+        }
+    }
+}
+
+/// The graph takes changes, if a message is such: as its line reads.
+fn take_one(alloc: Global, engine: &mut Engine, message: &Message) -> Result<bool, AllocError>
+    requires { IsSpelled message.now }
+    ensures took { IfOk result (λ b. b ≡ true → HasTakenFrom (Some message.now) engine.old engine.new) }
+    ensures left { IfOk result (λ b. b ≡ false → engine.new ≡ engine.old) }
+    ensures none { IfOk result (λ b. b ≡ false → changes_in (Some message.now) ≡ None) }
+    ensures err { OnErr result (engine.new ≡ engine.old) }
+{
+    match changes_in(Some(message)) {
+        None => Ok(false),
+        Some(_) => {
+            let received = receive(alloc, &LineReader {}, message)?;
+            take_received(alloc, engine, &received)
+        }
+    }
+}
+
 /// The graph takes changes, if the message at a place is such.
 fn take_from(
     alloc: Global,
@@ -60,17 +99,15 @@ fn take_from(
     messages: &Vec<Message>,
     place: u64,
 ) -> Result<bool, AllocError>
+    requires { IfSome (slice_get messages.now.items place) IsSpelled }
     ensures took { IfOk result (λ b. b ≡ true → HasTaken messages.now.items place engine.old engine.new) }
     ensures left { IfOk result (λ b. b ≡ false → engine.new ≡ engine.old) }
     ensures none { IfOk result (λ b. b ≡ false → changes_in (slice_get messages.now.items place) ≡ None) }
     ensures err { OnErr result (engine.new ≡ engine.old) }
 {
-    match changes_in(messages.get(place as usize)) {
+    match messages.get(place as usize) {
         None => Ok(false),
-        Some(changes) => {
-            engine.take_changes(alloc, changes)?;
-            Ok(true)
-        }
+        Some(message) => take_one(alloc, engine, message),
     }
 }
 
@@ -80,6 +117,7 @@ pub(crate) fn take_changes_at(
     parts: &mut Parts,
     place: u64,
 ) -> Result<bool, AllocError>
+    requires { IfSome (slice_get parts.old.messages.items place) IsSpelled }
     ensures took { (h : AnyHoldings) → IfOk result (λ b. b ≡ true → IsDone (world_of h parts.old) (events.Deliver place) (world_of h parts.new) []) }
     ensures left { (h : AnyHoldings) → IfOk result (λ b. b ≡ false → world_of h parts.new ≡ world_of h parts.old) }
     ensures none { (h : AnyHoldings) → IfOk result (λ b. b ≡ false → changes_in (sent_at (world_of h parts.old) place) ≡ None) }

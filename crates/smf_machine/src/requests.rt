@@ -1,5 +1,7 @@
 ghost use Rattle.std.specs.Option.{option_copied};
+ghost use Rattle.smf_fmri.specs.ByKey.{IsPlaced, Rises, lookup};
 ghost use Rattle.smf_machine.specs.Parts.{knowledge};
+ghost use Rattle.smf_restarter.specs.Knowledge.{by_instance};
 ghost use Rattle.std.specs.Prelude.{◌≡◌, find, option_map, Some, IfOk};
 ghost use Rattle.smf_machine.specs.Requests.{asked, asked_by, asked_of, first_of, is_held_by, is_holder, is_instance, kill_if, wanted, wanted_in};
 
@@ -22,11 +24,32 @@ pub enum Ask {
     Kill(Number),
 }
 
+/// Where the instance of a number stands, or else where it belongs.
+fn place_of(instances: &[KnownInstance], instance: u64) -> Result<usize, usize>
+    requires { Rises by_instance instances.now }
+    ensures { IsPlaced by_instance instance instances.now result }
+{
+    instances.binary_search_by(|known| known.instance.cmp(&instance))
+}
+
 /// The instance of a number.
 fn instance_in(instances: &[KnownInstance], instance: u64) -> Option<&KnownInstance>
-    ensures { option_copied result ≡ find (is_instance instance) instances.now }
+    requires { Rises by_instance instances.now }
+    ensures { option_copied result ≡ lookup by_instance instances.now instance }
 {
-    instances.iter().find(|known| known.instance == instance)
+    match place_of(instances, instance) {
+        Ok(at) => Some(&instances[at]),
+        Err(_) => None,
+    }
+}
+
+/// The instance of a number that a restarter knows.
+fn known_of(restarter: &Restarter, instance: u64) -> Option<&KnownInstance>
+    ensures { option_copied result ≡ find (is_instance instance) restarter.now.known.instances }
+{
+    // Looking at these lets the proof know that instances stand in number order.
+    let _restless = restarter.restless();
+    instance_in(restarter.instances(), instance)
 }
 
 /// The method that is begun.
@@ -130,7 +153,7 @@ fn asked_by(
 {
     match call {
         Call::Spawn { cookie, terms } => {
-            let known = instance_in(restarter.instances(), instance);
+            let known = known_of(restarter, instance);
             want_in(table.next_contract(), cookie, terms, known, begun)
         }
         Call::Kill(id) => Ok(kill_if(is_held_by(restarter.actor(), &table.contract(id)), id)),

@@ -5,10 +5,13 @@ ghost use Rattle.smf_contract.specs.Entries.{reported as report_at};
 ghost use Rattle.smf_machine.specs.Parts.{knowledge};
 ghost use Rattle.smf_model.specs.declared.command.Command.TheVariants as commands;
 ghost use Rattle.smf_wire.specs.declared.message.Message.TheVariants as messages;
-ghost use Rattle.smf_world.specs.Worked.{booted, calling, commanded, crashed, holder, is_launched, launched, launched_if, process_call, reported_by, reported_to, restarter, saying, timed, worked};
+ghost use Rattle.smf_world.specs.declared.event.Event.TheVariants as events;
+ghost use Rattle.smf_world.specs.Spelled.{AreSpelled};
+ghost use Rattle.smf_world.specs.Worked.{calling, commanded, crashed, delivered_if, holder, is_launched, launched, launched_if, process_call, reported_by, reported_to, restarter, saying, sent_at, timed, worked};
 
 use crate::commanding::{booted, no_work, one, saying};
 use crate::parts::System;
+use crate::received::{LineReader, receive};
 use crate::replying::{calling, knowing};
 use smf_contract::{ContractCall, Holder, Report};
 use smf_fmri::{InstanceFmri, Items, Number};
@@ -53,6 +56,20 @@ fn reported_by(
 }
 
 impl<J: Journal> System<J> {
+    /// The message at a place is delivered, where there is one: its actor gets what its line reads as.
+    fn delivered_at(&self, place: u64) -> Result<Work, AllocError>
+        requires { AreSpelled self.now }
+        ensures { IfOk result (λ k. k ≡ delivered_if self.now (sent_at self.now place)) }
+    {
+        match self.message_at(place) {
+            None => Ok(no_work(self.alloc)),
+            Some(message) => {
+                let received = receive(self.alloc, &LineReader {}, message)?;
+                self.delivered(&received)
+            }
+        }
+    }
+
     fn client(&self, edit: &Edit) -> Result<Work, AllocError>
         ensures { IfOk result (λ k. k ≡ commanded self.now (commands.Edit edit.now)) }
     {
@@ -149,8 +166,9 @@ impl<J: Journal> System<J> {
         self.launched(name, work)
     }
 
-    fn booting(&self) -> Result<Work, AllocError>
-        ensures { IfOk result (λ k. k ≡ booted (commanded self.now commands.Boot)) }
+    #[tactic(auto, unfolding(smf_world::specs::Worked::worked))]
+    pub(crate) fn booting(&self) -> Result<Work, AllocError>
+        ensures { IfOk result (λ k. k ≡ worked self.now events.Boot) }
     {
         let work = self.commanded_once(Command::Boot)?;
         booted(self.alloc, work)
@@ -159,6 +177,7 @@ impl<J: Journal> System<J> {
     /// What an event makes, worked out before anything changes.
     #[tactic(auto, unfolding(smf_world::specs::Worked::worked))]
     pub(crate) fn worked(&self, event: &Event) -> Result<Work, AllocError>
+        requires { AreSpelled self.now }
         ensures { IfOk result (λ k. k ≡ worked self.now event.now) }
     {
         match event {

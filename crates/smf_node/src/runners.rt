@@ -75,7 +75,7 @@ impl<J: Journal> Node<J> {
 
     /// The next event is asked for; it happens, and is given back.
     #[tactic(auto, unfolding(crate::specs::Marks::progress_of))]
-    fn hear<R: Runner>(&mut self, runner: &mut R) -> Result<Option<Event>, NodeFault>
+    pub fn hear<R: Runner>(&mut self, runner: &mut R) -> Result<Option<Event>, NodeFault>
         ensures heard { IfOk result (λ event. self.new ≡ with_world self.old (heard event self.old.world)) }
         ensures answered { IfOk result (λ event. R.rules.polls event (R.seen runner.old) (R.seen runner.new)) }
         ensures err { OnErr result (self.new ≡ self.old) }

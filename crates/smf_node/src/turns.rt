@@ -7,7 +7,7 @@ ghost use Rattle.smf_world.specs.declared.schedule.Deed.TheVariants as deeds;
 ghost use Rattle.smf_world.specs.Schedule.{in_order, launch_deeds, launched_names, owners, unlooked, waiting_count, was_heard};
 ghost use Rattle.smf_world.specs.Worked.{is_launched, restarter};
 ghost use Rattle.std.specs.List.{list_all};
-ghost use Rattle.std.specs.Prelude.{◌≡◌, ◌∷◌, ◌++◌, [], drop, filter, map, not, replicate, IfOk, OnOk};
+ghost use Rattle.std.specs.Prelude.{◌≡◌, ◌∷◌, ◌++◌, [], drop, filter, map, not, replicate, true, IfOk, OnOk};
 
 use crate::marks::has_key;
 use crate::naming::{names_in_order, owners_in_order};
@@ -201,7 +201,29 @@ impl<J: Journal> Node<J> {
         Ok(true)
     }
 
-    /// Whether the owners of all instances are launched, and svc.startd's own restarter.
+    fn are_launched(&self, names: &[InstanceFmri]) -> bool
+        ensures { result ≡ list_all (is_launched self.now.world) names.now }
+    {
+        for name in names {
+            if !self.is_launched(name) {
+                return false;
+            }
+        }
+        true
+    }
+
+    /// Whether the owners of all instances are known to be launched, with no look at the instances.
+    fn knows_owners(&self) -> bool
+        ensures { result ≡ true → list_all (has_launched_owner self.now.world) self.now.world.now.instances ≡ true }
+    {
+        match self.machine.owners() {
+            None => false,
+            Some(names) => self.are_launched(names),
+        }
+    }
+
+    /// Whether the owners of all instances are launched, and svc.startd's own restarter. The instances are looked at only if
+    /// this is not known without them.
     #[tactic(auto, unfolding(crate::specs::Owners::has_all_owners))]
     fn has_all_owners(&self) -> Result<bool, AllocError>
         ensures { IfOk result (λ b. b ≡ has_all_owners self.now.world) }
@@ -209,6 +231,9 @@ impl<J: Journal> Node<J> {
         let first = startd(self.alloc)?;
         if !self.is_launched(&first) {
             return Ok(false);
+        }
+        if self.knows_owners() {
+            return Ok(true);
         }
         let all = self.have_launched_owners(self.entries())?;
         Ok(all)

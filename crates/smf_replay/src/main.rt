@@ -1,23 +1,28 @@
 //! `smf_replay`: replays a text of events, one a line, on a node over a repository in memory, and prints what each refuses or
-//! shows. Modules: `event` (the event that a line names), `checking` (what is safe about a trail), `replay` (what a line does), `fault`.
+//! shows. Behind the word `trace` it prints at its end what it gave to the node, line by line.
+//! Modules: `event` (the event that a line names), `checking` (what is safe about a trail), `replay` (what a line does),
+//! `tracing` (what is given to the node), `fault`.
 #![tactic(auto)]
 
 mod checking;
 mod event;
 mod fault;
 mod replay;
+mod tracing;
 
 use crate::fault::ReplayFault;
 use crate::replay::Replay;
-use std::io;
+use log::Log;
+use log::sink::Memory;
 use std::io::{BufRead, BufReader, Write};
 use std::process::ExitCode;
+use std::{env, io};
 
 /// The status of a replay that a fault ended.
 const FAULT: u8 = 3;
 
 /// Does each line of standard input, and writes its text when it is done.
-fn run_lines(rt: &HostRuntime, replay: &mut Replay) -> Result<(), ReplayFault> {
+fn run_lines<L: Log>(rt: &HostRuntime, log: &L, replay: &mut Replay) -> Result<(), ReplayFault> {
     let alloc = rt.alloc();
     let mut reader = BufReader::new(alloc, rt.reader())?;
     let mut line = Vec::new(alloc);
@@ -26,17 +31,47 @@ fn run_lines(rt: &HostRuntime, replay: &mut Replay) -> Result<(), ReplayFault> {
         if reader.read_until(b'\n', &mut line)? == 0 {
             break;
         }
-        let text = replay.text_of(alloc, &line)?;
+        let text = replay.text_of(alloc, log, &line)?;
         io::writer(rt).write_all(text.as_bytes())?;
     }
     Ok(())
 }
 
+/// The system's words.
+fn words(rt: &HostRuntime) -> io::Result<Vec<String>> {
+    let words: Vec<String> = env::args(rt)?.collect(rt.alloc())?;
+    Ok(words)
+}
+
+/// Whether the words ask for the trace.
+fn is_traced(words: &[String]) -> bool {
+    match words {
+        [_, word] => word.as_str() == "trace",
+        _ => false,
+    }
+}
+
+/// Writes the lines that were traced.
+fn write_trace(rt: &HostRuntime, memory: Memory) -> io::Result<()> {
+    let lines = memory.into_lines();
+    for line in lines.as_slice() {
+        println!(rt; "{line}")?;
+    }
+    Ok(())
+}
+
 fn run(rt: &HostRuntime) -> Result<(), ReplayFault> {
-    let mut replay = Replay::new(rt.alloc())?;
-    let end = run_lines(rt, &mut replay);
+    let alloc = rt.alloc();
+    let words = words(rt)?;
+    let memory = Memory::new(alloc);
+    let mut replay = Replay::new(alloc)?;
+    let end = run_lines(rt, &memory, &mut replay);
     replay.end();
-    end
+    end?;
+    if is_traced(&words) {
+        write_trace(rt, memory)?;
+    }
+    Ok(())
 }
 
 fn main(rt: HostRuntime) -> ExitCode {

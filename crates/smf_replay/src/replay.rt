@@ -1,12 +1,14 @@
 use crate::checking::first_broken;
 use crate::event::event_of;
 use crate::fault::fault_text;
+use crate::tracing::{trace_event, trace_line};
+use log::Log;
 use smf_fmri::Text;
 use smf_model::{NoJournal, Plain};
 use smf_node::{Node, NodeFault};
 use smf_script::{asks_children, run_request, settled_text};
 use smf_svccfg::{Selection, words};
-use smf_wire::encode;
+use smf_wire::{Message, encode};
 use smf_words::{Request, request_of, trail_text};
 use smf_world::Event;
 use std::alloc::{AllocError, Global};
@@ -85,6 +87,15 @@ impl Replay {
         Ok(())
     }
 
+    /// The view of what is held, as a message's line.
+    fn put_view(&self, alloc: Global, out: &mut String) -> Result<(), AllocError> {
+        let view = self.node.repository().view()?;
+        let line = encode(alloc, &Message::View(view))?;
+        let line = line.as_str();
+        writeln!(out, "{line}")?;
+        Ok(())
+    }
+
     /// What is safe about the trail: `ok`, or the first item that is not, behind what it breaks.
     fn put_check(&self, alloc: Global, out: &mut String) -> Result<(), AllocError> {
         let trail = self.node.trail();
@@ -110,14 +121,18 @@ impl Replay {
         }
     }
 
-    fn put_event(
+    fn put_event<L: Log>(
         &mut self,
         alloc: Global,
+        log: &L,
         words: &[Text],
         out: &mut String,
     ) -> Result<(), NodeFault> {
         match event_of(alloc, words)? {
-            Some(event) => self.put_step(event, out),
+            Some(event) => {
+                trace_event(log, &event);
+                self.put_step(event, out)
+            }
             None => {
                 out.push_str(BAD_LINE)?;
                 Ok(())
@@ -146,16 +161,20 @@ impl Replay {
         Ok(())
     }
 
-    fn put_words(
+    fn put_words<L: Log>(
         &mut self,
         alloc: Global,
+        log: &L,
         text: &str,
         words: &[Text],
         out: &mut String,
     ) -> Result<(), NodeFault> {
         match words {
             [] => Ok(()),
-            [first, ..] if is_of_a_script(first.as_str()) => self.put_request(alloc, text, out),
+            [first, ..] if is_of_a_script(first.as_str()) => {
+                trace_line(log, text);
+                self.put_request(alloc, text, out)
+            }
             [first] if first.as_str() == "rows" => {
                 self.put_rows(out)?;
                 Ok(())
@@ -164,27 +183,42 @@ impl Replay {
                 self.put_messages(alloc, out)?;
                 Ok(())
             }
+            [first] if first.as_str() == "view" => {
+                self.put_view(alloc, out)?;
+                Ok(())
+            }
             [first] if first.as_str() == "check" => {
                 self.put_check(alloc, out)?;
                 Ok(())
             }
-            _ => self.put_event(alloc, words, out),
+            _ => self.put_event(alloc, log, words, out),
         }
     }
 
-    fn put_text(&mut self, alloc: Global, text: &str, out: &mut String) -> Result<(), NodeFault> {
+    fn put_text<L: Log>(
+        &mut self,
+        alloc: Global,
+        log: &L,
+        text: &str,
+        out: &mut String,
+    ) -> Result<(), NodeFault> {
         if is_comment(text.as_bytes()) {
             return Ok(());
         }
         let words = words(alloc, text)?;
-        self.put_words(alloc, text, words.as_slice(), out)
+        self.put_words(alloc, log, text, words.as_slice(), out)
     }
 
-    /// Does a line, and gives what it prints. Only want of memory ends a replay.
-    pub(crate) fn text_of(&mut self, alloc: Global, line: &[u8]) -> Result<String, NodeFault> {
+    /// Does a line, traces what it gives to the node, and gives what it prints. Only want of memory ends a replay.
+    pub(crate) fn text_of<L: Log>(
+        &mut self,
+        alloc: Global,
+        log: &L,
+        line: &[u8],
+    ) -> Result<String, NodeFault> {
         let mut out = String::new(alloc);
         match str::from_utf8(without_end(line)) {
-            Ok(text) => self.put_text(alloc, text, &mut out)?,
+            Ok(text) => self.put_text(alloc, log, text, &mut out)?,
             Err(_) => out.push_str(BAD_LINE)?,
         }
         Ok(out)

@@ -81,7 +81,7 @@ run_begun n o c =
     }
 
 abbrev pub running : Owed → RunningMethod
-running o = record { method = o.method; run = o.run; timed = is_some o.call.timeout }
+running o = record { method = o.method; run = o.run; timeout = o.call.timeout }
 
 -- the start of a child service has succeeded as soon as its process is there; any other method runs until it ends
 abbrev pub started_as : Owed → Duration → Method → Course
@@ -213,7 +213,7 @@ reported k r = reported_as k r (unpacked r.contract.cookie)
 
 abbrev pub timed_in : KnownInstance → Phase → Change
 timed_in i (Running m) =
-    if m.timed then turning i.instance (courses.Ending (failed_with i.row m.method false)) else unchanged
+    if is_some m.timeout then turning i.instance (courses.Ending (failed_with i.row m.method false)) else unchanged
 timed_in i _ = unchanged
 
 abbrev pub timed_known : Option KnownInstance → Change

@@ -145,7 +145,7 @@ fn running(owed: &Owed) -> RunningMethod
     RunningMethod {
         method: owed.method,
         run: owed.run,
-        timed: owed.call.timeout.is_some(),
+        timeout: owed.call.timeout,
     }
 }
 
@@ -410,7 +410,7 @@ fn timed_in(alloc: Global, known: &KnownInstance, phase: &Phase) -> Change
 {
     match phase {
         Phase::Running(method) => {
-            if method.timed {
+            if method.timeout.is_some() {
                 let end = failed_with(&known.row, method.method, false);
                 turning(alloc, known.instance, Course::Ending(end))
             } else {

@@ -2,7 +2,7 @@ ghost use Rattle.std.specs.Prelude.{◌≡◌, refl};
 
 use smf_contract::Method;
 use smf_fmri::{HasPart, InstanceFmri, Keyed, Number};
-use smf_method::MethodCall;
+use smf_method::{MethodCall, Timeout};
 use smf_state::{Cause, Proposal, SharedRow, State};
 use std::alloc::AllocError;
 
@@ -40,8 +40,8 @@ pub struct Owed {
 pub struct RunningMethod {
     pub method: Method,
     pub run: u64,
-    /// Whether it fails when it takes too long.
-    pub timed: bool,
+    /// The time after which it has failed, if it has not ended by then.
+    pub timeout: Option<Timeout>,
 }
 
 /// An end that is to be proposed.

@@ -1,6 +1,6 @@
 -- What a restarter does in its turn and on what is reported is one of the few kinds of steps.
 use Rattle.std.proofs.Common.{◌≡◌, inl, inr, ◌&&◌, nat_lt, ℕ, Bool, true, false, if◌then◌else◌, List, [], ◌∷◌, Option, Some, None, Result, Ok, Err, refl, sym, ap, ◌∙◌, subst}
-use Rattle.std.specs.Prelude.{find}
+use Rattle.std.specs.Prelude.{find, is_some}
 use Rattle.smf_contract.specs.declared.contract.Report.{Report}
 use Rattle.smf_contract.specs.declared.cookie.Cookie.{Cookie}
 use Rattle.smf_contract.specs.declared.cookie.CookieFault.{CookieFault}
@@ -258,7 +258,7 @@ late_phase k T i Idle at f = rests None calls.Nothing refl
 late_phase k T i (Waiting p after) at f = rests None calls.Nothing refl
 late_phase k T i (Owes o) at f = rests None calls.Nothing refl
 late_phase k T i (Ends e) at f = rests None calls.Nothing refl
-late_phase k T i (Running m) at f = by m.timed
+late_phase k T i (Running m) at f = by (is_some m.timeout)
   where
     by : (b : Bool) → Learns k T (if b then turning i.instance (courses.Ending (failed_with i.row m.method false)) else unchanged)
     by true = turns i m.method _ None calls.Nothing at (inr (m, f, refl)) (failed_ends i.row m.method false) refl

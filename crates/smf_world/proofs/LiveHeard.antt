@@ -1,6 +1,6 @@
 -- What a restarter notes of runs on a message is true, since it was known; a report and a time-out bring nobody up.
 use Rattle.std.proofs.Common.{◌==◌, ◌&&◌, nat_lt, ℕ, Bool, true, false, if◌then◌else◌, List, [], ◌∷◌, map, Option, Some, None, refl}
-use Rattle.std.specs.Prelude.{option_map, option_to_list}
+use Rattle.std.specs.Prelude.{is_some, option_map, option_to_list}
 use Rattle.smf_contract.specs.declared.contract.Report.{Report}
 use Rattle.smf_contract.specs.declared.cookie.Cookie.{Cookie}
 use Rattle.smf_contract.specs.Cookies.{unpacked}
@@ -180,7 +180,7 @@ late_in t i Idle = unchanged_notes t
 late_in t i (Waiting p after) = unchanged_notes t
 late_in t i (Owes o) = unchanged_notes t
 late_in t i (Ends e) = unchanged_notes t
-late_in t i (Running m) = by m.timed
+late_in t i (Running m) = by (is_some m.timeout)
   where
     by : (b : Bool) → IsNoting t (if b then turning i.instance (courses.Ending (failed_with i.row m.method false)) else unchanged)
     by true = record { listed = refl; stage = tt; run = tt }

@@ -1,4 +1,4 @@
-use Rattle.std.proofs.Common.{◌≡◌, ◌-◌, ◌≤◌, ◌<◌, ℕ, List, Option, Some, length, take, sym, ap, subst, ◌∙◌, arith}
+use Rattle.std.proofs.Common.{◌≤◌, ◌<◌, ℕ, List, Option, length, take, sym, ap, subst, ◌∙◌, arith}
 use Rattle.smf_fmri.specs.ByKey.{put_all}
 use Rattle.smf_changes.specs.Changes.{by_itself, together}
 use Rattle.smf_changes.specs.Recorded.{with_stale}

@@ -1,6 +1,9 @@
-use Rattle.std.proofs.Common.{◌≡◌, [], sym, subst, ap, ◌∙◌}
+use Rattle.std.proofs.Common.{◌≡◌, List, [], sym, subst, ap, ◌∙◌}
+use Rattle.smf_model.specs.declared.change.Change.{Change}
 use Rattle.smf_model.specs.Holdings.{Holdings}
+use Rattle.smf_model.specs.Look.{installed}
 use Rattle.smf_changes.specs.Keeping.{IsKept, put_by_all}
+use Rattle.smf_changes.specs.Owned.{AreTold}
 use Rattle.smf_changes.specs.Recorded.{next_lists, old_items}
 use Rattle.smf_changes.proofs.Recording.{kept_then, lists_then, nothing_made, nothing_recorded, not_empty}
 use Rattle.smf_changes.proofs.repository.commit.Goals as goal
@@ -19,7 +22,7 @@ returns-then-is_empty-clause-recent g c =
 
 pub returns-clause-kept : goal.returns-clause-kept
 returns-clause-kept g c =
-    kept_then c.prepare.new.self c.args.plain.now.held c.commit-2.new.self.held c.args.changes c.in_ok-olds.olds c.put_by_all-top.result (c.put_by_all-top.ensures ∙ ap (put_by_all c.prepare.new.self.greatest_running) c.as_slice-2.ensures) c.see_standing.ensures.numbered c.requires.numbered c.in_ok-commit.ensures.ok
+    kept_then c.prepare.new.self c.args.plain.now.held c.commit-2.new.self.held c.args.changes c.in_ok-olds.olds c.put_by_all-top.result (c.put_by_all-top.ensures ∙ ap (put_by_all c.prepare.new.self.greatest_running) c.as_slice-2.ensures) (subst (λ (cs : List Change). AreTold c.prepare.new.self.owners (installed c.args.plain.now.held cs).instances) c.as_slice.ensures c.in_ok-olds.ensures.told) c.see_standing.ensures.numbered c.requires.numbered c.in_ok-commit.ensures.ok
     (c.in_ok-olds.ensures.olds ∙ ap (old_items c.args.plain.now.held) c.as_slice.ensures) c.in_ok-olds.ensures.settled c.prepare.ensures.kept
 
 pub returns-clause-recent : goal.returns-clause-recent

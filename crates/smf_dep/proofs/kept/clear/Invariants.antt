@@ -1,5 +1,11 @@
-use Rattle.std.proofs.Common.{◌≡◌, ℕ, ◌<◌, get_or}
+use Rattle.std.proofs.Common.{◌≡◌, ℕ, ◌<◌, length}
+use Rattle.std.specs.Prelude.{slice_index}
+use Rattle.smf_dep.specs.Wires.{IsTallied}
 use Rattle.smf_dep.proofs.kept.clear.Given as goal
 
-abbrev pub invariant-loop-stamp : goal.invariant-loop-stamp
-invariant-loop-stamp l = (k : ℕ) → k < l.stamp-index → get_or l.stamps k 0 ≡ 0
+abbrev pub invariant-loop-place : goal.invariant-loop-place
+invariant-loop-place l = record {
+  size : length l.stamps ≡ length l.fn.stamps;
+  none : (k : ℕ) → k < l.place → slice_index l.stamps k ≡ 0;
+  tallied : IsTallied l.nodes l.stamps l.wires l.tallies;
+}

@@ -25,6 +25,7 @@ loosening-preserved c =
           c.loosening.at (get_or c.loosening.work.items c.loosening.at 0) 0 (drops c.args.nodes.now c.loosening.stamps (get_or c.loosening.work.items c.loosening.at 0)) lt (get_or_default c.loosening.work.items c.loosening.at 0 (get_or c.loosening.work.items c.loosening.at 0) lt) c.loosen.ensures.stamps
           c.loosen.ensures.work c.loosening.invariant.spread;
       room = omega (arith, c.loosening.invariant.room, c.loosen.ensures.capacity);
+      tallied = c.loosen.ensures.tallied;
     }
 
 pub spread-requires-clause-room : goal.spread-requires-clause-room
@@ -58,6 +59,7 @@ spreading-preserved c =
           (gains c.args.nodes.now c.spreading.stamps (c.args.base + c.spreading.done) (get_or c.spreading.work.items c.spreading.done 0)) lt (get_or_default c.spreading.work.items c.spreading.done 0 (get_or c.spreading.work.items c.spreading.done 0) lt)
           c.spread.ensures.stamps c.spread.ensures.work c.spreading.invariant.spread;
       room = omega (arith, c.spreading.invariant.room, c.spread.ensures.capacity);
+      tallied = c.spread.ensures.tallied;
     }
 
 pub returns-clause-low : goal.returns-clause-low

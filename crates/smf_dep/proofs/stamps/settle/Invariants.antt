@@ -1,6 +1,7 @@
 use Rattle.std.proofs.Common.{◌+◌, ◌-◌, ◌≤◌, length}
 use Rattle.std.specs.Vec.{vec_capacity}
 use Rattle.smf_dep.specs.Stamps.{IsLoosening, IsSpreading, Spreads}
+use Rattle.smf_dep.specs.Wires.{IsTallied}
 use Rattle.smf_dep.proofs.stamps.settle.Given as goal
 
 abbrev pub invariant-loosening : goal.invariant-loosening
@@ -8,6 +9,7 @@ invariant-loosening l = record {
   loose : IsLoosening l.nodes l.citing l.base (vec_capacity l.fn.work) l.stamps l.work.items l.at;
   spread : Spreads l.nodes l.citing l.fn.stamps l.fn.work.items l.stamps l.work.items;
   room : vec_capacity l.fn.work ≤ vec_capacity l.work;
+  tallied : IsTallied l.nodes l.stamps l.wires l.tallies;
 }
 
 abbrev pub decreases-loosening : goal.decreases-loosening
@@ -19,6 +21,7 @@ invariant-spreading l = record {
   within : l.done ≤ length l.work.items;
   spread : Spreads l.nodes l.citing l.fn.stamps l.fn.work.items l.stamps l.work.items;
   room : vec_capacity l.fn.work ≤ vec_capacity l.work;
+  tallied : IsTallied l.nodes l.stamps l.wires l.tallies;
 }
 
 abbrev pub decreases-spreading : goal.decreases-spreading

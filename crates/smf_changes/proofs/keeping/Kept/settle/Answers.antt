@@ -12,4 +12,4 @@ returns-clause-kept g c =
     kept_settled c.args.self.now _ h c.in-Some.olds c.in-Some.is refl
     (c.put_newest.ensures ∙ (λ j. take most_recent (touched j ∷ c.in_ok-reserve.ensures.items j)))
     (c.in_ok-patch_shown.ensures.ok ∙ ap (λ (ns : List ℕ). option_map (λ v. patched v h.revision (map (as_it_is h) ns)) c.args.self.now.shown) (c.as_slice-2.ensures ∙ touched))
-    refl c.requires
+    refl refl c.requires

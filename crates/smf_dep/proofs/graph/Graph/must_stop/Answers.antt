@@ -8,6 +8,6 @@ pub returns : goal.returns
 returns c =
     let d = c.args.dependency.now in
     let members = c.self.inside.members.items in
-    let link = c.in_ok-link.ensures ∙ ap (λ ms. link_of ms d) c.as_slice.ensures.value in
+    let link = c.in_ok-link.ensures ∙ ap (λ ms. link_of ms d) (c.in_ok-names.ensures ∙ c.as_slice.ensures.value) in
     c.link_stops.ensures ∙ (λ i. link_stops (c.as_slice-2.ensures.value i) c.args.base (link i))
     ∙ link_stops_is members c.args.base d ∙ ap (λ ms. must_stop ms d c.args.base) c.self.view_is

@@ -2,8 +2,11 @@ use Rattle.smf_world.proofs.Safely.{reached_safe}
 use Rattle.smf_machine.proofs.Keeping.{sound_after}
 use Rattle.smf_machine.proofs.machine.Machine.happen.Goals as goal
 
-pub happen-requires : goal.happen-requires
-happen-requires g c = c.self.invariant.reached
+pub happen-requires-clause-reached : goal.happen-requires-clause-reached
+happen-requires-clause-reached g c = c.self.invariant.reached
+
+pub happen-requires-clause-spelled : goal.happen-requires-clause-spelled
+happen-requires-clause-spelled g c = c.self.invariant.spelled
 
 pub invariant_of-self : goal.invariant_of-self
 invariant_of-self g c =

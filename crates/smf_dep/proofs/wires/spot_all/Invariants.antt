@@ -1,0 +1,6 @@
+use Rattle.smf_dep.specs.Wires.{links_at}
+use Rattle.smf_dep.proofs.Wiring.{AreSpottedTo}
+use Rattle.smf_dep.proofs.wires.spot_all.Given as goal
+
+abbrev pub invariant-loop-at : goal.invariant-loop-at
+invariant-loop-at l = AreSpottedTo (links_at l.nodes) l.owners l.spots.items l.at

@@ -1,0 +1,127 @@
+//! Instances by their names, and by the names of their services, so that what an entity stands for is found without a look
+//! at each instance.
+
+ghost use Rattle.std.specs.Prelude.{◌≡◌, ◌∷◌, ◌++◌, IfOk, OnOk, List, ℕ, [], if◌then◌else◌};
+ghost use Rattle.std.specs.Str.{bytes_eq};
+ghost use Rattle.smf_dep.specs.Names.{AreAt, found_at, instance_name, named_from, service_name};
+ghost use Rattle.smf_dep.specs.Places.{places};
+
+use crate::member::ReadMember;
+use smf_fmri::{Fmri, Items};
+use std::alloc::{AllocError, Global};
+use std::collections::HashMap;
+use std::marker::Model;
+
+/// The places of instances by their names, and by those of their services.
+#[derive(Drop)]
+pub(crate) struct Names<'a> {
+    members: &'a [ReadMember],
+    instances: HashMap<&'a str, Vec<usize>>,
+    services: HashMap<&'a str, Vec<usize>>,
+}
+
+impl<'a> Model for Names<'a> {
+    ghost use Rattle.smf_dep.specs.declared.member.Member.{Member};
+    ghost use Rattle.smf_dep.specs.Names.{AreAt, instance_name, service_name};
+    ghost use Rattle.std.specs.Prelude.{List};
+
+    ghost Value = { List Member };
+
+    ghost view = { λ n. n.members.now };
+
+    ghost invariant = { λ n. AreAt instance_name n.instances n.members.now × AreAt service_name n.services n.members.now };
+}
+
+/// Puts a place after those of a name.
+fn note<'a>(
+    alloc: Global,
+    found: &mut HashMap<&'a str, Vec<usize>>,
+    name: &'a str,
+    place: usize,
+) -> Result<(), AllocError>
+    ensures { OnOk result ((q : List ℕ) → found_at found.new q ≡ (if bytes_eq q name.entry.now then found_at found.old q ++ place ∷ [] else found_at found.old q)) }
+{
+    found.entry(name)?.or_insert(Vec::new(alloc)).push(place)?;
+    Ok(())
+}
+
+fn by_instance<'a>(
+    alloc: Global,
+    members: &'a [ReadMember],
+) -> Result<HashMap<&'a str, Vec<usize>>, AllocError>
+    ensures { IfOk result (λ m. AreAt instance_name m members.entry.now) }
+{
+    let mut found: HashMap<&'a str, Vec<usize>> = HashMap::new(alloc);
+    let mut place = 0;
+    for member in members {
+        note(alloc, &mut found, member.member().name.print(), place)?;
+        place += 1;
+    }
+    Ok(found)
+}
+
+fn by_service<'a>(
+    alloc: Global,
+    members: &'a [ReadMember],
+) -> Result<HashMap<&'a str, Vec<usize>>, AllocError>
+    ensures { IfOk result (λ m. AreAt service_name m members.entry.now) }
+{
+    let mut found: HashMap<&'a str, Vec<usize>> = HashMap::new(alloc);
+    let mut place = 0;
+    for member in members {
+        note(
+            alloc,
+            &mut found,
+            member.member().name.as_fmri().service(),
+            place,
+        )?;
+        place += 1;
+    }
+    Ok(found)
+}
+
+fn copy_of(alloc: Global, places: &[usize]) -> Result<Items<usize>, AllocError>
+    ensures { IfOk result (λ ps. ps ≡ places.now) }
+{
+    let copy = places.to_vec(alloc)?;
+    Ok(Items::from_vec(copy))
+}
+
+fn found_in(
+    alloc: Global,
+    found: &HashMap<&str, Vec<usize>>,
+    name: &str,
+) -> Result<Items<usize>, AllocError>
+    ensures { IfOk result (λ ps. ps ≡ found_at found.now name.now) }
+{
+    match found.get(&name) {
+        Some(places) => copy_of(alloc, places.as_slice()),
+        None => Ok(Items::new(alloc)),
+    }
+}
+
+impl<'a> Names<'a> {
+    pub(crate) fn of(alloc: Global, members: &'a [ReadMember]) -> Result<Names<'a>, AllocError>
+        ensures { IfOk result (λ n. n ≡ members.entry.now) }
+    {
+        let instances = by_instance(alloc, members)?;
+        let services = by_service(alloc, members)?;
+        Ok(Names {
+            members,
+            instances,
+            services,
+        })
+    }
+
+    /// The places of the instances that an entity stands for.
+    #[tactic(auto, using(crate::proofs::Naming::of_instance, crate::proofs::Naming::of_service))]
+    pub(crate) fn places(&self, alloc: Global, entity: &Fmri) -> Result<Items<usize>, AllocError>
+        ensures { IfOk result (λ ps. ps ≡ places self.now entity.now) }
+    {
+        if entity.instance().is_some() {
+            found_in(alloc, &self.instances, entity.print())
+        } else {
+            found_in(alloc, &self.services, entity.service())
+        }
+    }
+}

@@ -1,0 +1,10 @@
+mod Nil
+mod Quiet
+mod Starting
+mod LawSilent
+mod LawHold
+mod Placed
+mod Reasoned
+mod Saying
+mod Pieces
+mod Leading

@@ -1,0 +1,5 @@
+pub mod Reasons
+pub mod Ways
+pub mod Sights
+pub mod Holding
+pub mod Telling

@@ -1,0 +1,169 @@
+ghost use Rattle.std.specs.List.{list_any};
+ghost use Rattle.std.specs.Prelude.{◌≡◌, ◌++◌, ◌∷◌, [], IfOk, None, OnOk, Some, if◌then◌else◌};
+ghost use Rattle.smf_dep.specs.Cycles.{asked_for, asks_for, cites, on_cycle};
+ghost use Rattle.smf_dep.specs.Verdicts.{is_cited};
+ghost use Rattle.smf_reasons.specs.Reasons.{NamesCycle};
+ghost use Rattle.smf_reasons.specs.Ways.{IfWay, WayOrNone};
+
+use crate::search::places_of_cycle;
+use smf_dep::{Dependency, Grouping, Member};
+use smf_fmri::{Fmri, InstanceFmri, Items};
+use std::alloc::{AllocError, Global};
+
+fn is_among(member: &Member, entities: &[Fmri]) -> bool
+    ensures { result ≡ list_any (λ e. is_cited e member.now) entities.now }
+{
+    entities.iter().any(|entity| member.is_cited(entity))
+}
+
+/// Whether a dependency cites an instance, and does not exclude it.
+fn asks_for(member: &Member, dependency: &Dependency) -> bool
+    ensures { result ≡ asks_for member.now dependency.now }
+{
+    dependency.grouping != Grouping::ExcludeAll && is_among(member, dependency.entities.as_slice())
+}
+
+fn any_asks_for(member: &Member, dependencies: &[Dependency]) -> bool
+    ensures { result ≡ list_any (asks_for member.now) dependencies.now }
+{
+    dependencies
+        .iter()
+        .any(|dependency| asks_for(member, dependency))
+}
+
+/// Whether an instance cites another.
+pub(crate) fn cites(from: &Member, to: &Member) -> bool
+    ensures { result ≡ cites from.now to.now }
+{
+    match &from.dependencies {
+        None => false,
+        Some(dependencies) => any_asks_for(to, dependencies.as_slice()),
+    }
+}
+
+/// A name before others.
+fn with_first(
+    alloc: Global,
+    name: &InstanceFmri,
+    others: Items<InstanceFmri>,
+) -> Result<Items<InstanceFmri>, AllocError>
+    ensures { IfOk result (λ all. all ≡ name.now ∷ others) }
+{
+    let mut all = Items::new(alloc);
+    all.push(name.clone()?)?;
+    append(&mut all, others)?;
+    Ok(all)
+}
+
+fn append(all: &mut Items<InstanceFmri>, more: Items<InstanceFmri>) -> Result<(), AllocError>
+    ensures { OnOk result (all.new ≡ all.old ++ more) }
+{
+    for name in more.into_vec() {
+        all.push(name)?;
+    }
+    Ok(())
+}
+
+/// No name, if an instance cites another.
+fn straight(alloc: Global, from: &Member, to: &Member) -> Option<Items<InstanceFmri>>
+    ensures { result ≡ (if cites from.now to.now then Some [] else None) }
+{
+    if cites(from, to) {
+        Some(Items::new(alloc))
+    } else {
+        None
+    }
+}
+
+/// The names of the instances at these places, if each is cited by the one before it, the first by `from`, and the last
+/// cites `to`.
+#[tactic(auto, using(crate::proofs::Leading::hinted, crate::proofs::Leading::longer))]
+fn checked(
+    alloc: Global,
+    members: &[Member],
+    from: &Member,
+    places: &[usize],
+    to: &Member,
+) -> Result<Option<Items<InstanceFmri>>, AllocError>
+    ensures { IfOk result (λ names. IfWay members.now from.now to.now names) }
+{
+    let [place, rest @ ..] = places else {
+        return Ok(straight(alloc, from, to));
+    };
+    let Some(next) = members.get(*place) else {
+        return Ok(None);
+    };
+    if !cites(from, next) {
+        return Ok(None);
+    }
+    let Some(names) = checked(alloc, members, next, rest, to)? else {
+        return Ok(None);
+    };
+    let names = with_first(alloc, &next.name, names)?;
+    Ok(Some(names))
+}
+
+/// The names of instances of which each cites the next, from the one to the other; none if there are none.
+#[tactic(auto, using(crate::proofs::Leading::known_in, crate::proofs::Leading::wider_in, crate::proofs::Leading::met_in, crate::proofs::Leading::none_to_in, crate::proofs::Leading::none_from_in))]
+fn way(
+    alloc: Global,
+    members: &[Member],
+    from: &Member,
+    to: &Member,
+) -> Result<Option<Items<InstanceFmri>>, AllocError>
+    ensures { IfOk result (λ names. WayOrNone members.now from.now to.now names) }
+{
+    let [first, rest @ ..] = members else {
+        return Ok(straight(alloc, from, to));
+    };
+    if let Some(names) = way(alloc, rest, from, to)? {
+        return Ok(Some(names));
+    }
+    let Some(names) = way(alloc, rest, from, first)? else {
+        return Ok(None);
+    };
+    let Some(after) = way(alloc, rest, first, to)? else {
+        return Ok(None);
+    };
+    let after = with_first(alloc, &first.name, after)?;
+    let mut names = names;
+    append(&mut names, after)?;
+    Ok(Some(names))
+}
+
+/// The names of the instances between an instance and itself on a cycle. A search finds them; if what it finds were wrong,
+/// all ways would be tried.
+fn between(
+    alloc: Global,
+    members: &[Member],
+    member: &Member,
+) -> Result<Option<Items<InstanceFmri>>, AllocError>
+    ensures { IfOk result (λ names. WayOrNone members.now member.now member.now names) }
+{
+    let places = places_of_cycle(alloc, members, member)?;
+    if let Some(names) = checked(alloc, members, member, places.as_slice(), member)? {
+        return Ok(Some(names));
+    }
+    way(alloc, members, member, member)
+}
+
+/// The names of a cycle that an instance is on, its own first; none if it is on none.
+#[tactic(auto, using(crate::proofs::Leading::turned, crate::proofs::Leading::unturned, crate::proofs::Leading::off_cycle))]
+pub(crate) fn cycle_of(
+    alloc: Global,
+    members: &[Member],
+    member: &Member,
+    is_on_cycle: bool,
+) -> Result<Items<InstanceFmri>, AllocError>
+    requires { is_on_cycle ≡ on_cycle members.now member.now }
+    ensures { IfOk result (λ names. NamesCycle members.now member.now names) }
+{
+    if !is_on_cycle {
+        return Ok(Items::new(alloc));
+    }
+    let Some(names) = between(alloc, members, member)? else {
+        return Ok(Items::new(alloc));
+    };
+    let names = with_first(alloc, &member.name, names)?;
+    Ok(names)
+}

@@ -1,0 +1,19 @@
+//! Why instances that are enabled do not run: what can't be read, what is not met, cycles, what is under way.
+//! Modules: `reason` (reasons as values), `standing` (entities with their states), `dependencies` (groups), `methods`,
+//! `cycles` (a cycle by its names), `telling` (all reasons of a view), `text` (as lines), `law` (what reasons come to).
+#![tactic(auto)]
+
+mod cycles;
+mod dependencies;
+mod law;
+mod methods;
+mod reason;
+mod search;
+mod standing;
+mod telling;
+mod text;
+
+pub use law::reasons_are_exact;
+pub use reason::{Reason, Standing, Told};
+pub use telling::tell;
+pub use text::text_of;
