@@ -1,12 +1,14 @@
+use smf_cfg::tell;
 use smf_edge::{OsKids, TableKids};
 use smf_lines::{LineReader, NotedReader};
 use smf_program::{tell_no_database, tell_no_input};
-use smf_serve::{Closed, FileBytes, serve_cfg_file, serve_copy, serve_file};
+use smf_serve::{Closed, FileBytes, serve_cfg_file, serve_copy, serve_file, why_copy};
 use sqlite::{Connection, Error, ErrorCode};
 use sqlite_std_file::File as DatabaseFile;
 use sqlite_store::FileStore;
 use std::fs::File;
-use std::io::BufReader;
+use std::io::{BufReader, Write};
+use std::os::unix::fs::OpenOptionsExt;
 use std::{fs, io};
 
 /// A log with no page in it, which a close leaves, has fewer bytes.
@@ -21,6 +23,84 @@ fn has_log(rt: &HostRuntime, database: &str) -> bool {
         Ok(log) => log.len() >= PAGE_IN_LOG,
         Err(_) => false,
     }
+}
+
+/// Whether this program alone has a database, until it lets the lock go.
+pub(crate) enum Hold {
+    Ours(Option<File>),
+    /// It does not, which was told with this status.
+    Refused(u8),
+}
+
+/// The number of this process.
+fn process_number(rt: &HostRuntime) -> io::Result<String> {
+    let alloc = rt.alloc();
+    let stat = fs::read_to_string(rt, "/proc/self/stat")?;
+    let number = match stat.as_str().find(' ') {
+        Some(end) => &stat.as_str()[..end],
+        None => "",
+    };
+    format!(in alloc; "{number}").map_err(io::Error::from)
+}
+
+/// The path of the lock beside a database, which lies where a link leads.
+fn lock_path(rt: &HostRuntime, database: &str) -> io::Result<String> {
+    let alloc = rt.alloc();
+    let path = match fs::canonicalize(rt, database) {
+        Ok(real) => format!(in alloc; "{}-lock", real.as_str())?,
+        Err(_) => format!(in alloc; "{database}-lock")?,
+    };
+    Ok(path)
+}
+
+fn open_lock(rt: &HostRuntime, path: &str) -> io::Result<File> {
+    File::options()
+        .read(true)
+        .write(true)
+        .create(true)
+        .mode(0o600)
+        .open(rt, path)
+}
+
+/// Leaves the number of this process in a lock that it holds.
+fn leave_number(rt: &HostRuntime, lock: &mut File) -> io::Result<()> {
+    let number = process_number(rt)?;
+    lock.set_len(0)?;
+    lock.write_all(number.as_str().as_bytes())?;
+    lock.write_all(b"\n")
+}
+
+/// Says which process has a database.
+fn tell_taken(rt: &HostRuntime, lock: &str) -> io::Result<u8> {
+    let alloc = rt.alloc();
+    let left = fs::read_to_string(rt, lock)?;
+    let number = left.as_str().trim();
+    let text = format!(in alloc; "smf: database: process {number} has it")?;
+    Ok(tell(&mut rt.stderr(), text.as_str()))
+}
+
+/// Says that a database that is there can have no lock beside it. One that cannot be opened is refused when it is opened.
+fn without_lock(rt: &HostRuntime, database: &str) -> Hold {
+    match File::options().read(true).write(true).open(rt, database) {
+        Ok(_file) => Hold::Refused(tell(
+            &mut rt.stderr(),
+            "smf: database: no lock can be taken beside it",
+        )),
+        Err(_) => Hold::Ours(None),
+    }
+}
+
+/// Takes a database for this program alone, and leaves its number for others.
+pub(crate) fn take_alone(rt: &HostRuntime, database: &str) -> io::Result<Hold> {
+    let path = lock_path(rt, database)?;
+    let Ok(mut lock) = open_lock(rt, path.as_str()) else {
+        return Ok(without_lock(rt, database));
+    };
+    if lock.try_lock().is_err() {
+        return Ok(Hold::Refused(tell_taken(rt, path.as_str())?));
+    }
+    let _left = leave_number(rt, &mut lock);
+    Ok(Hold::Ours(Some(lock)))
 }
 
 /// Opens the database in a file. The log of a run that was cut off is copied into the file first, by a close.
@@ -140,6 +220,20 @@ pub(crate) fn sim_over(rt: &HostRuntime, database: &str) -> io::Result<u8> {
         &mut TableKids::new(alloc),
     );
     Ok(match ran {
+        Ok(status) => status,
+        Err(fault) => tell_no_database(&mut errors, &fault),
+    })
+}
+
+/// Tells why instances that the database in a file has do not run. No file is written.
+pub(crate) fn why_over(rt: &HostRuntime, database: &str) -> io::Result<u8> {
+    let mut errors = rt.stderr();
+    let found = match read_files(rt, database) {
+        Ok(found) => found,
+        Err(fault) => return Ok(tell_no_database(&mut errors, &fault)),
+    };
+    let told = why_copy(rt.alloc(), &found, &mut io::writer(rt), &mut errors);
+    Ok(match told {
         Ok(status) => status,
         Err(fault) => tell_no_database(&mut errors, &fault),
     })

@@ -32,7 +32,7 @@ fn libexec(rt: &HostRuntime) -> io::Result<String> {
 }
 
 /// The folder of the contracts of a database.
-fn room_of(rt: &HostRuntime, database: &str) -> Result<Room, RoomFault> {
+pub(crate) fn room_of(rt: &HostRuntime, database: &str) -> Result<Room, RoomFault> {
     let alloc = rt.alloc();
     let real = fs::canonicalize(rt, database)?;
     let path = format!(in alloc; "{}-contracts", real.as_str())?;
@@ -41,7 +41,7 @@ fn room_of(rt: &HostRuntime, database: &str) -> Result<Room, RoomFault> {
 }
 
 /// What is told of a folder of contracts that is not to be had.
-fn room_text(fault: &RoomFault) -> &'static str {
+pub(crate) fn room_text(fault: &RoomFault) -> &'static str {
     match fault {
         RoomFault::Taken => "smf: contracts: another server follows them",
         RoomFault::Left => "smf: contracts: what an older server left does not end",
@@ -70,7 +70,7 @@ fn serve<K: Kids>(
 }
 
 /// Whether control groups are wanted: unless SMF_CONTRACTS names keepers.
-fn wants_groups(rt: &HostRuntime) -> bool {
+pub(crate) fn wants_groups(rt: &HostRuntime) -> bool {
     match env::var(rt, "SMF_CONTRACTS") {
         Ok(form) => form.as_str() != "keepers",
         Err(_) => true,

@@ -1,14 +1,17 @@
 //! `smf`: does scripts of a service manager on standard input, over a repository in memory, over a copy in memory of a
 //! database, or over a database and the processes of its services, and lines of svccfg over a database. It opens files; all
 //! else is decided below.
-//! Modules: `files` (the files that words name), `following` (contracts that are followed through forks).
+//! Modules: `files` (the files that words name), `following` (contracts that are followed through forks), `serving` (a
+//! service manager that stays).
 #![tactic(auto)]
 
 mod files;
 mod following;
+mod serving;
 
-use crate::files::{cfg_over, run_over, sim_over};
+use crate::files::{Hold, cfg_over, run_over, sim_over, take_alone, why_over};
 use crate::following::follow_over;
+use crate::serving::{serve_over, tick_into};
 use smf_edge::TableKids;
 use smf_lines::NotedReader;
 use smf_program::{Task, read_task, refusal_of_words, refuse, tell_no_memory};
@@ -36,6 +39,25 @@ fn do_task(rt: &HostRuntime, task: Task<'_>) -> io::Result<u8> {
         Task::Sim {
             database: Some(database),
         } => sim_over(rt, database),
+        Task::Why { database } => why_over(rt, database),
+        Task::Tick { pipe, pause } => tick_into(rt, pipe, pause),
+        Task::Run { database, .. } => do_alone(rt, database, task),
+        Task::Cfg { database, .. } => do_alone(rt, database, task),
+        Task::Serve { folder, database } => serve_over(rt, folder, database),
+    }
+}
+
+/// Does a task over a database that no other program has.
+fn do_alone(rt: &HostRuntime, database: &str, task: Task<'_>) -> io::Result<u8> {
+    match take_alone(rt, database)? {
+        Hold::Ours(_lock) => do_held(rt, task),
+        Hold::Refused(status) => Ok(status),
+    }
+}
+
+/// Does a task over a database that is held.
+fn do_held(rt: &HostRuntime, task: Task<'_>) -> io::Result<u8> {
+    match task {
         Task::Run {
             follow: false,
             database,
@@ -45,6 +67,7 @@ fn do_task(rt: &HostRuntime, task: Task<'_>) -> io::Result<u8> {
             database,
         } => follow_over(rt, database),
         Task::Cfg { lines, database } => cfg_over(rt, lines, database),
+        _ => Ok(0),
     }
 }
 

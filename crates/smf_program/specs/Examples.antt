@@ -3,7 +3,7 @@ use Rattle.std.specs.Prelude.{◌≡◌, ℕ, List, [], ◌∷◌, codes, Some, 
 use Rattle.clap.specs.Words.{fault_of}
 use Rattle.clap.specs.declared.error.kind.ErrorKind.TheVariants as kinds
 use Rattle.smf_program.specs.Tasks.{task_of}
-use Rattle.smf_program.specs.Tasks.TaskTexts.{Sim, Run, Cfg}
+use Rattle.smf_program.specs.Tasks.TaskTexts.{Sim, Run, Cfg, Serve, Tick, Why}
 use Rattle.smf_program.specs.Words.{smf_app}
 
 -- the program's name is the first of its words
@@ -29,10 +29,20 @@ ContractsAreFollowed =
     (task_of (smf (codes "run" ∷ codes "--follow" ∷ codes "a.db" ∷ [])) ≡ Some (Run true (codes "a.db")))
     × (task_of (smf (codes "run" ∷ codes "a.db" ∷ codes "--follow" ∷ [])) ≡ Some (Run true (codes "a.db")))
 
+abbrev pub ServersAreRead : Type 0
+ServersAreRead =
+    (task_of (smf (codes "serve" ∷ codes "room" ∷ codes "a.db" ∷ [])) ≡ Some (Serve (codes "room") (codes "a.db")))
+    × (task_of (smf (codes "tick" ∷ codes "room/wake" ∷ codes "100" ∷ [])) ≡ Some (Tick (codes "room/wake") (codes "100")))
+
+abbrev pub QuestionsAreRead : Type 0
+QuestionsAreRead = task_of (smf (codes "why" ∷ codes "a.db" ∷ [])) ≡ Some (Why (codes "a.db"))
+
 abbrev pub DatabaseIsWanted : Type 0
 DatabaseIsWanted =
     (fault_of smf_app (smf (codes "run" ∷ [])) ≡ kinds.MissingRequiredArgument ∷ [])
     × (fault_of smf_app (smf (codes "cfg" ∷ codes "-f" ∷ codes "x" ∷ [])) ≡ kinds.MissingRequiredArgument ∷ [])
+    × (fault_of smf_app (smf (codes "serve" ∷ codes "room" ∷ [])) ≡ kinds.MissingRequiredArgument ∷ [])
+    × (fault_of smf_app (smf (codes "tick" ∷ codes "room/wake" ∷ [])) ≡ kinds.MissingRequiredArgument ∷ [])
 
 abbrev pub OthersAreRefused : Type 0
 OthersAreRefused =

@@ -12,11 +12,17 @@ pub data TaskTexts : Type 0 where
   Sim : Option (List ℕ) → TaskTexts
   Run : Bool → List ℕ → TaskTexts
   Cfg : Option (List ℕ) → List ℕ → TaskTexts
+  Serve : List ℕ → List ℕ → TaskTexts
+  Why : List ℕ → TaskTexts
+  Tick : List ℕ → List ℕ → TaskTexts
 
 abbrev pub texts_of : Task → TaskTexts
 texts_of (tasks.Sim database) = Sim (option_map (λ s. s.now) database)
 texts_of (tasks.Run follow database) = Run follow database.now
 texts_of (tasks.Cfg lines database) = Cfg (option_map (λ s. s.now) lines) database.now
+texts_of (tasks.Serve folder database) = Serve folder.now database.now
+texts_of (tasks.Why database) = Why database.now
+texts_of (tasks.Tick pipe pause) = Tick pipe.now pause.now
 
 abbrev pub rows_in : ArgMatches → List Row
 rows_in m = rows_of (found_of m)
@@ -30,12 +36,29 @@ run_in rows = option_map (Run (is_set (codes "FOLLOW") rows)) (first_of (codes "
 abbrev pub cfg_in : List Row → Option TaskTexts
 cfg_in rows = option_map (Cfg (first_of (codes "FILE") rows)) (first_of (codes "DB") rows)
 
+-- of two words that both have to be there
+abbrev pub both : (List ℕ → List ℕ → TaskTexts) → Option (List ℕ) → Option (List ℕ) → Option TaskTexts
+both task None second = None
+both task (Some first) second = option_map (task first) second
+
+abbrev pub serve_in : List Row → Option TaskTexts
+serve_in rows = both Serve (first_of (codes "RUN") rows) (first_of (codes "DB") rows)
+
+abbrev pub why_in : List Row → Option TaskTexts
+why_in rows = option_map Why (first_of (codes "DB") rows)
+
+abbrev pub tick_in : List Row → Option TaskTexts
+tick_in rows = both Tick (first_of (codes "PIPE") rows) (first_of (codes "MS") rows)
+
 -- the task of a subcommand, by its name and what stands behind it
 abbrev pub task_at : List ℕ → List Row → Option TaskTexts
 task_at name rows =
     if pointwise nat_eq name (codes "sim") then sim_in rows
     else if pointwise nat_eq name (codes "run") then run_in rows
     else if pointwise nat_eq name (codes "cfg") then cfg_in rows
+    else if pointwise nat_eq name (codes "serve") then serve_in rows
+    else if pointwise nat_eq name (codes "why") then why_in rows
+    else if pointwise nat_eq name (codes "tick") then tick_in rows
     else None
 
 abbrev pub task_in : Option (List ℕ × List Row) → Option TaskTexts

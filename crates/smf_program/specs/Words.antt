@@ -31,12 +31,37 @@ run_app = with_rule (with_rule (new_app (codes "run")) follow_rule) database_rul
 abbrev pub cfg_app : App
 cfg_app = with_rule (with_rule (new_app (codes "cfg")) file_rule) database_rule
 
--- one of the three has to be named
+-- the folder in which requests come, and a database
+abbrev pub folder_rule : Rule
+folder_rule = record (new_rule (codes "RUN")) { required = true }
+
+abbrev pub serve_app : App
+serve_app = with_rule (with_rule (new_app (codes "serve")) folder_rule) database_rule
+
+abbrev pub why_app : App
+why_app = with_rule (new_app (codes "why")) database_rule
+
+-- a pipe, and how many milliseconds are between two lines
+abbrev pub pipe_rule : Rule
+pipe_rule = record (new_rule (codes "PIPE")) { required = true }
+
+abbrev pub pause_rule : Rule
+pause_rule = record (new_rule (codes "MS")) { required = true }
+
+abbrev pub tick_app : App
+tick_app = with_rule (with_rule (new_app (codes "tick")) pipe_rule) pause_rule
+
+-- one of the six has to be named
 abbrev pub bare_app : App
 bare_app = on_top (λ s. record s { subcommand_required = true }) (new_app (codes "smf"))
 
 unfoldable pub smf_app : App
-smf_app = with_subcommand (with_subcommand (with_subcommand bare_app sim_app.top) run_app.top) cfg_app.top
+smf_app =
+    with_subcommand
+    (with_subcommand
+    (with_subcommand (with_subcommand (with_subcommand (with_subcommand bare_app sim_app.top) run_app.top) cfg_app.top) serve_app.top)
+    why_app.top)
+    tick_app.top
 
 -- whether a flag was found
 abbrev pub is_set : List ℕ → List Row → Bool

@@ -1,12 +1,14 @@
 //! What the definitions of this crate come to.
 
-ghost use Rattle.smf_program.specs.Examples.{ContractsAreFollowed, DatabaseIsWanted, FilesAreRead, HelpIsShown, OthersAreRefused, TasksAreRead};
+ghost use Rattle.smf_program.specs.Examples.{ContractsAreFollowed, DatabaseIsWanted, FilesAreRead, HelpIsShown, OthersAreRefused, QuestionsAreRead, ServersAreRead, TasksAreRead};
 
 /// Words are read as the manual page writes them: one example for each rule.
 pub fn words_are_read_so()
     ensures tasks { TasksAreRead }
     ensures files { FilesAreRead }
     ensures followed { ContractsAreFollowed }
+    ensures served { ServersAreRead }
+    ensures asked { QuestionsAreRead }
     ensures database { DatabaseIsWanted }
     ensures others { OthersAreRefused }
     ensures help { HelpIsShown }

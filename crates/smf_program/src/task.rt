@@ -3,7 +3,7 @@ ghost use Rattle.std.specs.String.{string_bytes};
 ghost use Rattle.clap.specs.Words.{HasKind, app_of, fault_of, is_simple, is_simple_and_free, subcommand_of, subcommand_rows_of};
 ghost use Rattle.smf_program.specs.Refusals.{IsWhy};
 ghost use Rattle.smf_program.specs.Words.{is_set};
-ghost use Rattle.smf_program.specs.Tasks.{cfg_in, rows_in, run_in, sim_in, task_at, task_in, task_of, texts_of};
+ghost use Rattle.smf_program.specs.Tasks.{cfg_in, rows_in, run_in, serve_in, sim_in, task_at, task_in, task_of, texts_of, tick_in, why_in};
 
 use crate::refusal::{Refusal, refusal_of};
 use crate::words::smf_command;
@@ -26,6 +26,20 @@ pub enum Task<'a> {
     Cfg {
         lines: Option<&'a str>,
         database: &'a str,
+    },
+    /// Requests that come in a folder, over the database in a file.
+    Serve {
+        folder: &'a str,
+        database: &'a str,
+    },
+    /// Why instances that the database in a file has do not run. It is only read.
+    Why {
+        database: &'a str,
+    },
+    /// A line into a pipe every so many milliseconds, of which this is the text.
+    Tick {
+        pipe: &'a str,
+        pause: &'a str,
     },
 }
 
@@ -66,6 +80,39 @@ fn cfg_in<'a>(found: &ArgMatches<'a>) -> Option<Task<'a>>
     }
 }
 
+fn serve_in<'a>(found: &ArgMatches<'a>) -> Option<Task<'a>>
+    ensures { option_map texts_of result ≡ serve_in (rows_in found.now) }
+{
+    match found.get_str("RUN") {
+        Some(folder) => match found.get_str("DB") {
+            Some(database) => Some(Task::Serve { folder, database }),
+            None => None,
+        },
+        None => None,
+    }
+}
+
+fn why_in<'a>(found: &ArgMatches<'a>) -> Option<Task<'a>>
+    ensures { option_map texts_of result ≡ why_in (rows_in found.now) }
+{
+    match found.get_str("DB") {
+        Some(database) => Some(Task::Why { database }),
+        None => None,
+    }
+}
+
+fn tick_in<'a>(found: &ArgMatches<'a>) -> Option<Task<'a>>
+    ensures { option_map texts_of result ≡ tick_in (rows_in found.now) }
+{
+    match found.get_str("PIPE") {
+        Some(pipe) => match found.get_str("MS") {
+            Some(pause) => Some(Task::Tick { pipe, pause }),
+            None => None,
+        },
+        None => None,
+    }
+}
+
 /// The task of a subcommand, by its name and what clap found behind it.
 fn task_at<'a>(name: &str, found: &ArgMatches<'a>) -> Option<Task<'a>>
     ensures { option_map texts_of result ≡ task_at name.now (rows_in found.now) }
@@ -74,6 +121,9 @@ fn task_at<'a>(name: &str, found: &ArgMatches<'a>) -> Option<Task<'a>>
         "sim" => sim_in(found),
         "run" => run_in(found),
         "cfg" => cfg_in(found),
+        "serve" => serve_in(found),
+        "why" => why_in(found),
+        "tick" => tick_in(found),
         _ => None,
     }
 }

@@ -1,7 +1,7 @@
 ghost use Rattle.std.specs.Prelude.{◌≡◌, IfOk, false};
 ghost use Rattle.clap.specs.Words.{app_of, rule_of};
 ghost use Rattle.clap.specs.declared.builder.command.Command.TheViews.{out-Command as fields_of};
-ghost use Rattle.smf_program.specs.Words.{bare_app, cfg_app, database_rule, file_rule, follow_rule, read_rule, run_app, sim_app, smf_app};
+ghost use Rattle.smf_program.specs.Words.{bare_app, cfg_app, database_rule, file_rule, folder_rule, follow_rule, pause_rule, pipe_rule, read_rule, run_app, serve_app, sim_app, smf_app, tick_app, why_app};
 
 use clap::{Arg, ArgAction, Command};
 use std::alloc::{AllocError, Global};
@@ -72,24 +72,85 @@ fn cfg_command<'a>(alloc: Global) -> Result<Command<'a>, AllocError>
     Ok(command)
 }
 
+/// The folder in which requests come.
+fn folder<'a>(alloc: Global) -> Arg<'a>
+    ensures rule { rule_of result ≡ folder_rule }
+    ensures local { result.global ≡ false }
+{
+    Arg::new(alloc, "RUN").required(true)
+}
+
+fn serve_command<'a>(alloc: Global) -> Result<Command<'a>, AllocError>
+    ensures app { IfOk result (λ c. app_of c ≡ serve_app) }
+    ensures local { IfOk result (λ c. (fields_of c).has_globals ≡ false) }
+{
+    let command = Command::new(alloc, "serve")
+        .about("Stays, and does the scripts that come in a folder, over a database")
+        .arg(folder(alloc))?
+        .arg(database(alloc))?;
+    Ok(command)
+}
+
+fn why_command<'a>(alloc: Global) -> Result<Command<'a>, AllocError>
+    ensures app { IfOk result (λ c. app_of c ≡ why_app) }
+    ensures local { IfOk result (λ c. (fields_of c).has_globals ≡ false) }
+{
+    let command = Command::new(alloc, "why")
+        .about("Tells why instances of a database do not run though they are enabled")
+        .arg(database(alloc))?;
+    Ok(command)
+}
+
+fn pipe<'a>(alloc: Global) -> Arg<'a>
+    ensures rule { rule_of result ≡ pipe_rule }
+    ensures local { result.global ≡ false }
+{
+    Arg::new(alloc, "PIPE").required(true)
+}
+
+/// The milliseconds between two lines.
+fn pause<'a>(alloc: Global) -> Arg<'a>
+    ensures rule { rule_of result ≡ pause_rule }
+    ensures local { result.global ≡ false }
+{
+    Arg::new(alloc, "MS").required(true)
+}
+
+fn tick_command<'a>(alloc: Global) -> Result<Command<'a>, AllocError>
+    ensures app { IfOk result (λ c. app_of c ≡ tick_app) }
+    ensures local { IfOk result (λ c. (fields_of c).has_globals ≡ false) }
+{
+    let command = Command::new(alloc, "tick")
+        .about("Writes a line into a pipe every so many milliseconds, until nobody reads it")
+        .arg(pipe(alloc))?
+        .arg(pause(alloc))?;
+    Ok(command)
+}
+
 fn bare_command<'a>(alloc: Global) -> Command<'a>
     ensures { app_of result ≡ bare_app }
 {
     Command::new(alloc, "smf").subcommand_required(true)
 }
 
-/// The program as clap knows it: `sim` with or without a database, `run` with one, where
-/// contracts may be followed, or `cfg` with one and, behind `-f`, a
-/// file of lines.
+/// The program as clap knows it: `sim` with or without a database, `run` with one, for which contracts may be followed,
+/// `cfg` with one and, after `-f`, a file of lines, `serve` with a folder and a database, `why` with a database, or `tick`
+/// with a pipe and milliseconds.
 pub(crate) fn smf_command<'a>(alloc: Global) -> Result<Command<'a>, AllocError>
     ensures { IfOk result (λ c. app_of c ≡ smf_app) }
 {
     let sim = sim_command(alloc)?;
     let run = run_command(alloc)?;
     let cfg = cfg_command(alloc)?;
+    let serve = serve_command(alloc)?;
+    let why = why_command(alloc)?;
+    let tick = tick_command(alloc)?;
     let command = bare_command(alloc)
         .subcommand(sim)?
         .subcommand(run)?
-        .subcommand(cfg)?;
+        .subcommand(cfg)?
+        .subcommand(serve)?
+        .subcommand(why)?
+        .subcommand(tick)?;
     Ok(command)
 }

@@ -2,3 +2,4 @@ pub mod Told
 pub mod Ended
 pub mod Closes
 pub mod Copied
+pub mod Excused

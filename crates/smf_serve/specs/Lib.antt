@@ -4,3 +4,4 @@ pub mod Runs
 pub mod Sims
 pub mod Closed
 pub mod Copies
+pub mod Reasons

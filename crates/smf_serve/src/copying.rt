@@ -6,8 +6,10 @@ ghost use Rattle.sqlite.specs.Start.{FindsIn};
 ghost use Rattle.sqlite.specs.State.{HasCleanDisk};
 ghost use Rattle.sqlite_disk.specs.Memory.{memory_bytes, memory_is_usable};
 ghost use Rattle.smf_serve.specs.Copies.{IsOverCopy, IsUncopied, IsUnopened, image_in};
+ghost use Rattle.smf_serve.specs.Reasons.{IsAnswered, IsExcused};
 ghost use Rattle.smf_serve.specs.Runs.{IsDone, IsEnded};
 
+use crate::asking::why;
 use crate::script::serve;
 use crate::served::Served;
 use smf_edge::Kids;
@@ -112,6 +114,25 @@ pub fn serve_copy<R: LineReader, W: TextWriter, E: TextWriter, K: Kids>(
             } = serve(alloc, conn, reader, writer, errors, kids);
             Ok(status)
         }
+        Err(fault) => Err(fault),
+    }
+}
+
+/// Writes why instances that the database which these bytes hold has do not run though they are enabled, and gives the
+/// status: 0, or 3 for a fault. It is a copy in memory that is opened.
+pub fn why_copy<W: TextWriter, E: TextWriter>(
+    alloc: Global,
+    found: &FileBytes,
+    writer: &mut W,
+    errors: &mut E,
+) -> Result<u8, Error>
+    ensures ok { IfOk result (λ status. status ≢ 3 → IsOverCopy ⟦<Memory as Disk>⟧ (image_in found.now) (λ conn after. IsAnswered over_files conn (W.contents writer.old) (W.contents writer.new))) }
+    ensures fault { IfOk result (λ status. status ≡ 3 → IsExcused E.write_fails (E.contents errors.old) (E.contents errors.new)) }
+    ensures err { IfErr result (λ fault. IsUncopied ⟦<Memory as Disk>⟧ (image_in found.now) fault) }
+    ensures silent { OnErr result ((W.contents writer.new ≡ W.contents writer.old) × (E.contents errors.new ≡ E.contents errors.old)) }
+{
+    match open_copy(alloc, found) {
+        Ok(conn) => Ok(why(alloc, conn, writer, errors)),
         Err(fault) => Err(fault),
     }
 }

@@ -6,8 +6,13 @@ use Rattle.smf_program.proofs.words.smf_command.Goals as goal
 pub returns : goal.returns
 unfolding smf_app
 returns c =
-    c.in_ok-command.ensures.shape c.in_ok-cfg.ensures.local
+    c.in_ok-command.ensures.shape c.in_ok-tick.ensures.local
+    ∙ ap₂ with_subcommand (c.in_ok-subcommand-5.ensures.shape c.in_ok-why.ensures.local
+    ∙ ap₂ with_subcommand (c.in_ok-subcommand-4.ensures.shape c.in_ok-serve.ensures.local
+    ∙ ap₂ with_subcommand (c.in_ok-subcommand-3.ensures.shape c.in_ok-cfg.ensures.local
     ∙ ap₂ with_subcommand (c.in_ok-subcommand-2.ensures.shape c.in_ok-run.ensures.local
     ∙ ap₂ with_subcommand (c.in_ok-subcommand.ensures.shape c.in_ok-sim.ensures.local
     ∙ ap₂ with_subcommand c.bare_command.ensures (ap (λ (a : App). a.top) c.in_ok-sim.ensures.app)) (ap (λ (a : App). a.top) c.in_ok-run.ensures.app))
-    (ap (λ (a : App). a.top) c.in_ok-cfg.ensures.app)
+    (ap (λ (a : App). a.top) c.in_ok-cfg.ensures.app)) (ap (λ (a : App). a.top) c.in_ok-serve.ensures.app))
+    (ap (λ (a : App). a.top) c.in_ok-why.ensures.app))
+    (ap (λ (a : App). a.top) c.in_ok-tick.ensures.app)

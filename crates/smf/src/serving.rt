@@ -1,0 +1,455 @@
+// A service manager that stays, over a database and the requests of a folder.
+use crate::files::{Hold, open, take_alone};
+use crate::following::{room_of, room_text, wants_groups};
+use smf_cfg::tell;
+use smf_edge::Kids;
+use smf_follow::FollowedKids;
+use smf_keeper::{Groups, Keepers, Room};
+use smf_lines::{NotedReader, ReadFault, Turns, read_line, text_in};
+use smf_model::{Journal, Plain};
+use smf_node::Node;
+use smf_program::tell_no_database;
+use smf_run::end_all;
+use smf_server::{Ask, Desk, Onward, Server, Timer, fault_text, turn};
+use smf_store::{OpenFault, StoreTable, open_repository};
+use sqlite::Connection;
+use sqlite_std_file::File as DatabaseFile;
+use sqlite_store::FileStore;
+use std::alloc::{AllocError, Global};
+use std::fs::File;
+use std::io::{BufReader, Read, Write};
+use std::os::unix::fs::OpenOptionsExt;
+use std::path::PathBuf;
+use std::process::{Command, Stdio};
+use std::rt::Clock;
+use std::time::Duration;
+use std::{env, fs, io, thread};
+
+/// The status of a run that was ended by a fault.
+const FAULT: u8 = 3;
+
+/// The status of a request that is not done.
+const REFUSED: u8 = 1;
+
+/// The most bytes of a request.
+const MAX_REQUEST: u64 = 4_194_304;
+
+/// The most bytes of the name of a request.
+const MAX_NAME: usize = 64;
+
+/// How often a second a lock is tried.
+const TRIES: u32 = 50;
+
+/// The milliseconds between two ticks, if SMF_TICK does not name others.
+const PAUSE: u64 = 100;
+
+/// Requests in a folder, and replies to them. A line of a pipe says that one has come.
+#[derive(Drop)]
+struct FileDesk<'a> {
+    rt: &'a HostRuntime,
+    folder: &'a str,
+    wake: NotedReader<BufReader<File>>,
+    /// The name of the request that was given last.
+    name: String,
+    /// What is told of a read of the pipe that failed.
+    failed: Option<&'static str>,
+}
+
+/// A line of the pipe.
+#[derive(Drop)]
+enum Call {
+    Tick,
+    Named(String),
+    End,
+    Other,
+}
+
+/// Letters, digits, `_` and `-` name a request.
+fn is_name(text: &str) -> bool {
+    !text.is_empty()
+        && text.len() <= MAX_NAME
+        && text.bytes().all(|byte| byte.is_ascii_alphanumeric() || byte == b'_' || byte == b'-')
+}
+
+/// What a line of the pipe says. No other line says anything.
+fn call_of(alloc: Global, line: &[u8]) -> Result<Call, AllocError> {
+    match text_in(line) {
+        None => Ok(Call::Other),
+        Some("") => Ok(Call::Tick),
+        Some(".") => Ok(Call::End),
+        Some(name) if is_name(name) => Ok(Call::Named(format!(in alloc; "{name}")?)),
+        Some(_) => Ok(Call::Other),
+    }
+}
+
+impl<'a> FileDesk<'a> {
+    /// The pipe is open to write too, so that it has no end.
+    fn open(rt: &'a HostRuntime, folder: &'a str) -> io::Result<FileDesk<'a>> {
+        let alloc = rt.alloc();
+        let path = format!(in alloc; "{folder}/wake")?;
+        let wake = File::options()
+            .read(true)
+            .write(true)
+            .open(rt, path.as_str())?;
+        Ok(FileDesk {
+            rt,
+            folder,
+            wake: NotedReader::new(BufReader::new(alloc, wake)?),
+            name: String::new(alloc),
+            failed: None,
+        })
+    }
+
+    /// A pipe from which nothing can be read ends the server.
+    fn fail(&mut self, text: &'static str) -> Call {
+        self.failed = Some(text);
+        Call::End
+    }
+
+    /// The next line of the pipe.
+    fn call(&mut self) -> Call {
+        let alloc = self.rt.alloc();
+        match read_line(alloc, &mut self.wake, &mut Turns::new()) {
+            Ok(Some(line)) => match call_of(alloc, &line) {
+                Ok(call) => call,
+                Err(_) => self.fail("smf: no memory"),
+            },
+            Ok(None) => Call::End,
+            Err(ReadFault::Input(_)) => self.fail("smf: input failed"),
+            Err(ReadFault::Memory) => self.fail("smf: no memory"),
+            Err(ReadFault::TooManyLines(_)) => Call::Other,
+        }
+    }
+
+    /// The script of a request, which is gone then. One that is too long is read a little past the most.
+    fn script(&self) -> io::Result<Vec<u8>> {
+        let alloc = self.rt.alloc();
+        let path = format!(in alloc; "{}/requests/{}", self.folder, self.name.as_str())?;
+        let mut script: Vec<u8> = Vec::new(alloc);
+        let file = File::open(self.rt, path.as_str())?;
+        let _count = file.take(MAX_REQUEST + 1).read_to_end(&mut script)?;
+        fs::remove_file(self.rt, path.as_str())?;
+        Ok(script)
+    }
+
+    /// A request. One that cannot be read, or is too long, is refused.
+    fn ask(&mut self) -> Option<Ask> {
+        let Ok(script) = self.script() else {
+            let _written = self.write(b"smf: request cannot be read\n", REFUSED);
+            return None;
+        };
+        if script.len() as u64 > MAX_REQUEST {
+            let _written = self.write(b"smf: request too long\n", REFUSED);
+            return None;
+        }
+        Some(Ask::Request(script))
+    }
+
+    /// What a call asks for, if anything.
+    fn asked(&mut self, call: Call) -> Option<Ask> {
+        match call {
+            Call::Tick => Some(Ask::Tick),
+            Call::End => Some(Ask::End),
+            Call::Other => None,
+            Call::Named(name) => {
+                self.name = name;
+                self.ask()
+            }
+        }
+    }
+
+    /// The text goes into a file, and its status into the pipe of the client, who has it open: neither waits. For a client
+    /// that is gone no file is made.
+    fn write(&self, text: &[u8], status: u8) -> io::Result<()> {
+        let alloc = self.rt.alloc();
+        let pipe = format!(in alloc; "{}/replies/{}", self.folder, self.name.as_str())?;
+        let mut told = File::options()
+            .read(true)
+            .write(true)
+            .open(self.rt, pipe.as_str())?;
+        let path = format!(in alloc; "{}.text", pipe.as_str())?;
+        let mut file = File::options()
+            .write(true)
+            .create_new(true)
+            .mode(0o600)
+            .open(self.rt, path.as_str())?;
+        file.write_all(text)?;
+        told.write_all(format!(in alloc; "{status}\n")?.as_bytes())
+    }
+}
+
+impl<'a> Desk for FileDesk<'a> {
+    ghost use Rattle.std.specs.Prelude.{None};
+
+    ghost passed = { λ _. None };
+
+    fn next(&mut self) -> Ask {
+        for _ in 0..u64::MAX {
+            let call = self.call();
+            if let Some(ask) = self.asked(call) {
+                return ask;
+            }
+        }
+        Ask::End
+    }
+
+    fn reply(&mut self, text: &[u8], status: u8) {
+        let _written = self.write(text, status);
+    }
+}
+
+/// The clock of the system.
+#[derive(Drop)]
+struct SystemTimer<'a> {
+    rt: &'a HostRuntime,
+}
+
+impl<'a> Timer for SystemTimer<'a> {
+    fn now(&self) -> Duration {
+        self.rt.monotonic().unwrap_or(Duration::from_secs(0))
+    }
+}
+
+/// Takes a lock within a second: who waited for an older server's end may hold it for a moment.
+fn take(rt: &HostRuntime, lock: &File) -> bool {
+    for _ in 0..TRIES {
+        if lock.try_lock().is_ok() {
+            return true;
+        }
+        thread::sleep(rt, Duration::from_millis(1000 / u64::from(TRIES)));
+    }
+    false
+}
+
+/// The lock of a folder. It is free again when its file is let go.
+fn lock_of(rt: &HostRuntime, folder: &str) -> io::Result<File> {
+    let path = format!(in rt.alloc(); "{folder}/lock")?;
+    File::options()
+        .write(true)
+        .create(true)
+        .open(rt, path.as_str())
+}
+
+/// The milliseconds between two ticks, as SMF_TICK names them.
+fn pause_of(rt: &HostRuntime) -> u64 {
+    match env::var(rt, "SMF_TICK") {
+        Ok(named) => match named.as_str().parse::<u64>() {
+            Ok(0) => PAUSE,
+            Ok(pause) => pause,
+            Err(_) => PAUSE,
+        },
+        Err(_) => PAUSE,
+    }
+}
+
+/// Starts this program once more, to write a line into the pipe every so many milliseconds.
+fn start_ticks(rt: &HostRuntime, folder: &str) -> io::Result<()> {
+    let alloc = rt.alloc();
+    let program: PathBuf = env::current_exe(rt)?;
+    let pause = pause_of(rt);
+    let mut ticks = Command::new(alloc, program.as_str())?;
+    ticks.arg("tick")?;
+    ticks.arg(format!(in alloc; "{folder}/wake")?.as_str())?;
+    ticks.arg(format!(in alloc; "{pause}")?.as_str())?;
+    ticks.stdin(Stdio::null());
+    let _ticker = ticks.spawn(rt)?;
+    Ok(())
+}
+
+fn table_text(table: StoreTable) -> &'static str {
+    match table {
+        StoreTable::Meta => "smf: store: damaged meta",
+        StoreTable::Service => "smf: store: damaged service",
+        StoreTable::Instance => "smf: store: damaged instance",
+        StoreTable::Group => "smf: store: damaged grp",
+        StoreTable::Snapshot => "smf: store: damaged snap",
+        StoreTable::Restarter => "smf: store: damaged restarter",
+    }
+}
+
+/// Says why a store was not opened, and gives the status of such a run.
+fn tell_open(rt: &HostRuntime, fault: &OpenFault) -> u8 {
+    let mut errors = rt.stderr();
+    match fault {
+        OpenFault::Memory => tell(&mut errors, "smf: no memory"),
+        OpenFault::Database => tell(&mut errors, "smf: store: database failed"),
+        OpenFault::Damaged(table) => tell(&mut errors, table_text(*table)),
+        OpenFault::Version(version) => {
+            match format!(in rt.alloc(); "smf: store: version {version}") {
+                Ok(text) => tell(&mut errors, text.as_str()),
+                Err(_) => tell(&mut errors, "smf: no memory"),
+            }
+        }
+        OpenFault::TooManyInstances => tell(&mut errors, "smf: store: too many instances"),
+    }
+}
+
+/// Takes turns until no more is asked, or a fault ends it.
+fn stay<J: Journal, K: Kids>(
+    rt: &HostRuntime,
+    desk: &mut FileDesk<'_>,
+    server: &mut Server<J, K>,
+) -> u8 {
+    let timer = SystemTimer { rt };
+    for _ in 0..u64::MAX {
+        match turn(rt.alloc(), desk, &timer, server) {
+            Ok(Onward::Goes) => {}
+            Ok(Onward::Ends) => break,
+            Err(fault) => return tell(&mut rt.stderr(), fault_text(&fault)),
+        }
+    }
+    match desk.failed {
+        Some(text) => tell(&mut rt.stderr(), text),
+        None => 0,
+    }
+}
+
+/// Stays over a node and its children, which are ended behind it.
+fn stay_over<J: Journal + Drop, K: Kids + Drop>(
+    rt: &HostRuntime,
+    desk: &mut FileDesk<'_>,
+    node: Node<J>,
+    kids: K,
+) -> (u8, J) {
+    let mut server = Server::new(rt.alloc(), node, kids);
+    let status = match start_ticks(rt, desk.folder) {
+        Ok(()) => stay(rt, desk, &mut server),
+        Err(_) => tell(&mut rt.stderr(), "smf: serve: no ticks can be started"),
+    };
+    let Server {
+        node,
+        mut kids,
+        watch: _watch,
+        busy: _,
+    } = server;
+    let _is_listed = end_all(&mut kids);
+    (status, node.into_repository().into_journal())
+}
+
+/// Boots what a repository holds, and stays over it.
+fn boot<J: Journal + Drop, K: Kids + Drop>(
+    rt: &HostRuntime,
+    desk: &mut FileDesk<'_>,
+    repository: Plain<J>,
+    kids: K,
+) -> (u8, J) {
+    match Node::new(rt.alloc(), repository) {
+        Ok(node) => stay_over(rt, desk, node, kids),
+        Err((fault, repository)) => {
+            let status = tell(&mut rt.stderr(), fault_text(&fault.into()));
+            (status, repository.into_journal())
+        }
+    }
+}
+
+/// Closes a database, so that its file alone holds everything.
+fn close(rt: &HostRuntime, conn: Connection<FileStore<DatabaseFile>>, status: u8) -> u8 {
+    match conn.close_files() {
+        Ok(_files) => status,
+        Err((_, store)) => {
+            let _files = store.close();
+            if status == FAULT {
+                return FAULT;
+            }
+            tell(&mut rt.stderr(), "smf: store: database failed")
+        }
+    }
+}
+
+/// Stays over an open database and children.
+fn serve_with<K: Kids + Drop>(
+    rt: &HostRuntime,
+    desk: &mut FileDesk<'_>,
+    conn: Connection<FileStore<DatabaseFile>>,
+    kids: K,
+) -> u8 {
+    match open_repository(rt.alloc(), conn) {
+        Ok(repository) => {
+            let (status, journal) = boot(rt, desk, repository, kids);
+            close(rt, journal.release(), status)
+        }
+        Err((fault, conn)) => {
+            let status = tell_open(rt, &fault);
+            close(rt, conn, status)
+        }
+    }
+}
+
+/// Stays with contracts that keepers follow.
+fn keep(
+    rt: &HostRuntime,
+    desk: &mut FileDesk<'_>,
+    conn: Connection<FileStore<DatabaseFile>>,
+    room: Room,
+) -> io::Result<u8> {
+    eprintln!(rt; "smf: contracts: each has a keeper")?;
+    let keepers = Keepers::new(rt.alloc(), rt, room, rt.stderr());
+    let kids = FollowedKids::new(rt.alloc(), keepers);
+    Ok(serve_with(rt, desk, conn, kids))
+}
+
+/// Stays with contracts that are control groups, if these can be made; else keepers follow them.
+fn group(
+    rt: &HostRuntime,
+    desk: &mut FileDesk<'_>,
+    conn: Connection<FileStore<DatabaseFile>>,
+    room: Room,
+) -> io::Result<u8> {
+    match Groups::make(rt.alloc(), rt, room, rt.stderr()) {
+        Ok(groups) => {
+            eprintln!(rt; "smf: contracts: each is a control group")?;
+            let kids = FollowedKids::new(rt.alloc(), groups);
+            Ok(serve_with(rt, desk, conn, kids))
+        }
+        Err((_, room)) => keep(rt, desk, conn, room),
+    }
+}
+
+/// Stays over the database in a file.
+fn serve(rt: &HostRuntime, desk: &mut FileDesk<'_>, database: &str) -> io::Result<u8> {
+    let mut errors = rt.stderr();
+    let conn = match open(rt, database) {
+        Ok(conn) => conn,
+        Err(fault) => return Ok(tell_no_database(&mut errors, &fault)),
+    };
+    match room_of(rt, database) {
+        Ok(room) if wants_groups(rt) => group(rt, desk, conn, room),
+        Ok(room) => keep(rt, desk, conn, room),
+        Err(fault) => Ok(tell(&mut errors, room_text(&fault))),
+    }
+}
+
+/// Stays, and does the requests that come in a folder over the database in a file, which no other program has then. The
+/// pipe is open before the folder's lock is taken, so a client that finds it taken is heard.
+pub(crate) fn serve_over(rt: &HostRuntime, folder: &str, database: &str) -> io::Result<u8> {
+    let mut errors = rt.stderr();
+    let Ok(mut desk) = FileDesk::open(rt, folder) else {
+        return Ok(tell(&mut errors, "smf: serve: no pipe in this folder"));
+    };
+    let Ok(lock) = lock_of(rt, folder) else {
+        return Ok(tell(&mut errors, "smf: serve: no lock in this folder"));
+    };
+    if !take(rt, &lock) {
+        return Ok(tell(&mut errors, "smf: serve: another server has this folder"));
+    }
+    match take_alone(rt, database)? {
+        Hold::Ours(_held) => serve(rt, &mut desk, database),
+        Hold::Refused(status) => Ok(status),
+    }
+}
+
+/// Writes a line into a pipe every so many milliseconds, until nobody reads it.
+pub(crate) fn tick_into(rt: &HostRuntime, pipe: &str, pause: &str) -> io::Result<u8> {
+    let pause = match pause.parse::<u64>() {
+        Ok(pause) => Duration::from_millis(pause),
+        Err(_) => Duration::from_millis(PAUSE),
+    };
+    let mut out = File::options().write(true).open(rt, pipe)?;
+    for _ in 0..u64::MAX {
+        thread::sleep(rt, pause);
+        if out.write_all(b"\n").is_err() {
+            return Ok(0);
+        }
+    }
+    Ok(0)
+}

@@ -1,0 +1,4 @@
+pub mod Hears
+pub mod Late
+pub mod Served
+pub mod Turned

@@ -1,0 +1,10 @@
+//! What turns come to, one after another.
+
+ghost use Rattle.smf_server.specs.Turns.{TurnsFollow};
+
+use smf_edge::Kids;
+
+/// Turn after turn, requests are replied to in their order, each done on what all turns before it left.
+pub fn turns_follow<K: Kids>()
+    ensures { TurnsFollow K.skills }
+{}

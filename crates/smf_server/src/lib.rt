@@ -1,0 +1,26 @@
+//! A service manager that stays, over any desk, clock, children and journal: turn by turn it answers requests, each of which
+//! is a script, lets children tell what happened to them, and lets methods time out.
+//! Modules: `ask` (what comes next), `desk` (requests and replies), `timer` (what time it is), `hearing` (what children tell), `watch` (methods that
+//! may take too long), `server` (what is kept between turns), `telling` (why a server ended),
+//! `size` (how much has happened), `turning` (a turn), `law` (what turns come to).
+#![tactic(auto)]
+
+mod ask;
+mod desk;
+mod hearing;
+mod law;
+mod server;
+mod size;
+mod telling;
+mod timer;
+mod turning;
+mod watch;
+
+pub use ask::{Ask, Onward};
+pub use desk::Desk;
+pub use law::turns_follow;
+pub use server::Server;
+pub use telling::fault_text;
+pub use timer::Timer;
+pub use turning::turn;
+pub use watch::Watch;

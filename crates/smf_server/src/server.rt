@@ -1,0 +1,34 @@
+use crate::watch::Watch;
+use smf_edge::Kids;
+use smf_model::Journal;
+use smf_node::Node;
+use std::alloc::Global;
+
+/// A node, the children of its services, and what is noted of them between turns.
+#[derive(Drop)]
+pub struct Server<J: Journal, K: Kids> {
+    pub node: Node<J>,
+    pub kids: K,
+    /// The methods that may take too long.
+    pub watch: Watch,
+    /// Whether more rounds are wanted.
+    pub busy: bool,
+}
+
+impl<J: Journal, K: Kids> Server<J, K> {
+    ghost use Rattle.std.specs.Prelude.{◌≡◌, true};
+
+    /// A node that has booted, and children that were asked nothing yet. Its first tick makes rounds.
+    pub fn new(alloc: Global, node: Node<J>, kids: K) -> Server<J, K>
+        ensures node { result.node ≡ node }
+        ensures kids { result.kids ≡ kids }
+        ensures busy { result.busy ≡ true }
+    {
+        Server {
+            node,
+            kids,
+            watch: Watch::new(alloc),
+            busy: true,
+        }
+    }
+}
