@@ -2,7 +2,7 @@ use smf_cfg::tell;
 use smf_edge::{OsKids, TableKids};
 use smf_lines::{LineReader, NotedReader};
 use smf_program::{tell_no_database, tell_no_input};
-use smf_serve::{Closed, FileBytes, serve_cfg_file, serve_copy, serve_file, why_copy};
+use smf_serve::{Closed, FileBytes, check_copy, serve_cfg_file, serve_copy, serve_file, why_copy};
 use sqlite::{Connection, Error, ErrorCode};
 use sqlite_std_file::File as DatabaseFile;
 use sqlite_store::FileStore;
@@ -225,18 +225,32 @@ pub(crate) fn sim_over(rt: &HostRuntime, database: &str) -> io::Result<u8> {
     })
 }
 
-/// Tells why instances that the database in a file has do not run. No file is written.
-pub(crate) fn why_over(rt: &HostRuntime, database: &str) -> io::Result<u8> {
+/// Tells why instances that the database in a file has do not run: those that words mean, or all without words. No file is
+/// written.
+pub(crate) fn why_over(rt: &HostRuntime, database: &str, words: &[&str]) -> u8 {
     let mut errors = rt.stderr();
     let found = match read_files(rt, database) {
         Ok(found) => found,
-        Err(fault) => return Ok(tell_no_database(&mut errors, &fault)),
+        Err(fault) => return tell_no_database(&mut errors, &fault),
     };
-    let told = why_copy(rt.alloc(), &found, &mut io::writer(rt), &mut errors);
-    Ok(match told {
+    let told = why_copy(rt.alloc(), &found, words, &mut io::writer(rt), &mut errors);
+    match told {
         Ok(status) => status,
         Err(fault) => tell_no_database(&mut errors, &fault),
-    })
+    }
+}
+
+/// Tells what is wrong of the instances that the database in a file has. No file is written.
+pub(crate) fn check_over(rt: &HostRuntime, database: &str) -> u8 {
+    let mut errors = rt.stderr();
+    let found = match read_files(rt, database) {
+        Ok(found) => found,
+        Err(fault) => return tell_no_database(&mut errors, &fault),
+    };
+    match check_copy(rt.alloc(), &found, &mut io::writer(rt), &mut errors) {
+        Ok(status) => status,
+        Err(fault) => tell_no_database(&mut errors, &fault),
+    }
 }
 
 /// Does lines of svccfg over the database in a file: those of another file, or of standard input.

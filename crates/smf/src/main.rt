@@ -9,7 +9,7 @@ mod files;
 mod following;
 mod serving;
 
-use crate::files::{Hold, cfg_over, run_over, sim_over, take_alone, why_over};
+use crate::files::{Hold, cfg_over, check_over, run_over, sim_over, take_alone, why_over};
 use crate::following::follow_over;
 use crate::serving::{serve_over, tick_into};
 use smf_edge::TableKids;
@@ -33,13 +33,14 @@ fn sim(rt: &HostRuntime) -> io::Result<u8> {
     ))
 }
 
-fn do_task(rt: &HostRuntime, task: Task<'_>) -> io::Result<u8> {
+fn do_task(rt: &HostRuntime, task: &Task<'_>) -> io::Result<u8> {
     match task {
         Task::Sim { database: None } => sim(rt),
         Task::Sim {
             database: Some(database),
         } => sim_over(rt, database),
-        Task::Why { database } => why_over(rt, database),
+        Task::Why { database, words } => Ok(why_over(rt, database, words.as_slice())),
+        Task::Check { database } => Ok(check_over(rt, database)),
         Task::Tick { pipe, pause } => tick_into(rt, pipe, pause),
         Task::Run { database, .. } => do_alone(rt, database, task),
         Task::Cfg { database, .. } => do_alone(rt, database, task),
@@ -48,7 +49,7 @@ fn do_task(rt: &HostRuntime, task: Task<'_>) -> io::Result<u8> {
 }
 
 /// Does a task over a database that no other program has.
-fn do_alone(rt: &HostRuntime, database: &str, task: Task<'_>) -> io::Result<u8> {
+fn do_alone(rt: &HostRuntime, database: &str, task: &Task<'_>) -> io::Result<u8> {
     match take_alone(rt, database)? {
         Hold::Ours(_lock) => do_held(rt, task),
         Hold::Refused(status) => Ok(status),
@@ -56,7 +57,7 @@ fn do_alone(rt: &HostRuntime, database: &str, task: Task<'_>) -> io::Result<u8> 
 }
 
 /// Does a task over a database that is held.
-fn do_held(rt: &HostRuntime, task: Task<'_>) -> io::Result<u8> {
+fn do_held(rt: &HostRuntime, task: &Task<'_>) -> io::Result<u8> {
     match task {
         Task::Run {
             follow: false,
@@ -66,7 +67,7 @@ fn do_held(rt: &HostRuntime, task: Task<'_>) -> io::Result<u8> {
             follow: true,
             database,
         } => follow_over(rt, database),
-        Task::Cfg { lines, database } => cfg_over(rt, lines, database),
+        Task::Cfg { lines, database } => cfg_over(rt, *lines, database),
         _ => Ok(0),
     }
 }
@@ -87,7 +88,7 @@ fn run(rt: &HostRuntime) -> io::Result<u8> {
         }
     };
     match read_task(rt.alloc(), words.as_slice()) {
-        Ok(task) => do_task(rt, task),
+        Ok(task) => do_task(rt, &task),
         Err(refusal) => Ok(refuse(&mut io::writer(rt), &mut rt.stderr(), &refusal)),
     }
 }

@@ -4,7 +4,7 @@ use crate::following::{room_of, room_text, wants_groups};
 use smf_cfg::tell;
 use smf_edge::Kids;
 use smf_follow::FollowedKids;
-use smf_keeper::{Groups, Keepers, Room};
+use smf_keeper::{Groups, Keepers, Room, RoomFault};
 use smf_lines::{NotedReader, ReadFault, Turns, read_line, text_in};
 use smf_model::{Journal, Plain};
 use smf_node::Node;
@@ -30,6 +30,9 @@ const FAULT: u8 = 3;
 
 /// The status of a request that is not done.
 const REFUSED: u8 = 1;
+
+/// The status of a request whose text cannot be written.
+const UNWRITTEN: u8 = 4;
 
 /// The most bytes of a request.
 const MAX_REQUEST: u64 = 4_194_304;
@@ -158,23 +161,41 @@ impl<'a> FileDesk<'a> {
         }
     }
 
-    /// The text goes into a file, and its status into the pipe of the client, who has it open: neither waits. For a client
-    /// that is gone no file is made.
-    fn write(&self, text: &[u8], status: u8) -> io::Result<()> {
-        let alloc = self.rt.alloc();
-        let pipe = format!(in alloc; "{}/replies/{}", self.folder, self.name.as_str())?;
-        let mut told = File::options()
-            .read(true)
-            .write(true)
-            .open(self.rt, pipe.as_str())?;
-        let path = format!(in alloc; "{}.text", pipe.as_str())?;
+    /// The pipe of the client that made the request. The client has it open, so that a write never waits.
+    fn pipe(&self) -> io::Result<String> {
+        let pipe = format!(in self.rt.alloc(); "{}/replies/{}", self.folder, self.name.as_str())?;
+        Ok(pipe)
+    }
+
+    /// The text goes into a file.
+    fn write_text(&self, text: &[u8]) -> io::Result<()> {
+        let path = format!(in self.rt.alloc(); "{}.text", self.pipe()?.as_str())?;
         let mut file = File::options()
             .write(true)
             .create_new(true)
             .mode(0o600)
             .open(self.rt, path.as_str())?;
-        file.write_all(text)?;
-        told.write_all(format!(in alloc; "{status}\n")?.as_bytes())
+        match file.write_all(text) {
+            Ok(()) => Ok(()),
+            Err(fault) => {
+                // What was written of it is no answer.
+                let _removed = fs::remove_file(self.rt, path.as_str());
+                Err(fault)
+            }
+        }
+    }
+
+    /// The text goes into a file, and its status into the pipe of the client. If the file cannot be written, the status says
+    /// that, and this is false. For a client that is gone no file is made.
+    fn write(&self, text: &[u8], status: u8) -> io::Result<bool> {
+        let mut told = File::options()
+            .read(true)
+            .write(true)
+            .open(self.rt, self.pipe()?.as_str())?;
+        let is_written = self.write_text(text).is_ok();
+        let status = if is_written { status } else { UNWRITTEN };
+        told.write_all(format!(in self.rt.alloc(); "{status}\n")?.as_bytes())?;
+        Ok(is_written)
     }
 }
 
@@ -193,8 +214,12 @@ impl<'a> Desk for FileDesk<'a> {
         Ask::End
     }
 
-    fn reply(&mut self, text: &[u8], status: u8) {
-        let _written = self.write(text, status);
+    fn reply(&mut self, text: &[u8], status: u8) -> bool {
+        self.write(text, status).unwrap_or(false)
+    }
+
+    fn tell(&mut self, line: &str) {
+        let _status = tell(&mut self.rt.stderr(), line);
     }
 }
 
@@ -205,6 +230,8 @@ struct SystemTimer<'a> {
 }
 
 impl<'a> Timer for SystemTimer<'a> {
+    ghost says = { λ _ _. Unit {0} };
+
     fn now(&self) -> Duration {
         self.rt.monotonic().unwrap_or(Duration::from_secs(0))
     }
@@ -321,6 +348,7 @@ fn stay_over<J: Journal + Drop, K: Kids + Drop>(
         mut kids,
         watch: _watch,
         busy: _,
+        ends: _ends,
     } = server;
     let _is_listed = end_all(&mut kids);
     (status, node.into_repository().into_journal())
@@ -405,6 +433,24 @@ fn group(
     }
 }
 
+/// The folder of logs, if the folder of this server has one; else an empty text.
+fn logs_of(rt: &HostRuntime, folder: &str) -> io::Result<String> {
+    let alloc = rt.alloc();
+    let named = format!(in alloc; "{folder}/log")?;
+    match fs::canonicalize(rt, named.as_str()) {
+        Ok(real) => Ok(format!(in alloc; "{}", real.as_str())?),
+        Err(_) => Ok(String::new(alloc)),
+    }
+}
+
+/// The folder of the contracts of a database, for a server that stays: contracts end gently, and methods write into logs.
+fn staying_room(rt: &HostRuntime, folder: &str, database: &str) -> Result<Room, RoomFault> {
+    let mut room = room_of(rt, database)?;
+    let logs = logs_of(rt, folder)?;
+    room.stay(rt.alloc(), rt, logs.as_str())?;
+    Ok(room)
+}
+
 /// Stays over the database in a file.
 fn serve(rt: &HostRuntime, desk: &mut FileDesk<'_>, database: &str) -> io::Result<u8> {
     let mut errors = rt.stderr();
@@ -412,7 +458,7 @@ fn serve(rt: &HostRuntime, desk: &mut FileDesk<'_>, database: &str) -> io::Resul
         Ok(conn) => conn,
         Err(fault) => return Ok(tell_no_database(&mut errors, &fault)),
     };
-    match room_of(rt, database) {
+    match staying_room(rt, desk.folder, database) {
         Ok(room) if wants_groups(rt) => group(rt, desk, conn, room),
         Ok(room) => keep(rt, desk, conn, room),
         Err(fault) => Ok(tell(&mut errors, room_text(&fault))),

@@ -1,5 +1,5 @@
 -- What is found of a group's contract, one answer after the other.
-use Rattle.std.proofs.Common.{◌≡◌, ◌++◌, [], ◌∷◌, inl, inr, List, ℕ, Bool, true, false, not, codes, Option, Some, None, Result, Ok, Err, IfOk, OnErr, subst}
+use Rattle.std.proofs.Common.{◌≡◌, ◌++◌, ◌∷◌, inl, inr, List, ℕ, Bool, true, false, not, codes, Option, Some, None, Result, Ok, Err, IfOk, OnErr, refl, subst}
 use Rattle.std.specs.Fmt.{decimal}
 use Rattle.std.specs.IoError.{error_kind}
 use Rattle.std.specs.Process.{clears_env, command_args, command_program, command_var}
@@ -8,14 +8,14 @@ use Rattle.std.specs.declared.process.Command.{Command}
 use Rattle.std.specs.declared.process.ExitStatus.{ExitStatus}
 use Rattle.std_io.specs.declared.io.error.Error.{Error}
 use Rattle.std_io.specs.declared.io.kind.ErrorKind.TheVariants.{OutOfMemory}
-use Rattle.smf_edge.specs.Shell.{IsOther}
+use Rattle.smf_edge.specs.Shell.{IsOther, by_shell}
 use Rattle.smf_follow.specs.Facts.{Launch}
 use Rattle.smf_follow.specs.declared.stand.FirstEnd.{FirstEnd}
 use Rattle.smf_follow.specs.declared.stand.Stand.TheVariants.{Runs, Left, Gone}
 use Rattle.smf_keeper.specs.Ends.{IsEndOf}
-use Rattle.smf_keeper.specs.Grouping.{Empties, HasLeft, Holds, IsEndedIn, IsGroupOf, IsLostIn, IsUnclear, MayLiveIn, MayNotStart, SaysNeither, StandsIn, TellsGroup}
-use Rattle.smf_keeper.specs.Tellings.{HostFacts, IsLater, Telling, Asked, FileRead, FileWritten, NoAnswer}
-use Rattle.smf_keeper.specs.Words.{HasVariables, into_group}
+use Rattle.smf_keeper.specs.Grouping.{Empties, HasLeft, Holds, IsAskedIf, IsEndedIn, IsGroupOf, IsLostIn, IsUnclear, MayLiveIn, MayNotStart, SaysNeither, StandsIn, TellsGroup, WasAsked}
+use Rattle.smf_keeper.specs.Tellings.{HostFacts, IsLater, Telling, Asked, FileRead, FileWritten, NoAnswer, ProgramRun}
+use Rattle.smf_keeper.specs.Words.{HasVariables}
 use Rattle.smf_keeper.proofs.Later.{not_later, one_later, then_later}
 
 pub tells_group : {P : Type 0} (facts : HostFacts P) (group : List ℕ) (text : Option (List ℕ)) (p q : P) (r : Result Bool Error) → facts.tells p (FileRead group (codes "/cgroup.events") text) q → IfOk r (λ some. Holds text some) → IfOk r (λ some. TellsGroup facts group some p q)
@@ -55,22 +55,42 @@ pub lost_after : {P : Type 0} (facts : HostFacts P) (group : List ℕ) (t : Tell
 lost_after facts group t p q r u told later lost = (r, then_later facts t p q r told later, unclear_lost facts group r u lost)
 
 pub ended_in : {P : Type 0} (facts : HostFacts P) (group : List ℕ) (there : Bool) (p q : P) → facts.tells p (FileWritten group (codes "/cgroup.kill") (codes "1") there) q → Empties facts group q → IsEndedIn facts group p
-ended_in facts group there p q told empties = (q, (there, told), empties)
+ended_in facts group there p q told empties = (q, inl (there, told), empties)
 
 pub may_live_told : {P : Type 0} (facts : HostFacts P) (group : List ℕ) (there : Bool) (p q : P) → facts.tells p (FileWritten group (codes "/cgroup.kill") (codes "1") there) q → MayLiveIn facts group p
-may_live_told facts group there p q told = (q, inl (there, told))
+may_live_told facts group there p q told = (q, inl (inl (there, told)))
 
 pub may_live_lost : {P : Type 0} (facts : HostFacts P) (group : List ℕ) (p q : P) → facts.tells p NoAnswer q → MayLiveIn facts group p
-may_live_lost facts group p q told = (q, inr told)
+may_live_lost facts group p q told = (q, inr (inr told))
+
+pub may_live_run : {P : Type 0} (facts : HostFacts P) (group ender : List ℕ) (done : Bool) (p q : P) → facts.tells p (ProgramRun ender (codes "--end") group done) q → MayLiveIn facts group p
+may_live_run facts group ender done p q told = (q, inr (inl (done, (ender, told))))
+
+pub not_asked : {P : Type 0} (facts : HostFacts P) (group : List ℕ) → ∥ IsAskedIf facts group false ∥₁
+not_asked facts group = ∣ tt ∣₁
+
+pub asked_noted : {P : Type 0} (facts : HostFacts P) (group ender : List ℕ) (done : Bool) (p q : P) → facts.tells p (ProgramRun ender (codes "--end") group done) q → ∥ IsAskedIf facts group done ∥₁
+asked_noted facts group ender true p q told = ∣ (p, q, (ender, told)) ∣₁
+asked_noted facts group ender false p q told = ∣ tt ∣₁
+
+pub was_asked : {P : Type 0} (facts : HostFacts P) (group : List ℕ) (asked : Bool) → asked ≡ true → ∥ IsAskedIf facts group asked ∥₁ → ∥ WasAsked facts group ∥₁
+was_asked facts group true is noted = noted
+was_asked facts group false is noted = absurd cc
+
+pub ended_asked : {P : Type 0} (facts : HostFacts P) (group : List ℕ) (p : P) → ∥ WasAsked facts group ∥₁ → HasLeft facts group false (λ _. Unit {0}) p → IsEndedIn facts group p
+ended_asked facts group p asked left = (p, inr (asked, refl), (p, not_later facts p, left))
+
+pub may_live_asked : {P : Type 0} (facts : HostFacts P) (group : List ℕ) (p : P) → ∥ WasAsked facts group ∥₁ → MayLiveIn facts group p
+may_live_asked facts group p asked = (p, inl (inr (asked, refl)))
 
 pub has_variables : (launch : Launch) (c : Command Global) → clears_env c ≡ true → command_var c (codes "PATH") ≡ Some (Some (codes "/usr/sbin:/usr/bin:/sbin:/bin")) → command_var c (codes "SMF_FMRI") ≡ Some (Some launch.instance) → command_var c (codes "SMF_METHOD") ≡ Some (Some launch.method) → command_var c (codes "SMF_RESTARTER") ≡ Some (Some launch.restarter) → ((name : List ℕ) → IsOther name → command_var c name ≡ None) → HasVariables launch c
 has_variables launch c clears path fmri method restarter alone = record { clears = clears; path = path; fmri = fmri; method = method; restarter = restarter; alone = alone }
 
-pub group_of : {P : Type 0} (facts : HostFacts P) (launch : Launch) (group folder : List ℕ) (program : Command Global) (process : P) → facts.is_of program process → HasVariables launch program → command_program program ≡ codes "/bin/sh" → command_args program ≡ codes "-c" ∷ into_group ∷ group ∷ launch.command ∷ [] → facts.is_made group → group ≡ folder ++ 47 ∷ decimal launch.contract → IsGroupOf facts launch group process
-group_of facts launch group folder program process started variables name args made named = record {
+pub group_of : {P : Type 0} (facts : HostFacts P) (launch : Launch) (group folder words room : List ℕ) (program : Command Global) (process : P) → facts.is_of program process → HasVariables launch program → command_program program ≡ codes "/usr/bin/perl" → command_args program ≡ words ∷ room ∷ group ∷ by_shell launch.command → facts.is_made group → group ≡ folder ++ 47 ∷ decimal launch.contract → IsGroupOf facts launch group process
+group_of facts launch group folder words room program process started variables name args made named = record {
   program = program;
   started = started;
-  run = record { program = name; args = args; variables = variables };
+  run = record { program = name; keeper = words; room = room; args = args; variables = variables };
   made = made;
   folder = folder;
   named = named;

@@ -12,7 +12,7 @@ use Rattle.smf_follow.specs.Facts.{Launch}
 use Rattle.smf_follow.specs.declared.stand.Stand.{Stand}
 use Rattle.smf_follow.specs.declared.stand.Stand.TheVariants.{Runs, Left, Gone}
 use Rattle.smf_keeper.specs.Ends.{IsEndOf}
-use Rattle.smf_keeper.specs.Tellings.{HostFacts, IsLater, Asked, FileRead, FileWritten, NoAnswer}
+use Rattle.smf_keeper.specs.Tellings.{HostFacts, IsLater, Asked, FileRead, FileWritten, ProgramRun, NoAnswer}
 use Rattle.smf_keeper.specs.Words.{IsGroupRun}
 
 -- whether the events of a group say that it has a process
@@ -59,17 +59,32 @@ IsLostIn {P} facts group p = (q : P) × (IsLater facts p q) × IsUnclear facts g
 abbrev pub Empties : {P : Type 0} → HostFacts P → List ℕ → P → Type 0
 Empties {P} facts group p = (q : P) × (IsLater facts p q) × HasLeft facts group false (λ _. Unit {0}) q
 
--- the system was told to end all of the group, if that is there
+-- a program that ends a group ran, and said whether it did its work
+abbrev pub IsAsked : {P : Type 0} → HostFacts P → List ℕ → Bool → P → P → Type 0
+IsAsked facts group done p q = (ender : List ℕ) × facts.tells p (ProgramRun ender (codes "--end") group done) q
+
+-- such a program did its work at some time
+abbrev pub WasAsked : {P : Type 0} → HostFacts P → List ℕ → Type 0
+WasAsked {P} facts group = (p : P) × (q : P) × IsAsked facts group true p q
+
+-- what is kept of that
+abbrev pub IsAskedIf : {P : Type 0} → HostFacts P → List ℕ → Bool → Type 0
+IsAskedIf facts group false = Unit {0}
+IsAskedIf facts group true = WasAsked facts group
+
+-- the system was told to end all of the group, if that is there; or a program was told so before
 abbrev pub IsEnding : {P : Type 0} → HostFacts P → List ℕ → P → P → Type 0
 IsEnding facts group p q =
-    (there : Bool) × facts.tells p (FileWritten group (codes "/cgroup.kill") (codes "1") there) q
+    ((there : Bool) × facts.tells p (FileWritten group (codes "/cgroup.kill") (codes "1") there) q)
+    ⊎ (∥ WasAsked facts group ∥₁ × (p ≡ q))
 
 abbrev pub IsEndedIn : {P : Type 0} → HostFacts P → List ℕ → P → Type 0
 IsEndedIn {P} facts group p = (q : P) × (IsEnding facts group p q) × Empties facts group q
 
--- the system was told to end all of it, or did not take that
+-- the system or a program was told to end all of it, or did not take that
 abbrev pub MayLiveIn : {P : Type 0} → HostFacts P → List ℕ → P → Type 0
-MayLiveIn {P} facts group p = (q : P) × (IsEnding facts group p q ⊎ facts.tells p NoAnswer q)
+MayLiveIn {P} facts group p =
+    (q : P) × (IsEnding facts group p q ⊎ (((done : Bool) × IsAsked facts group done p q) ⊎ facts.tells p NoAnswer q))
 
 -- the first process is of a program that goes into the group, which was made for this contract, and becomes the method
 pub record IsGroupOf {P : Type 0} (facts : HostFacts P) (launch : Launch) (group : List ℕ) (process : P) : Type 0 where

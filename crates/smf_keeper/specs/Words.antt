@@ -1,15 +1,11 @@
 -- The words of what is started for a contract.
-use Rattle.std.specs.Prelude.{◌≡◌, ℕ, List, [], ◌∷◌, codes, true, Some, None}
+use Rattle.std.specs.Prelude.{◌≡◌, ℕ, List, ◌∷◌, codes, true, Some, None}
 use Rattle.std.specs.Fmt.{decimal}
 use Rattle.std.specs.Process.{clears_env, command_args, command_program, command_var}
 use Rattle.std.specs.declared.alloc.Global.{Global}
 use Rattle.std.specs.declared.process.Command.{Command}
 use Rattle.smf_edge.specs.Shell.{IsOther, by_shell}
 use Rattle.smf_follow.specs.Facts.{Launch}
-
--- the words by which the shell goes into a control group
-abbrev pub into_group : List ℕ
-into_group = codes "echo $$ > \"$0/cgroup.procs\" || exit 126; exec /usr/bin/setsid /bin/sh -c \"$1\""
 
 -- a program has the variables of a method, and no other
 pub record HasVariables (launch : Launch) (c : Command Global) : Type 0 where
@@ -20,10 +16,12 @@ pub record HasVariables (launch : Launch) (c : Command Global) : Type 0 where
   pub restarter : command_var c (codes "SMF_RESTARTER") ≡ Some (Some launch.restarter)
   pub alone : (name : List ℕ) → IsOther name → command_var c name ≡ None
 
--- a shell that goes into a group and becomes the shell of the method's command
+-- a program that goes into a group and becomes the shell of the method's command
 pub record IsGroupRun (launch : Launch) (group : List ℕ) (c : Command Global) : Type 0 where
-  pub program : command_program c ≡ codes "/bin/sh"
-  pub args : command_args c ≡ codes "-c" ∷ into_group ∷ group ∷ launch.command ∷ []
+  pub program : command_program c ≡ codes "/usr/bin/perl"
+  pub keeper : List ℕ
+  pub room : List ℕ
+  pub args : command_args c ≡ keeper ∷ room ∷ group ∷ by_shell launch.command
   pub variables : HasVariables launch c
 
 -- a keeper, which runs the shell of the method's command

@@ -1,6 +1,18 @@
+ghost use Rattle.std.specs.Prelude.{string_bytes};
+ghost use Rattle.smf_keeper.specs.Grouping.{IsAskedIf};
+
+use crate::host::Host;
+
 /// A contract, its group and its first process.
 #[derive(Drop)]
-pub struct Grouped<P> {
-    pub(crate) process: P,
+pub struct Grouped<H: Host> {
+    pub(crate) process: H::Process,
     pub(crate) group: String,
+    /// The path of what is told of the contract, in the room.
+    pub(crate) mark: String,
+    /// Whether the group was told to end.
+    pub(crate) asked: bool,
+    /// Whether the log says how the first process ended, or there is none.
+    pub(crate) logged: bool,
+    ghost noted: { ∥ IsAskedIf H.facts (string_bytes group) asked ∥₁ },
 }

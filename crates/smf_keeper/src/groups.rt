@@ -1,5 +1,5 @@
 ghost use Rattle.std.specs.Prelude.{◌≡◌, IfOk, OnErr, true, false, option_map, string_bytes};
-ghost use Rattle.smf_keeper.specs.Grouping.{Empties, HasLeft, Holds, IsUnclear, SaysNeither, TellsGroup};
+ghost use Rattle.smf_keeper.specs.Grouping.{Empties, HasLeft, Holds, IsEndedIn, IsUnclear, MayLiveIn, SaysNeither, TellsGroup};
 ghost use Rattle.smf_keeper.specs.Tellings.{IsLater};
 
 use crate::grouped::Grouped;
@@ -14,7 +14,8 @@ use smf_method::Command;
 use std::alloc::Global;
 use std::fs::File;
 use std::io::{Read, Stderr};
-use std::process::Processes;
+use std::os::unix::process::ExitStatusExt;
+use std::process::{ExitStatus, Processes};
 use std::rt::{Clock, Files};
 use std::{fs, io};
 
@@ -29,7 +30,6 @@ const NAMES: u32 = 1000;
 pub struct Groups<H: Host> {
     alloc: Global,
     host: H,
-    /// It is kept for its lock.
     room: Room,
     group: String,
     output: Stderr,
@@ -153,6 +153,92 @@ fn is_empty<H: Host>(
     Ok(!some)
 }
 
+/// Tells in a log how a first process ended, if there is a log and it does not say so yet.
+fn tell_end<H: Host>(
+    alloc: Global,
+    host: &H,
+    keeper: &str,
+    grouped: &mut Grouped<H>,
+    status: ExitStatus,
+) {
+    if grouped.logged {
+        return;
+    }
+    grouped.logged = true;
+    let raw = status.into_raw();
+    if let Ok(words) = format!(in alloc; "--ended={raw}") {
+        let _ = host.run(
+            alloc,
+            &mut grouped.process,
+            keeper,
+            words.as_str(),
+            grouped.mark.as_str(),
+        );
+    }
+}
+
+/// Has a group told to end gently. That it is empty is found later.
+#[tactic(auto, using(crate::proofs::Grouping::may_live_run, crate::proofs::Grouping::may_live_lost, crate::proofs::Grouping::asked_noted))]
+fn ask_end<H: Host>(
+    alloc: Global,
+    host: &H,
+    keeper: &str,
+    grouped: &mut Grouped<H>,
+) -> io::Result<bool>
+    ensures living { IfOk result (λ done. (done ≡ false) × MayLiveIn H.facts (string_bytes grouped.old.group) grouped.old.process) }
+    ensures lost { OnErr result (MayLiveIn H.facts (string_bytes grouped.old.group) grouped.old.process) }
+{
+    let asked = host.run(
+        alloc,
+        &mut grouped.process,
+        keeper,
+        "--end",
+        grouped.group.as_str(),
+    )?;
+    grouped.asked = asked;
+    Ok(false)
+}
+
+/// Removes a group that was told to end, once it is empty, and says whether it is. It does not wait.
+#[tactic(auto, using(crate::proofs::Grouping::left_none))]
+fn see_end<H: Host>(
+    alloc: Global,
+    host: &H,
+    keeper: &str,
+    grouped: &mut Grouped<H>,
+) -> io::Result<bool>
+    ensures empty { IfOk result (λ empty. empty ≡ true → HasLeft H.facts (string_bytes grouped.old.group) false (λ _. Unit {0}) grouped.old.process) }
+{
+    let Some(status) = host.look(&mut grouped.process)? else {
+        return Ok(false);
+    };
+    let some = is_populated(alloc, host, &mut grouped.process, grouped.group.as_str())?;
+    if !some {
+        let _ = host.remove_folder(&mut grouped.process, grouped.group.as_str());
+        tell_end(alloc, host, keeper, grouped, status);
+    }
+    Ok(!some)
+}
+
+/// Ends a group gently: it is told once, and then looked at. It does not wait.
+#[tactic(auto, using(crate::proofs::Grouping::was_asked, crate::proofs::Grouping::ended_asked, crate::proofs::Grouping::may_live_asked))]
+fn end_gently<H: Host>(
+    alloc: Global,
+    host: &H,
+    keeper: &str,
+    grouped: &mut Grouped<H>,
+) -> io::Result<bool>
+    ensures ended { IfOk result (λ done. done ≡ true → IsEndedIn H.facts (string_bytes grouped.old.group) grouped.old.process) }
+    ensures living { IfOk result (λ done. done ≡ false → MayLiveIn H.facts (string_bytes grouped.old.group) grouped.old.process) }
+    ensures lost { OnErr result (MayLiveIn H.facts (string_bytes grouped.old.group) grouped.old.process) }
+{
+    if !grouped.asked {
+        return ask_end(alloc, host, keeper, grouped);
+    }
+    let empty = see_end(alloc, host, keeper, grouped)?;
+    Ok(empty)
+}
+
 /// Waits for a while until a group is empty, and says whether it is.
 #[tactic(auto, using(crate::proofs::Later::not_later, crate::proofs::Later::later_on, crate::proofs::Grouping::empties_now))]
 fn wait_empty<H: Host>(
@@ -173,11 +259,32 @@ fn wait_empty<H: Host>(
     Ok(false)
 }
 
+/// Ends a group at once, and waits for that for a while. A group that is empty is removed, if that can be done.
+#[tactic(auto, using(crate::proofs::Grouping::ended_in, crate::proofs::Grouping::may_live_told, crate::proofs::Grouping::may_live_lost))]
+fn end_now<H: Host>(alloc: Global, host: &H, grouped: &mut Grouped<H>) -> io::Result<bool>
+    ensures ended { IfOk result (λ done. done ≡ true → IsEndedIn H.facts (string_bytes grouped.old.group) grouped.old.process) }
+    ensures living { IfOk result (λ done. done ≡ false → MayLiveIn H.facts (string_bytes grouped.old.group) grouped.old.process) }
+    ensures lost { OnErr result (MayLiveIn H.facts (string_bytes grouped.old.group) grouped.old.process) }
+{
+    host.write(
+        alloc,
+        &mut grouped.process,
+        grouped.group.as_str(),
+        "/cgroup.kill",
+        "1",
+    )?;
+    let empty = wait_empty(alloc, host, &mut grouped.process, grouped.group.as_str())?;
+    if empty {
+        let _ = host.remove_folder(&mut grouped.process, grouped.group.as_str());
+    }
+    Ok(empty)
+}
+
 impl<H: Host> Contracts for Groups<H> {
     ghost use Rattle.std.specs.Prelude.{string_bytes};
     ghost use Rattle.smf_keeper.specs.Grouping.{IsEndedIn, IsGroupOf, IsLostIn, MayLiveIn, MayNotStart, StandsIn};
 
-    type Held = Grouped<H::Process>;
+    type Held = Grouped<H>;
 
     ghost facts = { record {
       is_of = λ launch held. IsGroupOf H.facts launch (string_bytes held.group) held.process;
@@ -196,11 +303,15 @@ impl<H: Host> Contracts for Groups<H> {
         restarter: &InstanceFmri,
         method: Method,
         instance: &InstanceFmri,
-    ) -> io::Result<Grouped<H::Process>> {
+    ) -> io::Result<Grouped<H>> {
+        let room = self.room.path();
         let group = path_in(self.alloc, self.group.as_str(), id)?;
+        let mark = path_in(self.alloc, room, id)?;
         self.host.make_folder(group.as_str())?;
         let program = grouped(
             self.alloc,
+            self.room.keeper(),
+            room,
             group.as_str(),
             command,
             restarter,
@@ -209,12 +320,18 @@ impl<H: Host> Contracts for Groups<H> {
             self.output,
         )?;
         let process = self.host.start(program)?;
-        Ok(Grouped { process, group })
+        Ok(Grouped {
+            process,
+            group,
+            mark,
+            asked: false,
+            logged: !self.room.is_gentle(),
+        })
     }
 
     /// A group that is empty is removed.
     #[tactic(auto, using(crate::proofs::Grouping::stands_runs, crate::proofs::Grouping::stands_left, crate::proofs::Grouping::stands_gone, crate::proofs::Grouping::lost_now, crate::proofs::Grouping::lost_then, crate::proofs::Grouping::lost_after))]
-    fn stand(&self, grouped: &mut Grouped<H::Process>) -> io::Result<Stand> {
+    fn stand(&self, grouped: &mut Grouped<H>) -> io::Result<Stand> {
         let Some(status) = self.host.look(&mut grouped.process)? else {
             return Ok(Stand::Runs);
         };
@@ -226,34 +343,20 @@ impl<H: Host> Contracts for Groups<H> {
             grouped.group.as_str(),
         )?;
         if some {
+            tell_end(self.alloc, &self.host, self.room.keeper(), grouped, status);
             return Ok(Stand::Left(end));
         }
         self.host
             .remove_folder(&mut grouped.process, grouped.group.as_str())?;
+        tell_end(self.alloc, &self.host, self.room.keeper(), grouped, status);
         Ok(Stand::Gone(end))
     }
 
-    /// A group that is empty is removed, if that can be done at once.
-    #[tactic(auto, using(crate::proofs::Grouping::ended_in, crate::proofs::Grouping::may_live_told, crate::proofs::Grouping::may_live_lost))]
-    fn end(&self, grouped: &mut Grouped<H::Process>) -> io::Result<bool> {
-        self.host.write(
-            self.alloc,
-            &mut grouped.process,
-            grouped.group.as_str(),
-            "/cgroup.kill",
-            "1",
-        )?;
-        let empty = wait_empty(
-            self.alloc,
-            &self.host,
-            &mut grouped.process,
-            grouped.group.as_str(),
-        )?;
-        if empty {
-            let _ = self
-                .host
-                .remove_folder(&mut grouped.process, grouped.group.as_str());
+    /// Where the room is gentle, a group is told once to end, and what is left of it is told the next time.
+    fn end(&self, grouped: &mut Grouped<H>) -> io::Result<bool> {
+        if self.room.is_gentle() {
+            return end_gently(self.alloc, &self.host, self.room.keeper(), grouped);
         }
-        Ok(empty)
+        end_now(self.alloc, &self.host, grouped)
     }
 }

@@ -89,7 +89,7 @@ fn has_ended<H: Host>(
     Ok(over)
 }
 
-/// Waits for a while until a keeper has ended and nothing is left, and says whether that is so.
+/// Waits for at most so many milliseconds until a keeper has ended and nothing is left, and says whether that is so.
 #[tactic(auto, using(crate::proofs::Later::not_later, crate::proofs::Later::later_on, crate::proofs::Keeping::ends_later))]
 fn wait_ended<H: Host>(
     alloc: Global,
@@ -97,17 +97,19 @@ fn wait_ended<H: Host>(
     ender: &str,
     keeper: &mut H::Process,
     mark: &str,
+    patience: u32,
 ) -> io::Result<bool>
     ensures ended { IfOk result (λ ended. ended ≡ true → EndsLater H.facts mark.now keeper.old) }
 {
-    for _ in 0..PATIENCE {
+    for _ in 0..patience {
         let ended = has_ended(alloc, host, ender, keeper, mark)?;
         if ended {
             return Ok(true);
         }
         host.pause();
     }
-    Ok(false)
+    let ended = has_ended(alloc, host, ender, keeper, mark)?;
+    Ok(ended)
 }
 
 /// How the first process ended, if its keeper told that. The file is read until then, and is removed.
@@ -211,9 +213,10 @@ impl<H: Host> Contracts for Keepers<H> {
         }
     }
 
-    /// It closes the keeper's standard input, and waits for its end for a while.
+    /// It closes the keeper's standard input, and waits for its end for a while; where the room is gentle, it does not wait.
     #[tactic(auto, using(crate::proofs::Keeping::ended_with, crate::proofs::Keeping::may_live))]
     fn end(&self, kept: &mut Kept<H>) -> io::Result<bool> {
+        let patience = if self.room.is_gentle() { 0 } else { PATIENCE };
         self.host.close(&mut kept.keeper);
         let ended = wait_ended(
             self.alloc,
@@ -221,6 +224,7 @@ impl<H: Host> Contracts for Keepers<H> {
             self.room.ender(),
             &mut kept.keeper,
             kept.mark.as_str(),
+            patience,
         )?;
         if ended {
             self.host.forget(kept.mark.as_str());

@@ -3,7 +3,6 @@ ghost use Rattle.std.specs.Prelude.{◌≡◌, ◌++◌, IfOk, OnOk, ℕ, List, 
 ghost use Rattle.std.specs.Fmt.{decimal};
 ghost use Rattle.std.specs.Process.{SameEnv, SameOtherVars, SameProgramAndArgs, clears_env, command_args, command_program, command_var};
 ghost use Rattle.smf_edge.specs.Shell.{IsOther, by_shell};
-ghost use Rattle.smf_keeper.specs.Words.{into_group};
 ghost use Rattle.smf_method.specs.Tokens.{method_text};
 
 use smf_contract::Method;
@@ -40,7 +39,7 @@ fn set(program: &mut Program, name: &str, value: &str) -> Result<(), AllocError>
     Ok(())
 }
 
-/// The shell with a command, behind the words of a keeper, with no variables.
+/// The shell with a command, after the words of a keeper, with no variables.
 fn bare(
     alloc: Global,
     keeper: &str,
@@ -104,26 +103,6 @@ pub(crate) fn keeper(
     Ok(program)
 }
 
-/// The words by which the shell goes into a group before it becomes the command's shell, in a session of its own.
-const INTO_GROUP: &str =
-    "echo $$ > \"$0/cgroup.procs\" || exit 126; exec /usr/bin/setsid /bin/sh -c \"$1\"";
-
-/// The shell with a command, which it runs in a group, with no variables.
-fn bare_grouped(alloc: Global, group: &str, command: &Command) -> Result<Program, AllocError>
-    ensures clears { IfOk result (λ c. clears_env c ≡ true) }
-    ensures program { IfOk result (λ c. command_program c ≡ codes "/bin/sh") }
-    ensures args { IfOk result (λ c. command_args c ≡ codes "-c" ∷ into_group ∷ group.now ∷ command.now ∷ []) }
-    ensures vars { IfOk result (λ c. (variable : List ℕ) → command_var c variable ≡ None) }
-{
-    let mut program = Program::new(alloc, "/bin/sh")?;
-    program.arg("-c")?;
-    program.arg(INTO_GROUP)?;
-    program.arg(group)?;
-    program.arg(command.as_str())?;
-    program.env_clear();
-    Ok(program)
-}
-
 /// An empty standard input, and one stream for what is written.
 fn wire_empty(program: &mut Program, output: Stderr)
     ensures call { SameProgramAndArgs program.old program.new }
@@ -134,9 +113,11 @@ fn wire_empty(program: &mut Program, output: Stderr)
     program.stderr(output);
 }
 
-/// A command by the shell in a group, with these variables alone. What it writes goes to one stream.
+/// What becomes a command by the shell in a group, with these variables alone. What it writes goes to one stream.
 pub(crate) fn grouped(
     alloc: Global,
+    keeper: &str,
+    room: &str,
     group: &str,
     command: &Command,
     restarter: &InstanceFmri,
@@ -145,15 +126,15 @@ pub(crate) fn grouped(
     output: Stderr,
 ) -> Result<Program, AllocError>
     ensures clears { IfOk result (λ c. clears_env c ≡ true) }
-    ensures program { IfOk result (λ c. command_program c ≡ codes "/bin/sh") }
-    ensures args { IfOk result (λ c. command_args c ≡ codes "-c" ∷ into_group ∷ group.now ∷ command.now ∷ []) }
+    ensures program { IfOk result (λ c. command_program c ≡ codes "/usr/bin/perl") }
+    ensures args { IfOk result (λ c. command_args c ≡ keeper.now ∷ room.now ∷ group.now ∷ by_shell command.now) }
     ensures path { IfOk result (λ c. command_var c (codes "PATH") ≡ Some (Some (codes "/usr/sbin:/usr/bin:/sbin:/bin"))) }
     ensures fmri { IfOk result (λ c. command_var c (codes "SMF_FMRI") ≡ Some (Some instance.now)) }
     ensures method { IfOk result (λ c. command_var c (codes "SMF_METHOD") ≡ Some (Some (method_text method))) }
     ensures restarter { IfOk result (λ c. command_var c (codes "SMF_RESTARTER") ≡ Some (Some restarter.now)) }
     ensures alone { IfOk result (λ c. (variable : List ℕ) → IsOther variable → command_var c variable ≡ None) }
 {
-    let mut program = bare_grouped(alloc, group, command)?;
+    let mut program = bare(alloc, keeper, room, group, command)?;
     set(&mut program, "PATH", "/usr/sbin:/usr/bin:/sbin:/bin")?;
     set(&mut program, "SMF_FMRI", instance.print())?;
     set(&mut program, "SMF_METHOD", method_text(method))?;

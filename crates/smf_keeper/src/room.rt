@@ -37,6 +37,8 @@ pub struct Room {
     path: String,
     keeper: String,
     ender: String,
+    /// Whether contracts have time to end, and nobody waits for them.
+    gentle: bool,
     /// It is locked as long as it is open.
     lock: File,
 }
@@ -85,8 +87,27 @@ impl Room {
             path,
             keeper,
             ender,
+            gentle: false,
             lock,
         })
+    }
+
+    /// From now on contracts end gently. What methods write goes into logs in a folder, unless its name is empty.
+    pub fn stay<R: Files<File = File>>(
+        &mut self,
+        alloc: Global,
+        rt: &R,
+        logs: &str,
+    ) -> io::Result<()> {
+        let note = format!(in alloc; "{}/log", self.path.as_str())?;
+        fs::write(rt, note.as_str(), logs)?;
+        self.gentle = true;
+        Ok(())
+    }
+
+    /// Whether contracts have time to end, and nobody waits for them.
+    pub fn is_gentle(&self) -> bool {
+        self.gentle
     }
 
     pub fn path(&self) -> &str {

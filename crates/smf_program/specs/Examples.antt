@@ -3,7 +3,7 @@ use Rattle.std.specs.Prelude.{◌≡◌, ℕ, List, [], ◌∷◌, codes, Some, 
 use Rattle.clap.specs.Words.{fault_of}
 use Rattle.clap.specs.declared.error.kind.ErrorKind.TheVariants as kinds
 use Rattle.smf_program.specs.Tasks.{task_of}
-use Rattle.smf_program.specs.Tasks.TaskTexts.{Sim, Run, Cfg, Serve, Tick, Why}
+use Rattle.smf_program.specs.Tasks.TaskTexts.{Sim, Run, Cfg, Check, Serve, Tick, Why}
 use Rattle.smf_program.specs.Words.{smf_app}
 
 -- the program's name is the first of its words
@@ -35,7 +35,10 @@ ServersAreRead =
     × (task_of (smf (codes "tick" ∷ codes "room/wake" ∷ codes "100" ∷ [])) ≡ Some (Tick (codes "room/wake") (codes "100")))
 
 abbrev pub QuestionsAreRead : Type 0
-QuestionsAreRead = task_of (smf (codes "why" ∷ codes "a.db" ∷ [])) ≡ Some (Why (codes "a.db"))
+QuestionsAreRead =
+    (task_of (smf (codes "why" ∷ codes "a.db" ∷ [])) ≡ Some (Why (codes "a.db") []))
+    × (task_of (smf (codes "why" ∷ codes "a.db" ∷ codes "web" ∷ codes "db" ∷ [])) ≡ Some (Why (codes "a.db") (codes "web" ∷ codes "db" ∷ [])))
+    × (task_of (smf (codes "check" ∷ codes "a.db" ∷ [])) ≡ Some (Check (codes "a.db")))
 
 abbrev pub DatabaseIsWanted : Type 0
 DatabaseIsWanted =
@@ -50,6 +53,7 @@ OthersAreRefused =
     × (task_of (smf (codes "walk" ∷ [])) ≡ None)
     × (task_of (smf (codes "sim" ∷ codes "a.db" ∷ codes "b.db" ∷ [])) ≡ None)
     × (task_of (smf (codes "run" ∷ codes "a.db" ∷ codes "b.db" ∷ [])) ≡ None)
+    × (task_of (smf (codes "check" ∷ codes "a.db" ∷ codes "web" ∷ [])) ≡ None)
     × (task_of (smf (codes "sim" ∷ codes "--follow" ∷ codes "a.db" ∷ [])) ≡ None)
 
 abbrev pub HelpIsShown : Type 0

@@ -1,7 +1,7 @@
 -- What the words of the program ask for.
-use Rattle.std.specs.Prelude.{ℕ, List, [], ◌∷◌, Bool, nat_eq, codes, if◌then◌else◌, Option, Some, None, option_map}
+use Rattle.std.specs.Prelude.{ℕ, List, [], ◌∷◌, map, Bool, nat_eq, codes, if◌then◌else◌, Option, Some, None, option_map, unwrap_or}
 use Rattle.std.specs.Cmp.Lexicographic.{pointwise}
-use Rattle.clap.specs.Words.{Kinds, Row, fault_of, first_of, found_of, rows_of, subcommand_of}
+use Rattle.clap.specs.Words.{Kinds, Row, all_of, fault_of, first_of, found_of, rows_of, subcommand_of}
 use Rattle.clap.specs.declared.parser.matches.ArgMatches.{ArgMatches}
 use Rattle.smf_program.specs.declared.task.Task.{Task}
 use Rattle.smf_program.specs.declared.task.Task.TheVariants as tasks
@@ -13,7 +13,8 @@ pub data TaskTexts : Type 0 where
   Run : Bool → List ℕ → TaskTexts
   Cfg : Option (List ℕ) → List ℕ → TaskTexts
   Serve : List ℕ → List ℕ → TaskTexts
-  Why : List ℕ → TaskTexts
+  Why : List ℕ → List (List ℕ) → TaskTexts
+  Check : List ℕ → TaskTexts
   Tick : List ℕ → List ℕ → TaskTexts
 
 abbrev pub texts_of : Task → TaskTexts
@@ -21,7 +22,8 @@ texts_of (tasks.Sim database) = Sim (option_map (λ s. s.now) database)
 texts_of (tasks.Run follow database) = Run follow database.now
 texts_of (tasks.Cfg lines database) = Cfg (option_map (λ s. s.now) lines) database.now
 texts_of (tasks.Serve folder database) = Serve folder.now database.now
-texts_of (tasks.Why database) = Why database.now
+texts_of (tasks.Why database words) = Why database.now (map (λ w. w.now) words.items)
+texts_of (tasks.Check database) = Check database.now
 texts_of (tasks.Tick pipe pause) = Tick pipe.now pause.now
 
 abbrev pub rows_in : ArgMatches → List Row
@@ -44,8 +46,15 @@ both task (Some first) second = option_map (task first) second
 abbrev pub serve_in : List Row → Option TaskTexts
 serve_in rows = both Serve (first_of (codes "RUN") rows) (first_of (codes "DB") rows)
 
+-- the words that mean instances, none if there are none
+abbrev pub words_in : List Row → List (List ℕ)
+words_in rows = unwrap_or (all_of (codes "FMRI") rows) []
+
 abbrev pub why_in : List Row → Option TaskTexts
-why_in rows = option_map Why (first_of (codes "DB") rows)
+why_in rows = option_map (λ database. Why database (words_in rows)) (first_of (codes "DB") rows)
+
+abbrev pub check_in : List Row → Option TaskTexts
+check_in rows = option_map Check (first_of (codes "DB") rows)
 
 abbrev pub tick_in : List Row → Option TaskTexts
 tick_in rows = both Tick (first_of (codes "PIPE") rows) (first_of (codes "MS") rows)
@@ -58,6 +67,7 @@ task_at name rows =
     else if pointwise nat_eq name (codes "cfg") then cfg_in rows
     else if pointwise nat_eq name (codes "serve") then serve_in rows
     else if pointwise nat_eq name (codes "why") then why_in rows
+    else if pointwise nat_eq name (codes "check") then check_in rows
     else if pointwise nat_eq name (codes "tick") then tick_in rows
     else None
 

@@ -3,7 +3,7 @@ use Rattle.std.specs.Prelude.{ℕ, List, Bool, true, false, codes, Some}
 use Rattle.std.specs.Option.{option_map_or}
 use Rattle.std.specs.Str.{bytes_eq}
 use Rattle.clap.specs.Words.{App, Row, Rule, first_of, new_app, new_rule, with_rule, with_subcommand}
-use Rattle.clap.specs.declared.builder.ArgAction.TheVariants.{SetTrue}
+use Rattle.clap.specs.declared.builder.ArgAction.TheVariants.{Append, SetTrue}
 use Rattle.clap.specs.Simple.{on_top}
 
 -- `-f FILE`
@@ -38,8 +38,15 @@ folder_rule = record (new_rule (codes "RUN")) { required = true }
 abbrev pub serve_app : App
 serve_app = with_rule (with_rule (new_app (codes "serve")) folder_rule) database_rule
 
+-- the words that mean instances, as many as there are
+abbrev pub fmri_rule : Rule
+fmri_rule = record (new_rule (codes "FMRI")) { action = Some Append }
+
 abbrev pub why_app : App
-why_app = with_rule (new_app (codes "why")) database_rule
+why_app = with_rule (with_rule (new_app (codes "why")) database_rule) fmri_rule
+
+abbrev pub check_app : App
+check_app = with_rule (new_app (codes "check")) database_rule
 
 -- a pipe, and how many milliseconds are between two lines
 abbrev pub pipe_rule : Rule
@@ -51,7 +58,7 @@ pause_rule = record (new_rule (codes "MS")) { required = true }
 abbrev pub tick_app : App
 tick_app = with_rule (with_rule (new_app (codes "tick")) pipe_rule) pause_rule
 
--- one of the six has to be named
+-- one of the seven has to be named
 abbrev pub bare_app : App
 bare_app = on_top (λ s. record s { subcommand_required = true }) (new_app (codes "smf"))
 
@@ -59,8 +66,10 @@ unfoldable pub smf_app : App
 smf_app =
     with_subcommand
     (with_subcommand
+    (with_subcommand
     (with_subcommand (with_subcommand (with_subcommand (with_subcommand bare_app sim_app.top) run_app.top) cfg_app.top) serve_app.top)
     why_app.top)
+    check_app.top)
     tick_app.top
 
 -- whether a flag was found

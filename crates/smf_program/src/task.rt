@@ -3,15 +3,15 @@ ghost use Rattle.std.specs.String.{string_bytes};
 ghost use Rattle.clap.specs.Words.{HasKind, app_of, fault_of, is_simple, is_simple_and_free, subcommand_of, subcommand_rows_of};
 ghost use Rattle.smf_program.specs.Refusals.{IsWhy};
 ghost use Rattle.smf_program.specs.Words.{is_set};
-ghost use Rattle.smf_program.specs.Tasks.{cfg_in, rows_in, run_in, serve_in, sim_in, task_at, task_in, task_of, texts_of, tick_in, why_in};
+ghost use Rattle.smf_program.specs.Tasks.{cfg_in, check_in, rows_in, run_in, serve_in, sim_in, task_at, task_in, task_of, texts_of, tick_in, why_in, words_in};
 
 use crate::refusal::{Refusal, refusal_of};
 use crate::words::smf_command;
 use clap::{ArgMatches, Command, Error};
-use std::alloc::Global;
+use std::alloc::{AllocError, Global};
 
 /// What the program's words ask for.
-#[derive(Clone, Copy)]
+#[derive(Drop)]
 pub enum Task<'a> {
     /// A script in memory: over nothing, or over what the database in a file holds, which is only read.
     Sim {
@@ -32,8 +32,14 @@ pub enum Task<'a> {
         folder: &'a str,
         database: &'a str,
     },
-    /// Why instances that the database in a file has do not run. It is only read.
+    /// Why instances that the database in a file has do not run: those that words mean, or all without words. It is only
+    /// read.
     Why {
+        database: &'a str,
+        words: Vec<&'a str>,
+    },
+    /// What is wrong of the instances that the database in a file has. It is only read.
+    Check {
         database: &'a str,
     },
     /// A line into a pipe every so many milliseconds, of which this is the text.
@@ -92,11 +98,42 @@ fn serve_in<'a>(found: &ArgMatches<'a>) -> Option<Task<'a>>
     }
 }
 
-fn why_in<'a>(found: &ArgMatches<'a>) -> Option<Task<'a>>
-    ensures { option_map texts_of result ≡ why_in (rows_in found.now) }
+/// The words that mean instances.
+fn words_in<'a>(alloc: Global, found: &ArgMatches<'a>) -> Result<Vec<&'a str>, AllocError>
+    ensures { IfOk result (λ all. map (λ w. w.now) all.items ≡ words_in (rows_in found.now)) }
+{
+    match found.get_strs("FMRI") {
+        None => Ok(Vec::new(alloc)),
+        Some(words) => copied(alloc, words),
+    }
+}
+
+/// The same words.
+fn copied<'a>(alloc: Global, words: &[&'a str]) -> Result<Vec<&'a str>, AllocError>
+    ensures { IfOk result (λ all. map (λ w. w.now) all.items ≡ map (λ w. w.now) words.now) }
+{
+    let mut all = Vec::new(alloc);
+    for word in words {
+        all.push(*word)?;
+    }
+    Ok(all)
+}
+
+fn why_in<'a>(alloc: Global, found: &ArgMatches<'a>) -> Result<Option<Task<'a>>, AllocError>
+    ensures { IfOk result (λ task. option_map texts_of task ≡ why_in (rows_in found.now)) }
+{
+    let words = words_in(alloc, found)?;
+    match found.get_str("DB") {
+        Some(database) => Ok(Some(Task::Why { database, words })),
+        None => Ok(None),
+    }
+}
+
+fn check_in<'a>(found: &ArgMatches<'a>) -> Option<Task<'a>>
+    ensures { option_map texts_of result ≡ check_in (rows_in found.now) }
 {
     match found.get_str("DB") {
-        Some(database) => Some(Task::Why { database }),
+        Some(database) => Some(Task::Check { database }),
         None => None,
     }
 }
@@ -114,31 +151,40 @@ fn tick_in<'a>(found: &ArgMatches<'a>) -> Option<Task<'a>>
 }
 
 /// The task of a subcommand, by its name and what clap found behind it.
-fn task_at<'a>(name: &str, found: &ArgMatches<'a>) -> Option<Task<'a>>
-    ensures { option_map texts_of result ≡ task_at name.now (rows_in found.now) }
+fn task_at<'a>(
+    alloc: Global,
+    name: &str,
+    found: &ArgMatches<'a>,
+) -> Result<Option<Task<'a>>, AllocError>
+    ensures { IfOk result (λ task. option_map texts_of task ≡ task_at name.now (rows_in found.now)) }
 {
     match name {
-        "sim" => sim_in(found),
-        "run" => run_in(found),
-        "cfg" => cfg_in(found),
-        "serve" => serve_in(found),
-        "why" => why_in(found),
-        "tick" => tick_in(found),
-        _ => None,
+        "sim" => Ok(sim_in(found)),
+        "run" => Ok(run_in(found)),
+        "cfg" => Ok(cfg_in(found)),
+        "serve" => Ok(serve_in(found)),
+        "why" => why_in(alloc, found),
+        "check" => Ok(check_in(found)),
+        "tick" => Ok(tick_in(found)),
+        _ => Ok(None),
     }
 }
 
-fn task_in<'a>(found: &ArgMatches<'a>) -> Option<Task<'a>>
-    ensures { option_map texts_of result ≡ task_in (subcommand_rows_of found.now) }
+fn task_in<'a>(alloc: Global, found: &ArgMatches<'a>) -> Result<Option<Task<'a>>, AllocError>
+    ensures { IfOk result (λ task. option_map texts_of task ≡ task_in (subcommand_rows_of found.now)) }
 {
     match found.subcommand() {
-        Some((name, inside)) => task_at(name, inside),
-        None => None,
+        Some((name, inside)) => task_at(alloc, name, inside),
+        None => Ok(None),
     }
 }
 
 /// The task that clap reads, by a command that takes the words.
-fn parsed_by<'a>(command: Command<'a>, words: &'a [String]) -> Result<Option<Task<'a>>, Error>
+fn parsed_by<'a>(
+    alloc: Global,
+    command: Command<'a>,
+    words: &'a [String],
+) -> Result<Option<Task<'a>>, Error>
     requires simple { IsTrue (is_simple (app_of command)) }
     requires free { IsTrue (is_simple_and_free (app_of command)) }
     ensures taken { IfOk result (λ _. fault_of (app_of command.entry) (map string_bytes words.entry.now) ≡ []) }
@@ -147,7 +193,8 @@ fn parsed_by<'a>(command: Command<'a>, words: &'a [String]) -> Result<Option<Tas
     ensures err { IfErr result (λ e. HasKind (fault_of (app_of command.entry) (map string_bytes words.entry.now)) e) }
 {
     let found = command.try_get_matches_from(words)?;
-    Ok(task_in(&found))
+    let task = task_in(alloc, &found)?;
+    Ok(task)
 }
 
 /// Reads the program's words, of which the first is its name. Where no task is read, the refusal says why.
@@ -159,7 +206,7 @@ pub fn read_task<'a>(alloc: Global, words: &'a [String]) -> Result<Task<'a>, Ref
         Ok(command) => command,
         Err(_) => return Err(Refusal::Memory),
     };
-    match parsed_by(command, words) {
+    match parsed_by(alloc, command, words) {
         Ok(Some(task)) => Ok(task),
         Ok(None) => Err(Refusal::BadUsage(String::new(alloc))),
         Err(e) => Err(refusal_of(alloc, &e)),

@@ -1,7 +1,7 @@
 ghost use Rattle.std.specs.Prelude.{◌≡◌, IfOk, false};
 ghost use Rattle.clap.specs.Words.{app_of, rule_of};
 ghost use Rattle.clap.specs.declared.builder.command.Command.TheViews.{out-Command as fields_of};
-ghost use Rattle.smf_program.specs.Words.{bare_app, cfg_app, database_rule, file_rule, folder_rule, follow_rule, pause_rule, pipe_rule, read_rule, run_app, serve_app, sim_app, smf_app, tick_app, why_app};
+ghost use Rattle.smf_program.specs.Words.{bare_app, cfg_app, check_app, database_rule, file_rule, fmri_rule, folder_rule, follow_rule, pause_rule, pipe_rule, read_rule, run_app, serve_app, sim_app, smf_app, tick_app, why_app};
 
 use clap::{Arg, ArgAction, Command};
 use std::alloc::{AllocError, Global};
@@ -91,12 +91,31 @@ fn serve_command<'a>(alloc: Global) -> Result<Command<'a>, AllocError>
     Ok(command)
 }
 
+/// The words that mean instances.
+fn fmris<'a>(alloc: Global) -> Arg<'a>
+    ensures rule { rule_of result ≡ fmri_rule }
+    ensures local { result.global ≡ false }
+{
+    Arg::new(alloc, "FMRI").action(ArgAction::Append)
+}
+
 fn why_command<'a>(alloc: Global) -> Result<Command<'a>, AllocError>
     ensures app { IfOk result (λ c. app_of c ≡ why_app) }
     ensures local { IfOk result (λ c. (fields_of c).has_globals ≡ false) }
 {
     let command = Command::new(alloc, "why")
         .about("Tells why instances of a database do not run though they are enabled")
+        .arg(database(alloc))?
+        .arg(fmris(alloc))?;
+    Ok(command)
+}
+
+fn check_command<'a>(alloc: Global) -> Result<Command<'a>, AllocError>
+    ensures app { IfOk result (λ c. app_of c ≡ check_app) }
+    ensures local { IfOk result (λ c. (fields_of c).has_globals ≡ false) }
+{
+    let command = Command::new(alloc, "check")
+        .about("Tells what is wrong of the instances of a database before they are started")
         .arg(database(alloc))?;
     Ok(command)
 }
@@ -134,8 +153,8 @@ fn bare_command<'a>(alloc: Global) -> Command<'a>
 }
 
 /// The program as clap knows it: `sim` with or without a database, `run` with one, for which contracts may be followed,
-/// `cfg` with one and, after `-f`, a file of lines, `serve` with a folder and a database, `why` with a database, or `tick`
-/// with a pipe and milliseconds.
+/// `cfg` with one and, after `-f`, a file of lines, `serve` with a folder and a database, `why` with a database and words
+/// that mean instances, `check` with a database, or `tick` with a pipe and milliseconds.
 pub(crate) fn smf_command<'a>(alloc: Global) -> Result<Command<'a>, AllocError>
     ensures { IfOk result (λ c. app_of c ≡ smf_app) }
 {
@@ -144,6 +163,7 @@ pub(crate) fn smf_command<'a>(alloc: Global) -> Result<Command<'a>, AllocError>
     let cfg = cfg_command(alloc)?;
     let serve = serve_command(alloc)?;
     let why = why_command(alloc)?;
+    let check = check_command(alloc)?;
     let tick = tick_command(alloc)?;
     let command = bare_command(alloc)
         .subcommand(sim)?
@@ -151,6 +171,7 @@ pub(crate) fn smf_command<'a>(alloc: Global) -> Result<Command<'a>, AllocError>
         .subcommand(cfg)?
         .subcommand(serve)?
         .subcommand(why)?
+        .subcommand(check)?
         .subcommand(tick)?;
     Ok(command)
 }

@@ -32,10 +32,10 @@ use Rattle.smf_reasons.specs.Holding.{Holds, IsAmong, IsErrand, IsOrdered}
 use Rattle.smf_reasons.specs.Reasons.{IsReasons, quiet, given, NamesCycle, on_none, on_one, errand, group_met, group_read, in_maintenance, in_the_way, method_read, methods_read, of_cycle, of_group, of_restarter, ordered, restarter_met, restarter_read, snapshot_read, standings, start_read, under_way}
 use Rattle.smf_reasons.proofs.Nil.{unless}
 
-abbrev AllHold : View → ViewItem → List Reason → Type 0
+abbrev pub AllHold : View → ViewItem → List Reason → Type 0
 AllHold v i rs = AllByRecursion (Holds v i) rs
 
-both : (v : View) (i : ViewItem) (xs ys : List Reason) → AllHold v i xs → AllHold v i ys → AllHold v i (xs ++ ys)
+pub both : (v : View) (i : ViewItem) (xs ys : List Reason) → AllHold v i xs → AllHold v i ys → AllHold v i (xs ++ ys)
 both v i [] ys p q = q
 both v i (x ∷ xs) ys p q = (p.0, both v i xs ys p.1 q)
 
@@ -64,23 +64,23 @@ state_holds v i states.Online e = tt
 state_holds v i states.Degraded e = tt
 state_holds v i states.Maintenance e = (e, tt)
 
-readable_holds : (v : View) (i : ViewItem) (b : Bool) → i.readable ≡ b → AllHold v i (restarter_read b)
+pub readable_holds : (v : View) (i : ViewItem) (b : Bool) → i.readable ≡ b → AllHold v i (restarter_read b)
 readable_holds v i true e = tt
 readable_holds v i false e = (e, tt)
 
-snapshot_holds : (v : View) (i : ViewItem) (s : Result Snapshot BodyFault) → snapshot_in i.body ≡ s → AllHold v i (snapshot_read s)
+pub snapshot_holds : (v : View) (i : ViewItem) (s : Result Snapshot BodyFault) → snapshot_in i.body ≡ s → AllHold v i (snapshot_read s)
 snapshot_holds v i (Ok s) e = tt
 snapshot_holds v i (Err fault) e = ((fault, e), tt)
 
 -- ---- groups
 
 -- one dependency at most
-abbrev IsShort : List Dependency → Type 0
+abbrev pub IsShort : List Dependency → Type 0
 IsShort [] = Unit {0}
 IsShort (d ∷ []) = Unit {0}
 IsShort (d ∷ e ∷ ds) = ⊥
 
-abbrev IsShortRead : Result (List Dependency) DependencyFault → Type 0
+abbrev pub IsShortRead : Result (List Dependency) DependencyFault → Type 0
 IsShortRead (Ok ds) = IsShort ds
 IsShortRead (Err fault) = Unit {0}
 
@@ -92,7 +92,7 @@ short_with : (g : GroupRecord) (b : Bool) → IsShortRead (with_group b g (Ok []
 short_with g true = short_read (dependency_of g)
 short_with g false = tt
 
-short_alone : (g : GroupRecord) → IsShortRead (read_groups (g ∷ []))
+pub short_alone : (g : GroupRecord) → IsShortRead (read_groups (g ∷ []))
 unfolding read_groups
 short_alone g = short_with g (is_dependency g)
 
@@ -134,7 +134,7 @@ wanted_holds v i (d ∷ []) short e =
     both v i (restarter_met (members v.items) d) [] (off_holds v i d e (is_met (members v.items) d) refl) tt
 wanted_holds v i (d ∷ d' ∷ ds) short e = absurd short
 
-abbrev want_unless : Bool → Dependency → List Dependency
+abbrev pub want_unless : Bool → Dependency → List Dependency
 want_unless b d = if b then [] else d ∷ []
 
 short_want : (b : Bool) (d : Dependency) → IsShort (want_unless b d)
@@ -158,7 +158,7 @@ method_holds : (v : View) (i : ViewItem) (method : Method) (r : MethodRead) → 
 method_holds v i method (Ok read) e = tt
 method_holds v i method (Err fault) e = (e, tt)
 
-methods_hold : (v : View) (i : ViewItem) → AllHold v i (methods_read i.row.owner i.name (member_of i).composed)
+pub methods_hold : (v : View) (i : ViewItem) → AllHold v i (methods_read i.row.owner i.name (member_of i).composed)
 methods_hold v i =
     let gs = (member_of i).composed in
     let start = method_by i.row.owner i.name gs methods.Start in
@@ -170,7 +170,7 @@ methods_hold v i =
 
 -- ---- cycles
 
-cycle_holds : (v : View) (i : ViewItem) (names : List (List ℕ)) → NamesCycle (members v.items) (member_of i) names → AllHold v i (of_cycle names)
+pub cycle_holds : (v : View) (i : ViewItem) (names : List (List ℕ)) → NamesCycle (members v.items) (member_of i) names → AllHold v i (of_cycle names)
 cycle_holds v i names (on_none off e) = subst (λ ns. AllHold v i (of_cycle ns)) (sym e) tt
 cycle_holds v i names (on_one path cycle e) =
     subst (λ ns. AllHold v i (of_cycle ns)) (sym e) (record { path = path; cycle = cycle; named = refl }, tt)

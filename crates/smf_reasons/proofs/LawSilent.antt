@@ -24,11 +24,11 @@ use Rattle.smf_reasons.proofs.Starting.{decided_start, fit, fit_parts, order_som
 
 -- ---- the words that do not unfold by themselves
 
-groups_are : (i : ViewItem) → (member_of i).composed ≡ composed_in (snapshot_in i.body)
+pub groups_are : (i : ViewItem) → (member_of i).composed ≡ composed_in (snapshot_in i.body)
 unfolding member_of
 groups_are i = refl
 
-needs_are : (i : ViewItem) → (member_of i).dependencies ≡ dependencies_in i.row.owner (snapshot_in i.body)
+pub needs_are : (i : ViewItem) → (member_of i).dependencies ≡ dependencies_in i.row.owner (snapshot_in i.body)
 unfolding member_of
 needs_are i = refl
 

@@ -8,3 +8,5 @@ mod Reasoned
 mod Saying
 mod Pieces
 mod Leading
+mod Flawed
+mod LawFlaws

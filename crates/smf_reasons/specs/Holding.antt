@@ -1,5 +1,5 @@
 -- What each reason says, and when there is none.
-use Rattle.std.specs.Prelude.{◌≡◌, ◌⊎◌, ℕ, List, [], ◌∷◌, false, true, Option, Some, None, Ok, Err, find}
+use Rattle.std.specs.Prelude.{◌≡◌, ◌≢◌, ◌⊎◌, ℕ, List, [], ◌∷◌, false, true, Option, Some, None, Ok, Err, find}
 use Rattle.smf_contract.specs.declared.cookie.Method.TheVariants as methods
 use Rattle.smf_state.specs.declared.state.State.{State}
 use Rattle.smf_state.specs.declared.state.State.TheVariants as states
@@ -15,15 +15,16 @@ use Rattle.smf_dep.specs.declared.dependency.Dependency.{Dependency}
 use Rattle.smf_dep.specs.declared.dependency.Grouping.{Grouping}
 use Rattle.smf_dep.specs.declared.fault.DependencyFault.{DependencyFault}
 use Rattle.smf_dep.specs.declared.member.Member.{Member}
-use Rattle.smf_dep.specs.Cycles.{IsCycle}
+use Rattle.smf_dep.specs.Cycles.{IsCycle, on_cycle}
 use Rattle.smf_dep.specs.Members.{implicit, member_of, members, snapshot_in}
-use Rattle.smf_dep.specs.Methods.{method_by}
+use Rattle.smf_dep.specs.Methods.{has_unfit_methods, method_by}
 use Rattle.smf_dep.specs.Requirements.{read_groups}
 use Rattle.smf_dep.specs.Verdicts.{is_met}
 use Rattle.smf_engine.specs.Orders.{decided, is_about}
 use Rattle.smf_reasons.specs.declared.reason.Reason.{Reason}
 use Rattle.smf_reasons.specs.declared.reason.Reason.TheVariants as reasons
 use Rattle.smf_reasons.specs.declared.reason.Standing.{Standing}
+use Rattle.smf_reasons.specs.Checking.{absent_of, all_there}
 use Rattle.smf_reasons.specs.Reasons.{standings}
 use Rattle.smf_reasons.specs.Ways.{names_of}
 
@@ -45,6 +46,13 @@ IsSeen v i = find (is_about i.instance) v.items ≡ Some i
 -- it is not enabled, it runs, or svc.startd's graph orders its start
 abbrev pub IsFine : View → ViewItem → Type 0
 IsFine v i = (i.enabled ≡ false) ⊎ ((runs i.row.state ≡ true) ⊎ IsStart (decided (Some v) i.instance))
+
+-- all that its restarter, its groups and its methods are to say can be read, what it wants is there, and it is on no cycle
+pub record IsFlawless (v : View) (i : ViewItem) : Type 0 where
+  pub restarter : i.readable ≡ true
+  pub dependencies : all_there (members v.items) (member_of i).dependencies ≡ true
+  pub methods : has_unfit_methods i.row.owner i.name (member_of i).composed ≡ false
+  pub cycle : on_cycle (members v.items) (member_of i) ≡ false
 
 -- ---- what a reason says
 
@@ -81,6 +89,17 @@ pub record IsUnmet (ms : List Member) (gs : List GroupRecord) (name : List ℕ) 
   pub grouped : dependency.grouping ≡ grouping
   pub standing : standings ms dependency ≡ stood
 
+-- one of the groups, of this name, wants these entities, which name nothing
+pub record IsLost (ms : List Member) (gs : List GroupRecord) (name : List ℕ) (grouping : Grouping) (stood : List Standing) : Type 0 where
+  pub group : GroupRecord
+  pub among : IsAmong group gs
+  pub named : group.name ≡ name
+  pub dependency : Dependency
+  pub asked : read_groups (group ∷ []) ≡ Ok (dependency ∷ [])
+  pub grouped : dependency.grouping ≡ grouping
+  pub standing : absent_of ms dependency ≡ stood
+  pub some : stood ≢ []
+
 -- what it wants of its restarter is not met
 pub record IsOff (ms : List Member) (owner : List ℕ) (stood : List Standing) : Type 0 where
   pub dependency : Dependency
@@ -102,6 +121,7 @@ Holds v i reasons.UnreadableRestarter = i.readable ≡ false
 Holds v i reasons.UnreadableSnapshot = (fault : BodyFault) × (snapshot_in i.body ≡ Err fault)
 Holds v i (reasons.UnreadableGroup group fault) = IsUnreadable (member_of i).composed group fault
 Holds v i (reasons.NotMet group grouping stood) = IsUnmet (members v.items) (member_of i).composed group grouping stood
+Holds v i (reasons.NamesNothing group grouping stood) = IsLost (members v.items) (member_of i).composed group grouping stood
 Holds v i (reasons.RestarterIsOff stood) = IsOff (members v.items) i.row.owner stood
 Holds v i reasons.NoStartMethod = method_by i.row.owner i.name (member_of i).composed methods.Start ≡ Ok None
 Holds v i (reasons.UnreadableMethod method fault) = method_by i.row.owner i.name (member_of i).composed method ≡ Err fault

@@ -69,6 +69,7 @@ words reasons.UnreadableRestarter = codes "Property general/restarter can't be r
 words reasons.UnreadableSnapshot = codes "Snapshot running can't be read."
 words (reasons.UnreadableGroup group fault) = codes "Dependency group " ++ group ++ codes " can't be read (" ++ property_text fault ++ codes ")."
 words (reasons.NotMet group grouping standings) = codes "Dependency " ++ standings_text standings ++ codes " (group " ++ group ++ codes ", " ++ grouping_text grouping ++ codes ")."
+words (reasons.NamesNothing group grouping standings) = codes "Dependency " ++ standings_text standings ++ codes " (group " ++ group ++ codes ", " ++ grouping_text grouping ++ codes ")."
 words (reasons.RestarterIsOff standings) = codes "Restarter " ++ standings_text standings ++ codes "."
 words reasons.NoStartMethod = codes "Method start is missing."
 words (reasons.UnreadableMethod method fault) = codes "Method " ++ method_text method ++ codes " can't be read (" ++ part_text fault ++ codes ")."
@@ -94,3 +95,19 @@ told_text t = block_if t t.reasons
 
 abbrev pub text_of : List Told → List ℕ
 text_of all = flat_map told_text all
+
+-- ---- what is wrong
+
+-- the block of an instance that was checked, whose state says nothing
+abbrev pub check_block : Told → List ℕ
+check_block t = t.name ++ line_end ++ flat_map reason_line t.reasons ++ line_end
+
+abbrev pub check_block_if : Told → List Reason → List ℕ
+check_block_if t [] = []
+check_block_if t (r ∷ rs) = check_block t
+
+unfoldable pub checked_text : Told → List ℕ
+checked_text t = check_block_if t t.reasons
+
+abbrev pub check_text_of : List Told → List ℕ
+check_text_of all = flat_map checked_text all

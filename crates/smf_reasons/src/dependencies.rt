@@ -12,7 +12,7 @@ use smf_value::{Group, Name};
 use std::alloc::{AllocError, Global};
 
 /// What a group of type `dependency` asks alone.
-fn read_alone(alloc: Global, group: &Group) -> Result<Items<Dependency>, DependencyFault>
+pub(crate) fn read_alone(alloc: Global, group: &Group) -> Result<Items<Dependency>, DependencyFault>
     ensures { Gives (λ x. x) result (read_groups (group.now ∷ [])) }
 {
     let mut groups = Ordered::new(alloc);
@@ -61,7 +61,7 @@ fn put_all_unmet(
     Ok(())
 }
 
-fn put_unreadable(
+pub(crate) fn put_unreadable(
     group: &Name,
     fault: DependencyFault,
     all: &mut Items<Reason>,
@@ -127,7 +127,10 @@ pub(crate) fn put_groups(
 }
 
 /// What an instance wants of its restarter.
-fn implicit(alloc: Global, owner: &InstanceFmri) -> Result<Option<Dependency>, AllocError>
+pub(crate) fn implicit(
+    alloc: Global,
+    owner: &InstanceFmri,
+) -> Result<Option<Dependency>, AllocError>
     ensures { IfOk result (λ d. when_there d ≡ implicit owner.now) }
 {
     if is_startd(owner) {

@@ -2,7 +2,8 @@ ghost use Rattle.std.specs.List.{AllByRecursion};
 ghost use Rattle.std.specs.Prelude.{◌≡◌, [], List};
 ghost use Rattle.smf_state.specs.declared.view.View.{View as AnyView};
 ghost use Rattle.smf_state.specs.declared.view.ViewItem.{ViewItem as AnyItem};
-ghost use Rattle.smf_reasons.specs.Holding.{Holds, IsFine, IsSeen};
+ghost use Rattle.smf_reasons.specs.Checking.{AreFlaws};
+ghost use Rattle.smf_reasons.specs.Holding.{Holds, IsFine, IsFlawless, IsSeen};
 ghost use Rattle.smf_reasons.specs.Reasons.{IsReasons};
 ghost use Rattle.smf_reasons.specs.declared.reason.Reason.{Reason as AnyReason};
 
@@ -14,6 +15,16 @@ pub fn reasons_are_exact()
     ensures silent { (v : AnyView) (i : AnyItem) (rs : List AnyReason) → IsSeen v i → IsReasons v i rs → rs ≡ [] → IsFine v i }
     ensures fine { (v : AnyView) (i : AnyItem) (rs : List AnyReason) → IsSeen v i → IsReasons v i rs → IsFine v i → rs ≡ [] }
     ensures hold { (v : AnyView) (i : AnyItem) (rs : List AnyReason) → IsReasons v i rs → AllByRecursion (Holds v i) rs }
+{
+    cycles_are_lists();
+}
+
+/// Nothing is told of an instance that is checked exactly if all of it can be read, what it wants is there, and it is on no
+/// cycle; and each reason holds, by the definitions that decide.
+pub fn flaws_are_exact()
+    ensures silent { (v : AnyView) (i : AnyItem) (rs : List AnyReason) → AreFlaws v i rs → rs ≡ [] → IsFlawless v i }
+    ensures fine { (v : AnyView) (i : AnyItem) (rs : List AnyReason) → AreFlaws v i rs → IsFlawless v i → rs ≡ [] }
+    ensures hold { (v : AnyView) (i : AnyItem) (rs : List AnyReason) → AreFlaws v i rs → AllByRecursion (Holds v i) rs }
 {
     cycles_are_lists();
 }

@@ -12,7 +12,7 @@ pub struct Standing {
     pub state: Option<State>,
 }
 
-/// Why an instance that is enabled does not run.
+/// Why an instance that is enabled does not run, or what of it is wrong before it is started.
 #[derive(Drop)]
 pub enum Reason {
     /// A transition to this state is under way.
@@ -34,6 +34,12 @@ pub enum Reason {
         /// Of the entities on which alone the group would not be met.
         standings: Items<Standing>,
     },
+    /// Entities that a group wants, which stand for no instance.
+    NamesNothing {
+        group: Name,
+        grouping: Grouping,
+        standings: Items<Standing>,
+    },
     /// The restarter's instance is absent, or does not run.
     RestarterIsOff(Items<Standing>),
     NoStartMethod,
@@ -45,7 +51,8 @@ pub enum Reason {
     OnCycle(Items<InstanceFmri>),
 }
 
-/// An instance, and why it does not run. There are no reasons if it runs, is not enabled, or is about to start.
+/// An instance, and why it does not run, or what of it is wrong. There are no reasons why if it runs, is not enabled, or is
+/// about to start.
 #[derive(Drop)]
 pub struct Told {
     pub name: InstanceFmri,

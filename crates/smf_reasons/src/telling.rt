@@ -72,7 +72,7 @@ fn put_maintenance(all: &mut Items<Reason>, state: State) -> Result<(), AllocErr
     }
 }
 
-fn put_restarter_read(all: &mut Items<Reason>, is_read: bool) -> Result<(), AllocError>
+pub(crate) fn put_restarter_read(all: &mut Items<Reason>, is_read: bool) -> Result<(), AllocError>
     ensures { OnOk result (all.new ≡ all.old ++ restarter_read is_read) }
 {
     if is_read {
@@ -82,7 +82,7 @@ fn put_restarter_read(all: &mut Items<Reason>, is_read: bool) -> Result<(), Allo
     }
 }
 
-fn put_snapshot_read(
+pub(crate) fn put_snapshot_read(
     alloc: Global,
     all: &mut Items<Reason>,
     item: &ViewItem,
@@ -100,7 +100,10 @@ fn put_snapshot_read(
 }
 
 #[tactic(auto, using(crate::proofs::Reasoned::uncycled, crate::proofs::Reasoned::cycled))]
-fn put_cycle(all: &mut Items<Reason>, cycle: Items<InstanceFmri>) -> Result<(), AllocError>
+pub(crate) fn put_cycle(
+    all: &mut Items<Reason>,
+    cycle: Items<InstanceFmri>,
+) -> Result<(), AllocError>
     ensures { OnOk result (all.new ≡ all.old ++ of_cycle cycle) }
 {
     match cycle.as_slice() {
@@ -164,7 +167,7 @@ fn is_amiss(item: &ViewItem) -> bool
 
 /// Whether the instance at a place depends on itself.
 #[tactic(auto, unfolding(smf_dep::specs::Places::finding_of))]
-fn is_on_cycle(graph: &Graph, place: usize) -> bool
+pub(crate) fn is_on_cycle(graph: &Graph, place: usize) -> bool
     ensures { result ≡ option_map_or (on_cycle graph.now) (slice_get graph.now place) false }
 {
     match graph.finding(place) {

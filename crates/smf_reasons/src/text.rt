@@ -1,6 +1,6 @@
 ghost use Rattle.smf_state.specs.States.{state_text};
 ghost use Rattle.std.specs.Prelude.{◌≡◌, ◌++◌, IfOk, OnOk, codes, flat_map, string_bytes};
-ghost use Rattle.smf_reasons.specs.Telling.{block, grouping_text, later_name, later_standing, names_text, part_text, property_text, reason_line, standing_text, standings_text, state_or_absent, text_of, told_text, words};
+ghost use Rattle.smf_reasons.specs.Telling.{block, check_block, check_text_of, checked_text, grouping_text, later_name, later_standing, names_text, part_text, property_text, reason_line, standing_text, standings_text, state_or_absent, text_of, told_text, words};
 
 use crate::reason::{Reason, Standing, Told};
 use smf_dep::{DependencyFault, Grouping};
@@ -191,6 +191,11 @@ fn put_words(out: &mut String, reason: &Reason) -> Result<(), AllocError>
             grouping,
             standings,
         } => put_unmet(out, group.as_str(), *grouping, standings.as_slice()),
+        Reason::NamesNothing {
+            group,
+            grouping,
+            standings,
+        } => put_unmet(out, group.as_str(), *grouping, standings.as_slice()),
         Reason::RestarterIsOff(standings) => put_restarter(out, standings.as_slice()),
         Reason::NoStartMethod => out.push_str("Method start is missing."),
         Reason::UnreadableMethod { method, fault } => {
@@ -247,5 +252,43 @@ pub fn text_of(alloc: Global, all: &[Told]) -> Result<Text, AllocError>
 {
     let mut out = String::new(alloc);
     put_all(&mut out, all)?;
+    Ok(Text::from_string(out))
+}
+
+/// The name of an instance, and what of it is wrong. Its state says nothing.
+fn put_check_block(out: &mut String, told: &Told) -> Result<(), AllocError>
+    ensures { OnOk result (string_bytes out.new ≡ string_bytes out.old ++ check_block told.now) }
+{
+    out.push_str(told.name.print())?;
+    out.push_str("\n")?;
+    put_reasons(out, told.reasons.as_slice())?;
+    out.push_str("\n")
+}
+
+#[tactic(auto, unfolding(crate::specs::Telling::checked_text))]
+fn put_checked(out: &mut String, told: &Told) -> Result<(), AllocError>
+    ensures { OnOk result (string_bytes out.new ≡ string_bytes out.old ++ checked_text told.now) }
+{
+    match told.reasons.as_slice() {
+        [] => Ok(()),
+        _ => put_check_block(out, told),
+    }
+}
+
+fn put_all_checked(out: &mut String, all: &[Told]) -> Result<(), AllocError>
+    ensures { OnOk result (string_bytes out.new ≡ string_bytes out.old ++ flat_map checked_text all.now) }
+{
+    for told in all {
+        put_checked(out, told)?;
+    }
+    Ok(())
+}
+
+/// A block for each instance of which something is wrong, without its state.
+pub fn check_text_of(alloc: Global, all: &[Told]) -> Result<Text, AllocError>
+    ensures { IfOk result (λ text. text ≡ check_text_of all.now) }
+{
+    let mut out = String::new(alloc);
+    put_all_checked(&mut out, all)?;
     Ok(Text::from_string(out))
 }

@@ -3,3 +3,5 @@ pub mod Ended
 pub mod Closes
 pub mod Copied
 pub mod Excused
+pub mod Asked
+pub mod Taken

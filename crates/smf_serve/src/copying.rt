@@ -1,4 +1,4 @@
-ghost use Rattle.std.specs.Prelude.{◌≡◌, ◌≢◌, IfErr, IfOk, IsTrue, OnErr};
+ghost use Rattle.std.specs.Prelude.{◌≡◌, ◌≢◌, IfErr, IfOk, IsTrue, OnErr, map};
 ghost use Rattle.smf_edge.specs.Answers.{seen};
 ghost use Rattle.sqlite.specs.Files.{IsOpened, file_state, image_of, over_files};
 ghost use Rattle.sqlite.specs.Held.{IsNew};
@@ -6,10 +6,10 @@ ghost use Rattle.sqlite.specs.Start.{FindsIn};
 ghost use Rattle.sqlite.specs.State.{HasCleanDisk};
 ghost use Rattle.sqlite_disk.specs.Memory.{memory_bytes, memory_is_usable};
 ghost use Rattle.smf_serve.specs.Copies.{IsOverCopy, IsUncopied, IsUnopened, image_in};
-ghost use Rattle.smf_serve.specs.Reasons.{IsAnswered, IsExcused};
+ghost use Rattle.smf_serve.specs.Reasons.{IsAnswered, IsExcused, IsInspected};
 ghost use Rattle.smf_serve.specs.Runs.{IsDone, IsEnded};
 
-use crate::asking::why;
+use crate::asking::{check, why};
 use crate::script::serve;
 use crate::served::Served;
 use smf_edge::Kids;
@@ -118,21 +118,43 @@ pub fn serve_copy<R: LineReader, W: TextWriter, E: TextWriter, K: Kids>(
     }
 }
 
-/// Writes why instances that the database which these bytes hold has do not run though they are enabled, and gives the
-/// status: 0, or 3 for a fault. It is a copy in memory that is opened.
+/// Writes why instances that the database which these bytes hold has do not run though they are enabled: those that words
+/// mean, as svcs takes them, or all without words. It gives the status: 0, 1 if a word matches no instance, which is told,
+/// or 3 for a fault. It is a copy in memory that is opened.
 pub fn why_copy<W: TextWriter, E: TextWriter>(
     alloc: Global,
     found: &FileBytes,
+    words: &[&str],
     writer: &mut W,
     errors: &mut E,
 ) -> Result<u8, Error>
-    ensures ok { IfOk result (λ status. status ≢ 3 → IsOverCopy ⟦<Memory as Disk>⟧ (image_in found.now) (λ conn after. IsAnswered over_files conn (W.contents writer.old) (W.contents writer.new))) }
+    ensures ok { IfOk result (λ status. status ≢ 3 → IsOverCopy ⟦<Memory as Disk>⟧ (image_in found.now) (λ conn after. IsAnswered over_files conn E.write_fails (map (λ w. w.now) words.now) (W.contents writer.old) (W.contents writer.new) (E.contents errors.old) (E.contents errors.new) status)) }
     ensures fault { IfOk result (λ status. status ≡ 3 → IsExcused E.write_fails (E.contents errors.old) (E.contents errors.new)) }
     ensures err { IfErr result (λ fault. IsUncopied ⟦<Memory as Disk>⟧ (image_in found.now) fault) }
     ensures silent { OnErr result ((W.contents writer.new ≡ W.contents writer.old) × (E.contents errors.new ≡ E.contents errors.old)) }
 {
     match open_copy(alloc, found) {
-        Ok(conn) => Ok(why(alloc, conn, writer, errors)),
+        Ok(conn) => Ok(why(alloc, conn, words, writer, errors)),
+        Err(fault) => Err(fault),
+    }
+}
+
+/// Writes what is wrong of each instance that the database which these bytes hold has, enabled or not, before it is
+/// started, and gives the status: 0, 1 if something was written, or 3 for a fault. It is a copy in memory that is opened.
+pub fn check_copy<W: TextWriter, E: TextWriter>(
+    alloc: Global,
+    found: &FileBytes,
+    writer: &mut W,
+    errors: &mut E,
+) -> Result<u8, Error>
+    ensures ok { IfOk result (λ status. status ≢ 3 → IsOverCopy ⟦<Memory as Disk>⟧ (image_in found.now) (λ conn after. IsInspected over_files conn (W.contents writer.old) (W.contents writer.new) status)) }
+    ensures fault { IfOk result (λ status. status ≡ 3 → IsExcused E.write_fails (E.contents errors.old) (E.contents errors.new)) }
+    ensures quiet { IfOk result (λ status. status ≢ 3 → (E.contents errors.new ≡ E.contents errors.old)) }
+    ensures err { IfErr result (λ fault. IsUncopied ⟦<Memory as Disk>⟧ (image_in found.now) fault) }
+    ensures silent { OnErr result ((W.contents writer.new ≡ W.contents writer.old) × (E.contents errors.new ≡ E.contents errors.old)) }
+{
+    match open_copy(alloc, found) {
+        Ok(conn) => Ok(check(alloc, conn, writer, errors)),
         Err(fault) => Err(fault),
     }
 }

@@ -1,4 +1,6 @@
+pub mod Hasty
 pub mod Hears
 pub mod Late
+pub mod Marked
 pub mod Served
 pub mod Turned

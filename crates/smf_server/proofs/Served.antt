@@ -1,9 +1,11 @@
 -- How a server goes on, turn by turn.
-use Rattle.std.proofs.Common.{◌≡◌, ℕ, List, [], ◌∷◌, ◌++◌, Option, Some, None, refl, sym, ap, subst, ◌∙◌, append_assoc, append-nil}
+use Rattle.std.proofs.Common.{◌≡◌, ◌<◌, ◌+◌, ℕ, List, [], ◌∷◌, ◌++◌, length, get_or, drop, map, Bool, Option, Some, None, refl, sym, ap, subst, ◌∙◌, append_assoc, append-nil}
 use Rattle.std.specs.Prelude.{flat_map}
+use Rattle.std.specs.declared.time.Duration.{Duration}
 use Rattle.smf_edge.specs.Answers.{Skills}
-use Rattle.smf_server.specs.Passing.{Passed, Asked, Replied, passing}
-use Rattle.smf_server.specs.Turns.{Answer, IsServed, IsTurn, Standing, Step, Steps, TurnsFollow, passed_in}
+use Rattle.smf_server.specs.Passing.{Passed, Asked, Told, passing, reply_in}
+use Rattle.smf_server.specs.Turns.{Between, Doing, IsServed, IsTurn, Step, Steps, TurnsFollow, passed_in}
+use Rattle.smf_server.proofs.Hasty.{left_at}
 
 -- ---- what passed
 
@@ -16,32 +18,41 @@ passing_nothing None = refl
 passing_nothing (Some all) = ap Some (append-nil all)
 
 -- a request came in, and then its reply went out
-pub asked_replied : (request text : List ℕ) (status : ℕ) (before was is : Option (List Passed)) → was ≡ passing (Asked request ∷ []) before → is ≡ passing (Replied text status ∷ []) was
-    → is ≡ passing (Asked request ∷ Replied text status ∷ []) before
-asked_replied request text status before was is came went =
-    went ∙ ap (passing (Replied text status ∷ [])) came ∙ passing_then (Asked request ∷ []) (Replied text status ∷ []) before
+pub asked_replied : (request text : List ℕ) (status : ℕ) (written : Bool) (before was is : Option (List Passed)) → was ≡ passing (Asked request ∷ []) before → is ≡ passing (reply_in written text status ∷ []) was
+    → is ≡ passing (Asked request ∷ reply_in written text status ∷ []) before
+asked_replied request text status written before was is came went =
+    went ∙ ap (passing (reply_in written text status ∷ [])) came ∙ passing_then (Asked request ∷ []) (reply_in written text status ∷ []) before
+
+-- one line more was told
+pub told_one : (lines : List (List ℕ)) (i : ℕ) (line : List ℕ) (was is all : Option (List Passed)) → i < length lines → line ≡ get_or lines i line → is ≡ passing (Told line ∷ []) was
+    → passing (map Told (drop i lines)) was ≡ all → passing (map Told (drop (i + 1) lines)) is ≡ all
+told_one lines i line was is all low at told so_far =
+    ap (passing (map Told (drop (i + 1) lines))) told
+    ∙ passing_then (Told line ∷ []) (map Told (drop (i + 1) lines)) was
+    ∙ ap (λ (xs : List (List ℕ)). passing (map Told xs) was) (sym (left_at lines i line low at))
+    ∙ so_far
 
 -- ---- turns
 
-nothing_yet : (k : Skills) (was : Option (List Passed)) (s : Standing) → IsServed k was was s s
-nothing_yet k was s = record { turns = []; steps = refl; passed = sym (passing_nothing was) }
+nothing_yet : (k : Skills) (clock : Duration → Type 0) (was : Option (List Passed)) (s : Between) → IsServed k clock was was s s
+nothing_yet k clock was s = record { turns = []; steps = refl; passed = sym (passing_nothing was) }
 
-steps_more : (k : Skills) (turns : List (Option Answer)) (one : Option Answer) (s mid t : Standing) → Steps k turns s mid → Step k one mid t → Steps k (turns ++ one ∷ []) s t
-steps_more k [] one s mid t is step = (t, subst (λ (x : Standing). Step k one x t) is step, refl)
-steps_more k (first ∷ more) one s mid t steps step = (steps.0, steps.1, steps_more k more one steps.0 mid t steps.2 step)
+steps_more : (k : Skills) (clock : Duration → Type 0) (turns : List Doing) (one : Doing) (s mid t : Between) → Steps k clock turns s mid → Step k clock one mid t → Steps k clock (turns ++ one ∷ []) s t
+steps_more k clock [] one s mid t is step = (t, subst (λ (x : Between). Step k clock one x t) is step, refl)
+steps_more k clock (first ∷ more) one s mid t steps step = (steps.0, steps.1, steps_more k clock more one steps.0 mid t steps.2 step)
 
-passed_more : (turns : List (Option Answer)) (one : Option Answer) → flat_map passed_in (turns ++ one ∷ []) ≡ flat_map passed_in turns ++ passed_in one
+passed_more : (turns : List Doing) (one : Doing) → flat_map passed_in (turns ++ one ∷ []) ≡ flat_map passed_in turns ++ passed_in one
 passed_more [] one = append-nil (passed_in one)
 passed_more (first ∷ more) one = ap (λ (xs : List Passed). passed_in first ++ xs) (passed_more more one) ∙ sym (append_assoc (passed_in first) (flat_map passed_in more) (passed_in one))
 
-serves_more : (k : Skills) (was now is : Option (List Passed)) (s mid t : Standing) → IsServed k was now s mid → IsTurn k now is mid t → IsServed k was is s t
-serves_more k was now is s mid t served turn =
+serves_more : (k : Skills) (clock : Duration → Type 0) (was now is : Option (List Passed)) (s mid t : Between) → IsServed k clock was now s mid → IsTurn k clock now is mid t → IsServed k clock was is s t
+serves_more k clock was now is s mid t served turn =
     record {
       turns = served.turns ++ turn.one ∷ [];
-      steps = steps_more k served.turns turn.one s mid t served.steps turn.step;
+      steps = steps_more k clock served.turns turn.one s mid t served.steps turn.step;
       passed = turn.passed ∙ ap (passing (passed_in turn.one)) served.passed ∙ passing_then (flat_map passed_in served.turns) (passed_in turn.one) was
           ∙ ap (λ (xs : List Passed). passing xs was) (sym (passed_more served.turns turn.one));
     }
 
-pub turns_follow : (k : Skills) → TurnsFollow k
-turns_follow k was now is s mid t = (nothing_yet k was s, serves_more k was now is s mid t)
+pub turns_follow : (k : Skills) (clock : Duration → Type 0) → TurnsFollow k clock
+turns_follow k clock was now is s mid t = (nothing_yet k clock was s, serves_more k clock was now is s mid t)

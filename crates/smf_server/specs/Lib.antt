@@ -1,3 +1,4 @@
+pub mod Loops
 pub mod Passing
 pub mod Telling
 pub mod Turns

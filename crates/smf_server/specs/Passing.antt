@@ -1,12 +1,15 @@
 -- What passes over a desk.
-use Rattle.std.specs.Prelude.{ℕ, List, [], ◌∷◌, ◌++◌, Option, option_map}
+use Rattle.std.specs.Prelude.{ℕ, List, [], ◌∷◌, ◌++◌, Bool, true, false, Option, option_map}
 use Rattle.smf_server.specs.declared.ask.Ask.{Ask}
 use Rattle.smf_server.specs.declared.ask.Ask.TheVariants as asks
 
--- a request came in, or a reply went out: its text and its status
+-- a request came in; a reply went out, its text and its status; a reply went out that says that its text could not be
+-- written; or a line was told to whoever runs the server
 pub data Passed : Type 0 where
   Asked : List ℕ → Passed
   Replied : List ℕ → ℕ → Passed
+  Unwritten : Passed
+  Told : List ℕ → Passed
 
 -- these passed after what passed before, where that is known
 abbrev pub passing : List Passed → Option (List Passed) → Option (List Passed)
@@ -16,3 +19,8 @@ abbrev pub asked_in : Ask → List Passed
 asked_in asks.Tick = []
 asked_in (asks.Request request) = Asked request.items ∷ []
 asked_in asks.End = []
+
+-- the reply with a text and a status, by whether the text could be written
+abbrev pub reply_in : Bool → List ℕ → ℕ → Passed
+reply_in true text status = Replied text status
+reply_in false text status = Unwritten

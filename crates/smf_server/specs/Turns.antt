@@ -1,10 +1,11 @@
 -- What a server comes to, turn by turn.
-use Rattle.std.specs.Prelude.{◌≡◌, ℕ, nat_lt, ◌==◌, ◌||◌, ◌&&◌, not, List, [], ◌∷◌, ◌++◌, length, flat_map, option_to_list, Bool, true, false, Option, Some, None, option_map, is_some, slice_get}
+use Rattle.std.specs.Prelude.{◌≡◌, ℕ, nat_lt, ◌==◌, ◌||◌, ◌&&◌, not, List, [], ◌∷◌, ◌++◌, length, filter, flat_map, map, reverse, option_to_list, Bool, true, false, Option, Some, None, option_map, is_some, slice_get}
+use Rattle.std.specs.declared.time.Duration.{Duration}
 use Rattle.smf_edge.specs.Answers.{Seen, Skills}
 use Rattle.smf_machine.specs.Runners.{rules_of}
 use Rattle.smf_model.specs.declared.journal.RepoFault.{RepoFault}
 use Rattle.smf_node.specs.declared.fault.NodeFault.{NodeFault}
-use Rattle.smf_node.specs.Rounds.{Course, HasLearned, HasSettled, course}
+use Rattle.smf_node.specs.Rounds.{Course, HasLearned, HasSettled, at, course}
 use Rattle.smf_restarter.specs.declared.known.KnownInstance.{KnownInstance}
 use Rattle.smf_restarter.specs.declared.known.Phase.{Phase}
 use Rattle.smf_restarter.specs.declared.known.Phase.TheVariants.{Running}
@@ -14,13 +15,17 @@ use Rattle.smf_script.specs.declared.fault.ScriptFault.{ScriptFault}
 use Rattle.smf_script.specs.declared.fault.ScriptFault.TheVariants.{Node}
 use Rattle.smf_script.specs.Script.{begun}
 use Rattle.smf_world.specs.declared.event.Event.TheVariants as events
+use Rattle.smf_world.specs.declared.item.Item.{Item}
 use Rattle.smf_world.specs.declared.schedule.Settled.{Settled}
 use Rattle.smf_world.specs.declared.schedule.Settled.TheVariants.{Quiet, Busy}
 use Rattle.smf_world.specs.Schedule.{Progress, on}
 use Rattle.smf_world.specs.Worked.{restarter}
 use Rattle.smf_world.specs.World.{World}
-use Rattle.smf_server.specs.Passing.{Passed, Asked, Replied, passing}
+use Rattle.smf_server.specs.Loops.{hasty, is_kept, lines_of, marks, seen_by}
+use Rattle.smf_server.specs.Passing.{Passed, Asked, Told, passing, reply_in}
 use Rattle.smf_server.specs.declared.ask.Onward.{Onward}
+use Rattle.smf_server.specs.declared.ends.End.{End}
+use Rattle.smf_server.specs.declared.ends.Ends.{Ends as SeenEnds}
 use Rattle.smf_server.specs.declared.size.Size.{Size}
 use Rattle.smf_server.specs.declared.ask.Onward.TheVariants.{Goes, Ends}
 
@@ -33,6 +38,15 @@ pub record Standing : Type 0 where
 
 abbrev pub standing : Progress → Seen → Bool → Standing
 standing p s busy = record { course = course p s; busy = busy }
+
+-- and with them the ends that were seen lately, and how much of the trail was looked at for them
+pub record Between : Type 0 where
+  pub standing : Standing
+  pub looked : ℕ
+  pub ends : List End
+
+abbrev pub between : Standing → SeenEnds → Between
+between s ends = record { standing = s; looked = ends.looked; ends = ends.seen.items }
 
 -- ---- rounds
 
@@ -95,9 +109,9 @@ pub record HaveTimedOut (p q : Progress) (any : Bool) : Type 0 where
   pub are : AreLate late p q
   pub told : any ≡ nat_lt 0 (length late)
 
--- time has passed: children told what happened, methods timed out, and rounds were made if there was anything of this, or
--- if more were wanted
-pub record IsTick (k : Skills) (s t : Standing) : Type 0 where
+-- children told what happened, methods timed out, and rounds were made if there was anything of this, or if more were
+-- wanted
+pub record HasPassed (k : Skills) (s t : Standing) : Type 0 where
   pub heard : Course
   pub any : Bool
   pub hears : HasHeard k s.course heard any
@@ -106,13 +120,55 @@ pub record IsTick (k : Skills) (s t : Standing) : Type 0 where
   pub times : HaveTimedOut heard.progress timed late
   pub goes : GoesIf (any || (late || s.busy)) k (course timed heard.seen) s.busy t
 
+-- ---- instances that end again and again
+
+-- the trail, the first first
+abbrev pub shown_of : World → List Item
+shown_of w = reverse w.trail
+
+abbrev pub shown : Between → List Item
+shown s = shown_of s.standing.course.progress.world
+
+-- whether the trail shows anything that was not looked at
+abbrev pub has_more : Between → Bool
+has_more s = nat_lt s.looked (length (shown s))
+
+-- the ends of the last ten seconds, with those of which the trail tells anew
+abbrev pub ends_by : Duration → Between → List End
+ends_by now s = seen_by now (shown s) s.looked s.ends
+
+-- the clock was read, and the instances that ended too often were marked for maintenance, each once: this is told of them,
+-- their ends are forgotten, and rounds are wanted
+pub record HasLooked (clock : Duration → Type 0) (s t : Between) (lines : List (List ℕ)) : Type 0 where
+  pub now : Duration
+  pub read : clock now
+  pub numbers : List ℕ
+  pub are : numbers ≡ hasty (ends_by now s)
+  pub marked : t.standing.course ≡ at s.standing.course (marks numbers s.standing.course.progress)
+  pub busy : t.standing.busy ≡ (s.standing.busy || nat_lt 0 (length numbers))
+  pub looked : t.looked ≡ length (shown s)
+  pub kept : t.ends ≡ filter (is_kept numbers) (ends_by now s)
+  pub told : lines ≡ lines_of s.standing.course.progress.world.now numbers
+
+-- that is done if the trail shows anything new, else nothing
+abbrev pub LooksIf : Bool → (Duration → Type 0) → Between → Between → List (List ℕ) → Type 0
+LooksIf true clock s t lines = HasLooked clock s t lines
+LooksIf false clock s t lines = (t ≡ s) × (lines ≡ [])
+
+-- time has passed: what happened was done, and then the trail was looked at
+pub record IsTick (k : Skills) (clock : Duration → Type 0) (s t : Between) (lines : List (List ℕ)) : Type 0 where
+  pub gone : Standing
+  pub passes : HasPassed k s.standing gone
+  pub looks : LooksIf (has_more (record s { standing = gone })) clock (record s { standing = gone }) t lines
+
 -- ---- a request
 
--- the reply to a request
+-- the reply to a request, and whether its text could be written
 pub record Answer : Type 0 where
   pub request : List ℕ
   pub text : List ℕ
   pub status : ℕ
+  pub written : Bool
 
 -- by what it is seen that something came of a request
 abbrev pub size_of : World → Size
@@ -126,70 +182,77 @@ abbrev pub HasAnswered : Skills → Answer → Course → Course → Type 0
 HasAnswered k a c d = HasRun k (begun c.progress) (Some a.request) c.seen d.seen d.progress (Some []) (Some a.text) a.status
 
 -- and then rounds were made, at least if anything came of them
-pub record IsAnswer (k : Skills) (a : Answer) (s t : Standing) : Type 0 where
+pub record IsAnswer (k : Skills) (a : Answer) (s t : Between) : Type 0 where
   pub done : Course
-  pub ran : HasAnswered k a s.course done
+  pub ran : HasAnswered k a s.standing.course done
   pub wanted : Bool
-  pub needed : is_same (size_of s.course.progress.world) (size_of done.progress.world) ≡ false → wanted ≡ true
-  pub goes : GoesIf wanted k done s.busy t
+  pub needed : is_same (size_of s.standing.course.progress.world) (size_of done.progress.world) ≡ false → wanted ≡ true
+  pub goes : GoesIf wanted k done s.standing.busy t.standing
+  pub looked : t.looked ≡ s.looked
+  pub ends : t.ends ≡ s.ends
 
 -- ---- turns
 
--- a turn answers a request, or is a tick
-abbrev pub Step : Skills → Option Answer → Standing → Standing → Type 0
-Step k None s t = IsTick k s t
-Step k (Some a) s t = IsAnswer k a s t
+-- a turn is a tick, which tells these lines, or answers a request
+pub data Doing : Type 0 where
+  Ticked : List (List ℕ) → Doing
+  Answered : Answer → Doing
 
-abbrev pub passed_in : Option Answer → List Passed
-passed_in None = []
-passed_in (Some a) = Asked a.request ∷ Replied a.text a.status ∷ []
+abbrev pub Step : Skills → (Duration → Type 0) → Doing → Between → Between → Type 0
+Step k clock (Ticked lines) s t = IsTick k clock s t lines
+Step k clock (Answered a) s t = IsAnswer k a s t
 
--- a turn was taken: one request came in and its reply went out, or nothing passed
-pub record IsTurn (k : Skills) (was is : Option (List Passed)) (s t : Standing) : Type 0 where
-  pub one : Option Answer
-  pub step : Step k one s t
+abbrev pub passed_in : Doing → List Passed
+passed_in (Ticked lines) = map Told lines
+passed_in (Answered a) = Asked a.request ∷ reply_in a.written a.text a.status ∷ []
+
+-- a turn was taken: one request came in and its reply went out, or lines were told
+pub record IsTurn (k : Skills) (clock : Duration → Type 0) (was is : Option (List Passed)) (s t : Between) : Type 0 where
+  pub one : Doing
+  pub step : Step k clock one s t
   pub passed : is ≡ passing (passed_in one) was
 
-abbrev pub HasTurned : Skills → Onward → Option (List Passed) → Option (List Passed) → Standing → Standing → Type 0
-HasTurned k Goes was is s t = IsTurn k was is s t
-HasTurned k Ends was is s t = (t ≡ s) × (is ≡ was)
+abbrev pub HasTurned : Skills → (Duration → Type 0) → Onward → Option (List Passed) → Option (List Passed) → Between → Between → Type 0
+HasTurned k clock Goes was is s t = IsTurn k clock was is s t
+HasTurned k clock Ends was is s t = (t ≡ s) × (is ≡ was)
 
 -- ---- faults
 
 -- a request was ended by a fault, and replied to with its status
-pub record IsCut (k : Skills) (stores : RepoFault → Type 0) (fault : ScriptFault) (was is : Option (List Passed)) (s t : Standing) : Type 0 where
+pub record IsCut (k : Skills) (stores : RepoFault → Type 0) (fault : ScriptFault) (was is : Option (List Passed)) (s t : Course) : Type 0 where
   pub request : List ℕ
   pub text : List ℕ
-  pub stops : Stops k stores fault (begun s.course.progress) (Some request) s.course.seen t.course.seen t.course.progress (Some []) (Some text)
-  pub passed : is ≡ passing (Asked request ∷ Replied text 3 ∷ []) was
+  pub written : Bool
+  pub stops : Stops k stores fault (begun s.progress) (Some request) s.seen t.seen t.progress (Some []) (Some text)
+  pub passed : is ≡ passing (Asked request ∷ reply_in written text 3 ∷ []) was
 
 -- a request was answered, and then the node failed
-pub record IsCutAfter (k : Skills) (was is : Option (List Passed)) (s : Standing) : Type 0 where
+pub record IsCutAfter (k : Skills) (was is : Option (List Passed)) (s : Course) : Type 0 where
   pub answer : Answer
   pub done : Course
-  pub ran : HasAnswered k answer s.course done
-  pub passed : is ≡ passing (passed_in (Some answer)) was
+  pub ran : HasAnswered k answer s done
+  pub passed : is ≡ passing (passed_in (Answered answer)) was
 
 -- a fault ended a turn: at a tick nothing passed, and a request was replied to
-pub data IsFailed (k : Skills) (stores : RepoFault → Type 0) (fault : ScriptFault) (was is : Option (List Passed)) (s t : Standing) : Type 0 where
+pub data IsFailed (k : Skills) (stores : RepoFault → Type 0) (fault : ScriptFault) (was is : Option (List Passed)) (s t : Between) : Type 0 where
   tick_failed : (e : NodeFault) → fault ≡ Node e → is ≡ was → IsFailed k stores fault was is s t
-  request_failed : IsCut k stores fault was is s t → IsFailed k stores fault was is s t
-  rounds_failed : (e : NodeFault) → fault ≡ Node e → IsCutAfter k was is s → IsFailed k stores fault was is s t
+  request_failed : IsCut k stores fault was is s.standing.course t.standing.course → IsFailed k stores fault was is s t
+  rounds_failed : (e : NodeFault) → fault ≡ Node e → IsCutAfter k was is s.standing.course → IsFailed k stores fault was is s t
 
 -- ---- turn after turn
 
-abbrev pub Steps : Skills → List (Option Answer) → Standing → Standing → Type 0
-Steps k [] s t = t ≡ s
-Steps k (one ∷ more) s t = (mid : Standing) × Step k one s mid × Steps k more mid t
+abbrev pub Steps : Skills → (Duration → Type 0) → List Doing → Between → Between → Type 0
+Steps k clock [] s t = t ≡ s
+Steps k clock (one ∷ more) s t = (mid : Between) × Step k clock one s mid × Steps k clock more mid t
 
 -- requests came in and were replied to in their order, each done on what all turns before it left
-pub record IsServed (k : Skills) (was is : Option (List Passed)) (s t : Standing) : Type 0 where
-  pub turns : List (Option Answer)
-  pub steps : Steps k turns s t
+pub record IsServed (k : Skills) (clock : Duration → Type 0) (was is : Option (List Passed)) (s t : Between) : Type 0 where
+  pub turns : List Doing
+  pub steps : Steps k clock turns s t
   pub passed : is ≡ passing (flat_map passed_in turns) was
 
 -- that is so before the first turn, and each turn keeps it so
-abbrev pub TurnsFollow : Skills → Type 0
-TurnsFollow k =
-    (was now is : Option (List Passed)) (s mid t : Standing)
-    → IsServed k was was s s × (IsServed k was now s mid → IsTurn k now is mid t → IsServed k was is s t)
+abbrev pub TurnsFollow : Skills → (Duration → Type 0) → Type 0
+TurnsFollow k clock =
+    (was now is : Option (List Passed)) (s mid t : Between)
+    → IsServed k clock was was s s × (IsServed k clock was now s mid → IsTurn k clock now is mid t → IsServed k clock was is s t)

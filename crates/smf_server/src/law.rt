@@ -2,9 +2,10 @@
 
 ghost use Rattle.smf_server.specs.Turns.{TurnsFollow};
 
+use crate::timer::Timer;
 use smf_edge::Kids;
 
 /// Turn after turn, requests are replied to in their order, each done on what all turns before it left.
-pub fn turns_follow<K: Kids>()
-    ensures { TurnsFollow K.skills }
+pub fn turns_follow<T: Timer, K: Kids>(_timer: &T)
+    ensures { TurnsFollow K.skills (T.says _timer.now) }
 {}

@@ -1,14 +1,18 @@
 //! A service manager that stays, over any desk, clock, children and journal: turn by turn it answers requests, each of which
-//! is a script, lets children tell what happened to them, and lets methods time out.
+//! is a script, lets children tell what happened to them, lets methods time out, and marks for maintenance what ends again
+//! and again.
 //! Modules: `ask` (what comes next), `desk` (requests and replies), `timer` (what time it is), `hearing` (what children tell), `watch` (methods that
-//! may take too long), `server` (what is kept between turns), `telling` (why a server ended),
-//! `size` (how much has happened), `turning` (a turn), `law` (what turns come to).
+//! may take too long), `ends` (ends of instances that nobody asked for), `marks` (instances that are marked for maintenance),
+//! `server` (what is kept between turns), `telling` (why a server ended), `size` (how much has happened), `turning` (a
+//! turn), `law` (what turns come to).
 #![tactic(auto)]
 
 mod ask;
 mod desk;
+mod ends;
 mod hearing;
 mod law;
+mod marks;
 mod server;
 mod size;
 mod telling;
@@ -18,6 +22,7 @@ mod watch;
 
 pub use ask::{Ask, Onward};
 pub use desk::Desk;
+pub use ends::{End, Ends, MOST_ENDS, PERIOD};
 pub use law::turns_follow;
 pub use server::Server;
 pub use telling::fault_text;

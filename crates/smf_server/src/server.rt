@@ -1,3 +1,4 @@
+use crate::ends::Ends;
 use crate::watch::Watch;
 use smf_edge::Kids;
 use smf_model::Journal;
@@ -13,22 +14,27 @@ pub struct Server<J: Journal, K: Kids> {
     pub watch: Watch,
     /// Whether more rounds are wanted.
     pub busy: bool,
+    /// The ends of instances that were seen lately.
+    pub ends: Ends,
 }
 
 impl<J: Journal, K: Kids> Server<J, K> {
-    ghost use Rattle.std.specs.Prelude.{◌≡◌, true};
+    ghost use Rattle.std.specs.Prelude.{◌≡◌, [], true};
 
     /// A node that has booted, and children that were asked nothing yet. Its first tick makes rounds.
     pub fn new(alloc: Global, node: Node<J>, kids: K) -> Server<J, K>
         ensures node { result.node ≡ node }
         ensures kids { result.kids ≡ kids }
         ensures busy { result.busy ≡ true }
+        ensures looked { result.ends.looked ≡ 0 }
+        ensures seen { result.ends.seen.items ≡ [] }
     {
         Server {
             node,
             kids,
             watch: Watch::new(alloc),
             busy: true,
+            ends: Ends::new(alloc),
         }
     }
 }

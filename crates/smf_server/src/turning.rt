@@ -1,22 +1,24 @@
-ghost use Rattle.std.specs.Prelude.{◌≡◌, ◌||◌, List, [], ◌∷◌, Option, length, false, true, IfErr, IfOk, OnOk};
+ghost use Rattle.std.specs.Prelude.{◌≡◌, ◌≤◌, ◌||◌, List, [], ◌∷◌, Option, length, map, nat_lt, false, true, IfErr, IfOk, OnOk};
 ghost use Rattle.smf_drive.specs.Agrees.{Agrees};
 ghost use Rattle.smf_drive.specs.Moves.{Moves};
 ghost use Rattle.smf_edge.specs.Answers.{seen};
 ghost use Rattle.smf_node.specs.Rounds.{course};
-ghost use Rattle.smf_server.specs.Passing.{Asked, Passed, passing};
-ghost use Rattle.smf_server.specs.Turns.{GoesIf, HasGone, HasTurned, IsFailed, IsTick, IsTurn, is_busy, is_same, size_of, standing};
+ghost use Rattle.smf_server.specs.Passing.{Asked, Passed, Told, passing};
+ghost use Rattle.smf_server.specs.Turns.{GoesIf, HasGone, HasLooked, HasPassed, HasTurned, IsFailed, IsTick, IsTurn, LooksIf, between, is_busy, is_same, shown_of, size_of, standing};
 ghost use Rattle.smf_world.specs.Reached.{IsLater};
 ghost use Rattle.smf_world.specs.Safe.{IsSafe};
 
 use crate::ask::{Ask, Onward};
 use crate::desk::Desk;
 use crate::hearing::hear_all;
+use crate::marks::{lines_of, mark_all};
 use crate::server::Server;
 use crate::size::Size;
 use crate::timer::Timer;
 use crate::watch::owners;
 use smf_drive::drive;
 use smf_edge::Kids;
+use smf_fmri::{Items, Text};
 use smf_model::Journal;
 use smf_node::{Node, NodeFault};
 use smf_run::run_script;
@@ -45,6 +47,7 @@ fn go<T: Timer, J: Journal, K: Kids>(timer: &T, server: &mut Server<J, K>) -> Re
         (course server.old.node (seen (K.ledger server.old.kids) (K.failures server.old.kids)))
         (standing server.new.node (seen (K.ledger server.new.kids) (K.failures server.new.kids)) server.new.busy)) }
     ensures moves { Moves server.old.node.world server.new.node.world (K.ledger server.old.kids) (K.ledger server.new.kids) }
+    ensures kept { server.new.ends ≡ server.old.ends }
 {
     let how = drive(&mut server.node, &mut server.kids, ROUNDS)?;
     server.busy = is_busy(how);
@@ -62,6 +65,7 @@ fn go_if<T: Timer, J: Journal, K: Kids>(
         (course server.old.node (seen (K.ledger server.old.kids) (K.failures server.old.kids))) server.old.busy
         (standing server.new.node (seen (K.ledger server.new.kids) (K.failures server.new.kids)) server.new.busy)) }
     ensures moves { Moves server.old.node.world server.new.node.world (K.ledger server.old.kids) (K.ledger server.new.kids) }
+    ensures kept { server.new.ends ≡ server.old.ends }
 {
     if wanted { go(timer, server) } else { Ok(()) }
 }
@@ -75,21 +79,127 @@ fn are_wanted(any: bool, late: bool, busy: bool) -> bool
 
 /// Time has passed: children tell what happened, and methods that take too long time out. Rounds happen only if there was
 /// anything of this, or if more were wanted.
-fn tick<T: Timer, J: Journal, K: Kids>(
+fn pass<T: Timer, J: Journal, K: Kids>(
     timer: &T,
     server: &mut Server<J, K>,
 ) -> Result<(), NodeFault>
-    ensures ticked { OnOk result (IsTick K.skills
+    ensures passed { OnOk result (HasPassed K.skills
         (standing server.old.node (seen (K.ledger server.old.kids) (K.failures server.old.kids)) server.old.busy)
         (standing server.new.node (seen (K.ledger server.new.kids) (K.failures server.new.kids)) server.new.busy)) }
-    ensures moves { OnOk result (Moves server.old.node.world server.new.node.world (K.ledger server.old.kids) (K.ledger server.new.kids)) }
+    ensures moves { OnOk result (Moves server.old.node.world server.new.node.world
+        (K.ledger server.old.kids) (K.ledger server.new.kids)) }
     ensures later { IsLater server.old.node.world server.new.node.world }
+    ensures kept { server.new.ends ≡ server.old.ends }
 {
     let any = hear_all(&mut server.node, &mut server.kids)?;
     let late = server.watch.time_out(timer.now(), &mut server.node)?;
     let wanted = are_wanted(any, late, server.busy);
     go_if(timer, server, wanted)?;
     Ok(())
+}
+
+/// Whether rounds are wanted, by whether they were before and which instances are marked.
+fn is_busy_with(busy: bool, numbers: &[u64]) -> bool
+    ensures { result ≡ (busy || nat_lt 0 (length numbers.now)) }
+{
+    busy || 0 < numbers.len()
+}
+
+/// Looks at what is new in the trail, and marks the instances that ended too often for maintenance. Gives what is told of
+/// them.
+fn look<T: Timer, J: Journal, K: Kids>(
+    alloc: Global,
+    timer: &T,
+    server: &mut Server<J, K>,
+) -> Result<Items<Text>, NodeFault>
+    requires { server.old.ends.looked ≤ length (shown_of server.old.node.world) }
+    ensures looked { IfOk result (λ lines. HasLooked (T.says timer.now)
+        (between
+        (standing server.old.node (seen (K.ledger server.old.kids) (K.failures server.old.kids)) server.old.busy)
+        server.old.ends)
+        (between
+        (standing server.new.node (seen (K.ledger server.new.kids) (K.failures server.new.kids)) server.new.busy)
+        server.new.ends) lines) }
+    ensures later { IsLater server.old.node.world server.new.node.world }
+{
+    let now = timer.now();
+    let numbers = server.ends.look(alloc, now, server.node.trail())?;
+    let hasty = numbers.as_slice();
+    let lines = lines_of(alloc, &server.node, hasty)?;
+    mark_all(&mut server.node, hasty)?;
+    server.busy = is_busy_with(server.busy, hasty);
+    Ok(lines)
+}
+
+/// Whether the trail shows anything new.
+fn has_more<J: Journal, K: Kids>(server: &Server<J, K>) -> bool
+    ensures { result ≡ nat_lt server.now.ends.looked (length (shown_of server.now.node.world)) }
+{
+    server.ends.looked < server.node.trail().len()
+}
+
+/// Looks at the trail, if it shows anything new.
+fn look_if<T: Timer, J: Journal, K: Kids>(
+    alloc: Global,
+    timer: &T,
+    server: &mut Server<J, K>,
+) -> Result<Items<Text>, NodeFault>
+    ensures looked { IfOk result (λ lines. LooksIf
+        (nat_lt server.old.ends.looked (length (shown_of server.old.node.world)))
+        (T.says timer.now)
+        (between
+        (standing server.old.node (seen (K.ledger server.old.kids) (K.failures server.old.kids)) server.old.busy)
+        server.old.ends)
+        (between
+        (standing server.new.node (seen (K.ledger server.new.kids) (K.failures server.new.kids)) server.new.busy)
+        server.new.ends) lines) }
+    ensures later { IsLater server.old.node.world server.new.node.world }
+{
+    if has_more(server) {
+        look(alloc, timer, server)
+    } else {
+        Ok(Items::new(alloc))
+    }
+}
+
+/// Time has passed: what happened is done, and the instances that ended too often are marked for maintenance. Gives what is
+/// told of them.
+fn tick<T: Timer, J: Journal, K: Kids>(
+    alloc: Global,
+    timer: &T,
+    server: &mut Server<J, K>,
+) -> Result<Items<Text>, NodeFault>
+    ensures ticked { IfOk result (λ lines. IsTick K.skills (T.says timer.now)
+        (between
+        (standing server.old.node (seen (K.ledger server.old.kids) (K.failures server.old.kids)) server.old.busy)
+        server.old.ends)
+        (between
+        (standing server.new.node (seen (K.ledger server.new.kids) (K.failures server.new.kids)) server.new.busy)
+        server.new.ends) lines) }
+    ensures agrees { OnOk result (
+        Agrees server.old.node.world (K.ledger server.old.kids)
+        → Agrees server.new.node.world (K.ledger server.new.kids)) }
+    ensures later { IsLater server.old.node.world server.new.node.world }
+{
+    pass(timer, server)?;
+    let lines = look_if(alloc, timer, server)?;
+    Ok(lines)
+}
+
+/// Tells lines to whoever runs the server.
+fn tell_all<D: Desk>(desk: &mut D, lines: &[Text])
+    ensures { D.passed desk.new ≡ passing (map Told lines.now) (D.passed desk.old) }
+{
+    for line in lines {
+        desk.tell(line.as_str());
+    }
+}
+
+/// Tells all of these.
+fn tell_each<D: Desk>(desk: &mut D, lines: &Items<Text>)
+    ensures { D.passed desk.new ≡ passing (map Told lines.now) (D.passed desk.old) }
+{
+    tell_all(desk, lines.as_slice());
 }
 
 /// How much the trail shows.
@@ -165,14 +275,24 @@ fn answer<D: Desk, T: Timer, J: Journal, K: Kids>(
     request: &[u8],
 ) -> Result<(), ScriptFault>
     ensures ok { OnOk result ((before : Option (List Passed)) → D.passed desk.old ≡ passing (Asked request.now ∷ []) before
-        → IsTurn K.skills before (D.passed desk.new)
+        → IsTurn K.skills (T.says timer.now) before (D.passed desk.new)
+        (between
         (standing server.old.node (seen (K.ledger server.old.kids) (K.failures server.old.kids)) server.old.busy)
-        (standing server.new.node (seen (K.ledger server.new.kids) (K.failures server.new.kids)) server.new.busy)) }
+        server.old.ends)
+        (between
+        (standing server.new.node (seen (K.ledger server.new.kids) (K.failures server.new.kids)) server.new.busy)
+        server.new.ends)) }
     ensures err { IfErr result (λ e. (before : Option (List Passed)) → D.passed desk.old ≡ passing (Asked request.now ∷ []) before
         → IsFailed K.skills J.write_fails e before (D.passed desk.new)
+        (between
         (standing server.old.node (seen (K.ledger server.old.kids) (K.failures server.old.kids)) server.old.busy)
-        (standing server.new.node (seen (K.ledger server.new.kids) (K.failures server.new.kids)) server.new.busy)) }
-    ensures agrees { OnOk result (Agrees server.old.node.world (K.ledger server.old.kids) → Agrees server.new.node.world (K.ledger server.new.kids)) }
+        server.old.ends)
+        (between
+        (standing server.new.node (seen (K.ledger server.new.kids) (K.failures server.new.kids)) server.new.busy)
+        server.new.ends)) }
+    ensures agrees { OnOk result (
+        Agrees server.old.node.world (K.ledger server.old.kids)
+        → Agrees server.new.node.world (K.ledger server.new.kids)) }
     ensures later { IsLater server.old.node.world server.new.node.world }
 {
     let before = size(&server.node);
@@ -186,7 +306,7 @@ fn answer<D: Desk, T: Timer, J: Journal, K: Kids>(
         &mut server.kids,
     ) {
         Ok(status) => {
-            desk.reply(&text, status);
+            let _is_written = desk.reply(&text, status);
             let wanted = wants_rounds(alloc, &server.node, &before);
             match go_if(timer, server, wanted) {
                 Ok(()) => Ok(()),
@@ -194,7 +314,7 @@ fn answer<D: Desk, T: Timer, J: Journal, K: Kids>(
             }
         }
         Err(fault) => {
-            desk.reply(&text, FAULT);
+            let _is_written = desk.reply(&text, FAULT);
             Err(fault)
         }
     }
@@ -207,18 +327,31 @@ fn do_next<D: Desk, T: Timer, J: Journal, K: Kids>(
     timer: &T,
     server: &mut Server<J, K>,
 ) -> Result<Onward, ScriptFault>
-    ensures ok { IfOk result (λ onward. HasTurned K.skills onward (D.passed desk.old) (D.passed desk.new)
+    ensures ok { IfOk result (λ onward. HasTurned K.skills (T.says timer.now) onward (D.passed desk.old) (D.passed desk.new)
+        (between
         (standing server.old.node (seen (K.ledger server.old.kids) (K.failures server.old.kids)) server.old.busy)
-        (standing server.new.node (seen (K.ledger server.new.kids) (K.failures server.new.kids)) server.new.busy)) }
+        server.old.ends)
+        (between
+        (standing server.new.node (seen (K.ledger server.new.kids) (K.failures server.new.kids)) server.new.busy)
+        server.new.ends)) }
     ensures err { IfErr result (λ e. IsFailed K.skills J.write_fails e (D.passed desk.old) (D.passed desk.new)
+        (between
         (standing server.old.node (seen (K.ledger server.old.kids) (K.failures server.old.kids)) server.old.busy)
-        (standing server.new.node (seen (K.ledger server.new.kids) (K.failures server.new.kids)) server.new.busy)) }
-    ensures agrees { OnOk result (Agrees server.old.node.world (K.ledger server.old.kids) → Agrees server.new.node.world (K.ledger server.new.kids)) }
+        server.old.ends)
+        (between
+        (standing server.new.node (seen (K.ledger server.new.kids) (K.failures server.new.kids)) server.new.busy)
+        server.new.ends)) }
+    ensures agrees { OnOk result (
+        Agrees server.old.node.world (K.ledger server.old.kids)
+        → Agrees server.new.node.world (K.ledger server.new.kids)) }
     ensures later { IsLater server.old.node.world server.new.node.world }
 {
     match desk.next() {
-        Ask::Tick => match tick(timer, server) {
-            Ok(()) => Ok(Onward::Goes),
+        Ask::Tick => match tick(alloc, timer, server) {
+            Ok(lines) => {
+                tell_each(desk, &lines);
+                Ok(Onward::Goes)
+            }
             Err(fault) => Err(ScriptFault::Node(fault)),
         },
         Ask::Request(request) => match answer(alloc, desk, timer, server, request.as_slice()) {
@@ -236,15 +369,25 @@ pub fn turn<D: Desk, T: Timer, J: Journal, K: Kids>(
     timer: &T,
     server: &mut Server<J, K>,
 ) -> Result<Onward, ScriptFault>
-    // One request came in, its lines were done, and its one reply went out; or a tick, and nothing passed.
-    ensures ok { IfOk result (λ onward. HasTurned K.skills onward (D.passed desk.old) (D.passed desk.new)
+    // One request came in, its lines were done, and its one reply went out; or time passed, and lines were told.
+    ensures ok { IfOk result (λ onward. HasTurned K.skills (T.says timer.now) onward (D.passed desk.old) (D.passed desk.new)
+        (between
         (standing server.old.node (seen (K.ledger server.old.kids) (K.failures server.old.kids)) server.old.busy)
-        (standing server.new.node (seen (K.ledger server.new.kids) (K.failures server.new.kids)) server.new.busy)) }
+        server.old.ends)
+        (between
+        (standing server.new.node (seen (K.ledger server.new.kids) (K.failures server.new.kids)) server.new.busy)
+        server.new.ends)) }
     ensures err { IfErr result (λ e. IsFailed K.skills J.write_fails e (D.passed desk.old) (D.passed desk.new)
+        (between
         (standing server.old.node (seen (K.ledger server.old.kids) (K.failures server.old.kids)) server.old.busy)
-        (standing server.new.node (seen (K.ledger server.new.kids) (K.failures server.new.kids)) server.new.busy)) }
+        server.old.ends)
+        (between
+        (standing server.new.node (seen (K.ledger server.new.kids) (K.failures server.new.kids)) server.new.busy)
+        server.new.ends)) }
     // If children and the node agreed, they agree.
-    ensures agrees { OnOk result (Agrees server.old.node.world (K.ledger server.old.kids) → Agrees server.new.node.world (K.ledger server.new.kids)) }
+    ensures agrees { OnOk result (
+        Agrees server.old.node.world (K.ledger server.old.kids)
+        → Agrees server.new.node.world (K.ledger server.new.kids)) }
     // However it ends, what is held is what some events make of what was, and what the trail shows is what happened.
     ensures later { IsLater server.old.node.world server.new.node.world }
     ensures safe { IsSafe server.new.node.world }

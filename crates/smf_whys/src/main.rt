@@ -1,12 +1,12 @@
 //! `smf_whys`: reads lines of svccfg and lines `state FMRI STATE [NEXT]`, and prints why what the lines configured does not
 //! run. Each instance is refreshed first, and is offline if no line says its state. After a line `show`, which prints, all
-//! begins anew.
+//! begins anew. A line `check` prints what is wrong of the instances.
 #![tactic(auto)]
 
 use smf_cfg::Session;
 use smf_fmri::{Items, Ordered, SharedOrdered};
 use smf_model::{Command, Edit, NoJournal, Plain, RepoFault};
-use smf_reasons::{tell, text_of};
+use smf_reasons::{check, check_text_of, tell, text_of};
 use smf_state::{SharedRow, State, View, ViewItem};
 use std::alloc::{AllocError, Global};
 use std::io::{BufRead, BufReader};
@@ -97,6 +97,19 @@ fn done(
     Ok(())
 }
 
+fn check_all(
+    rt: &HostRuntime,
+    alloc: Global,
+    repository: &mut Plain<NoJournal>,
+) -> Result<(), RepoFault> {
+    refresh_all(repository)?;
+    let told = check(alloc, &repository.view()?)?;
+    let text = check_text_of(alloc, told.as_slice())?;
+    let text = text.as_str();
+    let _ = print!(rt; "{text}");
+    Ok(())
+}
+
 fn note(
     rt: &HostRuntime,
     alloc: Global,
@@ -132,6 +145,8 @@ fn run(rt: &HostRuntime, alloc: Global) -> Result<(), RepoFault> {
             repository = Plain::new(alloc, NoJournal {});
             session = Session::new();
             all = Vec::new(alloc);
+        } else if line == "check" {
+            check_all(rt, alloc, &mut repository)?;
         } else if let Some(text) = line.strip_prefix("state ") {
             note(rt, alloc, &mut all, text)?;
         } else if session.run_line(alloc, &mut repository, line).is_err() {

@@ -22,7 +22,7 @@ returns-clause-served c = (refl, refl)
 
 pub returns-clause-asked : goal.returns-clause-asked
 unfolding task_of smf_app clap_on_literals
-returns-clause-asked c = refl
+returns-clause-asked c = (refl, refl, refl)
 
 pub returns-clause-database : goal.returns-clause-database
 unfolding smf_app clap_on_literals
@@ -30,7 +30,7 @@ returns-clause-database c = (refl, refl, refl, refl)
 
 pub returns-clause-others : goal.returns-clause-others
 unfolding task_of smf_app clap_on_literals
-returns-clause-others c = (refl, refl, refl, refl, refl)
+returns-clause-others c = (refl, refl, refl, refl, refl, refl)
 
 pub returns-clause-help : goal.returns-clause-help
 unfolding smf_app clap_on_literals

@@ -7,6 +7,7 @@ pub returns : goal.returns
 unfolding smf_app
 returns c =
     c.in_ok-command.ensures.shape c.in_ok-tick.ensures.local
+    ∙ ap₂ with_subcommand (c.in_ok-subcommand-6.ensures.shape c.in_ok-check.ensures.local
     ∙ ap₂ with_subcommand (c.in_ok-subcommand-5.ensures.shape c.in_ok-why.ensures.local
     ∙ ap₂ with_subcommand (c.in_ok-subcommand-4.ensures.shape c.in_ok-serve.ensures.local
     ∙ ap₂ with_subcommand (c.in_ok-subcommand-3.ensures.shape c.in_ok-cfg.ensures.local
@@ -15,4 +16,5 @@ returns c =
     ∙ ap₂ with_subcommand c.bare_command.ensures (ap (λ (a : App). a.top) c.in_ok-sim.ensures.app)) (ap (λ (a : App). a.top) c.in_ok-run.ensures.app))
     (ap (λ (a : App). a.top) c.in_ok-cfg.ensures.app)) (ap (λ (a : App). a.top) c.in_ok-serve.ensures.app))
     (ap (λ (a : App). a.top) c.in_ok-why.ensures.app))
+    (ap (λ (a : App). a.top) c.in_ok-check.ensures.app))
     (ap (λ (a : App). a.top) c.in_ok-tick.ensures.app)

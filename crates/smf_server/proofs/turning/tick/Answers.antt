@@ -1,36 +1,34 @@
-use Rattle.smf_drive.proofs.Moving.{moves_then}
+use Rattle.std.specs.Prelude.{length, nat_lt}
+use Rattle.smf_drive.proofs.Agreeing.{agree_moves}
 use Rattle.smf_edge.specs.Answers.{seen}
-use Rattle.smf_node.specs.Rounds.{course}
-use Rattle.smf_server.proofs.Hears.{heard_moved}
-use Rattle.smf_server.proofs.Late.{times_moved}
-use Rattle.smf_server.proofs.Turned.{moved_later}
+use Rattle.smf_server.specs.Turns.{between, shown_of, standing}
+use Rattle.smf_server.proofs.Marked.{looked_agrees, looks_after}
 use Rattle.smf_world.proofs.Reaching.{later_then}
 use Rattle.smf_server.proofs.turning.tick.Goals as goal
 
 pub returns-clause-ticked : goal.returns-clause-ticked
 returns-clause-ticked g c =
     record {
-      heard = course c.hear_all.new.node (seen (g.K.Kids.ledger c.hear_all.new.kids) (g.K.Kids.failures c.hear_all.new.kids));
-      any = c.in_ok-any.any;
-      hears = c.in_ok-any.ensures.heard;
-      timed = c.time_out.new.node;
-      late = c.in_ok-late.late;
-      times = c.in_ok-late.ensures.ok;
-      goes = rw c.are_wanted-wanted.ensures at c.in_ok-go_if.ensures.gone;
+      gone = standing c.pass.new.server.node (seen (g.K.Kids.ledger c.pass.new.server.kids) (g.K.Kids.failures c.pass.new.server.kids)) c.pass.new.server.busy;
+      passes = c.in_ok-pass.ensures.passed;
+      looks =
+          looks_after (g.T.Timer.says c.args.timer.now) (standing c.pass.new.server.node (seen (g.K.Kids.ledger c.pass.new.server.kids) (g.K.Kids.failures c.pass.new.server.kids)) c.pass.new.server.busy)
+          c.args.server.now.ends c.pass.new.server.ends
+          (between (standing c.look_if.new.server.node (seen (g.K.Kids.ledger c.look_if.new.server.kids) (g.K.Kids.failures c.look_if.new.server.kids)) c.look_if.new.server.busy) c.look_if.new.server.ends)
+          c.in_ok-lines.lines c.pass.ensures.kept c.in_ok-lines.ensures.looked;
     }
 
-pub returns-clause-moves : goal.returns-clause-moves
-returns-clause-moves g c =
-    moves_then _ _ _ _ _ _ (heard_moved g.K.Kids.skills _ _ _ c.in_ok-any.ensures.heard)
-    (moves_then _ _ _ _ _ _ (times_moved _ _ (g.K.Kids.ledger c.hear_all.new.kids) _ c.in_ok-late.ensures.ok) c.go_if.ensures.moves)
+pub returns-clause-agrees : goal.returns-clause-agrees
+returns-clause-agrees g c =
+    λ agrees.
+    looked_agrees (g.T.Timer.says c.args.timer.now)
+    (between (standing c.pass.new.server.node (seen (g.K.Kids.ledger c.pass.new.server.kids) (g.K.Kids.failures c.pass.new.server.kids)) c.pass.new.server.busy) c.pass.new.server.ends)
+    (between (standing c.look_if.new.server.node (seen (g.K.Kids.ledger c.look_if.new.server.kids) (g.K.Kids.failures c.look_if.new.server.kids)) c.look_if.new.server.busy) c.look_if.new.server.ends)
+    c.in_ok-lines.lines (nat_lt c.pass.new.server.ends.looked (length (shown_of c.pass.new.server.node.world))) c.in_ok-lines.ensures.looked
+    (agree_moves _ _ _ _ c.in_ok-pass.ensures.moves agrees)
 
-pub returns-in_err-late-clause-later : goal.returns-in_err-late-clause-later
-returns-in_err-late-clause-later g c = later_then _ _ _ c.hear_all.ensures.later c.time_out.ensures.later
-
-pub returns-in_err-go_if-clause-later : goal.returns-in_err-go_if-clause-later
-returns-in_err-go_if-clause-later g c =
-    later_then _ _ _ (later_then _ _ _ c.hear_all.ensures.later c.time_out.ensures.later) (moved_later _ _ _ _ c.go_if.ensures.moves)
+pub returns-in_err-lines-clause-later : goal.returns-in_err-lines-clause-later
+returns-in_err-lines-clause-later g c = later_then _ _ _ c.pass.ensures.later c.look_if.ensures.later
 
 pub returns-clause-later : goal.returns-clause-later
-returns-clause-later g c =
-    later_then _ _ _ (later_then _ _ _ c.hear_all.ensures.later c.time_out.ensures.later) (moved_later _ _ _ _ c.go_if.ensures.moves)
+returns-clause-later g c = later_then _ _ _ c.pass.ensures.later c.look_if.ensures.later

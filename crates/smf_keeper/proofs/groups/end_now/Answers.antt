@@ -1,7 +1,7 @@
 use Rattle.std.proofs.Common.{string_bytes}
 use Rattle.smf_keeper.proofs.Failing.{on_err}
 use Rattle.smf_keeper.proofs.Grouping.{ended_in, may_live_told}
-use Rattle.smf_keeper.proofs.groups.GroupsContracts.end.Goals as goal
+use Rattle.smf_keeper.proofs.groups.end_now.Goals as goal
 
 pub returns-in_err-empty-clause-lost : goal.returns-in_err-empty-clause-lost
 returns-in_err-empty-clause-lost g c =

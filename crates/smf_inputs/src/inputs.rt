@@ -1,0 +1,102 @@
+//! Inputs of a restarter, as lines.
+
+use crate::contracts::{contract_of, report_with, reported_kind, statuses_of};
+use crate::words::{number_of, split_word};
+use smf_fmri::{Items, read_count};
+use smf_restarter::{Answer, Call, Change, Reply, Restarter};
+use smf_wire::{WireFault, decode};
+use std::alloc::{AllocError, Global};
+
+/// An input that changes what is known, and asks for nothing.
+fn changing(alloc: Global, change: Change) -> Reply {
+    Reply {
+        change,
+        messages: Items::new(alloc),
+        taken: Items::new(alloc),
+        begun: Items::new(alloc),
+        call: Call::Nothing,
+    }
+}
+
+fn heard(alloc: Global, restarter: &Restarter, line: &str) -> Result<Option<Reply>, AllocError> {
+    match decode(alloc, line) {
+        Ok(message) => Ok(Some(restarter.heard(&message)?)),
+        Err(WireFault::Memory) => Err(AllocError),
+        Err(WireFault::NotInGrammar(_)) => Ok(None),
+    }
+}
+
+/// A tick of an instance, or the restarter's own, which is that of 0.
+fn ticked(restarter: &Restarter, text: &str) -> Result<Option<Reply>, AllocError> {
+    match read_count(text) {
+        None => Ok(None),
+        Some(0) => Ok(Some(restarter.own_tick()?)),
+        Some(instance) => Ok(Some(restarter.ticked(instance)?)),
+    }
+}
+
+fn listed(alloc: Global, restarter: &Restarter, text: &str) -> Result<Option<Reply>, AllocError> {
+    match statuses_of(alloc, restarter.actor(), text)? {
+        None => Ok(None),
+        Some(statuses) => {
+            let change = restarter.listed(statuses.as_slice())?;
+            Ok(Some(changing(alloc, change)))
+        }
+    }
+}
+
+/// `spawned INSTANCE CONTRACT`, `adopted INSTANCE CONTRACT`, and without a contract `refused`, `notfollowed` and
+/// `unanswered`.
+fn answer_of(call: &str, contract: &str) -> Option<Answer> {
+    match call {
+        "spawned" => Some(Answer::Spawned(number_of(contract)?)),
+        "adopted" => Some(Answer::Adopted(number_of(contract)?)),
+        "refused" => Some(Answer::Refused),
+        "notfollowed" => Some(Answer::NotFollowed),
+        "unanswered" => Some(Answer::Nothing),
+        _ => None,
+    }
+}
+
+fn answered(restarter: &Restarter, call: &str, text: &str) -> Option<Change> {
+    let (instance, contract) = split_word(text);
+    let instance = read_count(instance)?;
+    Some(restarter.answered(instance, answer_of(call, contract)?))
+}
+
+fn reported(restarter: &Restarter, text: &str) -> Option<Change> {
+    let contract = contract_of(restarter.actor(), text)?;
+    let kind = reported_kind(text)?;
+    Some(restarter.reported(&report_with(contract, kind, text)))
+}
+
+fn timed_out(restarter: &Restarter, text: &str) -> Option<Change> {
+    Some(restarter.timed_out(read_count(text)?))
+}
+
+/// The change of an input that asks for nothing; none if a line is no such input.
+fn change_of(restarter: &Restarter, call: &str, text: &str) -> Option<Change> {
+    match call {
+        "report" => reported(restarter, text),
+        "timeout" => timed_out(restarter, text),
+        _ => answered(restarter, call, text),
+    }
+}
+
+/// The reply to the input that a line is; none if it is no input.
+pub(crate) fn reply_to(
+    alloc: Global,
+    restarter: &Restarter,
+    line: &str,
+) -> Result<Option<Reply>, AllocError> {
+    let (call, text) = split_word(line);
+    match call {
+        "message" => heard(alloc, restarter, text),
+        "tick" => ticked(restarter, text),
+        "listed" => listed(alloc, restarter, text),
+        _ => match change_of(restarter, call, text) {
+            None => Ok(None),
+            Some(change) => Ok(Some(changing(alloc, change))),
+        },
+    }
+}

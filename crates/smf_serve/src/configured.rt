@@ -1,0 +1,111 @@
+//! What svc.startd's graph would see if each instance was refreshed.
+
+ghost use Rattle.std.specs.Prelude.{◌≡◌, IfOk, Some, map, option_map};
+ghost use Rattle.smf_fmri.specs.ByKey.{Rises};
+ghost use Rattle.smf_model.specs.declared.held.Instance.{Instance as AnyInstance};
+ghost use Rattle.smf_model.specs.Holdings.{Holdings};
+ghost use Rattle.smf_model.specs.Look.{instance};
+ghost use Rattle.smf_model.specs.Next.{found, snapshot_of};
+ghost use Rattle.smf_model.specs.Shown.{body_of as body_of_snapshot};
+ghost use Rattle.smf_serve.specs.Reasons.{body_of, configured, refreshed, taken_of};
+ghost use Rattle.smf_state.specs.Patched.{by_item};
+
+use smf_fmri::{Bytes, Ordered, SharedOrdered};
+use smf_model::{Instance, Journal, Owner, Plain};
+use smf_snap::{encode_both, take};
+use smf_state::{View, ViewItem};
+use smf_value::Group;
+use std::alloc::{AllocError, Global};
+
+/// What a snapshot keeps of the groups of an owner today.
+fn taken_of<J: Journal>(
+    alloc: Global,
+    repository: &Plain<J>,
+    owner: &Owner,
+) -> Result<Ordered<Group>, AllocError>
+    ensures { IfOk result (λ groups. groups ≡ taken_of repository.now.held owner.now) }
+{
+    let groups = repository.groups(owner)?;
+    take(alloc, &groups)
+}
+
+/// The bytes of a snapshot that an instance would have.
+fn body_of<J: Journal>(
+    alloc: Global,
+    repository: &Plain<J>,
+    instance: &Instance,
+) -> Result<Bytes, AllocError>
+    ensures { IfOk result (λ body. body ≡ body_of repository.now.held instance.now) }
+{
+    let service = instance.name.as_fmri().service_fmri(alloc)?;
+    let service = taken_of(alloc, repository, &Owner::Service(service))?;
+    let own = taken_of(alloc, repository, &Owner::Instance(instance.number))?;
+    encode_both(alloc, &service, &own)
+}
+
+fn body_at<J: Journal>(
+    alloc: Global,
+    repository: &Plain<J>,
+    number: u64,
+) -> Result<Option<Bytes>, AllocError>
+    ensures { IfOk result (λ body. body ≡ option_map (body_of repository.now.held) (found repository.now.held number)) }
+{
+    match repository.instance(number)? {
+        None => Ok(None),
+        Some(instance) => {
+            let body = body_of(alloc, repository, &instance)?;
+            Ok(Some(body))
+        }
+    }
+}
+
+/// An item as a refresh would make it.
+fn refreshed<J: Journal>(
+    alloc: Global,
+    repository: &Plain<J>,
+    item: &ViewItem,
+) -> Result<ViewItem, AllocError>
+    ensures { IfOk result (λ i. i ≡ refreshed repository.now.held item.now) }
+{
+    let body = body_at(alloc, repository, item.instance)?;
+    let mut item = item.clone()?;
+    item.body = body;
+    Ok(item)
+}
+
+fn all_refreshed<J: Journal>(
+    alloc: Global,
+    repository: &Plain<J>,
+    items: &[ViewItem],
+) -> Result<Ordered<ViewItem>, AllocError>
+    requires { Rises by_item items.now }
+    ensures { IfOk result (λ all. all ≡ map (refreshed repository.now.held) items.now) }
+{
+    let mut all = Vec::new(alloc);
+    for item in items {
+        all.push(refreshed(alloc, repository, item)?)?;
+    }
+    Ok(Ordered::from_vec(all))
+}
+
+/// What the graph would see if each instance was refreshed.
+#[tactic(auto, unfolding(crate::specs::Reasons::configured))]
+pub(crate) fn configured<J: Journal>(
+    alloc: Global,
+    repository: &Plain<J>,
+) -> Result<View, AllocError>
+    ensures { IfOk result (λ view. view ≡ configured repository.now.held) }
+{
+    let view = repository.view()?;
+    let items = all_refreshed(alloc, repository, view.items.as_slice())?;
+    let items = SharedOrdered::of(alloc, items)?;
+    Ok(View {
+        revision: view.revision,
+        items,
+    })
+}
+
+/// A check looks at the bytes of the snapshot that a refresh would take.
+pub fn a_check_sees_what_a_refresh_takes()
+    ensures { (h : Holdings) (i : AnyInstance) → instance h i.number ≡ Some i → body_of h i ≡ body_of_snapshot (snapshot_of h i) }
+{}
