@@ -1,5 +1,8 @@
 //! Sets of kinds of events, terms of contracts, and events, as words.
 
+ghost use Rattle.std.specs.Prelude.{IfSome};
+ghost use Rattle.smf_contract.specs.Stated.{AreEvents};
+
 use crate::answers::Answer;
 use crate::words::{split_two, split_word};
 use bitflags::Flags;
@@ -15,7 +18,9 @@ const KINDS: [(&str, EventSet); 6] = [
     ("hwerr", EventSet::HWERR),
 ];
 
-fn kind_of(word: &str) -> Option<EventSet> {
+fn kind_of(word: &str) -> Option<EventSet>
+    ensures { IfSome result AreEvents }
+{
     match word {
         "empty" => Some(EventSet::EMPTY),
         "fork" => Some(EventSet::FORK),
@@ -28,7 +33,10 @@ fn kind_of(word: &str) -> Option<EventSet> {
 }
 
 /// The kinds that stand between commas; `-` is none.
-fn set_of(text: &str) -> Option<EventSet> {
+#[tactic(auto, using(crate::proofs::Sets::union_exists))]
+fn set_of(text: &str) -> Option<EventSet>
+    ensures { IfSome result AreEvents }
+{
     let mut set = EventSet::NONE;
     if text == "-" {
         return Some(set);

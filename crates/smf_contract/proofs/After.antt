@@ -116,7 +116,7 @@ given_up_id : (b : Bool) (c d : Contract) → d.id ≡ c.id → (cond b d c).id 
 given_up_id true c d h = h
 given_up_id false c d h = refl
 
-given_up_ids : (actor : ℕ) (cs : List Contract) → map (λ c. c.id) (map (Calls.given_up actor) cs) ≡ map (λ c. c.id) cs
+pub given_up_ids : (actor : ℕ) (cs : List Contract) → map (λ c. c.id) (map (Calls.given_up actor) cs) ≡ map (λ c. c.id) cs
 given_up_ids actor [] = refl
 given_up_ids actor (c ∷ cs) = let here = given_up_id (Calls.is_held_by actor c.holder) c (record c { holder = (cond c.terms.inherit Inherited Abandoned) }) refl in let rest = given_up_ids actor cs in cc
 
@@ -134,7 +134,7 @@ set_ids [] k f h = refl
 set_ids (c ∷ cs) zero f h = ap (λ i. i ∷ map (λ c. c.id) cs) (h c)
 set_ids (c ∷ cs) (suc k) f h = set_more (slice_get cs k) c cs k f (set_ids cs k f h)
 
-changed_ids : (cs : List Contract) (f : Contract → Contract) → ((c : Contract) → (f c).id ≡ c.id) → (o : Option ℕ) → map (λ c. c.id) (Calls.changed_at cs f o) ≡ map (λ c. c.id) cs
+pub changed_ids : (cs : List Contract) (f : Contract → Contract) → ((c : Contract) → (f c).id ≡ c.id) → (o : Option ℕ) → map (λ c. c.id) (Calls.changed_at cs f o) ≡ map (λ c. c.id) cs
 changed_ids cs f h None = refl
 changed_ids cs f h (Some k) = set_ids cs k f h
 

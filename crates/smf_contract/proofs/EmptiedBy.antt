@@ -9,7 +9,6 @@ use Rattle.smf_contract.specs.declared.contract.Contract.{Contract}
 use Rattle.smf_contract.specs.declared.contract.Holder.TheVariants.{Held, Inherited, Abandoned}
 use Rattle.smf_contract.specs.declared.contract.Member.{Member}
 use Rattle.smf_contract.specs.declared.event.Exit as ends
-use Rattle.smf_contract.specs.declared.event.Event.{Event}
 use Rattle.smf_contract.specs.declared.event.Failure.{Failure}
 use Rattle.smf_contract.specs.declared.fault.ContractFault.{ContractFault}
 use Rattle.smf_contract.specs.declared.terms.Terms.{Terms}

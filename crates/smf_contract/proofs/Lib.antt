@@ -1,7 +1,9 @@
 pub mod After
 pub mod EmptiedBy
 pub mod Ended
+pub mod Halves
 pub mod Lost
 pub mod Numbered
 pub mod Ordered
 pub mod Parts
+pub mod Trails

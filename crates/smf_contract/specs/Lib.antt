@@ -4,4 +4,6 @@ pub mod Ends
 pub mod Entries
 pub mod Kinds
 pub mod Laws
+pub mod Stated
+pub mod Trail
 pub mod Cookies

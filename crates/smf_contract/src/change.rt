@@ -1,64 +1,49 @@
 // Changes of a table's lists, for which room was made before.
 ghost use Rattle.std.specs.Prelude.{◌≡◌, ◌+◌, ◌*◌, ◌<◌, ◌≤◌, OnOk, OnErr, true, false, length, map, vec_len, vec_capacity};
 ghost use Rattle.smf_contract.specs.Entries.{has_room, has_members, processes, without, outside};
-ghost use Rattle.smf_contract.specs.Calls.{noted, exits, emptied, emptied_by_force, one_exit, all_exit, failure_kind, ended, ended_one_with, ended_with, ends_with, given_up, earlier, later};
+ghost use Rattle.smf_contract.specs.Calls.{exits, emptied, emptied_by_force, one_exit, all_exit, failure_kind, ended, ended_one_with, ended_with, ends_with, given_up, earlier, later};
 
+use crate::book::Book;
 use crate::contract::{Contract, Holder, Member};
-use crate::event::{Event, EventKind, Exit, Failure};
-use crate::lookup::{count_members, has_members, is_held_by, last_event};
+use crate::event::{EventKind, Exit, Failure};
+use crate::lookup::{count_members, has_members, is_held_by};
+use crate::past::Past;
 use smf_fmri::Number;
 use std::alloc::AllocError;
 
 /// Makes room for any call. Where memory runs out, room was missing.
 pub(crate) fn make_room(
-    contracts: &mut Vec<Contract>,
+    book: &mut Book,
     members: &mut Vec<Member>,
-    events: &mut Vec<Event>,
+    events: &mut Past,
 ) -> Result<(), AllocError>
-    ensures contracts { contracts.new.items ≡ contracts.old.items }
+    ensures contracts { book.new.contracts ≡ book.old.contracts }
+    ensures last { book.new.last ≡ book.old.last }
     ensures members { members.new.items ≡ members.old.items }
-    ensures events { events.new.items ≡ events.old.items }
-    ensures one_contract { OnOk result (vec_len contracts.new < vec_capacity contracts.new) }
+    ensures events { events.new.events ≡ events.old.events }
+    ensures one_contract { OnOk result (length book.new.contracts < book.new.fit) }
     ensures one_member { OnOk result (vec_len members.new < vec_capacity members.new) }
-    ensures all_events { OnOk result (vec_len events.new + (2 * vec_len members.new + 3) ≤ vec_capacity events.new) }
-    ensures err { OnErr result (has_room (vec_len contracts.old) (vec_capacity contracts.old) (vec_len members.old) (vec_capacity members.old) (vec_len events.old) (vec_capacity events.old) ≡ false) }
+    ensures all_events { OnOk result (length events.new.events + (2 * vec_len members.new + 3) ≤ events.new.fit) }
+    ensures err { OnErr result (has_room (length book.old.contracts) book.old.fit (vec_len members.old) (vec_capacity members.old) (length events.old.events) events.old.fit ≡ false) }
 {
-    contracts.reserve(1)?;
+    book.reserve()?;
     members.reserve(1)?;
     events.reserve(2 * members.len() + 3)
 }
 
-/// Notes an event of a contract behind the others.
-pub(crate) fn note(events: &mut Vec<Event>, contract: Number, kind: EventKind, left: bool)
-    requires { vec_len events.old < vec_capacity events.old }
-    ensures noted { events.new.items ≡ noted events.old.items contract kind left }
-    ensures len { vec_len events.new ≡ vec_len events.old + 1 }
-    ensures capacity { vec_capacity events.old ≤ vec_capacity events.new }
-{
-    let number = Number::new(last_event(events, contract) + 1).unwrap();
-    events
-        .push(Event {
-            contract,
-            number,
-            kind,
-            left,
-        })
-        .unwrap();
-}
-
 /// Notes that a contract's members are killed.
-pub(crate) fn note_exits(members: &[Member], events: &mut Vec<Event>, contract: Number)
-    requires { vec_len events.old + length (processes contract members.now) ≤ vec_capacity events.old }
-    ensures exits { events.new.items ≡ exits events.old.items contract (processes contract members.now) }
-    ensures len { vec_len events.new ≡ vec_len events.old + length (processes contract members.now) }
-    ensures capacity { vec_capacity events.old ≤ vec_capacity events.new }
+pub(crate) fn note_exits(members: &[Member], events: &mut Past, contract: Number)
+    requires { length events.old.events + length (processes contract members.now) ≤ events.old.fit }
+    ensures exits { events.new.events ≡ exits events.old.events contract (processes contract members.now) }
+    ensures len { length events.new.events ≡ length events.old.events + length (processes contract members.now) }
+    ensures capacity { events.old.fit ≤ events.new.fit }
 {
     let mut others = count_members(members, contract);
     for m in members {
         if m.contract == contract {
             others -= 1;
             let exit = EventKind::Exit(m.process, Exit::Killed);
-            note(events, contract, exit, others > 0);
+            events.note(contract, exit, others > 0);
         }
     }
 }
@@ -93,50 +78,50 @@ pub(crate) fn kind_of(failure: Failure, process: Number) -> EventKind
 
 /// Kills all members of a contract.
 #[tactic(auto, using(crate::proofs::Parts::parts, crate::proofs::Parts::some))]
-pub(crate) fn empty_by_force(members: &mut Vec<Member>, events: &mut Vec<Event>, contract: Number)
-    requires { vec_len events.old + vec_len members.old < vec_capacity events.old }
-    ensures emptied { emptied_by_force contract (record { members = members.old.items; events = events.old.items }) ≡ record { members = members.new.items; events = events.new.items } }
-    ensures size { has_members contract members.old.items ≡ true → vec_len events.new + 2 * vec_len members.new ≤ vec_len events.old + 2 * vec_len members.old }
-    ensures capacity { vec_capacity events.old ≤ vec_capacity events.new }
+pub(crate) fn empty_by_force(members: &mut Vec<Member>, events: &mut Past, contract: Number)
+    requires { length events.old.events + vec_len members.old < events.old.fit }
+    ensures emptied { emptied_by_force contract (record { members = members.old.items; events = events.old.events }) ≡ record { members = members.new.items; events = events.new.events } }
+    ensures size { has_members contract members.old.items ≡ true → length events.new.events + 2 * vec_len members.new ≤ length events.old.events + 2 * vec_len members.old }
+    ensures capacity { events.old.fit ≤ events.new.fit }
 {
     note_exits(members, events, contract);
     remove_all(members, contract);
-    note(events, contract, EventKind::Empty, false);
+    events.note(contract, EventKind::Empty, false);
 }
 
 /// Ends one member.
 pub(crate) fn exit_one(
     members: &mut Vec<Member>,
-    events: &mut Vec<Event>,
+    events: &mut Past,
     contract: Number,
     process: Number,
     exit: Exit,
 )
-    requires { vec_len events.old + 2 ≤ vec_capacity events.old }
-    ensures { one_exit contract process exit (record { members = members.old.items; events = events.old.items }) ≡ record { members = members.new.items; events = events.new.items } }
+    requires { length events.old.events + 2 ≤ events.old.fit }
+    ensures { one_exit contract process exit (record { members = members.old.items; events = events.old.events }) ≡ record { members = members.new.items; events = events.new.events } }
 {
     remove(members, process);
     let left = has_members(members, contract);
-    note(events, contract, EventKind::Exit(process, exit), left);
+    events.note(contract, EventKind::Exit(process, exit), left);
     if !left {
-        note(events, contract, EventKind::Empty, false);
+        events.note(contract, EventKind::Empty, false);
     }
 }
 
 /// Ends one member, and the others after it.
 pub(crate) fn exit_all(
     members: &mut Vec<Member>,
-    events: &mut Vec<Event>,
+    events: &mut Past,
     contract: Number,
     process: Number,
 )
-    requires { vec_len events.old + vec_len members.old + 2 ≤ vec_capacity events.old }
-    ensures { all_exit contract process (record { members = members.old.items; events = events.old.items }) ≡ record { members = members.new.items; events = events.new.items } }
+    requires { length events.old.events + vec_len members.old + 2 ≤ events.old.fit }
+    ensures { all_exit contract process (record { members = members.old.items; events = events.old.events }) ≡ record { members = members.new.items; events = events.new.events } }
 {
     remove(members, process);
     let left = has_members(members, contract);
     let exit = EventKind::Exit(process, Exit::Killed);
-    note(events, contract, exit, left);
+    events.note(contract, exit, left);
     empty_by_force(members, events, contract);
 }
 
@@ -148,11 +133,11 @@ pub(crate) fn ends_with(contract: &Contract, actor: u64) -> bool
 }
 
 /// Ends the members of a contract, if it has any.
-pub(crate) fn end_members(members: &mut Vec<Member>, events: &mut Vec<Event>, contract: Number)
-    requires { vec_len events.old + 2 * vec_len members.old < vec_capacity events.old }
-    ensures ended { ended contract (record { members = members.old.items; events = events.old.items }) ≡ record { members = members.new.items; events = events.new.items } }
-    ensures size { vec_len events.new + 2 * vec_len members.new ≤ vec_len events.old + 2 * vec_len members.old }
-    ensures capacity { vec_capacity events.old ≤ vec_capacity events.new }
+pub(crate) fn end_members(members: &mut Vec<Member>, events: &mut Past, contract: Number)
+    requires { length events.old.events + 2 * vec_len members.old < events.old.fit }
+    ensures ended { ended contract (record { members = members.old.items; events = events.old.events }) ≡ record { members = members.new.items; events = events.new.events } }
+    ensures size { length events.new.events + 2 * vec_len members.new ≤ length events.old.events + 2 * vec_len members.old }
+    ensures capacity { events.old.fit ≤ events.new.fit }
 {
     if has_members(members, contract) {
         empty_by_force(members, events, contract);
@@ -163,13 +148,13 @@ pub(crate) fn end_members(members: &mut Vec<Member>, events: &mut Vec<Event>, co
 pub(crate) fn end_one_with(
     contract: &Contract,
     members: &mut Vec<Member>,
-    events: &mut Vec<Event>,
+    events: &mut Past,
     actor: u64,
 )
-    requires { vec_len events.old + 2 * vec_len members.old < vec_capacity events.old }
-    ensures ended { ended_one_with actor contract.now (record { members = members.old.items; events = events.old.items }) ≡ record { members = members.new.items; events = events.new.items } }
-    ensures size { vec_len events.new + 2 * vec_len members.new ≤ vec_len events.old + 2 * vec_len members.old }
-    ensures capacity { vec_capacity events.old ≤ vec_capacity events.new }
+    requires { length events.old.events + 2 * vec_len members.old < events.old.fit }
+    ensures ended { ended_one_with actor contract.now (record { members = members.old.items; events = events.old.events }) ≡ record { members = members.new.items; events = events.new.events } }
+    ensures size { length events.new.events + 2 * vec_len members.new ≤ length events.old.events + 2 * vec_len members.old }
+    ensures capacity { events.old.fit ≤ events.new.fit }
 {
     if ends_with(contract, actor) {
         end_members(members, events, contract.id);
@@ -180,11 +165,11 @@ pub(crate) fn end_one_with(
 pub(crate) fn end_with(
     contracts: &[Contract],
     members: &mut Vec<Member>,
-    events: &mut Vec<Event>,
+    events: &mut Past,
     actor: u64,
 )
-    requires { vec_len events.old + 2 * vec_len members.old < vec_capacity events.old }
-    ensures { ended_with actor contracts.now (record { members = members.old.items; events = events.old.items }) ≡ record { members = members.new.items; events = events.new.items } }
+    requires { length events.old.events + 2 * vec_len members.old < events.old.fit }
+    ensures { ended_with actor contracts.now (record { members = members.old.items; events = events.old.events }) ≡ record { members = members.new.items; events = events.new.events } }
 {
     for c in contracts {
         end_one_with(c, members, events, actor);

@@ -6,6 +6,7 @@ ghost use Rattle.smf_contract.specs.Ends.{ended_ids, ending_ids, failed_ids, hom
 ghost use Rattle.smf_contract.specs.Entries.{has_id, has_members, without};
 ghost use Rattle.smf_contract.specs.Laws.{is_among};
 
+use crate::book::Book;
 use crate::change::ends_with;
 use crate::contract::{Contract, Member};
 use crate::event::Failure;
@@ -103,16 +104,16 @@ fn ids_ended(
 /// The contracts that a failure of a process empties.
 pub(crate) fn failed_ids(
     alloc: Global,
-    contracts: &[Contract],
+    book: &Book,
     members: &[Member],
     failure: Failure,
     id: Number,
     process: Number,
 ) -> Result<Vec<Number>, AllocError>
-    ensures { IfOk result (λ ids. ids.items ≡ failed_ids contracts.now members.now failure id process) }
+    ensures { IfOk result (λ ids. ids.items ≡ failed_ids book.now.contracts members.now failure id process) }
 {
-    let is_fatal = is_fatal(contracts, id, failure);
-    ended_ids(alloc, contracts, members, is_fatal, id, process)
+    let is_fatal = is_fatal(book, id, failure);
+    ended_ids(alloc, book.as_slice(), members, is_fatal, id, process)
 }
 
 /// The contracts that a kill empties.

@@ -1,8 +1,9 @@
 //! Process contracts: who holds which, what processes are in it, and what happened to them.
 //! Modules: `terms` (event sets), `event`, `contract` (what the table keeps), `call`, `table` (the calls) over `lookup`
-//! and `change`, `law`, `cookie`, `fault`.
+//! and `change`, `book` (the contracts by their ids), `past` (the events of each contract), `law`, `cookie`, `fault`.
 #![tactic(auto)]
 
+mod book;
 mod call;
 mod change;
 mod contract;
@@ -12,6 +13,7 @@ mod event;
 mod fault;
 mod law;
 mod lookup;
+mod past;
 mod table;
 mod terms;
 

@@ -1,22 +1,16 @@
 // What a table's lists say of a contract, a process or an event.
-ghost use Rattle.std.specs.Prelude.{◌≡◌, ◌<◌, IfOk, IfSome, length, position, filter, count_by, is_some};
-ghost use Rattle.smf_contract.specs.Entries.{contract_in, event_in, found_at, home, has_id, is_process, is_in, has_members, processes, first_member, last_event, is_event, report_of, is_given, is_event_of, acknowledged_at};
+ghost use Rattle.std.specs.Prelude.{◌≡◌, ◌<◌, IfOk, IfSome, length, position, count_by, is_some};
+ghost use Rattle.smf_contract.specs.Entries.{contract_in, event_in, home, is_process, is_in, has_members, processes, first_member, report_of, is_given, acknowledged_at};
 ghost use Rattle.smf_contract.specs.Calls.{is_held_by, held_by, is_fatal};
 
+use crate::book::Book;
 use crate::contract::{Contract, Holder, Member, Report};
 use crate::event::{Event, Failure};
+use crate::past::Past;
 use crate::terms::EventSet;
 use bitflags::Flags;
 use smf_fmri::Number;
 use std::alloc::{AllocError, Global};
-
-/// Where a contract stands in the list.
-pub(crate) fn place_of(contracts: &[Contract], id: Number) -> Option<usize>
-    ensures exact { result ≡ position (has_id id) contracts.now }
-    ensures in_range { IfSome result (λ k. k < length contracts.now) }
-{
-    contracts.iter().position(|c| c.id == id)
-}
 
 /// Where a process stands in the list.
 pub(crate) fn place_of_process(members: &[Member], process: Number) -> Option<usize>
@@ -68,45 +62,16 @@ fn count_in(members: &[Member], contract: Number) -> usize
     members.iter().filter(|m| m.contract == contract).count()
 }
 
-/// Where an event of a contract stands in the list.
-fn place_of_event(events: &[Event], contract: u64, number: u64) -> Option<usize>
-    ensures exact { result ≡ position (is_event contract number) events.now }
-    ensures in_range { IfSome result (λ k. k < length events.now) }
-{
-    events.iter().position(|e| e.contract.get() == contract && e.number.get() == number)
-}
-
-/// Where the contract of any number stands in the list.
-fn place_of_any(contracts: &[Contract], id: u64) -> Option<usize>
-    ensures exact { result ≡ position (has_id id) contracts.now }
-    ensures in_range { IfSome result (λ k. k < length contracts.now) }
-{
-    contracts.iter().position(|c| c.id.get() == id)
-}
-
 /// An event of a contract, and the contract.
-pub(crate) fn report(
-    contracts: &[Contract],
-    events: &[Event],
-    contract: u64,
-    number: u64,
-) -> Option<Report>
-    ensures { result ≡ report_of (contract_in contracts.now contract) (event_in events.now contract number) }
+pub(crate) fn report(book: &Book, events: &Past, contract: u64, number: u64) -> Option<Report>
+    ensures { result ≡ report_of (contract_in book.now.contracts contract) (event_in events.now.events contract number) }
 {
-    let at = place_of_any(contracts, contract)?;
-    let k = place_of_event(events, contract, number)?;
+    let contract_found = book.find(contract)?;
+    let event = events.event(contract, number)?;
     Some(Report {
-        contract: contracts[at],
-        event: events[k],
+        contract: contract_found,
+        event,
     })
-}
-
-/// The number of a contract's last event, which is their count.
-pub(crate) fn last_event(events: &[Event], contract: Number) -> u64
-    ensures exact { result ≡ last_event contract events.now }
-    ensures bound { result < 0x7fff_ffff_ffff_ffff }
-{
-    events.iter().filter(|e| e.contract == contract).count() as u64
 }
 
 pub(crate) fn is_held_by(holder: Holder, actor: u64) -> bool
@@ -118,41 +83,39 @@ pub(crate) fn is_held_by(holder: Holder, actor: u64) -> bool
     }
 }
 
-/// Where a contract stands in the list, if an actor holds it.
-pub(crate) fn place_held(contracts: &[Contract], actor: u64, id: Number) -> Option<usize>
-    ensures held { found_at contracts.now result ≡ held_by actor (found_at contracts.now (position (has_id id) contracts.now)) }
-    ensures place { IfSome result (λ k. position (has_id id) contracts.now ≡ Some k) }
-    ensures in_range { IfSome result (λ k. k < length contracts.now) }
+/// The contract of an id, if an actor holds it.
+pub(crate) fn held(book: &Book, actor: u64, id: Number) -> Option<Contract>
+    ensures { result ≡ held_by actor (contract_in book.now.contracts id) }
 {
-    let k = place_of(contracts, id)?;
-    if is_held_by(contracts[k].holder, actor) {
-        Some(k)
+    let contract = book.get(id)?;
+    if is_held_by(contract.holder, actor) {
+        Some(contract)
     } else {
         None
     }
 }
 
 /// Whether an actor holds the contract of an id.
-pub(crate) fn is_held(contracts: &[Contract], actor: u64, id: Number) -> bool
-    ensures { result ≡ is_some (held_by actor (contract_in contracts.now id)) }
+pub(crate) fn is_held(book: &Book, actor: u64, id: Number) -> bool
+    ensures { result ≡ is_some (held_by actor (contract_in book.now.contracts id)) }
 {
-    match place_of(contracts, id) {
-        Some(k) => is_held_by(contracts[k].holder, actor),
+    match book.get(id) {
+        Some(contract) => is_held_by(contract.holder, actor),
         None => false,
     }
 }
 
 /// Whether the terms of a contract make a failure fatal.
-pub(crate) fn is_fatal(contracts: &[Contract], id: Number, failure: Failure) -> bool
-    ensures { result ≡ is_fatal failure (found_at contracts.now (position (has_id id) contracts.now)) }
+pub(crate) fn is_fatal(book: &Book, id: Number, failure: Failure) -> bool
+    ensures { result ≡ is_fatal failure (contract_in book.now.contracts id) }
 {
     let kind = match failure {
         Failure::Core => EventSet::CORE,
         Failure::Signal => EventSet::SIGNAL,
         Failure::Hwerr => EventSet::HWERR,
     };
-    match place_of(contracts, id) {
-        Some(k) => contracts[k].terms.fatal.contains(kind),
+    match book.get(id) {
+        Some(contract) => contract.terms.fatal.contains(kind),
         None => false,
     }
 }
@@ -172,44 +135,12 @@ pub(crate) fn processes(
         .collect(alloc)
 }
 
-/// All events of a contract.
-pub(crate) fn events_of(
-    alloc: Global,
-    events: &[Event],
-    id: Number,
-) -> Result<Vec<Event>, AllocError>
-    ensures { IfOk result (λ found. found.items ≡ filter (is_event_of id) events.now) }
-{
-    events
-        .iter()
-        .filter(|e| e.contract == id)
-        .copied()
-        .collect(alloc)
-}
-
-/// The events of a contract from a number on and after another.
-pub(crate) fn given_events(
-    alloc: Global,
-    events: &[Event],
-    id: Number,
-    number: Number,
-    acknowledged: Number,
-) -> Result<Vec<Event>, AllocError>
-    ensures { IfOk result (λ found. found.items ≡ filter (is_given id number acknowledged) events.now) }
-{
-    events
-        .iter()
-        .filter(|e| is_given(e, id, number, acknowledged))
-        .copied()
-        .collect(alloc)
-}
-
 /// The number of the last event of a contract that was acknowledged.
-pub(crate) fn acknowledged_at(contracts: &[Contract], id: Number) -> Number
-    ensures { result ≡ acknowledged_at (found_at contracts.now (position (has_id id) contracts.now)) }
+pub(crate) fn acknowledged_at(book: &Book, id: Number) -> Number
+    ensures { result ≡ acknowledged_at (contract_in book.now.contracts id) }
 {
-    match place_of(contracts, id) {
-        Some(k) => contracts[k].acknowledged,
+    match book.get(id) {
+        Some(contract) => contract.acknowledged,
         None => Number::zero(),
     }
 }

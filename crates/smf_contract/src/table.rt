@@ -4,18 +4,17 @@ ghost use Rattle.smf_contract.specs.Calls.{Leaves, Makes, spawned, forked, exite
 ghost use Rattle.smf_contract.specs.Called.{called, emptied_by};
 ghost use Rattle.smf_contract.specs.declared.call.ContractCall.TheVariants as calls;
 
+use crate::book::Book;
 use crate::call::ContractCall;
-use crate::change::{
-    earlier, end_members, end_with, exit_all, exit_one, give_up, kind_of, later, make_room, note,
-};
+use crate::change::{earlier, end_members, end_with, exit_all, exit_one, kind_of, make_room};
 use crate::contract::{Contract, Holder, Member, Report, Status};
 use crate::emptying::{ended_ids, failed_ids, ids_left, killed_ids};
 use crate::event::{Event, EventKind, Exit, Failure};
 use crate::fault::ContractFault;
 use crate::lookup::{
-    acknowledged_at, events_of, first_member, given_events, has_members, home, is_fatal, is_held,
-    last_event, place_held, place_of, processes, report,
+    acknowledged_at, first_member, has_members, held, home, is_fatal, is_held, processes, report,
 };
+use crate::past::Past;
 use crate::terms::Terms;
 use smf_fmri::{Items, Number};
 use std::alloc::{AllocError, Global};
@@ -32,20 +31,19 @@ pub struct Made {
 #[derive(Drop)]
 pub struct Table {
     alloc: Global,
-    contracts: Vec<Contract>,
+    book: Book,
     members: Vec<Member>,
-    events: Vec<Event>,
-    last_contract: Number,
+    past: Past,
     last_process: Number,
 }
 
 impl Model for Table {
-    ghost use Rattle.std.specs.Prelude.{vec_len, vec_capacity};
+    ghost use Rattle.std.specs.Prelude.{length, vec_len, vec_capacity};
     ghost use Rattle.smf_contract.specs.Entries.{Kept, has_room};
 
     ghost Value = { Kept };
 
-    ghost view = { λ t. record { table = record { contracts = t.contracts.items; members = t.members.items; events = t.events.items; last_contract = t.last_contract; last_process = t.last_process }; room = has_room (vec_len t.contracts) (vec_capacity t.contracts) (vec_len t.members) (vec_capacity t.members) (vec_len t.events) (vec_capacity t.events) } };
+    ghost view = { λ t. record { table = record { contracts = t.book.contracts; members = t.members.items; events = t.past.events; last_contract = t.book.last; last_process = t.last_process }; room = has_room (length t.book.contracts) t.book.fit (vec_len t.members) (vec_capacity t.members) (length t.past.events) t.past.fit } };
 }
 
 impl Table {
@@ -54,10 +52,9 @@ impl Table {
     {
         Table {
             alloc,
-            contracts: Vec::new(alloc),
+            book: Book::new(alloc),
             members: Vec::new(alloc),
-            events: Vec::new(alloc),
-            last_contract: Number::zero(),
+            past: Past::new(alloc),
             last_process: Number::zero(),
         }
     }
@@ -68,7 +65,7 @@ impl Table {
         ensures room { OnOk result (self.new.room ≡ true) }
         ensures missing { OnErr result (self.old.room ≡ false) }
     {
-        make_room(&mut self.contracts, &mut self.members, &mut self.events)
+        make_room(&mut self.book, &mut self.members, &mut self.past)
     }
 
     /// Makes a contract that an actor holds, with one process. `Full` comes where no id or no number is left.
@@ -78,25 +75,23 @@ impl Table {
         ensures err { OnErr result (self.new.table ≡ self.old.table) }
         ensures memory { result ≡ Err ContractFault.Memory → self.old.room ≡ false }
     {
-        let Some(contract) = self.last_contract.next() else {
+        let Some(contract) = self.book.last().next() else {
             return Err(ContractFault::Full);
         };
         let Some(process) = self.last_process.next() else {
             return Err(ContractFault::Full);
         };
-        make_room(&mut self.contracts, &mut self.members, &mut self.events)?;
-        self.contracts
-            .push(Contract {
-                id: contract,
-                cookie,
-                holder: Holder::Held(actor),
-                terms,
-                first: process,
-                acknowledged: Number::zero(),
-            })
-            .unwrap();
+        make_room(&mut self.book, &mut self.members, &mut self.past)?;
+        self.past.begin(contract);
+        self.book.push(Contract {
+            id: contract,
+            cookie,
+            holder: Holder::Held(actor),
+            terms,
+            first: process,
+            acknowledged: Number::zero(),
+        });
         self.members.push(Member { process, contract }).unwrap();
-        self.last_contract = contract;
         self.last_process = process;
         Ok(Made { contract, process })
     }
@@ -114,13 +109,13 @@ impl Table {
         let Some(child) = self.last_process.next() else {
             return Err(ContractFault::Full);
         };
-        make_room(&mut self.contracts, &mut self.members, &mut self.events)?;
+        make_room(&mut self.book, &mut self.members, &mut self.past)?;
         let member = Member {
             process: child,
             contract,
         };
         self.members.push(member).unwrap();
-        note(&mut self.events, contract, EventKind::Fork(child), true);
+        self.past.note(contract, EventKind::Fork(child), true);
         self.last_process = child;
         Ok(child)
     }
@@ -135,8 +130,8 @@ impl Table {
         let Some(contract) = home(&self.members, process) else {
             return Err(ContractFault::NoSuchProcess);
         };
-        make_room(&mut self.contracts, &mut self.members, &mut self.events)?;
-        exit_one(&mut self.members, &mut self.events, contract, process, exit);
+        make_room(&mut self.book, &mut self.members, &mut self.past)?;
+        exit_one(&mut self.members, &mut self.past, contract, process, exit);
         Ok(())
     }
 
@@ -177,14 +172,14 @@ impl Table {
         let Some(contract) = home(&self.members, process) else {
             return Err(ContractFault::NoSuchProcess);
         };
-        make_room(&mut self.contracts, &mut self.members, &mut self.events)?;
-        note(&mut self.events, contract, kind_of(failure, process), true);
-        if is_fatal(&self.contracts, contract, failure) {
-            exit_all(&mut self.members, &mut self.events, contract, process);
+        make_room(&mut self.book, &mut self.members, &mut self.past)?;
+        self.past.note(contract, kind_of(failure, process), true);
+        if is_fatal(&self.book, contract, failure) {
+            exit_all(&mut self.members, &mut self.past, contract, process);
         } else {
             exit_one(
                 &mut self.members,
-                &mut self.events,
+                &mut self.past,
                 contract,
                 process,
                 Exit::Killed,
@@ -201,9 +196,14 @@ impl Table {
         ensures err { OnErr result (self.new.table ≡ self.old.table) }
         ensures memory { OnErr result (self.old.room ≡ false) }
     {
-        make_room(&mut self.contracts, &mut self.members, &mut self.events)?;
-        end_with(&self.contracts, &mut self.members, &mut self.events, actor);
-        give_up(&mut self.contracts, actor);
+        make_room(&mut self.book, &mut self.members, &mut self.past)?;
+        end_with(
+            self.book.as_slice(),
+            &mut self.members,
+            &mut self.past,
+            actor,
+        );
+        self.book.give_up(actor);
         Ok(())
     }
 
@@ -214,13 +214,12 @@ impl Table {
         ensures room { self.new.room ≡ self.old.room }
         ensures err { OnErr result (self.new ≡ self.old) }
     {
-        let Some(k) = place_of(&self.contracts, id) else {
+        let Some(contract) = self.book.get(id) else {
             return Err(ContractFault::NotInherited);
         };
-        match self.contracts[k].holder {
+        match contract.holder {
             Holder::Inherited => {
-                let contract = &mut self.contracts[k];
-                contract.holder = Holder::Held(actor);
+                self.book.set_holder(id, Holder::Held(actor));
                 Ok(())
             }
             Holder::Held(_) | Holder::Abandoned => Err(ContractFault::NotInherited),
@@ -234,14 +233,13 @@ impl Table {
         ensures err { OnErr result (self.new.table ≡ self.old.table) }
         ensures memory { result ≡ Err ContractFault.Memory → self.old.room ≡ false }
     {
-        let Some(k) = place_held(&self.contracts, actor, id) else {
+        let Some(contract) = held(&self.book, actor, id) else {
             return Err(ContractFault::NotHeld);
         };
-        make_room(&mut self.contracts, &mut self.members, &mut self.events)?;
-        let contract = &mut self.contracts[k];
-        contract.holder = Holder::Abandoned;
+        make_room(&mut self.book, &mut self.members, &mut self.past)?;
+        self.book.set_holder(id, Holder::Abandoned);
         if contract.terms.noorphan {
-            end_members(&mut self.members, &mut self.events, id);
+            end_members(&mut self.members, &mut self.past, id);
         }
         Ok(())
     }
@@ -253,11 +251,11 @@ impl Table {
         ensures err { OnErr result (self.new.table ≡ self.old.table) }
         ensures memory { result ≡ Err ContractFault.Memory → self.old.room ≡ false }
     {
-        if place_held(&self.contracts, actor, id).is_none() {
+        if held(&self.book, actor, id).is_none() {
             return Err(ContractFault::NotHeld);
         }
-        make_room(&mut self.contracts, &mut self.members, &mut self.events)?;
-        end_members(&mut self.members, &mut self.events, id);
+        make_room(&mut self.book, &mut self.members, &mut self.past)?;
+        end_members(&mut self.members, &mut self.past, id);
         Ok(())
     }
 
@@ -269,12 +267,11 @@ impl Table {
         ensures room { self.new.room ≡ self.old.room }
         ensures err { OnErr result (self.new ≡ self.old) }
     {
-        let Some(k) = place_held(&self.contracts, actor, id) else {
+        let Some(_) = held(&self.book, actor, id) else {
             return Err(ContractFault::NotHeld);
         };
-        let happened = Number::new(last_event(&self.events, id)).unwrap();
-        let contract = &mut self.contracts[k];
-        contract.acknowledged = later(contract.acknowledged, earlier(number, happened));
+        let happened = Number::new(self.past.last_event(id)).unwrap();
+        self.book.acknowledge(id, earlier(number, happened));
         Ok(())
     }
 
@@ -284,9 +281,9 @@ impl Table {
         ensures exact { self.new.table ≡ rebooted self.old.table }
         ensures room { self.old.room ≡ true → self.new.room ≡ true }
     {
-        self.contracts.clear();
+        self.book.clear();
         self.members.clear();
-        self.events.clear();
+        self.past.clear();
     }
 
     /// Does what is asked, for which room was made by `reserve`. What the table refuses leaves it
@@ -350,10 +347,10 @@ impl Table {
     fn emptied_by_kill(&self, actor: u64, id: Number) -> Result<Items<Number>, AllocError>
         ensures { IfOk result (λ ids. ids ≡ emptied_by self.now.table (calls.Kill actor id)) }
     {
-        if !is_held(&self.contracts, actor, id) {
+        if !is_held(&self.book, actor, id) {
             return Ok(Items::new(self.alloc));
         }
-        let ids = killed_ids(self.alloc, &self.contracts, &self.members, id)?;
+        let ids = killed_ids(self.alloc, self.book.as_slice(), &self.members, id)?;
         Ok(Items::from_vec(ids))
     }
 
@@ -361,7 +358,7 @@ impl Table {
     fn emptied_by_loss(&self, actor: u64) -> Result<Items<Number>, AllocError>
         ensures { IfOk result (λ ids. ids ≡ emptied_by self.now.table (calls.Gone actor)) }
     {
-        let ids = ids_left(self.alloc, &self.contracts, &self.members, actor)?;
+        let ids = ids_left(self.alloc, self.book.as_slice(), &self.members, actor)?;
         Ok(Items::from_vec(ids))
     }
 
@@ -374,7 +371,7 @@ impl Table {
         };
         let ids = ended_ids(
             self.alloc,
-            &self.contracts,
+            self.book.as_slice(),
             &self.members,
             false,
             id,
@@ -394,14 +391,7 @@ impl Table {
         let Some(id) = home(&self.members, process) else {
             return Ok(Items::new(self.alloc));
         };
-        let ids = failed_ids(
-            self.alloc,
-            &self.contracts,
-            &self.members,
-            failure,
-            id,
-            process,
-        )?;
+        let ids = failed_ids(self.alloc, &self.book, &self.members, failure, id, process)?;
         Ok(Items::from_vec(ids))
     }
 
@@ -410,7 +400,7 @@ impl Table {
         ensures { IfOk result (λ list. list ≡ statuses self.now.table) }
     {
         let mut list = Items::new(self.alloc);
-        for c in &self.contracts {
+        for c in self.book.as_slice() {
             list.push(self.status_of(c)?)?;
         }
         Ok(list)
@@ -420,8 +410,8 @@ impl Table {
     pub fn status(&self, id: Number) -> Result<Option<Status>, AllocError>
         ensures { IfOk result (λ found. found ≡ status self.now.table id) }
     {
-        match place_of(&self.contracts, id) {
-            Some(k) => Ok(Some(self.status_of(&self.contracts[k])?)),
+        match self.book.get(id) {
+            Some(contract) => Ok(Some(self.status_of(&contract)?)),
             None => Ok(None),
         }
     }
@@ -430,7 +420,7 @@ impl Table {
         ensures { IfOk result (λ found. found ≡ status_of self.now.table contract.now) }
     {
         let members = processes(self.alloc, &self.members, contract.id)?;
-        let events = events_of(self.alloc, &self.events, contract.id)?;
+        let events = self.past.events_of(self.alloc, contract.id)?;
         Ok(Status {
             contract: *contract,
             members: Items::from_vec(members),
@@ -443,8 +433,10 @@ impl Table {
     pub fn events_from(&self, id: Number, number: Number) -> Result<Items<Event>, AllocError>
         ensures { IfOk result (λ given. given ≡ events_from self.now.table id number) }
     {
-        let acknowledged = acknowledged_at(&self.contracts, id);
-        let given = given_events(self.alloc, &self.events, id, number, acknowledged)?;
+        let acknowledged = acknowledged_at(&self.book, id);
+        let given = self
+            .past
+            .given_events(self.alloc, id, number, acknowledged)?;
         Ok(Items::from_vec(given))
     }
 
@@ -454,7 +446,7 @@ impl Table {
     pub fn report(&self, contract: u64, number: u64) -> Option<Report>
         ensures { result ≡ reported self.now.table contract number }
     {
-        report(&self.contracts, &self.events, contract, number)
+        report(&self.book, &self.past, contract, number)
     }
 
     /// The id that a spawn would make; none where it would be `Full`.
@@ -462,7 +454,7 @@ impl Table {
     pub fn next_contract(&self) -> Option<Number>
         ensures { result ≡ next_contract self.now.table }
     {
-        let contract = self.last_contract.next()?;
+        let contract = self.book.last().next()?;
         self.last_process.next()?;
         Some(contract)
     }
@@ -471,7 +463,7 @@ impl Table {
     pub fn contract(&self, id: Number) -> Option<Contract>
         ensures { result ≡ contract self.now.table id }
     {
-        place_of(&self.contracts, id).map(|k| self.contracts[k])
+        self.book.get(id)
     }
 
     /// The contract that a process is in.
@@ -499,7 +491,7 @@ impl Table {
     pub fn contracts(&self) -> &[Contract]
         ensures { result.now ≡ self.now.table.contracts }
     {
-        &self.contracts
+        self.book.as_slice()
     }
 
     /// All processes, in the order of their numbers.
@@ -513,14 +505,14 @@ impl Table {
     pub fn events(&self) -> &[Event]
         ensures { result.now ≡ self.now.table.events }
     {
-        &self.events
+        self.past.as_slice()
     }
 
     /// The last id that was given; 0 where none was.
     pub fn last_contract(&self) -> Number
         ensures { result ≡ self.now.table.last_contract }
     {
-        self.last_contract
+        self.book.last()
     }
 
     /// The last process number that was given; 0 where none was.

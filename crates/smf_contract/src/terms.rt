@@ -1,6 +1,7 @@
 ghost use Rattle.std.specs.Prelude.{⊤, [], ◌∷◌, codes};
 
 use bitflags::{Flag, Flags, bitflag_items};
+use std::marker::Model;
 
 /// Kinds of events, with the bits of process(4).
 #[derive(Clone, Copy, PartialEq, Eq)]
@@ -20,7 +21,7 @@ bitflag_items! {
 impl EventSet {
     pub const NONE: EventSet = EventSet(0);
 
-    /// What a fatal set may hold: core, signal and hwerr.
+    /// The kinds of failure: core, signal and hwerr.
     pub const FAILURES: EventSet = EventSet(56);
 }
 
@@ -53,10 +54,36 @@ pub struct Terms {
     pub informative: EventSet,
     /// Kinds that the holder is told of and has to acknowledge.
     pub critical: EventSet,
-    /// Kinds of failure of one member that end them all.
+    /// Kinds of failure of one member that end them all. Any other kind in it counts for nothing.
     pub fatal: EventSet,
     /// Whether it waits to be adopted where its holder is gone.
     pub inherit: bool,
     /// Whether its members end where it is abandoned.
     pub noorphan: bool,
+}
+
+impl Model for Terms {
+    ghost use Rattle.smf_contract.specs.Stated.{StatedTerms, AreEvents};
+
+    ghost Value = { StatedTerms };
+
+    ghost view = { λ t.
+        record {
+          informative = t.informative;
+          critical = t.critical;
+          fatal = t.fatal;
+          inherit = t.inherit;
+          noorphan = t.noorphan;
+        } };
+
+    ghost invariant = { λ t. AreEvents t.fatal };
+
+    ghost inverse = { λ t.
+        record {
+          informative = t.informative;
+          critical = t.critical;
+          fatal = t.fatal;
+          inherit = t.inherit;
+          noorphan = t.noorphan;
+        } };
 }

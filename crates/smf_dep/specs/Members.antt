@@ -1,13 +1,14 @@
 -- What a verdict looks at: of each instance its state, its revisions, and what it depends on.
 use Rattle.std.specs.Prelude.{◌≡◌, ℕ, nat_eq, List, [], ◌∷◌, ◌++◌, map, Bool, if◌then◌else◌, Option, Some, None, Result, Ok, Err}
 use Rattle.std.specs.Cmp.Lexicographic.{pointwise}
-use Rattle.smf_fmri.specs.ByKey.{By, by_number, put_all}
+use Rattle.smf_fmri.specs.ByKey.{By, by_number}
 use Rattle.smf_state.specs.declared.row.Row.{Row}
 use Rattle.smf_state.specs.declared.view.ViewItem.{ViewItem}
 use Rattle.smf_value.specs.declared.fault.BodyFault.{BodyFault}
-use Rattle.smf_value.specs.Groups.{GroupRecord, by_group}
+use Rattle.smf_value.specs.Groups.{GroupRecord}
 use Rattle.smf_snap.specs.declared.body.Snapshot.{Snapshot}
 use Rattle.smf_snap.specs.Body.{decoded_snapshot}
+use Rattle.smf_snap.specs.Composed.{composition}
 use Rattle.smf_state.specs.OwnName.{startd}
 use Rattle.smf_dep.specs.declared.dependency.Dependency.{Dependency}
 use Rattle.smf_dep.specs.declared.dependency.Grouping.TheVariants.{RequireAll}
@@ -17,9 +18,9 @@ use Rattle.smf_dep.specs.declared.member.Member.{Member}
 use Rattle.smf_dep.specs.Methods.{has_unfit_methods}
 use Rattle.smf_dep.specs.Requirements.{read_groups}
 
--- the groups of the running snapshot, each by name the instance's own, else the service's, as a whole
+-- the groups that an instance has by its running snapshot
 abbrev pub composed : Snapshot → List GroupRecord
-composed s = put_all by_group s.instance s.service
+composed s = composition s.instance s.service
 
 abbrev pub snapshot_in : Option (List ℕ) → Result Snapshot BodyFault
 snapshot_in (Some body) = decoded_snapshot body

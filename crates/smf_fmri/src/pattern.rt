@@ -22,7 +22,11 @@ impl Model for Pattern {
 
     ghost Value = { List ℕ };
 
+    ghost use Rattle.smf_fmri.specs.Name.{IsPattern};
+
     ghost view = { λ p. string_bytes p.text };
+
+    ghost invariant = { λ p. IsPattern (string_bytes p.text) };
 }
 
 impl Pattern {
@@ -60,6 +64,7 @@ impl Pattern {
     }
 
     fn abbreviation(alloc: Global, text: &str) -> Result<Pattern, FmriFault>
+        requires { length text.now ≤ 512 }
         ensures { Gives result (read_abbreviation text.now (wrong_at Place.Start 0 text.now)) }
     {
         if let Some(place) = wrong_at(Place::Start, text.as_bytes()) {
@@ -73,7 +78,11 @@ impl Pattern {
     pub fn matches(&self, name: &Fmri) -> bool
         ensures value { result ≡ matches self.now name.now }
         ensures means { IsTrue result ↔ Matches self.now name.now }
+        // Its text is spelled as a pattern.
+        ensures spelled { SpellsPattern self.now self.now }
     {
+        // Looking into the pattern lets the proof know that it is one.
+        let _ = &self.text;
         self.is_match(name)
     }
 

@@ -9,9 +9,10 @@ use Rattle.smf_fmri.proofs.Matching.{same_text}
 use Rattle.smf_fmri.proofs.Rising.{rises_filter, rises_put_all}
 use Rattle.smf_fmri.proofs.SameLists.{lookup_filter, same_lists}
 use Rattle.smf_value.specs.Groups.{GroupRecord, by_group}
+use Rattle.smf_snap.proofs.ByName.{over}
+use Rattle.smf_snap.specs.Composed.{first_of}
 use Rattle.smf_snap.specs.Taking.{is_left_out, is_snapped, restored, staying, taken}
 use Rattle.smf_meaning.specs.Composing.{IsHeld, IsLeftOut, IsOfTheSystem, IsRestored, IsTaken, named_in}
-use Rattle.smf_meaning.proofs.Composed.{either, over}
 
 of_system : (name : List ℕ) → IsOfTheSystem name → is_left_out name ≡ true
 of_system name (inl e) = or_left _ _ (or_left _ _ ((same_text name (codes "general")).1 e))
@@ -74,17 +75,17 @@ stays g = not (is_snapped g)
 -- after a revert, by name
 restored_name : (before snapshot : List GroupRecord) (name : List ℕ) (o : Option GroupRecord) → Rises by_group before → Rises by_group snapshot
     → named_in before name ≡ o
-    → named_in (restored before snapshot) name ≡ either (named_in snapshot name) (option_filter (λ g. not (is_snapped g)) o)
+    → named_in (restored before snapshot) name ≡ first_of (named_in snapshot name) (option_filter (λ g. not (is_snapped g)) o)
 unfolding restored staying
 restored_name before snapshot name o r s e =
     over snapshot (filter (λ g. not (is_snapped g)) before) name s
-    ∙ ap (either (named_in snapshot name)) (found_in (λ g. not (is_snapped g)) before name o r e)
+    ∙ ap (first_of (named_in snapshot name)) (found_in (λ g. not (is_snapped g)) before name o r e)
 
 restored_over : (before snapshot : List GroupRecord) (name : List ℕ) (o p : Option GroupRecord) → Rises by_group before → Rises by_group snapshot
     → named_in before name ≡ o → named_in snapshot name ≡ p
-    → named_in (restored before snapshot) name ≡ either p (option_filter (λ g. not (is_snapped g)) o)
+    → named_in (restored before snapshot) name ≡ first_of p (option_filter (λ g. not (is_snapped g)) o)
 restored_over before snapshot name o p r s e f =
-    restored_name before snapshot name o r s e ∙ ap (λ q. either q (option_filter (λ g. not (is_snapped g)) o)) f
+    restored_name before snapshot name o r s e ∙ ap (λ q. first_of q (option_filter (λ g. not (is_snapped g)) o)) f
 
 pub is_restored : (before snapshot : List GroupRecord) → Rises by_group before → Rises by_group snapshot
     → IsRestored before snapshot (restored before snapshot)
@@ -96,11 +97,11 @@ is_restored before snapshot r s =
       nothing = λ name f e. restored_over before snapshot name None None r s e f;
     }
 
-both : (b : Bool) (g : GroupRecord) → is_snapped g ≡ b → either (option_filter is_snapped (Some g)) (option_filter (λ x. not (is_snapped x)) (Some g)) ≡ Some g
+both : (b : Bool) (g : GroupRecord) → is_snapped g ≡ b → first_of (option_filter is_snapped (Some g)) (option_filter (λ x. not (is_snapped x)) (Some g)) ≡ Some g
 both true g e = rw e refl
 both false g e = rw e refl
 
-back_by : (o : Option GroupRecord) → either (option_filter is_snapped o) (option_filter (λ x. not (is_snapped x)) o) ≡ o
+back_by : (o : Option GroupRecord) → first_of (option_filter is_snapped o) (option_filter (λ x. not (is_snapped x)) o) ≡ o
 back_by None = refl
 back_by (Some g) = both (is_snapped g) g refl
 

@@ -11,8 +11,9 @@ use Rattle.smf_value.specs.Groups.{PropertyRecord, GroupRecord, by_group}
 use Rattle.smf_snap.specs.declared.name.SnapshotName.{SnapshotName}
 use Rattle.smf_snap.specs.declared.name.SnapshotName.TheVariants as snapshots
 use Rattle.smf_snap.specs.Body.{spelled_both}
+use Rattle.smf_snap.specs.Composed.{composition}
 use Rattle.smf_snap.specs.Names.{names}
-use Rattle.smf_fmri.specs.ByKey.{put, put_all}
+use Rattle.smf_fmri.specs.ByKey.{put}
 use Rattle.smf_model.specs.declared.held.Instance.{Instance}
 use Rattle.smf_model.specs.declared.held.Owner.{Owner}
 use Rattle.smf_model.specs.declared.held.Owner.TheVariants as owners
@@ -67,9 +68,9 @@ unfoldable pub shown_groups : Holdings → Owner → List GroupRecord
 shown_groups h (owners.Service name) = groups_of h (owners.Service name)
 shown_groups h (owners.Instance n) = shown_with (instance h n) (groups_of h (owners.Instance n))
 
--- the groups that an instance has, by name: its own, else those of its service, each as a whole
+-- the groups that an instance has, in the order of their names
 abbrev pub composed_of : Holdings → Instance → List GroupRecord
-composed_of h i = put_all by_group (groups_of h (owners.Instance i.number)) (groups_of h (service_owner i))
+composed_of h i = composition (groups_of h (owners.Instance i.number)) (groups_of h (service_owner i))
 
 unfoldable pub composed_groups : Holdings → ℕ → Option (List GroupRecord)
 composed_groups h n = option_map (composed_of h) (instance h n)

@@ -3,3 +3,4 @@ pub mod Leaving
 pub mod Lists
 pub mod Resting
 mod RestlessList
+mod Rooms

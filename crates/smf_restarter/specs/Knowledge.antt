@@ -24,14 +24,15 @@ pub record Knowledge : Type 0 where
   pub instances : List KnownInstance
   pub runs : List KnownRun
 
--- what is known, and for how many more instances and runs there is room
+-- what is known, for how many more instances and runs there is room, and the instance whose tick is made ahead
 pub record Kept : Type 0 where
   pub known : Knowledge
   pub instances_room : ℕ
   pub runs_room : ℕ
+  pub ready : Option ℕ
 
-abbrev pub kept : Knowledge → ℕ → ℕ → Kept
-kept k instances runs = record { known = k; instances_room = instances; runs_room = runs }
+abbrev pub kept : Knowledge → ℕ → ℕ → Option ℕ → Kept
+kept k instances runs ready = record { known = k; instances_room = instances; runs_room = runs; ready = ready }
 
 abbrev pub by_instance : By KnownInstance ℕ
 by_instance = by_number (λ i. i.instance)

@@ -8,3 +8,4 @@ pub mod Ticks
 pub mod Answers
 pub mod Watched
 pub mod Left
+pub mod Room

@@ -1,7 +1,8 @@
 //! What a step makes of what a restarter knows, and replies by what they do.
 
-ghost use Rattle.std.specs.Prelude.{◌≡◌, ◌∷◌, [], IfOk};
+ghost use Rattle.std.specs.Prelude.{◌≡◌, ◌∷◌, [], IfOk, OnErr, true};
 ghost use Rattle.smf_restarter.specs.Changes.{beginning, calling, forgetting, nothing, noting, putting, sending, taking, turning, unchanged};
+ghost use Rattle.smf_restarter.specs.Room.{needs_memory};
 
 use crate::known::{KnownInstance, KnownRun};
 use crate::reply::{Begun, Call, Change, Course, Reply, Turn};
@@ -82,7 +83,8 @@ pub(crate) fn nothing(alloc: Global) -> Reply
 
 /// A message is sent, and nothing changes.
 pub(crate) fn sending(alloc: Global, message: Message) -> Result<Reply, AllocError>
-    ensures { IfOk result (λ r. r ≡ sending message) }
+    ensures exact { IfOk result (λ r. r ≡ sending message) }
+    ensures memory { OnErr result (needs_memory (sending message) ≡ true) }
 {
     let mut reply = nothing(alloc);
     reply.messages = one(alloc, message)?;
@@ -105,7 +107,8 @@ pub(crate) fn beginning(
     call: Call,
     change: Change,
 ) -> Result<Reply, AllocError>
-    ensures { IfOk result (λ r. r ≡ beginning begun call change) }
+    ensures exact { IfOk result (λ r. r ≡ beginning begun call change) }
+    ensures memory { OnErr result (needs_memory (beginning begun call change) ≡ true) }
 {
     let mut reply = calling(alloc, call);
     reply.begun = one(alloc, begun)?;

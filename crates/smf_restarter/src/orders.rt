@@ -1,7 +1,8 @@
 //! What a restarter proposes.
 
-ghost use Rattle.std.specs.Prelude.{◌≡◌, IfOk};
+ghost use Rattle.std.specs.Prelude.{◌≡◌, IfOk, OnErr, true};
 ghost use Rattle.smf_restarter.specs.Orders.{ordered, owed_by, proposing, refreshing, start_step, starting, stopping, waiting};
+ghost use Rattle.smf_restarter.specs.Room.{needs_memory};
 
 use crate::changing::{nothing, putting, sending};
 use crate::ending::{ended_refresh, stopped};
@@ -53,7 +54,9 @@ pub(crate) fn proposing(
     after: After,
     taken: Items<Known>,
 ) -> Result<Reply, AllocError>
-    ensures { IfOk result (λ r. r ≡ proposing restarter.now.known known.now step after taken) }
+    ensures exact { IfOk result (λ r. r ≡ proposing restarter.now.known known.now step after taken) }
+    ensures memory { OnErr result
+        (needs_memory (proposing restarter.now.known known.now step after taken) ≡ true) }
 {
     let Some(serial) = restarter.serial.next() else {
         return Ok(nothing(alloc));

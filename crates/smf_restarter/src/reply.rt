@@ -81,3 +81,10 @@ pub struct Reply {
     pub begun: Items<Begun>,
     pub call: Call,
 }
+
+/// The tick of an instance, made ahead.
+#[derive(Drop)]
+pub(crate) struct Ready {
+    pub(crate) instance: u64,
+    pub(crate) reply: Reply,
+}

@@ -1,17 +1,18 @@
 ghost use Rattle.std.specs.Option.{option_copied};
-ghost use Rattle.std.specs.Prelude.{◌≡◌, ◌+◌, ◌<◌, ◌≤◌, length, option_to_list, true, IfOk, OnOk};
+ghost use Rattle.std.specs.Prelude.{◌≡◌, ◌+◌, ◌<◌, ◌≤◌, ◌⊎◌, length, option_to_list, option_map, true, IfOk, None, OnErr, OnOk, Some};
 ghost use Rattle.smf_fmri.specs.ByKey.{put, put_all};
 ghost use Rattle.smf_restarter.specs.Answers.{answered, listed, reported, timed_out};
-ghost use Rattle.smf_restarter.specs.Changes.{changed, forgotten, nothing, phase_on, turned};
+ghost use Rattle.smf_restarter.specs.Changes.{changed, forgotten, nothing, phase_on, turned, unchanged};
 ghost use Rattle.smf_restarter.specs.Knowledge.{at_first, by_instance, by_run, known};
 ghost use Rattle.smf_restarter.specs.Replies.{heard};
+ghost use Rattle.smf_restarter.specs.Room.{HasPlace, IsSpawn, needs_memory};
 ghost use Rattle.smf_restarter.specs.Ticks.{at_rest, own_tick, ticked};
 ghost use Rattle.smf_restarter.specs.Watched.{IsOrdered, IsWatched, restless};
 
 use crate::answering::{answered, listed, reported, timed_out};
 use crate::hearing::heard;
 use crate::known::{KnownInstance, KnownRun, Phase, Stage};
-use crate::reply::{Answer, Change, Course, Reply, Turn};
+use crate::reply::{Answer, Change, Course, Ready, Reply, Turn};
 use crate::ticking::{own_tick, ticked};
 use crate::watching::{has_none, is_noted, is_up, judge, reserve_touched};
 use smf_contract::{Report, Status};
@@ -20,8 +21,8 @@ use smf_wire::Message;
 use std::alloc::{AllocError, Global};
 use std::marker::Model;
 
-/// A restarter from one launch on, svc.startd's own or a delegated one. Contracts see what it knows, and how much room
-/// it has for more.
+/// A restarter from one launch on, svc.startd's own or a delegated one. Contracts see what it knows, how much room it
+/// has for more, and the instance whose tick is made ahead.
 #[derive(Drop)]
 pub struct Restarter {
     alloc: Global,
@@ -37,11 +38,12 @@ pub struct Restarter {
     /// For so many more instances and runs there is room in all lists.
     instances_room: usize,
     runs_room: usize,
+    ready: Option<Ready>,
 }
 
 impl Model for Restarter {
-    ghost use Rattle.smf_restarter.specs.Knowledge.{Kept, kept};
-    ghost use Rattle.smf_restarter.specs.Watched.{IsRestarter};
+    ghost use Rattle.smf_restarter.specs.Knowledge.{Kept, Knowledge, kept};
+    ghost use Rattle.smf_restarter.specs.Watched.{IsRestarter, ready_for};
 
     ghost Value = { Kept };
 
@@ -54,9 +56,18 @@ impl Model for Restarter {
           stage = r.stage;
           instances = r.instances.items;
           runs = r.runs.items;
-        }) r.instances_room r.runs_room };
+        }) r.instances_room r.runs_room (ready_for r.ready) };
 
-    ghost invariant = { λ r. IsRestarter r.restless r.instances r.runs r.instances_room r.runs_room };
+    ghost invariant = { λ r.
+        IsRestarter (record {
+          name = r.name;
+          actor = r.actor;
+          launch = r.launch;
+          serial = r.serial;
+          stage = r.stage;
+          instances = r.instances.items;
+          runs = r.runs.items;
+        }) r.ready r.restless r.instances r.runs r.instances_room r.runs_room };
 }
 
 impl Restarter {
@@ -76,6 +87,7 @@ impl Restarter {
             restless: Table::new(alloc),
             instances_room: 0,
             runs_room: 0,
+            ready: None,
         }
     }
 
@@ -130,16 +142,22 @@ impl Restarter {
         heard(self.alloc, self, message)
     }
 
-    /// What it does on a tick of its own.
+    /// What it does on a tick of its own. It needs memory only for a message.
     pub fn own_tick(&self) -> Result<Reply, AllocError>
-        ensures { IfOk result (λ r. r ≡ own_tick self.now.known self.now.known.stage) }
+        ensures exact { IfOk result (λ r. r ≡ own_tick self.now.known self.now.known.stage) }
+        ensures memory { OnErr result (needs_memory (own_tick self.now.known self.now.known.stage) ≡ true) }
     {
         own_tick(self.alloc, self)
     }
 
-    /// What it does on a tick of an instance.
+    /// What it does on a tick of an instance. It needs memory only to send a message, or to begin a method, whose
+    /// command it copies. The change needs room for one instance and one run at most. A spawn changes nothing before
+    /// its answer.
     pub fn ticked(&self, instance: u64) -> Result<Reply, AllocError>
-        ensures { IfOk result (λ r. r ≡ ticked self.now.known instance) }
+        ensures exact { IfOk result (λ r. r ≡ ticked self.now.known instance) }
+        ensures memory { OnErr result (needs_memory (ticked self.now.known instance) ≡ true) }
+        ensures room { IfOk result (λ r. HasPlace r.change 1 1) }
+        ensures still { IfOk result (λ r. IsSpawn r.call → r.change ≡ unchanged) }
     {
         ticked(self.alloc, self, instance)
     }
@@ -172,32 +190,56 @@ impl Restarter {
         listed(self.alloc, self, statuses)
     }
 
-    /// What becomes of it on the answer to what the tick of an instance asked for.
+    /// What becomes of it on the answer to what the tick of an instance asked for. The change needs room for one run.
     pub fn answered(&self, instance: u64, answer: Answer) -> Change
-        ensures { result ≡ answered self.now.known instance answer }
+        ensures exact { result ≡ answered self.now.known instance answer }
+        ensures room { HasPlace result 0 1 }
     {
         answered(self.alloc, self, instance, &answer)
     }
 
-    /// What becomes of it when an event of a contract is reported.
+    /// What becomes of it when an event of a contract is reported. The change needs room for one run.
     pub fn reported(&self, report: &Report) -> Change
-        ensures { result ≡ reported self.now.known report.now }
+        ensures exact { result ≡ reported self.now.known report.now }
+        ensures room { HasPlace result 0 1 }
     {
         reported(self.alloc, self, report)
     }
 
-    /// What becomes of it when the method that runs for an instance has taken too long.
+    /// What becomes of it when the method that runs for an instance has taken too long. The change needs room for one
+    /// run.
     pub fn timed_out(&self, instance: u64) -> Change
-        ensures { result ≡ timed_out self.now.known instance }
+        ensures exact { result ≡ timed_out self.now.known instance }
+        ensures room { HasPlace result 0 1 }
     {
         timed_out(self.alloc, self, instance)
     }
 
-    /// Makes room for so many more instances and runs. Where memory runs out it knows what it knew.
+    /// Makes room for so many more instances and runs, if it is not there. Room for one of each is enough for the
+    /// change of the next tick, of its answer but to a list, or of the next report. If memory runs out it knows what it
+    /// knew.
+    #[tactic(auto, using(crate::proofs::Rooms::lacks_instances, crate::proofs::Rooms::lacks_runs))]
     pub fn reserve(&mut self, instances: usize, runs: usize) -> Result<(), AllocError>
         ensures known { self.new.known ≡ self.old.known }
         ensures instances_room { OnOk result (instances ≤ self.new.instances_room) }
         ensures runs_room { OnOk result (runs ≤ self.new.runs_room) }
+        ensures missing { OnErr result ((self.old.instances_room < instances) ⊎ (self.old.runs_room < runs)) }
+        ensures ready { self.new.ready ≡ self.old.ready }
+    {
+        if self.instances_room < instances {
+            return self.make_room(instances, runs);
+        }
+        if self.runs_room < runs {
+            return self.make_room(instances, runs);
+        }
+        Ok(())
+    }
+
+    fn make_room(&mut self, instances: usize, runs: usize) -> Result<(), AllocError>
+        ensures known { self.new.known ≡ self.old.known }
+        ensures instances_room { OnOk result (instances ≤ self.new.instances_room) }
+        ensures runs_room { OnOk result (runs ≤ self.new.runs_room) }
+        ensures ready { self.new.ready ≡ self.old.ready }
     {
         self.instances_room = 0;
         self.runs_room = 0;
@@ -207,6 +249,51 @@ impl Restarter {
         self.instances_room = instances;
         self.runs_room = runs;
         Ok(())
+    }
+
+    /// Makes the tick of an instance ahead, in place of another, and room for one instance and one run if it is not
+    /// there. Then neither that tick nor its answer nor the next report needs memory. If memory runs out it knows what it
+    /// knew.
+    pub fn reserve_tick(&mut self, instance: u64) -> Result<(), AllocError>
+        ensures known { self.new.known ≡ self.old.known }
+        ensures ready { OnOk result (self.new.ready ≡ Some instance) }
+        ensures instances_room { OnOk result (1 ≤ self.new.instances_room) }
+        ensures runs_room { OnOk result (1 ≤ self.new.runs_room) }
+        ensures missing { OnErr result
+            (((self.old.instances_room < 1) ⊎ (self.old.runs_room < 1)) ⊎ (needs_memory (ticked self.old.known instance) ≡ true)) }
+    {
+        match self.reserve(1, 1) {
+            Err(fault) => Err(fault),
+            Ok(()) => self.make_tick(instance),
+        }
+    }
+
+    fn make_tick(&mut self, instance: u64) -> Result<(), AllocError>
+        ensures known { self.new.known ≡ self.old.known }
+        ensures ready { OnOk result (self.new.ready ≡ Some instance) }
+        ensures instances_room { self.new.instances_room ≡ self.old.instances_room }
+        ensures runs_room { self.new.runs_room ≡ self.old.runs_room }
+        ensures missing { OnErr result (needs_memory (ticked self.old.known instance) ≡ true) }
+    {
+        match self.ticked(instance) {
+            Err(fault) => Err(fault),
+            Ok(reply) => {
+                set_ready(&mut self.ready, Some(Ready { instance, reply }));
+                Ok(())
+            }
+        }
+    }
+
+    /// What it does on the tick that was made ahead, if one was. It takes no memory. A change of what is known lets that
+    /// tick go.
+    pub fn take_tick(&mut self) -> Option<Reply>
+        ensures reply { result ≡ option_map (ticked self.old.known) self.old.ready }
+        ensures taken { self.new ≡ record self.old { ready = None } }
+    {
+        match self.ready.take() {
+            None => None,
+            Some(ready) => Some(ready.reply),
+        }
     }
 
     /// Makes a change, for which there is room.
@@ -234,6 +321,7 @@ impl Restarter {
         forget_in(&mut self.instances, &mut self.restless, &self.runs, forget);
         self.instances_room = 0;
         self.runs_room = 0;
+        set_ready(&mut self.ready, None);
     }
 
     /// Whether it is up, and awaits and owes nothing.
@@ -243,6 +331,12 @@ impl Restarter {
         let none = has_none(self.restless());
         is_up(self.stage) && none
     }
+}
+
+fn set_ready(ready: &mut Option<Ready>, next: Option<Ready>)
+    ensures { ready.new ≡ next }
+{
+    *ready = next;
 }
 
 /// Puts an instance in its place, for which there is room.

@@ -1,9 +1,11 @@
 //! What a restarter does in its turn, for itself and for an instance.
 
 ghost use Rattle.std.specs.Option.{option_copied};
-ghost use Rattle.std.specs.Prelude.{◌≡◌, IfOk};
+ghost use Rattle.std.specs.Prelude.{◌≡◌, IfOk, OnErr, true};
+ghost use Rattle.smf_contract.specs.Stated.{AreEvents};
 ghost use Rattle.smf_method.specs.Commands.{builtin};
 ghost use Rattle.smf_restarter.specs.Changes.{nothing};
+ghost use Rattle.smf_restarter.specs.Room.{needs_memory};
 ghost use Rattle.smf_restarter.specs.Ticks.{begun_by, begun_of, built_in, drain_call, end_step, ending, fatal_bits, fatal_if, fatal_of, first_call, is_ended, is_failed, is_refresh_end, keeps, keeps_run, kill_of, leads_to, note, note_bits, note_due, own_tick, spawning, terms_of, ticked, ticked_in};
 
 use crate::changing::{beginning, calling, nothing, sending, turning, unchanged};
@@ -24,7 +26,8 @@ use std::alloc::{AllocError, Global};
 /// A tick of the restarter itself: it asks for its rows, and then for the contracts.
 #[tactic(auto, unfolding(crate::specs::Ticks::own_tick))]
 pub(crate) fn own_tick(alloc: Global, restarter: &Restarter) -> Result<Reply, AllocError>
-    ensures { IfOk result (λ r. r ≡ own_tick restarter.now.known restarter.now.known.stage) }
+    ensures exact { IfOk result (λ r. r ≡ own_tick restarter.now.known restarter.now.known.stage) }
+    ensures memory { OnErr result (needs_memory (own_tick restarter.now.known restarter.now.known.stage) ≡ true) }
 {
     match restarter.stage {
         Stage::Joining => {
@@ -39,7 +42,8 @@ pub(crate) fn own_tick(alloc: Global, restarter: &Restarter) -> Result<Reply, Al
 
 /// The kinds of failure that are not left out of account.
 fn fatal_set(ignore: Ignore) -> EventSet
-    ensures { result.0 ≡ fatal_bits ignore }
+    ensures exact { result.0 ≡ fatal_bits ignore }
+    ensures events { AreEvents result }
 {
     if ignores_core(ignore) {
         if ignores_signal(ignore) {
@@ -55,7 +59,8 @@ fn fatal_set(ignore: Ignore) -> EventSet
 }
 
 fn fatal_if(duration: Duration, ignore: Ignore) -> EventSet
-    ensures { result.0 ≡ fatal_if duration ignore }
+    ensures exact { result.0 ≡ fatal_if duration ignore }
+    ensures events { AreEvents result }
 {
     match duration {
         Duration::Contract => fatal_set(ignore),
@@ -66,7 +71,8 @@ fn fatal_if(duration: Duration, ignore: Ignore) -> EventSet
 
 /// The kinds of failure of one member that end them all: of the start of a contract service, and of no other method.
 fn fatal_of(method: Method, row: &Row) -> EventSet
-    ensures { result.0 ≡ fatal_of method row.now }
+    ensures exact { result.0 ≡ fatal_of method row.now }
+    ensures events { AreEvents result }
 {
     match method {
         Method::Start => fatal_if(row.duration, row.ignore),
@@ -103,7 +109,8 @@ fn begun_of(known: &KnownInstance, owed: &Owed) -> Result<Begun, AllocError>
 
 /// Begins a method in a contract. A run whose cookie has no form begins nothing.
 fn spawning(alloc: Global, known: &KnownInstance, owed: &Owed) -> Result<Reply, AllocError>
-    ensures { IfOk result (λ r. r ≡ spawning known.now owed.now) }
+    ensures exact { IfOk result (λ r. r ≡ spawning known.now owed.now) }
+    ensures memory { OnErr result (needs_memory (spawning known.now owed.now) ≡ true) }
 {
     let cookie = Cookie {
         instance: known.instance,
@@ -142,7 +149,8 @@ fn built_in(
     owed: &Owed,
     call: Call,
 ) -> Result<Reply, AllocError>
-    ensures { IfOk result (λ r. r ≡ built_in known.now owed.now call) }
+    ensures exact { IfOk result (λ r. r ≡ built_in known.now owed.now call) }
+    ensures memory { OnErr result (needs_memory (built_in known.now owed.now call) ≡ true) }
 {
     let begun = begun_of(known, owed)?;
     let course = Course::Ending(succeeded(&known.row, owed.method));
@@ -156,7 +164,10 @@ fn begun_by(
     known: &KnownInstance,
     owed: &Owed,
 ) -> Result<Reply, AllocError>
-    ensures { IfOk result (λ r. r ≡ begun_by restarter.now.known known.now owed.now (builtin owed.now.call.command)) }
+    ensures exact { IfOk result (λ r.
+        r ≡ begun_by restarter.now.known known.now owed.now (builtin owed.now.call.command)) }
+    ensures memory { OnErr result
+        (needs_memory (begun_by restarter.now.known known.now owed.now (builtin owed.now.call.command)) ≡ true) }
 {
     match owed.call.command.builtin() {
         None => spawning(alloc, known, owed),
@@ -250,7 +261,8 @@ fn ending(
     known: &KnownInstance,
     end: &Ending,
 ) -> Result<Reply, AllocError>
-    ensures { IfOk result (λ r. r ≡ ending restarter.now.known known.now end.now) }
+    ensures exact { IfOk result (λ r. r ≡ ending restarter.now.known known.now end.now) }
+    ensures memory { OnErr result (needs_memory (ending restarter.now.known known.now end.now) ≡ true) }
 {
     match drain_call(restarter, known, end.drain) {
         Call::Nothing => {
@@ -328,7 +340,9 @@ fn note(
     known: &KnownInstance,
     live: Option<&KnownRun>,
 ) -> Result<Reply, AllocError>
-    ensures { IfOk result (λ r. r ≡ note restarter.now.known known.now (option_copied live.entry)) }
+    ensures exact { IfOk result (λ r. r ≡ note restarter.now.known known.now (option_copied live.entry)) }
+    ensures memory { OnErr result
+        (needs_memory (note restarter.now.known known.now (option_copied live.entry)) ≡ true) }
 {
     let Some(bits) = note_due(&known.row, live) else {
         return Ok(nothing(alloc));
@@ -354,7 +368,8 @@ fn ticked_in(
     known: &KnownInstance,
     phase: &Phase,
 ) -> Result<Reply, AllocError>
-    ensures { IfOk result (λ r. r ≡ ticked_in restarter.now.known known.now phase.now) }
+    ensures exact { IfOk result (λ r. r ≡ ticked_in restarter.now.known known.now phase.now) }
+    ensures memory { OnErr result (needs_memory (ticked_in restarter.now.known known.now phase.now) ≡ true) }
 {
     match phase {
         Phase::Waiting { proposal, .. } => sending(alloc, Message::Propose(proposal.clone()?)),
@@ -384,7 +399,8 @@ pub(crate) fn ticked(
     restarter: &Restarter,
     instance: u64,
 ) -> Result<Reply, AllocError>
-    ensures { IfOk result (λ r. r ≡ ticked restarter.now.known instance) }
+    ensures exact { IfOk result (λ r. r ≡ ticked restarter.now.known instance) }
+    ensures memory { OnErr result (needs_memory (ticked restarter.now.known instance) ≡ true) }
 {
     if restarter.stage != Stage::Up {
         return Ok(nothing(alloc));

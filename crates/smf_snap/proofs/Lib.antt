@@ -1,2 +1,3 @@
+pub mod ByName
 pub mod Rising
 pub mod Bodies

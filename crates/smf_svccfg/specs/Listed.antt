@@ -1,15 +1,15 @@
 -- What the lines that list print.
 use Rattle.std.specs.Prelude.{ℕ, List, [], ◌∷◌, ◌++◌, Bool, true, false, codes, Option, Some, None}
 use Rattle.std.specs.List.{flat_map}
-use Rattle.smf_fmri.specs.ByKey.{put_all}
 use Rattle.smf_fmri.specs.Matching.{service_of}
 use Rattle.smf_fmri.specs.Name.{strip}
 use Rattle.smf_value.specs.declared.value.Value.{Value}
 use Rattle.smf_value.specs.declared.value.Value.TheVariants.{Astring, Ustring}
-use Rattle.smf_value.specs.Groups.{GroupRecord, PropertyRecord, by_group}
+use Rattle.smf_value.specs.Groups.{GroupRecord, PropertyRecord}
 use Rattle.smf_value.specs.Kinds.{kind_text}
 use Rattle.smf_value.specs.Spellings.{printed}
 use Rattle.smf_snap.specs.declared.name.SnapshotName.{SnapshotName}
+use Rattle.smf_snap.specs.Composed.{composition}
 use Rattle.smf_snap.specs.Names.{name_text}
 use Rattle.smf_model.specs.declared.held.InstanceName.{InstanceName}
 use Rattle.smf_model.specs.declared.held.Owner.TheVariants as owners
@@ -108,10 +108,10 @@ groups_text gs = flat_map group_line gs
 abbrev pub properties_text : List GroupRecord → List ℕ
 properties_text gs = flat_map group_lines gs
 
--- the groups that an instance had: its own, else those of its service
+-- the groups that an instance had
 abbrev pub composed_in : Option Snapshot → List GroupRecord
 composed_in None = []
-composed_in (Some s) = put_all by_group s.instance_groups s.service_groups
+composed_in (Some s) = composition s.instance_groups s.service_groups
 
 -- the snapshot that a name means of an instance
 abbrev pub snapshot_by_name : Holdings → ℕ → SnapshotName → Option Snapshot

@@ -1,9 +1,10 @@
 ghost use Rattle.smf_fmri.specs.ByKey.{Rises, by_text, put};
 ghost use Rattle.smf_value.specs.Edits.{Leaves, del, put_property};
 ghost use Rattle.smf_value.specs.Groups.{IsGroup, by_property, group_with, property_of, text_in};
+ghost use Rattle.smf_value.specs.declared.fault.GroupFault.TheVariants.{Memory};
 ghost use Rattle.std.specs.Int.RustNames.{bit_and};
 ghost use Rattle.std.specs.Option.{option_copied};
-ghost use Rattle.std.specs.Prelude.{◌≡◌, ◌≤◌, ◌==◌, [], length, nat_lt, refl};
+ghost use Rattle.std.specs.Prelude.{◌≡◌, ◌≢◌, ◌≤◌, ◌==◌, [], Err, length, nat_lt, refl};
 
 use crate::astring::Astring;
 use crate::fault::GroupFault;
@@ -131,9 +132,10 @@ impl Group {
         Ok(())
     }
 
-    /// Takes a property out of the group.
+    /// Takes a property out of the group. This needs no memory.
     pub fn del(&mut self, name: &Name) -> Result<(), GroupFault>
-        ensures { Leaves result (del name.now self.old) self.old self.new }
+        ensures exact { Leaves result (del name.now self.old) self.old self.new }
+        ensures never { result ≢ Err Memory }
     {
         if self.properties.get(name).is_none() {
             return Err(GroupFault::NoSuch);

@@ -1,12 +1,13 @@
 //! Values read from texts and printed.
 
+ghost use Rattle.smf_fmri.specs.declared.fault.FmriFault.TheVariants.{Memory};
 ghost use Rattle.smf_value.specs.Spellings.{Gives, Spells, is_decimal, printed, read_astring, read_boolean, read_count, read_fmri, read_integer, read_moment, read_negative, read_positive, read_time, read_ustring, read_value, nine_digits};
 ghost use Rattle.smf_value.specs.Texts.{IsShort};
 ghost use Rattle.smf_value.specs.Values.{IsValue, kind_of};
 ghost use Rattle.smf_value.specs.Moments.{IsMoment};
 ghost use Rattle.smf_value.specs.declared.value.Value.{Value as AnyValue};
 ghost use Rattle.smf_value.specs.declared.value.Value.TheVariants.{Time as AnyTime};
-ghost use Rattle.std.specs.Prelude.{◌≡◌, ◌<◌, ◌≤◌, ◌++◌, ◌-◌, ◌∷◌, IfOk, OnOk, Ok, length, replicate, string_bytes, true};
+ghost use Rattle.std.specs.Prelude.{◌≡◌, ◌<◌, ◌≤◌, ◌++◌, ◌-◌, ◌∷◌, IfErr, IfOk, OnOk, Ok, length, replicate, string_bytes, true};
 ghost use Rattle.std.specs.Char.{is_ascii_digit};
 ghost use Rattle.std.specs.List.{list_all};
 ghost use Rattle.std.specs.Str.Parse.{digits_value};
@@ -199,15 +200,26 @@ fn value_of(alloc: Global, kind: Kind, text: &str) -> Result<Value, ValueFault>
     }
 }
 
+/// Reads the short text of a name, which is that name. It is refused for want of memory alone.
+fn read_again(alloc: Global, name: &Fmri) -> Result<Fmri, FmriFault>
+    ensures same { IfOk result (λ f. f ≡ name.now) }
+    ensures short { IfOk result (λ _. IsShort name.now) }
+    ensures bounded { IfOk result (λ f. length f ≤ 512) }
+    ensures only { IfErr result (λ e. e ≡ Memory) }
+{
+    Fmri::parse(alloc, name.print())
+}
+
 /// The short text of a name, which reads as that name.
 pub(crate) fn short_of(alloc: Global, name: &Fmri) -> Result<Fmri, AllocError>
     ensures same { IfOk result (λ f. f ≡ name.now) }
     ensures short { IfOk result (λ _. IsShort name.now) }
     ensures bounded { IfOk result (λ f. length f ≤ 512) }
 {
-    match Fmri::parse(alloc, name.print()) {
-        Ok(again) if again == *name => Ok(again),
-        _ => Err(AllocError),
+    match read_again(alloc, name) {
+        Ok(again) => Ok(again),
+        Err(FmriFault::Memory) => Err(AllocError),
+        Err(_) => unreachable!(),
     }
 }
 

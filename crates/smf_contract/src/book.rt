@@ -1,0 +1,170 @@
+// The contracts, in which one is found by halves.
+ghost use Rattle.std.specs.Prelude.{◌≡◌, ◌+◌, ◌<◌, ◌≤◌, IfSome, OnOk, OnErr, [], ◌∷◌, ◌++◌, length, map, position};
+ghost use Rattle.std.specs.Ordering.{nat_cmp};
+ghost use Rattle.smf_contract.specs.Calls.{changed_at, given_up, later};
+ghost use Rattle.smf_contract.specs.Entries.{contract_in, has_id};
+ghost use Rattle.smf_contract.specs.Trail.{by_id};
+ghost use Rattle.smf_fmri.specs.ByKey.{IsPlaced, Rises};
+
+use crate::change::{give_up, later};
+use crate::contract::{Contract, Holder};
+use smf_fmri::Number;
+use std::alloc::{AllocError, Global};
+use std::cmp::Ordering;
+use std::marker::Model;
+
+/// The contracts, in the order of their ids, and the last id that was given. Contracts see both, and
+/// how many fit.
+#[derive(Drop)]
+pub(crate) struct Book {
+    contracts: Vec<Contract>,
+    last: Number,
+}
+
+impl Model for Book {
+    ghost use Rattle.std.specs.Prelude.{map, vec_capacity};
+    ghost use Rattle.smf_contract.specs.Laws.{Ascends};
+    ghost use Rattle.smf_contract.specs.Trail.{Holdings};
+
+    ghost Value = { Holdings };
+
+    ghost view = { λ b. record { contracts = b.contracts.items; last = b.last; fit = vec_capacity b.contracts } };
+
+    ghost invariant = { λ b. Ascends 0 (map (λ c. c.id) b.contracts.items) b.last };
+}
+
+fn compare(contract: &Contract, id: u64) -> Ordering
+    ensures { result ≡ nat_cmp contract.now.id id }
+{
+    contract.id.get().cmp(&id)
+}
+
+/// Where the contract of an id stands, or else where it would.
+fn search(contracts: &[Contract], id: u64) -> Result<usize, usize>
+    requires { Rises by_id contracts.now }
+    ensures { IsPlaced by_id id contracts.now result }
+{
+    contracts.binary_search_by(|contract| compare(contract, id))
+}
+
+fn place_of(contracts: &[Contract], id: u64) -> Option<usize>
+    requires { Rises by_id contracts.now }
+    ensures exact { result ≡ position (has_id id) contracts.now }
+    ensures in_range { IfSome result (λ k. k < length contracts.now) }
+{
+    match search(contracts, id) {
+        Ok(at) => Some(at),
+        Err(_) => None,
+    }
+}
+
+impl Book {
+    pub(crate) fn new(alloc: Global) -> Book
+        ensures contracts { result.contracts ≡ [] }
+        ensures last { result.last ≡ 0 }
+    {
+        Book {
+            contracts: Vec::new(alloc),
+            last: Number::zero(),
+        }
+    }
+
+    /// Makes room for one more. If memory runs out, room was missing.
+    pub(crate) fn reserve(&mut self) -> Result<(), AllocError>
+        ensures contracts { self.new.contracts ≡ self.old.contracts }
+        ensures last { self.new.last ≡ self.old.last }
+        ensures room { OnOk result (length self.new.contracts < self.new.fit) }
+        ensures err { OnErr result (self.old.fit ≤ length self.old.contracts) }
+    {
+        self.contracts.reserve(1)
+    }
+
+    pub(crate) fn as_slice(&self) -> &[Contract]
+        ensures { result.now ≡ self.now.contracts }
+    {
+        &self.contracts
+    }
+
+    /// The last id that was given; 0 if none was.
+    pub(crate) fn last(&self) -> Number
+        ensures { result ≡ self.now.last }
+    {
+        self.last
+    }
+
+    fn place_of(&self, id: Number) -> Option<usize>
+        ensures exact { result ≡ position (has_id id) self.now.contracts }
+        ensures in_range { IfSome result (λ k. k < length self.now.contracts) }
+    {
+        place_of(&self.contracts, id.get())
+    }
+
+    /// The contract of any number, if there is one.
+    pub(crate) fn find(&self, id: u64) -> Option<Contract>
+        ensures { result ≡ contract_in self.now.contracts id }
+    {
+        place_of(&self.contracts, id).map(|k| self.contracts[k])
+    }
+
+    /// The contract of an id, if there is one.
+    pub(crate) fn get(&self, id: Number) -> Option<Contract>
+        ensures { result ≡ contract_in self.now.contracts id }
+    {
+        self.find(id.get())
+    }
+
+    /// Adds a contract of the next id. There is room for it.
+    pub(crate) fn push(&mut self, contract: Contract)
+        requires next { contract.id ≡ self.old.last + 1 }
+        requires room { length self.old.contracts < self.old.fit }
+        ensures contracts { self.new.contracts ≡ self.old.contracts ++ contract ∷ [] }
+        ensures last { self.new.last ≡ contract.id }
+    {
+        let id = contract.id;
+        self.contracts.push(contract).unwrap();
+        self.last = id;
+    }
+
+    /// Gives the contract of an id another holder.
+    pub(crate) fn set_holder(&mut self, id: Number, holder: Holder)
+        ensures contracts { self.new.contracts ≡ changed_at self.old.contracts (λ c. record c { holder = holder }) (position (has_id id) self.old.contracts) }
+        ensures last { self.new.last ≡ self.old.last }
+        ensures fit { self.new.fit ≡ self.old.fit }
+        ensures len { length self.new.contracts ≡ length self.old.contracts }
+    {
+        if let Some(k) = self.place_of(id) {
+            let contract = &mut self.contracts[k];
+            contract.holder = holder;
+        }
+    }
+
+    /// Acknowledges the events of the contract of an id up to a number, if they were not before.
+    pub(crate) fn acknowledge(&mut self, id: Number, number: Number)
+        ensures contracts { self.new.contracts ≡ changed_at self.old.contracts (λ c. record c { acknowledged = later c.acknowledged number }) (position (has_id id) self.old.contracts) }
+        ensures last { self.new.last ≡ self.old.last }
+        ensures fit { self.new.fit ≡ self.old.fit }
+        ensures len { length self.new.contracts ≡ length self.old.contracts }
+    {
+        if let Some(k) = self.place_of(id) {
+            let contract = &mut self.contracts[k];
+            contract.acknowledged = later(contract.acknowledged, number);
+        }
+    }
+
+    /// Gives up what an actor holds.
+    pub(crate) fn give_up(&mut self, actor: u64)
+        ensures contracts { self.new.contracts ≡ map (given_up actor) self.old.contracts }
+        ensures last { self.new.last ≡ self.old.last }
+    {
+        give_up(&mut self.contracts, actor);
+    }
+
+    /// Forgets all contracts. Their ids are not given again.
+    pub(crate) fn clear(&mut self)
+        ensures contracts { self.new.contracts ≡ [] }
+        ensures last { self.new.last ≡ self.old.last }
+        ensures fit { self.old.fit ≤ self.new.fit }
+    {
+        self.contracts.clear();
+    }
+}
