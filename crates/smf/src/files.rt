@@ -1,8 +1,8 @@
 use smf_cfg::tell;
-use smf_edge::{OsKids, TableKids};
+use smf_edge::TableKids;
 use smf_lines::{LineReader, NotedReader};
 use smf_program::{tell_no_database, tell_no_input};
-use smf_serve::{Closed, FileBytes, check_copy, serve_cfg_file, serve_copy, serve_file, why_copy};
+use smf_serve::{Closed, FileBytes, check_copy, serve_cfg_file, serve_copy, why_copy};
 use sqlite::{Connection, Error, ErrorCode};
 use sqlite_std_file::File as DatabaseFile;
 use sqlite_store::FileStore;
@@ -14,14 +14,18 @@ use std::{fs, io};
 /// A log with no page in it, which a close leaves, has fewer bytes.
 const PAGE_IN_LOG: u64 = 64;
 
+/// Whether a fault of a file is want of memory, which says nothing of the file.
+pub(crate) fn is_memory(fault: &io::Error) -> bool {
+    fault.kind() == io::ErrorKind::OutOfMemory
+}
+
 /// Whether a page stands in the log beside a database.
-fn has_log(rt: &HostRuntime, database: &str) -> bool {
-    let Ok(name) = format!(in rt.alloc(); "{database}-wal") else {
-        return false;
-    };
+fn has_log(rt: &HostRuntime, database: &str) -> io::Result<bool> {
+    let name = format!(in rt.alloc(); "{database}-wal")?;
     match fs::metadata(rt, name.as_str()) {
-        Ok(log) => log.len() >= PAGE_IN_LOG,
-        Err(_) => false,
+        Ok(log) => Ok(log.len() >= PAGE_IN_LOG),
+        Err(fault) if is_memory(&fault) => Err(fault),
+        Err(_) => Ok(false),
     }
 }
 
@@ -33,7 +37,7 @@ pub(crate) enum Hold {
 }
 
 /// The number of this process.
-fn process_number(rt: &HostRuntime) -> io::Result<String> {
+pub(crate) fn process_number(rt: &HostRuntime) -> io::Result<String> {
     let alloc = rt.alloc();
     let stat = fs::read_to_string(rt, "/proc/self/stat")?;
     let number = match stat.as_str().find(' ') {
@@ -43,12 +47,13 @@ fn process_number(rt: &HostRuntime) -> io::Result<String> {
     format!(in alloc; "{number}").map_err(io::Error::from)
 }
 
-/// The path of the lock beside a database, which lies where a link leads.
-fn lock_path(rt: &HostRuntime, database: &str) -> io::Result<String> {
+/// The path of a file beside a database, which lies where a link leads.
+pub(crate) fn path_beside(rt: &HostRuntime, database: &str, what: &str) -> io::Result<String> {
     let alloc = rt.alloc();
     let path = match fs::canonicalize(rt, database) {
-        Ok(real) => format!(in alloc; "{}-lock", real.as_str())?,
-        Err(_) => format!(in alloc; "{database}-lock")?,
+        Ok(real) => format!(in alloc; "{}-{what}", real.as_str())?,
+        Err(fault) if is_memory(&fault) => return Err(fault),
+        Err(_) => format!(in alloc; "{database}-{what}")?,
     };
     Ok(path)
 }
@@ -90,17 +95,25 @@ fn without_lock(rt: &HostRuntime, database: &str) -> Hold {
     }
 }
 
-/// Takes a database for this program alone, and leaves its number for others.
+/// Takes a database for this program alone, and leaves its number for others. A method begins only if the lock holds it.
 pub(crate) fn take_alone(rt: &HostRuntime, database: &str) -> io::Result<Hold> {
-    let path = lock_path(rt, database)?;
-    let Ok(mut lock) = open_lock(rt, path.as_str()) else {
-        return Ok(without_lock(rt, database));
+    let path = path_beside(rt, database, "lock")?;
+    let mut lock = match open_lock(rt, path.as_str()) {
+        Ok(lock) => lock,
+        Err(fault) if is_memory(&fault) => return Err(fault),
+        Err(_) => return Ok(without_lock(rt, database)),
     };
     if lock.try_lock().is_err() {
         return Ok(Hold::Refused(tell_taken(rt, path.as_str())?));
     }
-    let _left = leave_number(rt, &mut lock);
-    Ok(Hold::Ours(Some(lock)))
+    match leave_number(rt, &mut lock) {
+        Ok(()) => Ok(Hold::Ours(Some(lock))),
+        Err(fault) if is_memory(&fault) => Err(fault),
+        Err(_) => Ok(Hold::Refused(tell(
+            &mut rt.stderr(),
+            "smf: database: its lock cannot be written",
+        ))),
+    }
 }
 
 /// Opens the database in a file. The log of a run that was cut off is copied into the file first, by a close.
@@ -108,7 +121,7 @@ pub(crate) fn open(
     rt: &HostRuntime,
     database: &str,
 ) -> Result<Connection<FileStore<DatabaseFile>>, Error> {
-    let had_log = has_log(rt, database);
+    let had_log = has_log(rt, database).map_err(|fault| read_fault(&fault))?;
     let conn = Connection::open(rt, database)?;
     if !had_log {
         return Ok(conn);
@@ -117,34 +130,13 @@ pub(crate) fn open(
     Connection::open(rt, database)
 }
 
-/// Does a script over the database in a file, with processes of the system.
-pub(crate) fn run_over(rt: &HostRuntime, database: &str) -> io::Result<u8> {
-    let alloc = rt.alloc();
-    let mut reader = NotedReader::new(BufReader::new(alloc, rt.reader())?);
-    let mut errors = rt.stderr();
-    let mut kids = OsKids::new(alloc, rt, rt.stderr());
-    Ok(match open(rt, database) {
-        Ok(conn) => {
-            let Closed { status, files: _ } = serve_file(
-                alloc,
-                conn,
-                &mut reader,
-                &mut io::writer(rt),
-                &mut errors,
-                &mut kids,
-            );
-            status
-        }
-        Err(fault) => tell_no_database(&mut errors, &fault),
-    })
-}
-
 /// Why a file is not read, as the library says why it is not opened.
 fn read_fault(fault: &io::Error) -> Error {
-    match fault.kind() {
-        io::ErrorKind::OutOfMemory => Error::SqliteFailure(ErrorCode::OutOfMemory),
-        _ => Error::SqliteFailure(ErrorCode::CannotOpen),
-    }
+    Error::SqliteFailure(if is_memory(fault) {
+        ErrorCode::OutOfMemory
+    } else {
+        ErrorCode::CannotOpen
+    })
 }
 
 /// The bytes of a regular file.

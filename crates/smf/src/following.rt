@@ -1,5 +1,6 @@
 // Scripts over a database, with contracts that are followed through forks.
 use crate::files::open;
+use crate::running::end_listed;
 use smf_cfg::tell;
 use smf_edge::Kids;
 use smf_follow::FollowedKids;
@@ -106,6 +107,9 @@ pub(crate) fn follow_over(rt: &HostRuntime, database: &str) -> io::Result<u8> {
         Ok(conn) => conn,
         Err(fault) => return Ok(tell_no_database(&mut errors, &fault)),
     };
+    if let Some(status) = end_listed(rt, database)? {
+        return Ok(status);
+    }
     match room_of(rt, database) {
         Ok(room) if wants_groups(rt) => group(rt, conn, room),
         Ok(room) => keep(rt, conn, room),

@@ -1,16 +1,18 @@
 //! `smf`: does scripts of a service manager on standard input, over a repository in memory, over a copy in memory of a
 //! database, or over a database and the processes of its services, and lines of svccfg over a database. It opens files; all
 //! else is decided below.
-//! Modules: `files` (the files that words name), `following` (contracts that are followed through forks), `serving` (a
-//! service manager that stays).
+//! Modules: `files` (the files that words name), `following` (contracts that are followed through forks), `running`
+//! (processes of the system), `serving` (a service manager that stays).
 #![tactic(auto)]
 
 mod files;
 mod following;
+mod running;
 mod serving;
 
-use crate::files::{Hold, cfg_over, check_over, run_over, sim_over, take_alone, why_over};
+use crate::files::{Hold, cfg_over, check_over, sim_over, take_alone, why_over};
 use crate::following::follow_over;
+use crate::running::run_over;
 use crate::serving::{serve_over, tick_into};
 use smf_edge::TableKids;
 use smf_lines::NotedReader;

@@ -39,6 +39,10 @@ pub record IsGroupKill (group : ℕ) (c : Command Global) : Type 0 where
 abbrev pub StartRefused : (Error → Type 0) → Type 0
 StartRefused start_fails = (e : Error) × (start_fails e) × (error_kind e ≢ OutOfMemory)
 
+-- a start failed for want of memory
+abbrev pub StartLacksMemory : (Error → Type 0) → Type 0
+StartLacksMemory start_fails = (e : Error) × (start_fails e) × (error_kind e ≡ OutOfMemory)
+
 -- it is not the next contract, or the system refused to start a process
 abbrev pub MayRefuse : (Error → Type 0) → Ledger → ℕ → Type 0
 MayRefuse start_fails l id = (next_contract l.table ≢ Some id) ⊎ StartRefused start_fails

@@ -4,6 +4,7 @@ use Rattle.std.specs.declared.alloc.Global.{Global}
 use Rattle.std.specs.declared.process.Command.{Command}
 use Rattle.std.specs.declared.process.ExitStatus.{ExitStatus}
 use Rattle.std_io.specs.declared.io.error.Error.{Error}
+use Rattle.smf_edge.specs.Ends.{StartRefused}
 
 pub record Facts (C : Type 0) : Type 1 where
   -- how the process ended, once that was told
@@ -28,8 +29,8 @@ pub record Facts (C : Type 0) : Type 1 where
 abbrev pub HasRun : {C : Type 0} → Facts C → Command Global → Type 0
 HasRun {C} facts program = (c : C) × (facts.is_of program c) × (s : ExitStatus) × facts.has_ended c s
 
--- a start failed; or it made a process of this program, and the system did not say how that ended
+-- a start failed, and not for want of memory; or it made a process of this program, and the system did not say how that ended
 abbrev pub HasNotRun : {C : Type 0} → Facts C → Command Global → Type 0
 HasNotRun {C} facts program =
-    ((e : Error) × facts.start_fails e)
+    StartRefused facts.start_fails
     ⊎ ((c : C) × (facts.is_of program c) × facts.is_lost c)

@@ -1,13 +1,13 @@
 // The processes of the system that were started.
-ghost use Rattle.std.specs.Prelude.{◌≡◌, ◌⊎◌, IfErr, IfNone, IfOk, IfSome, false, true, filter, position};
-ghost use Rattle.smf_edge.specs.Ends.{StartRefused};
+ghost use Rattle.std.specs.Prelude.{◌≡◌, ◌⊎◌, IfErr, IfNone, IfOk, IfSome, OnErr, false, true, filter, position};
+ghost use Rattle.smf_edge.specs.Ends.{StartLacksMemory, StartRefused};
 ghost use Rattle.smf_edge.specs.Facts.{HasNotRun, HasRun};
 ghost use Rattle.smf_edge.specs.Running.{AreSeen, HasExit, HasNoExit, IsCleared, IsEnded, IsNotCleared, IsNotEnded, IsSeen, NoneOrSome, SomeKid, is_kid_of, is_other_kid, role_of, roles};
 ghost use Rattle.smf_edge.specs.Shell.{is_child};
 ghost use Rattle.smf_edge.specs.declared.fault.KidsFault.TheVariants.{Memory, Refused};
 
 use crate::fault::KidsFault;
-use crate::shell::{exit_of, is_child, killer, start_fault};
+use crate::shell::{exit_of, is_child, killer, lacks_memory, start_fault};
 use crate::system::System;
 use smf_contract::Exit;
 use smf_fmri::Number;
@@ -64,14 +64,21 @@ pub(crate) fn start<R: System>(
     }
 }
 
-/// Runs a program to its end. Says whether the system did that; how the program ended is not judged.
-fn run<R: System>(system: &R, mut program: Program) -> bool
-    ensures done { result ≡ true → HasRun R.facts program }
-    ensures failed { result ≡ false → HasNotRun R.facts program }
+/// Runs a program to its end. Says whether the system did that; how the program ended is not judged. If the system has
+/// no memory for a start, this is want of memory.
+fn run<R: System>(system: &R, mut program: Program) -> Result<bool, AllocError>
+    ensures done { IfOk result (λ done. done ≡ true → HasRun R.facts program) }
+    ensures failed { IfOk result (λ done. done ≡ false → HasNotRun R.facts program) }
+    ensures memory { OnErr result (StartLacksMemory R.facts.start_fails) }
 {
     match system.start(&mut program) {
-        Ok(mut child) => system.wait(&mut child).is_ok(),
-        Err(_) => false,
+        Ok(mut child) => Ok(system.wait(&mut child).is_ok()),
+        Err(error) => {
+            if lacks_memory(&error) {
+                return Err(AllocError);
+            }
+            Ok(false)
+        }
     }
 }
 
@@ -91,7 +98,8 @@ fn clear<R: System>(
         return Ok(true);
     }
     let killer = killer(alloc, group)?;
-    Ok(run(system, killer))
+    let done = run(system, killer)?;
+    Ok(done)
 }
 
 /// What is seen of one process.
@@ -189,7 +197,8 @@ fn end<R: System>(alloc: Global, system: &R, kid: &mut Kid<R::Started>) -> Resul
     if system.kill(&mut kid.child).is_err() {
         return Ok(false);
     }
-    if !run(system, killer) {
+    let cleared = run(system, killer)?;
+    if !cleared {
         return Ok(false);
     }
     Ok(system.wait(&mut kid.child).is_ok())

@@ -1,5 +1,5 @@
 // How a command is run.
-ghost use Rattle.std.specs.Prelude.{◌≡◌, ◌≢◌, IfOk, OnOk, ℕ, List, Some, None, true, codes, [], ◌∷◌};
+ghost use Rattle.std.specs.Prelude.{◌≡◌, ◌≢◌, IfOk, OnOk, ℕ, List, Some, None, false, true, codes, [], ◌∷◌};
 ghost use Rattle.std.specs.Process.{SameEnv, SameOtherVars, SameProgramAndArgs, clears_env, command_args, command_program, command_var};
 ghost use Rattle.std.specs.IoError.{error_kind};
 ghost use Rattle.std_io.specs.declared.io.kind.ErrorKind.TheVariants.{OutOfMemory};
@@ -128,12 +128,20 @@ pub(crate) fn is_child(style: Duration) -> bool
     style == Duration::Child
 }
 
+/// Whether the system had no memory for what it was asked.
+pub(crate) fn lacks_memory(error: &io::Error) -> bool
+    ensures lacks { result ≡ true → error_kind error.now ≡ OutOfMemory }
+    ensures other { result ≡ false → error_kind error.now ≢ OutOfMemory }
+{
+    error.kind() == ErrorKind::OutOfMemory
+}
+
 /// Why the system started no process.
 pub(crate) fn start_fault(error: &io::Error) -> KidsFault
     ensures memory { error_kind error.now ≡ OutOfMemory → result ≡ Memory }
     ensures refused { error_kind error.now ≢ OutOfMemory → result ≡ Refused }
 {
-    if error.kind() == ErrorKind::OutOfMemory {
+    if lacks_memory(error) {
         return KidsFault::Memory;
     }
     KidsFault::Refused

@@ -2,15 +2,15 @@ use Rattle.std.proofs.Common.{sym, ◌∙◌, inl, inr}
 use Rattle.smf_edge.proofs.Seeing.{done_if_no_err, told}
 use Rattle.smf_edge.proofs.child.end.Goals as goal
 
-pub returns-then-not-run-clause-failed : goal.returns-then-not-run-clause-failed
-returns-then-not-run-clause-failed g c = λ _. inr (inl (c.in_ok-killer.killer, c.in_ok-killer.ensures, c.run.ensures.failed c.if-not-run.true))
+pub returns-then-not-cleared-clause-failed : goal.returns-then-not-cleared-clause-failed
+returns-then-not-cleared-clause-failed g c = λ _. inr (inl (c.in_ok-killer.killer, c.in_ok-killer.ensures, c.in_ok-cleared.ensures.failed c.if-not-cleared.true))
 
 pub returns-clause-ended : goal.returns-clause-ended
 returns-clause-ended g c = λ done.
     let ended = told _ c.wait.result (sym c.is_ok.ensures.value ∙ done) c.wait.ensures.ended in
     record {
       killed = done_if_no_err _ c.kill.result (sym c.is_err.ensures.value ∙ c.if-is_err.false) c.kill.ensures.killed;
-      cleared = (c.in_ok-killer.killer, c.in_ok-killer.ensures, c.run.ensures.done c.if-not-run.false);
+      cleared = (c.in_ok-killer.killer, c.in_ok-killer.ensures, c.in_ok-cleared.ensures.done c.if-not-cleared.false);
       status = ended.0;
       ended = c.kill.ensures.ended ended.0 ended.1;
     }
