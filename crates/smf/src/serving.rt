@@ -1,16 +1,16 @@
 // A service manager that stays, over a database and the requests of a folder.
-use crate::files::{Hold, open, take_alone};
+use crate::files::{Hold, is_memory, open, take_alone};
 use crate::following::{room_of, room_text, wants_groups};
+use crate::running::end_listed;
 use smf_cfg::tell;
 use smf_edge::Kids;
 use smf_follow::FollowedKids;
 use smf_keeper::{Groups, Keepers, Room, RoomFault};
 use smf_lines::{NotedReader, ReadFault, Turns, read_line, text_in};
 use smf_model::{Journal, Plain};
-use smf_node::Node;
 use smf_program::tell_no_database;
-use smf_run::end_all;
-use smf_server::{Ask, Desk, Onward, Server, Timer, fault_text, turn};
+use smf_script::ScriptFault;
+use smf_server::{Ask, Desk, Ender, Life, Onward, Stop, Timer, fault_text, stay_over};
 use smf_store::{OpenFault, StoreTable, open_repository};
 use sqlite::Connection;
 use sqlite_std_file::File as DatabaseFile;
@@ -237,6 +237,67 @@ impl<'a> Timer for SystemTimer<'a> {
     }
 }
 
+/// A file in the folder of contracts, by which `smf_keep` knows how they are ended.
+#[derive(Drop)]
+struct FileEnder<'a> {
+    rt: &'a HostRuntime,
+    /// The path of the file.
+    path: String,
+    /// What was written last.
+    text: String,
+}
+
+/// A line for each: the instance, the signal, and the seconds, which are 0 if there is no time-out. A last word says that
+/// the first process stays.
+fn lines_of(alloc: Global, stops: &[Stop]) -> Result<String, AllocError> {
+    let mut text = String::new(alloc);
+    for stop in stops {
+        let seconds = match stop.timeout {
+            Some(timeout) => timeout.seconds(),
+            None => 0,
+        };
+        let child = if stop.child { " child" } else { "" };
+        let line = format!(in alloc; "{} {} {seconds}{child}\n", stop.instance, stop.signal)?;
+        text.push_str(line.as_str())?;
+    }
+    Ok(text)
+}
+
+impl<'a> FileEnder<'a> {
+    fn new(rt: &'a HostRuntime, path: String) -> FileEnder<'a> {
+        FileEnder {
+            rt,
+            path,
+            text: String::new(rt.alloc()),
+        }
+    }
+
+    /// Another file takes the place of this one, so that no half of it is ever read.
+    fn write(&mut self, text: String) -> io::Result<()> {
+        let part = format!(in self.rt.alloc(); "{}.part", self.path.as_str())?;
+        fs::write(self.rt, part.as_str(), text.as_str())?;
+        fs::rename(self.rt, part.as_str(), self.path.as_str())?;
+        self.text = text;
+        Ok(())
+    }
+}
+
+impl<'a> Ender for FileEnder<'a> {
+    ghost use Rattle.std.specs.Prelude.{None};
+
+    ghost told = { λ _. None };
+
+    /// What is the same as before is not written again. If it cannot be written, contracts are ended as before.
+    fn end_by(&mut self, stops: &[Stop]) {
+        match lines_of(self.rt.alloc(), stops) {
+            Ok(text) if text.as_str() != self.text.as_str() => {
+                let _written = self.write(text);
+            }
+            _ => {}
+        }
+    }
+}
+
 /// Takes a lock within a second: who waited for an older server's end may hold it for a moment.
 fn take(rt: &HostRuntime, lock: &File) -> bool {
     for _ in 0..TRIES {
@@ -311,19 +372,10 @@ fn tell_open(rt: &HostRuntime, fault: &OpenFault) -> u8 {
     }
 }
 
-/// Takes turns until no more is asked, or a fault ends it.
-fn stay<J: Journal, K: Kids>(
-    rt: &HostRuntime,
-    desk: &mut FileDesk<'_>,
-    server: &mut Server<J, K>,
-) -> u8 {
-    let timer = SystemTimer { rt };
-    for _ in 0..u64::MAX {
-        match turn(rt.alloc(), desk, &timer, server) {
-            Ok(Onward::Goes) => {}
-            Ok(Onward::Ends) => break,
-            Err(fault) => return tell(&mut rt.stderr(), fault_text(&fault)),
-        }
+/// Tells why a server ended, and gives the status of its run.
+fn tell_end(rt: &HostRuntime, desk: &FileDesk<'_>, how: &Result<Onward, ScriptFault>) -> u8 {
+    if let Err(fault) = how {
+        return tell(&mut rt.stderr(), fault_text(fault));
     }
     match desk.failed {
         Some(text) => tell(&mut rt.stderr(), text),
@@ -331,43 +383,31 @@ fn stay<J: Journal, K: Kids>(
     }
 }
 
-/// Stays over a node and its children, which are ended behind it.
-fn stay_over<J: Journal + Drop, K: Kids + Drop>(
+/// Stays over what a repository holds, and children. Gives the journal back.
+fn stay<J: Journal + Drop, K: Kids + Drop>(
     rt: &HostRuntime,
     desk: &mut FileDesk<'_>,
-    node: Node<J>,
-    kids: K,
-) -> (u8, J) {
-    let mut server = Server::new(rt.alloc(), node, kids);
-    let status = match start_ticks(rt, desk.folder) {
-        Ok(()) => stay(rt, desk, &mut server),
-        Err(_) => tell(&mut rt.stderr(), "smf: serve: no ticks can be started"),
-    };
-    let Server {
-        node,
-        mut kids,
-        watch: _watch,
-        busy: _,
-        ends: _ends,
-    } = server;
-    let _is_listed = end_all(&mut kids);
-    (status, node.into_repository().into_journal())
-}
-
-/// Boots what a repository holds, and stays over it.
-fn boot<J: Journal + Drop, K: Kids + Drop>(
-    rt: &HostRuntime,
-    desk: &mut FileDesk<'_>,
+    ender: &mut FileEnder<'_>,
     repository: Plain<J>,
     kids: K,
 ) -> (u8, J) {
-    match Node::new(rt.alloc(), repository) {
-        Ok(node) => stay_over(rt, desk, node, kids),
-        Err((fault, repository)) => {
-            let status = tell(&mut rt.stderr(), fault_text(&fault.into()));
-            (status, repository.into_journal())
-        }
+    if start_ticks(rt, desk.folder).is_err() {
+        let status = tell(&mut rt.stderr(), "smf: serve: no ticks can be started");
+        return (status, repository.into_journal());
     }
+    let Life {
+        how,
+        journal,
+        kids: _kids,
+    } = stay_over(
+        rt.alloc(),
+        desk,
+        &SystemTimer { rt },
+        ender,
+        repository,
+        kids,
+    );
+    (tell_end(rt, desk, &how), journal)
 }
 
 /// Closes a database, so that its file alone holds everything.
@@ -388,12 +428,13 @@ fn close(rt: &HostRuntime, conn: Connection<FileStore<DatabaseFile>>, status: u8
 fn serve_with<K: Kids + Drop>(
     rt: &HostRuntime,
     desk: &mut FileDesk<'_>,
+    ender: &mut FileEnder<'_>,
     conn: Connection<FileStore<DatabaseFile>>,
     kids: K,
 ) -> u8 {
     match open_repository(rt.alloc(), conn) {
         Ok(repository) => {
-            let (status, journal) = boot(rt, desk, repository, kids);
+            let (status, journal) = stay(rt, desk, ender, repository, kids);
             close(rt, journal.release(), status)
         }
         Err((fault, conn)) => {
@@ -401,6 +442,12 @@ fn serve_with<K: Kids + Drop>(
             close(rt, conn, status)
         }
     }
+}
+
+/// The file in the folder of contracts, of which nothing is written yet.
+fn ender_in<'a>(rt: &'a HostRuntime, room: &Room) -> io::Result<FileEnder<'a>> {
+    let path = format!(in rt.alloc(); "{}/stops", room.path())?;
+    Ok(FileEnder::new(rt, path))
 }
 
 /// Stays with contracts that keepers follow.
@@ -411,9 +458,10 @@ fn keep(
     room: Room,
 ) -> io::Result<u8> {
     eprintln!(rt; "smf: contracts: each has a keeper")?;
+    let mut ender = ender_in(rt, &room)?;
     let keepers = Keepers::new(rt.alloc(), rt, room, rt.stderr());
     let kids = FollowedKids::new(rt.alloc(), keepers);
-    Ok(serve_with(rt, desk, conn, kids))
+    Ok(serve_with(rt, desk, &mut ender, conn, kids))
 }
 
 /// Stays with contracts that are control groups, if these can be made; else keepers follow them.
@@ -423,11 +471,12 @@ fn group(
     conn: Connection<FileStore<DatabaseFile>>,
     room: Room,
 ) -> io::Result<u8> {
+    let mut ender = ender_in(rt, &room)?;
     match Groups::make(rt.alloc(), rt, room, rt.stderr()) {
         Ok(groups) => {
             eprintln!(rt; "smf: contracts: each is a control group")?;
             let kids = FollowedKids::new(rt.alloc(), groups);
-            Ok(serve_with(rt, desk, conn, kids))
+            Ok(serve_with(rt, desk, &mut ender, conn, kids))
         }
         Err((_, room)) => keep(rt, desk, conn, room),
     }
@@ -439,6 +488,7 @@ fn logs_of(rt: &HostRuntime, folder: &str) -> io::Result<String> {
     let named = format!(in alloc; "{folder}/log")?;
     match fs::canonicalize(rt, named.as_str()) {
         Ok(real) => Ok(format!(in alloc; "{}", real.as_str())?),
+        Err(fault) if is_memory(&fault) => Err(fault),
         Err(_) => Ok(String::new(alloc)),
     }
 }
@@ -458,6 +508,9 @@ fn serve(rt: &HostRuntime, desk: &mut FileDesk<'_>, database: &str) -> io::Resul
         Ok(conn) => conn,
         Err(fault) => return Ok(tell_no_database(&mut errors, &fault)),
     };
+    if let Some(status) = end_listed(rt, database)? {
+        return Ok(status);
+    }
     match staying_room(rt, desk.folder, database) {
         Ok(room) if wants_groups(rt) => group(rt, desk, conn, room),
         Ok(room) => keep(rt, desk, conn, room),

@@ -1,10 +1,13 @@
 -- How a server goes on, turn by turn.
-use Rattle.std.proofs.Common.{◌≡◌, ◌<◌, ◌+◌, ℕ, List, [], ◌∷◌, ◌++◌, length, get_or, drop, map, Bool, Option, Some, None, refl, sym, ap, subst, ◌∙◌, append_assoc, append-nil}
+use Rattle.std.proofs.Common.{◌≡◌, ◌<◌, ◌+◌, ℕ, zero, suc, List, [], ◌∷◌, ◌++◌, length, get_or, drop, map, Bool, Option, Some, None, refl, sym, ap, subst, ◌∙◌, append_assoc, append-nil}
 use Rattle.std.specs.Prelude.{flat_map}
 use Rattle.std.specs.declared.time.Duration.{Duration}
 use Rattle.smf_edge.specs.Answers.{Skills}
-use Rattle.smf_server.specs.Passing.{Passed, Asked, Told, passing, reply_in}
-use Rattle.smf_server.specs.Turns.{Between, Doing, IsServed, IsTurn, Step, Steps, TurnsFollow, passed_in}
+use Rattle.smf_model.specs.declared.journal.RepoFault.{RepoFault}
+use Rattle.smf_script.specs.declared.fault.ScriptFault.{ScriptFault}
+use Rattle.smf_server.specs.Life.{AreTurns, IsBroken, IsClosed}
+use Rattle.smf_server.specs.Passing.{Passed, Asked, Closed, Told, passing, reply_in}
+use Rattle.smf_server.specs.Turns.{Between, Doing, IsFailed, IsServed, IsTurn, Step, Steps, TurnsFollow, passed_in}
 use Rattle.smf_server.proofs.Hasty.{left_at}
 
 -- ---- what passed
@@ -56,3 +59,38 @@ serves_more k clock was now is s mid t served turn =
 
 pub turns_follow : (k : Skills) (clock : Duration → Type 0) → TurnsFollow k clock
 turns_follow k clock was now is s mid t = (nothing_yet k clock was s, serves_more k clock was now is s mid t)
+
+-- ---- so many turns
+
+many_more : (turns : List Doing) (one : Doing) → length (turns ++ one ∷ []) ≡ suc (length turns)
+many_more [] one = refl
+many_more (first ∷ more) one = ap suc (many_more more one)
+
+pub no_turns : (k : Skills) (clock : Duration → Type 0) (was : Option (List Passed)) (s : Between) → AreTurns k clock zero was was s s
+no_turns k clock was s = record { served = record { turns = []; steps = refl; passed = sym (passing_nothing was) }; many = refl }
+
+pub one_turn_more : (k : Skills) (clock : Duration → Type 0) (n : ℕ) (was now is : Option (List Passed)) (s mid t : Between) → AreTurns k clock n was now s mid → IsTurn k clock now is mid t → AreTurns k clock (suc n) was is s t
+one_turn_more k clock n was now is s mid t turns turn =
+    record {
+      served = record {
+        turns = turns.served.turns ++ turn.one ∷ [];
+        steps = steps_more k clock turns.served.turns turn.one s mid t turns.served.steps turn.step;
+        passed = turn.passed ∙ ap (passing (passed_in turn.one)) turns.served.passed ∙ passing_then (flat_map passed_in turns.served.turns) (passed_in turn.one) was
+            ∙ ap (λ (xs : List Passed). passing xs was) (sym (passed_more turns.served.turns turn.one));
+      };
+      many = many_more turns.served.turns turn.one ∙ ap suc turns.many;
+    }
+
+-- no more was asked
+pub is_closed : (k : Skills) (clock : Duration → Type 0) (n : ℕ) (was now is : Option (List Passed)) (s mid t : Between) → AreTurns k clock n was now s mid → t ≡ mid → is ≡ passing (Closed ∷ []) now → IsClosed k clock was is s t
+is_closed k clock n was now is s mid t turns same closed =
+    record { now = now; served = subst (λ (x : Between). IsServed k clock was now s x) (sym same) turns.served; closed = closed }
+
+-- a fault ended the next turn
+pub is_broken : (k : Skills) (clock : Duration → Type 0) (stores : RepoFault → Type 0) (fault : ScriptFault) (n : ℕ) (was now is : Option (List Passed)) (s mid t : Between) → AreTurns k clock n was now s mid → IsFailed k stores fault now is mid t
+    → IsBroken k clock stores fault was is s t
+is_broken k clock stores fault n was now is s mid t turns failed = record { now = now; mid = mid; served = turns.served; failed = failed }
+
+-- so many turns were the most
+pub all_taken : (k : Skills) (clock : Duration → Type 0) (n most : ℕ) (was is : Option (List Passed)) (s t : Between) → AreTurns k clock n was is s t → n ≡ most → AreTurns k clock most was is s t
+all_taken k clock n most was is s t turns same = subst (λ (x : ℕ). AreTurns k clock x was is s t) same turns

@@ -4,12 +4,13 @@ use Rattle.smf_server.specs.declared.ask.Ask.{Ask}
 use Rattle.smf_server.specs.declared.ask.Ask.TheVariants as asks
 
 -- a request came in; a reply went out, its text and its status; a reply went out that says that its text could not be
--- written; or a line was told to whoever runs the server
+-- written; a line was told to whoever runs the server; or no more is asked
 pub data Passed : Type 0 where
   Asked : List ℕ → Passed
   Replied : List ℕ → ℕ → Passed
   Unwritten : Passed
   Told : List ℕ → Passed
+  Closed : Passed
 
 -- these passed after what passed before, where that is known
 abbrev pub passing : List Passed → Option (List Passed) → Option (List Passed)
@@ -18,7 +19,7 @@ passing more was = option_map (λ first. first ++ more) was
 abbrev pub asked_in : Ask → List Passed
 asked_in asks.Tick = []
 asked_in (asks.Request request) = Asked request.items ∷ []
-asked_in asks.End = []
+asked_in asks.End = Closed ∷ []
 
 -- the reply with a text and a status, by whether the text could be written
 abbrev pub reply_in : Bool → List ℕ → ℕ → Passed

@@ -22,7 +22,7 @@ use Rattle.smf_world.specs.Schedule.{Progress, on}
 use Rattle.smf_world.specs.Worked.{restarter}
 use Rattle.smf_world.specs.World.{World}
 use Rattle.smf_server.specs.Loops.{hasty, is_kept, lines_of, marks, seen_by}
-use Rattle.smf_server.specs.Passing.{Passed, Asked, Told, passing, reply_in}
+use Rattle.smf_server.specs.Passing.{Passed, Asked, Closed, Told, passing, reply_in}
 use Rattle.smf_server.specs.declared.ask.Onward.{Onward}
 use Rattle.smf_server.specs.declared.ends.End.{End}
 use Rattle.smf_server.specs.declared.ends.Ends.{Ends as SeenEnds}
@@ -50,6 +50,13 @@ between s ends = record { standing = s; looked = ends.looked; ends = ends.seen.i
 
 -- ---- rounds
 
+-- by what it is seen that something happened
+abbrev pub size_of : World → Size
+size_of w = record { revision = w.now.revision; shown = length w.trail; sent = length w.sent }
+
+abbrev pub is_same : Size → Size → Bool
+is_same s t = s.revision == t.revision && s.shown == t.shown && s.sent == t.sent
+
 -- the most rounds before it is looked what comes next
 abbrev pub max_rounds : ℕ
 max_rounds = 20
@@ -58,16 +65,29 @@ abbrev pub is_busy : Settled → Bool
 is_busy Quiet = false
 is_busy Busy = true
 
--- rounds were made, and more are wanted if their number ended them
-pub record HasGone (k : Skills) (c : Course) (t : Standing) : Type 0 where
+-- at most so many rounds were made, and more are wanted if their number ended them
+pub record HasGone (k : Skills) (rounds : ℕ) (c : Course) (t : Standing) : Type 0 where
   pub how : Settled
-  pub made : HasSettled (rules_of k) max_rounds c t.course how
+  pub made : HasSettled (rules_of k) rounds c t.course how
   pub left : t.busy ≡ is_busy how
 
 -- rounds were made, or nothing was done
 abbrev pub GoesIf : Bool → Skills → Course → Bool → Standing → Type 0
-GoesIf true k c busy t = HasGone k c t
+GoesIf true k c busy t = HasGone k max_rounds c t
 GoesIf false k c busy t = t ≡ record { course = c; busy = busy }
+
+-- one round was made, and more if they are wanted and it came to anything. Else the next one would not either: a kill is
+-- owed that is not done yet
+pub record HasTried (k : Skills) (c : Course) (t : Standing) : Type 0 where
+  pub one : Standing
+  pub first : HasGone k 1 c one
+  pub more : GoesIf (one.busy && not (is_same (size_of c.progress.world) (size_of one.course.progress.world))) k one.course one.busy t
+
+-- rounds were made if anything happened; if more were wanted, one at first
+abbrev pub GoesBy : Bool → Bool → Skills → Course → Standing → Type 0
+GoesBy true busy k c t = HasGone k max_rounds c t
+GoesBy false true k c t = HasTried k c t
+GoesBy false false k c t = t ≡ record { course = c; busy = false }
 
 -- ---- a tick
 
@@ -118,7 +138,7 @@ pub record HasPassed (k : Skills) (s t : Standing) : Type 0 where
   pub timed : Progress
   pub late : Bool
   pub times : HaveTimedOut heard.progress timed late
-  pub goes : GoesIf (any || (late || s.busy)) k (course timed heard.seen) s.busy t
+  pub goes : GoesBy (any || late) s.busy k (course timed heard.seen) t
 
 -- ---- instances that end again and again
 
@@ -170,13 +190,6 @@ pub record Answer : Type 0 where
   pub status : ℕ
   pub written : Bool
 
--- by what it is seen that something came of a request
-abbrev pub size_of : World → Size
-size_of w = record { revision = w.now.revision; shown = length w.trail; sent = length w.sent }
-
-abbrev pub is_same : Size → Size → Bool
-is_same s t = s.revision == t.revision && s.shown == t.shown && s.sent == t.sent
-
 -- the lines of a request were done, and this was said to them
 abbrev pub HasAnswered : Skills → Answer → Course → Course → Type 0
 HasAnswered k a c d = HasRun k (begun c.progress) (Some a.request) c.seen d.seen d.progress (Some []) (Some a.text) a.status
@@ -214,7 +227,7 @@ pub record IsTurn (k : Skills) (clock : Duration → Type 0) (was is : Option (L
 
 abbrev pub HasTurned : Skills → (Duration → Type 0) → Onward → Option (List Passed) → Option (List Passed) → Between → Between → Type 0
 HasTurned k clock Goes was is s t = IsTurn k clock was is s t
-HasTurned k clock Ends was is s t = (t ≡ s) × (is ≡ was)
+HasTurned k clock Ends was is s t = (t ≡ s) × (is ≡ passing (Closed ∷ []) was)
 
 -- ---- faults
 

@@ -1,10 +1,11 @@
-ghost use Rattle.std.specs.Prelude.{◌≡◌, ◌≤◌, ◌||◌, List, [], ◌∷◌, Option, length, map, nat_lt, false, true, IfErr, IfOk, OnOk};
+ghost use Rattle.std.specs.Prelude.{◌≡◌, ◌≤◌, ◌||◌, ◌&&◌, not, List, [], ◌∷◌, Option, Some, length, map, nat_lt, false, true, IfErr, IfOk, OnOk};
 ghost use Rattle.smf_drive.specs.Agrees.{Agrees};
 ghost use Rattle.smf_drive.specs.Moves.{Moves};
 ghost use Rattle.smf_edge.specs.Answers.{seen};
 ghost use Rattle.smf_node.specs.Rounds.{course};
 ghost use Rattle.smf_server.specs.Passing.{Asked, Passed, Told, passing};
-ghost use Rattle.smf_server.specs.Turns.{GoesIf, HasGone, HasLooked, HasPassed, HasTurned, IsFailed, IsTick, IsTurn, LooksIf, between, is_busy, is_same, shown_of, size_of, standing};
+ghost use Rattle.smf_server.specs.Stopping.{is_new, stops_of, telling};
+ghost use Rattle.smf_server.specs.Turns.{GoesBy, GoesIf, HasGone, HasLooked, HasPassed, HasTried, HasTurned, IsFailed, IsTick, IsTurn, LooksIf, between, is_busy, is_same, shown_of, size_of, standing};
 ghost use Rattle.smf_world.specs.Reached.{IsLater};
 ghost use Rattle.smf_world.specs.Safe.{IsSafe};
 
@@ -14,6 +15,7 @@ use crate::hearing::hear_all;
 use crate::marks::{lines_of, mark_all};
 use crate::server::Server;
 use crate::size::Size;
+use crate::stops::{Ender, Noted};
 use crate::timer::Timer;
 use crate::watch::owners;
 use smf_drive::drive;
@@ -41,15 +43,19 @@ fn is_busy(how: Settled) -> bool
     }
 }
 
-/// Lets rounds happen, and looks which methods run then.
-fn go<T: Timer, J: Journal, K: Kids>(timer: &T, server: &mut Server<J, K>) -> Result<(), NodeFault>
-    ensures gone { OnOk result (HasGone K.skills
+/// Lets at most so many rounds happen, and looks which methods run then.
+fn go<T: Timer, J: Journal, K: Kids>(
+    timer: &T,
+    server: &mut Server<J, K>,
+    rounds: u64,
+) -> Result<(), NodeFault>
+    ensures gone { OnOk result (HasGone K.skills rounds
         (course server.old.node (seen (K.ledger server.old.kids) (K.failures server.old.kids)))
         (standing server.new.node (seen (K.ledger server.new.kids) (K.failures server.new.kids)) server.new.busy)) }
     ensures moves { Moves server.old.node.world server.new.node.world (K.ledger server.old.kids) (K.ledger server.new.kids) }
     ensures kept { server.new.ends ≡ server.old.ends }
 {
-    let how = drive(&mut server.node, &mut server.kids, ROUNDS)?;
+    let how = drive(&mut server.node, &mut server.kids, rounds)?;
     server.busy = is_busy(how);
     server.watch.see(timer.now(), &server.node)?;
     Ok(())
@@ -67,14 +73,66 @@ fn go_if<T: Timer, J: Journal, K: Kids>(
     ensures moves { Moves server.old.node.world server.new.node.world (K.ledger server.old.kids) (K.ledger server.new.kids) }
     ensures kept { server.new.ends ≡ server.old.ends }
 {
-    if wanted { go(timer, server) } else { Ok(()) }
+    if wanted {
+        go(timer, server, ROUNDS)
+    } else {
+        Ok(())
+    }
 }
 
-/// Whether rounds are wanted, by whether children told anything, methods timed out, and more rounds were wanted before.
-fn are_wanted(any: bool, late: bool, busy: bool) -> bool
-    ensures { result ≡ (any || (late || busy)) }
+/// Whether more rounds are wanted, and a round came to anything.
+fn wants_more(busy: bool, before: &Size, after: &Size) -> bool
+    ensures { result ≡ (busy && not (is_same before.now after.now)) }
 {
-    any || (late || busy)
+    busy && !is_same(before, after)
+}
+
+/// One round happens, and more if they are wanted and it came to anything. A kill that is owed comes to nothing until it is
+/// done.
+fn go_on<T: Timer, J: Journal, K: Kids>(
+    timer: &T,
+    server: &mut Server<J, K>,
+) -> Result<(), NodeFault>
+    ensures gone { OnOk result (HasTried K.skills
+        (course server.old.node (seen (K.ledger server.old.kids) (K.failures server.old.kids)))
+        (standing server.new.node (seen (K.ledger server.new.kids) (K.failures server.new.kids)) server.new.busy)) }
+    ensures moves { Moves server.old.node.world server.new.node.world (K.ledger server.old.kids) (K.ledger server.new.kids) }
+    ensures kept { server.new.ends ≡ server.old.ends }
+{
+    let before = size(&server.node);
+    go(timer, server, 1)?;
+    let after = size(&server.node);
+    let wanted = wants_more(server.busy, &before, &after);
+    go_if(timer, server, wanted)?;
+    Ok(())
+}
+
+/// Rounds happen if anything happened, or if more were wanted.
+fn go_by<T: Timer, J: Journal, K: Kids>(
+    timer: &T,
+    server: &mut Server<J, K>,
+    happened: bool,
+) -> Result<(), NodeFault>
+    ensures gone { OnOk result (GoesBy happened server.old.busy K.skills
+        (course server.old.node (seen (K.ledger server.old.kids) (K.failures server.old.kids)))
+        (standing server.new.node (seen (K.ledger server.new.kids) (K.failures server.new.kids)) server.new.busy)) }
+    ensures moves { Moves server.old.node.world server.new.node.world (K.ledger server.old.kids) (K.ledger server.new.kids) }
+    ensures kept { server.new.ends ≡ server.old.ends }
+{
+    if happened {
+        return go(timer, server, ROUNDS);
+    }
+    if server.busy {
+        return go_on(timer, server);
+    }
+    Ok(())
+}
+
+/// Whether anything happened: children told something, or methods timed out.
+fn has_happened(any: bool, late: bool) -> bool
+    ensures { result ≡ (any || late) }
+{
+    any || late
 }
 
 /// Time has passed: children tell what happened, and methods that take too long time out. Rounds happen only if there was
@@ -93,8 +151,8 @@ fn pass<T: Timer, J: Journal, K: Kids>(
 {
     let any = hear_all(&mut server.node, &mut server.kids)?;
     let late = server.watch.time_out(timer.now(), &mut server.node)?;
-    let wanted = are_wanted(any, late, server.busy);
-    go_if(timer, server, wanted)?;
+    let happened = has_happened(any, late);
+    go_by(timer, server, happened)?;
     Ok(())
 }
 
@@ -216,7 +274,8 @@ fn sent<J: Journal>(node: &Node<J>) -> usize
     node.messages().len()
 }
 
-fn size<J: Journal>(node: &Node<J>) -> Size
+/// How much has happened.
+pub(crate) fn size<J: Journal>(node: &Node<J>) -> Size
     ensures { result ≡ size_of node.now.world }
 {
     let revision = node.repository().revision().get();
@@ -230,7 +289,7 @@ fn size<J: Journal>(node: &Node<J>) -> Size
 }
 
 /// Whether two sizes are the same.
-fn is_same(one: &Size, other: &Size) -> bool
+pub(crate) fn is_same(one: &Size, other: &Size) -> bool
     ensures { result ≡ is_same one.now other.now }
 {
     one.revision == other.revision && one.shown == other.shown && one.sent == other.sent
@@ -362,11 +421,45 @@ fn do_next<D: Desk, T: Timer, J: Journal, K: Kids>(
     }
 }
 
-/// What comes next is done: a tick, or a request, which is replied to.
-pub fn turn<D: Desk, T: Timer, J: Journal, K: Kids>(
+/// What comes next is done, and the trail is looked at.
+fn take<D: Desk, T: Timer, J: Journal, K: Kids>(
     alloc: Global,
     desk: &mut D,
     timer: &T,
+    server: &mut Server<J, K>,
+) -> Result<Onward, ScriptFault>
+    ensures ok { IfOk result (λ onward. HasTurned K.skills (T.says timer.now) onward (D.passed desk.old) (D.passed desk.new)
+        (between
+        (standing server.old.node (seen (K.ledger server.old.kids) (K.failures server.old.kids)) server.old.busy)
+        server.old.ends)
+        (between
+        (standing server.new.node (seen (K.ledger server.new.kids) (K.failures server.new.kids)) server.new.busy)
+        server.new.ends)) }
+    ensures err { IfErr result (λ e. IsFailed K.skills J.write_fails e (D.passed desk.old) (D.passed desk.new)
+        (between
+        (standing server.old.node (seen (K.ledger server.old.kids) (K.failures server.old.kids)) server.old.busy)
+        server.old.ends)
+        (between
+        (standing server.new.node (seen (K.ledger server.new.kids) (K.failures server.new.kids)) server.new.busy)
+        server.new.ends)) }
+    ensures agrees { OnOk result (
+        Agrees server.old.node.world (K.ledger server.old.kids)
+        → Agrees server.new.node.world (K.ledger server.new.kids)) }
+    ensures later { IsLater server.old.node.world server.new.node.world }
+    ensures safe { IsSafe server.new.node.world }
+{
+    let onward = do_next(alloc, desk, timer, server);
+    let _shown = server.node.trail();
+    onward
+}
+
+/// It is told how contracts are ended, and then what comes next is done: a tick, or a request, which is replied to.
+pub fn turn<D: Desk, T: Timer, E: Ender, J: Journal, K: Kids>(
+    alloc: Global,
+    desk: &mut D,
+    timer: &T,
+    ender: &mut E,
+    noted: &mut Noted,
     server: &mut Server<J, K>,
 ) -> Result<Onward, ScriptFault>
     // One request came in, its lines were done, and its one reply went out; or time passed, and lines were told.
@@ -384,6 +477,9 @@ pub fn turn<D: Desk, T: Timer, J: Journal, K: Kids>(
         (between
         (standing server.new.node (seen (K.ledger server.new.kids) (K.failures server.new.kids)) server.new.busy)
         server.new.ends)) }
+    // First it was told how what start methods began is ended, if anything happened since that was told.
+    ensures told { OnOk result (E.told ender.new ≡ telling (is_new noted.old.size (size_of server.old.node.world)) (stops_of server.old.node.world.now) (E.told ender.old)) }
+    ensures known { OnOk result (noted.new.size ≡ Some (size_of server.old.node.world)) }
     // If children and the node agreed, they agree.
     ensures agrees { OnOk result (
         Agrees server.old.node.world (K.ledger server.old.kids)
@@ -392,7 +488,11 @@ pub fn turn<D: Desk, T: Timer, J: Journal, K: Kids>(
     ensures later { IsLater server.old.node.world server.new.node.world }
     ensures safe { IsSafe server.new.node.world }
 {
-    let onward = do_next(alloc, desk, timer, server);
-    let _shown = server.node.trail();
-    onward
+    match noted.tell(alloc, ender, &server.node) {
+        Ok(()) => take(alloc, desk, timer, server),
+        Err(_) => {
+            let _shown = server.node.trail();
+            Err(ScriptFault::Node(NodeFault::Memory))
+        }
+    }
 }

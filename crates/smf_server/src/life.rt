@@ -1,0 +1,126 @@
+//! A server from its boot to its end.
+ghost use Rattle.std.specs.Prelude.{◌⊎◌, IfErr, IfOk};
+ghost use Rattle.smf_edge.specs.Answers.{seen};
+ghost use Rattle.smf_server.specs.Life.{HasLived, HasStayed, IsBroken, IsUnborn, booted};
+ghost use Rattle.smf_server.specs.Turns.{between, standing};
+ghost use Rattle.smf_server.specs.declared.life.TheConstants.{MOST_TURNS};
+ghost use Rattle.smf_world.specs.Reached.{IsLater};
+ghost use Rattle.smf_world.specs.Safe.{IsSafe};
+
+use crate::ask::Onward;
+use crate::desk::Desk;
+use crate::server::Server;
+use crate::stops::{Ender, Noted};
+use crate::timer::Timer;
+use crate::turning::turn;
+use smf_edge::Kids;
+use smf_model::{Journal, Plain};
+use smf_node::Node;
+use smf_run::end_all;
+use smf_script::ScriptFault;
+use std::alloc::Global;
+
+/// The most turns that a server takes, one of each microsecond of half a million years.
+pub const MOST_TURNS: u64 = u64::MAX;
+
+/// Takes turns until no more is asked, or a fault ends it.
+fn stay<D: Desk, T: Timer, E: Ender, J: Journal, K: Kids>(
+    alloc: Global,
+    desk: &mut D,
+    timer: &T,
+    ender: &mut E,
+    server: &mut Server<J, K>,
+) -> Result<Onward, ScriptFault>
+    ensures ok { IfOk result (λ onward. HasStayed K.skills (T.says timer.now) MOST_TURNS onward (D.passed desk.old) (D.passed desk.new)
+        (between
+        (standing server.old.node (seen (K.ledger server.old.kids) (K.failures server.old.kids)) server.old.busy)
+        server.old.ends)
+        (between
+        (standing server.new.node (seen (K.ledger server.new.kids) (K.failures server.new.kids)) server.new.busy)
+        server.new.ends)) }
+    ensures err { IfErr result (λ e. IsBroken K.skills (T.says timer.now) J.write_fails e (D.passed desk.old) (D.passed desk.new)
+        (between
+        (standing server.old.node (seen (K.ledger server.old.kids) (K.failures server.old.kids)) server.old.busy)
+        server.old.ends)
+        (between
+        (standing server.new.node (seen (K.ledger server.new.kids) (K.failures server.new.kids)) server.new.busy)
+        server.new.ends)) }
+    ensures later { IsLater server.old.node.world server.new.node.world }
+    ensures safe { IsSafe server.new.node.world }
+{
+    let _shown = server.node.trail();
+    let mut noted = Noted::new();
+    for _ in 0..MOST_TURNS {
+        match turn(alloc, desk, timer, ender, &mut noted, server) {
+            Ok(Onward::Goes) => {}
+            Ok(Onward::Ends) => return Ok(Onward::Ends),
+            Err(fault) => return Err(fault),
+        }
+    }
+    Ok(Onward::Goes)
+}
+
+/// What a server leaves at its end.
+#[derive(Drop)]
+pub struct Life<J: Journal, K: Kids> {
+    /// `Ends` if no more was asked, or the fault that ended it.
+    pub how: Result<Onward, ScriptFault>,
+    pub journal: J,
+    pub kids: K,
+}
+
+/// Takes turns, and ends all children that are left.
+fn live<D: Desk, T: Timer, E: Ender, J: Journal + Drop, K: Kids + Drop>(
+    alloc: Global,
+    desk: &mut D,
+    timer: &T,
+    ender: &mut E,
+    server: Server<J, K>,
+) -> Life<J, K>
+    ensures { HasLived K.skills (T.says timer.now) J.write_fails J.stands MOST_TURNS result.how result.journal (D.passed desk.old) (D.passed desk.new)
+        (between
+        (standing server.node (seen (K.ledger server.kids) (K.failures server.kids)) server.busy)
+        server.ends)
+        (seen (K.ledger result.kids) (K.failures result.kids)) }
+{
+    let mut server = server;
+    let how = stay(alloc, desk, timer, ender, &mut server);
+    let Server {
+        node,
+        mut kids,
+        watch: _watch,
+        busy: _,
+        ends: _ends,
+    } = server;
+    let _is_listed = end_all(&mut kids);
+    Life {
+        how,
+        journal: node.into_repository().into_journal(),
+        kids,
+    }
+}
+
+/// Boots what a repository holds, takes turns until no more is asked or a fault ends it, and ends all children that are
+/// left. Without a boot it does nothing.
+pub fn stay_over<D: Desk, T: Timer, E: Ender, J: Journal + Drop, K: Kids + Drop>(
+    alloc: Global,
+    desk: &mut D,
+    timer: &T,
+    ender: &mut E,
+    repository: Plain<J>,
+    kids: K,
+) -> Life<J, K>
+    ensures { HasLived K.skills (T.says timer.now) J.write_fails J.stands MOST_TURNS result.how result.journal (D.passed desk.old) (D.passed desk.new)
+        (booted repository.held (seen (K.ledger kids) (K.failures kids))) (seen (K.ledger result.kids) (K.failures result.kids))
+        ⊎ IsUnborn J.write_fails J.stands repository.held result.how result.journal (D.passed desk.old) (D.passed desk.new)
+        (seen (K.ledger kids) (K.failures kids)) (seen (K.ledger result.kids) (K.failures result.kids)) }
+{
+    match Node::new(alloc, repository) {
+        Ok(node) => live(alloc, desk, timer, ender, Server::new(alloc, node, kids)),
+        Err((fault, repository)) => Life {
+            how: Err(ScriptFault::Node(fault)),
+            journal: repository.into_journal(),
+            kids,
+        },
+    }
+}
