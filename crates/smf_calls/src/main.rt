@@ -1,7 +1,8 @@
-//! `smf_calls`: reads lines that each name a call of the pure crates with its arguments, and prints what it answers.
+//! `smf_calls`: reads lines that each name a call of the pure crates with its arguments, and prints what it answers. With
+//! the word `inputs` it reads inputs of a restarter, and with the word `why` configured services and states.
 //! Modules: `answering` (which family a line is of); the families `names`, `rows`, `steps`, `fields`, `values`, `groups`,
 //! `snapshots`, `contracts`, `cookies`, `methods`, `dependencies`, `config`, `views`, `refusals`, `repository`, `lines` (messages); `calls`,
-//! `events`, `bytes`, `words`, `answers` (what is written).
+//! `events`, `bytes`, `words`, `answers` (what is written); `inputs` and `whys` (the other two forms).
 #![tactic(auto)]
 
 mod answering;
@@ -15,6 +16,7 @@ mod dependencies;
 mod events;
 mod fields;
 mod groups;
+mod inputs;
 mod lines;
 mod methods;
 mod names;
@@ -25,14 +27,17 @@ mod snapshots;
 mod steps;
 mod values;
 mod views;
+mod whys;
 mod words;
 
 use crate::answering::{Session, answer};
 use crate::answers::Answer;
+use crate::inputs::answer_inputs;
+use crate::whys::answer_whys;
 use std::alloc::Global;
-use std::io;
 use std::io::{BufRead, BufReader};
 use std::process::ExitCode;
+use std::{env, io};
 
 /// The status of a run that was ended by a fault.
 const FAULT: u8 = 3;
@@ -97,9 +102,26 @@ fn answer_all(rt: &HostRuntime, alloc: Global, session: &mut Session) -> Result<
     }
 }
 
+/// The first word after the program's name; an empty one if there is none.
+fn form_of(rt: &HostRuntime, alloc: Global) -> Result<String, RunFault> {
+    let Ok(words) = env::args(rt) else {
+        return Err(RunFault::Memory);
+    };
+    for (place, word) in words.enumerate() {
+        if place == 1 {
+            return Ok(word);
+        }
+    }
+    Ok(String::new(alloc))
+}
+
 fn run(rt: &HostRuntime, alloc: Global) -> Result<(), RunFault> {
-    let mut session = Session::new(alloc);
-    answer_all(rt, alloc, &mut session)
+    let form = form_of(rt, alloc)?;
+    match form.as_str() {
+        "inputs" => answer_inputs(rt, alloc).map_err(|_| RunFault::Memory),
+        "why" => answer_whys(rt, alloc).map_err(|_| RunFault::Memory),
+        _ => answer_all(rt, alloc, &mut Session::new(alloc)),
+    }
 }
 
 fn main(rt: HostRuntime) -> ExitCode {

@@ -1,6 +1,6 @@
 //! What a restarter knows, a line for each part.
 
-use crate::page::Page;
+use crate::inputs::page::Page;
 use smf_contract::Method;
 use smf_fmri::Ordered;
 use smf_method::{Timeout, method_text};

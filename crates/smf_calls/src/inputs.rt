@@ -1,26 +1,23 @@
-//! `smf_inputs`: reads lines that give a restarter its inputs, and prints each line again with what the restarter
-//! answers and knows. `restarter NAME ACTOR LAUNCH` begins anew. A line of an input brings it further. `? INPUT` tries
-//! an input after those, and is forgotten then. `show` prints what it knows.
-//! Modules: `inputs` and `contracts` (what lines read as), `replies` and `knowledge` (what is printed), `page`, `words`.
-#![tactic(auto)]
+//! Lines that give a restarter its inputs. Each is printed again with what the restarter answers and knows.
+//! `restarter NAME ACTOR LAUNCH` begins anew. A line of an input brings it further. `? INPUT` tries an input after those,
+//! and is forgotten then. `show` prints what it knows.
+//! Modules: `input` and `contracts` (what lines read as), `replies` and `knowledge` (what is printed), `page`.
 
 mod contracts;
-mod inputs;
+mod input;
 mod knowledge;
 mod page;
 mod replies;
-mod words;
 
-use crate::inputs::reply_to;
-use crate::knowledge::{Kept, put_known, put_news};
-use crate::page::Page;
-use crate::replies::put_reply;
+use crate::inputs::input::reply_to;
+use crate::inputs::knowledge::{Kept, put_known, put_news};
+use crate::inputs::page::Page;
+use crate::inputs::replies::put_reply;
 use crate::words::split_two;
 use smf_fmri::{InstanceFmri, read_count};
 use smf_restarter::{Change, Reply, Restarter};
 use std::alloc::{AllocError, Global};
 use std::io::{BufRead, BufReader};
-use std::process::ExitCode;
 
 /// A restarter that begins, and the lines of the inputs that bring it further.
 #[derive(Drop)]
@@ -63,7 +60,7 @@ fn give(
     line: &str,
     is_shown: bool,
 ) -> Result<bool, AllocError> {
-    match reply_to(alloc, &kept.restarter, line)? {
+    match reply_to(alloc, &mut kept.restarter, line)? {
         None => Ok(false),
         Some(reply) => {
             if is_shown {
@@ -153,7 +150,8 @@ fn answer(
     Ok(())
 }
 
-fn run(rt: &HostRuntime, alloc: Global) -> Result<(), AllocError> {
+/// Answers every line of standard input.
+pub(crate) fn answer_inputs(rt: &HostRuntime, alloc: Global) -> Result<(), AllocError> {
     let mut begin = None;
     let Ok(reader) = BufReader::new(alloc, rt.reader()) else {
         return Err(AllocError);
@@ -165,14 +163,4 @@ fn run(rt: &HostRuntime, alloc: Global) -> Result<(), AllocError> {
         answer(rt, alloc, &mut begin, line.as_str())?;
     }
     Ok(())
-}
-
-fn main(rt: HostRuntime) -> ExitCode {
-    match run(&rt, rt.alloc()) {
-        Ok(()) => ExitCode::from(0),
-        Err(_) => {
-            let _ = eprintln!(rt; "smf_inputs: no memory");
-            ExitCode::from(3)
-        }
-    }
 }

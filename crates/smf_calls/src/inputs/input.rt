@@ -1,6 +1,6 @@
 //! Inputs of a restarter, as lines.
 
-use crate::contracts::{contract_of, report_with, reported_kind, statuses_of};
+use crate::inputs::contracts::{contract_of, report_with, reported_kind, statuses_of};
 use crate::words::{number_of, split_word};
 use smf_fmri::{Items, read_count};
 use smf_restarter::{Answer, Call, Change, Reply, Restarter};
@@ -26,12 +26,18 @@ fn heard(alloc: Global, restarter: &Restarter, line: &str) -> Result<Option<Repl
     }
 }
 
+/// A tick of an instance, which is made ahead and then taken.
+fn ticked_ahead(restarter: &mut Restarter, instance: u64) -> Result<Option<Reply>, AllocError> {
+    restarter.reserve_tick(instance)?;
+    Ok(restarter.take_tick())
+}
+
 /// A tick of an instance, or the restarter's own, which is that of 0.
-fn ticked(restarter: &Restarter, text: &str) -> Result<Option<Reply>, AllocError> {
+fn ticked(restarter: &mut Restarter, text: &str) -> Result<Option<Reply>, AllocError> {
     match read_count(text) {
         None => Ok(None),
         Some(0) => Ok(Some(restarter.own_tick()?)),
-        Some(instance) => Ok(Some(restarter.ticked(instance)?)),
+        Some(instance) => ticked_ahead(restarter, instance),
     }
 }
 
@@ -86,7 +92,7 @@ fn change_of(restarter: &Restarter, call: &str, text: &str) -> Option<Change> {
 /// The reply to the input that a line is; none if it is no input.
 pub(crate) fn reply_to(
     alloc: Global,
-    restarter: &Restarter,
+    restarter: &mut Restarter,
     line: &str,
 ) -> Result<Option<Reply>, AllocError> {
     let (call, text) = split_word(line);

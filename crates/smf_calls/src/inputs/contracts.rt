@@ -1,6 +1,7 @@
 //! Contracts and their events, as lines tell them.
 
-use crate::words::{method_of, number_of, split_two, split_word};
+use crate::cookies::method_of;
+use crate::words::{number_of, split_two, split_word};
 use smf_contract::{
     Contract, Cookie, Event, EventKind, EventSet, Exit, Holder, Method, Report, Status, Terms,
 };

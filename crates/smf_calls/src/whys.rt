@@ -1,7 +1,6 @@
-//! `smf_whys`: reads lines of svccfg and lines `state FMRI STATE [NEXT]`, and prints why what the lines configured does not
-//! run. Each instance is refreshed first, and is offline if no line says its state. After a line `show`, which prints, all
-//! begins anew. A line `check` prints what is wrong of the instances.
-#![tactic(auto)]
+//! Lines of svccfg and lines `state FMRI STATE [NEXT]`: why what the lines configured does not run. Each instance is
+//! refreshed first, and is offline if no line says its state. After a line `show`, which prints, all begins anew. A line
+//! `check` prints what is wrong of the instances.
 
 use smf_cfg::Session;
 use smf_fmri::{Items, Ordered, SharedOrdered};
@@ -10,7 +9,6 @@ use smf_reasons::{check, check_text_of, tell, text_of};
 use smf_state::{SharedRow, State, View, ViewItem};
 use std::alloc::{AllocError, Global};
 use std::io::{BufRead, BufReader};
-use std::process::ExitCode;
 
 /// The state of an instance, as a line says it.
 #[derive(Drop)]
@@ -128,7 +126,8 @@ fn note(
     }
 }
 
-fn run(rt: &HostRuntime, alloc: Global) -> Result<(), RepoFault> {
+/// Answers every line of standard input.
+pub(crate) fn answer_whys(rt: &HostRuntime, alloc: Global) -> Result<(), RepoFault> {
     let mut repository = Plain::new(alloc, NoJournal {});
     let mut session = Session::new();
     let mut all = Vec::new(alloc);
@@ -154,14 +153,4 @@ fn run(rt: &HostRuntime, alloc: Global) -> Result<(), RepoFault> {
         }
     }
     done(rt, alloc, &mut repository, all.as_slice())
-}
-
-fn main(rt: HostRuntime) -> ExitCode {
-    match run(&rt, rt.alloc()) {
-        Ok(()) => ExitCode::from(0),
-        Err(_) => {
-            let _ = eprintln!(rt; "smf_whys: no memory");
-            ExitCode::from(3)
-        }
-    }
 }

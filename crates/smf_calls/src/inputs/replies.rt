@@ -1,6 +1,6 @@
 //! Replies of a restarter, a line for each thing that it does.
 
-use crate::page::Page;
+use crate::inputs::page::Page;
 use bitflags::Flags;
 use smf_contract::{Cookie, EventSet, Terms};
 use smf_method::method_text;
