@@ -14,12 +14,12 @@ use std::{fs, io};
 /// A log with no page in it, which a close leaves, has fewer bytes.
 const PAGE_IN_LOG: u64 = 64;
 
-/// Whether a fault of a file is want of memory, which says nothing of the file.
+/// True if a fault of a file is want of memory, which says nothing of the file.
 pub(crate) fn is_memory(fault: &io::Error) -> bool {
     fault.kind() == io::ErrorKind::OutOfMemory
 }
 
-/// Whether a page stands in the log beside a database.
+/// True if the log beside a database has a page.
 fn has_log(rt: &HostRuntime, database: &str) -> io::Result<bool> {
     let name = format!(in rt.alloc(); "{database}-wal")?;
     match fs::metadata(rt, name.as_str()) {
@@ -29,10 +29,10 @@ fn has_log(rt: &HostRuntime, database: &str) -> io::Result<bool> {
     }
 }
 
-/// Whether this program alone has a database, until it lets the lock go.
+/// A hold on a database for this program alone. It lasts until the program drops the lock.
 pub(crate) enum Hold {
     Ours(Option<File>),
-    /// It does not, which was told with this status.
+    /// The program did not get it, and told so with this status.
     Refused(u8),
 }
 
@@ -47,7 +47,7 @@ pub(crate) fn process_number(rt: &HostRuntime) -> io::Result<String> {
     format!(in alloc; "{number}").map_err(io::Error::from)
 }
 
-/// The path of a file beside a database, which lies where a link leads.
+/// The path of a file beside a database. If the database is a link, the file is beside the one that the link names.
 pub(crate) fn path_beside(rt: &HostRuntime, database: &str, what: &str) -> io::Result<String> {
     let alloc = rt.alloc();
     let path = match fs::canonicalize(rt, database) {
@@ -84,7 +84,8 @@ fn tell_taken(rt: &HostRuntime, lock: &str) -> io::Result<u8> {
     Ok(tell(&mut rt.stderr(), text.as_str()))
 }
 
-/// Says that a database that is there can have no lock beside it. One that cannot be opened is refused when it is opened.
+/// Says that a database that is there can have no lock beside it. One that cannot be opened is refused when it is
+/// opened.
 fn without_lock(rt: &HostRuntime, database: &str) -> Hold {
     match File::options().read(true).write(true).open(rt, database) {
         Ok(_file) => Hold::Refused(tell(
@@ -95,7 +96,8 @@ fn without_lock(rt: &HostRuntime, database: &str) -> Hold {
     }
 }
 
-/// Takes a database for this program alone, and leaves its number for others. A method begins only if the lock holds it.
+/// Takes a database for this program alone, and leaves its number for others. A method begins only if the lock holds
+/// it.
 pub(crate) fn take_alone(rt: &HostRuntime, database: &str) -> io::Result<Hold> {
     let path = path_beside(rt, database, "lock")?;
     let mut lock = match open_lock(rt, path.as_str()) {
@@ -147,7 +149,7 @@ fn bytes_of(rt: &HostRuntime, path: &str) -> io::Result<Vec<u8>> {
     fs::read(rt, path)
 }
 
-/// The bytes of a file beside a database; none where it is not there.
+/// The bytes of a file beside a database; none if it is not there.
 fn bytes_beside(rt: &HostRuntime, path: &str) -> io::Result<Vec<u8>> {
     match bytes_of(rt, path) {
         Err(fault) if fault.kind() == io::ErrorKind::NotFound => Ok(Vec::new(rt.alloc())),
@@ -155,7 +157,7 @@ fn bytes_beside(rt: &HostRuntime, path: &str) -> io::Result<Vec<u8>> {
     }
 }
 
-/// Whether a journal is left beside a database, which SQLite alone can play back.
+/// True if a journal is left beside a database. SQLite alone can play it back.
 fn has_journal(rt: &HostRuntime, path: &str) -> io::Result<bool> {
     let bytes = bytes_beside(rt, path)?;
     Ok(match bytes.first() {
@@ -164,7 +166,8 @@ fn has_journal(rt: &HostRuntime, path: &str) -> io::Result<bool> {
     })
 }
 
-/// What a database file and its log hold, which lie where a link leads.
+/// The bytes of a database file and of its log. If the database is a link, they are those of the file that the link
+/// names. A journal that is left is an error.
 fn read_once(rt: &HostRuntime, database: &str) -> io::Result<FileBytes> {
     let alloc = rt.alloc();
     let real = fs::canonicalize(rt, database)?;
@@ -179,8 +182,8 @@ fn read_once(rt: &HostRuntime, database: &str) -> io::Result<FileBytes> {
     })
 }
 
-/// What a database file and its log hold at one moment. They are read twice: where another program writes to them, the two
-/// may differ, and then the database is in use.
+/// The bytes of a database file and of its log at one moment. Both are read twice. If another program writes to them,
+/// the two reads may differ, and then the database is in use.
 fn read_files(rt: &HostRuntime, database: &str) -> Result<FileBytes, Error> {
     let first = read_once(rt, database).map_err(|fault| read_fault(&fault))?;
     let second = read_once(rt, database).map_err(|fault| read_fault(&fault))?;
@@ -193,8 +196,8 @@ fn read_files(rt: &HostRuntime, database: &str) -> Result<FileBytes, Error> {
     }
 }
 
-/// Does a script over a copy in memory of the database in a file, with processes that a contract table simulates. No file
-/// is written.
+/// Does a script over a copy in memory of the database in a file, with processes that a contract table simulates. No
+/// file is written.
 pub(crate) fn sim_over(rt: &HostRuntime, database: &str) -> io::Result<u8> {
     let alloc = rt.alloc();
     let mut reader = NotedReader::new(BufReader::new(alloc, rt.reader())?);
@@ -217,8 +220,8 @@ pub(crate) fn sim_over(rt: &HostRuntime, database: &str) -> io::Result<u8> {
     })
 }
 
-/// Tells why instances that the database in a file has do not run: those that words mean, or all without words. No file is
-/// written.
+/// Tells why instances that the database in a file has do not run: those that words mean, or all without words. No file
+/// is written.
 pub(crate) fn why_over(rt: &HostRuntime, database: &str, words: &[&str]) -> u8 {
     let mut errors = rt.stderr();
     let found = match read_files(rt, database) {

@@ -41,7 +41,7 @@ pub(crate) fn room_of(rt: &HostRuntime, database: &str) -> Result<Room, RoomFaul
     Room::take(alloc, rt, path, libexec.as_str())
 }
 
-/// What is told of a folder of contracts that is not to be had.
+/// The text that tells why the folder of contracts cannot be had.
 pub(crate) fn room_text(fault: &RoomFault) -> &'static str {
     match fault {
         RoomFault::Taken => "smf: contracts: another server follows them",
@@ -70,7 +70,7 @@ fn serve<K: Kids>(
     Ok(status)
 }
 
-/// Whether control groups are wanted: unless SMF_CONTRACTS names keepers.
+/// True if control groups are wanted, which is so unless SMF_CONTRACTS is `keepers`.
 pub(crate) fn wants_groups(rt: &HostRuntime) -> bool {
     match env::var(rt, "SMF_CONTRACTS") {
         Ok(form) => form.as_str() != "keepers",
@@ -85,7 +85,7 @@ fn keep(rt: &HostRuntime, conn: Connection<FileStore<DatabaseFile>>, room: Room)
     serve(rt, conn, &mut FollowedKids::new(rt.alloc(), keepers))
 }
 
-/// Does a script with contracts that are control groups, where these can be made; else keepers follow them.
+/// Does a script with contracts that are control groups, if these can be made; else keepers follow them.
 fn group(
     rt: &HostRuntime,
     conn: Connection<FileStore<DatabaseFile>>,

@@ -1,8 +1,8 @@
-//! `smf`: does scripts of a service manager on standard input, over a repository in memory, over a copy in memory of a
-//! database, or over a database and the processes of its services, and lines of svccfg over a database. It opens files; all
-//! else is decided below.
-//! Modules: `files` (the files that words name), `following` (contracts that are followed through forks), `running`
-//! (processes of the system), `serving` (a service manager that stays).
+//! `smf`: does scripts of a service manager on standard input, and lines of svccfg over a database. A script runs over
+//! a repository in memory, a copy in memory of a database, or a database and the processes of its services. This crate
+//! opens files, and the crates below decide all else.
+//! Modules: `files` (the files that words name), `contracts` (contracts that are followed through forks), `processes`
+//! (processes of the system), `server` (a service manager that stays).
 #![tactic(auto)]
 
 mod files;

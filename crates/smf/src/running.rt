@@ -17,8 +17,8 @@ fn list_of(rt: &HostRuntime, database: &str) -> io::Result<String> {
     path_beside(rt, database, "children")
 }
 
-/// Where the children of a run are listed. The path of the lock is the one by which it was taken, when the database may not
-/// have been there.
+/// The place of the list of a run's children. The path of the lock is the one by which the lock was taken; the database
+/// may not have been there then.
 fn place_of(rt: &HostRuntime, database: &str, lock: String) -> io::Result<ListPlace> {
     Ok(ListPlace {
         list: list_of(rt, database)?,
@@ -27,7 +27,7 @@ fn place_of(rt: &HostRuntime, database: &str, lock: String) -> io::Result<ListPl
     })
 }
 
-/// What is told of a list of children after its path.
+/// The text of a fault of the list of children. It follows the path of the list.
 fn fault_text(fault: SweepFault) -> &'static str {
     match fault {
         SweepFault::Unread => "it cannot be read",
@@ -48,8 +48,8 @@ fn tell_sweep(rt: &HostRuntime, list: &str, fault: SweepFault) -> io::Result<u8>
     Ok(tell(&mut errors, text.as_str()))
 }
 
-/// Ends what an older run left whose children were listed, for a run that follows its children. The status of this run, if
-/// that cannot be done.
+/// Ends what an older run left whose children were listed, for a run that follows its children. The status of this run,
+/// if that cannot be done.
 pub(crate) fn end_listed(rt: &HostRuntime, database: &str) -> io::Result<Option<u8>> {
     let lock = path_beside(rt, database, "lock")?;
     let list = list_of(rt, database)?;
@@ -83,7 +83,7 @@ fn run_listed(
     Ok(status)
 }
 
-/// Does a script over the database in a file, with processes of the system. What an older run left ends first.
+/// Does a script over the database in a file, with processes of the system. It first ends what an older run left.
 pub(crate) fn run_over(rt: &HostRuntime, database: &str) -> io::Result<u8> {
     let lock = path_beside(rt, database, "lock")?;
     let conn = match open(rt, database) {

@@ -54,7 +54,7 @@ struct FileDesk<'a> {
     wake: NotedReader<BufReader<File>>,
     /// The name of the request that was given last.
     name: String,
-    /// What is told of a read of the pipe that failed.
+    /// The text about a read of the pipe that failed.
     failed: Option<&'static str>,
 }
 
@@ -74,7 +74,8 @@ fn is_name(text: &str) -> bool {
         && text.bytes().all(|byte| byte.is_ascii_alphanumeric() || byte == b'_' || byte == b'-')
 }
 
-/// What a line of the pipe says. No other line says anything.
+/// The call of a line of the pipe: an empty line is a tick, `.` is the end, and a name is a request. Any other line
+/// says nothing.
 fn call_of(alloc: Global, line: &[u8]) -> Result<Call, AllocError> {
     match text_in(line) {
         None => Ok(Call::Other),
@@ -148,7 +149,7 @@ impl<'a> FileDesk<'a> {
         Some(Ask::Request(script))
     }
 
-    /// What a call asks for, if anything.
+    /// The ask of a call, if it asks for anything.
     fn asked(&mut self, call: Call) -> Option<Ask> {
         match call {
             Call::Tick => Some(Ask::Tick),
@@ -178,15 +179,15 @@ impl<'a> FileDesk<'a> {
         match file.write_all(text) {
             Ok(()) => Ok(()),
             Err(fault) => {
-                // What was written of it is no answer.
+                // A part of the text is no answer.
                 let _removed = fs::remove_file(self.rt, path.as_str());
                 Err(fault)
             }
         }
     }
 
-    /// The text goes into a file, and its status into the pipe of the client. If the file cannot be written, the status says
-    /// that, and this is false. For a client that is gone no file is made.
+    /// The text goes into a file, and its status into the pipe of the client. If the file cannot be written, the status
+    /// says that, and this is false. For a client that is gone no file is made.
     fn write(&self, text: &[u8], status: u8) -> io::Result<bool> {
         let mut told = File::options()
             .read(true)
@@ -243,12 +244,12 @@ struct FileEnder<'a> {
     rt: &'a HostRuntime,
     /// The path of the file.
     path: String,
-    /// What was written last.
+    /// The text that was written last.
     text: String,
 }
 
-/// A line for each: the instance, the signal, and the seconds, which are 0 if there is no time-out. A last word says that
-/// the first process stays.
+/// A line for each: the instance, the signal, and the seconds, which are 0 if there is no time-out. A last word says
+/// that the first process stays.
 fn lines_of(alloc: Global, stops: &[Stop]) -> Result<String, AllocError> {
     let mut text = String::new(alloc);
     for stop in stops {
@@ -287,7 +288,7 @@ impl<'a> Ender for FileEnder<'a> {
 
     ghost told = { λ _. None };
 
-    /// What is the same as before is not written again. If it cannot be written, contracts are ended as before.
+    /// Writes the stops, unless they are the same as before. If they cannot be written, contracts are ended as before.
     fn end_by(&mut self, stops: &[Stop]) {
         match lines_of(self.rt.alloc(), stops) {
             Ok(text) if text.as_str() != self.text.as_str() => {
@@ -309,7 +310,7 @@ fn take(rt: &HostRuntime, lock: &File) -> bool {
     false
 }
 
-/// The lock of a folder. It is free again when its file is let go.
+/// The lock of a folder. It is free again when its file is dropped.
 fn lock_of(rt: &HostRuntime, folder: &str) -> io::Result<File> {
     let path = format!(in rt.alloc(); "{folder}/lock")?;
     File::options()
@@ -493,7 +494,8 @@ fn logs_of(rt: &HostRuntime, folder: &str) -> io::Result<String> {
     }
 }
 
-/// The folder of the contracts of a database, for a server that stays: contracts end gently, and methods write into logs.
+/// The folder of the contracts of a database, for a server that stays: contracts end gently, and methods write into
+/// logs.
 fn staying_room(rt: &HostRuntime, folder: &str, database: &str) -> Result<Room, RoomFault> {
     let mut room = room_of(rt, database)?;
     let logs = logs_of(rt, folder)?;

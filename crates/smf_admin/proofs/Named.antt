@@ -31,7 +31,7 @@ named_by : (b : Bool) (word name : List ℕ) → read_pattern word ≡ Ok name �
 named_by true word name h = h
 named_by false word name h = tt
 
--- what a word names in full is what it is read as
+-- the instance that a word names in full is the pattern that the word is read as
 pub full_name_is : (word name : List ℕ) (found : Option (List ℕ)) → Spells word name → found ≡ named_instance name → IfSome found (λ n. read_pattern word ≡ Ok n)
 full_name_is word name found h e =
     let P : Option (List ℕ) → Type 0 = λ o. IfSome o (λ n. read_pattern word ≡ Ok n) in
@@ -61,7 +61,7 @@ same_parts : (p q : List ℕ × Option (List ℕ)) → is_some p.1 ≡ true → 
 same_parts (service, None) q s h = absurd cc
 same_parts (service, Some instance) q s h = λ j. (h.0 j, h.1 j)
 
--- what stands behind the scheme
+-- a text that begins with the short form's scheme
 abbrev HasShort : List ℕ → Type 0
 HasShort text = (rest : List ℕ) × (text ≡ short ++ rest)
 
@@ -116,7 +116,7 @@ module _ (name : List ℕ) (h : IsInstanceName name) where
   one_by true i rest o e none = ap (λ (l : List InstanceName). i ∷ l) (e ∙ ap option_to_list (none refl))
   one_by false i rest o e none = e
 
-  -- what it matches of names in order is what is found
+  -- among names in order, the full name matches the one that a lookup finds
   found_alone : (view : List InstanceName) → Every (λ i. HasShort i.name) view → Rises by_name view → matching name view ≡ option_to_list (lookup by_name view name)
   found_alone [] s r = refl
   found_alone (i ∷ is) s r =
@@ -211,7 +211,7 @@ answer_by pattern word view None (finds.NoMatch w) e h = ap finds.NoMatch h.0
 answer_by pattern word view (Some i) (finds.Several w count) e h = let one : length (matching pattern view) ≡ 1 = ap length e in absurd (omega (arith, h.1, h.2))
 answer_by pattern word view None (finds.Several w count) e h = let none : length (matching pattern view) ≡ 0 = ap length e in absurd (omega (arith, h.1, h.2))
 
--- what is found by a full name is what the word stands for
+-- the instance that is found by a full name is the one that the word stands for
 pub found_is : (view : List InstanceName) (word name : List ℕ) (found : Option InstanceName) → read_pattern word ≡ Ok name → matching name view ≡ option_to_list found → found_at word found ≡ found_of view word
 unfolding found_of
 found_is view word name found e h = sym (ap (found_with word view) e ∙ answer_by name word view found _ h (picked_answers name word view))

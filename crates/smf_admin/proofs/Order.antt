@@ -1,4 +1,4 @@
--- What keeping entries in the order of their names makes: the same entries, in order.
+-- Entries that are kept in the order of their names are the same entries, in order.
 use Rattle.std.proofs.Common.{◌≡◌, ◌≢◌, ℕ, zero, suc, ◌<◌, List, [], ◌∷◌, ◌++◌, length, reverse, cond, Bool, true, false, Option, Some, refl, sym, ap, ◌∙◌, subst, append-nil, append_assoc, arith}
 use Rattle.std.specs.Prelude.{filter, map}
 use Rattle.std.specs.Cmp.Lexicographic.{slice_cmp}
@@ -63,7 +63,7 @@ module _ {A : Type 0} (name : A → List ℕ) where
   apart_by_place (x ∷ xs) h =
       (behind_first (name x) x xs (λ k low. h zero (suc k) x (omega arith) (omega arith)), apart_by_place xs (λ j k d low high. h (suc j) (suc k) d (omega arith) (omega arith)))
 
-  -- what is made of each with the same name
+  -- entries that are made of items, each under the name of its item
   module _ (entry : A → Entry) (same : (x : A) → name x ≡ (entry x).name) where
     every_made : (n : List ℕ) (xs : List A) → Every (λ y. n ≢ name y) xs → Every (λ f. n ≢ f.name) (map entry xs)
     every_made n [] h = tt
@@ -124,7 +124,7 @@ same_put : (e : Entry) (es : List Entry) → Misses e.name es → IsPermutation 
 same_put e [] apart = IsPermutation-refl (e ∷ [])
 same_put e (f ∷ fs) apart = same_put_by (slice_cmp nat_cmp f.name e.name) e f fs (put by_entry e fs) refl apart.0 (same_put e fs apart.1)
 
--- what has none of the names has none of them after a put of another name
+-- a list without any of the names still has none of them after a put of another name
 misses_put : (e : Entry) (es done : List Entry) → Every (λ f. e.name ≢ f.name) es → Every (λ f. Misses f.name done) es
     → Every (λ f. Misses f.name (put by_entry e done)) es
 misses_put e [] done h k = tt
@@ -163,7 +163,7 @@ found_behind (z ∷ zs) xs ys name h = ap (λ (o : Option Entry). cond (has_key 
 last_first : (e : Entry) (es done : List Entry) → reverse (e ∷ es) ++ done ≡ reverse es ++ e ∷ done
 last_first e es done = ap (λ (l : List Entry). l ++ done) (reverse-append (e ∷ []) es) ∙ append_assoc (reverse es) (e ∷ []) done
 
--- what is put last is found
+-- a lookup finds the entry that was put last
 found_all : (es done : List Entry) (name : List ℕ) → lookup by_entry (put_all by_entry es done) name ≡ lookup by_entry (reverse es ++ done) name
 found_all [] done name = refl
 found_all (e ∷ es) done name =

@@ -1,4 +1,4 @@
--- What clap finds of an argument, by what it found of all.
+-- The row of one argument, among the rows of all that clap found.
 use Rattle.std.proofs.Common.{◌≡◌, ◌∙◌, ap, ℕ, List, [], ◌∷◌, map, Bool, true, false, cond, Option, Some, None, refl, sym}
 use Rattle.std.specs.Prelude.{codes, find, option_map, option_and_then, slice_get, unwrap_or}
 use Rattle.std.specs.Option.{option_map_or}

@@ -1,4 +1,4 @@
--- What the words of svcadm ask for.
+-- The commands that the words of svcadm ask for.
 use Rattle.std.specs.Prelude.{ℕ, List, [], ◌∷◌, map, length, ◌==◌, ◌&&◌, not, nat_eq, Bool, true, false, codes, if◌then◌else◌, Option, Some, None, option_map}
 use Rattle.std.specs.Cmp.Lexicographic.{pointwise}
 use Rattle.clap.specs.Words.{Row}
@@ -123,6 +123,6 @@ asked_of view command word = asked_by command (found_of view word)
 abbrev pub asked_all : List InstanceName → AdminWords → List Asked
 asked_all view read = map (asked_of view read.command) read.names
 
--- what the words behind svcadm ask for, one for each that stands for an instance; none is bad usage
+-- an edit for each word after svcadm that stands for an instance, or why there is none; None is bad usage
 unfoldable pub commands_of : List InstanceName → List (List ℕ) → Option (List Asked)
 commands_of view words = option_map (asked_all view) (read_words words)

@@ -1,4 +1,4 @@
--- What the words of svcs ask for.
+-- The instances and the header that the words of svcs ask for.
 use Rattle.std.specs.Prelude.{ℕ, List, length, ◌==◌, not, Bool, true, false, codes, Option, Some, None}
 use Rattle.clap.specs.Words.{Row}
 use Rattle.smf_admin.specs.declared.choosing.Chosen.{Chosen}
@@ -51,11 +51,11 @@ abbrev pub read_rows : Option (List Row) → Option Options
 read_rows None = None
 read_rows (Some rows) = options_with (flags_of rows) (operands_of rows)
 
--- what the words behind svcs ask for; none is bad usage
+-- the options in the words after svcs; None is bad usage
 unfoldable pub options_of : List (List ℕ) → Option Options
 options_of words = read_rows (parsed svcs_app words)
 
--- what depends on what is read from the bodies of running snapshots
+-- true if the bodies of running snapshots are needed: they tell which instances depend on which
 abbrev pub needs_bodies : Chosen → Bool
 needs_bodies (Related relation) = true
 needs_bodies _ = false

@@ -1,4 +1,4 @@
--- What words of svcs and svcadm are read as, one example for each rule.
+-- How the words of svcs and svcadm are read, one example for each rule.
 use Rattle.std.specs.Prelude.{◌≡◌, ℕ, List, [], ◌∷◌, true, false, codes, Some, None}
 use Rattle.smf_model.specs.declared.command.Mark.TheVariants.{MaintenanceNow}
 use Rattle.smf_admin.specs.declared.asking.AdminCommand.TheVariants as commands
@@ -10,7 +10,7 @@ use Rattle.smf_admin.specs.Choosing.{options_of}
 abbrev pub web : List (List ℕ)
 web = codes "web" ∷ []
 
--- flags may be joined, and stand behind operands
+-- flags may be joined, and may stand after operands
 abbrev pub FlagsJoin : Type 0
 FlagsJoin = options_of (codes "web" ∷ codes "-dH" ∷ []) ≡ Some (record { header = false; chosen = chooses.Related Dependencies; patterns = web })
 

@@ -1,4 +1,4 @@
--- What svcs prints.
+-- The output of svcs.
 use Rattle.std.specs.Prelude.{◌≡◌, ◌≢◌, ℕ, ◌-◌, ◌==◌, ◌||◌, ◌++◌, not, List, [], ◌∷◌, length, map, filter, replicate, reverse, Bool, true, false, codes, if◌then◌else◌, Option, is_some, Result, Ok, Err}
 use Rattle.std.specs.List.{AllPairs, flat_map, list_any}
 use Rattle.std.specs.List.Sorted.{IsPermutation}
@@ -97,8 +97,8 @@ entries view options = kept (shown view options)
 abbrev pub HaveNamesApart : List ViewItem → Type 0
 HaveNamesApart view = AllPairs (λ i j. i.name ≢ j.name) view
 
--- the entries of the instances that are shown, in the byte order of their names, and of several of one name the last;
--- where no two have one name, of these instances and of no others, each once
+-- the entries of the instances that are shown, in the byte order of their names, and of several of one name the last.
+-- If no two instances have one name, these are the entries of all that are shown, each once
 pub record IsListing (view : List ViewItem) (all es : List Entry) : Type 0 where
   pub shown : (name : List ℕ) → lookup by_entry es name ≡ lookup by_entry (reverse all) name
   pub same : HaveNamesApart view → IsPermutation all es
@@ -106,7 +106,7 @@ pub record IsListing (view : List ViewItem) (all es : List Entry) : Type 0 where
 
 -- ---- the text
 
--- the state, with a star where a transition is under way
+-- the state, with a star if a transition is under way
 abbrev pub state_words : Entry → List ℕ
 state_words e = state_text e.state ++ (if e.in_transition then codes "*" else [])
 

@@ -18,7 +18,7 @@ abbrev pub depends_in : Option (List Dependency) → Member → Bool
 depends_in None on = false
 depends_in (Some ds) on = list_any (depends_by on) ds
 
--- an instance depends on another by any group, whatever its grouping; by none where a group can't be read
+-- an instance depends on another by any group, whatever its grouping; by none if a group can't be read
 abbrev pub depends : Member → Member → Bool
 depends m on = depends_in m.dependencies on
 

@@ -1,4 +1,4 @@
--- What svcadm and svcs say.
+-- The messages of svcadm and svcs.
 use Rattle.std.specs.Prelude.{ℕ, ◌++◌, List, [], ◌∷◌, codes}
 use Rattle.std.specs.Fmt.{decimal}
 

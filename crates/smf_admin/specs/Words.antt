@@ -26,7 +26,7 @@ abbrev pub with_rules : App → List Rule → App
 with_rules app [] = app
 with_rules app (r ∷ rs) = with_rules (with_rule app r) rs
 
--- what may stand behind a command of svcadm, whichever it is: `[-I] [-t] [OPERAND ..]`
+-- the words after any command of svcadm: `[-I] [-t] [OPERAND ..]`
 unfoldable pub svcadm_app : App
 svcadm_app = with_rules (no_flags (codes "svcadm")) (flag (codes "I") 73 ∷ flag (codes "t") 116 ∷ operands ∷ [])
 
@@ -38,14 +38,14 @@ svcs_app =
 
 -- ---- what clap reads
 
--- what it found of each flag and of the operands
+-- the rows that it found, of each flag and of the operands
 abbrev pub rows_in : ArgMatches → List Row
 rows_in m = rows_of (found_of m)
 
 abbrev pub rows_if : Option ArgMatches → Option (List Row)
 rows_if m = option_map rows_in m
 
--- what it finds, where it takes the words; it takes none that ask for help
+-- the rows that it finds, if it takes the words; it takes none that ask for help
 abbrev pub parsed : App → List (List ℕ) → Option (List Row)
 parsed app words = if length (fault_of app words) == 0 then Some (matches_of app words) else None
 

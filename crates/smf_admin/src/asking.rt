@@ -9,10 +9,10 @@ use smf_fmri::{Items, Table, Text};
 use smf_model::{Edit, InstanceName, Mark};
 use std::alloc::{AllocError, Global};
 
-/// What svcadm is to do with each instance that it is given.
+/// The command that svcadm carries out on each instance that it is given.
 #[derive(Clone, Copy, PartialEq, Eq)]
 pub enum AdminCommand {
-    /// Until the next boot alone, where temporary.
+    /// A temporary one lasts until the next boot.
     Enable { temporary: bool },
     Disable { temporary: bool },
     Restart,
@@ -28,7 +28,7 @@ pub struct AdminWords {
     pub names: Items<Text>,
 }
 
-/// What one word that stands for an instance asks for.
+/// The answer to one word that stands for an instance.
 #[derive(Drop)]
 pub enum Asked {
     Edit(Edit),
@@ -49,7 +49,7 @@ pub(crate) enum Verb {
     Mark,
 }
 
-/// The flags behind it: `-I` and `-t`.
+/// The flags after it: `-I` and `-t`.
 #[derive(Clone, Copy)]
 pub(crate) struct AdminFlags {
     pub(crate) at_once: bool,
@@ -70,7 +70,7 @@ fn verb_of(word: &str) -> Option<Verb>
     }
 }
 
-/// Whether a command takes these flags.
+/// True if a command takes these flags.
 fn is_taken(verb: Verb, flags: AdminFlags) -> bool
     ensures { result ≡ is_taken verb flags }
 {
@@ -93,7 +93,7 @@ fn mark_of(state: &str, at_once: bool) -> Option<Mark>
     }
 }
 
-/// What a command asks for; of mark, the first operand says it.
+/// The command with its flags, or none if `mark` has no first operand that names a state.
 fn command_of(verb: Verb, flags: AdminFlags, operands: &[Text]) -> Option<AdminCommand>
     ensures { result ≡ command_of verb flags operands.now }
 {
@@ -112,7 +112,7 @@ fn command_of(verb: Verb, flags: AdminFlags, operands: &[Text]) -> Option<AdminC
     }
 }
 
-/// The operands that stand for instances: all, of mark those behind the first.
+/// The operands that stand for instances: all of them, or, for `mark`, those after the first.
 fn names_in(verb: Verb, operands: &[Text]) -> &[Text]
     ensures { result.now ≡ names_in verb operands.entry.now }
 {
@@ -171,7 +171,7 @@ fn read_matches(
     admin_words(alloc, verb, flags_of(matches), operands.as_slice())
 }
 
-/// What a command asks for, by the words behind it.
+/// Reads the words after a command.
 fn read_behind(alloc: Global, verb: Verb, words: &[Text]) -> Result<Option<AdminWords>, AllocError>
     ensures { IfOk result (λ read. read ≡ read_behind verb words.now) }
 {
@@ -182,7 +182,7 @@ fn read_behind(alloc: Global, verb: Verb, words: &[Text]) -> Result<Option<Admin
     }
 }
 
-/// What the words behind svcadm ask for, as svcadm(1M) has them; none is bad usage.
+/// Reads the words after svcadm, as svcadm(1M) has them. `None` is bad usage.
 #[tactic(auto, unfolding(crate::specs::Asking::read_words))]
 pub fn read_words(alloc: Global, words: &[Text]) -> Result<Option<AdminWords>, AllocError>
     ensures { IfOk result (λ read. read ≡ read_words words.now) }
@@ -196,7 +196,7 @@ pub fn read_words(alloc: Global, words: &[Text]) -> Result<Option<AdminWords>, A
     }
 }
 
-/// What a command asks of an instance.
+/// The edit that a command asks of an instance.
 fn edit_of(command: AdminCommand, instance: u64) -> Edit
     ensures { result ≡ edit_of command instance }
 {
@@ -253,8 +253,7 @@ fn asked_all(
     asked_each(alloc, read.command, read.names.as_slice(), view)
 }
 
-/// What the words behind svcadm ask for, one for each word that stands for an instance, in their order; none is bad
-/// usage.
+/// The answers to the words after svcadm that stand for instances, in their order. `None` is bad usage.
 #[tactic(auto, unfolding(crate::specs::Asking::commands_of))]
 pub fn commands_of(
     alloc: Global,

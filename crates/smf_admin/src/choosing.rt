@@ -27,7 +27,7 @@ pub enum Chosen {
     Related(Relation),
 }
 
-/// What the words of svcs ask for.
+/// The instances and the header that the words of svcs ask for.
 #[derive(Drop)]
 pub struct Options {
     pub header: bool,
@@ -46,7 +46,7 @@ pub(crate) struct ListFlags {
 }
 
 impl Options {
-    /// Whether the bodies of running snapshots are looked at, so that a view has to have them.
+    /// True if svcs looks at the bodies of running snapshots, so that a view has to have them.
     pub fn needs_bodies(&self) -> bool
         ensures { result ≡ needs_bodies self.now.chosen }
     {
@@ -117,7 +117,7 @@ fn read_matches(alloc: Global, matches: &ArgMatches<'_>) -> Result<Option<Option
     Ok(options_with(flags_of(matches), operands))
 }
 
-/// What the words behind svcs ask for, as svcs(1) has them; none is bad usage.
+/// Reads the words after svcs, as svcs(1) has them. `None` is bad usage.
 #[tactic(auto, unfolding(crate::specs::Choosing::options_of))]
 pub fn options_of(alloc: Global, words: &[Text]) -> Result<Option<Options>, AllocError>
     ensures { IfOk result (λ read. read ≡ options_of words.now) }

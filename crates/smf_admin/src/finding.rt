@@ -18,7 +18,7 @@ pub enum Found {
     Several(Text, usize),
 }
 
-/// What a pattern matches among names.
+/// The instances that a pattern matches: the first of them, and how many there are.
 #[derive(Clone, Copy)]
 struct Matches {
     /// The number of the first instance that it matches.
@@ -35,7 +35,7 @@ fn first_or(first: Option<u64>, item: &InstanceName) -> Option<u64>
     }
 }
 
-/// What a pattern matches, by one look at all names.
+/// Looks once at each name for those that a pattern matches.
 fn matches_of(pattern: &Pattern, view: &[InstanceName]) -> Matches
     ensures first { result.first ≡ first_or None (matching pattern.now view.now) }
     ensures count { result.count ≡ length (matching pattern.now view.now) }

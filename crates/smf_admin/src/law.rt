@@ -1,4 +1,4 @@
-//! What the definitions of this crate come to.
+//! Laws that the definitions of this crate keep.
 
 ghost use Rattle.smf_admin.specs.Finding.{Answers, found_of};
 ghost use Rattle.smf_fmri.specs.Name.{read_pattern};
@@ -9,14 +9,14 @@ ghost use Rattle.smf_admin.specs.declared.choosing.Options.{Options as AnyOption
 ghost use Rattle.smf_model.specs.declared.held.InstanceName.{InstanceName as AnyName};
 ghost use Rattle.smf_state.specs.declared.view.ViewItem.{ViewItem as AnyItem};
 
-/// What svcs prints of a view are the instances that are to be shown, in the byte order of their names, and of several
-/// of one name the last; where no two have one name, these and no others, each once.
+/// svcs prints the instances that are to be shown, in the byte order of their names, and of several of one name the
+/// last. If no two instances have one name, it prints these and no others, each once.
 pub fn listings_are_in_order()
     ensures { (view : List AnyItem) (o : AnyOptions) → IsListing view (shown view o) (entries view o) }
 {}
 
-/// A word that is a pattern stands for the only instance whose name it matches; where none or several match, it says
-/// so. A word that is none matches nothing.
+/// A word that is a pattern stands for the only instance whose name it matches. If none or several match, the answer
+/// says so. A word that is no pattern matches nothing.
 pub fn answers_are_of_what_matches()
     ensures { (view : List AnyName) (word : List ℕ) → Answers (read_pattern word) word view (found_of view word) }
 {}

@@ -1,7 +1,7 @@
 //! svcadm(1M) and svcs(1): what their words ask for, and what is printed.
-//! Modules: `words` (what clap reads), `finding` (which instance a word stands for), `asking` (words of svcadm),
-//! `choosing` (words of svcs), `relating` (who depends on whom), `listing` (what svcs prints), `telling` (texts), `law`
-//! (what the definitions come to).
+//! Modules: `words` (what clap reads), `instances` (which instance a word stands for), `requests` (the words of svcadm).
+//! For svcs: `list_options` (its words), `relations` (who depends on whom) and `output` (its output).
+//! The other modules are `messages` (messages) and `law` (laws of the definitions).
 #![tactic(auto)]
 
 mod asking;

@@ -15,15 +15,15 @@ use smf_fmri::{FmriFault, InstanceFmri, Items, Keyed, Ordered, Pattern, Text};
 use smf_state::{State, ViewItem};
 use std::alloc::{AllocError, Global};
 
-/// What svcs prints.
+/// The output of svcs.
 #[derive(Drop)]
 pub struct Listing {
     pub text: Text,
-    /// Whether each pattern matches an instance.
+    /// True if each pattern matches an instance.
     pub all_matched: bool,
 }
 
-/// What svcs prints of an instance.
+/// A line of the output: an instance with its state.
 #[derive(Drop)]
 struct Entry {
     name: InstanceFmri,
@@ -286,7 +286,8 @@ fn put_header(out: &mut String, header: bool) -> Result<(), AllocError>
     Ok(())
 }
 
-/// What svcs prints of a view. Where dependencies are asked for, the view has to have the bodies of running snapshots.
+/// The output of svcs for a view. If the words ask for dependencies or dependents, the view has to have the bodies of
+/// running snapshots.
 #[tactic(auto, unfolding(crate::specs::Listing::svcs_text))]
 pub fn svcs_text(alloc: Global, view: &[ViewItem], options: &Options) -> Result<Listing, AllocError>
     ensures { IfOk result (λ listing. listing ≡ svcs_text view.now options.now) }

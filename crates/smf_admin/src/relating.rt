@@ -21,7 +21,7 @@ fn depends_by(dependencies: &[Dependency], on: &Member) -> bool
         .any(|dependency| any_cites(dependency.entities.as_slice(), on))
 }
 
-/// Whether an instance depends on another, by any group.
+/// True if an instance depends on another, by any group.
 fn depends(member: &Member, on: &Member) -> bool
     ensures { result ≡ depends member.now on.now }
 {
@@ -43,7 +43,7 @@ fn is_dependent(chosen: &[Member], member: &Member) -> bool
     chosen.iter().any(|one| depends(member, one))
 }
 
-/// Whether an instance stands so to one of those that were chosen.
+/// True if an instance has this relation to one of those that were chosen.
 pub(crate) fn is_related(relation: Relation, chosen: &[Member], member: &Member) -> bool
     ensures { result ≡ is_related relation chosen.now member.now }
 {

@@ -5,7 +5,7 @@ use smf_fmri::Text;
 use std::alloc::{AllocError, Global};
 use std::fmt::Write;
 
-/// What a program says of a word that matches no instance.
+/// The message of a program about a word that matches no instance.
 #[tactic(auto, unfolding(crate::specs::Telling::no_match_text))]
 pub fn no_match_text(alloc: Global, program: &str, word: &str) -> Result<Text, AllocError>
     ensures { IfOk result (λ text. text ≡ no_match_text program.now word.now) }
@@ -14,7 +14,7 @@ pub fn no_match_text(alloc: Global, program: &str, word: &str) -> Result<Text, A
     Ok(Text::from_string(text))
 }
 
-/// What a program says of a word that matches so many instances.
+/// The message of a program about a word that matches so many instances.
 #[tactic(auto, unfolding(crate::specs::Telling::several_text))]
 pub fn several_text(
     alloc: Global,
@@ -28,14 +28,14 @@ pub fn several_text(
     Ok(Text::from_string(text))
 }
 
-/// What is said of words that svcadm does not take.
+/// The message about words that svcadm does not take.
 pub fn svcadm_usage() -> &'static str
     ensures { result.now ≡ svcadm_usage }
 {
     "svcadm: bad usage\n"
 }
 
-/// What is said of words that svcs does not take.
+/// The message about words that svcs does not take.
 pub fn svcs_usage() -> &'static str
     ensures { result.now ≡ svcs_usage }
 {

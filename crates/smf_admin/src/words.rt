@@ -52,7 +52,7 @@ fn svcs_command<'a>(alloc: Global) -> Result<Command<'a>, AllocError>
     Ok(command)
 }
 
-/// What a command reads of words; none where it doesn't take them, as where they ask for its help.
+/// The matches that clap reads, or none if the command doesn't take the words. It takes none that ask for help.
 fn parsed<'a>(
     command: Command<'a>,
     words: &'a [&'a str],
@@ -68,7 +68,7 @@ fn parsed<'a>(
     }
 }
 
-/// What stands behind a command of svcadm.
+/// Reads the words after a command of svcadm.
 pub(crate) fn svcadm_matches<'a>(
     alloc: Global,
     words: &'a [&'a str],
@@ -79,7 +79,7 @@ pub(crate) fn svcadm_matches<'a>(
     parsed(command, words)
 }
 
-/// What stands behind svcs.
+/// Reads the words after svcs.
 pub(crate) fn svcs_matches<'a>(
     alloc: Global,
     words: &'a [&'a str],
@@ -90,7 +90,7 @@ pub(crate) fn svcs_matches<'a>(
     parsed(command, words)
 }
 
-/// Whether a flag stands among the words.
+/// True if a flag stands among the words.
 pub(crate) fn is_set(matches: &ArgMatches<'_>, id: &str) -> bool
     ensures { result ≡ is_set id.now (rows_in matches.now) }
 {

@@ -11,7 +11,7 @@ use smf_model::{NoJournal, Plain};
 use smf_value::Group;
 use std::alloc::Global;
 
-/// What calls change from line to line.
+/// The state that calls change from line to line.
 #[derive(Drop)]
 pub(crate) struct Session {
     table: Table,

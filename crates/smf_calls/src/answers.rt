@@ -3,10 +3,10 @@
 use std::alloc::{AllocError, Global};
 use std::fmt;
 
-/// What every library says where memory is wanting.
+/// The words of every library if memory is wanting.
 const NO_MEMORY: &str = "no memory";
 
-/// What a call answers. Nothing that is put can fail: want of memory is noted, and the answer then has no text.
+/// The answer of a call. No put fails: the answer notes want of memory, and then has no text.
 #[derive(Drop)]
 pub(crate) struct Answer {
     text: String,
@@ -21,7 +21,7 @@ impl Answer {
         }
     }
 
-    /// Its text; none where memory was wanting.
+    /// Its text; none if memory was wanting.
     pub(crate) fn into_text(self) -> Option<String> {
         if self.lacks_memory {
             None
@@ -36,14 +36,14 @@ impl Answer {
         }
     }
 
-    /// What `write!` calls.
+    /// The method that `write!` calls.
     pub(crate) fn write_fmt<D: fmt::Display + Drop>(&mut self, value: D) {
         if self.text.write_fmt(value).is_err() {
             self.lacks_memory = true;
         }
     }
 
-    /// Puts what stands between two: nothing where the answer is empty.
+    /// Puts a mark between two parts: nothing if the answer is empty.
     pub(crate) fn put_between(&mut self, mark: &str) {
         if !self.text.is_empty() {
             self.put(mark);
@@ -63,7 +63,7 @@ impl Answer {
         self.put("bad line");
     }
 
-    /// What a line has; where it has none, it is a bad one.
+    /// The part that a line has. If it has none, the line is a bad one.
     pub(crate) fn found<T: Drop>(&mut self, found: Option<T>) -> Option<T> {
         if found.is_none() {
             self.bad_line();
@@ -76,7 +76,7 @@ impl Answer {
         self.lacks_memory = true;
     }
 
-    /// What a library makes of memory.
+    /// The value that a library made, unless memory was wanting.
     pub(crate) fn made<T: Drop>(&mut self, made: Result<T, AllocError>) -> Option<T> {
         match made {
             Ok(value) => Some(value),
@@ -87,7 +87,7 @@ impl Answer {
         }
     }
 
-    /// What a library gives; where it refuses, its words are the answer.
+    /// The value that a library gave. If it refused, its words are the answer.
     pub(crate) fn given<T: Drop, E: fmt::Display + Drop>(
         &mut self,
         given: Result<T, E>,
@@ -105,7 +105,7 @@ impl Answer {
         }
     }
 
-    /// `done`, where a library does what was asked.
+    /// Puts `done` if a library did the call. If it refused, its words are the answer.
     pub(crate) fn done<E: fmt::Display + Drop>(&mut self, done: Result<(), E>) {
         if self.given(done).is_some() {
             self.put("done");

@@ -1,4 +1,4 @@
-//! What a table of contracts is asked, as words.
+//! Calls of a table of contracts, as words.
 
 use crate::events::terms_of;
 use crate::words::{byte_of, number_of, split_two, split_word};

@@ -17,7 +17,7 @@ pub(crate) fn answer(alloc: Global, out: &mut Answer, call: &str, text: &str) ->
     true
 }
 
-/// The words of a text, each behind a bar.
+/// The words of a text, each after a bar.
 fn put_barred(out: &mut Answer, words: Result<Items<Text>, AllocError>) {
     if let Some(words) = out.made(words) {
         for word in words.as_slice() {
@@ -27,7 +27,7 @@ fn put_barred(out: &mut Answer, words: Result<Items<Text>, AllocError>) {
     }
 }
 
-/// What a line asks for.
+/// Puts the command of a line, or the fault of one that is none.
 fn put_asked(alloc: Global, out: &mut Answer, line: Result<Line, LineFault>) {
     if let Some(line) = out.given(line) {
         put_line(alloc, out, &line);
@@ -58,7 +58,7 @@ fn put_line(alloc: Global, out: &mut Answer, line: &Line) {
     }
 }
 
-/// A text behind a space, in quotes where it needs them.
+/// A text after a space, in quotes if it needs them.
 fn put_quoted(alloc: Global, out: &mut Answer, word: &Text) {
     if let Some(word) = out.made(quoted(alloc, word.as_str())) {
         write!(out, " {word}");

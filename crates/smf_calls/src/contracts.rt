@@ -167,7 +167,7 @@ fn failed(table: &mut Table, out: &mut Answer, call: &str, text: &str) {
     }
 }
 
-/// What is asked of a contract; `home` is asked of a process.
+/// Answers a question about a contract; `home` is about a process.
 fn asked(table: &Table, out: &mut Answer, call: &str, text: &str) {
     match number_of(text) {
         None => out.bad_line(),
@@ -218,7 +218,7 @@ fn put_contract(out: &mut Answer, contract: &Contract) {
     write!(out, " first {first} acknowledged {acknowledged}");
 }
 
-/// Numbers, each behind a space; `-` where there is none.
+/// Numbers, each after a space; `-` if there is none.
 fn put_numbers(out: &mut Answer, numbers: &[Number]) {
     if numbers.is_empty() {
         out.put(" -");
@@ -258,7 +258,7 @@ fn counts_of(text: &str) -> Option<(u64, u64)> {
     Some((read_count(contract)?, read_count(number)?))
 }
 
-/// An event of a contract, behind the contract.
+/// An event of a contract, after the contract.
 fn report(table: &Table, out: &mut Answer, text: &str) {
     match counts_of(text) {
         None => out.bad_line(),
@@ -304,7 +304,7 @@ fn put_counts(out: &mut Answer, table: &Table) {
     write!(out, "last contract {contract} process {process}");
 }
 
-/// All contracts with a bar between two; `-` where there is none.
+/// All contracts with a bar between two; `-` if there is none.
 fn put_list(out: &mut Answer, list: Result<Items<Status>, AllocError>) {
     if let Some(list) = out.made(list) {
         for status in list.as_slice() {

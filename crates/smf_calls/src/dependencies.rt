@@ -72,7 +72,7 @@ fn put_first(out: &mut Answer, dependencies: Result<Items<Dependency>, Dependenc
     }
 }
 
-/// What the group that lines made asks, where it is of type `dependency`.
+/// The dependency of the group that lines made, if its type is `dependency`.
 fn read(alloc: Global, group: &Option<Group>, out: &mut Answer) {
     if let Some(groups) = out.made(alone(alloc, group)) {
         put_first(out, read_groups(alloc, &groups));
@@ -120,8 +120,8 @@ fn put_finding(out: &mut Answer, finding: Finding) {
     out.put(if finding.on_cycle { "c|" } else { "-|" });
 }
 
-/// What is found of each instance of the view: `u` where its groups can't be read, `m` where all are met, `s` where one
-/// stops it, `c` where it is on a cycle.
+/// The finding of each instance of the view: `u` if its groups can't be read, `m` if all are met, `s` if one stops it,
+/// `c` if it is on a cycle.
 fn found(alloc: Global, items: &Ordered<ViewItem>, out: &mut Answer) {
     if let Some(graph) = out.made(Graph::of(alloc, items.as_slice())) {
         for place in 0..items.len() {
@@ -138,7 +138,7 @@ fn keep(alloc: Global, views: &mut Views, out: &mut Answer) {
     out.put("done");
 }
 
-/// Whether a graph that was kept finds what a new one does.
+/// True if a graph that was kept finds what a new one does.
 fn are_same(kept: &Graph, new: &Graph, count: usize) -> bool {
     for place in 0..count {
         if kept.finding(place) != new.finding(place) {
@@ -173,7 +173,8 @@ fn one(alloc: Global, changed: ChangedItem) -> Result<Items<ChangedItem>, AllocE
     Ok(all)
 }
 
-/// An item as `view_item` has it: the view gets it, and the graph that is kept. Says whether that finds what a new one does.
+/// An item as `view_item` has it: the view gets it, and the graph that is kept. Says whether that finds what a new one
+/// does.
 fn change(alloc: Global, views: &mut Views, out: &mut Answer, text: &str) {
     if let Some(item) = item_of(alloc, out, text)
         && let Some(copy) = out.made(item.clone())

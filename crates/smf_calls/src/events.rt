@@ -47,7 +47,7 @@ fn set_of(text: &str) -> Option<EventSet>
     Some(set)
 }
 
-/// Whether contracts are inherited, and whether they are not left.
+/// The flags `inherit` and `noorphan` of contracts, in this order.
 fn flags_of(text: &str) -> Option<(bool, bool)> {
     match text {
         "" => Some((false, false)),
@@ -72,7 +72,7 @@ pub(crate) fn terms_of(text: &str) -> Option<Terms> {
     })
 }
 
-/// A set of kinds; `-` where it is empty.
+/// A set of kinds; `-` if it is empty.
 fn put_set(out: &mut Answer, set: EventSet) {
     let mut is_empty = true;
     for (text, kind) in KINDS {
@@ -85,7 +85,7 @@ fn put_set(out: &mut Answer, set: EventSet) {
     put_if(out, is_empty, "-");
 }
 
-/// A word where something is so.
+/// Puts a word if something is so.
 fn put_if(out: &mut Answer, is_so: bool, word: &str) {
     if is_so {
         out.put(word);
@@ -111,8 +111,8 @@ fn put_exit(out: &mut Answer, kind: EventKind) {
     }
 }
 
-/// `CONTRACT/NUMBER KIND`, and then the process that it happened to, how it ended, and `left` where
-/// a member is left.
+/// `CONTRACT/NUMBER KIND`, and then the process that it happened to, how it ended, and `left` if a
+/// member is left.
 pub(crate) fn put_event(out: &mut Answer, event: &Event) {
     let (contract, number) = (event.contract.get(), event.number.get());
     write!(out, "{contract}/{number} ");
@@ -125,7 +125,7 @@ pub(crate) fn put_event(out: &mut Answer, event: &Event) {
     put_if(out, event.left, " left");
 }
 
-/// Events with commas between; `-` where there is none.
+/// Events with commas between; `-` if there is none.
 pub(crate) fn put_events(out: &mut Answer, events: &[Event]) {
     let mut is_empty = true;
     for event in events {

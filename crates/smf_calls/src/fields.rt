@@ -1,4 +1,4 @@
-//! Fields of lines: what is read, and behind a slash what is left.
+//! Fields of lines: the value that is read, and after a slash the rest of the line.
 
 use crate::answers::Answer;
 use crate::rows::{cause_text, state_text};
@@ -30,7 +30,7 @@ pub(crate) fn answer(alloc: Global, out: &mut Answer, text: &str) {
     }
 }
 
-/// What stands behind the kind of a field: nothing where the kind stands alone.
+/// The line after the kind of a field: none if the kind stands alone.
 fn line_of(text: &str) -> Option<&str> {
     match text.split_once(' ') {
         Some((_, line)) => Some(line),

@@ -77,7 +77,7 @@ fn set_group(alloc: Global, group: &mut Option<Group>, out: &mut Answer, text: &
     }
 }
 
-/// A kind, or `-` where none is given.
+/// A kind, or `-` if none is given.
 fn optional_kind(word: &str) -> Option<Option<Kind>> {
     if word == "-" {
         return Some(None);
@@ -137,7 +137,7 @@ fn encoded(alloc: Global, group: &Option<Group>, out: &mut Answer) {
     }
 }
 
-/// Values, each behind a mark.
+/// Values, each after a mark.
 fn put_values(alloc: Global, out: &mut Answer, mark: &str, values: &[Value]) {
     for value in values {
         out.put(mark);

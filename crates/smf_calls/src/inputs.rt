@@ -1,6 +1,6 @@
 //! Lines that give a restarter its inputs. Each is printed again with what the restarter answers and knows.
-//! `restarter NAME ACTOR LAUNCH` begins anew. A line of an input brings it further. `? INPUT` tries an input after those,
-//! and is forgotten then. `show` prints what it knows.
+//! `restarter NAME ACTOR LAUNCH` begins anew. A line of an input brings it further. `? INPUT` tries an input after
+//! those, and is forgotten then. `show` prints what it knows.
 //! Modules: `input` and `contracts` (what lines read as), `replies` and `knowledge` (what is printed), `page`.
 
 mod contracts;

@@ -1,8 +1,9 @@
-//! `smf_calls`: reads lines that each name a call of the pure crates with its arguments, and prints what it answers. With
-//! the word `inputs` it reads inputs of a restarter, and with the word `why` configured services and states.
-//! Modules: `answering` (which family a line is of); the families `names`, `rows`, `steps`, `fields`, `values`, `groups`,
-//! `snapshots`, `contracts`, `cookies`, `methods`, `dependencies`, `config`, `views`, `refusals`, `repository`, `lines` (messages); `calls`,
-//! `events`, `bytes`, `words`, `answers` (what is written); `inputs` and `whys` (the other two forms).
+//! `smf_calls`: reads lines that each name a call of the pure crates with its arguments, and prints what it answers.
+//! With the word `inputs` it reads inputs of a restarter, and with the word `why` configured services and states.
+//! Modules: `families` (the family of a line). The families are `names`, `rows`, `steps`, `fields`, `values`,
+//! `groups`, `snapshots`, `contracts`, `cookies`, `methods`, `dependencies`, `config`, `views`, `refusals`,
+//! `repository` and `lines` (messages). They share `calls`, `events`, `bytes`, `words` and `answers` (the text of an
+//! answer). The other two forms are `inputs` and `whys`.
 #![tactic(auto)]
 
 mod answering;

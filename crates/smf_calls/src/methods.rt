@@ -41,7 +41,7 @@ fn end_of(text: &str) -> Option<(Method, Exit)> {
     Some((method_of(method)?, exit_of(exit)?))
 }
 
-/// What the end of a method means.
+/// The outcome that the end of a method means.
 fn judged(out: &mut Answer, text: &str) {
     match end_of(text) {
         Some((method, exit)) => out.put(outcome_text(judge(method, exit))),

@@ -34,7 +34,7 @@ fn stripped(out: &mut Answer, text: &str) {
     out.put(strip(prefix, text).unwrap_or("none"));
 }
 
-/// The number behind a number of rows and revisions.
+/// The number after a number of rows and revisions.
 fn next(out: &mut Answer, text: &str) {
     match read_count(text) {
         None => out.bad_line(),
@@ -56,7 +56,7 @@ pub(crate) fn instance_of(alloc: Global, out: &mut Answer, text: &str) -> Option
     out.found(InstanceFmri::of(name))
 }
 
-/// What a call says of one name.
+/// Answers a call of one name.
 fn name_answer(alloc: Global, out: &mut Answer, call: &str, text: &str) {
     if let Some(name) = name_of(alloc, out, text) {
         put_name(alloc, out, call, name);
@@ -217,7 +217,7 @@ fn put_ordering(out: &mut Answer, ordering: Result<&'static str, AllocError>) {
     }
 }
 
-/// Whether a copy of bytes is the same as a copy of others.
+/// Says if a copy of bytes is the same as a copy of others.
 fn compared_bytes(alloc: Global, out: &mut Answer, first: &str, second: &str) {
     if let Some(first) = bytes_of(alloc, out, first)
         && let Some(second) = bytes_of(alloc, out, second)

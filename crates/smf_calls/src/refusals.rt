@@ -9,7 +9,7 @@ use smf_state::Why;
 use smf_value::GroupFault;
 use std::alloc::{AllocError, Global};
 
-/// The words of a refusal; `none` where a reply is no refusal.
+/// The words of a refusal; `none` if a reply is no refusal.
 pub(crate) fn refusal(alloc: Global, out: &mut Answer, text: &str) {
     if let Some(reply) = out.found(reply_of(text)) {
         put_refusal(out, refusal_text(alloc, &reply));

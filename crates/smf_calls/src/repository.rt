@@ -116,7 +116,7 @@ fn enable_edit(instance: u64, enabled: bool, temporary: bool) -> Edit {
     }
 }
 
-/// What svcadm asks of an instance.
+/// The edit that a verb of svcadm, or `delete_instance`, makes of an instance.
 fn asked_edit(verb: &str, instance: u64) -> Option<Edit> {
     match verb {
         "delete_instance" => Some(Edit::DeleteInstance(instance)),
@@ -135,7 +135,7 @@ fn asked_edit(verb: &str, instance: u64) -> Option<Edit> {
     }
 }
 
-/// `NUMBER`, or behind `revert` the name of a snapshot too.
+/// `NUMBER`, and after `revert` the name of a snapshot too.
 fn number_edit(verb: &str, text: &str) -> Option<Edit> {
     if verb == "revert" {
         let (instance, snapshot) = snapshot_of(text)?;
@@ -286,7 +286,7 @@ fn proposed(alloc: Global, repository: &mut Repository<NoJournal>, out: &mut Ans
     }
 }
 
-/// What a read shows.
+/// Answers a read of what the repository holds.
 fn held(alloc: Global, repository: &Plain<NoJournal>, out: &mut Answer, text: &str) {
     let (what, text) = split_word(text);
     match what {
@@ -348,7 +348,7 @@ fn put_row(out: &mut Answer, instance: Result<Option<Instance>, AllocError>) {
     }
 }
 
-/// Each group's name, with the values of its properties behind it.
+/// Each group's name, and after it the values of its properties.
 fn put_groups(alloc: Global, out: &mut Answer, groups: &[Group]) {
     for group in groups {
         out.put_between(" ");
@@ -401,8 +401,8 @@ fn children(alloc: Global, repository: &Plain<NoJournal>, out: &mut Answer, name
     }
 }
 
-/// Of an instance: its number, name, whether it is enabled, whether its restarter can be read, its row's number, and
-/// how long the bytes of its running snapshot are.
+/// An instance's number and name, if it is enabled, if its restarter can be read, and its row's number. The length of
+/// its running snapshot in bytes comes last, if it has one.
 fn put_item(out: &mut Answer, item: &ViewItem) {
     let (instance, name, number) = (item.instance, &item.name, item.row.number);
     let (enabled, readable) = (truth(item.enabled), truth(item.readable));

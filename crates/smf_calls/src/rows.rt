@@ -43,7 +43,7 @@ fn fresh(alloc: Global, out: &mut Answer, text: &str) {
     }
 }
 
-/// The fields of a row behind their names.
+/// The fields of a row after their names.
 fn fields(alloc: Global, out: &mut Answer, text: &str) {
     if let Some(row) = row_of(alloc, out, text) {
         put_states(out, &row);
@@ -52,7 +52,7 @@ fn fields(alloc: Global, out: &mut Answer, text: &str) {
     }
 }
 
-/// The text of a state, or another where there is none.
+/// The text of a state, or another if there is none.
 pub(crate) fn state_text(state: Option<State>, none: &'static str) -> &'static str {
     match state {
         Some(state) => state.text(),
@@ -118,7 +118,7 @@ fn item_of(name: InstanceFmri, row: SharedRow) -> ViewItem {
     }
 }
 
-/// What a copy of a view's item has: its name, and its row.
+/// The name and the row of a copy of a view's item.
 fn copied_item(alloc: Global, out: &mut Answer, text: &str) {
     let (name, row) = split_word(text);
     if let Some(name) = instance_of(alloc, out, name)

@@ -1,5 +1,5 @@
-//! What snapshots keep of groups, what a revert makes of groups, and the bytes and names of snapshots.
-//! A group stands as `NAME=TEXT`, or as `NAME!=TEXT` where it is not persistent: its one property has that text.
+//! The groups that snapshots keep, the groups after a revert, and the bytes and names of snapshots.
+//! A group stands as `NAME=TEXT`, or as `NAME!=TEXT` if it is not persistent: its one property has that text.
 
 use crate::answers::Answer;
 use crate::bytes::{bytes_of, put_bytes};
@@ -28,7 +28,7 @@ pub(crate) fn answer(alloc: Global, out: &mut Answer, call: &str, text: &str) ->
     true
 }
 
-/// A name, and the flags of a group, which is not persistent behind `!`.
+/// A name without a last `!`, and the flags of its group: with that `!` the group is not persistent.
 fn flagged(word: &str) -> (&str, GroupFlags) {
     match word.strip_suffix('!') {
         Some(name) => (name, GroupFlags::NON_PERSISTENT),

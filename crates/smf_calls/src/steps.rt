@@ -80,7 +80,7 @@ fn numbers_of(text: &str) -> Result<(u64, u64, u64, Option<&str>), WrongField> {
     Ok((revision, launch, serial, rest))
 }
 
-/// The step that stands behind a slash.
+/// The step after a slash.
 fn step_behind(out: &mut Answer, rest: Option<&str>) -> Option<Step> {
     match field_at(rest) {
         Some(("/", Some(text))) => step_of(out, text),
@@ -88,7 +88,7 @@ fn step_behind(out: &mut Answer, rest: Option<&str>) -> Option<Step> {
     }
 }
 
-/// `REVISION LAUNCH SERIAL ROW / STEP`: the row behind the step, which that launch proposes at that revision.
+/// `REVISION LAUNCH SERIAL ROW / STEP`: the row after the step, which that launch proposes at that revision.
 fn stepped(alloc: Global, out: &mut Answer, text: &str) {
     if let Some((revision, launch, serial, rest)) = out.given(numbers_of(text))
         && let Some((row, rest)) = out.given(row_at(alloc, rest))

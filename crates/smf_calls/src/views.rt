@@ -92,7 +92,7 @@ fn is_enabled(word: &str) -> Option<bool> {
     }
 }
 
-/// A row of a restarter's in a state: svc.startd's, where no other is named.
+/// A row of a restarter's in a state. The restarter is svc.startd if no other is named.
 fn row_of(
     alloc: Global,
     out: &mut Answer,
@@ -117,7 +117,7 @@ fn number_and_flag(number: &str, flag: &str) -> Option<(u64, bool)> {
     Some((read_count(number)?, is_enabled(flag)?))
 }
 
-/// `NUMBER NAME enabled|disabled STATE NEXT BODY`, and where it is another than svc.startd the restarter behind it.
+/// `NUMBER NAME enabled|disabled STATE NEXT BODY`, and then the restarter if it is not svc.startd.
 pub(crate) fn item_of(alloc: Global, out: &mut Answer, text: &str) -> Option<ViewItem> {
     let (number, name, rest) = split_two(text);
     let (flag, state, rest) = split_two(rest);
@@ -163,7 +163,7 @@ fn put_told(out: &mut Answer, text: Result<Text, AllocError>) {
     }
 }
 
-/// A listing, and `failed` where a pattern matches nothing.
+/// A listing, and `failed` if a pattern matches nothing.
 fn put_listing(out: &mut Answer, listing: Result<Listing, AllocError>) {
     if let Some(listing) = out.made(listing) {
         put_lines(out, listing.text.as_str());
@@ -184,7 +184,7 @@ fn put_listed(
     }
 }
 
-/// What svcs prints.
+/// The listing of svcs, or its usage.
 fn svcs(alloc: Global, items: &[ViewItem], out: &mut Answer, text: &str) {
     if let Some(words) = out.made(texts_of(alloc, text)) {
         put_listed(alloc, items, out, options_of(alloc, words.as_slice()));
@@ -221,7 +221,7 @@ fn put_edit(out: &mut Answer, edit: &Edit) {
     }
 }
 
-/// What a word of svcadm asks for.
+/// The edit that a word of svcadm asks for, or the text of why it asks for none.
 fn put_asked(alloc: Global, out: &mut Answer, asked: &Asked) {
     match asked {
         Asked::Edit(edit) => put_edit(out, edit),

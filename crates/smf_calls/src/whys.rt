@@ -1,6 +1,6 @@
 //! Lines of svccfg and lines `state FMRI STATE [NEXT]`: why what the lines configured does not run. Each instance is
-//! refreshed first, and is offline if no line says its state. After a line `show`, which prints, all begins anew. A line
-//! `check` prints what is wrong of the instances.
+//! refreshed first, and is offline if no line says its state. After a line `show`, which prints, all begins anew. A
+//! line `check` prints what is wrong of the instances.
 
 use smf_cfg::Session;
 use smf_fmri::{Items, Ordered, SharedOrdered};

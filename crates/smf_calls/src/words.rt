@@ -5,7 +5,7 @@ use smf_fmri::{Items, Number, Text, read_count};
 use std::alloc::{AllocError, Global};
 use std::cmp::Ordering;
 
-/// What stands before the first space, and what stands behind it: of a single word, nothing.
+/// The text before the first space, and the text after it. A single word has nothing after it.
 pub(crate) fn split_word(text: &str) -> (&str, &str) {
     match text.split_once(' ') {
         Some((word, rest)) => (word, rest),
@@ -13,14 +13,14 @@ pub(crate) fn split_word(text: &str) -> (&str, &str) {
     }
 }
 
-/// The first two words, and what stands behind them.
+/// The first two words, and the text after them.
 pub(crate) fn split_two(text: &str) -> (&str, &str, &str) {
     let (first, rest) = split_word(text);
     let (second, rest) = split_word(rest);
     (first, second, rest)
 }
 
-/// What stands before the word `/`, and what stands behind it. Words have one space between.
+/// The text before the word `/`, and the text after it. Words have one space between.
 pub(crate) fn split_halves(text: &str) -> (&str, &str) {
     match text.split_once(" / ") {
         Some((before, behind)) => (before, behind),

@@ -29,11 +29,11 @@ unfolding lines_on
 lines_both e [] ms = refl
 lines_both e (l ∷ ls) ms = lines_both (line_on e l) ls ms
 
--- a line behind one that did not end the session
+-- a line after one that did not end the session
 line_goes : (e : Effect) (l : List ℕ) → e.end.has_ended ≡ false → line_on e l ≡ joined e (effect e.left l)
 line_goes e l going = rw going refl
 
--- lines behind the end of the session
+-- lines after the end of the session
 pub stays : (e : Effect) (ls : List (List ℕ)) → e.end.has_ended ≡ true → lines_on e ls ≡ e
 unfolding lines_on
 stays e [] over = refl

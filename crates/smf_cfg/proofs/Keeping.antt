@@ -1,4 +1,4 @@
--- What stays where an edit is refused.
+-- A refused edit leaves the holdings as they were.
 use Rattle.std.proofs.Common.{◌≡◌, true, ap, sym, ◌∙◌}
 use Rattle.smf_model.specs.declared.command.Command.{Command}
 use Rattle.smf_model.specs.declared.command.Reply.{Reply}

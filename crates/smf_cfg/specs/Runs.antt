@@ -1,4 +1,4 @@
--- What lines of svccfg give, one behind another.
+-- The effect of lines of svccfg, one after another.
 use Rattle.std.specs.Prelude.{◌≡◌, ◌⊎◌, ◌≤◌, ℕ, ◌+◌, List, [], ◌∷◌, ◌++◌, ◌&&◌, take, codes, Bool, true, false, if◌then◌else◌, Option, Some, None, Result, Ok, Err}
 use Rattle.std.specs.Io.KnownBytes.{Appends}
 use Rattle.std_io.specs.declared.io.error.Error.{Error}
@@ -20,7 +20,7 @@ use Rattle.smf_cfg.specs.declared.output.LineEnd.{LineEnd}
 use Rattle.smf_cfg.specs.declared.output.Output.{Output as AnyOutput}
 use Rattle.smf_cfg.specs.Sessions.{Done, Place, at, ran}
 
--- what lines leave, their text, what is said of those that failed, whether none did, and whether the session ended
+-- the place that lines leave, their text, the messages about those that failed, and how they ended
 pub record Effect : Type 0 where
   pub left : Place
   pub out : List ℕ
@@ -55,7 +55,7 @@ abbrev pub told : Option (List ℕ) → List ℕ
 told None = []
 told (Some words) = line_of svccfg_name words
 
--- what is said of a line that failed
+-- the message about a line that failed
 abbrev pub blamed : SessionFault → List ℕ
 blamed (line_faults.Line fault) = line_of svccfg_name (fault_text fault)
 blamed (line_faults.Refused reply) = told (refusal reply)
@@ -77,7 +77,7 @@ abbrev pub effect_of : Place → Option (List ℕ) → Effect
 effect_of p None = fails_with p bad_line
 effect_of p (Some text) = effect_of_text p text
 
--- what a line does, which stands without its end
+-- the effect of a line, which stands without its end
 unfoldable pub effect : Place → List ℕ → Effect
 effect p line = effect_of p (text_in line)
 
@@ -95,11 +95,11 @@ abbrev pub joined : Effect → Effect → Effect
 joined e f =
     record { left = f.left; out = e.out ++ f.out; errors = e.errors ++ f.errors; end = end_behind e.end f.end }
 
--- what a line does, behind what those before it did; behind the end of the session it does nothing
+-- the effect of a line after that of those before it; a line after the end of the session does nothing
 abbrev pub line_on : Effect → List ℕ → Effect
 line_on e l = if e.end.has_ended then e else joined e (effect e.left l)
 
--- what comes of more lines behind others, each on what those before it left
+-- the effect of more lines after that of others, each on what those before it left
 unfoldable pub lines_on : Effect → List (List ℕ) → Effect
 lines_on e [] = e
 lines_on e (l ∷ ls) = lines_on (line_on e l) ls
@@ -107,11 +107,11 @@ lines_on e (l ∷ ls) = lines_on (line_on e l) ls
 unfoldable pub run : Place → List (List ℕ) → Effect
 run p lines = lines_on (silent p) lines
 
--- where a run begins, nothing is selected
+-- a run begins with nothing selected
 abbrev pub begun : Holdings → Place
 begun h = at h Nothing
 
--- the status of a run: 1 where a line failed
+-- the status of a run: 1 if a line failed
 abbrev pub status_of : Bool → ℕ
 status_of true = 0
 status_of false = 1
@@ -128,8 +128,7 @@ pub record Ends (e : Effect) (after : Holdings) (out_old out_new errors_old erro
   pub errors : Appends errors_old errors_new e.errors
   pub exit : status ≡ status_of e.end.is_fine
 
--- the lines up to the end of the session, and the reads that were interrupted between these counts of them, are no more
--- than there may be
+-- the lines up to the session's end, with the reads interrupted from one count to the other, are at most `max_lines`
 pub record IsWithin (start : Place) (lines : List (List ℕ)) (before after : ℕ) : Type 0 where
   pub first : List (List ℕ)
   pub behind : List (List ℕ)
@@ -178,7 +177,7 @@ IsWhy reader stores writes tells (Repo fault) = (fault ≡ Memory) ⊎ stores fa
 IsWhy reader stores writes tells (Output e) = writes e
 IsWhy reader stores writes tells (Errors e) = tells e
 
--- whether a read has failed, behind this end
+-- true if a read has failed, after a run that ended so
 abbrev pub failed_by : RunFault → Bool → Bool
 failed_by (Lines fault) before = reads.failed_by fault before
 failed_by (Repo fault) before = before

@@ -32,8 +32,8 @@ fault_text (Errors fault) = codes "smf: output failed"
 abbrev pub IsTold : (Error → Type 0) → Option (List ℕ) → Option (List ℕ) → List ℕ → Type 0
 IsTold fails old new text = Appends old new (text ++ 10 ∷ []) ⊎ ((e : Error) × fails e)
 
--- a fault ended the run, and was told behind what was said of lines: some of the lines were done, and their texts were
--- written
+-- a fault ended the run, and its message came after those about lines: some of the lines were done, and their texts
+-- were written
 pub record IsFaulted (reader : Error → Type 0) (stores : RepoFault → Type 0) (writes tells : Error → Type 0) (before after : Holdings) (input out_old out_new errors_old errors_new : Option (List ℕ)) : Type 0 where
   pub fault : RunFault
   pub ended : IsWhy reader stores writes tells fault

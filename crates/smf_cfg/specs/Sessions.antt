@@ -1,4 +1,4 @@
--- What a line does where something is selected.
+-- The outcome of a line in a session, by the selection.
 use Rattle.std.specs.Prelude.{◌≡◌, ◌⊎◌, ℕ, List, [], Bool, true, false, Result, Ok, Err}
 use Rattle.smf_model.specs.declared.command.Command.TheVariants as commands
 use Rattle.smf_model.specs.declared.command.Edit.{Edit}
@@ -18,7 +18,7 @@ use Rattle.smf_cfg.specs.declared.output.Output.{Output}
 use Rattle.smf_cfg.specs.declared.fault.SessionFault.{SessionFault}
 use Rattle.smf_cfg.specs.declared.fault.SessionFault.TheVariants.{Line, Refused, Repo}
 
--- what is held, and what is selected
+-- the holdings, and the selection
 pub record Place : Type 0 where
   pub held : Holdings
   pub selection : Selection
@@ -26,7 +26,7 @@ pub record Place : Type 0 where
 abbrev pub at : Holdings → Selection → Place
 at h s = record { held = h; selection = s }
 
--- what a line leaves, and what it gives
+-- the place that a line leaves, and its output or its fault
 pub record Done : Type 0 where
   pub left : Place
   pub given : Result Output SessionFault
@@ -47,7 +47,7 @@ undone p fault = record { left = p; given = Err fault }
 
 -- ---- edits
 
--- what is selected behind an edit is selected where it is accepted
+-- if the edit is accepted, `after` becomes the selection
 abbrev pub replied_by : Bool → Selection → Selection → Holdings → Reply → Done
 replied_by true before after h reply = undone (at h before) (Refused reply)
 replied_by false before after h reply = done (at h after) (said [])
@@ -61,7 +61,7 @@ edited p edit after = replied p.selection after (next p.held (commands.Edit edit
 
 -- ---- lines
 
--- what is done of what a line is judged to be
+-- the outcome of a line that is judged so
 unfoldable pub carried : Place → Result Judged CfgFault → Done
 carried p (Ok judgements.Nothing) = done p (said [])
 carried p (Ok (judgements.Select found)) = done (at p.held found) (said [])
@@ -70,13 +70,13 @@ carried p (Ok (judgements.Print text)) = done p (said text)
 carried p (Ok judgements.End) = done (at p.held selected.Nothing) ended
 carried p (Err fault) = undone p (Line fault)
 
--- what a line does, which stands without its end
+-- the outcome of a line, which stands without its end
 unfoldable pub ran : Place → List ℕ → Done
 ran p line = carried p (judged p.held p.selection line)
 
 -- ---- how calls do it
 
--- this is held and selected behind a line, and this it gave
+-- after a line, this is held and this is selected, and the line gave this
 pub record IsDone (d : Done) (h : Holdings) (s : Selection) (given : Result Output SessionFault) : Type 0 where
   pub left : d.left ≡ at h s
   pub gives : d.given ≡ given
@@ -89,14 +89,14 @@ IsUndone d h s (Repo fault) = Unit {0}
 
 -- ---- what becomes of the client
 
--- what follows an edit that ended so
+-- the client followed an edit that ended so
 abbrev pub HasFollowed : {C : Type 0} → (C → Edit → Result Reply RepoFault → C → Type 0) → C → Edit → C → Result Output SessionFault → Type 0
 HasFollowed follows before edit after (Ok output) = (reply : Reply) × follows before edit (Ok reply) after
 HasFollowed follows before edit after (Err (Refused reply)) = follows before edit (Ok reply) after
 HasFollowed follows before edit after (Err (Repo fault)) = follows before edit (Err fault) after
 HasFollowed follows before edit after (Err (Line fault)) = ⊥
 
--- an edit was given to the client where the line is judged to be one, and else nothing was done to it
+-- if the line is judged to be an edit, the client was given it; else nothing was done to the client
 abbrev pub IsGivenTo : {C : Type 0} → (C → Edit → Result Reply RepoFault → C → Type 0) → Result Judged CfgFault → C → C → Result Output SessionFault → Type 0
 IsGivenTo follows (Ok (judgements.Edit edit next)) before after given = HasFollowed follows before edit after given
 IsGivenTo follows (Ok judgements.Nothing) before after given = after ≡ before

@@ -9,10 +9,10 @@ use smf_svccfg::CfgFault;
 use std::alloc::AllocError;
 use std::io;
 
-/// Why a line failed. What is held and what is selected are as they were.
+/// Why a line failed. The line left the holdings and the selection as they were.
 #[derive(Drop)]
 pub enum SessionFault {
-    /// It is no line, or it is one that cannot be done where this is selected.
+    /// It is no line, or it is one that cannot be done with this selection.
     Line(CfgFault),
     /// The repository refused the edit.
     Refused(Reply),
@@ -25,9 +25,9 @@ pub enum SessionFault {
 pub enum RunFault {
     Lines(ReadFault),
     Repo(RepoFault),
-    /// What lines print could not be written.
+    /// The output of lines could not be written.
     Output(io::Error),
-    /// What is said of lines that failed could not be written.
+    /// The messages about lines that failed could not be written.
     Errors(io::Error),
 }
 

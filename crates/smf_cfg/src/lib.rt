@@ -1,5 +1,6 @@
 //! Lines of svccfg(1M), done over any client of the repository.
-//! Modules: `output` (what a line gives), `fault`, `session` (one line), `run` (lines of a reader), `serving` (how a run ends).
+//! Modules: `output` (what a line gives), `fault`, `session` (one line), `run` (lines of a reader), `outcomes` (how a
+//! run ends).
 #![tactic(auto)]
 
 mod fault;

@@ -1,6 +1,6 @@
 use smf_fmri::Text;
 
-/// What a line gave that did not fail.
+/// The output of a line that did not fail.
 #[derive(Drop)]
 pub struct Output {
     pub text: Text,

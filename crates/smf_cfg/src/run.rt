@@ -148,8 +148,8 @@ fn status_of(is_fine: bool) -> u8
     if is_fine { 0 } else { 1 }
 }
 
-/// Reads lines of svccfg up to their end, or to the end of the session, does each, and writes what it gives when it is
-/// done: what it prints, or why it failed.
+/// Reads lines of svccfg up to their end, or to the end of the session. After it has done a line, it writes the line's
+/// output, or why the line failed.
 pub fn run_cfg<R: LineReader, W: TextWriter, E: TextWriter, C: Client>(
     alloc: Global,
     reader: &mut R,
@@ -157,13 +157,13 @@ pub fn run_cfg<R: LineReader, W: TextWriter, E: TextWriter, C: Client>(
     errors: &mut E,
     client: &mut C,
 ) -> Result<u8, RunFault>
-    // Where the bytes are known: what is held, what is written and the status are those of all lines.
+    // If the bytes are known, the holdings, the written texts and the status are those of all lines.
     ensures ok { IfOk result (λ status. IfSome (R.remaining reader.old) (λ input.
         Ends (run (begun (C.held client.old)) (lines_of input)) (C.held client.new) (W.contents out.old) (W.contents out.new) (E.contents errors.old) (E.contents errors.new) status)) }
     ensures exit { IfOk result (λ status. status ≤ 1) }
     ensures few { IfOk result (λ status. IfSome (R.remaining reader.old) (λ input.
         IsWithin (begun (C.held client.old)) (lines_of input) (R.interrupted reader.old) (R.interrupted reader.new))) }
-    // Where they are known: some of the lines were done, and their texts were written.
+    // If they are known, some of the lines were done, and their texts were written.
     ensures err { IfErr result (λ fault. IfSome (R.remaining reader.old) (λ input.
         Stops fault (begun (C.held client.old)) (lines_of input) (C.held client.new) (W.contents out.old) (W.contents out.new) (E.contents errors.old) (E.contents errors.new))) }
     // Edits were given to the client, and nothing else was done to it.

@@ -16,7 +16,7 @@ use std::io;
 /// The status of a run that was ended by a fault.
 const FAULT: u8 = 3;
 
-/// What is told where lines could not be read.
+/// The message if lines could not be read.
 pub fn read_text(fault: &ReadFault) -> &'static str
     ensures { result.now ≡ read_text fault.now }
 {
@@ -67,8 +67,8 @@ pub fn tell<E: TextWriter>(errors: &mut E, text: &str) -> u8
     }
 }
 
-/// Does lines of svccfg, says why it ended where a fault ended it, and gives the status: 0, 1 where a line failed, or 3 for
-/// a fault.
+/// Does lines of svccfg, and says why if a fault ended the run. Gives the status: 0, 1 if a line failed, or 3 for a
+/// fault.
 pub fn serve_cfg<R: LineReader, W: TextWriter, E: TextWriter, C: Client>(
     alloc: Global,
     reader: &mut R,
@@ -76,7 +76,8 @@ pub fn serve_cfg<R: LineReader, W: TextWriter, E: TextWriter, C: Client>(
     errors: &mut E,
     client: &mut C,
 ) -> u8
-    // Where no fault ended it and the bytes are known: what is held, what is written and the status are those of all lines.
+    // If no fault ended it and the bytes are known, the holdings, the written texts and the status are those of all
+    // lines.
     ensures ok { result ≢ 3 → IfSome (R.remaining reader.old) (λ input.
         Ends (run (begun (C.held client.old)) (lines_of input)) (C.held client.new) (W.contents out.old) (W.contents out.new) (E.contents errors.old) (E.contents errors.new) result) }
     ensures fault { result ≡ 3 → IsFaulted R.read_fails C.edit_fails W.write_fails E.write_fails (C.held client.old) (C.held client.new)

@@ -74,7 +74,7 @@ fn apply<C: Client>(client: &mut C, edit: Edit) -> Result<Reply, RepoFault>
     client.apply(edit)
 }
 
-/// Gives an edit. What is selected behind it is selected where it is accepted.
+/// Gives an edit to the client. If the edit is accepted, `after` becomes the selection.
 #[tactic(auto, unfolding(crate::specs::Sessions::edited))]
 fn give<C: Client>(
     alloc: Global,
@@ -148,13 +148,13 @@ impl Session {
         client: &mut C,
         line: &str,
     ) -> Result<Output, SessionFault>
-        // What is held and selected behind the line, and what it gave.
+        // The holdings and the selection after the line, and its output.
         ensures ok { IfOk result (λ output. IsDone (ran (at (C.held client.old) self.old) line.now) (C.held client.new) self.new (Ok output)) }
         // A line that failed did so for its reason, unless it had no reply, and changed nothing.
         ensures err { IfErr result (λ e. IsUndone (ran (at (C.held client.old) self.old) line.now) (C.held client.new) self.new e) }
         ensures kept { OnErr result (C.held client.new ≡ C.held client.old) }
         ensures unselected { OnErr result (self.new ≡ self.old) }
-        // An edit went to the client where the line is judged to be one, and nothing else did.
+        // The client was given the edit that the line is judged to be, unless memory ran out, and nothing else.
         ensures given { IsGivenOr C.follows (judged (C.held client.old) self.old line.now) client.old client.new result }
         ensures edits { IsEditedAlone C.held C.follows client.old client.new }
         ensures fault { IfErr result (λ e. IsFault C.edit_fails e) }

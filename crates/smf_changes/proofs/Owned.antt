@@ -1,4 +1,4 @@
--- What is known of the owners of rows stays true of what changes make.
+-- Known facts of the owners of rows stay true after changes.
 use Rattle.std.proofs.Common.{◌≡◌, ℕ, ◌==◌, ◌&&◌, ◌||◌, not, Bool, true, false, if◌then◌else◌, List, [], ◌∷◌, ◌++◌, Option, Some, None, option_map, refl, sym, ap, ◌∙◌, subst}
 use Rattle.std.specs.Prelude.{IfSome, nat_eq}
 use Rattle.std.specs.Cmp.Lexicographic.{pointwise}

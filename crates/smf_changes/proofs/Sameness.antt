@@ -1,4 +1,4 @@
--- The test of two view items holds where they are equal, and nowhere else.
+-- The test of two view items holds if they are equal, and only then.
 use Rattle.std.proofs.Common.{◌≡◌, nat_eq, Bool, Option, Some, None, refl, ap}
 use Rattle.std.specs.Bool.{Decides}
 use Rattle.std.specs.Cmp.{booleans_Decides}
@@ -94,7 +94,7 @@ duration_is Child Contract = (λ e. absurd cc, λ e. absurd cc)
 duration_is Child Transient = (λ e. absurd cc, λ e. absurd cc)
 duration_is Child Child = (λ e. refl, λ e. refl)
 
--- where a row stands
+-- both rows have the same owner, number, state, next state and asks
 abbrev IsSameStanding : Row → Row → Type 0
 IsSameStanding a b = ((((a.owner ≡ b.owner) × (a.number ≡ b.number)) × (a.state ≡ b.state)) × (a.next ≡ b.next)) × (a.asks.0 ≡ b.asks.0)
 

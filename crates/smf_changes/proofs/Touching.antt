@@ -1,4 +1,4 @@
--- A view item stays as it is where no change names its instance, its service or its snapshot.
+-- A view item stays as it is if no change names its instance, its service or its snapshot.
 use Rattle.std.proofs.Common.{◌≡◌, inl, inr, ℕ, ◌==◌, ◌&&◌, not, Bool, true, false, cond, List, [], ◌∷◌, ◌++◌, Option, Some, None, IsSome, is_none, is_some, option_map, unwrap_or, refl, sym, ap, ◌∙◌, subst}
 use Rattle.std.specs.Prelude.{filter, flat_map}
 use Rattle.std.specs.List.{AllByRecursion}
@@ -154,8 +154,8 @@ either : (b : Bool) (a o : Option Service) (g : Option GroupRecord) → general_
 either true a o g e f = e
 either false a o g e f = f
 
--- after the groups of a service are others, the group `general` that an instance sees stays: the service is another one,
--- or neither has the group
+-- an instance still sees the same group `general` after a service has other groups. The service is another one, or has
+-- no such group before and after
 put_shown : (h x : Holdings) (n : ℕ) (e : InstanceEntry) (name : List ℕ) (gs : List GroupRecord) (a : Option Service) → Rises by_instance (instances h) → entry h n ≡ Some e
     → Misses (of_general (lacks_general h name gs) h name) n → (group_in gs general ≡ None → general_in a ≡ None)
     → general_in (service x (service_fmri e.instance.name)) ≡ shown_of h (service_fmri e.instance.name)
@@ -415,7 +415,7 @@ touched_rises : (h k : Holdings) → Rises by_instance (instances k) → Rises b
 unfolding touched
 touched_rises h k rises = rises_filter by_itself (has_changed h k) (put_all by_itself (numbers h) (numbers k)) (rises_put_all by_itself (numbers h) (numbers k) (numbers_rise k rises))
 
--- where all else stays, what is touched is found among these numbers
+-- if all other items stay, the touched numbers are found among these
 among : (ns : List ℕ) (h k : Holdings) → Rises by_instance (instances k) → ((n : ℕ) → Misses ns n → item h n ≡ item k n) → touched h k ≡ touched_among ns h k
 unfolding touched_among
 among ns h k rises stays =

@@ -54,7 +54,7 @@ abbrev pub is_number : ℕ → Option ℕ → Bool
 is_number n None = false
 is_number n (Some m) = m == n
 
--- an instance waits for a snapshot where its row names one that is not there
+-- an instance waits for a snapshot if its row names one that is not there
 abbrev pub waits_for : Holdings → ℕ → Instance → Bool
 waits_for h n i = is_number n i.row.running && is_none (snapshot h n)
 

@@ -11,7 +11,7 @@ use Rattle.smf_model.specs.Look.{groups_of}
 use Rattle.smf_model.specs.Setting.{current}
 use Rattle.smf_changes.specs.declared.owning.Owners.{Owners}
 
--- whether a name is among names
+-- a name is among names
 abbrev pub is_among : List (List ℕ) → List ℕ → Bool
 is_among names owner = list_any (λ name. pointwise nat_eq name owner) names
 
@@ -35,7 +35,7 @@ are_numbered es = list_all (λ e. has_number e.instance.row) es
 abbrev pub AreNumbered : List InstanceEntry → Type 0
 AreNumbered es = AllByRecursion (λ e. has_number e.instance.row ≡ true) es
 
--- what is known of the rows of entries holds
+-- the known facts of the rows of entries hold
 pub record AreTold (o : Owners) (es : List InstanceEntry) : Type 0 where
   pub owned : AreOwned o.names es
   pub numbered : o.all_numbered ≡ true → AreNumbered es
@@ -63,7 +63,7 @@ abbrev pub with_owners_put : List (List ℕ) → List Change → List (List ℕ)
 with_owners_put names [] = names
 with_owners_put names (c ∷ cs) = with_owners_put (with_owner_put names (put_row c)) cs
 
--- whether all rows were numbered, and a change puts none with the number 0
+-- all rows were numbered, and a change puts none with the number 0
 abbrev pub puts_numbered : Bool → Option Row → Bool
 puts_numbered all None = all
 puts_numbered all (Some row) = all && has_number row

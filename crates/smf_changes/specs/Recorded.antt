@@ -13,7 +13,7 @@ use Rattle.smf_changes.specs.Candidates.{candidates}
 use Rattle.smf_changes.specs.Changes.{as_it_is, by_itself, item, most_recent, touched}
 use Rattle.smf_changes.specs.Same.{same_item}
 
--- what is held, the journal in which it stands, and the numbers that each of the newest commits touched, newest first
+-- the holdings, their journal, and the numbers that each of the newest commits touched, newest first
 pub record Recorded (J : Type 0) : Type 0 where
   pub held : Holdings
   pub journal : J

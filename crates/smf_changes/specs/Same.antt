@@ -1,4 +1,4 @@
--- A test of two view items: it holds where every field is the same.
+-- A test of two view items: it holds if every field is the same.
 use Rattle.std.specs.Prelude.{◌==◌, ◌&&◌, ℕ, List, nat_eq, Bool, true, false}
 use Rattle.std.specs.Bool.{beq}
 use Rattle.std.specs.Option.{option_eq}
@@ -27,7 +27,7 @@ same_duration Transient Transient = true
 same_duration Child Child = true
 same_duration _ _ = false
 
--- where a row stands, and what is under way
+-- both rows have the same owner, number, state, next state and asks
 abbrev pub same_standing : Row → Row → Bool
 same_standing a b =
     same_text a.owner b.owner

@@ -155,7 +155,7 @@ fn has_general(groups: &Ordered<Group>) -> bool
     }
 }
 
-/// Whether a service has a group `general`.
+/// True if the service has a group `general`.
 #[tactic(auto, unfolding(smf_model::specs::Shown::shown_groups))]
 fn shows_general<J: Journal>(plain: &Plain<J>, service: &ServiceFmri) -> Result<bool, AllocError>
     ensures { IfOk result (λ b. b ≡ has_general (groups_of plain.now.held (Owner.Service service.now))) }

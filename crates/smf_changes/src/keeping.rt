@@ -17,7 +17,7 @@ use smf_model::{Change, Journal, Plain};
 use smf_state::{ChangedItem, HeldView};
 use std::alloc::{AllocError, Global};
 
-/// How many of the newest lists are kept.
+/// The record keeps this many of the newest lists.
 const MOST_RECENT: usize = 256;
 
 /// The record of the newest changes.
@@ -52,7 +52,7 @@ fn patch_shown<J: Journal>(
     view.patch(alloc, plain.revision().get(), items.as_slice())
 }
 
-/// Puts a list before the others, and lets the oldest go if they are too many. There is room for it.
+/// Puts a list before the others, and drops the oldest if they are too many. There is room for it.
 fn put_newest(recent: &mut Vec<Items<u64>>, newest: Items<u64>)
     requires { vec_len recent.old < vec_capacity recent.old }
     ensures { recent.new.items ≡ take most_recent (newest ∷ recent.old.items) }
@@ -112,8 +112,8 @@ impl Kept {
         Ok(())
     }
 
-    /// The items of all that changes may touch, before they are made, once the owners that they put are noted. The newest
-    /// list is worked out first.
+    /// The items of all that changes may touch, before they are made. Notes the owners that they put, after it has worked
+    /// out the newest list.
     pub(crate) fn prepare<J: Journal>(
         &mut self,
         alloc: Global,

@@ -1,9 +1,9 @@
-//! Numbered changes of the repository, above the definitions of `smf_model`: which view items changes touch, and how a view
-//! is brought up to date by them.
-//! Modules: `changes` (the laws: each is a function whose contract is the law), `repository` (the repository with the
-//! record of its newest changes), `keeping` (that record), `candidates` (the instances that changes may touch), `lists`
-//! (numbers and their items), `owning` (the owners of all rows, as far as they are known), `running` (the greatest snapshot
-//! that a row names as `running`), `same` (whether two items are the same).
+//! Numbered changes of the repository, above the definitions of `smf_model`. The crate finds the view items that
+//! changes touch, and brings a view up to date.
+//! Modules: `changes` (the laws: each is a function whose contract is the law); `repository` (the repository with the
+//! record of its newest changes); `change_record` (that record); `candidates` (the instances that changes may touch);
+//! `lists` (numbers and their items); `row_owners` (the owners of all rows, as far as they are known);
+//! `snapshot_bounds` (the greatest snapshot that a row names as `running`); `same` (the test of two items).
 #![tactic(auto)]
 
 mod candidates;

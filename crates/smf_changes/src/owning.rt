@@ -19,7 +19,7 @@ pub(crate) struct Owners {
     pub(crate) all_numbered: bool,
 }
 
-/// Whether a name is among names.
+/// True if the name is among the names.
 fn is_among(names: &[InstanceFmri], owner: &InstanceFmri) -> bool
     ensures { result ≡ is_among names.now owner.now }
 {
@@ -98,7 +98,7 @@ fn puts_numbered(all_numbered: bool, change: &Change) -> bool
     }
 }
 
-/// Whether all rows were numbered, and changes put no row with the number 0.
+/// True if all rows were numbered and the changes put no row with the number 0.
 fn puts_numbered_all(all_numbered: bool, changes: &[Change]) -> bool
     ensures { result ≡ puts_numbered_all all_numbered changes.now }
 {
@@ -109,14 +109,14 @@ fn puts_numbered_all(all_numbered: bool, changes: &[Change]) -> bool
     all
 }
 
-/// Whether no entry's row has the number 0.
+/// True if no entry's row has the number 0.
 fn are_numbered(entries: &[InstanceEntry]) -> bool
     ensures { result ≡ are_numbered entries.now }
 {
     entries.iter().all(|entry| entry.instance.row.number != 0)
 }
 
-/// Whether no entry's row has the number 0. The entries are looked at only if this is not known.
+/// True if no entry's row has the number 0. If this is known already, the function does not look at the entries.
 fn find_numbered(is_known: bool, entries: &[InstanceEntry]) -> bool
     ensures { result ≡ (is_known || are_numbered entries.now) }
 {

@@ -81,8 +81,8 @@ impl<J: Journal> Repository<J> {
         commit(self.alloc, &mut self.plain, &mut self.kept, changes)
     }
 
-    /// The revision of today, and the items of today of all that was touched since another revision; none if not all
-    /// lists since it are kept.
+    /// The revision of today, and today's items of all that commits touched since another revision. None, if the record
+    /// does not keep all lists since then.
     pub fn changes_since(&self, from: u64) -> Result<Option<(u64, Items<ChangedItem>)>, AllocError>
         ensures { IfOk result (λ c. c ≡ changes_since self.now.recent self.now.held from) }
     {
@@ -103,8 +103,8 @@ impl<J: Journal> Repository<J> {
         self.kept.up_to_date()
     }
 
-    /// The owners of all instances, and maybe others, if they are known and each row has a number. There may be none between
-    /// a commit and the next call that keeps the view, so it is a hint alone.
+    /// The owners of all instances, and maybe others, if they are known and each row has a number. There may be none
+    /// between a commit and the next call that keeps the view, so it is a hint alone.
     pub fn owners(&self) -> Option<&[InstanceFmri]>
         ensures { IfSome (option_copied result) (λ names. HasOwnersAmong names self.now.held) }
     {

@@ -1,4 +1,4 @@
--- What each call keeps of a contract table.
+-- The facts that each call keeps of a contract table.
 use Rattle.std.proofs.Common.{IfOk, ◌≡◌, ℕ, zero, suc, ◌+◌, ◌==◌, Bool, true, false, cond, List, [], ◌∷◌, ◌++◌, Option, Some, None, IfSome, Ok, Err, filter, map, length, nat_lt, position, slice_set, arith, refl, ap, subst}
 use Rattle.std.specs.Option.{option_map_or}
 use Rattle.std.specs.List.{slice_get}
@@ -29,7 +29,7 @@ use Rattle.smf_contract.proofs.Ordered
 abbrev act : List Member → List Event → Activity
 act ms es = record { members = ms; events = es }
 
--- a fact that is kept where members go and where events come
+-- a fact that lasts when members go and when events come
 pub record Lasts (P : Activity → Type 0) : Type 0 where
   pub filtered : (p : Member → Bool) (ms : List Member) (es : List Event) → P (act ms es) → P (act (filter p ms) es)
   pub noted : (id : ℕ) (kind : EventKind) (left : Bool) (ms : List Member) (es : List Event) → P (act ms es) → P (act ms (Calls.noted es id kind left))
@@ -52,7 +52,7 @@ shrinks_ok : (P : Activity → Type 0) (b : Bool) (e : ContractFault) (t u : Con
 shrinks_ok P true e t u h = h
 shrinks_ok P false e t u h = shrinks_same P t
 
--- activity that only lets members go
+-- activity that only loses members
 abbrev Quits : (Activity → Type 0) → Activity → Activity → Type 0
 Quits P a b = P a → P b
 
@@ -176,7 +176,7 @@ lasts_homed ns = record { filtered = λ p ms es h. Ordered.homed_filter p ns ms 
 lasts_numbered : Lasts (λ a. (id : ℕ) → numbers_of id a.events ≡ counted (last_event id a.events))
 lasts_numbered = record { filtered = λ p ms es h. h; noted = λ at kind left ms es h. Numbered.noted_numbered es at kind left h }
 
--- what is kept where members only go
+-- the facts that last when members only go
 pub record Keeps (old new : Contracts) : Type 0 where
   pub ordered : IsOrdered old → IsOrdered new
   pub never_falls : NeverFalls old new
@@ -255,7 +255,7 @@ asked_keeps t (calls.Gone actor) = keeps_by t _ (λ P lasts. gone_shrinks P last
 asked_keeps t (calls.Adopt actor id) = keeps_by t _ (λ P lasts. adopt_shrinks P t actor id (contract t id))
 asked_keeps t (calls.Kill actor id) = keeps_by t _ (λ P lasts. kill_shrinks P lasts t id (Calls.held t actor id))
 
--- what every call keeps
+-- every call keeps these facts
 pub call_keeps : (t : Contracts) (call : Call) → Keeps t (done t call)
 unfolding Calls.abandoned Calls.acknowledged
 call_keeps t (Asked call) = asked_keeps t call

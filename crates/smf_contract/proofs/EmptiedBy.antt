@@ -1,4 +1,4 @@
--- Which contracts a call empties, as the code finds them.
+-- The contracts that a call empties, as the code finds them.
 use Rattle.std.proofs.Common.{◌≡◌, ℕ, ◌==◌, ◌&&◌, ◌||◌, not, Bool, true, false, cond, List, [], ◌∷◌, ◌++◌, Option, Some, None, IfSome, Ok, Err, filter, map, position, refl, sym, ◌∙◌, ap, subst, eq-eqb}
 use Rattle.std.specs.List.{list_any}
 use Rattle.std.specs.Option.{is_some}
@@ -93,7 +93,7 @@ same_way false true h k = k refl
 turned : (i j : ℕ) → (i == j) ≡ (j == i)
 turned i j = same_way (i == j) (j == i) (λ e. eq-eqb j i (sym (eqb-true i j e))) (λ e. eq-eqb i j (sym (eqb-true j i e)))
 
--- the members of a contract, where those of another are taken out
+-- the members of a contract, after those of another are taken out
 outside_more : (a b e h : Bool) (j : ℕ) (m : Member) (ms : List Member) → is_in j m ≡ b → has_members j ms ≡ (h && not e) → (a ≡ true → b ≡ true → e ≡ true) → (e ≡ true → b ≡ true → a ≡ true) → has_members j (cond (not a) (m ∷ ms) ms) ≡ ((b || h) && not e)
 outside_more true true e h j m ms i k there back = let is : e ≡ true = there refl refl in let one : has_members j ms ≡ (h && false) = subst (λ x. has_members j ms ≡ (h && not x)) is k in one ∙ and_false h ∙ sym (ap not is)
 outside_more true false e h j m ms i k there back = k
@@ -108,7 +108,7 @@ has_outside id j (m ∷ ms) =
     (λ a b. eq-eqb j id (sym (eqb-true m.contract j b) ∙ eqb-true m.contract id a))
     (λ e b. eq-eqb m.contract id (eqb-true m.contract j b ∙ eqb-true j id e))
 
--- and where a process is taken out
+-- and after a process is taken out
 or_left : (b h a w : Bool) → h ≡ (a || w) → (b || h) ≡ ((b || a) || w)
 or_left true h a w k = refl
 or_left false h a w k = k
@@ -135,7 +135,7 @@ unfolding is_other
 others id p [] = refl
 others id p (m ∷ ms) = other_more (is_process p m) id m (without p ms) (list_any (is_other id p) ms) (others id p ms)
 
--- what empties nothing
+-- the calls that empty nothing
 none_between : (ms ns : List Member) → ((j : ℕ) → has_members j ms ≡ true → has_members j ns ≡ true) → (cs : List Contract) → ids_of (filter (is_emptied ms ns) cs) ≡ []
 none_between ms ns h cs = no_ids (is_emptied ms ns) (λ c. kept (has_members c.id ms) (has_members c.id ns) (h c.id)) cs
 

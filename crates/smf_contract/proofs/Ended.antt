@@ -1,4 +1,4 @@
--- One more contract of those that an actor leaves behind.
+-- One more contract of those that an actor leaves at its end.
 use Rattle.std.proofs.Common.{◌≡◌, ℕ, suc, ◌+◌, ◌<◌, List, ◌∷◌, length, get_or, drop, sym, ◌∙◌, ap, add-one, drop-cons}
 use Rattle.smf_contract.specs.declared.contract.Contract.{Contract}
 use Rattle.smf_contract.specs.Entries.{Activity}

@@ -1,4 +1,4 @@
--- Contracts whose ids rise are found by halves where a walk through all of them finds them.
+-- A search by halves finds the same contract as a walk through all of them, if their ids rise.
 use Rattle.std.proofs.Common.{◌≡◌, ℕ, zero, suc, ◌+◌, ◌<◌, ◌==◌, Bool, true, false, cond, not, List, [], ◌∷◌, ◌++◌, Option, Some, None, length, map, get_or, arith, refl, sym, ◌∙◌, ap, subst, eq-eqb}
 use Rattle.std.specs.Prelude.{nat_lt, position, slice_set}
 use Rattle.std.specs.Cmp.{nat_cmp_is}

@@ -1,4 +1,4 @@
--- Which contracts are among those that a call empties.
+-- A test for the contracts that a call empties.
 use Rattle.std.proofs.Common.{◌≡◌, ℕ, ◌==◌, ◌&&◌, ◌||◌, not, Bool, true, false, cond, List, [], ◌∷◌, filter, refl, sym, ap}
 use Rattle.std.proofs.lemmas.Bool.{eqb-true}
 use Rattle.smf_contract.specs.declared.call.ContractCall.{ContractCall}

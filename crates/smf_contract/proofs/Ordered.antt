@@ -78,7 +78,7 @@ none_filter p id (m ∷ ms) h =
 pub none_more : (id : ℕ) (ms : List Member) (m : Member) → has_members id ms ≡ false → is_in id m ≡ false → has_members id (ms ++ m ∷ []) ≡ false
 none_more id ms m h k = rw (list_any-append (is_in id) ms (m ∷ []), h, k) refl
 
--- a number is given only where it is the next
+-- a number is given only if it is the next
 next_by : (b : Bool) (n : ℕ) → IfSome (cond b (Some (n + 1)) None) (λ m. m ≡ n + 1)
 next_by true n = refl
 next_by false n = tt

@@ -123,7 +123,7 @@ back_at id es before at m n e tied h is fixed here there =
     let next : n ≡ until id (take m es) = there ∙ tied.tied m e h ∙ ap (λ c. until c (take m es)) of_it in
     subst (λ (x : Event). IsBack id es m x n) (sym here) (subst (λ (k : ℕ). IsBack id es m (get_or es m e) k) (sym next) known)
 
--- where a walk from a contract's last event begins
+-- the place at which a walk from a contract's last event begins
 pub record IsBegun (id : ℕ) (es : List Event) (at : ℕ) : Type 0 where
   pub within : at ≤ length es
   pub fixed : at ≡ until id (take at es)

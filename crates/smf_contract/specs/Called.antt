@@ -1,4 +1,4 @@
--- What a call makes of a contract table, and which contracts it empties.
+-- The table after a call, and the contracts that the call empties.
 use Rattle.std.specs.Prelude.{ℕ, List, Bool, ◌&&◌, not, Result, Ok, Err, filter, map}
 use Rattle.smf_contract.specs.declared.call.ContractCall.{ContractCall}
 use Rattle.smf_contract.specs.declared.call.ContractCall.TheVariants as calls

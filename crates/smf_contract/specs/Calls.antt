@@ -1,4 +1,4 @@
--- What each call makes of a contract table.
+-- The effect of each call on a contract table.
 use Rattle.std.specs.Prelude.{◌≡◌, ℕ, ◌+◌, List, [], ◌∷◌, ◌++◌, Bool, true, false, ◌==◌, ◌&&◌, not, nat_lt, length, if◌then◌else◌, Option, Some, None, Result, Ok, Err, map, position, slice_get, slice_set}
 use Rattle.std.specs.Int.RustNames.{bit_and}
 use Rattle.std.specs.Option.{option_map_or}
@@ -47,7 +47,7 @@ abbrev pub exits : List Event → ℕ → List ℕ → List Event
 exits es id [] = es
 exits es id (p ∷ ps) = exits (noted es id (kinds.Exit p Killed) (nat_lt 0 (length ps))) id ps
 
--- empty follows where no member is left
+-- empty follows if no member is left
 abbrev pub emptied : Bool → List Event → ℕ → List Event
 emptied true es id = es
 emptied false es id = noted es id Empty false
@@ -60,7 +60,7 @@ emptied_by_force id a =
       events = noted (exits a.events id (processes id a.members)) id Empty false;
     }
 
--- the same, where it has a member; an empty contract stays as it is
+-- the same, if it has a member; an empty contract stays as it is
 abbrev pub ended : ℕ → Activity → Activity
 ended id a = if has_members id a.members then emptied_by_force id a else a
 
@@ -119,7 +119,7 @@ forked_in t (Some id) (Some child) =
 unfoldable pub forked : Contracts → ℕ → Result (Contracts × ℕ) ContractFault
 forked t process = forked_in t (home t.members process) (next_number t.last_process)
 
--- a process exits, and empty follows where it was the last member
+-- a process exits, and empty follows if it was the last member
 abbrev pub one_exit : ℕ → ℕ → ends.Exit → Activity → Activity
 one_exit id process exit a =
     let left : Bool = has_members id (without process a.members) in
@@ -172,7 +172,7 @@ failed_in t process failure None = Err NoSuchProcess
 failed_in t process failure (Some id) =
     Ok (with_activity t (exits_by_failure (is_fatal failure (contract t id)) id process (with_failure id process failure (activity t))))
 
--- a failure ends a member, and the others too where it is fatal
+-- a failure ends a member, and the others too if it is fatal
 unfoldable pub failed : Failure → Contracts → ℕ → Result Contracts ContractFault
 failed failure t process = failed_in t process failure (home t.members process)
 
@@ -206,7 +206,7 @@ changed t id change = record t { contracts = changed_at t.contracts change (posi
 abbrev pub with_holder : Contracts → ℕ → Holder → Contracts
 with_holder t id holder = changed t id (λ c. record c { holder = holder })
 
--- whom a contract has where an actor is gone
+-- a contract with the holder that it has after an actor is gone
 abbrev pub given_up : ℕ → Contract → Contract
 given_up actor c = if is_held_by actor c.holder then record c { holder = (if c.terms.inherit then Inherited else Abandoned) } else c
 
@@ -238,7 +238,7 @@ abbrev pub held_by : ℕ → Option Contract → Option Contract
 held_by actor None = None
 held_by actor (Some c) = if is_held_by actor c.holder then Some c else None
 
--- the contract of an id, where an actor holds it
+-- the contract of an id, if an actor holds it
 abbrev pub held : Contracts → ℕ → ℕ → Option Contract
 held t actor id = held_by actor (contract t id)
 

@@ -16,7 +16,8 @@ homes p ms = map (λ m. m.contract) (filter (is_process p) ms)
 unfoldable pub is_other : ℕ → ℕ → Member → Bool
 is_other id p m = not (is_process p m) && is_in id m
 
--- where a process of these homes exits, and all others of a contract where it takes them along
+-- the exit of a process with these homes empties the contract: it takes all members of this id along, or was the last
+-- one
 unfoldable pub is_ended_by : Bool → ℕ → ℕ → List ℕ → List Member → Contract → Bool
 is_ended_by takes_all id p ns ms c =
     takes_all && c.id == id || is_among c.id ns && not (has_members c.id (without p ms))
@@ -44,7 +45,7 @@ ids_killed t id is_held = if is_held then killed_ids t.contracts t.members id el
 abbrev pub ending_ids : ℕ → List Contract → List ℕ
 ending_ids actor cs = ids_by (ends_with actor) cs
 
--- of these contracts, one that has members
+-- one of these contracts that has members
 unfoldable pub is_ending : List ℕ → List Member → Contract → Bool
 is_ending ns ms c = is_among c.id ns && has_members c.id ms
 

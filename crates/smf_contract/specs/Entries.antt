@@ -1,4 +1,4 @@
--- What a contract table holds, and how it is looked up.
+-- The entries of a contract table, and how they are looked up.
 use Rattle.std.specs.Prelude.{ℕ, ◌+◌, ◌*◌, List, [], Bool, ◌==◌, ◌&&◌, not, nat_lt, nat_le, Option, Some, None, option_map, filter, map, position, slice_get, count_by}
 use Rattle.std.specs.List.{list_any}
 use Rattle.smf_contract.specs.declared.contract.Contract.{Contract}
@@ -7,8 +7,8 @@ use Rattle.smf_contract.specs.declared.contract.Report.{Report}
 use Rattle.smf_contract.specs.declared.contract.Status.{Status}
 use Rattle.smf_contract.specs.declared.event.Event.{Event}
 
--- contracts in the order of their ids, members in the order of their numbers, and the events of all contracts in the
--- order in which they happened; the last id and the last process number that were given
+-- contracts by id, members by number, all events in the order of time; the last id and the last process number that
+-- were given
 pub record Contracts : Type 0 where
   pub contracts : List Contract
   pub members : List Member
@@ -113,7 +113,7 @@ abbrev pub acknowledged_at : Option Contract → ℕ
 acknowledged_at None = 0
 acknowledged_at (Some c) = c.acknowledged
 
--- of a contract, of a number or later, and not acknowledged
+-- an event of the contract, of this number or later, and not acknowledged
 unfoldable pub is_given : ℕ → ℕ → ℕ → Event → Bool
 is_given id number acknowledged e = is_event_of id e && nat_le number e.number && nat_lt acknowledged e.number
 

@@ -1,4 +1,4 @@
--- What an event says.
+-- The process of an event, and the set of its kind.
 use Rattle.std.specs.Prelude.{ℕ, Option, Some, None}
 use Rattle.smf_contract.specs.declared.event.EventKind.{EventKind}
 use Rattle.smf_contract.specs.declared.event.EventKind.TheVariants.{Empty, Fork, Exit, Core, Signal, Hwerr}

@@ -1,4 +1,4 @@
--- What holds of a contract table after any call.
+-- The laws that hold of a contract table after any call.
 use Rattle.std.specs.Prelude.{◌≡◌, ℕ, ◌<◌, ◌≤◌, ◌==◌, ◌&&◌, not, zero, suc, List, [], ◌∷◌, ◌++◌, Bool, true, false, map, filter}
 use Rattle.std.specs.List.{list_any}
 use Rattle.smf_contract.specs.declared.contract.Member.{Member}
@@ -55,8 +55,8 @@ counted (suc n) = counted n ++ suc n ∷ []
 abbrev pub numbers_of : ℕ → List Event → List ℕ
 numbers_of id es = map (λ e. e.number) (filter (is_event_of id) es)
 
--- ids and process numbers begin at 1, stand in order, no two are equal, and none is above the last one given;
--- each member is in a contract of the table, and each contract numbers its events from 1
+-- ids and process numbers begin at 1, stand in order, no two are equal, and none is above the last one given. Each
+-- member is in a contract of the table, and each contract numbers its events from 1
 pub record IsOrdered (t : Contracts) : Type 0 where
   pub contracts_ascend : Ascends 0 (ids t) t.last_contract
   pub members_ascend : Ascends 0 (map (λ m. m.process) t.members) t.last_process

@@ -2,8 +2,8 @@
 use Rattle.std.specs.Prelude.{ℕ, ◌≤◌, Bool}
 use Rattle.smf_contract.specs.declared.terms.EventSet.{EventSet}
 
--- the kinds that are told, those that have to be acknowledged, the failures that end all members,
--- whether the contract waits to be adopted, and whether its members end where it is abandoned
+-- the kinds that are told, those that have to be acknowledged, and the failures that end all members. With `inherit`
+-- the contract waits to be adopted; with `noorphan` its members end if it is abandoned
 pub record StatedTerms : Type 0 where
   pub informative : EventSet
   pub critical : EventSet

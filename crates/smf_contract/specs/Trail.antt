@@ -51,7 +51,7 @@ pub record AreTied (es : List Event) (before : List ℕ) : Type 0 where
   pub tied : (k : ℕ) (d : Event) → k < length es → get_or before k 0 ≡ until (get_or es k d).contract (take k es)
   pub numbered : AreNumbered es
 
--- the last number of each contract is kept, and where its last event stands
+-- the last number of each contract, and the place of its last event, are kept
 pub record AreTraced (es : List Event) (before : List ℕ) (lasts : List Last) : Type 0 where
   pub rises : Rises by_contract lasts
   pub events : AreTied es before

@@ -39,7 +39,7 @@ fn compare(contract: &Contract, id: u64) -> Ordering
     contract.id.get().cmp(&id)
 }
 
-/// Where the contract of an id stands, or else where it would.
+/// The place of the contract of an id, or else the place that it would have.
 fn search(contracts: &[Contract], id: u64) -> Result<usize, usize>
     requires { Rises by_id contracts.now }
     ensures { IsPlaced by_id id contracts.now result }
@@ -151,7 +151,7 @@ impl Book {
         }
     }
 
-    /// Gives up what an actor holds.
+    /// Gives up the contracts that an actor holds.
     pub(crate) fn give_up(&mut self, actor: u64)
         ensures contracts { self.new.contracts ≡ map (given_up actor) self.old.contracts }
         ensures last { self.new.last ≡ self.old.last }

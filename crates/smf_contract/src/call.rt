@@ -2,8 +2,7 @@ use crate::event::{Exit, Failure};
 use crate::terms::Terms;
 use smf_fmri::Number;
 
-/// What is asked of a table that has room for it, or nothing. What the table refuses leaves it as
-/// it was.
+/// A call on a table that has room for it, or nothing. A call that the table refuses leaves the table as it was.
 #[derive(Clone, Copy, PartialEq, Eq)]
 pub enum ContractCall {
     Nothing,

@@ -11,7 +11,7 @@ use crate::past::Past;
 use smf_fmri::Number;
 use std::alloc::AllocError;
 
-/// Makes room for any call. Where memory runs out, room was missing.
+/// Makes room for any call. If memory runs out, room was missing.
 pub(crate) fn make_room(
     book: &mut Book,
     members: &mut Vec<Member>,
@@ -125,7 +125,7 @@ pub(crate) fn exit_all(
     empty_by_force(members, events, contract);
 }
 
-/// Whether the members of a contract end where an actor is gone.
+/// True if the members of a contract end when an actor is gone.
 pub(crate) fn ends_with(contract: &Contract, actor: u64) -> bool
     ensures { result ≡ ends_with actor contract.now }
 {
@@ -144,7 +144,7 @@ pub(crate) fn end_members(members: &mut Vec<Member>, events: &mut Past, contract
     }
 }
 
-/// Ends the members of a contract that end where an actor is gone.
+/// Ends the members of a contract, if they end when an actor is gone.
 pub(crate) fn end_one_with(
     contract: &Contract,
     members: &mut Vec<Member>,
@@ -161,7 +161,7 @@ pub(crate) fn end_one_with(
     }
 }
 
-/// Ends what ends where an actor is gone.
+/// Ends all members that end when an actor is gone.
 pub(crate) fn end_with(
     contracts: &[Contract],
     members: &mut Vec<Member>,
@@ -176,7 +176,7 @@ pub(crate) fn end_with(
     }
 }
 
-/// A contract as it is where an actor is gone.
+/// The contract as it is after an actor is gone.
 pub(crate) fn given_up(contract: Contract, actor: u64) -> Contract
     ensures { result ≡ given_up actor contract }
 {
@@ -191,7 +191,7 @@ pub(crate) fn given_up(contract: Contract, actor: u64) -> Contract
     Contract { holder, ..contract }
 }
 
-/// Gives up what an actor holds.
+/// Gives up the contracts that an actor holds.
 pub(crate) fn give_up(contracts: &mut [Contract], actor: u64)
     ensures { contracts.new ≡ map (given_up actor) contracts.old }
 {

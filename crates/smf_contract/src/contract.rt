@@ -13,18 +13,18 @@ pub enum Holder {
     Abandoned,
 }
 
-/// What the table keeps of a contract, its members and events aside.
+/// A contract as the table keeps it, its members and events aside.
 #[derive(Clone, Copy, PartialEq, Eq)]
 pub struct Contract {
     /// From 1, and never used again.
     pub id: Number,
-    /// What its maker wrote there, as `Cookie::pack` gives it.
+    /// The bits that its maker wrote there, as `Cookie::pack` gives them.
     pub cookie: u64,
     pub holder: Holder,
     pub terms: Terms,
     /// Its first process, which its maker began.
     pub first: Number,
-    /// The number of the last event that was acknowledged; 0 where none was.
+    /// The number of the last event that was acknowledged; 0 if there is none.
     pub acknowledged: Number,
 }
 

@@ -9,7 +9,7 @@ const MAX_INSTANCE: u64 = 16_777_215;
 /// The greatest run that a cookie holds, 2^38 - 1.
 const MAX_RUN: u64 = 274_877_906_943;
 
-/// What a start, stop or refresh method is.
+/// The kind of a method: start, stop or refresh.
 #[derive(Clone, Copy, PartialEq, Eq)]
 pub enum Method {
     Start,
@@ -17,8 +17,8 @@ pub enum Method {
     Refresh,
 }
 
-/// What a restarter writes into the cookie of a contract, so as to know it again:
-/// which run of which instance it is, and of which method.
+/// A restarter writes this into the cookie of a contract, so as to know it again: the instance, its run, and the
+/// method.
 #[derive(Clone, Copy, PartialEq, Eq)]
 pub struct Cookie {
     pub instance: u64,
@@ -51,7 +51,7 @@ impl Cookie {
         Ok((self.instance << 40) + (self.run << 2) + method)
     }
 
-    /// What stands in a cookie's 64 bits, if their last two name a method.
+    /// Reads a cookie from its 64 bits. There is none if the last two bits name no method.
     pub fn unpack(bits: u64) -> Option<Cookie>
         ensures exact { result ≡ unpacked bits }
         ensures back { IfSome result (λ cookie. packed cookie ≡ Ok bits) }

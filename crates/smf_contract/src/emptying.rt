@@ -1,4 +1,4 @@
-// Which contracts a call would empty.
+// The contracts that a call would empty.
 ghost use Rattle.std.specs.Prelude.{◌≡◌, IfOk};
 ghost use Rattle.std.specs.List.{list_any};
 ghost use Rattle.smf_contract.specs.Called.{ids_by};
@@ -44,7 +44,7 @@ fn any_other(members: &[Member], contract: Number, process: Number) -> bool
     members.iter().any(|m| is_other(contract, process, m))
 }
 
-/// Whether a contract has a member besides a process.
+/// True if a contract has a member besides a process.
 #[tactic(auto, using(crate::proofs::EmptiedBy::others))]
 fn has_others(members: &[Member], contract: Number, process: Number) -> bool
     ensures { result ≡ has_members contract (without process members.now) }
@@ -67,8 +67,8 @@ fn is_ended_by(
         || is_among(contract.id, homes) && !has_others(members, contract.id, process)
 }
 
-/// The contracts that an exit of a process empties, where it takes all others of a contract along
-/// or not.
+/// The contracts that the exit of a process empties. With `takes_all` it takes all other members of contract `id`
+/// along.
 pub(crate) fn ended_ids(
     alloc: Global,
     contracts: &[Contract],
@@ -143,7 +143,7 @@ fn ids_at(alloc: Global, contracts: &[Contract], id: Number) -> Result<Vec<Numbe
         .collect(alloc)
 }
 
-/// The contracts whose members end where an actor is gone.
+/// The contracts whose members end when an actor is gone.
 fn ending_ids(alloc: Global, contracts: &[Contract], actor: u64) -> Result<Vec<Number>, AllocError>
     ensures { IfOk result (λ ids. ids.items ≡ ending_ids actor contracts.now) }
 {
@@ -176,7 +176,7 @@ fn ids_ending(
         .collect(alloc)
 }
 
-/// The contracts that are emptied where an actor is gone.
+/// The contracts that are empty after an actor is gone, and were not before.
 pub(crate) fn ids_left(
     alloc: Global,
     contracts: &[Contract],

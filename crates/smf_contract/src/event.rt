@@ -11,7 +11,7 @@ pub enum Exit {
     Killed,
 }
 
-/// What happened, and to which process.
+/// The kind of an event, with its process.
 #[derive(Clone, Copy, PartialEq, Eq)]
 pub enum EventKind {
     /// The last member ended.
@@ -63,11 +63,11 @@ pub struct Event {
     pub contract: Number,
     pub number: Number,
     pub kind: EventKind,
-    /// Whether the contract has a member left after it.
+    /// True if the contract has a member left after it.
     pub left: bool,
 }
 
-/// What ends a member from outside.
+/// A failure that ends a member from outside.
 #[derive(Clone, Copy, PartialEq, Eq)]
 pub enum Failure {
     Core,

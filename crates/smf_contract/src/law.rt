@@ -11,14 +11,14 @@ pub fn an_empty_contract_stays_empty()
     ensures { (t : Contracts) (call : Call) → StaysEmpty t (done t call) }
 {}
 
-/// A law of the definitions: what a call empties is a contract that is left in the table, had a
-/// member before it, and has none after it.
+/// A law of the definitions: a call empties exactly the contracts that had a member before it and are left in the table
+/// without one.
 pub fn an_emptied_contract_had_members()
     ensures { (t : Contracts) (call : ContractCall) (id : ℕ) → is_among id (emptied_by t call) ≡ is_lost id t (called t call) }
 {}
 
-/// A law of the definitions: ids and process numbers stand in order and none is above the last ones.
-/// What is made gets the next ones, and the last ones never fall, so none is used again.
+/// A law of the definitions: ids and process numbers stand in order and none is above the last ones. A new contract and
+/// a new process get the next ones. The last ones never fall, so none is used again.
 pub fn numbers_stay_in_order()
     ensures every { (calls : List Call) → IsOrdered (after calls) }
     ensures next { (t : Contracts) (call : Call) → IsOrdered t → IsOrdered (done t call) }

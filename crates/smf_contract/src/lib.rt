@@ -1,6 +1,7 @@
 //! Process contracts: who holds which, what processes are in it, and what happened to them.
-//! Modules: `terms` (event sets), `event`, `contract` (what the table keeps), `call`, `table` (the calls) over `lookup`
-//! and `change`, `book` (the contracts by their ids), `past` (the events of each contract), `law`, `cookie`, `fault`.
+//! Modules: `terms` (event sets), `event`, `contract` (the entries of the table), `call`, `table` (the calls) over
+//! `lookup` and `change`; `ends` (the contracts that a call empties), `book` (the contracts by their ids), `past` (the
+//! events of each contract); `law`, `cookie`, `fault`.
 #![tactic(auto)]
 
 mod book;

@@ -1,4 +1,4 @@
-// What a table's lists say of a contract, a process or an event.
+// Look-ups of a contract, a process or an event in a table's lists.
 ghost use Rattle.std.specs.Prelude.{◌≡◌, ◌<◌, IfOk, IfSome, length, position, count_by, is_some};
 ghost use Rattle.smf_contract.specs.Entries.{contract_in, event_in, home, is_process, is_in, has_members, processes, first_member, report_of, is_given, acknowledged_at};
 ghost use Rattle.smf_contract.specs.Calls.{is_held_by, held_by, is_fatal};
@@ -12,7 +12,7 @@ use bitflags::Flags;
 use smf_fmri::Number;
 use std::alloc::{AllocError, Global};
 
-/// Where a process stands in the list.
+/// The place of a process in the list.
 pub(crate) fn place_of_process(members: &[Member], process: Number) -> Option<usize>
     ensures exact { result ≡ position (is_process process) members.now }
     ensures in_range { IfSome result (λ k. k < length members.now) }
@@ -40,7 +40,7 @@ pub(crate) fn first_member(members: &[Member], contract: Number) -> Option<Numbe
     place_of_member(members, contract).map(|k| members[k].process)
 }
 
-/// Where the first member of a contract stands in the list.
+/// The place of the first member of a contract in the list.
 fn place_of_member(members: &[Member], contract: Number) -> Option<usize>
     ensures exact { result ≡ position (is_in contract) members.now }
     ensures in_range { IfSome result (λ k. k < length members.now) }
@@ -95,7 +95,7 @@ pub(crate) fn held(book: &Book, actor: u64, id: Number) -> Option<Contract>
     }
 }
 
-/// Whether an actor holds the contract of an id.
+/// True if an actor holds the contract of an id.
 pub(crate) fn is_held(book: &Book, actor: u64, id: Number) -> bool
     ensures { result ≡ is_some (held_by actor (contract_in book.now.contracts id)) }
 {
@@ -105,7 +105,7 @@ pub(crate) fn is_held(book: &Book, actor: u64, id: Number) -> bool
     }
 }
 
-/// Whether the terms of a contract make a failure fatal.
+/// True if the terms of a contract make a failure fatal.
 pub(crate) fn is_fatal(book: &Book, id: Number, failure: Failure) -> bool
     ensures { result ≡ is_fatal failure (contract_in book.now.contracts id) }
 {

@@ -52,7 +52,7 @@ fn compare(last: &Last, contract: u64) -> Ordering
     last.contract.cmp(&contract)
 }
 
-/// Where the last event of a contract is kept, or else where it belongs.
+/// The place of the last event of a contract, or else the place that it would have.
 fn place_of_last(lasts: &[Last], contract: u64) -> Result<usize, usize>
     requires { Rises by_contract lasts.now }
     ensures { IsPlaced by_contract contract lasts.now result }
@@ -103,7 +103,7 @@ fn make_room(
     lasts.reserve(more)
 }
 
-/// Where the event of a number stands, from the last event of its contract backwards.
+/// The place of the event of a number. The search goes back from the last event of its contract.
 fn place_back(
     events: &[Event],
     before: &[usize],
@@ -273,7 +273,7 @@ impl Past {
         self.lasts.clear();
     }
 
-    /// Where an event of a contract stands.
+    /// The place of an event of a contract.
     fn place_of(&self, contract: u64, number: u64) -> Option<usize>
         ensures { result ≡ position (is_event contract number) self.now.events }
     {

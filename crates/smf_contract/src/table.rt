@@ -20,7 +20,7 @@ use smf_fmri::{Items, Number};
 use std::alloc::{AllocError, Global};
 use std::marker::Model;
 
-/// What a spawn made: a contract, and its first process.
+/// The result of a spawn: a contract, and its first process.
 #[derive(Clone, Copy, PartialEq, Eq)]
 pub struct Made {
     pub contract: Number,
@@ -68,7 +68,7 @@ impl Table {
         make_room(&mut self.book, &mut self.members, &mut self.past)
     }
 
-    /// Makes a contract that an actor holds, with one process. `Full` comes where no id or no number is left.
+    /// Makes a contract that an actor holds, with one process. `Full` comes if no id or no number is left.
     #[tactic(auto, unfolding(crate::specs::Calls::spawned))]
     pub fn spawn(&mut self, actor: u64, cookie: u64, terms: Terms) -> Result<Made, ContractFault>
         ensures exact { Makes result (spawned self.old.table actor cookie terms) self.new.table }
@@ -135,7 +135,7 @@ impl Table {
         Ok(())
     }
 
-    /// A member dumps core, which ends it, and all others where that is fatal.
+    /// A member dumps core, which ends it, and all others if that is fatal.
     pub fn core(&mut self, process: Number) -> Result<(), ContractFault>
         ensures exact { Leaves result (cored self.old.table process) self.new.table }
         ensures err { OnErr result (self.new.table ≡ self.old.table) }
@@ -144,7 +144,7 @@ impl Table {
         self.fail(process, Failure::Core)
     }
 
-    /// A signal ends a member, and all others where that is fatal.
+    /// A signal ends a member, and all others if that is fatal.
     pub fn signal(&mut self, process: Number) -> Result<(), ContractFault>
         ensures exact { Leaves result (signalled self.old.table process) self.new.table }
         ensures err { OnErr result (self.new.table ≡ self.old.table) }
@@ -153,7 +153,7 @@ impl Table {
         self.fail(process, Failure::Signal)
     }
 
-    /// An error of the hardware ends a member, and all others where that is fatal.
+    /// An error of the hardware ends a member, and all others if that is fatal.
     pub fn hwerr(&mut self, process: Number) -> Result<(), ContractFault>
         ensures exact { Leaves result (failed_by_hardware self.old.table process) self.new.table }
         ensures err { OnErr result (self.new.table ≡ self.old.table) }
@@ -162,7 +162,7 @@ impl Table {
         self.fail(process, Failure::Hwerr)
     }
 
-    /// A failure ends a member, and all others where it is fatal.
+    /// A failure ends a member, and all others if it is fatal.
     #[tactic(auto, unfolding(crate::specs::Calls::failed))]
     pub fn fail(&mut self, process: Number, failure: Failure) -> Result<(), ContractFault>
         ensures exact { Leaves result (failed failure self.old.table process) self.new.table }
@@ -188,8 +188,7 @@ impl Table {
         Ok(())
     }
 
-    /// An actor is gone. What it held can be adopted where the terms say `inherit`; the rest is
-    /// abandoned.
+    /// An actor is gone. Its contracts can be adopted if their terms say `inherit`; the others are abandoned.
     #[tactic(auto, unfolding(crate::specs::Calls::gone))]
     pub fn holder_gone(&mut self, actor: u64) -> Result<(), AllocError>
         ensures exact { OnOk result (self.new.table ≡ gone self.old.table actor) }
@@ -226,7 +225,7 @@ impl Table {
         }
     }
 
-    /// Gives a contract up for good. Its members end where the terms say `noorphan`.
+    /// Gives a contract up for good. Its members end if the terms say `noorphan`.
     #[tactic(auto, unfolding(crate::specs::Calls::abandoned))]
     pub fn abandon(&mut self, actor: u64, id: Number) -> Result<(), ContractFault>
         ensures exact { Leaves result (abandoned self.old.table actor id) self.new.table }
@@ -286,8 +285,7 @@ impl Table {
         self.past.clear();
     }
 
-    /// Does what is asked, for which room was made by `reserve`. What the table refuses leaves it
-    /// as it was.
+    /// Does a call, for which `reserve` made room. A call that the table refuses leaves the table as it was.
     #[tactic(auto, unfolding(crate::specs::Called::called))]
     pub fn call(&mut self, call: ContractCall)
         requires { self.old.room ≡ true }
@@ -440,8 +438,7 @@ impl Table {
         Ok(Items::from_vec(given))
     }
 
-    /// The event of a number of a contract, for a report to its holder; none where there is no such
-    /// event.
+    /// The event of a number of a contract, for a report to its holder; none if there is no such event.
     #[tactic(auto, unfolding(crate::specs::Entries::reported))]
     pub fn report(&self, contract: u64, number: u64) -> Option<Report>
         ensures { result ≡ reported self.now.table contract number }
@@ -449,7 +446,7 @@ impl Table {
         report(&self.book, &self.past, contract, number)
     }
 
-    /// The id that a spawn would make; none where it would be `Full`.
+    /// The id that a spawn would make; none if it would be `Full`.
     #[tactic(auto, unfolding(crate::specs::Calls::next_contract))]
     pub fn next_contract(&self) -> Option<Number>
         ensures { result ≡ next_contract self.now.table }
@@ -473,14 +470,14 @@ impl Table {
         home(&self.members, process)
     }
 
-    /// Whether a contract has a member; not so where there is no such contract.
+    /// True if a contract has a member; false if there is no such contract.
     pub fn has_members(&self, id: Number) -> bool
         ensures { result ≡ has_members id self.now.table.members }
     {
         has_members(&self.members, id)
     }
 
-    /// The lowest process of a contract; none where it is empty.
+    /// The lowest process of a contract; none if it is empty.
     pub fn first_member(&self, id: Number) -> Option<Number>
         ensures { result ≡ first_member id self.now.table.members }
     {
@@ -508,14 +505,14 @@ impl Table {
         self.past.as_slice()
     }
 
-    /// The last id that was given; 0 where none was.
+    /// The last id that was given; 0 if there is none.
     pub fn last_contract(&self) -> Number
         ensures { result ≡ self.now.table.last_contract }
     {
         self.book.last()
     }
 
-    /// The last process number that was given; 0 where none was.
+    /// The last process number that was given; 0 if there is none.
     pub fn last_process(&self) -> Number
         ensures { result ≡ self.now.table.last_process }
     {

@@ -56,9 +56,9 @@ pub struct Terms {
     pub critical: EventSet,
     /// Kinds of failure of one member that end them all. Any other kind in it counts for nothing.
     pub fatal: EventSet,
-    /// Whether it waits to be adopted where its holder is gone.
+    /// True if it waits to be adopted after its holder is gone.
     pub inherit: bool,
-    /// Whether its members end where it is abandoned.
+    /// True if its members end when it is abandoned.
     pub noorphan: bool,
 }
 

@@ -1,4 +1,4 @@
--- What the flags of places say, as more of them are set.
+-- The flags of places stay true as more of them are set.
 use Rattle.std.proofs.Common.{◌≡◌, ◌==◌, ◌&&◌, inl, inr, ℕ, Bool, true, false, List, [], ◌∷◌, ◌++◌, set, slice_index, replicate, eqb-true, refl, sym, subst}
 use Rattle.std.specs.List.{list_any}
 use Rattle.smf_cycles.specs.Paths.{IsOnCycle, Leads, cites, edges_at, flag_at, is_among}

@@ -1,4 +1,4 @@
--- Where there is no edge, no place is on a cycle.
+-- If a graph has no edge, no place is on a cycle.
 use Rattle.std.proofs.Common.{◌≡◌, ◌↔◌, ℕ, zero, suc, ◌&&◌, Bool, true, false, IsTrue, List, [], ◌∷◌, replicate, refl, subst}
 use Rattle.std.specs.List.{list_all}
 use Rattle.smf_cycles.specs.Paths.{IsOnCycle, IsPath, cites, edges_at, flag_at, is_among, leads_nowhere}

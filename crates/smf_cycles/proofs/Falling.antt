@@ -1,4 +1,4 @@
--- From where a number falls along every edge, and rises along none, there is no way back.
+-- If numbers rise along no edge, and fall along each edge of a place, no way leads back to that place.
 use Rattle.std.proofs.Common.{◌≡◌, ℕ, ◌<◌, ◌≤◌, List, [], ◌∷◌, true, length, slice_index, nat_le, nat_lt, ltb-true, leb-true, sym, arith}
 use Rattle.std.specs.List.{list_all}
 use Rattle.smf_cycles.specs.Paths.{IsOnCycle, IsPath, cites, edges_at}

@@ -62,7 +62,7 @@ flag_last [] f (suc n) e = absurd (omega arith)
 flag_last (g ∷ flags) f zero e = absurd (omega arith)
 flag_last (g ∷ flags) f (suc n) e = flag_last flags f n (omega arith)
 
--- what each flag says of its place, it says with one more flag
+-- if each flag is right for its place and one more is right for the next place, all of them are right
 pub flags_more : (P : ℕ → Type 0) (flags : List Bool) (f : Bool) (n : ℕ) → length flags ≡ n
     → ((a : ℕ) → a < n → IsTrue (flag_at flags a) ↔ P a) → IsTrue f ↔ P n
     → (a : ℕ) → a < n + 1 → IsTrue (flag_at (flags ++ f ∷ []) a) ↔ P a

@@ -1,4 +1,4 @@
--- What is among a list of places, and what follows of an edge.
+-- Members of a list of places, and facts that follow from an edge.
 use Rattle.std.proofs.Common.{◌≡◌, ◌==◌, ◌⊎◌, inl, inr, ℕ, ◌<◌, ◌≤◌, Bool, true, false, ◌||◌, ◌&&◌, List, [], ◌∷◌, ◌++◌, length, Option, unwrap_or, eq-eqb, eqb-true, refl, sym, ap, ◌∙◌, subst}
 use Rattle.std.specs.List.{list_all, list_any}
 use Rattle.std.proofs.lemmas.Bool.{cases_lt}
@@ -63,7 +63,7 @@ unfolding is_among
 among_right xs ys b h =
     list_any-append (λ q. q == b) xs ys ∙ or_right (list_any (λ q. q == b) xs) (list_any (λ q. q == b) ys) h
 
--- what a test says of all is said of each
+-- each member passes a test that all pass
 pub all_pass : (p : ℕ → Bool) (xs : List ℕ) (b : ℕ) → list_all p xs ≡ true → is_among xs b ≡ true → p b ≡ true
 all_pass p [] b h k = absurd (among_none b k)
 all_pass p (x ∷ xs) b h k =
@@ -109,7 +109,7 @@ leads_on edges a b c p q =
 pub both_true : (x y : Bool) → (x && y) ≡ true → (x ≡ true) × (y ≡ true)
 both_true x y h = (and_left x y h, and_right x y h)
 
--- what some pass, one of them passes
+-- if some pass a test, there is one that passes it
 pub some_passes : (p : ℕ → Bool) (xs : List ℕ) → list_any p xs ≡ true → (q : ℕ) × (is_among xs q ≡ true) × (p q ≡ true)
 some_passes p [] h = absurd cc
 some_passes p (x ∷ xs) h =

@@ -1,4 +1,4 @@
--- What noting places and the search make of what was seen.
+-- The places that were seen, after places are noted and during the search.
 use Rattle.std.proofs.Common.{◌≡◌, ◌↔◌, inl, inr, ℕ, ◌<◌, ◌≤◌, Bool, true, false, IsTrue, List, [], ◌∷◌, ◌++◌, length, length-append, length-set, set, replicate, refl, ◌∙◌, subst, arith}
 use Rattle.smf_cycles.specs.Paths.{IsOnCycle, IsPath, edges_at, flag_at, is_among}
 use Rattle.smf_cycles.specs.Searches.{IsDone, IsGrown, IsSearch}

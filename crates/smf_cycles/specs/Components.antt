@@ -1,4 +1,4 @@
--- What the flags of places say of them, and the tests by which more of them are set.
+-- The meaning of the flags of places, and the tests that set more of them.
 use Rattle.std.specs.Prelude.{◌≡◌, ◌==◌, ◌⊎◌, ◌&&◌, ◌||◌, ℕ, Bool, true, List, slice_index}
 use Rattle.smf_cycles.specs.Paths.{Leads, flag_at, is_among}
 
@@ -9,7 +9,7 @@ Comes edges a b = (a ≡ b) ⊎ Leads edges a b
 pub record FlagsSay (P : ℕ → Type 0) (flags : List Bool) : Type 0 where
   pub says : (a : ℕ) → flag_at flags a ≡ true → P a
 
--- whether a place is the target, or has a flag and that target
+-- a place is the target, or has a flag and that target
 unfoldable pub is_way : List Bool → List ℕ → ℕ → ℕ → Bool
 is_way flags targets target q = (q == target) || (flag_at flags q && (slice_index targets q == target))
 

@@ -1,9 +1,9 @@
--- What a path and a cycle of a graph are. A graph is, of each place, the list of the places that it has an edge to.
+-- Paths and cycles of a graph. A graph has for each place the list of the places that it has an edge to.
 use Rattle.std.specs.Prelude.{◌≡◌, ◌==◌, ℕ, Bool, true, false, List, [], ◌∷◌, slice_get}
 use Rattle.std.specs.List.{list_any}
 use Rattle.std.specs.Option.{unwrap_or}
 
--- where the edges of a place lead; a place that is not there has none
+-- the places that the edges of a place lead to; a place that is not there has none
 unfoldable pub edges_at : List (List ℕ) → ℕ → List ℕ
 edges_at edges a = unwrap_or (slice_get edges a) []
 
@@ -15,7 +15,7 @@ leads_nowhere (b ∷ places) = false
 unfoldable pub is_among : List ℕ → ℕ → Bool
 is_among places b = list_any (λ q. q == b) places
 
--- whether there is an edge
+-- there is an edge from the one to the other
 abbrev pub cites : List (List ℕ) → ℕ → ℕ → Bool
 cites edges a b = is_among (edges_at edges a) b
 

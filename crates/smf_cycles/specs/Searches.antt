@@ -8,7 +8,7 @@ unseen [] = 0
 unseen (true ∷ seen) = unseen seen
 unseen (false ∷ seen) = unseen seen + 1
 
--- what noting places does to what was seen and to the work
+-- the places seen and the work, before and after places are noted
 pub record IsGrown (places : List ℕ) (seen : List Bool) (work : List ℕ) (seen' : List Bool) (work' : List ℕ) : Type 0 where
   pub kept : (a : ℕ) → flag_at seen a ≡ true → flag_at seen' a ≡ true
   pub fresh : (a : ℕ) → flag_at seen' a ≡ true → (flag_at seen a ≡ true) ⊎ ((is_among places a ≡ true) × (is_among work' a ≡ true))

@@ -18,7 +18,7 @@ fn leads_nowhere(places: &Places) -> bool
     places.as_slice().is_empty()
 }
 
-/// Whether there is no edge.
+/// True if no place has an edge.
 fn all_lead_nowhere(edges: &[Places]) -> bool
     ensures { result ≡ list_all leads_nowhere edges.now }
 {
@@ -33,7 +33,7 @@ fn no_flags(alloc: Global, count: usize) -> Result<Vec<bool>, AllocError>
     Ok(flags)
 }
 
-/// Whether a place is on a cycle, by what is known of it, or else by a search.
+/// True if a place is on a cycle. Its flag or its rank may settle it, else a search does.
 fn settle(
     alloc: Global,
     edges: &[Places],
@@ -54,7 +54,8 @@ fn settle(
     is_on_cycle(alloc, edges, place)
 }
 
-/// Of each place whether it is on a cycle. An edge may lead to a place that is not there, which has no edges.
+/// A flag for each place: it is set if the place is on a cycle. An edge may lead to a place that is not there, which
+/// has no edges.
 pub fn places_on_cycles(alloc: Global, edges: &[Places]) -> Result<Vec<bool>, AllocError>
     ensures length { IfOk result (λ flags. length flags.items ≡ length edges.now) }
     ensures exact { IfOk result (λ flags. (a : ℕ) → a < length edges.now → IsTrue (flag_at flags.items a) ↔ IsOnCycle edges.now a) }

@@ -1,11 +1,11 @@
-//! What is looked up in a graph, and in what is known of its places.
+//! Lookups in a graph, and in the numbers and flags of its places.
 
 ghost use Rattle.std.specs.Prelude.{◌≡◌, slice_index, slice_set, true};
 ghost use Rattle.smf_cycles.specs.Paths.{edges_at, flag_at};
 
 use crate::places::Places;
 
-/// Where the edges of a place lead.
+/// The places that the edges of a place lead to.
 #[tactic(auto, unfolding(crate::specs::Paths::edges_at))]
 pub(crate) fn edges_of(edges: &[Places], place: usize) -> &[usize]
     ensures { result.now ≡ edges_at edges.now place }

@@ -1,7 +1,7 @@
 //! Which places of a graph lie on a cycle.
-//! Modules: `places` (a list of places), `graph` (what is looked up), `walk` (a search whose answers are only hints),
-//! `ranks` (hints by which a place is on no cycle), `members` (hints by which it is on one), `search` (whether one
-//! place is on a cycle, with no hint), `cycles` (all places).
+//! Modules: `places` is a list of places, `graph` has lookups. `walk` is a search whose answers are only hints. `ranks`
+//! has hints by which a place is on no cycle, `members` hints by which it is on one. `search` finds without a hint if
+//! one place is on a cycle. `cycles` answers for all places.
 #![tactic(auto)]
 
 mod cycles;

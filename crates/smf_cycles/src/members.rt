@@ -1,5 +1,5 @@
-//! Places that a walk's hints show to be on a cycle: each place of a component is led to by the root of the component,
-//! and leads to it. A hint that does not hold leaves a place out.
+//! Places that a walk's hints show to be on a cycle. The root of a component leads to each of its places, and each
+//! place leads to the root. A hint that does not hold leaves a place out.
 
 ghost use Rattle.std.specs.List.{list_any};
 ghost use Rattle.std.specs.Prelude.{◌≡◌, IfOk, slice_index};
@@ -11,7 +11,7 @@ use crate::places::Places;
 use crate::walk::Walk;
 use std::alloc::{AllocError, Global};
 
-/// Whether a place is the target, or leads to it as its flag says.
+/// True if a place is the target, or its flag says that it leads to the target.
 #[tactic(auto, unfolding(crate::specs::Components::is_way))]
 fn is_way(flags: &[bool], targets: &[usize], target: usize, place: usize) -> bool
     ensures { result ≡ is_way flags.now targets.now target place }
@@ -76,7 +76,7 @@ fn led_back(
     Ok(flags)
 }
 
-/// Whether a place is the root, or its target is a way to the root.
+/// True if a place is the root, or leads to a target from which there is a way to the root.
 #[tactic(auto, unfolding(crate::specs::Components::is_way_back))]
 fn is_way_back(
     is_led: bool,

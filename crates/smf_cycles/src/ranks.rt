@@ -43,7 +43,7 @@ fn never_rises(edges: &[Places], ranks: &[usize]) -> bool
     true
 }
 
-/// The ranks, or none at all where they rise somewhere.
+/// The ranks, or none at all if they rise along some edge.
 pub(crate) fn checked(alloc: Global, edges: &[Places], ranks: Vec<usize>) -> Vec<usize>
     ensures { NeverRises edges.now result.items }
 {

@@ -1,4 +1,4 @@
-//! Whether one place is on a cycle, by a search for all that can be reached from it.
+//! Finds if one place is on a cycle, by a search for all places that can be reached from it.
 
 ghost use Rattle.std.specs.Prelude.{◌≡◌, ◌∷◌, ◌↔◌, [], IfOk, IsTrue, OnOk};
 ghost use Rattle.smf_cycles.specs.Paths.{IsOnCycle};
@@ -32,7 +32,7 @@ fn note_all(seen: &mut Vec<bool>, work: &mut Vec<usize>, places: &[usize]) -> Re
     Ok(())
 }
 
-/// What can be reached from a place by one edge or more.
+/// Flags of the places that can be reached from a place by one edge or more.
 fn reached_from(alloc: Global, edges: &[Places], from: usize) -> Result<Vec<bool>, AllocError>
     ensures { IfOk result (λ seen. IsSearch edges.now from seen.items []) }
 {

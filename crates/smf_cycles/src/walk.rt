@@ -1,4 +1,4 @@
-//! A walk through a graph in depth first order, which finds its components. What it finds is only a hint.
+//! A walk through a graph in depth first order, which finds its components. Its answers are only hints.
 
 use crate::graph::{edges_of, number_at, set_number};
 use crate::places::Places;
@@ -18,15 +18,15 @@ pub(crate) struct Walk {
     begun: Vec<usize>,
     // The places in the order in which the walk left them.
     done: Vec<usize>,
-    // Of each place when the walk came to it.
+    // For each place, its number in the order in which the walk came to them.
     numbers: Vec<usize>,
-    // Of each place the lowest number that the walk found behind it, in its component.
+    // For each place, the lowest number that the walk found from it on, in its component.
     lows: Vec<usize>,
-    // Of each place the place that has that lowest number.
+    // For each place, the place that has that lowest number.
     targets: Vec<usize>,
-    // Of each place the place by which the walk came into its component.
+    // For each place, the place by which the walk came into its component.
     roots: Vec<usize>,
-    // Of each place the number of its component, where components are numbered from the ends.
+    // For each place, the number of its component, which is above those of the components that it leads to.
     ranks: Vec<usize>,
     count: usize,
     // The places whose component is not known yet.
@@ -125,7 +125,7 @@ impl Walk {
         Ok(())
     }
 
-    /// Follows the next edge of the place that the walk is at. Whether there was such a place.
+    /// Follows the next edge of the place that the walk is at. Gives false if there is no such place.
     fn advance(&mut self, edges: &[Places]) -> Result<bool, AllocError> {
         let Some(Step { place, next }) = self.steps.pop() else {
             return Ok(false);

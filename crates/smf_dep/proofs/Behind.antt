@@ -1,4 +1,4 @@
--- What a loop has read stands before what it has still to read.
+-- The results that a loop has read stand before those that it has still to read.
 use Rattle.std.proofs.Common.{◌≡◌, ℕ, zero, suc, ◌+◌, ◌<◌, ◌≤◌, List, [], ◌∷◌, ◌++◌, length, drop, get_or, Bool, true, false, refl, sym, ap, subst, ◌∙◌, arith}
 use Rattle.std.specs.Prelude.{Result, Ok, Err}
 use Rattle.smf_value.specs.declared.value.Value.{Value}

@@ -1,4 +1,4 @@
--- Lists whose keys rise: where an item stands, what is looked up, and other items with the same keys.
+-- Lists whose keys rise: the place of an item, lookups by key, and other items with the same keys.
 use Rattle.std.proofs.Common.{◌≡◌, ℕ, zero, suc, ◌+◌, ◌≤◌, List, [], ◌∷◌, length, map, get_or, Bool, true, false, cond, not, Some, None, refl, sym, ap, ◌∙◌, subst, inl, inr, arith}
 use Rattle.std.specs.Prelude.{find, nat_lt, option_map, position, slice_get}
 use Rattle.std.specs.List.{position_or_len}
@@ -15,7 +15,7 @@ use Rattle.smf_fmri.proofs.Places.{lookup_at, lookup_before, stands_within}
 same_some : {X : Type 0} (x y : X) → Some x ≡ Some y → x ≡ y
 same_some x y e = cc
 
--- ---- where it stands
+-- ---- the place of an item
 
 below_stands : {X K : Type 0} (o : By X K) (a k : K) (i : ℕ) (xs : List X) → IsBelowFirst o a xs → Rises o xs → StandsAt o k i xs → o.cmp a k ≡ Less
 below_stands o a k i [] b r s = absurd s
@@ -28,7 +28,7 @@ stands o [] i x r e = absurd cc
 stands o (y ∷ ys) zero x r e = ap (λ z. o.cmp (o.key z) (o.key x)) (same_some y x e) ∙ same_key o (o.key x)
 stands o (y ∷ ys) (suc i) x r e = let s = stands o ys i x r.1 e in (below_stands o (o.key y) (o.key x) i ys r.0 r.1 s, s)
 
--- what stands there has the key
+-- the item there has the key
 pub stood : {X K : Type 0} (o : By X K) (k : K) (i : ℕ) (xs : List X) → StandsAt o k i xs → (x : X) × (slice_get xs i ≡ Some x) × (o.key x ≡ k)
 stood o k i [] s = absurd s
 stood o k zero (y ∷ ys) s = (y, refl, o.exact (o.key y) k s)
@@ -83,7 +83,7 @@ no_place p xs h = ap (λ n. cond (nat_lt n (length xs)) (Some n) None) (none_pas
 pub not_placed : {X K : Type 0} (o : By X K) (k : K) (i : ℕ) (xs : List X) → Rises o xs → BelongsAt o k i xs → position (has_key o k) xs ≡ None
 not_placed o k i xs r s = no_place (has_key o k) xs (lookup_before o k i xs r s)
 
--- what stands at the place is what is looked up
+-- the item at the place is the one that is looked up
 pub place_looks : {X K : Type 0} (o : By X K) (xs : List X) (k : K) (i : ℕ) → position (has_key o k) xs ≡ Some i → slice_get xs i ≡ lookup o xs k
 place_looks o xs k i e =
     elim (cases_lt (position_or_len (has_key o k) xs) (length xs)) [
@@ -101,7 +101,7 @@ place_looks o xs k i e =
     not_below : (m n : ℕ) → n ≤ m → nat_lt m n ≡ false
     not_below m n le = grind (arith, nat_tests)
 
--- and where nothing stands, nothing is found
+-- and if no place has the key, nothing is found
 pub no_place_looks : {X K : Type 0} (o : By X K) (xs : List X) (k : K) → position (has_key o k) xs ≡ None → lookup o xs k ≡ None
 no_place_looks o xs k e =
     elim (cases_lt (position_or_len (has_key o k) xs) (length xs)) [

@@ -1,4 +1,4 @@
--- What the counts of a link say of it.
+-- A link is blocked or met as its counts say.
 use Rattle.std.proofs.Common.{◌≡◌, ℕ, ◌+◌, ◌<◌, List, [], map, length, drop, get_or, Bool, true, false, ◌&&◌, ◌||◌, Option, Some, refl, sym, ap, ◌∙◌, subst}
 use Rattle.std.specs.Prelude.{nat_lt, slice_get, slice_index}
 use Rattle.std.specs.List.{list_all, list_any}
@@ -22,7 +22,7 @@ use Rattle.smf_dep.proofs.Work.{left_at}
 pub found_at : {X : Type 0} (xs : List X) (i : ℕ) (x : X) → i < length xs → x ≡ get_or xs i x → slice_get xs i ≡ Some x
 found_at xs i x lt is = slice_get_read xs (length xs) i x refl lt is
 
--- what a list holds at a number is the tally there
+-- the list's tally at a number
 pub tally_found : (ts : List (List Entity)) (number : ℕ) (t es : List Entity) → number < length ts → t ≡ get_or ts number t → tally_at ts number ≡ es → t ≡ es
 tally_found ts number t es lt at is = sym (ap (λ (o : Option (List Entity)). unwrap_or o []) (found_at ts number t lt at)) ∙ is
 
@@ -31,7 +31,7 @@ implied true c f = refl
 implied false true f = f refl
 implied false false f = refl
 
--- what some stamps block all stamps block
+-- a link that some stamps block is blocked by all stamps
 pub counted_blocked : (runs off : ℕ → Bool) (ss : List ℕ) (limit : ℕ) (l : Link) (t : List Entity) → t ≡ map (entity_of runs off (stamped ss)) l.cited
     → (entities_block l.grouping t && blocked_by runs off (before ss limit) l) ≡ blocked_by runs off (before ss limit) l
 counted_blocked runs off ss limit l t e =
@@ -39,7 +39,7 @@ counted_blocked runs off ss limit l t e =
     (λ h. ap (entities_block l.grouping) e ∙ block_is l.grouping runs off (stamped ss) l.cited
     ∙ blocks_up runs off (before ss limit) (stamped ss) (λ p b. (and_parts (stamped ss p) (nat_lt (slice_index ss p) limit) b).0) l.grouping l.cited h)
 
--- what all stamps do not block no stamps block
+-- if all stamps do not block a link, the stamps below a limit do not
 pub counted_free : (runs off : ℕ → Bool) (ss : List ℕ) (limit : ℕ) (l : Link) (t : List Entity) → t ≡ map (entity_of runs off (stamped ss)) l.cited → entities_block l.grouping t ≡ false
     → false ≡ blocked_by runs off (before ss limit) l
 counted_free runs off ss limit l t e free = (λ i. sym free i && blocked_by runs off (before ss limit) l) ∙ counted_blocked runs off ss limit l t e
@@ -61,7 +61,7 @@ all_step f xs i x b lt is so h = (λ j. sym so j && list_all f (drop (i + 1) xs)
 pub all_found : {X : Type 0} (f : X → Bool) (xs : List X) (i : ℕ) (x : X) (b : Bool) → i < length xs → x ≡ get_or xs i x → f x ≡ false → list_all f (drop i xs) ≡ b → false ≡ b
 all_found f xs i x b lt is free h = (λ j. sym free j && list_all f (drop (i + 1) xs)) ∙ sym (ap (list_all f) (left_at xs i x lt is)) ∙ h
 
--- what is told of links is told of the next
+-- if the tallies are right for all links, they are right for the next
 pub told_next : (runs off parked : ℕ → Bool) (numbers : List ℕ) (ts : List (List Entity)) (ls : List Link) (i : ℕ) (l : Link) → i < length ls → l ≡ get_or ls i l
     → AreTold runs off parked numbers ts ls → tally_at ts (slice_index numbers i) ≡ map (entity_of runs off parked) l.cited
 told_next runs off parked numbers ts ls i l lt is h = h i l (found_at ls i l lt is)

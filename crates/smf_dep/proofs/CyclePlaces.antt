@@ -18,7 +18,7 @@ use Rattle.smf_dep.specs.Verdicts.{is_cited}
 use Rattle.smf_dep.proofs.Looked.{any_mapped}
 use Rattle.smf_dep.proofs.LawCycles.{found, listed}
 
--- ---- places of what an entity stands for
+-- ---- places of the instances that an entity stands for
 
 is_at : ℕ → ℕ → Bool
 is_at b q = q == b
@@ -89,7 +89,7 @@ any_joined : (p : ℕ → Bool) (pss : List (List ℕ)) → list_any p (joined p
 any_joined p [] = refl
 any_joined p (ps ∷ pss) = list_any-append p ps (joined pss) ∙ ap (λ b. list_any p ps || b) (any_joined p pss)
 
--- an instance at a place is asked for by a group where its place is among the edges of the group
+-- a group asks for the instance at a place exactly if that place is among the group's edges
 asked_at : (ms : List Member) (b : ℕ) (m : Member) → slice_get ms b ≡ Some m → (d : Dependency)
     → list_any (list_any (λ q. q == b)) (map (places ms) d.entities) ≡ list_any (λ e. is_cited e m) d.entities
 unfolding places

@@ -1,4 +1,4 @@
--- What is kept of instances says what is found of each.
+-- The data kept of instances gives the finding of each.
 use Rattle.std.proofs.Common.{◌≡◌, ℕ, zero, suc, List, map, length, get_or, Bool, true, false, ◌||◌, ◌&&◌, Option, Some, None, refl, ap, ◌∙◌, sym}
 use Rattle.std.specs.Prelude.{is_some, nat_lt, option_map, slice_get}
 use Rattle.std.specs.List.{list_all, list_any}
@@ -38,7 +38,7 @@ runs_is ms = fun_ext (λ p. node_at (λ (n : Node). n.flags.running) is_running 
 pub off_is : (ms : List Member) → off_at (nodes_of ms) ≡ look is_off ms
 off_is ms = fun_ext (λ p. node_at (λ (n : Node). n.flags.off) is_off ms (λ m. refl) p)
 
--- ---- what is parked
+-- ---- parked instances
 
 blocked_in : (ms : List Member) (parked : Member → Bool) (ds : Option (List Dependency))
     → list_any (blocked_by (look is_running ms) (look is_off ms) (look parked ms)) (links_of ms ds) ≡ any_blocked parked ms ds
@@ -89,7 +89,7 @@ unfolding finding_of
 found_of ms cycles a m h e =
     λ i. record { readable = is_some m.dependencies; all_met = met_is ms a m h i; must_stop = stops_is ms a m h i; on_cycle = e i }
 
--- what is found at a place is what is found of the instance there
+-- the finding at a place is that of the instance there
 pub finding_is : (ms : List Member) (ns : List Node) (cycles : List Bool) (a : ℕ) (m : Member) → IsGraph ms ns cycles → slice_get ms a ≡ Some m
     → finding_at ms ns cycles m a ≡ finding_of ms m
 finding_is ms ns cycles a m g h =

@@ -1,4 +1,5 @@
--- What is parked grows with what is taken to be parked, and looks at no more than what is cited.
+-- If more instances are taken to be parked, more are found to be parked. The test of an instance looks only at those
+-- that it cites.
 use Rattle.std.proofs.Common.{◌≡◌, ℕ, ◌<◌, ◌≤◌, List, [], ◌∷◌, length, Bool, true, false, not, ◌&&◌, ◌||◌, Option, Some, None, refl, ap, inl, inr}
 use Rattle.std.specs.Prelude.{slice_get}
 use Rattle.std.specs.List.{list_all, list_any}
@@ -71,7 +72,7 @@ idle_parks ns P a h =
 pub none_past : (f : Node → Bool) (ns : List Node) (a : ℕ) → length ns ≤ a → node_is f ns a ≡ false
 none_past f ns a le = ap (λ (o : Option Node). option_map_or f o false) (slice_get_past ns a le)
 
--- ---- only what is cited counts
+-- ---- only cited places count
 
 abbrev pub Away : ℕ → (ℕ → Bool) → (ℕ → Bool) → Type 0
 Away x P Q = (p : ℕ) → (p ≡ x → ⊥) → P p ≡ Q p

@@ -1,4 +1,4 @@
--- What is kept stays right where the flags of one instance change.
+-- The data kept of instances stays right if the flags of one instance change.
 use Rattle.std.proofs.Common.{◌≡◌, ℕ, zero, suc, ◌+◌, ◌*◌, ◌<◌, ◌≤◌, List, [], ◌∷◌, length, get_or, replicate, Bool, true, false, Option, Some, refl, sym, ap, ◌∙◌, subst, inl, inr, arith}
 use Rattle.std.specs.Prelude.{nat_lt, slice_get, slice_index, slice_set}
 use Rattle.std.specs.Option.{option_map_or}
@@ -66,7 +66,7 @@ index_stays ns cs p f h =
           subst (Avoid q) w.links (h.cites q a w.was within w.at out);
     }
 
--- what neither changed nor cites what changed is parked by the same as before
+-- an instance that neither changed nor cites the changed one is parked by the same as before
 parks_stay : (ns : List Node) (cs : List (List ℕ)) (p : ℕ) (f : Flags) (P : ℕ → Bool) (a : ℕ) → IsIndex ns cs → p < length ns → (p ≡ a → ⊥) → IsOut a (citing_at cs p)
     → parks (with_flags ns p f) P a ≡ parks ns P a
 parks_stay ns cs p f P a index lt ne out =

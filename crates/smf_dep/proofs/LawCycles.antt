@@ -4,7 +4,7 @@ use Rattle.std.proofs.lemmas.Bool.{and_from, and_parts, or_cases, or_left, or_ri
 use Rattle.smf_dep.specs.declared.member.Member.{Member}
 use Rattle.smf_dep.specs.Cycles.{cites, IsAmong, IsPath, IsCycle, leads, on_cycle}
 
--- ---- a path for what the test says
+-- ---- a path if the test says so
 
 -- two paths meet at an instance that is there
 joined : (ms p q : List Member) (a x b : Member) → IsAmong x ms → IsPath ms a p x → IsPath ms x q b → IsPath ms a (p ++ x ∷ q) b
@@ -43,7 +43,7 @@ unfolding leads
 straight [] a b e = e
 straight (x ∷ xs) a b e = or_left (leads xs a b) (leads xs a x && leads xs x b) (straight xs a b e)
 
--- what leads on from the head leads on from it by way of the others
+-- if the head leads to an instance, it does so by way of the others
 from_head : (x : Member) (xs : List Member) (b : Member) → leads (x ∷ xs) x b ≡ true → leads xs x b ≡ true
 unfolding leads
 from_head x xs b e = by (or_cases (leads xs x b) (leads xs x x && leads xs x b) e)

@@ -13,7 +13,7 @@ bool_both true b f g = sym (f refl)
 bool_both false true f g = g refl
 bool_both false false f g = refl
 
--- ---- what is parked in any number of rounds is stamped
+-- ---- an instance that is parked in any number of rounds has a stamp
 
 not_unstamped : (b : Bool) (c : Bool) → (b ≡ false → c ≡ false) → c ≡ true → b ≡ true
 not_unstamped true c f e = refl
@@ -26,7 +26,7 @@ rounds_stamped ns ss complete (suc k) p h =
     not_unstamped (stamped ss p) (parks ns (stamped ss) p) (complete p)
     (parks_up ns (parked_in k ns) (stamped ss) (rounds_stamped ns ss complete k) p h)
 
--- ---- what is stamped is parked in as many rounds as its stamp says
+-- ---- an instance with a stamp is parked in as many rounds as the stamp says
 
 stamped_rounds : (ns : List Node) (ss : List ℕ) → ((a : ℕ) → IsSound ns ss a) → (s p : ℕ) → slice_index ss p < s → stamped ss p ≡ true → parked_in s ns p ≡ true
 unfolding parked_in
@@ -132,7 +132,7 @@ ends ns =
 steady_at : (ns : List Node) (j k : ℕ) → j ≤ k → parked_in j ns ≡ parked_in (suc j) ns → parked_in k ns ≡ parked_in j ns
 steady_at ns j k le same = let e : k ≡ (k - j) + j = omega arith in ap (λ i. parked_in i ns) e ∙ steady ns j (k - j) same
 
--- what any number of rounds parks is parked
+-- an instance that any number of rounds parks is parked
 pub all_in : (ns : List Node) (k p : ℕ) → parked_in k ns p ≡ true → is_parked ns p ≡ true
 all_in ns k p h =
     let end = ends ns in let low : end.0 ≤ length ns = end.1 in let lower : end.0 ≤ length ns + k = omega arith in
@@ -147,7 +147,7 @@ least ns ss sound complete =
     (λ h. all_in ns (suc (slice_index ss p)) p (stamped_rounds ns ss sound (suc (slice_index ss p)) p (omega arith) h))
     (rounds_stamped ns ss complete (length ns) p))
 
--- where all stamps are below a limit, what has a stamp has one below it
+-- if all stamps are below a limit, a place with a stamp has one below it
 pub before_all : (ss : List ℕ) (limit : ℕ) → ((a : ℕ) → slice_index ss a < limit) → before ss limit ≡ stamped ss
 before_all ss limit low = fun_ext (λ p. by (stamped ss p) (nat_lt (slice_index ss p) limit) (lt-ltb (slice_index ss p) limit (low p)))
   where

@@ -1,4 +1,4 @@
--- What is found by places is what a look at the instances themselves finds.
+-- Tests by places find the same as tests of the instances themselves.
 use Rattle.std.proofs.Common.{◌≡◌, ℕ, zero, suc, ◌+◌, List, [], ◌∷◌, map, drop, filter, Bool, true, false, ◌||◌, ◌&&◌, not, if◌then◌else◌, Option, Some, None, refl, ap, ◌∙◌, subst}
 use Rattle.std.specs.Prelude.{slice_get}
 use Rattle.std.specs.List.{list_all, list_any}
@@ -12,7 +12,7 @@ use Rattle.smf_dep.specs.Parking.{blocked_by, blocks_at, meets_at, met_by}
 use Rattle.smf_dep.specs.Places.{link_of, link_stops, places, places_from}
 use Rattle.smf_dep.specs.Verdicts.{blocks, has_all, has_one, is_blocked, is_cited, is_met, is_off, is_parked, is_running, meets, must_stop, runs_or_parked, stops_by}
 
--- ---- what stands at a place
+-- ---- the instance at a place
 
 abbrev pub look : (Member → Bool) → List Member → ℕ → Bool
 look f ms place = option_map_or f (slice_get ms place) false
@@ -32,7 +32,7 @@ behind_front (x ∷ all) (suc k) m ms e = behind_front all k m ms e
 pub next_front : (all : List Member) (k : ℕ) (m : Member) (ms : List Member) → drop k all ≡ m ∷ ms → drop (k + 1) all ≡ ms
 next_front all k m ms e = subst (λ j. drop j all ≡ ms) (suc-eq-add-one k) (behind_front all k m ms e)
 
--- ---- what an entity stands for
+-- ---- the instances that an entity stands for
 
 any_from : (f : Member → Bool) (e : List ℕ) (all ms : List Member) (k : ℕ) → drop k all ≡ ms
     → list_any (look f all) (places_from k e ms) ≡ list_any f (filter (is_cited e) ms)

@@ -1,4 +1,4 @@
--- What noting places does to the index.
+-- The index before and after places are noted in it.
 use Rattle.std.proofs.Common.{◌≡◌, ℕ, zero, suc, ◌+◌, ◌<◌, ◌≤◌, List, [], ◌∷◌, ◌++◌, length, drop, get_or, Some, refl, sym, ap, ◌∙◌, subst, inl, inr, arith, length-set}
 use Rattle.std.specs.Prelude.{slice_get, slice_set}
 use Rattle.std.proofs.lemmas.Bool.{cases_eq, cases_lt}
@@ -71,7 +71,7 @@ notes_then P Q at cs ds es f g =
 notes_weaker : (P Q : ℕ → Type 0) (at : ℕ) (cs ds : List (List ℕ)) → ((p : ℕ) → P p → Q p) → Notes P at cs ds → Notes Q at cs ds
 notes_weaker P Q at cs ds f h = record { size = h.size; stays = h.stays; notes = λ p lt out. f p (h.notes p lt out) }
 
--- what is left of a list leads to the whole
+-- the rest of a list leads to the whole
 pub record Leads {X : Type 0} (P : ℕ → List X → Type 0) (at : ℕ) (left all : List X) (cs0 cs : List (List ℕ)) : Type 0 where
   pub leads : (es : List (List ℕ)) → Notes (λ p. P p left) at cs es → Notes (λ p. P p all) at cs0 es
 

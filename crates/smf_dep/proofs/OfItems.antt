@@ -21,7 +21,7 @@ rises_of items r = rises_mapped by_item by_member member_of items refl same_numb
 pub lookup_of : (items : List ViewItem) (n : ℕ) → lookup by_member (members items) n ≡ option_map member_of (lookup by_item items n)
 lookup_of items n = lookup_mapped by_item by_member member_of items n refl same_number
 
--- what stands at the place of a number is what is looked up by it
+-- the instance at the place of a number is the one that is looked up by it
 pub at_place : (ms : List Member) (n place : ℕ) → position (has_key by_member n) ms ≡ Some place → slice_get ms place ≡ lookup by_member ms n
 at_place ms n place e = place_looks by_member ms n place e
 

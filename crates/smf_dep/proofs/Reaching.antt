@@ -1,4 +1,4 @@
--- What a change reached: all else is found to be as before.
+-- The reach of a change: all other instances are found to be as before.
 use Rattle.std.proofs.Common.{◌≡◌, ◌⊎◌, ℕ, ◌+◌, ◌<◌, ◌≤◌, List, [], ◌∷◌, length, get_or, Bool, true, false, ◌&&◌, ◌||◌, Option, refl, sym, ap, ◌∙◌, subst, inl, inr, arith}
 use Rattle.std.specs.Prelude.{nat_lt, slice_get}
 use Rattle.std.specs.List.{list_all, list_any}
@@ -159,7 +159,7 @@ within_stay ns cs ss ss' work p f index lt was now t a out low =
     all_met_agree (runs_at ns') (runs_at ns) (off_at ns') (off_at ns) (is_parked ns') (is_parked ns) n.links
     (flags (λ (m : Node). m.flags.running)) (flags (λ (m : Node). m.flags.off)) parked)
 
--- what a change did not reach is found to be as before
+-- an instance that a change did not reach is found to be as before
 pub reaches : (ns ns' : List Node) (cs : List (List ℕ)) (ss ss' work was touched : List ℕ) (next next' capacity capacity' p : ℕ) (f : Flags) → ns' ≡ with_flags ns p f → p < length ns
     → IsKept ns ss cs next capacity → IsKept ns' ss' cs next' capacity' → Touches ns' cs ss ss' work p
     → ((a : ℕ) → IsOut a touched → a < length ns → IsOut a was × IsOut a work) → Reaches ns ns' p was touched

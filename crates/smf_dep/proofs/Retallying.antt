@@ -1,4 +1,4 @@
--- What the tallies are after one instance changed, and what they say of its links.
+-- The tallies after one instance changed, and the links as these tallies say.
 use Rattle.std.proofs.Common.{◌≡◌, ◌⊎◌, ℕ, zero, suc, ◌+◌, ◌<◌, ◌≤◌, List, [], ◌∷◌, ◌++◌, map, length, drop, get_or, Bool, false, ◌||◌, Option, Some, None, refl, sym, take, ap, ◌∙◌, subst, inl, inr, arith, length-set}
 use Rattle.std.specs.Prelude.{nat_lt, slice_get, slice_index, slice_set}
 use Rattle.std.specs.Option.{option_map, option_map_or, unwrap_or}
@@ -22,7 +22,7 @@ use Rattle.smf_dep.proofs.Keeping.{length-with_flags, others_stay}
 use Rattle.smf_dep.proofs.Steps.{other}
 use Rattle.smf_dep.proofs.Work.{out_more}
 
--- ---- lists by what stands at each place
+-- ---- lists by the item at each place
 
 pub get_set : {X : Type 0} (xs : List X) (i : ℕ) (x : X) → i < length xs → slice_get (slice_set xs i x) i ≡ Some x
 get_set [] i x lt = absurd (omega arith)
@@ -174,7 +174,7 @@ pub tallied_end : (links : ℕ → List Link) (r o P : ℕ → Bool) (w : Wires)
     → AreTalliedBut links r o P w (drop i left) ts → AreTalliedBut links r o P w [] ts
 tallied_end links r o P w ts left i le h = let F : List ℕ → Type 0 = λ l. AreTalliedBut links r o P w l ts in subst F (drop_all i left le) h
 
--- ---- where one place changed, all but its entities are right
+-- ---- if one place changed, all but its entities are right
 
 entity_same : (x : ℕ) (r r' o o' P P' : ℕ → Bool) → Away x r r' → Away x o o' → Away x P P' → (ps : List ℕ) → IsOut x ps → entity_of r o P ps ≡ entity_of r' o' P' ps
 entity_same x r r' o o' P P' ar ao ap' ps out =
@@ -236,7 +236,7 @@ flags_tallied ns ss w ts p f lt h =
     (λ q ne. ap (λ (o : Option Node). option_map_or (λ (m : Node). m.flags.off) o false) (sym (others_stay ns p f q ne)))
     (λ q ne. refl) h.wired h.tallied)
 
--- ---- what tallies say of links
+-- ---- links as tallies say
 
 pub told : (ns : List Node) (ss : List ℕ) (w : Wires) (ts : List (List Entity)) (a : ℕ) (n : Node) → slice_get ns a ≡ Some n → IsTallied ns ss w ts
     → AreTold (runs_at ns) (off_at ns) (stamped ss) (citing_at w.numbers a) ts n.links
@@ -270,7 +270,7 @@ all_tallied links r o P w ts e =
       right = λ t f out. ap (λ (l : List Entity). slice_get l f) (tally_is links r o P w ts t e) ∙ slice_get-map (entity_of r o P) (cited_of links w.owners t) f;
     }
 
--- ---- the same over what a call names
+-- ---- the same over the values that a call names
 
 pub tallied_same : (ns ns' : List Node) (ss ss' : List ℕ) (w : Wires) (ts ts' : List (List Entity)) → ns ≡ ns' → ss ≡ ss' → ts ≡ ts' → IsTallied ns ss w ts → IsTallied ns' ss' w ts'
 tallied_same ns ns' ss ss' w ts ts' en es et h =

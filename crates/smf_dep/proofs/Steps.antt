@@ -130,7 +130,7 @@ loosens_on ns cs limit capacity capacity' ss work ss' work' at x lt is le es ew 
     let F : List ℕ → Type 0 = λ s. IsLoosening ns cs limit capacity' s work' (at + 1) in
     subst F (sym es) (loosens ns cs limit capacity capacity' ss work work' at x lt is le (drops ns ss x) refl ew h)
 
--- where nothing is left to be looked at, giving may begin
+-- if nothing is left to be looked at, giving stamps may begin
 pub begin_spreading : (ns : List Node) (cs : List (List ℕ)) (limit capacity : ℕ) (ss work : List ℕ) (at : ℕ) → ((a : ℕ) → IsOut a (drop at work))
     → IsLoosening ns cs limit capacity ss work at → IsSpreading ns cs (limit + 0) capacity ss work 0
 begin_spreading ns cs limit capacity ss work at out h =

@@ -1,4 +1,4 @@
--- What stays where an instance gets another state, and what depends on it where others come or go.
+-- Findings that stay if an instance gets another state, and all findings if instances come or go.
 use Rattle.std.proofs.Common.{◌≡◌, ℕ, zero, suc, ◌+◌, ◌<◌, ◌≤◌, List, [], ◌∷◌, ◌++◌, map, length, drop, get_or, Bool, false, ◌||◌, ◌&&◌, not, Option, Some, None, refl, sym, ap, ◌∙◌, subst, inl, inr, arith}
 use Rattle.std.specs.Prelude.{is_some, slice_get, slice_set}
 use Rattle.std.specs.List.{list_any}
@@ -116,7 +116,7 @@ is_found i ms p r h s =
     none_is : None ≡ Some h.1.member → ⊥
     none_is g = cc
 
--- it is put where it stands
+-- it is put at its own place
 pub set_is_put : (i : ViewItem) (ms : List Member) (p : ℕ) → Rises by_member ms → IsAlikeAt i ms p → slice_set ms p (member_of i) ≡ put by_member (member_of i) ms
 set_is_put i ms p r h =
     let P : ℕ → Type 0 = λ n. StandsAt by_member n p ms in
@@ -146,7 +146,7 @@ nodes_are_set ms ms' p m x e same is =
     let wired : map wires ms' ≡ map wires ms = ap (map wires) is ∙ map_set wires ms p m x e same in
     sym (nodes_set ms ms p m x e (ap (λ (w : Wires). w.1) same)) ∙ ap (map (node_of ms)) (sym is) ∙ ap (λ (f : Member → Node). map f ms') (sym (node_alike ms' ms wired))
 
--- ---- events of what is cited
+-- ---- events of cited instances
 
 module _ (ms ks : List Member) (p : ℕ) (apart : (a : ℕ) → (p ≡ a → ⊥) → slice_get ks a ≡ slice_get ms a) where
   events_stay : (f : Member → Bool) (ps : List ℕ) → IsOut p ps → list_any (event_at f ks) ps ≡ list_any (event_at f ms) ps
@@ -311,7 +311,7 @@ by_numbers ms ks was touched numbers r r' h named =
       finding = λ n m out e. found n m out e;
     }
   where
-    -- what is looked up afterwards was there before, if it is not touched
+    -- an instance that is looked up afterwards was there before, if it is not touched
     back : (n : ℕ) (m : Member) → IsOut n numbers → lookup by_member ks n ≡ Some m → (a : ℕ) × (slice_get ms a ≡ Some m) × IsOut a touched
     back n m out e =
         let at = at_found by_member ks n m e in
@@ -358,7 +358,7 @@ by_touched ms ks shown was touched places numbers given r r' h es et eg named =
     let Q : List ℕ → Type 0 = IsOut m.instance in
     subst P et (named a m (ap (λ l. slice_get l a) es ∙ at) (subst Q eg out)))
 
--- ---- where all numbers are named
+-- ---- if all numbers are named
 
 not_there : (ms : List Member) (n : ℕ) → IsOut n (map number ms) → (o : Option Member) → lookup by_member ms n ≡ o → o ≡ None
 not_there ms n out None e = refl

@@ -12,7 +12,7 @@ use Rattle.smf_dep.specs.Parking.{IsOut}
 use Rattle.smf_dep.specs.Stamps.{Notes, citing_at}
 use Rattle.smf_dep.specs.Wires.{AreEntered, AreNumbered, AreSpotted, HasSpot, cited_at, cited_of, links_at, owner_of, places_of, spot_of}
 
--- ---- one more behind a list
+-- ---- one more after a list
 
 pub get_before : {X : Type 0} (xs ys : List X) (k : ℕ) → k < length xs → slice_get (xs ++ ys) k ≡ slice_get xs k
 get_before [] ys k lt = absurd (omega arith)

@@ -1,4 +1,4 @@
--- What is out of a list, and how much work there can be.
+-- Places that are out of a list, and how much work there can be.
 use Rattle.std.proofs.Common.{◌≡◌, ℕ, zero, suc, ◌+◌, ◌-◌, ◌<◌, ◌≤◌, List, [], ◌∷◌, ◌++◌, length, drop, get_or, Bool, true, false, if◌then◌else◌, sym, ap, ◌∙◌, subst, arith, length-append}
 use Rattle.std.specs.Prelude.{nat_lt, slice_set}
 use Rattle.std.proofs.lemmas.Bool.{lt-ltb}
@@ -24,7 +24,7 @@ out_drop a (suc i) (x ∷ xs) h = out_drop a i xs h.1
 pub left_at : {X : Type 0} (xs : List X) (i : ℕ) (x : X) → i < length xs → x ≡ get_or xs i x → drop i xs ≡ x ∷ drop (i + 1) xs
 left_at xs i x lt at = drop_more xs i x lt ∙ ap (λ y. y ∷ drop (i + 1) xs) (sym at)
 
--- what is neither the next nor behind it is out of what is left
+-- a place that is neither the next nor after it is out of the rest
 pub out_more : (a : ℕ) (xs : List ℕ) (i x : ℕ) → i < length xs → x ≡ get_or xs i x → (x ≡ a → ⊥) → IsOut a (drop (i + 1) xs) → IsOut a (drop i xs)
 out_more a xs i x lt at ne out = let P : List ℕ → Type 0 = IsOut a in subst P (sym (left_at xs i x lt at)) (ne, out)
 
@@ -59,7 +59,7 @@ adds_one next place work work' le e =
           out_right a (drop next work) (place ∷ []) (subst Q (drop-append-le next work (place ∷ []) le) (subst P e out));
     }
 
--- what is left of the longer work
+-- the rest of the longer work
 pub adds_rest : (next : ℕ) (places work work' : List ℕ) → next ≤ length work → Adds next places work work' → (a : ℕ) → IsOut a (drop next work') → IsOut a (drop next work)
 adds_rest next places work work' le h a out =
     let P : List ℕ → Type 0 = λ l. IsOut a (drop next l) in let Q : List ℕ → Type 0 = IsOut a in
@@ -106,7 +106,7 @@ citing_most [] x = omega arith
 citing_most (c ∷ cs) zero = omega arith
 citing_most (c ∷ cs) (suc x) = let le = citing_most cs x in omega arith
 
--- what is not stamped weighs nothing
+-- a place without a stamp adds nothing to the weight
 pub weight_rest : (ss : List ℕ) (cs : List (List ℕ)) (x : ℕ) → stamped ss x ≡ false → weight ss cs + length (citing_at cs x) ≤ total cs
 weight_rest [] cs x h = let le = citing_most cs x in omega arith
 weight_rest (s ∷ ss) [] x h = omega arith

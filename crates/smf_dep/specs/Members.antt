@@ -1,4 +1,4 @@
--- What a verdict looks at: of each instance its state, its revisions, and what it depends on.
+-- Members, which verdicts look at: each is an instance with its state, its revisions, and what it depends on.
 use Rattle.std.specs.Prelude.{◌≡◌, ℕ, nat_eq, List, [], ◌∷◌, ◌++◌, map, Bool, if◌then◌else◌, Option, Some, None, Result, Ok, Err}
 use Rattle.std.specs.Cmp.Lexicographic.{pointwise}
 use Rattle.smf_fmri.specs.ByKey.{By, by_number}
@@ -41,7 +41,7 @@ abbrev pub with_implicit : List ℕ → Result (List Dependency) DependencyFault
 with_implicit owner (Ok ds) = Some (ds ++ implicit owner)
 with_implicit owner (Err fault) = None
 
--- what an instance depends on, where each of its groups can be read; bytes that are no snapshot are as a group that can't
+-- the dependencies of an instance, if each of its groups can be read; bytes that are no snapshot can't be read
 abbrev pub dependencies_in : List ℕ → Result Snapshot BodyFault → Option (List Dependency)
 dependencies_in owner (Ok s) = with_implicit owner (read_groups (composed s))
 dependencies_in owner (Err fault) = None
@@ -73,7 +73,7 @@ member_by i snapshot = member_with i (composed_in snapshot) (dependencies_in i.r
 unfoldable pub member_of : ViewItem → Member
 member_of i = member_by i (snapshot_in i.body)
 
--- what of a member says where its dependencies lead
+-- the name and the dependencies of a member
 abbrev pub wires : Member → List ℕ × Option (List Dependency)
 wires m = (m.name, m.dependencies)
 
@@ -89,7 +89,7 @@ pub record IsOfItem (i : ViewItem) (m : Member) : Type 0 where
   pub groups : m.composed ≡ composed_in (snapshot_in i.body)
   pub needs : m.dependencies ≡ dependencies_in i.row.owner (snapshot_in i.body)
 
--- what it is and is to be are those of an item
+-- its number, its states, and if it is enabled are those of an item
 pub record HasStateOf (i : ViewItem) (m : Member) : Type 0 where
   pub instance : m.instance ≡ i.instance
   pub enabled : m.enabled ≡ i.enabled

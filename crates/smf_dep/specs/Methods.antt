@@ -1,4 +1,4 @@
--- Whether the methods of an instance let it be run.
+-- The methods of an instance, and if they let it be run.
 use Rattle.std.specs.Prelude.{ℕ, List, Bool, true, false, ◌||◌, Option, Some, None, Result, Ok, Err}
 use Rattle.smf_contract.specs.declared.cookie.Method.{Method}
 use Rattle.smf_contract.specs.declared.cookie.Method.TheVariants as methods

@@ -8,7 +8,7 @@ use Rattle.smf_dep.specs.declared.link.Flags.{Flags}
 use Rattle.smf_dep.specs.declared.link.Link.{Link}
 use Rattle.smf_dep.specs.declared.link.Node.{Node}
 
--- what is so of the instance at a place, and of no instance where there is none
+-- a test of the instance at a place, which fails if there is none
 abbrev pub node_is : (Node → Bool) → List Node → ℕ → Bool
 node_is is_so ns p = option_map_or is_so (slice_get ns p) false
 
@@ -25,7 +25,7 @@ with_flags [] p f = []
 with_flags (n ∷ ns) zero f = record n { flags = f } ∷ ns
 with_flags (n ∷ ns) (suc p) f = n ∷ with_flags ns p f
 
--- ---- a link, by what runs, what is off and what is parked
+-- ---- a link, by the places that run, are off and are parked
 
 abbrev pub blocks_at : Grouping → (ℕ → Bool) → (ℕ → Bool) → (ℕ → Bool) → List (List ℕ) → Bool
 blocks_at RequireAll runs off parked es = not (list_all (list_any runs) es) && list_any (list_all parked) es
@@ -62,7 +62,7 @@ parked_in (suc k) ns p = parks ns (parked_in k ns) p
 abbrev pub is_parked : List Node → ℕ → Bool
 is_parked ns p = parked_in (length ns) ns p
 
--- ---- what is asked
+-- ---- links that are met
 
 abbrev pub IsOut : ℕ → List ℕ → Type 0
 IsOut a [] = Unit

@@ -29,11 +29,11 @@ abbrev pub links_of : List Member → Option (List Dependency) → List Link
 links_of ms None = []
 links_of ms (Some ds) = map (link_of ms) ds
 
--- what an instance is by its state
+-- the flags of an instance, by its state
 abbrev pub flags_of : Member → Flags
 flags_of m = record { running = is_running m; off = is_off m; idle = is_idle m; waiting = is_waiting m }
 
--- an instance with what it depends on by places, none where a group can't be read
+-- an instance with its links by places, none if a group can't be read
 abbrev pub node_of : List Member → Member → Node
 node_of ms m = record { flags = flags_of m; links = links_of ms m.dependencies }
 
@@ -52,7 +52,7 @@ links_among all ms = map (λ (m : Member). links_of all m.dependencies) ms
 abbrev pub flag_at : List Bool → ℕ → Bool
 flag_at flags place = unwrap_or (slice_get flags place) false
 
--- ---- what stops a running instance, by places
+-- ---- stops of a running instance, by places
 
 abbrev pub event_at : (Member → Bool) → List Member → ℕ → Bool
 event_at is_event ms place = option_map_or is_event (slice_get ms place) false
@@ -75,7 +75,7 @@ abbrev pub edges_in : List Link → List ℕ
 edges_in [] = []
 edges_in (l ∷ ls) = if excludes l.grouping then edges_in ls else joined l.cited ++ edges_in ls
 
--- where the edges of each instance lead
+-- the places that the edges of each instance lead to
 abbrev pub edges_of : List Node → List (List ℕ)
 edges_of nodes = map (λ n. edges_in n.links) nodes
 
@@ -83,7 +83,7 @@ edges_of nodes = map (λ n. edges_in n.links) nodes
 pub record AreCycles (ms : List Member) (flags : List Bool) : Type 0 where
   pub flag : (a : ℕ) (m : Member) → slice_get ms a ≡ Some m → flag_at flags a ≡ on_cycle ms m
 
--- ---- what is found of each instance
+-- ---- the finding of each instance
 
 unfoldable pub finding_of : List Member → Member → Finding
 finding_of ms m =
@@ -114,7 +114,7 @@ IsBeginning [] ys = Unit
 IsBeginning (x ∷ xs) [] = ⊥
 IsBeginning (x ∷ xs) (y ∷ ys) = (x ≡ y) × IsBeginning xs ys
 
--- what a graph keeps beside its instances
+-- the data that a graph keeps beside its instances
 pub record IsGraph (ms : List Member) (ns : List Node) (cycles : List Bool) : Type 0 where
   pub linked : ns ≡ nodes_of ms
   pub turning : AreCyclesOf ns cycles

@@ -1,4 +1,4 @@
--- What a dependency group asks, by smf(5).
+-- Dependency groups and what they ask, by smf(5).
 use Rattle.std.specs.Prelude.{◌≡◌, ℕ, nat_eq, List, [], ◌∷◌, Bool, true, false, if◌then◌else◌, codes, Option, Some, None, Result, Ok, Err}
 use Rattle.std.specs.Cmp.Lexicographic.{pointwise}
 use Rattle.smf_fmri.specs.declared.fault.FmriFault.{FmriFault}
@@ -16,7 +16,7 @@ use Rattle.smf_dep.specs.declared.dependency.RestartOn.TheVariants as restarts
 use Rattle.smf_dep.specs.declared.fault.DependencyFault.{DependencyFault}
 use Rattle.smf_dep.specs.declared.fault.DependencyFault.TheVariants.{Memory, BadGrouping, BadRestartOn, PathType, BadEntity}
 
--- what a call returned is what the definition gives, unless memory ran out
+-- a call returned what the definition gives, unless memory ran out
 abbrev pub Fails : {Y : Type 0} → DependencyFault → Result Y DependencyFault → Type 0
 Fails Memory given = Unit {0}
 Fails e given = given ≡ Err e
@@ -60,7 +60,7 @@ abbrev pub is_service_text : Option (List ℕ) → Bool
 is_service_text None = false
 is_service_text (Some text) = pointwise nat_eq text (codes "service")
 
--- `type` is `service`, also where it is missing
+-- `type` is `service`, or it is missing
 abbrev pub is_of_services : Option PropertyRecord → Bool
 is_of_services None = true
 is_of_services (Some p) = is_service_text (text_of p.values)
@@ -128,12 +128,12 @@ abbrev pub with_group : Bool → GroupRecord → Result (List Dependency) Depend
 with_group true g others = before (dependency_of g) others
 with_group false g others = others
 
--- what the groups of type dependency ask, in the order of the groups
+-- the dependencies that the groups of type dependency ask for, in the order of the groups
 unfoldable pub read_groups : List GroupRecord → Result (List Dependency) DependencyFault
 read_groups [] = Ok []
 read_groups (g ∷ gs) = with_group (is_dependency g) g (read_groups gs)
 
--- what was read so far stands before the rest
+-- the dependencies read so far stand before the rest
 abbrev pub behind : {X : Type 0} → List X → Result (List X) DependencyFault → Result (List X) DependencyFault
 behind [] rest = rest
 behind (x ∷ xs) rest = with_first x (behind xs rest)

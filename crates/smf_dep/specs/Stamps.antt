@@ -1,24 +1,24 @@
--- Stamps of places: 0 where an instance is not parked, else a number by which what parks it has a smaller one.
+-- Stamps of places. A stamp is 0 if the instance is not parked; else those that park it have smaller stamps.
 use Rattle.std.specs.Prelude.{◌≡◌, ◌⊎◌, ℕ, ◌+◌, ◌*◌, ◌≤◌, ◌<◌, nat_lt, List, [], ◌∷◌, ◌++◌, length, drop, slice_get, slice_index, slice_set, Bool, true, false, not, ◌&&◌, if◌then◌else◌, Some}
 use Rattle.std.specs.Option.{unwrap_or}
 use Rattle.smf_dep.specs.declared.link.Link.{Link}
 use Rattle.smf_dep.specs.declared.link.Node.{Node}
 use Rattle.smf_dep.specs.Parking.{IsOut, met_at, parks}
 
--- what is stamped, and what is stamped with a smaller number
+-- a place has a stamp, or it has one below a limit
 abbrev pub stamped : List ℕ → ℕ → Bool
 stamped ss p = nat_lt 0 (slice_index ss p)
 
 abbrev pub before : List ℕ → ℕ → ℕ → Bool
 before ss limit p = nat_lt 0 (slice_index ss p) && nat_lt (slice_index ss p) limit
 
--- ---- what has to hold of each place
+-- ---- conditions on each place
 
--- what is stamped is parked by what has smaller stamps
+-- a place with a stamp is parked by those with smaller stamps
 abbrev pub IsSound : List Node → List ℕ → ℕ → Type 0
 IsSound ns ss a = stamped ss a ≡ true → parks ns (before ss (slice_index ss a)) a ≡ true
 
--- what is not stamped is not parked by all that is
+-- a place without a stamp is not parked by all that have one
 abbrev pub IsComplete : List Node → List ℕ → ℕ → Type 0
 IsComplete ns ss a = stamped ss a ≡ false → parks ns (stamped ss) a ≡ false
 
@@ -46,7 +46,7 @@ pub record IsIndex (ns : List Node) (cs : List (List ℕ)) : Type 0 where
 abbrev pub noted : List (List ℕ) → ℕ → ℕ → List (List ℕ)
 noted cs at p = slice_set cs p (citing_at cs p ++ at ∷ [])
 
--- what is indexed stays, and what cites by P is
+-- the index keeps its entries, and has an entry for each place that P does not leave out
 pub record Notes (P : ℕ → Type 0) (at : ℕ) (cs cs' : List (List ℕ)) : Type 0 where
   pub size : length cs' ≡ length cs
   pub stays : (p a : ℕ) → IsOut a (citing_at cs' p) → IsOut a (citing_at cs p)
@@ -58,7 +58,7 @@ abbrev pub total : List (List ℕ) → ℕ
 total [] = 0
 total (c ∷ cs) = length c + total cs
 
--- of what is stamped
+-- the total over the places that have a stamp
 abbrev pub weight : List ℕ → List (List ℕ) → ℕ
 weight [] cs = 0
 weight (s ∷ ss) [] = 0
@@ -66,11 +66,11 @@ weight (s ∷ ss) (c ∷ cs) = (if nat_lt 0 s then length c else 0) + weight ss 
 
 -- ---- one step
 
--- a place loses its stamp where what has smaller stamps does not park it
+-- a place loses its stamp if those with smaller stamps do not park it
 unfoldable pub drops : List Node → List ℕ → ℕ → Bool
 drops ns ss x = stamped ss x && not (parks ns (before ss (slice_index ss x)) x)
 
--- a place gets a stamp where what is stamped parks it
+-- a place gets a stamp if those with a stamp below the limit park it
 unfoldable pub gains : List Node → List ℕ → ℕ → ℕ → Bool
 gains ns ss limit x = not (stamped ss x) && parks ns (before ss limit) x
 
@@ -78,7 +78,7 @@ abbrev pub stamps_by : Bool → List ℕ → ℕ → ℕ → List ℕ
 stamps_by true ss x s = slice_set ss x s
 stamps_by false ss x s = ss
 
--- more places stand behind the work, so that these are among what is left of it
+-- more places stand after the work, so that all of these are among the rest of it
 pub record Adds (next : ℕ) (places work work' : List ℕ) : Type 0 where
   pub added : List ℕ
   pub behind : work' ≡ work ++ added
@@ -89,7 +89,7 @@ abbrev pub AddsBy : Bool → ℕ → List ℕ → List ℕ → List ℕ → Type
 AddsBy true next places work work' = Adds next places work work'
 AddsBy false next places work work' = work' ≡ work
 
--- ---- what holds while stamps are taken away, and while they are given
+-- ---- conditions while stamps are taken away, and while they are given
 
 pub record IsLoosening (ns : List Node) (cs : List (List ℕ)) (limit capacity : ℕ) (ss work : List ℕ) (at : ℕ) : Type 0 where
   pub index : IsIndex ns cs
@@ -107,7 +107,7 @@ pub record IsSpreading (ns : List Node) (cs : List (List ℕ)) (limit capacity :
   pub complete : (a : ℕ) → IsOut a (drop at work) → IsComplete ns ss a
   pub space : length work + total cs ≤ capacity + weight ss cs
 
--- what is kept beside the instances
+-- the data kept beside the instances
 pub record IsKept (ns : List Node) (ss : List ℕ) (cs : List (List ℕ)) (next capacity : ℕ) : Type 0 where
   pub index : IsIndex ns cs
   pub size : length ss ≡ length ns
@@ -116,7 +116,7 @@ pub record IsKept (ns : List Node) (ss : List ℕ) (cs : List (List ℕ)) (next 
   pub complete : (a : ℕ) → IsComplete ns ss a
   pub space : length ns + 1 + 3 * total cs ≤ capacity
 
--- the same where the flags of one instance changed
+-- the same if the flags of one instance changed
 pub record IsTouched (ns : List Node) (ss : List ℕ) (cs : List (List ℕ)) (next capacity place : ℕ) : Type 0 where
   pub index : IsIndex ns cs
   pub size : length ss ≡ length ns
@@ -125,15 +125,15 @@ pub record IsTouched (ns : List Node) (ss : List ℕ) (cs : List (List ℕ)) (ne
   pub complete : (a : ℕ) → (place ≡ a → ⊥) → IsOut a (citing_at cs place) → IsComplete ns ss a
   pub space : length ns + 1 + 3 * total cs ≤ capacity
 
--- ---- what a change reached
+-- ---- the reach of a change
 
--- what is out of the work has its stamp as before, and so has all that it cites
+-- a place out of the work has its stamp as before, and so has all that it cites
 pub record Spreads (ns : List Node) (cs : List (List ℕ)) (ss work ss' work' : List ℕ) : Type 0 where
   pub grown : (a : ℕ) → IsOut a work' → IsOut a work
   pub same : (a : ℕ) → IsOut a work' → stamped ss' a ≡ stamped ss a
   pub reached : (x : ℕ) → (stamped ss' x ≡ stamped ss x) ⊎ ((a : ℕ) → IsOut a work' → IsOut a (citing_at cs x))
 
--- the same of instances that are there, where the flags of a place changed
+-- the same of instances that are there, if the flags of a place changed
 pub record Touches (ns : List Node) (cs : List (List ℕ)) (ss ss' work : List ℕ) (place : ℕ) : Type 0 where
   pub begun : (a : ℕ) → IsOut a work → a < length ns → (place ≡ a → ⊥) × IsOut a (citing_at cs place)
   pub same : (a : ℕ) → IsOut a work → a < length ns → stamped ss' a ≡ stamped ss a
@@ -143,8 +143,8 @@ pub record Touches (ns : List Node) (cs : List (List ℕ)) (ss ss' work : List �
 pub record Begins (ns : List Node) (cs : List (List ℕ)) (ss ss' work : List ℕ) (place : ℕ) : Type 0 where
   pub begins : ((ss' ≡ ss) × (work ≡ place ∷ citing_at cs place)) ⊎ ((a : ℕ) → IsOut a work → length ns ≤ a)
 
--- where the flags of a place are others: an instance whose place is not touched does not cite that place, and its links
--- are met as before
+-- The flags of a place changed. If an instance's own place is not touched, it does not cite that place, and its links
+-- are met as before.
 pub record Reaches (before after : List Node) (place : ℕ) (was touched : List ℕ) : Type 0 where
   pub grown : (a : ℕ) → IsOut a touched → a < length before → IsOut a was
   pub apart : (a : ℕ) (n : Node) → IsOut a touched → slice_get before a ≡ Some n → (place ≡ a → ⊥) × Avoid place n.links

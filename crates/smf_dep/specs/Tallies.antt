@@ -1,11 +1,11 @@
--- What an entity is by the places that it stands for, and a link by what its entities are.
+-- An entity by the places that it stands for, and a link by its entities.
 use Rattle.std.specs.Prelude.{◌≡◌, ℕ, List, Bool, false, not, ◌&&◌, ◌||◌, count_by}
 use Rattle.std.specs.List.{list_all, list_any}
 use Rattle.smf_dep.specs.declared.dependency.Grouping.{Grouping}
 use Rattle.smf_dep.specs.declared.dependency.Grouping.TheVariants.{RequireAll, RequireAny, OptionalAll, ExcludeAll}
 use Rattle.smf_dep.specs.declared.tally.Entity.{Entity}
 
--- an entity runs where one of its places runs; it is parked, off or settled where all are
+-- an entity runs if one of its places runs; it is parked, off or settled if all are
 abbrev pub entity_of : (ℕ → Bool) → (ℕ → Bool) → (ℕ → Bool) → List ℕ → Entity
 entity_of runs off parked ps =
     record {

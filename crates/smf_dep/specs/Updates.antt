@@ -1,4 +1,4 @@
--- Members that are brought up to date by items that changed, and what stays of what is found of them.
+-- Members that are brought up to date by items that changed, and the findings that stay.
 use Rattle.std.specs.Prelude.{◌≡◌, ℕ, ◌<◌, List, [], ◌∷◌, map, length, Option, Some, None, slice_get}
 use Rattle.smf_fmri.specs.ByKey.{lookup, put, without}
 use Rattle.smf_state.specs.declared.view.ChangedItem.{ChangedItem}
@@ -8,7 +8,7 @@ use Rattle.smf_dep.specs.Members.{IsOfItem, by_member, member_of, wires}
 use Rattle.smf_dep.specs.Parking.{IsOut}
 use Rattle.smf_dep.specs.Places.{finding_of}
 
--- of a number that is not touched all that is found is as before
+-- an instance whose number is not touched is as before, and so is its finding
 pub record OthersStay (before after : List Member) (touched : List ℕ) : Type 0 where
   pub member : (n : ℕ) → IsOut n touched → lookup by_member after n ≡ lookup by_member before n
   pub finding : (n : ℕ) (m : Member) → IsOut n touched → lookup by_member after n ≡ Some m → finding_of after m ≡ finding_of before m
@@ -45,7 +45,7 @@ abbrev pub AreAlike : List ChangedItem → List Member → Type 0
 AreAlike [] ms = Unit
 AreAlike (c ∷ cs) ms = IsAlikeChange c.item ms × AreAlike cs ms
 
--- ---- what such a change leaves
+-- ---- instances that such a change leaves alone
 
 abbrev pub number : Member → ℕ
 number m = m.instance

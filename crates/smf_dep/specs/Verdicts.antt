@@ -37,7 +37,7 @@ has_one is_so ms entity = list_any is_so (cited ms entity)
 abbrev pub has_all : (Member → Bool) → List Member → List ℕ → Bool
 has_all is_so ms entity = list_all is_so (cited ms entity)
 
--- ---- what an instance is
+-- ---- an instance by its state
 
 abbrev pub is_running : Member → Bool
 is_running m = runs m.state
@@ -55,7 +55,7 @@ is_waiting m = m.enabled && same_state m.state Offline && is_none m.next
 
 -- ---- blocked and parked
 
--- where a group is not met and can't be by waiting alone, `parked` telling which instances won't run
+-- a group is not met and can't be by waiting alone; `parked` tells which instances won't run
 abbrev pub blocks : Grouping → (Member → Bool) → List Member → List (List ℕ) → Bool
 blocks RequireAll parked ms es = not (list_all (has_one is_running ms) es) && list_any (has_all parked ms) es
 blocks RequireAny parked ms es = not (list_any (has_one is_running ms) es) && list_all (has_all parked ms) es
@@ -69,7 +69,7 @@ abbrev pub any_blocked : (Member → Bool) → List Member → Option (List Depe
 any_blocked parked ms None = false
 any_blocked parked ms (Some ds) = list_any (is_blocked parked ms) ds
 
--- an instance is parked where it is idle, or where it waits and one of its groups is blocked in a round less
+-- an instance is parked if it is idle, or if it waits and one of its groups is blocked in a round less
 unfoldable pub parked_in : ℕ → List Member → Member → Bool
 parked_in zero ms m = is_idle m
 parked_in (suc k) ms m = is_idle m || (is_waiting m && any_blocked (parked_in k ms) ms m.dependencies)
@@ -100,7 +100,7 @@ verdict_by false false = Waiting
 unfoldable pub verdict : List Member → Dependency → Verdict
 verdict ms d = verdict_by (is_met ms d) (is_blocked (is_parked ms) ms d)
 
--- each group of an instance is met; where one can't be read none is
+-- each group of an instance is met; if one can't be read none is
 abbrev pub all_met_in : List Member → Option (List Dependency) → Bool
 all_met_in ms None = false
 all_met_in ms (Some ds) = list_all (is_met ms) ds
@@ -108,7 +108,7 @@ all_met_in ms (Some ds) = list_all (is_met ms) ds
 unfoldable pub all_met : List Member → Member → Bool
 all_met ms m = all_met_in ms m.dependencies
 
--- ---- what stops a running instance
+-- ---- stops of a running instance
 
 -- by the revisions of an instance that is cited: a stop by an error, another stop, a refresh, all after the base
 abbrev pub is_event : RestartOn → ℕ → Member → Bool
@@ -117,7 +117,7 @@ is_event restarts.Error base m = nat_lt base m.err
 is_event restarts.Restart base m = nat_lt base m.err || nat_lt base m.stop
 is_event restarts.Refresh base m = nat_lt base m.err || nat_lt base m.stop || nat_lt base m.refresh
 
--- of what is excluded, a start counts alone
+-- if an instance is excluded, only its start counts
 abbrev pub is_start_event : RestartOn → ℕ → Member → Bool
 is_start_event restarts.Nothing base m = false
 is_start_event _ base m = nat_lt base m.start

@@ -19,7 +19,7 @@ links_at ns a = option_map_or (λ (n : Node). n.links) (slice_get ns a) []
 abbrev pub cited_at : (ℕ → List Link) → ℕ → ℕ → List (List ℕ)
 cited_at links a j = option_map_or (λ (l : Link). l.cited) (slice_get (links a) j) []
 
--- of the link that a tally is of
+-- the places that the link of a tally cites
 abbrev pub cited_of : (ℕ → List Link) → List Owner → ℕ → List (List ℕ)
 cited_of links os t = option_map_or (λ (o : Owner). cited_at links o.node o.link) (slice_get os t) []
 
@@ -84,7 +84,7 @@ pub record AreTalliedBut (links : ℕ → List Link) (runs off parked : ℕ → 
 abbrev pub IsTalliedBut : List Node → List ℕ → Wires → List ℕ → List (List Entity) → Type 0
 IsTalliedBut ns ss w left ts = AreTalliedBut (links_at ns) (runs_at ns) (off_at ns) (stamped ss) w left ts
 
--- what is kept beside the instances and their stamps
+-- the data kept beside the instances and their stamps
 pub record IsTallied (ns : List Node) (ss : List ℕ) (w : Wires) (ts : List (List Entity)) : Type 0 where
   pub wired : IsWired (links_at ns) (length ns) w
   pub size : length ss ≡ length ns

@@ -7,7 +7,7 @@ use smf_cycles::{Places, places_on_cycles};
 use smf_fmri::Items;
 use std::alloc::{AllocError, Global};
 
-/// Puts places behind others.
+/// Puts places after others.
 fn join(edges: Vec<usize>, cited: &[Items<usize>]) -> Result<Vec<usize>, AllocError>
     ensures { IfOk result (λ all. all.items ≡ edges.items ++ joined cited.now) }
 {
@@ -32,7 +32,7 @@ fn edges_in(alloc: Global, links: &[Link]) -> Result<Vec<usize>, AllocError>
     Ok(edges)
 }
 
-/// Where the edges of each instance lead.
+/// The places that the edges of each instance lead to.
 fn edges_of(alloc: Global, nodes: &[Node]) -> Result<Vec<Places>, AllocError>
     ensures { IfOk result (λ all. all.items ≡ edges_of nodes.now) }
 {

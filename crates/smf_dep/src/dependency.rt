@@ -27,7 +27,7 @@ pub enum RestartOn {
     Refresh,
 }
 
-/// What a dependency group asks.
+/// The dependency that a dependency group asks for.
 #[derive(Drop)]
 pub struct Dependency {
     pub grouping: Grouping,
@@ -56,7 +56,7 @@ impl Grouping {
 }
 
 impl RestartOn {
-    /// What a word of `restart_on` means.
+    /// The meaning of a word of `restart_on`.
     pub fn parse(text: &str) -> Option<RestartOn>
         ensures { result ≡ restart_by text.now }
     {

@@ -30,16 +30,16 @@ pub enum Verdict {
     Blocked,
 }
 
-/// What is found of an instance.
+/// How the dependencies of an instance stand.
 #[derive(Clone, Copy, PartialEq, Eq)]
 pub struct Finding {
-    /// Whether each of its dependency groups can be read.
+    /// Each of its dependency groups can be read.
     pub readable: bool,
-    /// Whether each of them is met.
+    /// Each of them is met.
     pub all_met: bool,
-    /// Whether one of them stops it, by what happened since its last start was decided.
+    /// One of them stops it, by what happened since its last start was decided.
     pub must_stop: bool,
-    /// Whether it depends on itself.
+    /// It depends on itself.
     pub on_cycle: bool,
 }
 
@@ -63,7 +63,7 @@ impl Model for Graph {
     ghost invariant = { λ g. IsGraph g.members.items g.kept g.cycles.items };
 }
 
-/// Whether the events after a revision of an instance that is cited stop the one that cites it.
+/// True if the events of a cited instance after a revision stop the one that cites it.
 fn is_event(member: &Member, link: &Link, base: u64) -> bool
     ensures { result ≡ stops_by link.now.grouping link.now.restart_on base member.now }
 {
@@ -167,7 +167,7 @@ impl Graph {
         Graph::linked(alloc, all.into_vec())
     }
 
-    /// The graph of the items of another view. What this one read and found is not read or looked for again.
+    /// The graph of the items of another view. It does not read or look for again what this one read and found.
     pub fn renewed(self, alloc: Global, items: &[ViewItem]) -> Result<Graph, AllocError>
         requires { Rises by_item items.now }
         ensures { IfOk result (λ g. g ≡ members items.now) }
@@ -229,9 +229,8 @@ impl Graph {
         })
     }
 
-    /// Brings the graph up to date by items that changed. The numbers that are given back are those of all instances of
-    /// which something that is found may be another, in no order; one may come twice. If memory runs out, the graph is as
-    /// it was.
+    /// Brings the graph up to date by items that changed. Gives the numbers of all instances that may have changed, or
+    /// whose finding may have, in no order; one may come twice. If memory runs out, the graph is as it was.
     pub fn update(
         &mut self,
         alloc: Global,
@@ -247,8 +246,8 @@ impl Graph {
         self.update_all(alloc, changes)
     }
 
-    /// Where each item that changed is of an instance that is there, and its groups are read from the same. All that may
-    /// fail goes first.
+    /// Takes changes of instances that are there, and whose groups are read from the same. All that may fail goes
+    /// first.
     fn update_states(
         &mut self,
         alloc: Global,
@@ -266,7 +265,8 @@ impl Graph {
         Ok(Items::from_vec(numbers))
     }
 
-    /// Where instances come or go, or depend on other things. What did not change is not read again.
+    /// Takes changes by which instances come or go, or depend on other things. It does not read again what did not
+    /// change.
     fn update_all(
         &mut self,
         alloc: Global,
@@ -296,7 +296,7 @@ impl Graph {
         self.members.as_slice().get(place)
     }
 
-    /// What is found of the instance at a place.
+    /// The finding of the instance at a place.
     pub fn finding(&self, place: usize) -> Option<Finding>
         ensures { result ≡ option_map (finding_of self.now) (slice_get self.now place) }
     {
@@ -323,7 +323,7 @@ impl Graph {
         Ok(verdict_by(met, blocked))
     }
 
-    /// Whether a dependency stops an instance whose last start was decided on the base revision.
+    /// True if a dependency stops an instance whose last start was decided on the base revision.
     pub fn must_stop(
         &self,
         alloc: Global,

@@ -28,7 +28,7 @@ pub struct Kept {
     citing: Vec<Items<usize>>,
     next: usize,
     work: Vec<usize>,
-    /// Where each place may stand in the work: a hint.
+    /// For each place, its index in the work. This is a hint.
     slots: Vec<usize>,
     wires: Wires,
     tallies: Vec<Tally>,
@@ -94,7 +94,7 @@ fn zeros(alloc: Global, count: usize) -> Result<Vec<usize>, AllocError>
     Ok(stamps)
 }
 
-/// Puts each place below the count behind others.
+/// Puts each place below the count into an empty list.
 fn add_all(work: &mut Vec<usize>, count: usize)
     requires empty { work.old.items ≡ [] }
     requires room { count ≤ vec_capacity work.old }
@@ -107,7 +107,7 @@ fn add_all(work: &mut Vec<usize>, count: usize)
     }
 }
 
-/// Puts places behind those that are touched. If these are to be more than there are instances, all instances are.
+/// Puts places after those that are touched. If there is no room for them, it puts all instances.
 fn note(touched: &mut Vec<usize>, work: &[usize], count: usize)
     requires { count ≤ vec_capacity touched.old }
     ensures noted { (a : ℕ) → IsOut a touched.new.items → a < count → IsOut a touched.old.items × IsOut a work.now }
@@ -141,7 +141,7 @@ fn room_for(count: usize, total: usize) -> Result<usize, AllocError>
     more.checked_add(triple).ok_or(AllocError)
 }
 
-/// Puts what may be wrong into the work: what the change of a place touches, or all, where the numbers run out. Gives
+/// Puts what may be wrong into the work: what the change of a place touches, or all if the numbers run out. Gives
 /// the number from which on stamps are free.
 fn begin(
     nodes: &[Node],
@@ -172,7 +172,7 @@ fn begin(
     next
 }
 
-/// Makes the stamps right where the flags of one place changed, and says from which number on they are free.
+/// Makes the stamps right after the flags of one place changed. Gives the number from which on stamps are free.
 fn settle_touched(
     nodes: &[Node],
     citing: &[Items<usize>],
@@ -260,8 +260,8 @@ impl Kept {
         })
     }
 
-    /// Gives other flags to the instance at a place. The places of all of which something that is found may be another
-    /// are among those that are touched from then on.
+    /// Gives other flags to the instance at a place. Adds the places of all instances whose finding may have changed to
+    /// those that are touched.
     pub fn set(&mut self, place: usize, flags: Flags, touched: &mut Vec<usize>)
         requires within { place < length self.old }
         requires room { length self.old ≤ vec_capacity touched.old }
@@ -304,7 +304,7 @@ impl Kept {
         self.nodes.as_slice().get(place)
     }
 
-    /// Whether a link is blocked.
+    /// True if a link is blocked.
     pub fn is_blocked(&self, link: &Link) -> bool
         ensures { result ≡ blocked_by (runs_at self.now) (off_at self.now) (is_parked self.now) link.now }
     {
@@ -316,7 +316,7 @@ impl Kept {
         )
     }
 
-    /// Whether a link is met.
+    /// True if a link is met.
     pub fn is_met(&self, link: &Link) -> bool
         ensures { result ≡ met_by (runs_at self.now) (off_at self.now) (is_parked self.now) link.now }
     {
@@ -328,7 +328,7 @@ impl Kept {
         )
     }
 
-    /// Whether each link of an instance is met.
+    /// True if each link of an instance is met.
     pub fn all_met(&self, place: usize) -> bool
         ensures { result ≡ met_at self.now place }
     {

@@ -2,8 +2,8 @@ ghost use Rattle.std.specs.Prelude.{◌≡◌, List, true};
 ghost use Rattle.smf_dep.specs.declared.member.Member.{Member as AnyMember};
 ghost use Rattle.smf_dep.specs.Cycles.{HasCycle, IsCycle, on_cycle};
 
-/// The test of a cycle holds of an instance exactly where there is a list of instances from the one to itself, in which
-/// each cites the next.
+/// The test of a cycle holds of an instance exactly if a list of instances leads from it to itself, and each cites the
+/// next.
 pub fn cycles_are_lists()
     ensures listed { (ms : List AnyMember) (m : AnyMember) → on_cycle ms m ≡ true → HasCycle ms m }
     ensures found { (ms : List AnyMember) (m : AnyMember) (path : List AnyMember) → IsCycle ms m path → on_cycle ms m ≡ true }

@@ -1,11 +1,13 @@
-//! Dependencies of instances: what each group asks, whether it is met, what stops a running instance, and which of
-//! them depend on themselves, as smf(5) has them.
-//! Modules: `dependency`, `reading` (groups as dependencies), `member` (what a verdict looks at of an instance),
-//! `methods` (whether its methods let it be run), `names` (places by names), `link` (dependencies by places), `parking`
-//! (what a link is, by what won't run), `index` (what cites a place), `wires` (which entities stand for a place), `tally`
-//! (how many entities of a link run, are off and are parked), `tallies` (one for each link), `stamps` (what won't run and
-//! why), `kept` (all of these, from change to change), `cycle`, `graph`, `update` (a graph of items that changed), `law`
-//! (laws of the definitions), `room` (lists whose room is made beforehand), `shared`, `fault`.
+//! Dependencies of instances, as smf(5) has them. A graph finds if each group is met, what stops a running instance,
+//! and which instances depend on themselves.
+//! Modules: `dependency` has dependencies, and `requirements` reads groups as such, with a `fault` if one can't be read.
+//! `member` is an instance as a verdict looks at it, and `methods` finds if its methods let it be run. `names` has
+//! places by names, `link` dependencies by places, and `index` which instances cite a place. `blockage` finds if a link
+//! is met or blocked, by the instances that won't run. `wires` has the entities that stand for a place. `tally` counts
+//! how many entities of a link run, are off and are parked. `tallies` has one for each link. `stamps` has the instances
+//! that won't run, and why. `kept` has all of these, from change to change. `cycle` finds which instances depend on
+//! themselves. `graph` is a graph of instances, and `update` brings it up to date by items that changed. `law` has laws
+//! of the definitions, `room` lists whose room is made beforehand, `shared` values that copies share.
 #![tactic(auto)]
 
 mod cycle;

@@ -18,7 +18,7 @@ pub struct Link {
     pub cited: Items<Items<usize>>,
 }
 
-/// What an instance is by its state.
+/// The flags of an instance, by its state.
 #[derive(Clone, Copy)]
 pub struct Flags {
     pub running: bool,
@@ -30,7 +30,7 @@ pub struct Flags {
     pub waiting: bool,
 }
 
-/// An instance, with what it depends on: nothing where a group can't be read.
+/// An instance, with what it depends on: nothing if a group can't be read.
 #[derive(Drop)]
 pub struct Node {
     pub flags: Flags,
@@ -94,7 +94,7 @@ fn links_of(
     }
 }
 
-/// What an instance is by its state.
+/// The flags of an instance, by its state.
 pub(crate) fn flags_of(member: &Member) -> Flags
     ensures { result ≡ flags_of member.now }
 {
@@ -116,7 +116,7 @@ fn node_with(member: &Member, links: Items<Link>) -> Node
     }
 }
 
-/// An instance with what it depends on by places, which is looked for where none was kept.
+/// An instance with what it depends on by places. It looks for these if none were kept.
 fn node_of(
     alloc: Global,
     names: &Names<'_>,

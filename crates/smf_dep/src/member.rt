@@ -19,7 +19,7 @@ use smf_value::{BodyFault, Group};
 use std::alloc::{AllocError, Global};
 use std::marker::Model;
 
-/// What a verdict looks at of an instance.
+/// An instance, as verdicts look at it.
 #[derive(Drop)]
 pub struct Member {
     pub instance: u64,
@@ -36,11 +36,11 @@ pub struct Member {
     pub start: u64,
     /// The groups of its running snapshot, by name its own, else those of its service.
     pub composed: Shared<Ordered<Group>>,
-    /// What it depends on, or none where a group can't be read.
+    /// Its dependencies, or none if a group can't be read.
     pub dependencies: Option<Shared<Items<Dependency>>>,
 }
 
-/// An instance as a verdict looks at it, with what its groups were read from: where that is the same in a later view, they
+/// An instance as a verdict looks at it, with what its groups were read from. If that is the same in a later view, they
 /// need not be read again. Contracts see the member.
 #[derive(Drop)]
 pub struct ReadMember {
@@ -116,7 +116,7 @@ fn compose(snapshot: Snapshot) -> Result<Ordered<Group>, AllocError>
     Ok(groups)
 }
 
-/// What an instance requires of its restarter.
+/// The dependency of an instance on its restarter, if that is not svc.startd.
 fn implicit(alloc: Global, owner: &InstanceFmri) -> Result<Option<Dependency>, AllocError>
     ensures { IfOk result (λ d. when_there d ≡ implicit owner.now) }
 {
@@ -228,7 +228,7 @@ fn member_of(alloc: Global, item: &ViewItem) -> Result<Member, AllocError>
     member_with(alloc, item, composed, dependencies)
 }
 
-/// Whether what an instance is and is to be are those of an item.
+/// True if the number and the states of an instance are those of an item, and it is enabled if the item is.
 fn has_state_of(member: &Member, item: &ViewItem) -> bool
     ensures { result ≡ true → HasStateOf item.now member.now }
 {
@@ -238,7 +238,7 @@ fn has_state_of(member: &Member, item: &ViewItem) -> bool
         && member.next == item.row.next
 }
 
-/// Whether the revisions of what happened to an instance are those of a row.
+/// True if the revisions of what happened to an instance are those of a row.
 fn has_numbers_of(member: &Member, row: &Row) -> bool
     ensures { result ≡ true → HasNumbersOf row.now member.now }
 {
@@ -322,14 +322,14 @@ fn take_state(member: &mut Member, item: &ViewItem, row: &Row)
 }
 
 impl ReadMember {
-    /// What a verdict looks at.
+    /// The instance, as verdicts look at it.
     pub fn member(&self) -> &Member
         ensures { result.now ≡ self.now }
     {
         &self.member
     }
 
-    /// Whether its methods don't let it be run by a restarter: there is none to start it, or one can't be read.
+    /// True if its methods don't let it be run by a restarter: there is none to start it, or one can't be read.
     pub fn has_unfit_methods(
         &self,
         alloc: Global,
@@ -359,7 +359,7 @@ impl ReadMember {
         })
     }
 
-    /// Whether its groups would be read of an item from the same.
+    /// True if its groups would be read of an item from the same.
     pub(crate) fn is_read_from(&self, item: &ViewItem) -> bool
         ensures { result ≡ true → IsOfItem item.now self.now }
     {
@@ -368,7 +368,7 @@ impl ReadMember {
             && is_body(&self.body, &item.body)
     }
 
-    /// Whether its state is that of an item from which its groups would be read the same.
+    /// True if its state is that of an item from which its groups would be read the same.
     fn has_state_of(&self, item: &ViewItem) -> bool
         requires { IsOfItem item.now self.now }
         ensures { result ≡ true → self.now ≡ member_of item.now }
@@ -404,12 +404,12 @@ impl ReadMember {
     }
 }
 
-/// How what is kept of instances stands to the items of a view.
+/// How the members that were kept stand to the items of a view.
 #[derive(Clone, Copy, PartialEq, Eq)]
 pub(crate) enum Standing {
-    /// It is what verdicts look at of these items.
+    /// They are the members of these items.
     Same,
-    /// It was read from the same, but states may be others.
+    /// They were read from the same, but states may be others.
     Alike,
     Other,
 }
@@ -421,7 +421,7 @@ fn standing_with(standing: Standing, is_same: bool) -> Standing
     if is_same { standing } else { Standing::Alike }
 }
 
-/// How what is kept of instances stands to the items of a view, the first of the first and so on.
+/// How the members that were kept stand to the items of a view, the first to the first and so on.
 pub(crate) fn standing_of(kept: &[ReadMember], items: &[ViewItem]) -> Standing
     ensures same { result ≡ Standing.Same → kept.now ≡ members items.now }
     ensures alike { result ≡ Standing.Alike → AllZip IsOfItem items.now kept.now }
@@ -462,7 +462,7 @@ pub(crate) fn members_again(
     Ok(all)
 }
 
-/// What verdicts look at of an item, of which something may have been kept.
+/// The member of an item. It takes the kept one, if that was read from the same.
 fn renewed_member(
     alloc: Global,
     kept: Option<ReadMember>,
@@ -476,7 +476,7 @@ fn renewed_member(
     }
 }
 
-/// What verdicts look at, of each item of a view, where other such members were kept, of an earlier view perhaps.
+/// The member of each item of a view. It takes those kept of an earlier view, if they were read from the same.
 pub(crate) fn renewed_members(
     alloc: Global,
     kept: Items<ReadMember>,
@@ -492,7 +492,7 @@ pub(crate) fn renewed_members(
     Ok(all)
 }
 
-/// What verdicts look at, of each item of a view.
+/// The member of each item of a view.
 pub fn members(alloc: Global, items: &[ViewItem]) -> Result<Items<Member>, AllocError>
     ensures { IfOk result (λ ms. ms ≡ members items.now) }
 {
@@ -504,7 +504,7 @@ pub fn members(alloc: Global, items: &[ViewItem]) -> Result<Items<Member>, Alloc
 }
 
 impl Member {
-    /// Whether a name, which is that of an instance or that of a service, stands for it.
+    /// True if a name, which is that of an instance or that of a service, stands for it.
     pub(crate) fn is_cited_by(&self, is_instance: bool, entity: &Fmri) -> bool
         ensures { result ≡ cites_by is_instance entity.now self.now }
     {
@@ -515,7 +515,7 @@ impl Member {
         }
     }
 
-    /// Whether an entity stands for it.
+    /// True if an entity stands for it.
     pub fn is_cited(&self, entity: &Fmri) -> bool
         ensures { result ≡ is_cited entity.now self.now }
     {

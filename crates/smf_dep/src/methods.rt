@@ -39,7 +39,7 @@ fn is_unreadable(
     }
 }
 
-/// Whether the methods of an instance's groups don't let it be run: there is none to start it, or one can't be read.
+/// True if the methods of an instance's groups don't let it be run: there is none to start it, or one can't be read.
 #[tactic(auto, unfolding(crate::specs::Methods::has_unfit_methods))]
 pub(crate) fn has_unfit_methods(
     alloc: Global,

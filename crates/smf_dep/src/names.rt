@@ -1,5 +1,5 @@
-//! Instances by their names, and by the names of their services, so that what an entity stands for is found without a look
-//! at each instance.
+//! Instances by their names, and by the names of their services. So the instances that an entity stands for are found
+//! without a look at each instance.
 
 ghost use Rattle.std.specs.Prelude.{◌≡◌, ◌∷◌, ◌++◌, IfOk, OnOk, List, ℕ, [], if◌then◌else◌};
 ghost use Rattle.std.specs.Str.{bytes_eq};

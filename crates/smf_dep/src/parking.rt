@@ -1,4 +1,4 @@
-//! What a link and an instance are, by the flags of what is cited and by stamps.
+//! Tests of links and instances, by the flags of the cited instances and by stamps.
 
 ghost use Rattle.std.specs.List.{list_all, list_any};
 ghost use Rattle.std.specs.Prelude.{◌≡◌, ◌||◌, map, slice_index};
@@ -123,7 +123,7 @@ fn each_settled(nodes: &[Node], stamps: &[usize], limit: usize, cited: &[Items<u
     cited.iter().all(|places| all_settled(nodes, stamps, limit, places.as_slice()))
 }
 
-/// Whether a link is blocked by what has a stamp below the limit.
+/// True if a link is blocked by the places with a stamp below the limit.
 pub(crate) fn is_blocked(nodes: &[Node], stamps: &[usize], limit: usize, link: &Link) -> bool
     ensures { result ≡ blocked_by (runs_at nodes.now) (off_at nodes.now) (before stamps.now limit) link.now }
 {
@@ -148,8 +148,8 @@ pub(crate) fn is_met(nodes: &[Node], stamps: &[usize], limit: usize, link: &Link
     }
 }
 
-/// Whether a link is blocked by what has a stamp below the limit. Its counts are asked first: by all stamps it is blocked
-/// if it is by some.
+/// True if a link is blocked by the places with a stamp below the limit. It asks the counts first: by all stamps the
+/// link is blocked if it is by some.
 fn is_blocked_by(
     nodes: &[Node],
     stamps: &[usize],
@@ -167,7 +167,7 @@ fn is_blocked_by(
     }
 }
 
-/// Whether a link is met, by its counts.
+/// True if a link is met, by its counts.
 fn is_met_by(
     nodes: &[Node],
     stamps: &[usize],
@@ -248,7 +248,7 @@ fn parks_by(
             ))
 }
 
-/// Whether an instance is idle, or waits and is blocked by what has a stamp below the limit.
+/// True if an instance is idle, or waits and is blocked by those with a stamp below the limit.
 pub(crate) fn parks(
     nodes: &[Node],
     stamps: &[usize],

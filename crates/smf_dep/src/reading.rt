@@ -34,7 +34,7 @@ fn restart_of(group: &Group) -> Result<RestartOn, DependencyFault>
     }
 }
 
-/// Whether `type` is `service`, as it is where it is missing.
+/// True if `type` is `service`, or is missing.
 fn is_of_services(property: Option<&Property>) -> bool
     ensures { result ≡ is_of_services (option_copied property.entry) }
 {
@@ -114,7 +114,7 @@ fn is_dependency(group: &Group) -> bool
     group.group_type().as_str() == "dependency"
 }
 
-/// What groups of type `dependency` ask.
+/// The dependencies that groups of type `dependency` ask for.
 fn dependencies_of(alloc: Global, groups: &[Group]) -> Result<Items<Dependency>, DependencyFault>
     ensures { Gives (λ x. x) result (read_groups groups.now) }
 {
@@ -129,8 +129,9 @@ fn dependencies_of(alloc: Global, groups: &[Group]) -> Result<Items<Dependency>,
     Ok(all)
 }
 
-/// What the groups of type `dependency` ask, in the order of the groups. The fault is that of the first group that
-/// can't be read, and of its properties that of `grouping`, `restart_on`, `type`, `entities`, the first in this order.
+/// The dependencies that groups of type `dependency` ask for, in the order of the groups. The fault is that of the
+/// first group that can't be read. If several of its properties are bad, `grouping` goes before `restart_on`, then
+/// `type`, then `entities`.
 pub fn read_groups(
     alloc: Global,
     groups: &Ordered<Group>,

@@ -5,8 +5,8 @@ use std::marker::Model;
 use std::ops::Deref;
 use std::rc::Rc;
 
-/// A value that is not changed any more, which contracts see as it is. Copies share it. A copy takes no memory, and fails
-/// only if there are as many as can be counted.
+/// A value that does not change, which contracts see as it is. Copies share it. A copy takes no memory, and fails only
+/// if there are as many as can be counted.
 #[derive(Drop)]
 pub struct Shared<T> {
     value: Rc<T>,

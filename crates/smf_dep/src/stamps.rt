@@ -1,4 +1,4 @@
-//! Taking stamps away where their support is gone, and giving them to what is parked.
+//! Takes stamps away if their support is gone, and gives them to parked instances.
 
 ghost use Rattle.std.specs.Prelude.{◌≡◌, [], ◌∷◌, ◌++◌, ◌+◌, ◌^◌, ◌≤◌, ◌<◌, ℕ, true, drop, length, slice_index, slice_set, vec_capacity};
 ghost use Rattle.smf_dep.specs.Parking.{IsOut};
@@ -46,7 +46,7 @@ fn set_stamp(stamps: &mut [usize], place: usize, stamp: usize)
     }
 }
 
-/// Puts places behind others, where there is room for them.
+/// Puts places after others. There has to be room for them.
 pub(crate) fn add(work: &mut Vec<usize>, places: &[usize])
     requires { length work.old.items + length places.now ≤ vec_capacity work.old }
     ensures items { work.new.items ≡ work.old.items ++ places.now }
@@ -55,7 +55,7 @@ pub(crate) fn add(work: &mut Vec<usize>, places: &[usize])
     let _ = work.extend_from_slice(places);
 }
 
-/// Puts a place behind others, where there is room for it.
+/// Puts a place after others. There has to be room for it.
 pub(crate) fn add_one(work: &mut Vec<usize>, place: usize)
     requires { length work.old.items < vec_capacity work.old }
     ensures items { work.new.items ≡ work.old.items ++ place ∷ [] }
@@ -64,7 +64,7 @@ pub(crate) fn add_one(work: &mut Vec<usize>, place: usize)
     let _ = work.push(place);
 }
 
-/// Puts a place behind the work, if it is not among what is left of that. A slot is where a place may stand there.
+/// Puts a place after the work, if it is not among the rest of that. A slot is the index that a place may have there.
 fn add_new(work: &mut Vec<usize>, slots: &mut [usize], next: usize, place: usize)
     requires next { next ≤ length work.old.items }
     requires room { length work.old.items < vec_capacity work.old }
@@ -79,7 +79,7 @@ fn add_new(work: &mut Vec<usize>, slots: &mut [usize], next: usize, place: usize
     add_one(work, place);
 }
 
-/// Whether a place stands in a slot of what is left.
+/// True if a place stands in a slot of the rest.
 fn stands(work: &[usize], next: usize, slot: usize, place: usize) -> bool
     ensures { result ≡ true → (a : ℕ) → IsOut a (drop next work.now) → IsOut a (place ∷ []) }
 {
@@ -100,7 +100,7 @@ fn add_each(work: &mut Vec<usize>, slots: &mut [usize], next: usize, places: &[u
     }
 }
 
-/// Takes the stamp of a place where what has smaller ones does not park it.
+/// Takes the stamp of a place if those with smaller stamps do not park it.
 fn loosen(
     nodes: &[Node],
     citing: &[Items<usize>],
@@ -126,7 +126,7 @@ fn loosen(
     }
 }
 
-/// Gives a stamp to a place where what is stamped parks it.
+/// Gives a stamp to a place if those with a stamp park it.
 fn spread(
     nodes: &[Node],
     citing: &[Items<usize>],
@@ -153,7 +153,7 @@ fn spread(
     }
 }
 
-/// Makes the stamps right again, where each that may be wrong is among the work. New ones begin at the base.
+/// Makes the stamps right again. Each that may be wrong has to be among the work. New ones begin at the base.
 pub(crate) fn settle(
     nodes: &[Node],
     citing: &[Items<usize>],

@@ -1,4 +1,4 @@
-//! What the entities of links are, and what the change of one instance makes of them.
+//! The tallies of links, and how the change of one instance changes them.
 
 ghost use Rattle.std.specs.List.{list_all};
 ghost use Rattle.std.specs.Prelude.{◌≡◌, ◌<◌, ◌||◌, IfOk, [], length, map, slice_set};

@@ -7,7 +7,7 @@ ghost use Rattle.smf_dep.specs.Tallies.{entities_block, entities_meet, off, park
 use crate::dependency::Grouping;
 use std::marker::Model;
 
-/// What an entity is by the places that it stands for.
+/// An entity, by the places that it stands for.
 #[derive(Clone, Copy)]
 pub struct Entity {
     pub runs: bool,
@@ -16,7 +16,7 @@ pub struct Entity {
     pub settled: bool,
 }
 
-/// The entities of a link, and how many are what.
+/// The entities of a link, and how many of them run, are parked, are off and are settled.
 #[derive(Drop)]
 pub struct Tally {
     entities: Vec<Entity>,
@@ -38,7 +38,7 @@ impl Model for Tally {
     ghost invariant = { λ t. AreCounted t.entities.items t.run t.park t.off t.settle };
 }
 
-/// A count, where one of those that are counted changes.
+/// A count, after one of those that are counted changed.
 fn recounted(count: usize, was: bool, is: bool) -> usize
     requires some { (if was then 1 else 0) < count + 1 }
     requires small { count < 2 ^ 63 }
@@ -91,7 +91,7 @@ impl Tally {
         }
     }
 
-    /// Puts what an entity is now in the place of what it was.
+    /// Replaces the entity at a place, if there is one.
     pub fn set(&mut self, place: usize, entity: Entity)
         ensures { self.new ≡ slice_set self.old place entity }
     {
@@ -141,7 +141,7 @@ impl Tally {
         self.settle == self.entities.len()
     }
 
-    /// Whether the link is blocked, in a few steps.
+    /// True if the link is blocked. It takes a few steps.
     pub fn is_blocked(&self, grouping: Grouping) -> bool
         ensures { result ≡ entities_block grouping self.now }
     {
@@ -153,7 +153,7 @@ impl Tally {
         }
     }
 
-    /// Whether the link is met, in a few steps.
+    /// True if the link is met. It takes a few steps.
     pub fn is_met(&self, grouping: Grouping) -> bool
         ensures { result ≡ entities_meet grouping self.now }
     {

@@ -19,7 +19,7 @@ use smf_state::{ChangedItem, ViewItem};
 use std::alloc::{AllocError, Global};
 use std::cmp::Ordering;
 
-// ---- where an instance stands
+// ---- the place of an instance
 
 fn compare(member: &ReadMember, instance: u64) -> Ordering
     ensures { result ≡ nat_cmp member.now.instance instance }
@@ -67,7 +67,7 @@ fn is_alike_change(members: &[ReadMember], change: &ChangedItem) -> bool
     }
 }
 
-/// Whether each item that changed is that of an instance which is there, and its groups would be read from the same.
+/// True if each item that changed is that of an instance which is there, and its groups would be read from the same.
 pub(crate) fn are_alike(members: &[ReadMember], changes: &[ChangedItem]) -> bool
     requires { Rises by_member members.now }
     ensures { result ≡ true → AreAlike changes.now members.now }
@@ -144,8 +144,8 @@ fn take_change(
     }
 }
 
-/// Gives instances the states of items, and puts the places of all of which something that is found may be another
-/// among those that are touched.
+/// Gives instances the states of items. Puts the places of all instances whose finding may have changed among those
+/// that are touched.
 pub(crate) fn take_changes(
     members: &mut Vec<ReadMember>,
     kept: &mut Kept,
@@ -259,7 +259,7 @@ fn copies(alloc: Global, members: &[ReadMember]) -> Result<Vec<ReadMember>, Allo
     Ok(all)
 }
 
-/// The members with changes. What was read of others is shared.
+/// The members with changes. The others share what was read.
 pub(crate) fn changed_members(
     alloc: Global,
     members: &[ReadMember],

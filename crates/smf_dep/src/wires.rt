@@ -84,7 +84,7 @@ fn places_of<'a>(nodes: &'a [Node], owners: &[Owner], spot: &Spot) -> &'a [usize
     }
 }
 
-/// Numbers the links of an instance behind others.
+/// Numbers the links of an instance after others.
 fn number_links(
     alloc: Global,
     owners: &mut Vec<Owner>,
@@ -118,7 +118,7 @@ fn number_all(
     Ok(numbers)
 }
 
-/// Puts each entity of a tally behind others.
+/// Puts each entity of a tally after others.
 fn spot_each(spots: &mut Vec<Spot>, tally: usize, count: usize) -> Result<(), AllocError>
     ensures kept { OnOk result ((k : ℕ) (s : Spot) → slice_get spots.old.items k ≡ Some s → slice_get spots.new.items k ≡ Some s) }
     ensures each { OnOk result ((e : ℕ) → e < count → HasSpot spots.new.items tally e) }

@@ -6,7 +6,7 @@ use std::io;
 /// The bytes of which a torn write leaves all or none.
 const BLOCK: usize = 512;
 
-/// What a log and a database file hold.
+/// The bytes of a log and of a database file.
 #[derive(Drop)]
 pub(crate) struct Image {
     pub(crate) log: Vec<u8>,
@@ -35,7 +35,7 @@ fn disk_of(alloc: Global, bytes: &[u8], calls: u64) -> io::Result<Fuse<Memory>> 
     Ok(Fuse::new(disk, calls))
 }
 
-/// Disks that hold this and stop behind so many calls.
+/// Disks that hold this and stop after so many calls.
 pub(crate) fn load(alloc: Global, image: &Image, calls: Calls) -> io::Result<Files<Fuse<Memory>>> {
     Ok(Files {
         log: disk_of(alloc, &image.log, calls.log)?,
@@ -43,7 +43,7 @@ pub(crate) fn load(alloc: Global, image: &Image, calls: Calls) -> io::Result<Fil
     })
 }
 
-/// Whether a disk has stopped, or stops at its next call.
+/// True if a disk has stopped, or stops at its next call.
 fn has_stopped(disk: &mut Fuse<Memory>) -> bool {
     if !disk.may_be_used() {
         return true;
@@ -57,7 +57,7 @@ pub(crate) fn is_stopped(files: &mut Files<Fuse<Memory>>) -> bool {
     log || db
 }
 
-/// What was written, but of each second block what was synced.
+/// The bytes that were written, but in each second block those that were synced.
 fn mixed_blocks(
     alloc: Global,
     written: &[u8],
@@ -73,7 +73,7 @@ fn mixed_blocks(
     Ok(bytes)
 }
 
-/// What a crash may leave of a disk: all that was written, what was synced, or of blocks the one or the other.
+/// The bytes that a crash may leave on a disk: all that was written, all that was synced, or blocks of both.
 fn outcomes(alloc: Global, disk: &mut Fuse<Memory>) -> Result<Vec<Vec<u8>>, AllocError> {
     let written = disk.inner().bytes().to_vec(alloc)?;
     disk.crash();
@@ -87,7 +87,7 @@ fn outcomes(alloc: Global, disk: &mut Fuse<Memory>) -> Result<Vec<Vec<u8>>, Allo
     Ok(vec![in alloc; written, synced, even, odd]?)
 }
 
-/// What a crash may leave of the disks.
+/// The images that a crash may leave on the disks.
 pub(crate) fn images_left(
     alloc: Global,
     mut files: Files<Fuse<Memory>>,

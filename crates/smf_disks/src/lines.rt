@@ -11,7 +11,7 @@ fn give<J: Journal>(repository: &mut Plain<J>, command: &Command) -> bool {
     repository.apply(command).is_ok()
 }
 
-/// What the words behind svcadm ask for.
+/// All that the words after svcadm ask for.
 fn asked_by<J: Journal>(alloc: Global, repository: &Plain<J>, text: &str) -> Option<Items<Asked>> {
     let words = words(alloc, text).ok()?;
     commands_of(alloc, words.as_slice(), repository.names()).ok()?
@@ -24,7 +24,7 @@ fn give_asked<J: Journal>(repository: &mut Plain<J>, one: Asked) -> bool {
     }
 }
 
-/// Does what svcadm is asked for. It has a reply where each of its edits has one.
+/// Does what svcadm is asked for. It has a reply if each of its edits has one.
 fn do_svcadm<J: Journal>(alloc: Global, repository: &mut Plain<J>, text: &str) -> bool {
     let Some(all) = asked_by(alloc, repository, text) else {
         return false;
@@ -52,7 +52,7 @@ fn command_of(alloc: Global, line: &str) -> Option<Command> {
     }
 }
 
-/// Does a line: one of svcadm, a command of a restarter or of the machine, or one of svccfg. Whether it has a reply.
+/// Does a line: one of svcadm, a command of a restarter or of the machine, or one of svccfg. True if it has a reply.
 pub(crate) fn do_line<J: Journal>(
     alloc: Global,
     session: &mut Session,

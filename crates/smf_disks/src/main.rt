@@ -1,10 +1,10 @@
-//! A program for tests: does lines over a store on disks in memory, of which one stops at its first call, at its second,
-//! and so on, until none stops. Each time the disks crash, and what is opened again has to be what the lines that had a
-//! reply make, or what one line more makes. It says of the open and of each line whether it changes nothing, or crashes
-//! left the value before it or the value after it.
+//! A program for tests: it does lines over a store on disks in memory. One disk stops at its first call, then at its
+//! second, and so on, until none stops. Each time the disks crash, and the program opens the store again. The store has
+//! to hold the value that the lines with a reply make, or that one line more makes. It says of the open and of each line
+//! what it saw: no change, the values before it and after it, or one of both.
 //! A line is one of svccfg, `svcadm` with its words, `launch NAME`, `boot`, or the message of a proposal.
-//! Modules: `disks` (disks that stop, and what crashes leave of them), `picture` (what a database holds), `lines` (a line
-//! done over a repository), `session` (lines over a store), `stops` (all stops in turn).
+//! Modules: `disks` (disks that stop, and what crashes leave of them), `picture` (what a database holds), `lines` (a
+//! line done over a repository); `session` (lines over a store), `stops` (all stops in turn).
 #![tactic(auto)]
 
 mod disks;
@@ -20,10 +20,10 @@ use std::alloc::{AllocError, Global};
 use std::process::ExitCode;
 use std::{env, fs, io};
 
-/// The status where something else was found.
+/// The status if something else was found.
 const FOUND: u8 = 1;
 
-/// The status where a run that is not stopped does not end.
+/// The status if a run that is not stopped does not end.
 const FAULT: u8 = 3;
 
 /// The lines and, before them, statements that make the store.

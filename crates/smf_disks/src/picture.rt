@@ -52,7 +52,7 @@ fn add_table<S: Alter>(
     Ok(())
 }
 
-/// What the tables of a database hold, as bytes: none where it has no tables.
+/// The rows of a database's tables, as bytes: none if it has no tables.
 pub(crate) fn picture<S: Alter>(alloc: Global, conn: &mut Connection<S>) -> Result<Vec<u8>, Error> {
     let mut picture = Vec::new(alloc);
     if conn.schema().tables.is_empty() {

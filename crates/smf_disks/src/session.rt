@@ -19,7 +19,7 @@ const PAGES: usize = 32;
 /// Why not all stops were tried.
 #[derive(Drop)]
 pub(crate) enum Fault {
-    /// Behind a stop something else was found.
+    /// After a stop something else was found.
     Found(Stop),
     /// There was no memory, or a run failed that was not stopped.
     Undone,
@@ -84,7 +84,7 @@ pub(crate) struct Ran {
     pub(crate) files: Files<Fuse<Memory>>,
 }
 
-/// What was done over a database, and its store again.
+/// The number of replies of a run over a database, and its store again.
 struct Done<S> {
     replies: usize,
     store: S,
@@ -128,7 +128,7 @@ fn execute<S: Alter + Drop>(mut conn: Connection<S>, first: &str) -> Result<S, F
     Ok(conn.into_store())
 }
 
-/// What statements make of an empty database.
+/// The image that statements make out of an empty database.
 pub(crate) fn image_of(alloc: Global, first: &str) -> Result<Image, Fault> {
     let empty = Image {
         log: Vec::new(alloc),
@@ -147,7 +147,7 @@ pub(crate) fn image_of(alloc: Global, first: &str) -> Result<Image, Fault> {
     })
 }
 
-/// What a database holds, and what it holds where its store was opened.
+/// The picture of a database, and its picture after its store was opened.
 #[derive(Drop)]
 pub(crate) struct Pictures {
     pub(crate) found: Vec<u8>,
@@ -167,7 +167,7 @@ fn pictures_over<S: Alter + Drop>(
     Ok(Some(Pictures { found, opened }))
 }
 
-/// What an image holds; none where it is not opened.
+/// The pictures of an image; none if it does not open.
 pub(crate) fn pictures_of(alloc: Global, image: &Image) -> Result<Option<Pictures>, Fault> {
     match open(alloc, load(alloc, image, endless())?) {
         Ok(conn) => pictures_over(alloc, conn),
@@ -190,7 +190,7 @@ fn picture_over<S: Alter + Drop>(
     Ok(picture(alloc, &mut conn)?)
 }
 
-/// What a store holds behind lines that no stop ends.
+/// The picture of a store after lines that no stop ends.
 pub(crate) fn picture_behind(
     alloc: Global,
     image: &Image,

@@ -6,7 +6,7 @@ use std::fmt;
 /// The most calls of a disk that are stopped.
 const MOST: u64 = 1_000_000;
 
-/// What stands behind a stop.
+/// The value that stands after a stop: that before the line, that after it, or another.
 #[derive(Clone, Copy)]
 enum Standing {
     Before,
@@ -21,7 +21,7 @@ enum Part {
     Database,
 }
 
-/// A stop behind which neither value stands.
+/// A stop after which neither value stands.
 #[derive(Clone, Copy)]
 pub(crate) struct Stop {
     part: Part,
@@ -29,14 +29,14 @@ pub(crate) struct Stop {
     replies: usize,
 }
 
-/// Which values crashes left where a stop ended a line.
+/// The values that crashes left after a stop ended a line.
 #[derive(Clone, Copy)]
 struct Left {
     before: bool,
     after: bool,
 }
 
-/// What was seen of a line.
+/// The effect of a line, as the stops show it.
 #[derive(Clone, Copy)]
 pub(crate) enum Seen {
     /// It changes nothing.
@@ -93,7 +93,7 @@ impl fmt::Display for Stop {
     }
 }
 
-/// What stands before the store is opened, behind that, and behind each line.
+/// The values before the store is opened, after that, and after each line.
 fn values(alloc: Global, image: &Image, lines: &[&str]) -> Result<Vec<Vec<u8>>, Fault> {
     let Some(first) = pictures_of(alloc, image)? else {
         return Err(Fault::Undone);
@@ -112,7 +112,7 @@ fn is_value(values: &[Vec<u8>], at: usize, found: &[u8]) -> bool {
     }
 }
 
-/// Which value stands behind so many replies.
+/// Which value was found after so many replies.
 fn standing_of(values: &[Vec<u8>], replies: usize, found: &[u8]) -> Standing {
     if is_value(values, replies, found) {
         return Standing::Before;
@@ -123,7 +123,7 @@ fn standing_of(values: &[Vec<u8>], replies: usize, found: &[u8]) -> Standing {
     Standing::Another
 }
 
-/// What stands in an image, of which the store has to open again with that.
+/// Which value stands in an image. Its store has to open again with the same value.
 fn standing_in(
     alloc: Global,
     image: &Image,
@@ -146,7 +146,7 @@ fn standing_in(
     }
 }
 
-/// What is done each time.
+/// The run that each stop cuts off: lines over an image, and the values that may stand.
 #[derive(Clone, Copy)]
 pub(crate) struct Trial<'a> {
     alloc: Global,
@@ -155,7 +155,7 @@ pub(crate) struct Trial<'a> {
     values: &'a [Vec<u8>],
 }
 
-/// Notes which value a crash left where so many replies had come.
+/// Notes which value a crash left after so many replies.
 fn note(left: &mut [Left], replies: usize, standing: Standing) {
     if let Some(left) = left.get_mut(replies) {
         match standing {
@@ -200,7 +200,7 @@ fn stop_part(trial: &Trial<'_>, part: Part, left: &mut [Left]) -> Result<(), Fau
     Err(Fault::Undone)
 }
 
-/// What was seen of the line before which this value stood.
+/// The effect of the line before which this value stood.
 fn seen_of(values: &[Vec<u8>], at: usize, left: Left) -> Seen {
     let Some(before) = values.get(at) else {
         return Seen::OneSide;

@@ -248,7 +248,7 @@ quiet_unmade w name n a u = unmade_of w (restarter w name) n a u
 
 -- ---- a spawn that is made
 
--- what was asked for is begun first
+-- the first run that is begun is the wanted one
 record Wants (t : Contracts) (c : Call) (bs : List Begun) (want : Wanted) : Type 0 where
   first : Begun
   rest : List Begun
@@ -315,7 +315,7 @@ made_items w k n id cookie terms r b rest is_call next is =
     between (held_items k r.taken) (begun_items (begun_in r.call answer) r.begun) (emptied_items w.table call) (held_none k r.taken) (emptied_none w.table call)
     ∙ ap starts (begun_is w.table k.actor id cookie terms r.call r.begun rest b is_call next is)
 
--- what the turn comes to
+-- the event asks the table for the wanted run, and its items show that run first
 record IsRun (w : World) (e : Event) (want : Wanted) : Type 0 where
   actor : ℕ
   first : Begun
@@ -367,7 +367,7 @@ found_no_runs : (es : List ContractEvent) → flat_map runs_of (map notes.Found 
 found_no_runs [] = refl
 found_no_runs (e ∷ es) = found_no_runs es
 
--- what a spawn makes
+-- the contract and the process that a spawn makes
 record IsShape (t u : Contracts) (cookie : ℕ) (terms : Terms) (m : Made) : Type 0 where
   id : ℕ
   process : ℕ
@@ -722,7 +722,7 @@ boot_call : (w : World) → ((worked w events.Boot).call ≡ calls.Nothing) ⊎ 
 unfolding worked commanded
 boot_call w = first_call w (commanded w commands.Boot) (commanded w commands.Boot).reply refl
 
--- what children keep that were asked nothing yet
+-- the ledger of children that were asked nothing yet
 abbrev pub fresh : Ledger
 fresh = record { notes = []; table = empty; due = []; pending = [] }
 

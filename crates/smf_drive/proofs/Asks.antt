@@ -1,4 +1,4 @@
--- What a turn for an instance asks of children, beside the call of its restarter.
+-- A turn for an instance: its request to children, beside the call of its restarter.
 use Rattle.std.proofs.Common.{◌≡◌, ℕ, ◌&&◌, Bool, true, false, List, [], ◌∷◌, Option, Some, None, refl, sym, subst}
 use Rattle.smf_contract.specs.Entries.{Contracts}
 use Rattle.smf_contract.specs.declared.terms.Terms.{Terms}
@@ -23,7 +23,7 @@ abbrev is_kill : Call → Bool
 is_kill (calls.Kill c) = true
 is_kill _ = false
 
--- whether the turn of a restarter for an instance asks for a kill
+-- the turn of a restarter for an instance asks for a kill
 abbrev asks_kill : Option Knowledge → ℕ → Bool
 asks_kill None n = false
 asks_kill (Some k) n = is_kill (ticked k n).call
@@ -55,7 +55,7 @@ asks_by t k n b calls.Nothing = tt
 asks_by t k n b calls.List = tt
 asks_by t k n b (calls.Adopt c) = tt
 
--- a process is asked for where the turn asks for a spawn, and an end where it asks for a kill
+-- a process is asked for if the turn asks for a spawn, and an end if it asks for a kill
 abbrev pub IsAskedFor : Ask → Option Knowledge → ℕ → Type 0
 IsAskedFor Nothing k n = Unit {0}
 IsAskedFor Unnumbered k n = asks_spawn k n ≡ true
@@ -76,7 +76,7 @@ pub asked_for : (w : World) (name : List ℕ) (n : ℕ) (a : Ask) → a ≡ aske
 unfolding asked
 asked_for w name n a e = let P : Ask → Type 0 = λ x. IsAskedFor x (restarter w name) n in subst P (sym e) (asked_for_of w.table (restarter w name) n)
 
--- where a spawn is asked for, nothing else is
+-- if the turn asks for a spawn, it asks for nothing else
 abbrev AsksAlike : Ask → Option Knowledge → ℕ → Type 0
 AsksAlike Nothing k n = asks_spawn k n ≡ true → ⊥
 AsksAlike Unnumbered k n = Unit {0}
@@ -124,7 +124,7 @@ and_right : (a b : Bool) → (a && b) ≡ true → b ≡ true
 and_right true b e = e
 and_right false b e = absurd cc
 
--- what is asked where the schedule refuses it
+-- if the schedule refuses a spawn, the turn may go on without it
 unmade_by : (k : Option Knowledge) (n : ℕ) (a : Ask) → IsAskedFor a k n → AsksAlike a k n → asks_spawn k n ≡ true → IsUnmade a spawns.Refused
 unmade_by k n Nothing h alike e = absurd (alike e)
 unmade_by k n Unnumbered h alike e = tt

@@ -1,4 +1,4 @@
--- What children note of runs and forks, against the contracts and the last number of the table.
+-- Runs and forks that children note, against the contracts and the last number of the table.
 use Rattle.std.proofs.Common.{◌≡◌, ℕ, ◌+◌, List, [], ◌∷◌, ◌++◌, length, length-append, map, refl, sym, ap, ◌∙◌, arith, append_assoc}
 use Rattle.std.specs.Prelude.{flat_map}
 use Rattle.std.proofs.lemmas.Grind.{flat_map-append}
@@ -78,7 +78,7 @@ found_runs : (es : List Event) → flat_map runs_of (map notes.Found es) ≡ []
 found_runs [] = refl
 found_runs (e ∷ es) = found_runs es
 
--- what is found numbers what the first of it numbers
+-- events that are found give as many numbers as the first of them
 pub found_given : (t : Contracts) (e : Event) (due : List Event) → ArePast t due → length (forks_by e.contract e.kind) ≡ given (map notes.Found (e ∷ due))
 found_given t e due h =
     let runs : length (record_of (map notes.Found (e ∷ due))).runs ≡ 0 = ap length (found_runs (e ∷ due)) in

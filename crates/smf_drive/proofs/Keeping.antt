@@ -1,5 +1,5 @@
--- What keeps agreement besides a drive: events in which children have no part, a boot at which they drop all that they
--- had, and what happened to them and is not told yet.
+-- Agreement stays after events in which children have no part, and after a boot at which they drop all that they had.
+-- It also stays if something happened to them and is not told yet.
 use Rattle.std.proofs.Common.{◌≡◌, ◌⊎◌, ◌&&◌, not, nat_lt, inl, inr, ℕ, Bool, true, false, if◌then◌else◌, List, [], ◌∷◌, ◌++◌, map, reverse, Option, Some, None, refl, sym, ap, ◌∙◌, subst, append-nil}
 use Rattle.std.specs.Prelude.{flat_map}
 use Rattle.smf_contract.specs.declared.call.ContractCall.TheVariants as calls
@@ -51,7 +51,7 @@ unheld_gone : (actor : ℕ) (cs : List Contract) → map unheld (map (given_up a
 unheld_gone actor [] = refl
 unheld_gone actor (c ∷ cs) = λ j. unheld_given actor c j ∷ unheld_gone actor cs j
 
--- what waits to be adopted is not ended
+-- a contract that waits to be adopted is not ended
 none_ends : (actor : ℕ) (c : Contract) (a : Activity) → Inherits c → ended_one_with actor c a ≡ a
 none_ends actor c a p = by (is_held_by actor c.holder) c.terms.inherit c.terms.noorphan p
   where
@@ -202,7 +202,7 @@ reboot_called : (t : Contracts) → called t calls.Reboot ≡ rebooted t
 unfolding called
 reboot_called t = refl
 
--- where children dropped all that they had
+-- a boot at which children dropped all that they had
 pub agree_boot : (w v : World) (l m : Ledger) → refused w events.Boot ≡ None → v ≡ happens w events.Boot → m ≡ restarted l → Agrees w l → Agrees v m
 agree_boot w v l m taken is same a =
     let call = boot_calls w taken in

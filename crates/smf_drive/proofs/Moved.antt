@@ -1,4 +1,4 @@
--- What a schedule with children does, whole or in part, is done by moves.
+-- A schedule with children acts by moves, whole or in part.
 use Rattle.std.proofs.Common.{◌≡◌, ◌⊎◌, inl, inr, ℕ, zero, suc, Bool, true, false, List, [], ◌∷◌, Option, Some, None, is_some, Result, Ok, Err, IfErr, IfOk, refl, sym, ap, ◌∙◌, subst}
 use Rattle.smf_contract.specs.declared.event.Event.{Event as ContractEvent}
 use Rattle.smf_edge.specs.Answers.{Seen, Skills}

@@ -1,4 +1,4 @@
--- Moves, one behind another.
+-- Moves, one after another.
 use Rattle.std.proofs.Common.{◌≡◌, ℕ, zero, suc, ◌+◌, true, Option, Some, None, refl, subst, arith}
 use Rattle.smf_edge.specs.Ledgers.{Ledger}
 use Rattle.smf_world.specs.declared.event.Event.{Event}
@@ -62,6 +62,6 @@ driven_moves : (k : ℕ) (w v : World) (l m : Ledger) → AreMoves k w v l m →
 driven_moves zero w v l m a = driven_same w v a.0
 driven_moves (suc k) w v l m a = driven_then w a.0 v (driven_move w a.0 l a.1 a.2) (driven_moves k a.0 v a.1 m a.3)
 
--- what moves reach is reached by events that are no client's command, crash or boot
+-- moves reach a world by events that are no client's command, crash or boot
 pub driven_moved : (w v : World) (l m : Ledger) → Moves w v l m → IsDriven w v
 driven_moved w v l m h = driven_moves h.0 w v l m h.1

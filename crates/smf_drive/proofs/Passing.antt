@@ -1,4 +1,4 @@
--- What children note of processes that come and go, and which of them have ended.
+-- Processes that come and go, as children note them, and which of them have ended.
 use Rattle.std.proofs.Common.{◌≡◌, ◌<◌, ◌≤◌, ℕ, ◌+◌, ◌==◌, nat_lt, Bool, true, false, cond, List, [], ◌∷◌, ◌++◌, length, map, filter, drop, Option, Some, None, IfSome, option_map, refl, sym, ap, ◌∙◌, subst, arith, append_assoc, not}
 use Rattle.std.specs.Prelude.{find, flat_map}
 use Rattle.std.proofs.Math.Seq.{drop-append_seam}
@@ -169,7 +169,7 @@ all_outside : (id low last : ℕ) (ms : List Member) → Ascends low (numbers ms
 all_outside id low last [] a = tt
 all_outside id low last (m ∷ ms) a = outside_by (m.contract == id) id low last m ms a.0 a.1 (all_outside id m.process last ms a.1)
 
--- ---- events behind others, all of which are past
+-- ---- events after others, all of which are past
 
 record More (u : Contracts) (es fs : List Event) : Type 0 where
   more : List Event
@@ -207,7 +207,7 @@ more_exits u es id low (p ∷ ps) g =
     (more_noted u es id (kinds.Exit p Killed) (nat_lt 0 (length ps)) (g.1, home_at u.members p ∙ g.2))
     (more_exits u here id low ps g.3)
 
--- an event of this kind comes first, and those behind it are past
+-- an event of this kind comes first, and those after it are past
 pub record Tells (kind : EventKind) (u : Contracts) (es fs : List Event) : Type 0 where
   pub first : Event
   pub more : List Event
@@ -268,7 +268,7 @@ KindOf happenings.Fork p kind = (child : ℕ) × (kind ≡ kinds.Fork child)
 KindOf (happenings.Exit exit) p kind = kind ≡ kinds.Exit p exit
 KindOf (happenings.Fail failure) p kind = kind ≡ failure_kind failure p
 
--- what is told of it
+-- this event tells what happened, and the ones that are due after it are past
 pub record IsTelling (t u : Contracts) (h : Happening) (p : ℕ) (e : Event) (due : List Event) : Type 0 where
   pub kind : KindOf h p e.kind
   pub events : u.events ≡ t.events ++ e ∷ due

@@ -1,4 +1,4 @@
--- What the trail shows of runs that are made, event by event.
+-- The runs that the trail shows, event by event.
 use Rattle.std.proofs.Common.{◌≡◌, ℕ, ◌+◌, ◌==◌, nat_lt, Bool, true, false, cond, List, [], ◌∷◌, ◌++◌, map, reverse, Option, Some, None, Ok, refl, sym, ap, ◌∙◌, subst, arith}
 use Rattle.std.specs.Prelude.{flat_map}
 use Rattle.std.proofs.lemmas.Grind.{flat_map-append}
@@ -32,7 +32,7 @@ starts xs = flat_map starts_of xs
 both : (xs ys : List Item) → starts (xs ++ ys) ≡ starts xs ++ starts ys
 both xs ys = flat_map-append starts_of xs ys
 
--- items behind a trail
+-- items after a trail
 pub starts_behind : (items trail : List Item) → starts (reverse (reverse items ++ trail)) ≡ starts (reverse trail) ++ starts items
 starts_behind items trail =
     ap starts (reverse-append (reverse items) trail ∙ ap (λ xs. reverse trail ++ xs) (reverse-reverse items)) ∙ both (reverse trail) items
@@ -79,7 +79,7 @@ pub held_none : (k : Knowledge) (xs : List Known) → starts (held_items k xs) �
 held_none k [] = refl
 held_none k (x ∷ xs) = behind_none (held_item k x) (held_items k xs) refl (held_none k xs)
 
--- what stands between two lists without runs
+-- the runs of a list between two lists without runs
 pub between : (a b c : List Item) → starts a ≡ [] → starts c ≡ [] → starts (a ++ b ++ c) ≡ starts b
 between a b c none last =
     both (a ++ b) c
@@ -146,12 +146,12 @@ none_by : (call : ContractCall) (items : List Item) → Shows call items → ((a
 none_by call items (shows_none none) other = none
 none_by call items (shows_one actor c cookie terms command is all) other = absurd (other actor cookie terms is)
 
--- where no run is asked of the table
+-- the trail shows no new run if none is asked of the table
 pub no_starts : (w : World) (e : Event) → ((actor cookie : ℕ) (terms : Terms) → (worked w e).call ≡ calls.Spawn actor cookie terms → ⊥) → starts (reverse (happens w e).trail) ≡ starts (reverse w.trail)
 no_starts w e other =
     starts_after w e ∙ ap (λ xs. starts (reverse w.trail) ++ xs) (none_by (worked w e).call (worked w e).items (shows w e) other) ∙ append-nil (starts (reverse w.trail))
 
--- where one was asked of it, and this was begun first
+-- the trail shows one run if one was asked of the table, and this was begun first
 spawn_cookie : (actor other cookie last : ℕ) (terms more : Terms) → calls.Spawn actor cookie terms ≡ calls.Spawn other last more → cookie ≡ last
 spawn_cookie actor other cookie last terms more h = cc
 

@@ -1,4 +1,4 @@
--- Where what children keep and what the node's world says agree.
+-- Agreement of the ledger of children and the node's world.
 use Rattle.std.specs.Prelude.{◌≡◌, ◌≤◌, ◌==◌, ◌+◌, ℕ, List, [], ◌∷◌, ◌++◌, length, map, flat_map, reverse, Bool, true, false, None, Result, Ok}
 use Rattle.smf_contract.specs.declared.contract.Contract.{Contract}
 use Rattle.smf_contract.specs.declared.contract.Holder.TheVariants.{Inherited}
@@ -55,7 +55,7 @@ pub record AreAlike (t u : Contracts) : Type 0 where
   pub last_contract : t.last_contract ≡ u.last_contract
   pub last_process : t.last_process ≡ u.last_process
 
--- what a contract has of the run that made it
+-- the number, cookie and terms that a contract has of the run that made it
 pub record Bond : Type 0 where
   pub contract : ℕ
   pub cookie : ℕ
@@ -93,13 +93,14 @@ passages_in e = passages_by e.contract e.kind
 abbrev pub ended_in : ℕ → ℕ → Passage
 ended_in id p = record { contract = id; kind = kinds.Exit p Killed }
 
--- of a note, also the ends of a kill
+-- the passages of a note, also the ends of a kill
 abbrev pub passages_of : Note → List Passage
 passages_of (notes.Made run) = []
 passages_of (notes.Found e) = passages_in e
 passages_of (notes.Killed kill) = map (ended_in kill.contract) kill.ends
 
--- what children noted ends with what the table says; what they noted earlier was of a table before a boot
+-- the forks and ends that children noted last are those of the table's events; earlier ones are of a table before a
+-- boot
 abbrev pub IsNoted : List Note → List Event → Type 0
 IsNoted ns es = (earlier : List Passage) × (flat_map passages_of ns ≡ earlier ++ flat_map passages_in es)
 
@@ -115,9 +116,9 @@ ArePast t (e ∷ es) = IsPast t e.kind × ArePast t es
 
 -- ---- a node and its children
 
--- the runs that were made are those of the trail, in order, and those of the contracts; processes have the numbers of the
--- runs and forks; both have the same contracts, members and events; the forks and ends that children noted, kills among
--- them, are those of the events, in order; and what is given later brings nothing more
+-- The runs that were made are those of the trail, in order, and those of the contracts. Processes have the numbers of
+-- the runs and forks. Both sides have the same contracts, members and events. The forks and ends that children noted,
+-- kills among them, are those of the events, in order. An event that is given later brings nothing more.
 pub record Agrees (w : World) (l : Ledger) : Type 0 where
   pub starts : flat_map starts_of (reverse w.trail) ≡ map start_by (record_of l.notes).runs
   pub made : AreMade (record_of l.notes).runs w.table.contracts

@@ -1,4 +1,4 @@
--- What a drive does to the world, however it ends.
+-- The effect of a drive on the world, however the drive ends.
 use Rattle.std.specs.Prelude.{◌≡◌, List, [], ◌∷◌, Bool, true, false}
 use Rattle.smf_world.specs.declared.event.Event.{Event}
 use Rattle.smf_world.specs.declared.event.Event.TheVariants as events

@@ -1,5 +1,5 @@
--- A drive, move by move: each is at most one call of the children that changes what they keep, with the event that it is to
--- the node.
+-- A drive, move by move. Each move is at most one call of the children that changes their ledger, with the event that
+-- it is to the node.
 use Rattle.std.specs.Prelude.{◌≡◌, ℕ, zero, suc, List, Bool, true, false, Some}
 use Rattle.smf_contract.specs.declared.event.Event.{Event as ContractEvent}
 use Rattle.smf_edge.specs.Ledgers.{Ledger}
@@ -16,8 +16,8 @@ use Rattle.smf_machine.specs.declared.requests.Ask.{Ask}
 use Rattle.smf_machine.specs.declared.requests.Ask.TheVariants.{Nothing, Unnumbered, Spawn, Kill}
 use Rattle.smf_machine.specs.Requests.{asked}
 
--- an event in which children have no part: no client's command, crash or boot, no turn for an instance, and nothing that
--- happens to a process
+-- An event in which children have no part. It is no client's command, crash or boot, no turn for an instance, and
+-- nothing that happens to a process.
 abbrev pub is_alone : Event → Bool
 is_alone (events.Client edit) = false
 is_alone (events.Crash name) = false

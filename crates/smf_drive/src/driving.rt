@@ -13,9 +13,9 @@ use smf_model::Journal;
 use smf_node::{Node, NodeFault};
 use smf_world::Settled;
 
-/// Lets at most so many rounds happen with the answers of children, up to the first that leaves nothing to do. `Limit` if a
-/// restarter has to be launched and cannot be. A fault leaves what was done before the deed that failed. If children and
-/// the node agreed, they agree, however it ends.
+/// Lets at most so many rounds happen with the answers of children, up to the first that leaves nothing to do. `Limit`
+/// if a restarter has to be launched and cannot be. A fault leaves what was done before the deed that failed. If
+/// children and the node agreed, they agree, however it ends.
 pub fn drive<J: Journal, K: Kids>(
     node: &mut Node<J>,
     kids: &mut K,

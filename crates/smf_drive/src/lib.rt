@@ -1,5 +1,5 @@
 //! The drive: rounds of the node's schedule with the answers of children, and what the node's world then says of them.
-//! Modules: `driving`.
+//! Modules: `rounds`.
 #![tactic(auto)]
 
 mod driving;

@@ -13,7 +13,7 @@ use std::alloc::Global;
 #[derive(Drop)]
 pub struct FailingKids {
     kids: TableKids,
-    /// The number of the call that fails among those to come; 0 where none does.
+    /// The number of the call that fails among those to come; 0 if none does.
     next: u64,
     failures: u64,
 }

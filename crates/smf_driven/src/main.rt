@@ -1,7 +1,8 @@
-//! A program for tests: does a script on standard input over a repository in memory, with children that a contract table
-//! simulates. One call fails. A number names a call of the children. Behind `read` and `write` it names a read of standard
-//! input or a write of a text; behind `interrupted-read` and `interrupted-write` one that is interrupted.
-//! Modules: `failing` (children that fail), `streams` (a reader and a writer that fail).
+//! A program for tests: does a script on standard input over a repository in memory, with children that a contract
+//! table simulates. One call fails. A number names a call of the children. After `read` it names a read of standard
+//! input, and after `write` a write of a text. After `interrupted-read` and `interrupted-write` that call is
+//! interrupted.
+//! Modules: `failures` (children that fail), `streams` (a reader and a writer that fail).
 #![tactic(auto)]
 
 mod failing;
@@ -20,7 +21,7 @@ use std::io::{BufReader, ErrorKind};
 use std::process::ExitCode;
 use std::{env, io};
 
-/// The status where a fault ended the script.
+/// The status if a fault ended the script.
 const FAULT: u8 = 3;
 
 /// Which call fails, by its number among those of its kind; 0 stands for none.

@@ -6,7 +6,7 @@ use std::io::{ErrorKind, Read, Write};
 /// Calls of which one fails.
 #[derive(Drop)]
 pub struct Calls {
-    /// The number of the call that fails among those to come; 0 where none does.
+    /// The number of the call that fails among those to come; 0 if none does.
     next: u64,
     kind: ErrorKind,
 }

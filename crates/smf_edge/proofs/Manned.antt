@@ -1,4 +1,4 @@
--- What each call keeps of the processes of the system.
+-- Each call keeps one process of the system for each contract with members.
 use Rattle.std.proofs.Common.{◌≡◌, ◌≢◌, ℕ, zero, suc, ◌+◌, ◌<◌, ◌≤◌, ◌==◌, not, List, [], ◌∷◌, ◌++◌, Bool, true, false, cond, Option, Some, None, ◌⊎◌, IfErr, IfOk, OnOk, OnErr, Result, Ok, Err, option_map, map, filter, length, position, slice_get, refl, sym, ap, subst, arith, eq-eqb, ◌∙◌, inl, inr}
 use Rattle.std.specs.Prelude.{find}
 use Rattle.std.proofs.lemmas.Bool.{eqb-true, ne_eqb}

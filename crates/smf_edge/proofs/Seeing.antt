@@ -13,7 +13,7 @@ use Rattle.smf_edge.specs.declared.child.Sight.TheVariants.{Running, Ended, Fail
 use Rattle.smf_edge.specs.Facts.{Facts}
 use Rattle.smf_edge.specs.Running.{AreSeen, NoneOrSome, OneFails, Role, SomeKid, contracts, is_other, is_other_kid, is_other_role, is_kid_of, role_of, roles}
 
--- what is seen of so many, if none has ended
+-- the sight of so many processes, if none has ended
 abbrev pub SeenUpTo : {C : Type 0} → Facts C → ℕ → Sight → List (Kid C) → Type 0
 SeenUpTo {C} facts n Running kids = (k : ℕ) → k < n → (kid : Kid C) → slice_get kids k ≡ Some kid → facts.is_running kid.child
 SeenUpTo facts n (Ended contract exit) kids = ⊥
@@ -28,7 +28,7 @@ some_kid id kids k d P at p =
     let here = position-Some (is_kid_of id) kids k d at in
     (k, get_or kids k d, slice_get-get_or kids k d here.0, eqb-true (get_or kids k d).contract id here.1, p)
 
--- what a call finds of the process of a contract, it finds of one of them
+-- a fact of the process of a contract is a fact of one of them
 pub some_kid_if : {C X E : Type 0} (id : ℕ) (kids : List (Kid C)) (k : ℕ) (d : Kid C) (P : X → Kid C → Type 0) (r : Result (Option X) E) → position (is_kid_of id) kids ≡ Some k
     → IfOk r (λ o. IfSome o (λ x. P x (get_or kids k d))) → IfOk r (λ o. IfSome o (λ x. SomeKid id kids (P x)))
 some_kid_if id kids k d P (Err e) at h = tt
@@ -51,7 +51,7 @@ pub not_ended_if : {C E : Type 0} (id : ℕ) (kids : List (Kid C)) (k : ℕ) (d 
 not_ended_if id kids k d P (Err e) at h = tt
 not_ended_if id kids k d P (Ok done) at h = λ e. inr (some_kid id kids k d P at (h e))
 
--- what is left to see is as it was
+-- the processes that are still to be seen are as they were
 pub here_left : {C : Type 0} (xs ys : List (Kid C)) (i : ℕ) (d : Kid C) → i < length ys → roles xs ≡ roles ys → drop i xs ≡ drop i ys
     → (get_or xs i d ≡ get_or ys i d) × (drop (i + 1) xs ≡ drop (i + 1) ys)
 here_left xs ys i d low same left =
@@ -84,7 +84,7 @@ pub told : {X E : Type 0} (P : X → Type 0) (r : Result X E) → is_ok r ≡ tr
 told P (Ok x) e h = (x, h)
 told P (Err x) e h = absurd cc
 
--- what was written through a slice of all of a list
+-- the list after a write through a slice of all of it
 pub back : {C : Type 0} (len : ℕ) (items was now : List (Kid C)) → was ≡ items → length was ≡ len → roles now ≡ roles was → take len (now ++ drop (length now) items) ≡ now
 back len items was now e n same =
     let count : length now ≡ length was = sym (length-map now role_of) ∙ ap length same ∙ length-map was role_of in

@@ -1,4 +1,4 @@
--- What the calls of a system find of its processes.
+-- The facts that the calls of a system find of its processes.
 use Rattle.std.specs.Prelude.{ℕ, ◌⊎◌, Option}
 use Rattle.std.specs.declared.alloc.Global.{Global}
 use Rattle.std.specs.declared.process.Command.{Command}
@@ -29,7 +29,8 @@ pub record Facts (C : Type 0) : Type 1 where
 abbrev pub HasRun : {C : Type 0} → Facts C → Command Global → Type 0
 HasRun {C} facts program = (c : C) × (facts.is_of program c) × (s : ExitStatus) × facts.has_ended c s
 
--- a start failed, and not for want of memory; or it made a process of this program, and the system did not say how that ended
+-- A start failed, and not for want of memory. Or it made a process of this program, and the system did not say how that
+-- ended.
 abbrev pub HasNotRun : {C : Type 0} → Facts C → Command Global → Type 0
 HasNotRun {C} facts program =
     StartRefused facts.start_fails

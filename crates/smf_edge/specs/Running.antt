@@ -23,7 +23,8 @@ use Rattle.smf_edge.specs.Facts.{Facts, HasNotRun, HasRun}
 use Rattle.smf_edge.specs.Ends.{IsGroupKill, exit_by}
 use Rattle.smf_edge.specs.Shell.{is_child}
 
--- what stays of a process as long as it is kept: its contract, how long its service lasts, and its process group
+-- the data of a process that stay as long as it is kept: its contract, how long its service lasts, and its process
+-- group
 pub record Role : Type 0 where
   pub contract : ℕ
   pub style : Duration
@@ -96,7 +97,7 @@ AllRun {C} facts kids = (k : ℕ) (kid : Kid C) → slice_get kids k ≡ Some ki
 abbrev pub OneFails : {C : Type 0} → Facts C → List (Kid C) → Type 0
 OneFails {C} facts kids = (k : ℕ) × (kid : Kid C) × (slice_get kids k ≡ Some kid) × HasNoExit facts kid
 
--- what is seen of all of them
+-- the sight of all of them
 abbrev pub AreSeen : {C : Type 0} → Facts C → Sight → List (Kid C) → Type 0
 AreSeen facts Running kids = AllRun facts kids
 AreSeen facts (Ended contract exit) kids = SomeKid contract kids (HasExit facts exit)

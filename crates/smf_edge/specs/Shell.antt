@@ -6,7 +6,7 @@ use Rattle.std.specs.declared.process.Command.{Command}
 use Rattle.smf_state.specs.declared.state.Duration.{Duration}
 use Rattle.smf_state.specs.declared.state.Duration.TheVariants.{Contract, Transient, Child}
 
--- the words behind `setsid` by which the shell runs a command
+-- the words after `setsid` by which the shell runs a command
 abbrev pub by_shell : List ℕ → List (List ℕ)
 by_shell command = codes "/bin/sh" ∷ codes "-c" ∷ command ∷ []
 

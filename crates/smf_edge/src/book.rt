@@ -20,7 +20,7 @@ use std::alloc::{AllocError, Global};
 /// Whom the table says to hold the contracts.
 const HOLDER: u64 = 0;
 
-/// What children keep of themselves.
+/// The ledger that children keep of themselves.
 #[derive(Drop)]
 pub(crate) struct Book {
     alloc: Global,

@@ -26,7 +26,7 @@ pub(crate) struct Kid<C> {
     pub(crate) child: C,
 }
 
-/// What is seen of the processes.
+/// The result of a look at the processes.
 #[derive(Clone, Copy)]
 pub(crate) enum Sight {
     /// They run.
@@ -82,9 +82,9 @@ fn run<R: System>(system: &R, mut program: Program) -> Result<bool, AllocError>
     }
 }
 
-/// Ends what the process of a child service left in its group, and says whether that was done. The group may be gone.
-/// What a transient service leaves runs on. The process was waited for, so its number is free as soon as its group is
-/// gone: the killer runs at once, and a later call may meet another group of this number.
+/// Ends the processes that a child service left in its group, and says whether that was done. The group may be gone.
+/// Processes that a transient service leaves run on. The service's own process was waited for, so its number is free as
+/// soon as its group is gone. So the killer runs at once: a later call may meet another group of this number.
 fn clear<R: System>(
     alloc: Global,
     system: &R,
@@ -102,7 +102,7 @@ fn clear<R: System>(
     Ok(done)
 }
 
-/// What is seen of one process.
+/// The result of a look at one process.
 fn see<R: System>(alloc: Global, system: &R, kid: &mut Kid<R::Started>) -> Result<Sight, AllocError>
     ensures same { role_of kid.new ≡ role_of kid.old }
     ensures seen { IfOk result (λ sight. IsSeen R.facts sight kid.old) }

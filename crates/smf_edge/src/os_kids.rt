@@ -57,7 +57,7 @@ impl<R: System> OsKids<R> {
     ghost use Rattle.std.specs.Prelude.{◌≡◌, []};
     ghost use Rattle.smf_contract.specs.Entries.{empty};
 
-    /// No children yet. What they write goes to this stream.
+    /// No children yet. Their output goes to this stream.
     pub fn new(alloc: Global, system: R, output: Stderr) -> OsKids<R>
         ensures { result ≡ (record { notes = []; table = empty; due = []; pending = [] }, 0, []) }
     {
@@ -139,8 +139,9 @@ impl<R: System> Kids for OsKids<R> {
         Ok(())
     }
 
-    /// The clause `seen` says that the end of a process is told only after the system told it, and of a child service's
-    /// only after the killer of its group ran. The end of a joined process was told in `join`, which says the same.
+    /// The clause `seen` says that the end of a process is told only after the system told it. For a child service it
+    /// is told only after the killer of its group ran. The end of a joined process was told in `join`, which says the
+    /// same.
     fn poll(&mut self) -> Result<Option<Event>, KidsFault>
         ensures polled { IfOk result (λ event. IsPolled event self.old.0 self.new.0) }
         ensures refused { OnErr result (self.new.0 ≡ self.old.0) }

@@ -54,8 +54,8 @@ fn wire(program: &mut Program, output: Stderr)
     program.stderr(output);
 }
 
-/// A command by the shell, in a process group of its own, with these variables alone and an empty standard input. What it
-/// writes goes to one stream.
+/// A command by the shell, in a process group of its own, with these variables alone and an empty standard input. Its
+/// output goes to one stream.
 pub(crate) fn shell(
     alloc: Global,
     command: &Command,
@@ -82,7 +82,7 @@ pub(crate) fn shell(
     Ok(program)
 }
 
-/// What ends every process of a group, by SIGKILL.
+/// The program that ends every process of a group, by SIGKILL.
 pub(crate) fn killer(alloc: Global, group: u32) -> Result<Program, AllocError>
     ensures { IfOk result (λ c. IsGroupKill group c) }
 {
@@ -110,7 +110,7 @@ pub(crate) fn exit_of(status: ExitStatus) -> Exit
     }
 }
 
-/// Whether services of a duration can be followed.
+/// Says whether services of a duration can be followed.
 pub(crate) fn follows(style: Duration) -> bool
     ensures { result ≡ follows style }
 {
@@ -121,14 +121,14 @@ pub(crate) fn follows(style: Duration) -> bool
     }
 }
 
-/// Whether a service is the one process that its start method starts.
+/// Says whether a service is the one process that its start method starts.
 pub(crate) fn is_child(style: Duration) -> bool
     ensures { result ≡ is_child style }
 {
     style == Duration::Child
 }
 
-/// Whether the system had no memory for what it was asked.
+/// Says whether the system had no memory for what it was asked.
 pub(crate) fn lacks_memory(error: &io::Error) -> bool
     ensures lacks { result ≡ true → error_kind error.now ≡ OutOfMemory }
     ensures other { result ≡ false → error_kind error.now ≢ OutOfMemory }

@@ -35,7 +35,7 @@ pub trait System {
         ensures ended { IfOk result (facts.has_ended child.old) }
         ensures lost { OnErr result (facts.is_lost child.old) };
 
-    /// What is found of the process after the kill is true of it before.
+    /// A fact that is found of the process after the kill is true of it before.
     fn kill(&self, child: &mut Self::Started) -> io::Result<()>
         ensures ended { (s : ExitStatus) → facts.has_ended child.new s → facts.has_ended child.old s }
         ensures lost { facts.is_lost child.new → facts.is_lost child.old }

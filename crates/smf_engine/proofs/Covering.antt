@@ -1,4 +1,4 @@
--- What was looked at of a view, and what that tells of the orders.
+-- A view that was looked at, and the orders that follow from it.
 use Rattle.std.proofs.Common.{◌≡◌, inl, inr, ℕ, ◌≤◌, ◌==◌, Bool, true, false, cond, List, [], ◌∷◌, ◌++◌, length, drop, map, Option, Some, None, option_map, position, slice_get, refl, sym, ap, ◌∙◌, subst, arith, eqb-true, eq-eqb}
 use Rattle.std.specs.Prelude.{find, IfOk, OnErr, OnOk, Result, Ok, Err}
 use Rattle.std.specs.declared.alloc.AllocError.{AllocError}
@@ -75,7 +75,7 @@ order_placed_at revision ms items n k j (Ok o) same there at given = given ∙ p
 for_instance : (revision : ℕ) (items : List ViewItem) (i : ViewItem) (o : Order) → order revision items i ≡ Some o → o.instance ≡ i.instance
 for_instance revision items i = order_shape revision items i (λ r. (o : Order) → r ≡ Some o → o.instance ≡ i.instance) (λ o e. absurd cc) (λ what o e. cc)
 
--- ---- lists of what is given of each
+-- ---- lists of the values given for each
 
 abbrev bind : {X Y : Type 0} → (X → Option Y) → Option X → Option Y
 bind f None = None
@@ -198,7 +198,7 @@ pub others_shown : (n : ℕ) (cs : List ChangedItem) (xs : List ViewItem) → Is
 others_shown n [] xs out = refl
 others_shown n (c ∷ cs) xs out = others_shown n cs (with_item c.instance c.item xs) out.1 ∙ item_other n c xs out.0
 
--- what was not touched is covered as before
+-- an instance that was not touched is covered as before
 pub covered_but : (items : List ViewItem) (cs : List ChangedItem) (touched ns : List ℕ) → OthersStay (members items) (members (with_items cs items)) touched → Covers items ns
     → CoversBut (touched ++ map number_put cs) (with_items cs items) ns
 unfolding order
@@ -255,7 +255,7 @@ seen_at ys (m ∷ ms) xs alike n = seen_at ys ms (with_item m (lookup by_item ys
 pub looked_up_to : (xs ys : List ViewItem) (ns : List ℕ) → AreAlikeBut ns xs ys → Rises by_item xs → Rises by_item ys → with_items (map (as_seen ys) ns) xs ≡ ys
 looked_up_to xs ys ns alike r s = same_lists by_item (with_items (map (as_seen ys) ns) xs) ys (patched_rises (map (as_seen ys) ns) xs r) s (seen_at ys ns xs alike)
 
--- where nothing is stale it is that view
+-- if nothing is stale it is that view
 pub fresh_is : (xs ys : List ViewItem) (ns : List ℕ) → ns ≡ [] → AreAlikeBut ns xs ys → Rises by_item xs → Rises by_item ys → xs ≡ ys
 fresh_is xs ys ns none alike r s = same_lists by_item xs ys r s (λ n. alike n (subst (IsOut n) (sym none) tt))
 
@@ -275,7 +275,7 @@ beside_patched v u (Some l) (Some k) cs to b noted e = λ n out.
     let both = out_of_both n l.stale (map number_put cs) (subst (IsOut n) noted.1 out) in
     ap (λ (xs : List ViewItem). lookup by_item xs n) noted.0 ∙ b n both.0 ∙ sym (others_shown n cs v.items both.1) ∙ ap (λ (w : View). lookup by_item w.items n) (sym e)
 
--- what was looked at ahead differs from the view that is held in what changes
+-- the items that were looked at ahead differ from the view that is held only in those that change
 pub beside_ahead : (v : View) (l : LookedAt) (cs : List ChangedItem) → l.items ≡ with_items cs v.items → l.stale ≡ map number_put cs → IsBeside (Some v) (Some l)
 beside_ahead v l cs e stale n out = ap (λ (xs : List ViewItem). lookup by_item xs n) e ∙ others_shown n cs v.items (subst (IsOut n) stale out)
 
@@ -299,7 +299,7 @@ pub found_about : (items : List ViewItem) (n : ℕ) → lookup by_item items n �
 found_about [] n = refl
 found_about (i ∷ is) n = ap (λ (t : Bool). cond t (Some i) (lookup by_item is n)) (number_test i.instance n (i.instance == n) refl) ∙ ap (cond (i.instance == n) (Some i)) (found_about is n)
 
--- ---- what the calls leave
+-- ---- the values that the calls leave
 
 pub beside_taken : (r : Result Unit AllocError) (v u : View) (l k : Option LookedAt) (cs : List ChangedItem) (to : ℕ) → IsBeside (Some v) l → IsNoted l (map number_put cs) k → OnOk r (u ≡ patched v to cs) → OnErr r (u ≡ v) → IsBeside (Some u) k
 beside_taken (Ok x) v u l k cs to b noted made left = beside_patched v u l k cs to b noted made

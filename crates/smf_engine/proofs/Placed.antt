@@ -1,4 +1,4 @@
--- What a graph finds at a place is what is found of the item there.
+-- The finding of a graph at a place is that of the item there.
 use Rattle.std.proofs.Common.{◌≡◌, ◌<◌, ℕ, List, length, get_or, Some, refl, ap, ◌∙◌}
 use Rattle.std.specs.Prelude.{slice_get, option_map}
 use Rattle.std.proofs.lemmas.Option.{slice_get-map, slice_get_read}

@@ -1,4 +1,4 @@
--- What an order says of the instance that it is for, whatever is decided.
+-- The parts of an order that its instance gives, whatever is decided.
 use Rattle.std.proofs.Common.{ℕ, List, Option, Some, None}
 use Rattle.smf_state.specs.declared.state.State.{State}
 use Rattle.smf_state.specs.declared.view.ViewItem.{ViewItem}

@@ -15,7 +15,7 @@ use Rattle.smf_engine.specs.Orders.{order, order_in}
 abbrev pub by_itself : By ℕ ℕ
 by_itself = by_number (λ n. n)
 
--- ---- what may be ordered
+-- ---- possible orders
 
 -- nothing is ordered for an instance that is not among these, whatever the revision
 abbrev pub Covers : List ViewItem → List ℕ → Type 0
@@ -25,7 +25,7 @@ Covers items ns = (n : ℕ) (i : ViewItem) → lookup by_item items n ≡ Some i
 abbrev pub CoversBut : List ℕ → List ViewItem → List ℕ → Type 0
 CoversBut left items ns = (n : ℕ) (i : ViewItem) → IsOut n left → lookup by_item items n ≡ Some i → lookup by_itself ns n ≡ None → (revision : ℕ) → order revision items i ≡ None
 
--- of one instance it is known whether something may be ordered; the others stay
+-- it is known of one instance if something may be ordered; the others stay
 pub record IsJudged (items : List ViewItem) (n : ℕ) (before after : List ℕ) : Type 0 where
   pub here : (i : ViewItem) → lookup by_item items n ≡ Some i → lookup by_itself after n ≡ None → (revision : ℕ) → order revision items i ≡ None
   pub others : (m : ℕ) → (n ≡ m → ⊥) → lookup by_itself after m ≡ lookup by_itself before m
@@ -34,7 +34,7 @@ pub record IsJudged (items : List ViewItem) (n : ℕ) (before after : List ℕ) 
 abbrev pub order_for : ℕ → List ViewItem → ℕ → Option Order
 order_for revision items n = order_in revision items (lookup by_item items n)
 
--- what is kept of a view that was looked at
+-- the data kept of a view that was looked at
 pub record IsLooked (v : View) (ms : List Member) (ns : List ℕ) : Type 0 where
   pub shown : ms ≡ members v.items
   pub covered : Covers v.items ns
@@ -62,7 +62,7 @@ abbrev pub IsBeside : Option View → Option LookedAt → Type 0
 IsBeside (Some v) (Some l) = AreAlikeBut l.stale l.items v.items
 IsBeside _ _ = Unit {0}
 
--- what was looked at is let go, or the numbers of what changed are noted with it
+-- the items looked at are dropped, or the numbers of those that changed are noted with them
 abbrev pub IsNoted : Option LookedAt → List ℕ → Option LookedAt → Type 0
 IsNoted l ns None = Unit {0}
 IsNoted None ns (Some after) = ⊥

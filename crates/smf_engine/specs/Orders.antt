@@ -1,4 +1,4 @@
--- What svc.startd's graph orders, by what it sees of the instances.
+-- The orders of svc.startd's graph, by what it sees of the instances.
 use Rattle.std.specs.Prelude.{ℕ, ◌==◌, ◌&&◌, ◌||◌, not, nat_lt, List, [], ◌∷◌, Bool, true, false, if◌then◌else◌, Option, Some, None, find, option_map, slice_get, Ok, Err}
 use Rattle.std.specs.Int.RustNames.{bit_and}
 use Rattle.std.specs.List.{filter_map}
@@ -56,7 +56,7 @@ stop_or_move state to cause by_method = if runs state then Stop to cause by_meth
 abbrev pub cleared : ViewItem → State
 cleared i = if same_state i.row.state Degraded then Online else first_state i.enabled
 
--- what is asked of an instance by svcadm(1M) or its restarter, the first that applies
+-- the decision that svcadm(1M) or the restarter of an instance asks for, the first that applies
 abbrev pub asked : ViewItem → Option Decision
 asked i =
     if asks i.row 1 then Some (stop_or_move i.row.state Maintenance Admin false)
@@ -69,7 +69,7 @@ asked i =
     else if asks i.row 128 then Some Refresh
     else None
 
--- what follows where an instance is not enabled
+-- the decision if an instance is not enabled
 abbrev pub disabling : State → Option Decision
 disabling Offline = Some (To Disabled)
 disabling Maintenance = Some (To Disabled)
@@ -77,13 +77,13 @@ disabling Online = Some (Stop Disabled Admin true)
 disabling Degraded = Some (Stop Disabled Admin true)
 disabling _ = None
 
--- a fault of the instance: its restarter or a dependency can't be read, it can't be started, a method can't be read,
--- or it depends on itself
+-- a fault of the instance: its restarter, a dependency or a method can't be read, it has no start method, or it depends
+-- on itself
 abbrev pub has_fault : ViewItem → Member → Finding → Bool
 has_fault i m f =
     not i.readable || not f.readable || f.on_cycle || has_unfit_methods i.row.owner i.name m.composed
 
--- what its dependencies decide of an enabled instance without a fault
+-- the decision of its dependencies on an enabled instance without a fault
 abbrev pub by_dependencies : Finding → State → Option Decision
 by_dependencies f Offline = if f.all_met then Some Start else None
 by_dependencies f _ = if f.must_stop then Some (Stop Offline NonError true) else None
@@ -169,12 +169,12 @@ newer (Some held) seen = if nat_lt held.revision seen.revision then Some seen el
 abbrev pub goes_on : View → ViewChanges → Bool
 goes_on v c = (v.revision == c.from) && not (nat_lt c.to c.from)
 
--- the view that is held, with the changes where they go on from it
+-- the view that is held, with the changes if they go on from it
 abbrev pub with_changes : Option View → ViewChanges → Option View
 with_changes None c = None
 with_changes (Some v) c = if goes_on v c then Some (patched v c.to c.items) else Some v
 
--- what the graph asks: for the view, or for what changed since the one that it holds
+-- the graph's question: for the view, or for what changed since the one that it holds
 abbrev pub question : Option View → Message
 question None = messages.AskView
 question (Some v) = messages.AskChange v.revision

@@ -10,7 +10,7 @@ use smf_state::{Asks, Cause, State, ViewItem};
 use smf_wire::What;
 use std::alloc::{AllocError, Global};
 
-/// What is to be done with an instance.
+/// The decision on an instance.
 #[derive(Clone, Copy, PartialEq, Eq)]
 pub(crate) enum Decision {
     /// To another state at once.
@@ -19,7 +19,7 @@ pub(crate) enum Decision {
     Stop {
         to: State,
         cause: Cause,
-        /// Whether its stop method is run.
+        /// Its stop method is run.
         by_method: bool,
     },
     Refresh,
@@ -71,7 +71,7 @@ fn cleared(item: &ViewItem) -> State
     }
 }
 
-/// What is asked of an instance by svcadm(1M) or its restarter, the first that applies.
+/// The decision that svcadm(1M) or the restarter of an instance asks for, the first that applies.
 fn asked(item: &ViewItem) -> Option<Decision>
     ensures { result ≡ asked item.now }
 {
@@ -98,7 +98,7 @@ fn asked(item: &ViewItem) -> Option<Decision>
     }
 }
 
-/// What follows where an instance is not enabled.
+/// The decision if an instance is not enabled.
 fn disabling(state: State) -> Option<Decision>
     ensures { result ≡ disabling state }
 {
@@ -131,7 +131,7 @@ fn method_in(
     )
 }
 
-/// Whether an instance can't be run as it is configured.
+/// True if an instance can't be run as it is configured.
 fn has_fault(
     alloc: Global,
     item: &ViewItem,
@@ -146,7 +146,7 @@ fn has_fault(
     member.has_unfit_methods(alloc, &item.row.owner, &item.name)
 }
 
-/// What dependencies decide of an enabled instance without a fault.
+/// The decision of its dependencies on an enabled instance without a fault.
 fn by_dependencies(finding: &Finding, state: State) -> Option<Decision>
     ensures { result ≡ by_dependencies finding.now state }
 {
@@ -195,7 +195,7 @@ fn enabling(
     }
 }
 
-/// What is to be done with an instance that has nothing under way, the first rule that applies.
+/// The decision on an instance that has nothing under way, by the first rule that applies.
 pub(crate) fn decide_instance(
     alloc: Global,
     item: &ViewItem,
@@ -217,7 +217,7 @@ pub(crate) fn decide_instance(
     }
 }
 
-/// The call of a method; none also where it can't be read.
+/// The call of a method; none also if it can't be read.
 fn call_in(
     alloc: Global,
     item: &ViewItem,
@@ -249,7 +249,7 @@ fn starting(alloc: Global, item: &ViewItem, member: &ReadMember) -> Result<Optio
     }
 }
 
-/// The call of the stop method, where it is to be run.
+/// The call of the stop method, if it is to be run.
 fn stop_call(
     alloc: Global,
     item: &ViewItem,
@@ -265,7 +265,7 @@ fn stop_call(
     }
 }
 
-/// What an order says of a decision.
+/// The content of an order for a decision.
 pub(crate) fn what_of(
     alloc: Global,
     item: &ViewItem,

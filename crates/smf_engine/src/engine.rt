@@ -19,7 +19,7 @@ pub struct Engine {
     seen: Option<HeldView>,
     /// The view that was looked at last, from which that one differs in few instances.
     looked: Option<Looked>,
-    /// The graph of an older view: what it read of instances is not read again. Nothing else comes of it.
+    /// The graph of an older view. It saves reading instances again, and has no other use.
     last: Option<Graph>,
 }
 
@@ -35,7 +35,7 @@ impl Model for Engine {
     ghost invariant = { λ e. IsBeside e.seen e.looked };
 }
 
-/// What was read of instances, and nothing else of what was looked at.
+/// The graph of the view that was looked at, or else the last graph.
 fn graph_left(looked: Option<Looked>, last: Option<Graph>) -> Option<Graph> {
     match looked {
         None => last,
@@ -143,7 +143,7 @@ impl Engine {
         }
     }
 
-    /// Lets the view go. What was read of instances is kept, so that it need not be read again.
+    /// Drops the view. It keeps what was read of instances, so that it need not be read again.
     pub fn forget(&mut self)
         ensures { self.new ≡ None }
     {
@@ -151,7 +151,7 @@ impl Engine {
         self.seen = None;
     }
 
-    /// Takes the first view, and then each of a greater revision than that of the one held. Any other is let go.
+    /// Takes the first view, and then each of a greater revision than that of the one held. It drops any other.
     pub fn take_view(&mut self, alloc: Global, view: View)
         ensures { self.new ≡ newer self.old view }
     {
@@ -164,8 +164,8 @@ impl Engine {
         }
     }
 
-    /// Brings the view that is held up to date, if the changes begin with its revision and do not end below it. Any others
-    /// are ignored. Where memory runs out the view is as it was.
+    /// Brings the view that is held up to date, if the changes begin with its revision and do not end below it. It
+    /// ignores any others. If memory runs out the view is as it was.
     pub fn take_changes(&mut self, alloc: Global, changes: &ViewChanges) -> Result<(), AllocError>
         ensures ok { OnOk result (self.new ≡ with_changes self.old changes.now) }
         ensures err { OnErr result (self.new ≡ self.old) }
@@ -178,7 +178,7 @@ impl Engine {
         }
     }
 
-    /// What the graph asks the repository: for the view, or for what changed since the one that it holds.
+    /// The graph's question to the repository: for the view, or for what changed since the one that it holds.
     pub fn question(&self) -> Message
         ensures { result ≡ question self.now }
     {
@@ -188,8 +188,8 @@ impl Engine {
         }
     }
 
-    /// Looks at what changed of the view that is held, so that the orders of it are found without looking at the others. If
-    /// memory runs out, all is looked at the next time.
+    /// Looks at what changed of the view that is held, so that its orders are found without a look at the others. If
+    /// memory runs out, it looks at all the next time.
     pub fn look(&mut self, alloc: Global) -> Result<(), AllocError>
         ensures { self.new ≡ self.old }
     {
@@ -221,7 +221,7 @@ impl Engine {
         }
     }
 
-    /// Whether nothing would be ordered of a view, whatever view is held. It looks at all of it.
+    /// True if nothing would be ordered of a view, whatever view is held. It looks at all of it.
     pub fn orders_nothing(&mut self, alloc: Global, view: &HeldView) -> Result<bool, AllocError>
         ensures same { self.new ≡ self.old }
         ensures nothing { IfOk result (λ b. b ≡ has_no_orders view.now) }
@@ -243,7 +243,7 @@ impl Engine {
         }
     }
 
-    /// Whether nothing would be ordered of the view that is held once these changes are made. It looks at what changed.
+    /// True if nothing would be ordered of the view that is held once these changes are made. It looks at what changed.
     pub fn would_order_nothing(
         &mut self,
         alloc: Global,

@@ -1,6 +1,6 @@
 //! svc.startd's graph: the newest view that it was given, and the orders that it makes of it.
-//! Modules: `deciding` (what is to be done with an instance), `ordering` (the orders of a view), `looked` (a view that was
-//! looked at), `engine`.
+//! Modules: `decisions` has the decision on an instance, and `view_orders` the orders of a view. `looked` is a view that
+//! was looked at, and `engine` is the graph.
 #![tactic(auto)]
 
 mod deciding;

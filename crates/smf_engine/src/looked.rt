@@ -14,8 +14,8 @@ use smf_wire::Order;
 use std::alloc::{AllocError, Global};
 use std::marker::Model;
 
-/// A view that was looked at: the graph of its instances, and those for which something may be ordered. The view that is
-/// held may show something else of the instances that are stale.
+/// A view that was looked at: the graph of its instances, and those for which something may be ordered. The view that
+/// is held may show something else of the instances that are stale.
 #[derive(Drop)]
 pub(crate) struct Looked {
     view: HeldView,
@@ -34,7 +34,7 @@ impl Model for Looked {
     ghost invariant = { λ l. IsLooked l.view l.graph l.decided };
 }
 
-/// Whether something may be ordered for an instance.
+/// True if something may be ordered for an instance.
 fn may_order(
     alloc: Global,
     view: &HeldView,
@@ -53,7 +53,7 @@ fn may_order(
     has_decision(alloc, graph, item, place)
 }
 
-/// Finds out whether something may be ordered for an instance.
+/// Finds out if something may be ordered for an instance.
 fn judge(
     alloc: Global,
     view: &HeldView,
@@ -139,7 +139,7 @@ fn item_at(view: &HeldView, instance: u64) -> Result<Option<ViewItem>, AllocErro
     }
 }
 
-/// What a view shows of instances.
+/// The items of instances, as a view shows them.
 fn items_of(
     alloc: Global,
     view: &HeldView,
@@ -173,7 +173,7 @@ fn copy_of(alloc: Global, view: &HeldView) -> Result<HeldView, AllocError>
     ))
 }
 
-/// The graph of a view. What another one read is not read again.
+/// The graph of a view. It does not read again what another graph read.
 pub(crate) fn graph_of(
     alloc: Global,
     last: Option<Graph>,
@@ -188,7 +188,7 @@ pub(crate) fn graph_of(
 }
 
 impl Looked {
-    /// Looks at a view as a whole. What another graph read is not read again.
+    /// Looks at a view as a whole. It does not read again what another graph read.
     pub(crate) fn of(
         alloc: Global,
         view: &HeldView,
@@ -213,7 +213,7 @@ impl Looked {
         self.graph
     }
 
-    /// Whether the view that is held shows what was looked at.
+    /// True if the view that is held shows what was looked at.
     pub(crate) fn is_fresh(&self) -> bool
         ensures fresh { result ≡ true → self.now.stale ≡ [] }
         ensures rises { Rises by_item self.now.items }

@@ -39,7 +39,7 @@ fn what_to_do(
     }
 }
 
-/// The order for an instance, where nothing is under way.
+/// The order for an instance, if nothing is under way.
 pub(crate) fn order_under(
     alloc: Global,
     revision: u64,
@@ -77,7 +77,7 @@ pub(crate) fn order_with(
     order_under(alloc, revision, item, member, &finding)
 }
 
-/// Whether something is to be done with an item, by what a graph has at a place.
+/// True if something is to be done with an item, by what a graph has at a place.
 pub(crate) fn has_decision(
     alloc: Global,
     graph: &Graph,
@@ -100,7 +100,7 @@ pub(crate) fn has_decision(
     Ok(decision.is_some())
 }
 
-/// Whether something is to be done with the item at a place. Where nothing is, there is no order for it.
+/// True if something is to be done with the item at a place. If nothing is, there is no order for it.
 fn is_decided(
     alloc: Global,
     graph: &Graph,
@@ -157,7 +157,7 @@ pub(crate) fn orders_by(
     Ok(Items::from_vec(all))
 }
 
-/// Whether there is an order for the item at a place.
+/// True if there is an order for the item at a place.
 fn is_ordered(
     alloc: Global,
     revision: u64,
@@ -177,7 +177,7 @@ fn is_ordered(
     Ok(order.is_some())
 }
 
-/// Whether there is no order for any instance.
+/// True if there is no order for any instance.
 #[tactic(auto, using(crate::proofs::Placed::placed_item))]
 pub(crate) fn has_no_orders_by(
     alloc: Global,

@@ -9,7 +9,7 @@ use smf_world::{Event, Settled};
 use std::alloc::{AllocError, Global};
 use std::test::Fail;
 
-/// Keeps nothing, and refuses each write behind so many.
+/// Keeps nothing, and refuses each write after so many.
 struct FewWrites {
     left: u64,
 }
@@ -114,7 +114,7 @@ fn ends_of(
     Ok((ended, settled, length))
 }
 
-/// Only the boot is written: another is not, and a round ends where svc.startd's restarter is launched.
+/// Only the boot is written. Another boot is not, and a round ends when it launches svc.startd's restarter.
 #[test]
 fn a_node_over_a_journal_that_fails(rt: HostRuntime) -> Result<(), Fail> {
     let alloc = rt.alloc();

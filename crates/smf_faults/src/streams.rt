@@ -46,7 +46,7 @@ const BAD: &[u8] = b"svcs\nbogus\nsvcs\n";
 /// The most bytes that a look at a `FailingReader` shows.
 const SHOWN: usize = 3;
 
-/// Fails at one look, behind so many good ones.
+/// Fails at one look, after so many good ones.
 #[derive(Drop)]
 struct FailingReader<'a> {
     left: &'a [u8],
@@ -98,7 +98,7 @@ fn a_reader_that_never_ends(rt: HostRuntime) -> Result<(), Fail> {
     Ok(())
 }
 
-/// Fails at one write, behind so many good ones.
+/// Fails at one write, after so many good ones.
 #[derive(Drop)]
 struct FailingWriter {
     taken: Vec<u8>,

@@ -1,4 +1,4 @@
--- A list is cloned as it is where its items are.
+-- A list is cloned as it is, if its items are.
 use Rattle.std.proofs.Common.{◌≡◌, List}
 use Rattle.std.specs.List.{AllZip}
 use Rattle.std.proofs.lemmas.List.Elements.{same_from_all_zip}

@@ -1,4 +1,4 @@
--- Numbers as texts: what is read is printed so, and what is printed is read.
+-- Numbers as texts: a number is read from its printed text and from no other.
 use Rattle.std.proofs.Common.{◌≡◌, ℕ, zero, suc, ◌<◌, ◌≤◌, ◌^◌, List, [], ◌∷◌, length, get_or, Bool, true, false, not, ◌&&◌, ◌==◌, cond, nat_lt, Some, None, Err, refl, sym, ap, arith, rules, ltb-true, lt-ltb, eqb-true, eq-eqb, ne_eqb}
 use Rattle.std.specs.Char.{is_ascii_digit}
 use Rattle.std.specs.Fmt.{decimal}
@@ -51,12 +51,12 @@ read_by true true text n e small h =
 read_by true false text n e small h = cc
 read_by false w text n e small h = cc
 
--- what is read is printed so
+-- a text that is read as a number is how the number is printed
 pub read_is_printed : (text : List ℕ) (n : ℕ) → read_count text ≡ Some n → text ≡ decimal n
 unfolding read_count
 read_is_printed text n h = read_by _ _ text n refl refl h
 
--- what is printed is read
+-- a number that is printed is read
 pub printed_is_read : (n : ℕ) → n < 2 ^ 64 → read_count (decimal n) ≡ Some n
 unfolding read_count
 printed_is_read n small =

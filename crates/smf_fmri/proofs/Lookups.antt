@@ -1,4 +1,4 @@
--- What is found after a change.
+-- The result of a look-up after a change.
 use Rattle.std.proofs.Common.{◌≡◌, ◌⊎◌, inl, inr, List, [], ◌∷◌, Bool, true, false, cond, not, Option, Some, None, if◌then◌else◌, refl, sym, ap, ◌∙◌}
 use Rattle.std.proofs.Math.Path.{fun_ext}
 use Rattle.std.specs.Prelude.{find, option_map}
@@ -12,7 +12,7 @@ equal_from_test Less h = cc
 equal_from_test Equal h = refl
 equal_from_test Greater h = cc
 
--- what is equal to one key both ways is equal
+-- the other way round a comparison answers the reverse
 pub cmp_reversed : {X K : Type 0} (o : By X K) (a b : K) (r : Ordering) → o.cmp a b ≡ r
     → o.cmp b a ≡ ordering_reverse r
 cmp_reversed o a b r h = o.total.antisymm b a ∙ ap ordering_reverse h

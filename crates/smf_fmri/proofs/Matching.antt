@@ -1,4 +1,4 @@
--- The tests of a match say what the relation says.
+-- The tests of a match agree with the relation.
 use Rattle.std.proofs.Common.{◌≡◌, ℕ, List, [], ◌∷◌, ◌++◌, length, take, ◌-◌, Option, Some, None, refl, ◌==◌, eqb-true, arith}
 use Rattle.std.specs.Cmp.Lexicographic.{pointwise}
 use Rattle.std.specs.Bool.{Decides}

@@ -1,4 +1,4 @@
--- What a binary search says, and what follows of the place that it names.
+-- The answer of a binary search, and the consequences of the place that it names.
 use Rattle.std.proofs.Common.{cond, not, Bool, true, ◌+◌, ◌≡◌, ℕ, zero, suc, ◌≤◌, ◌<◌, List, [], ◌∷◌, length, get_or, set, false, Some, None, Result, Ok, Err, refl, sym, ap, ◌∙◌, arith, add-one}
 use Rattle.std.specs.declared.cmp.Ordering.{Ordering}
 use Rattle.std.specs.Prelude.{insert, remove}

@@ -46,7 +46,7 @@ pub rises_put_all : {X K : Type 0} (o : By X K) (ys xs : List X) → Rises o xs 
 rises_put_all o [] xs r = r
 rises_put_all o (y ∷ ys) xs r = rises_put_all o ys (put o y xs) (rises_put o y xs r)
 
--- above all others it goes behind them
+-- an item above all others goes after them
 pub put_last : {X K : Type 0} (o : By X K) (x : X) (xs : List X) → IsAbove o (o.key x) xs → put o x xs ≡ xs ++ x ∷ []
 put_last o x [] h = refl
 put_last {X = X} o x (y ∷ ys) h = rw h.0 (ap (λ (l : List X). y ∷ l) (put_last o x ys h.1))
@@ -140,7 +140,7 @@ all_put_by P Less x y ys behind h k e b = (k, b)
 all_put_by P Equal x y ys behind h k e b = (h, e)
 all_put_by P Greater x y ys behind h k e b = (h, (k, e))
 
--- what is true of all items and of the new one is true of all after a put
+-- a fact of all items and of the new one holds of all after a put
 pub all_put : {X K : Type 0} (o : By X K) (P : X → Type 0) (x : X) (xs : List X) → P x → Every P xs
     → Every P (put o x xs)
 all_put o P x [] h e = (h, tt)

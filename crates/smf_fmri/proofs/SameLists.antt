@@ -18,7 +18,7 @@ found_by o k y ys x true h e behind =
     let same : y ≡ x = cc in ap o.key (sym same) ∙ o.exact (o.key y) k (equal_from_test _ h)
 found_by o k y ys x false h e behind = behind e
 
--- what a key finds has that key
+-- the item that a key finds has that key
 pub found_key : {X K : Type 0} (o : By X K) (k : K) (xs : List X) (x : X) → lookup o xs k ≡ Some x → o.key x ≡ k
 found_key o k [] x e = absurd cc
 found_key o k (y ∷ ys) x e = found_by o k y ys x (has_key o k y) refl e (found_key o k ys x)
@@ -28,7 +28,7 @@ every_by : {X K : Type 0} (o : By X K) (P : X → Type 0) (k : K) (y : X) (ys : 
 every_by o P k y ys x true h e behind = let same : y ≡ x = cc in rw (← same) h
 every_by o P k y ys x false h e behind = behind e
 
--- what is true of every item is true of what is found
+-- a fact of every item holds of the item that is found
 pub found_every : {X K : Type 0} (o : By X K) (P : X → Type 0) (k : K) (xs : List X) (x : X) → Every P xs
     → lookup o xs k ≡ Some x → P x
 found_every o P k [] x h e = absurd cc

@@ -39,7 +39,7 @@ begun_next Service q b h e = begun_by _ _ _ q e
 begun_next BeginInstance q b h e = begun_instance _ 1 q e
 begun_next (Instance n) q b h e = begun_instance _ (n + 1) q e
 
--- where a colon can stand, a service can end
+-- a service can end at any place at which a colon can stand
 ends_before_colon : (p : Place) (o : Option Place) (at : ℕ) (bs : List ℕ) → HasBegun p → next p 58 ≡ o → option_map_or (λ q. wrong_at q (at + 1) bs) o (Some at) ≡ None → end_wrong_at p at ≡ None
 ends_before_colon Start o at bs h e w = absurd h
 ends_before_colon Begin o at bs h e w = let none : o ≡ None = sym e in let k = rw none at w in cc
@@ -60,7 +60,7 @@ cut_by false p b at bs h e w k =
     let step : 1 + position_or_len is_colon bs ≡ suc (position_or_len is_colon bs) = omega arith in
     rw (e, step) (goes_on p (next p b) b at bs (before_first is_colon bs) h refl w k)
 
--- what stands before the first colon is read too
+-- the text before the first colon is read too
 cut : (p : Place) (at : ℕ) (bs : List ℕ) → HasBegun p → wrong_at p at bs ≡ None → wrong_at p at (before_first is_colon bs) ≡ None
 cut p at [] h w = w
 cut p at (b ∷ bs) h w = cut_by _ p b at bs h refl w (λ q g v. cut q (at + 1) bs g v)
@@ -84,7 +84,7 @@ taken_is_shorter (suc k) (x ∷ xs) = let less = taken_is_shorter k xs in omega 
 small_short : (s rest : List ℕ) → length (short ++ rest) ≤ 512 → length s ≤ length rest → length (short ++ s) ≤ 512
 small_short s rest low less = omega arith
 
--- the service in what stands behind the scheme of a name
+-- the service in the part of a name after its scheme
 record IsServiceIn (rest service : List ℕ) : Type 0 where
   reads : wrong_at Begin 0 service ≡ None
   bounded : length service ≤ length rest

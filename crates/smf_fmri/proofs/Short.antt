@@ -12,7 +12,7 @@ use Rattle.smf_fmri.specs.Matching.{IsInstanceName, instance_of, short_instance,
 use Rattle.smf_fmri.proofs.Matching.{same_text}
 use Rattle.smf_fmri.proofs.Whole.{name_is_short}
 
--- nobody goes on behind a space
+-- no reader goes on after a space
 no_next : (p : Place) → next p 32 ≡ None
 no_next Start = refl
 no_next Begin = refl
@@ -58,7 +58,7 @@ short_by : (text found : List ℕ) (r : Result (List ℕ) FmriFault) → read te
 short_by text found (Ok name) e h = named_by _ _ text name found refl refl h e
 short_by text found (Err fault) e h = cc
 
--- what is read in the short form is the name of an instance, as it stands
+-- a text that is read in the short form is the name of an instance, as it stands
 pub short_is_name : (text name : List ℕ) → read_short text ≡ Some name → (text ≡ name) × IsInstanceName name
 unfolding read_short
 short_is_name text name h = short_by text name (read text) refl h

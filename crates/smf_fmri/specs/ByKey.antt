@@ -36,7 +36,7 @@ by_pair a b =
 abbrev pub has_key : {X K : Type 0} → By X K → K → X → Bool
 has_key o k x = is_eq (o.cmp (o.key x) k)
 
--- what has the key
+-- the item that has the key
 abbrev pub lookup : {X K : Type 0} → By X K → List X → K → Option X
 lookup o xs k = find (has_key o k) xs
 
@@ -44,7 +44,7 @@ lookup o xs k = find (has_key o k) xs
 abbrev pub without : {X K : Type 0} → By X K → K → List X → List X
 without o k xs = filter (λ x. not (has_key o k x)) xs
 
--- with f of what has the key
+-- with f of the item that has the key
 abbrev pub amend : {X K : Type 0} → By X K → K → (X → X) → List X → List X
 amend o k f xs = map (λ x. if has_key o k x then f x else x) xs
 
@@ -53,7 +53,7 @@ put_by Less x y ys behind = y ∷ behind
 put_by Equal x y ys behind = x ∷ ys
 put_by Greater x y ys behind = x ∷ y ∷ ys
 
--- in its place, over what has its key
+-- the item in its place, over the one that has its key
 abbrev pub put : {X K : Type 0} → By X K → X → List X → List X
 put o x [] = x ∷ []
 put o x (y ∷ ys) = put_by (o.cmp (o.key y) (o.key x)) x y ys (put o x ys)
@@ -76,7 +76,7 @@ Rises o (x ∷ xs) = IsBelowFirst o (o.key x) xs × Rises o xs
 abbrev pub KeepsKeys : {X K : Type 0} → By X K → (X → X) → Type 0
 KeepsKeys {X = X} o f = (x : X) → o.key (f x) ≡ o.key x
 
--- a look-up where one key has another answer
+-- a look-up with another answer for one key
 abbrev pub with_answer : {X K : Type 0} → By X K → (K → Option X) → K → Option X → K → Option X
 with_answer o f k a j = if is_eq (o.cmp k j) then a else f j
 
@@ -85,20 +85,20 @@ abbrev pub IsAbove : {X K : Type 0} → By X K → K → List X → Type 0
 IsAbove o k [] = Unit {0}
 IsAbove o k (y ∷ ys) = (o.cmp (o.key y) k ≡ Less) × IsAbove o k ys
 
--- what has the key stands at this place
+-- the item that has the key stands at this place
 abbrev pub StandsAt : {X K : Type 0} → By X K → K → ℕ → List X → Type 0
 StandsAt o k i [] = ⊥
 StandsAt o k zero (y ∷ ys) = o.cmp (o.key y) k ≡ Equal
 StandsAt o k (suc i) (y ∷ ys) = (o.cmp (o.key y) k ≡ Less) × StandsAt o k i ys
 
--- nothing has the key, and this is the place where it would stand
+-- nothing has the key, and it would stand at this place
 abbrev pub BelongsAt : {X K : Type 0} → By X K → K → ℕ → List X → Type 0
 BelongsAt o k zero [] = Unit {0}
 BelongsAt o k (suc i) [] = ⊥
 BelongsAt o k zero (y ∷ ys) = o.cmp (o.key y) k ≡ Greater
 BelongsAt o k (suc i) (y ∷ ys) = (o.cmp (o.key y) k ≡ Less) × BelongsAt o k i ys
 
--- what a search for the key answers: where it stands, or else where it belongs
+-- the answer of a search for the key: its place, or else the place that it would have
 pub record IsPlaced {X K : Type 0} (o : By X K) (k : K) (xs : List X) (r : Result ℕ ℕ) : Type 0 where
   pub found : IfOk r (λ i. StandsAt o k i xs)
   pub absent : IfErr r (λ i. BelongsAt o k i xs)

@@ -11,14 +11,14 @@ use Rattle.smf_fmri.specs.Name.{short, strip, read}
 abbrev pub is_colon : ℕ → Bool
 is_colon b = b == 58
 
--- what stands before the first colon, and what stands behind it, where there is one
+-- the text before the first colon and, if there is one, the text after it
 abbrev pub parts_of : List ℕ → List ℕ × Option (List ℕ)
 parts_of text =
     if nat_lt (position_or_len is_colon text) (length text)
     then (before_first is_colon text, Some (after_first is_colon text))
     else (text, None)
 
--- the service and the instance of a name, which stand behind "svc:/"
+-- the service and the instance of a name, which stand after "svc:/"
 abbrev pub parts_of_name : List ℕ → List ℕ × Option (List ℕ)
 parts_of_name name = parts_of (drop 5 name)
 

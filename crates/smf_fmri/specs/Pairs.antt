@@ -1,4 +1,4 @@
--- Pairs in order: by their first parts, and by their second where these are equal.
+-- Pairs in order: by their first parts, and by their second parts if the first ones are equal.
 use Rattle.std.specs.Prelude.{◌≡◌, refl}
 use Rattle.std.proofs.Common.{sym, ap, subst, ◌∙◌}
 use Rattle.std.specs.Cmp.{IsTotalOrder}

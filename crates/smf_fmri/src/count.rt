@@ -26,7 +26,7 @@ fn count_of(text: &str) -> Option<u64>
     }
 }
 
-/// Whether a text is a number in decimal, without sign or leading zero, of any size.
+/// True if a text is a number in decimal, without sign or leading zero, of any size.
 pub fn is_decimal(text: &[u8]) -> bool
     ensures { result ≡ is_decimal text.now }
 {

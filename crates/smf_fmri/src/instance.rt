@@ -11,8 +11,8 @@ use std::cmp::Ordering;
 use std::fmt;
 use std::marker::Model;
 
-/// The name of an instance, which contracts see as its short text: what a restarter, the owner of
-/// a row and a dependency's instance are named by.
+/// The name of an instance, which contracts see as its short text. A restarter, the owner of a row and the instance of
+/// a dependency are named by one.
 #[derive(Drop)]
 pub struct InstanceFmri {
     name: Fmri,
@@ -31,7 +31,7 @@ impl Model for InstanceFmri {
 }
 
 impl InstanceFmri {
-    /// The same name, or none where it names a service.
+    /// The same name, or none if it names a service.
     pub fn of(name: Fmri) -> Option<InstanceFmri>
         ensures { result ≡ named_instance name }
     {
@@ -41,7 +41,7 @@ impl InstanceFmri {
         Some(InstanceFmri { name })
     }
 
-    /// The instance that a text names in the short form, or none where it does not.
+    /// The instance that a text names in the short form, or none if it does not.
     #[tactic(auto, unfolding(crate::specs::Matching::read_short))]
     pub fn read_short(alloc: Global, text: &str) -> Result<Option<InstanceFmri>, AllocError>
         ensures { IfOk result (λ i. i ≡ read_short text.now) }
@@ -82,7 +82,7 @@ impl InstanceFmri {
     /// The short text, which begins with `svc:/`.
     pub fn print(&self) -> &str
         ensures text { result.now ≡ self.now }
-        // What is printed is the name of an instance again.
+        // The printed text is the name of an instance again.
         ensures named { IsInstanceName self.now }
     {
         self.name.print()

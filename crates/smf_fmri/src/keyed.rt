@@ -1,7 +1,8 @@
 ghost use Rattle.std.specs.Prelude.{◌≡◌, List, ℕ, refl};
 ghost use Rattle.smf_fmri.specs.ByKey.{By, Rises, by_number, by_text};
 
-/// What has a key, by which it is found and put in order: `by` says it in contracts, and compares as the key's type.
+/// Things with a key, by which they are found and put in order. In contracts it is `by`, which compares as the key's
+/// type does.
 pub trait Keyed {
     type Key: Ord;
 
@@ -13,7 +14,7 @@ pub trait Keyed {
     ghost same: { by.cmp ≡ Self.Key.cmp };
 }
 
-/// What has a text as its key, so that it is found by one that is borrowed.
+/// Things with a text as their key, so that a borrowed text finds them.
 pub trait TextKeyed: Keyed {
     ghost text: { Self → List ℕ };
 
@@ -23,7 +24,7 @@ pub trait TextKeyed: Keyed {
     ghost same_order: { (xs : List Self) → Rises Self.by xs → Rises (by_text text) xs };
 }
 
-/// What has a part that can be given to it, and keeps its key.
+/// Things with a part that can be given to them, and that leaves their key.
 pub trait HasPart: Keyed {
     type Part: Drop;
 
@@ -35,7 +36,7 @@ pub trait HasPart: Keyed {
     ghost keeps_key: { (x : Self) (part : Self.Part) → Self.by.key (with_part x part) ≡ Self.by.key x };
 }
 
-/// What is cloned as it is.
+/// Things that are cloned as they are.
 pub trait ExactClone: Clone {
     ghost exact: { (x copy : Self) → Self.is_clone x copy → copy ≡ x };
 }

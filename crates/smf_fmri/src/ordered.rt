@@ -88,7 +88,7 @@ impl<T: Keyed> Ordered<T> {
         find_text_in(&self.items, text)
     }
 
-    /// Puts an item in its place, over the one that has its key. Where memory runs out the list is as it was.
+    /// Puts an item in its place, over the one that has its key. If memory runs out, the list is as it was.
     #[tactic(auto, using(crate::proofs::Rising::rises_put))]
     pub fn put(&mut self, item: T) -> Result<(), AllocError>
     where

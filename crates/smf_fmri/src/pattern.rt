@@ -10,8 +10,8 @@ use crate::reader::{MAX, Place, parts_of, split_scheme, strip, wrong_at};
 use std::alloc::Global;
 use std::marker::Model;
 
-/// What a user types for a name: a full name, or an abbreviation of one, as svcadm(1M) reads them.
-/// Contracts see it as its text, a full name in the short form.
+/// A name as a user types it: a full name, or an abbreviation of one, as svcadm(1M) reads them. Contracts see it as its
+/// text, a full name in the short form.
 #[derive(Drop)]
 pub struct Pattern {
     text: String,
@@ -32,9 +32,9 @@ impl Model for Pattern {
 impl Pattern {
     /// The pattern that a text spells. A text with a scheme is a full name.
     pub fn parse(alloc: Global, text: &str) -> Result<Pattern, FmriFault>
-        // What is read is spelled so.
+        // A text that is read spells the pattern.
         ensures found { IfOk result (λ p. SpellsPattern text.now p) }
-        // What is spelled so is read, unless memory runs out.
+        // A text that spells a pattern is read, unless memory runs out.
         ensures only { (pattern : List ℕ) → SpellsPattern text.now pattern → Gives result (Ok pattern) }
         // Which refusal it is, the first one that applies.
         ensures exact { Gives result (read_pattern text.now) }
@@ -74,7 +74,7 @@ impl Pattern {
         Ok(Pattern { text })
     }
 
-    /// Whether it matches the name of an instance. Of a service's name the service part is compared.
+    /// True if it matches the name of an instance. A service's name is compared by its service part.
     pub fn matches(&self, name: &Fmri) -> bool
         ensures value { result ≡ matches self.now name.now }
         ensures means { IsTrue result ↔ Matches self.now name.now }
@@ -97,7 +97,7 @@ impl Pattern {
     }
 }
 
-/// Whether a full name, by its parts, names this or the service that this is of.
+/// True if a full name, by its parts, is this name or the service that this is of.
 fn is_of(parts: (&str, Option<&str>), name: (&str, Option<&str>)) -> bool
     ensures { result ≡ is_of (parts.entry.0.now, option_map (λ x. x.now) parts.entry.1) (name.entry.0.now, option_map (λ x. x.now) name.entry.1) }
 {
@@ -108,7 +108,7 @@ fn is_of(parts: (&str, Option<&str>), name: (&str, Option<&str>)) -> bool
     }
 }
 
-/// Whether an abbreviation, by its parts, stands for this.
+/// True if an abbreviation, by its parts, stands for this name.
 fn abbreviates(parts: (&str, Option<&str>), name: (&str, Option<&str>)) -> bool
     ensures { result ≡ abbreviates (parts.entry.0.now, option_map (λ x. x.now) parts.entry.1) (name.entry.0.now, option_map (λ x. x.now) name.entry.1) }
 {
@@ -131,7 +131,7 @@ fn is_instance(instance: Option<&str>, text: &str) -> bool
     }
 }
 
-/// Whether a service is the suffix, or ends with it behind a slash.
+/// True if a service is the suffix, or ends with it after a slash.
 fn ends_service(suffix: &str, service: &str) -> bool
     ensures { result ≡ ends_service suffix.now service.now }
 {

@@ -8,10 +8,10 @@ pub const MAX: usize = 512;
 /// The most bytes that the name of an instance has in its service.
 const MAX_INSTANCE: usize = 255;
 
-/// Where a reader stands in a name.
+/// A reader's place in a name.
 #[derive(Clone, Copy)]
 pub enum Place {
-    /// Before the first byte of an abbreviation, where an instance may follow at once.
+    /// Before the first byte of an abbreviation. An instance may follow at once.
     Start,
     /// Before the first byte of a component of the service.
     Begin,
@@ -43,7 +43,7 @@ fn next(place: Place, b: u8) -> Option<Place>
     }
 }
 
-/// The place of the first byte that cannot stand there, or the length where more is needed.
+/// The place of the first byte that cannot stand there, or the length if more is needed.
 pub fn wrong_at(start: Place, bytes: &[u8]) -> Option<usize>
     ensures exact { result ≡ wrong_at start 0 bytes.now }
     ensures in_range { IfSome result (λ at. at ≤ length bytes.now) }
@@ -63,14 +63,14 @@ pub fn wrong_at(start: Place, bytes: &[u8]) -> Option<usize>
     }
 }
 
-/// What stands behind a prefix.
+/// The rest of a text after a prefix.
 pub fn strip<'a>(prefix: &str, text: &'a str) -> Option<&'a str>
     ensures { option_map (λ x. x.now) result ≡ strip prefix.now text.now }
 {
     text.strip_prefix(prefix)
 }
 
-/// What stands before the first component, by its length, and the rest.
+/// The length of the part before the first component, and the rest.
 pub fn split_scheme(text: &str) -> Option<(usize, &str)>
     ensures exact { option_map (λ x. (x.0, x.1.now)) result ≡ split_scheme text.now }
     ensures scheme { IfSome result (λ x. x.0 ≤ 16) }
@@ -81,7 +81,7 @@ pub fn split_scheme(text: &str) -> Option<(usize, &str)>
     strip("svc:/", text).map(|rest| (5, rest))
 }
 
-/// What stands before the first colon, and what stands behind it, where there is one.
+/// The text before the first colon and, if there is one, the text after it.
 pub fn parts_of(text: &str) -> (&str, Option<&str>)
     ensures { (result.0.now, option_map (λ x. x.now) result.1) ≡ parts_of text.now }
 {

@@ -29,7 +29,7 @@ impl Model for ServiceFmri {
 }
 
 impl ServiceFmri {
-    /// The same name, or none where it names an instance.
+    /// The same name, or none if it names an instance.
     pub fn of(name: Fmri) -> Option<ServiceFmri>
         ensures { result ≡ named_service name }
     {
@@ -62,7 +62,7 @@ impl ServiceFmri {
     /// The short text, which begins with `svc:/`.
     pub fn print(&self) -> &str
         ensures text { result.now ≡ self.now }
-        // What is printed is the name of a service again.
+        // The printed text is the name of a service again.
         ensures named { IsServiceName self.now }
     {
         self.name.print()

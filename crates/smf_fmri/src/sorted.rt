@@ -15,7 +15,7 @@ fn compare<T: Keyed>(item: &T, key: &T::Key) -> Ordering
     item.key().cmp(key)
 }
 
-/// Where the key stands, or else where it belongs.
+/// The place of the key, or else the place that it would have.
 pub(crate) fn place_in<T: Keyed>(items: &[T], key: &T::Key) -> Result<usize, usize>
     requires { Rises T.by items.now }
     ensures { IsPlaced T.by key.now items.now result }
@@ -39,7 +39,7 @@ fn compare_text<T: TextKeyed>(item: &T, text: &str) -> Ordering
     item.key_text().cmp(text)
 }
 
-/// Where what has the text as its key stands, or else where it belongs.
+/// The place of the item that has the text as its key, or else the place that it would have.
 fn place_of_text<T: TextKeyed>(items: &[T], text: &str) -> Result<usize, usize>
     requires { Rises (by_text T.text) items.now }
     ensures { IsPlaced (by_text T.text) text.now items.now result }
@@ -47,7 +47,7 @@ fn place_of_text<T: TextKeyed>(items: &[T], text: &str) -> Result<usize, usize>
     items.binary_search_by(|item| compare_text(item, text))
 }
 
-/// Of so many items the one that has a text is sooner found one after another than by halves.
+/// Up to this many items, a search one after another finds a text sooner than a search by halves.
 const FEW: usize = 8;
 
 fn has_text<T: TextKeyed>(item: &T, text: &str) -> bool

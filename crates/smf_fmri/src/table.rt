@@ -83,7 +83,7 @@ impl<T: Keyed> Table<T> {
         find_text_in(&self.items, text)
     }
 
-    /// Makes room for so many more. Where memory runs out the list is as it was.
+    /// Makes room for so many more. If memory runs out, the list is as it was.
     pub fn reserve(&mut self, more: usize) -> Result<(), AllocError>
         ensures items { self.new.items ≡ self.old.items }
         ensures room { OnOk result (more ≤ self.new.room) }
@@ -104,7 +104,7 @@ impl<T: Keyed> Table<T> {
         put_in(&mut self.items, item);
     }
 
-    /// Puts an item whose key is above the others behind them. There is room for it.
+    /// Puts an item after the others, whose keys are below its own. There is room for it.
     #[tactic(auto, using(crate::proofs::Rising::put_last))]
     pub fn push_last(&mut self, item: T)
     where

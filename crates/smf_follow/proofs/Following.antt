@@ -1,4 +1,4 @@
--- What each call keeps of the contracts of the system.
+-- Each call keeps the contracts of the system in step with the ledger.
 use Rattle.std.proofs.Common.{◌≡◌, ℕ, ◌+◌, ◌<◌, ◌==◌, List, [], ◌∷◌, ◌++◌, Bool, true, false, cond, Option, Some, None, Result, Ok, Err, IfOk, filter, length, refl, sym, ap, subst, arith, ◌∙◌}
 use Rattle.std.proofs.lemmas.Bool.{eqb-true}
 use Rattle.smf_contract.specs.declared.contract.Contract.{Contract}
@@ -78,7 +78,7 @@ followed_told id h e l m ps qs s low f told here others once =
       pending = ap (λ k. k.pending) told.2.is ∙ f.pending;
     }
 
--- a phase is put, where the contract had so many members
+-- a phase is put, if the contract had so many members
 pub followed_put : (id n : ℕ) (phase : Phase) (h : Happening) (e : Event) (l m : Ledger) (ps qs : List Post) → IsSound l → length l.notes < 0x7fff_ffff_ffff_ffff → IsFollowed l ps → HasTold id h l m e
     → size_of id ps ≡ n → left_by (contract l.table id) h n ≡ size phase → IsPut id phase ps qs → IsFollowed m qs
 followed_put id n phase h e l m ps qs s low f told was left put =
@@ -87,7 +87,7 @@ followed_put id n phase h e l m ps qs s low f told was left put =
     (λ at apart. put_same id at phase ps qs put apart)
     (put_ascends id 0 l.table.last_contract phase ps qs put f.once)
 
--- a contract is forgotten, where none is left of its members
+-- a contract is forgotten, if none is left of its members
 pub followed_last : (id n : ℕ) (h : Happening) (e : Event) (l m : Ledger) (ps : List Post) → IsSound l → length l.notes < 0x7fff_ffff_ffff_ffff → IsFollowed l ps → HasTold id h l m e
     → size_of id ps ≡ n → left_by (contract l.table id) h n ≡ 0 → IsFollowed m (filter (is_other_post id) ps)
 followed_last id n h e l m ps s low f told was left =

@@ -22,7 +22,7 @@ use Rattle.smf_follow.proofs.Sizes.{posts_of_others, size_at}
 
 -- ---- a loop over all
 
--- what is seen of so many, if there is nothing to tell
+-- the sight of so many contracts, if there is nothing to tell
 abbrev pub SeenUpTo : {H : Type 0} → ContractFacts H → ℕ → Sight → List (Kid H) → Type 0
 SeenUpTo {H} facts n Still kids = (k : ℕ) → k < n → (kid : Kid H) → slice_get kids k ≡ Some kid → IsStill facts kid.phase kid.held
 SeenUpTo facts n (Left id end) kids = ⊥
@@ -34,7 +34,7 @@ SeenUpTo facts n Failed kids = OneFails facts kids
 pub same_kids : {H : Type 0} (kids : List (Kid H)) (k : ℕ) (new d : Kid H) → post_of new ≡ post_of (get_or kids k d) → posts (slice_set kids k new) ≡ posts kids
 same_kids kids k new d e = map-set_same post_of kids k new d e
 
--- what is left to see is as it was
+-- the contracts that are still to be seen are as they were
 pub here_left : {H : Type 0} (xs ys : List (Kid H)) (i : ℕ) (d : Kid H) → i < length ys → posts xs ≡ posts ys → drop i xs ≡ drop i ys
     → (get_or xs i d ≡ get_or ys i d) × (drop (i + 1) xs ≡ drop (i + 1) ys)
 here_left xs ys i d low same left =

@@ -1,4 +1,4 @@
--- What a poll tells of the contracts of the system, and what it keeps of them.
+-- A poll of the contracts of the system: the events that it tells, and the invariant that it keeps.
 use Rattle.std.proofs.Common.{◌≡◌, ◌≢◌, ℕ, ◌<◌, ◌==◌, ◌⊎◌, inl, inr, List, [], ◌∷◌, ◌++◌, Bool, true, false, cond, Option, Some, None, IsSome, filter, length, option_map, refl, sym, ap, subst, ◌∙◌, take, drop, arith}
 use Rattle.std.specs.Prelude.{find}
 use Rattle.std.proofs.lemmas.List.{length-map, length-set}

@@ -1,4 +1,4 @@
--- What the calls of a system find of its contracts.
+-- The facts that the calls of a system find of its contracts.
 use Rattle.std.specs.Prelude.{ℕ, List}
 use Rattle.std_io.specs.declared.io.error.Error.{Error}
 use Rattle.smf_follow.specs.declared.stand.Stand.{Stand}

@@ -1,4 +1,4 @@
--- What was told of the members of a contract of the system.
+-- The phases of a contract of the system: how much was told of its members.
 use Rattle.std.specs.Prelude.{◌≡◌, ◌≢◌, ℕ, ◌+◌, List, [], ◌∷◌, Bool, false, ◌==◌, not, if◌then◌else◌, Option, Some, map, slice_get, slice_set}
 use Rattle.smf_contract.specs.declared.contract.Contract.{Contract}
 use Rattle.smf_contract.specs.declared.event.Exit.TheVariants as exits
@@ -18,7 +18,7 @@ happening_of (Code code) = Exit (exits.Code code)
 happening_of Signal = Fail failures.Signal
 happening_of Core = Fail failures.Core
 
--- whether an end of the first process ends all of its contract
+-- an end of the first process ends all of its contract
 abbrev pub is_fatal_end : Option Contract → FirstEnd → Bool
 is_fatal_end c (Code code) = false
 is_fatal_end c Signal = is_fatal failures.Signal c

@@ -1,4 +1,4 @@
--- What is seen of the contracts of the system, and what is told of it.
+-- The sights of contracts of the system, and the events that are told of them.
 use Rattle.std.specs.Prelude.{◌≡◌, ℕ, ◌<◌, List, ◌⊎◌, ◌++◌, [], ◌∷◌, true, false, Option, Some, None, filter, slice_get}
 use Rattle.smf_contract.specs.declared.contract.Contract.{Contract}
 use Rattle.smf_contract.specs.declared.event.Event.{Event}
@@ -39,8 +39,8 @@ IsStill facts First held = facts.stands held Runs
 IsStill facts (Forked end) held = ⊥
 IsStill facts Others held = facts.stands held Runs ⊎ ((end : FirstEnd) × facts.stands held (Left end))
 
--- nothing is left of it, and this end is to be told: that of the first process; or, where that was told, of the others,
--- which end well
+-- Nothing is left of it, and this end is to be told. It is that of the first process; or, if that was told, of the
+-- others, which end well.
 abbrev pub IsEmptied : {H : Type 0} → ContractFacts H → Option Contract → FirstEnd → Phase → H → Type 0
 IsEmptied facts c end First held = facts.stands held (Gone end)
 IsEmptied facts c end (Forked first) held = (first ≡ end) × (is_fatal_end c end ≡ true) × facts.is_ended held
@@ -124,7 +124,7 @@ PollsEvent facts e l m old new =
     (IsGiven e l m × (new ≡ old))
     ⊎ ((l.due ≡ []) × (TellsFork facts e l m old new ⊎ (TellsEnd e l m old new ⊎ TellsLast facts e l m old new)))
 
--- no event is given only where there is nothing to tell of any
+-- no event is given only if there is nothing to tell of any
 abbrev pub PollsKids : {H : Type 0} → ContractFacts H → Option Event → Ledger → Ledger → List (Kid H) → List (Kid H) → Type 0
 PollsKids facts None l m old new = (posts new ≡ posts old) × AllStill facts old
 PollsKids facts (Some e) l m old new = PollsEvent facts e l m old new
@@ -133,7 +133,7 @@ PollsKids facts (Some e) l m old new = PollsEvent facts e l m old new
 abbrev pub IsEmpty : {H : Type 0} → ContractFacts H → H → Type 0
 IsEmpty facts held = ((end : FirstEnd) × facts.stands held (Gone end)) ⊎ facts.is_ended held
 
--- a contract loses its last member only where the system said that nothing is left of it
+-- a contract loses its last member only if the system said that nothing is left of it
 abbrev pub EmptiesOnly : {H : Type 0} → ContractFacts H → List (Kid H) → Ledger → Ledger → Type 0
 EmptiesOnly facts old l m = (id : ℕ) → 0 < left l id → left m id ≡ 0 → SomeKid id old (λ kid. IsEmpty facts kid.held)
 

@@ -1,4 +1,4 @@
-// What is kept of runs, and the contract table that follows from it.
+// The notes of runs, and the contract table that follows from them.
 ghost use Rattle.std.specs.Prelude.{◌≡◌, ◌≢◌, ◌<◌, ◌≤◌, ◌⊎◌, ◌∷◌, [], Some, None, true, IfErr, IfOk, IfSome, IfNone, OnErr, OnOk, count_by, filter, length, option_to_list, vec_len, vec_capacity};
 ghost use Rattle.smf_contract.specs.Calls.{is_fatal, next_contract};
 ghost use Rattle.smf_contract.specs.Entries.{contract, empty, first_member, home, is_in, processes};
@@ -22,7 +22,7 @@ use std::alloc::{AllocError, Global};
 /// Whom the table says to hold the contracts.
 const HOLDER: u64 = 0;
 
-/// What children keep of themselves.
+/// The ledger that children keep of themselves.
 #[derive(Drop)]
 pub(crate) struct Book {
     alloc: Global,
@@ -42,7 +42,7 @@ fn table_call(happening: Happening, process: Number) -> ContractCall
     }
 }
 
-/// Whether a failure of one member of a contract ends them all.
+/// Says whether a failure of one member of a contract ends them all.
 fn is_fatal(contract: &Option<Contract>, failure: Failure) -> bool
     ensures { result ≡ is_fatal failure contract.now }
 {
@@ -109,7 +109,7 @@ impl Book {
         count_members(self.table.members(), id)
     }
 
-    /// Whether an end of the first process ends all of its contract.
+    /// Says whether an end of the first process ends all of its contract.
     pub(crate) fn is_fatal(&self, id: Number, end: FirstEnd) -> bool
         ensures { result ≡ is_fatal_end (contract (ledger_of self.now).table id) end }
     {

@@ -9,14 +9,14 @@ use smf_fmri::{InstanceFmri, Number};
 use smf_method::Command;
 use std::io;
 
-/// A system that keeps contracts: all that comes of one process, wherever it forks. Two questions are asked of it: how a
-/// contract stands, and that it be ended. A caller knows a fact of a contract only from the call that finds it.
+/// A system that keeps contracts: all that comes of one process, wherever it forks. Two questions are asked of it: how
+/// a contract stands, and that it be ended. A caller knows a fact of a contract only from the call that finds it.
 pub trait Contracts {
     type Held: Drop;
 
     ghost facts: { ContractFacts Self.Held };
 
-    /// Starts the first process of a contract of its own. Where it fails, it leaves no process.
+    /// Starts the first process of a contract of its own. If it fails, it leaves no process.
     fn start(
         &self,
         id: Number,

@@ -64,8 +64,8 @@ fn start<C: Contracts>(
     }
 }
 
-/// Children that are processes of the system, in contracts that follow them through forks. Of each contract two members
-/// are told at the most: its first process, and one that stands for all others.
+/// Children that are processes of the system, in contracts that follow them through forks. They tell of two members of
+/// each contract at the most: its first process, and one that stands for all others.
 #[derive(Drop)]
 pub struct FollowedKids<C: Contracts> {
     alloc: Global,
@@ -167,8 +167,9 @@ impl<C: Contracts> Kids for FollowedKids<C> {
         Ok(())
     }
 
-    /// The clause `seen` says what is told of contracts: a fork and then the end of the first process if others live, and
-    /// the last end only after the system said that nothing is left. The clause `empties` says that of all contracts.
+    /// The clause `seen` says what is told of contracts: a fork and then the end of the first process, if others live.
+    /// The last end is told only after the system said that nothing is left. The clause `empties` says that of all
+    /// contracts.
     fn poll(&mut self) -> Result<Option<Event>, KidsFault>
         ensures polled { IfOk result (λ event. IsPolled event self.old.0 self.new.0) }
         ensures refused { OnErr result (self.new.0 ≡ self.old.0) }

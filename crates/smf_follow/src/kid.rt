@@ -6,7 +6,7 @@ use crate::contracts::Contracts;
 use crate::stand::FirstEnd;
 use smf_fmri::Number;
 
-/// What was told of a contract.
+/// How much was told of a contract.
 #[derive(Clone, Copy)]
 pub(crate) enum Phase {
     /// Its first process was started.

@@ -1,4 +1,4 @@
-// What is seen of the contracts of the system.
+// Looks at the contracts of the system.
 ghost use Rattle.std.specs.Prelude.{◌≡◌, Option};
 ghost use Rattle.smf_contract.specs.declared.contract.Contract.{Contract};
 ghost use Rattle.smf_contract.specs.Entries.{contract};
@@ -13,7 +13,7 @@ use crate::kid::{Kid, Phase, is_ended};
 use crate::stand::{FirstEnd, Stand};
 use smf_fmri::Number;
 
-/// What is seen of contracts, and what is to be told of one of them.
+/// The result of a look at contracts: it says what is to be told of one of them.
 #[derive(Clone, Copy)]
 pub(crate) enum Sight {
     /// Nothing.
@@ -28,7 +28,7 @@ pub(crate) enum Sight {
     Failed,
 }
 
-/// What is seen of a contract whose first process was started.
+/// The sight of a contract whose first process was started.
 fn see_first<C: Contracts>(contracts: &C, id: Number, held: &mut C::Held) -> Sight
     ensures of { IsSightOf result id }
     ensures seen { (c : Option Contract) → SeenIn C.facts c result First held.old }
@@ -41,7 +41,7 @@ fn see_first<C: Contracts>(contracts: &C, id: Number, held: &mut C::Held) -> Sig
     }
 }
 
-/// What is seen of a contract whose first process ended, which is told next. A fatal end ends all of it first.
+/// The sight of a contract whose first process ended, which is told next. A fatal end ends all of it first.
 fn see_forked<C: Contracts>(
     contracts: &C,
     book: &Book,
@@ -61,7 +61,7 @@ fn see_forked<C: Contracts>(
     Sight::Failed
 }
 
-/// What is seen of a contract whose first process's end was told.
+/// The sight of a contract whose first process's end was told.
 fn see_others<C: Contracts>(contracts: &C, id: Number, held: &mut C::Held) -> Sight
     ensures of { IsSightOf result id }
     ensures seen { (c : Option Contract) → SeenIn C.facts c result Others held.old }
@@ -74,7 +74,7 @@ fn see_others<C: Contracts>(contracts: &C, id: Number, held: &mut C::Held) -> Si
     }
 }
 
-/// What is seen of a contract of which so much was told.
+/// The sight of a contract of which so much was told.
 fn see_in<C: Contracts>(
     contracts: &C,
     book: &Book,
@@ -92,7 +92,7 @@ fn see_in<C: Contracts>(
     }
 }
 
-/// What is seen of one contract.
+/// The sight of one contract.
 fn see<C: Contracts>(contracts: &C, book: &Book, kid: &mut Kid<C::Held>) -> Sight
     ensures same { post_of kid.new ≡ post_of kid.old }
     ensures seen { IsSeen C.facts (ledger_of book.now).table result kid.old }
@@ -100,8 +100,8 @@ fn see<C: Contracts>(contracts: &C, book: &Book, kid: &mut Kid<C::Held>) -> Sigh
     see_in(contracts, book, kid.contract, kid.phase, &mut kid.held)
 }
 
-/// What is to be told of a contract, if there is anything; it does not wait. A contract of which the system does not answer
-/// keeps no other from being told of.
+/// Looks for something to tell of a contract, and does not wait. A contract of which the system does not answer keeps
+/// no other from being told of.
 pub(crate) fn see_all<C: Contracts>(contracts: &C, book: &Book, kids: &mut [Kid<C::Held>]) -> Sight
     ensures same { posts kids.new ≡ posts kids.old }
     ensures seen { AreSeen C.facts (ledger_of book.now).table result kids.old }

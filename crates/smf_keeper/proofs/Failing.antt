@@ -1,4 +1,4 @@
--- What holds of a failure, whatever it is.
+-- A claim that holds of every failure.
 use Rattle.std.proofs.Common.{Result, Ok, Err, OnErr}
 
 pub on_err : {T E : Type 0} {Q : Type 0} (r : Result T E) → Q → OnErr r Q

@@ -1,4 +1,4 @@
--- What is found of a group's contract, one answer after the other.
+-- Facts of a group's contract, one answer after the other.
 use Rattle.std.proofs.Common.{◌≡◌, ◌++◌, ◌∷◌, inl, inr, List, ℕ, Bool, true, false, not, codes, Option, Some, None, Result, Ok, Err, IfOk, OnErr, refl, subst}
 use Rattle.std.specs.Fmt.{decimal}
 use Rattle.std.specs.IoError.{error_kind}

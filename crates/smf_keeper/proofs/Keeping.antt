@@ -1,4 +1,4 @@
--- What is found of a contract that has a keeper, one answer after the other.
+-- Facts of a contract that has a keeper, one answer after the other.
 use Rattle.std.proofs.Common.{◌≡◌, ◌++◌, ◌∷◌, inl, inr, List, [], ℕ, Bool, true, false, codes, Option, Some, None, IfSome, refl, subst}
 use Rattle.std.specs.Fmt.{decimal}
 use Rattle.std.specs.Process.{command_args, command_program}

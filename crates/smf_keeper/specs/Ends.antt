@@ -20,7 +20,7 @@ IsEndOf s end = IsEndAt (exit_code s) end
 abbrev pub LeftNothing : ExitStatus → Type 0
 LeftNothing s = (exit_code s ≡ Some (pos 0)) ⊎ (exit_code s ≡ Some (pos 125))
 
--- what is taken for the first process's end if a keeper that ended so told none
+-- the end that is taken for the first process's, if a keeper that ended so told none
 abbrev pub IsUntold : ExitStatus → FirstEnd → Type 0
 IsUntold s end = ((exit_code s ≡ Some (pos 125)) × (end ≡ Code 125)) ⊎ (end ≡ Signal)
 
@@ -28,7 +28,7 @@ abbrev pub code_below : Option ℕ → Option FirstEnd
 code_below None = None
 code_below (Some n) = if nat_lt n 256 then Some (Code n) else None
 
--- what a keeper's file says of the first process's end
+-- the first process's end, as a keeper's file says it
 abbrev pub read_end : List ℕ → Option FirstEnd
 read_end text =
     if pointwise nat_eq text (codes "signal") then Some Signal

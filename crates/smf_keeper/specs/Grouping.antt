@@ -1,4 +1,4 @@
--- What is found of a contract that is a control group, by what was told of its first process and of its group.
+-- Facts of a contract that is a control group, by what was told of its first process and of its group.
 use Rattle.std.specs.Prelude.{◌≡◌, ◌⊎◌, ◌++◌, ℕ, List, ◌∷◌, Bool, true, false, codes, nat_eq, if◌then◌else◌, Option, Some, None}
 use Rattle.std.specs.Fmt.{decimal}
 use Rattle.std.specs.IoError.{error_kind}
@@ -15,7 +15,7 @@ use Rattle.smf_keeper.specs.Ends.{IsEndOf}
 use Rattle.smf_keeper.specs.Tellings.{HostFacts, IsLater, Asked, FileRead, FileWritten, ProgramRun, NoAnswer}
 use Rattle.smf_keeper.specs.Words.{IsGroupRun}
 
--- whether the events of a group say that it has a process
+-- the events of a group say that it has a process, or that it has none
 abbrev pub has_process : List ℕ → Option Bool
 has_process text =
     if starts_with nat_eq text (codes "populated 1\n") then Some true
@@ -27,7 +27,7 @@ abbrev pub Holds : Option (List ℕ) → Bool → Type 0
 Holds None some = some ≡ false
 Holds (Some text) some = has_process text ≡ Some some
 
--- what was read of a group's events says neither
+-- the text that was read of a group's events says neither
 abbrev pub SaysNeither : Option (List ℕ) → Type 0
 SaysNeither None = ⊥
 SaysNeither (Some text) = has_process text ≡ None
@@ -67,7 +67,7 @@ IsAsked facts group done p q = (ender : List ℕ) × facts.tells p (ProgramRun e
 abbrev pub WasAsked : {P : Type 0} → HostFacts P → List ℕ → Type 0
 WasAsked {P} facts group = (p : P) × (q : P) × IsAsked facts group true p q
 
--- what is kept of that
+-- a flag that is kept says so, if it is set
 abbrev pub IsAskedIf : {P : Type 0} → HostFacts P → List ℕ → Bool → Type 0
 IsAskedIf facts group false = Unit {0}
 IsAskedIf facts group true = WasAsked facts group

@@ -1,4 +1,4 @@
--- What is found of a contract that has a keeper, by what was told of the keeper and of its file.
+-- Facts of a contract that has a keeper, by what was told of the keeper and of its file.
 use Rattle.std.specs.Prelude.{◌≡◌, ◌⊎◌, ◌++◌, ℕ, List, [], ◌∷◌, true, false, codes, Option, Some, None}
 use Rattle.std.specs.Fmt.{decimal}
 use Rattle.std.specs.declared.alloc.Global.{Global}
@@ -17,7 +17,7 @@ abbrev pub HasSaid : {P : Type 0} → HostFacts P → List ℕ → FirstEnd → 
 HasSaid {P} facts mark end =
     (p : P) × (q : P) × (text : Option (List ℕ)) × (facts.tells p (FileRead mark [] text) q) × (said text ≡ Some end)
 
--- what is kept of the end was said
+-- the keeper's file said the end that is kept, if one is kept
 abbrev pub IsNoted : {P : Type 0} → HostFacts P → List ℕ → Option FirstEnd → Type 0
 IsNoted facts mark None = Unit {0}
 IsNoted facts mark (Some end) = HasSaid facts mark end
@@ -32,7 +32,7 @@ abbrev pub IsOver : {P : Type 0} → HostFacts P → List ℕ → ExitStatus →
 IsOver facts mark s p q =
     (LeftNothing s × (p ≡ q)) ⊎ ((ender : List ℕ) × facts.tells p (ProgramRun ender (codes "--mark") mark true) q)
 
--- what the keeper left was not ended
+-- processes that the keeper left were not ended
 abbrev pub IsLeft : {P : Type 0} → HostFacts P → List ℕ → P → Type 0
 IsLeft {P} facts mark p = (q : P) × (ender : List ℕ) × facts.tells p (ProgramRun ender (codes "--mark") mark false) q
 

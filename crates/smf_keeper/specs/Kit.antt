@@ -1,4 +1,4 @@
--- What the kit's contracts say of the answers of a system.
+-- The answers of a system, as far as the kit's contracts speak of them.
 use Rattle.std.specs.Prelude.{◌≡◌, Some, None, IfSome}
 use Rattle.std.specs.Process.{child_status}
 use Rattle.std.specs.declared.process.Child.{Child}

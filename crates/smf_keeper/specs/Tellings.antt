@@ -1,4 +1,4 @@
--- What a system is asked for a contract, and what it tells.
+-- The questions that a system is asked for a contract, and its answers.
 use Rattle.std.specs.Prelude.{◌≡◌, ℕ, List, [], ◌∷◌, Bool, Option}
 use Rattle.std.specs.declared.alloc.Global.{Global}
 use Rattle.std.specs.declared.process.Command.{Command}

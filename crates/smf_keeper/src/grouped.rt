@@ -10,9 +10,9 @@ pub struct Grouped<H: Host> {
     pub(crate) group: String,
     /// The path of what is told of the contract, in the room.
     pub(crate) mark: String,
-    /// Whether the group was told to end.
+    /// The group was told to end.
     pub(crate) asked: bool,
-    /// Whether the log says how the first process ended, or there is none.
+    /// The log says how the first process ended, or there is no log.
     pub(crate) logged: bool,
     ghost noted: { ∥ IsAskedIf H.facts (string_bytes group) asked ∥₁ },
 }

@@ -35,14 +35,14 @@ pub struct Groups<H: Host> {
     output: Stderr,
 }
 
-/// What a file holds, as far as it is text.
+/// The text of a file.
 fn text_of<R: Files<File = File>>(alloc: Global, rt: &R, path: &str) -> io::Result<String> {
     let mut text = String::new(alloc);
     File::open(rt, path)?.read_to_string(&mut text)?;
     Ok(text)
 }
 
-/// The group that this program is in, as a folder. None where there are no groups of version 2.
+/// The group that this program is in, as a folder. None if there are no groups of version 2.
 fn own_group<R: Files<File = File>>(alloc: Global, rt: &R) -> io::Result<Option<String>> {
     let mounts = text_of(alloc, rt, "/proc/self/mounts")?;
     let own = text_of(alloc, rt, "/proc/self/cgroup")?;
@@ -61,7 +61,7 @@ fn note<R: Files<File = File>>(alloc: Global, rt: &R, room: &str, group: &str) -
     fs::exists(rt, kill.as_str())
 }
 
-/// Makes a group for the server below its own, with a name that is free. None where that may not be.
+/// Makes a group for the server below its own, with a name that is free. None if that cannot be done.
 fn server_group<R: Files<File = File>>(alloc: Global, rt: &R) -> io::Result<Option<String>> {
     let Some(own) = own_group(alloc, rt)? else {
         return Ok(None);
@@ -77,7 +77,7 @@ fn server_group<R: Files<File = File>>(alloc: Global, rt: &R) -> io::Result<Opti
     Ok(None)
 }
 
-/// Makes a group for the server and notes it. None where the system does not keep groups.
+/// Makes a group for the server and notes it. None if the system does not keep groups, or does not end one as a whole.
 fn noted_group<R: Files<File = File>>(
     alloc: Global,
     rt: &R,
@@ -105,7 +105,7 @@ impl<R: Processes + Files<File = File> + Clock> Groups<R> {
     }
 }
 
-/// What is read of a group: whether it has a process.
+/// Says whether a group has a process, by the text of its events.
 fn is_held(text: &Option<String>) -> io::Result<bool>
     ensures holds { IfOk result (λ some. Holds (option_map string_bytes text.now) some) }
     ensures neither { OnErr result (SaysNeither (option_map string_bytes text.now)) }
@@ -119,7 +119,7 @@ fn is_held(text: &Option<String>) -> io::Result<bool>
     }
 }
 
-/// Whether a group has a process. One that is not there has none.
+/// Asks whether a group has a process. One that is not there has none.
 #[tactic(auto, using(crate::proofs::Later::one_later, crate::proofs::Grouping::tells_group, crate::proofs::Grouping::unclear_text, crate::proofs::Grouping::unclear_lost))]
 fn is_populated<H: Host>(
     alloc: Global,
@@ -135,7 +135,7 @@ fn is_populated<H: Host>(
     is_held(&text)
 }
 
-/// Whether the first process has ended and after that its group had no process.
+/// Asks whether the first process has ended, and whether its group had no process after that.
 #[tactic(auto, using(crate::proofs::Later::one_later, crate::proofs::Later::then_later, crate::proofs::Grouping::left_none))]
 fn is_empty<H: Host>(
     alloc: Global,
@@ -352,7 +352,7 @@ impl<H: Host> Contracts for Groups<H> {
         Ok(Stand::Gone(end))
     }
 
-    /// Where the room is gentle, a group is told once to end, and what is left of it is told the next time.
+    /// If the room is gentle, the first call tells the group to end. A later call says whether it is empty.
     fn end(&self, grouped: &mut Grouped<H>) -> io::Result<bool> {
         if self.room.is_gentle() {
             return end_gently(self.alloc, &self.host, self.room.keeper(), grouped);

@@ -1,4 +1,4 @@
-// What is asked of the system for a contract.
+// The questions that the system is asked for a contract.
 ghost use Rattle.std.specs.Prelude.{◌≡◌, IfErr, IfOk, OnErr, OnOk, option_map, string_bytes, true, false};
 ghost use Rattle.smf_keeper.specs.Kit.{child_tells};
 ghost use Rattle.smf_keeper.specs.Tellings.{HostFacts, Asked, Closed, FileRead, FileWritten, FolderRemoved, ProgramRun, NoAnswer};
@@ -12,9 +12,9 @@ use std::rt::{Clock, Files};
 use std::time::Duration;
 use std::{fs, io, thread};
 
-/// A system that is asked for a contract, by the process that was started for it: each answer is told of one moment of that
-/// process, and leads to the next. What the system tells is known only from the call that asks it. A file is named by a
-/// path, and by what stands after it.
+/// A system that is asked for a contract, by the process that was started for it. Each answer is told of one moment of
+/// that process, and leads to the next. A caller knows an answer only from the call that asks for it. A file is named
+/// by a path, and by what stands after it.
 pub trait Host {
     type Process: Drop;
 
@@ -29,7 +29,7 @@ pub trait Host {
         ensures made { OnOk result (facts.is_made path.now) }
         ensures failed { IfErr result facts.start_fails };
 
-    /// Whether the process ended, and how. It does not wait.
+    /// Asks whether the process ended, and how. It does not wait.
     fn look(&self, process: &mut Self::Process) -> io::Result<Option<ExitStatus>>
         ensures told { IfOk result (λ end. facts.tells process.old (Asked end) process.new) }
         ensures lost { OnErr result (facts.tells process.old NoAnswer process.new) };
@@ -38,7 +38,7 @@ pub trait Host {
     fn close(&self, process: &mut Self::Process)
         ensures { facts.tells process.old Closed process.new };
 
-    /// What a file holds. None if it is not there.
+    /// The text of a file. None if it is not there.
     fn read(
         &self,
         alloc: Global,
@@ -104,8 +104,8 @@ fn if_there<T: Drop>(answer: io::Result<T>) -> io::Result<Option<T>> {
     }
 }
 
-/// The kit says how a process ended, that its input is closed, and nothing else of it. It says nothing of files. So these
-/// bodies are trusted: each asks the system once, for what its name says, and tells what that answered.
+/// The kit says how a process ended, that its input is closed, and nothing else of it. It says nothing of files. So
+/// these bodies are trusted: each asks the system once, for what its name says, and tells what that answered.
 impl<R: Processes + Files<File = File> + Clock> Host for R {
     type Process = Child<<R as Processes>::Started>;
 

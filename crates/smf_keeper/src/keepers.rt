@@ -28,7 +28,7 @@ pub struct Keepers<H: Host> {
     output: Stderr,
 }
 
-/// What a keeper's file says, if it is there.
+/// The end of the first process, as the keeper's file tells it. None if the file is not there, or tells no end.
 #[tactic(auto, using(crate::proofs::Later::one_later, crate::proofs::Keeping::has_said, crate::proofs::Keeping::is_silent))]
 fn told<H: Host>(
     alloc: Global,
@@ -47,8 +47,8 @@ fn told<H: Host>(
     }
 }
 
-/// Whether nothing is left of a contract whose keeper ended so. What a keeper left that was ended itself is found by its
-/// mark and ended.
+/// Says whether nothing is left of a contract whose keeper ended so. If something else ended the keeper, the ender
+/// finds the rest by its mark and ends it.
 #[tactic(auto, using(crate::proofs::Later::not_later, crate::proofs::Later::one_later, crate::proofs::Keeping::over_itself, crate::proofs::Keeping::over_by_ender, crate::proofs::Keeping::is_left))]
 fn is_over<H: Host>(
     alloc: Global,
@@ -70,7 +70,7 @@ fn is_over<H: Host>(
     Ok(over)
 }
 
-/// Whether a keeper has ended, and nothing is left of its contract.
+/// Asks whether a keeper has ended, and nothing is left of its contract.
 #[tactic(auto, using(crate::proofs::Later::one_later, crate::proofs::Later::then_later, crate::proofs::Keeping::has_ended))]
 fn has_ended<H: Host>(
     alloc: Global,
@@ -213,7 +213,8 @@ impl<H: Host> Contracts for Keepers<H> {
         }
     }
 
-    /// It closes the keeper's standard input, and waits for its end for a while; where the room is gentle, it does not wait.
+    /// It closes the keeper's standard input, and waits for its end for a while; if the room is gentle, it does not
+    /// wait.
     #[tactic(auto, using(crate::proofs::Keeping::ended_with, crate::proofs::Keeping::may_live))]
     fn end(&self, kept: &mut Kept<H>) -> io::Result<bool> {
         let patience = if self.room.is_gentle() { 0 } else { PATIENCE };

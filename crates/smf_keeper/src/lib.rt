@@ -1,7 +1,7 @@
-//! Contracts of processes that the system runs, in two forms: a control group for each, or a keeper, which is a program of
-//! its own.
-//! Modules: `host` (what is asked of the system), `room` (the folder of a server's contracts), `keepers` and `kept`, `groups`
-//! and `grouped` (the two forms), `program` (what is started), `reading` (what they tell).
+//! Contracts of processes that the system runs, in two forms: a control group for each, or a keeper, which is a program
+//! of its own.
+//! Modules: `host` (questions to the system), `room` (a server's folder), `keepers` and `kept`, `groups` and `grouped`
+//! (the two forms), `program` (what is started), `reports` (their reports).
 #![tactic(auto)]
 
 mod grouped;

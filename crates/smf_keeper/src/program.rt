@@ -1,4 +1,4 @@
-// What is started for a contract.
+// The programs that are started for a contract.
 ghost use Rattle.std.specs.Prelude.{◌≡◌, ◌++◌, IfOk, OnOk, ℕ, List, Some, None, true, codes, string_bytes, [], ◌∷◌};
 ghost use Rattle.std.specs.Fmt.{decimal};
 ghost use Rattle.std.specs.Process.{SameEnv, SameOtherVars, SameProgramAndArgs, clears_env, command_args, command_program, command_var};
@@ -73,7 +73,7 @@ fn wire(program: &mut Program, output: Stderr)
     program.stderr(output);
 }
 
-/// A keeper of a command by the shell, with these variables alone. What it writes goes to one stream.
+/// A keeper of a command by the shell, with these variables alone. Its output goes to one stream.
 pub(crate) fn keeper(
     alloc: Global,
     keeper: &str,
@@ -113,7 +113,8 @@ fn wire_empty(program: &mut Program, output: Stderr)
     program.stderr(output);
 }
 
-/// What becomes a command by the shell in a group, with these variables alone. What it writes goes to one stream.
+/// A program that goes into a group and becomes a command by the shell, with these variables alone. Its output goes to
+/// one stream.
 pub(crate) fn grouped(
     alloc: Global,
     keeper: &str,

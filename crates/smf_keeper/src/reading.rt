@@ -1,4 +1,4 @@
-// What keepers and groups tell.
+// The reports of keepers and groups.
 ghost use Rattle.std.specs.Prelude.{◌≡◌, ◌⊎◌, true};
 ghost use Rattle.smf_follow.specs.declared.stand.FirstEnd.TheVariants.{Signal, Core};
 ghost use Rattle.smf_keeper.specs.Ends.{IsEndOf, IsUntold, LeftNothing, code_below, read_end};
@@ -36,7 +36,7 @@ pub(crate) fn read_end(text: &str) -> Option<FirstEnd>
     }
 }
 
-/// Whether a keeper that ended so left nothing: it ended by itself.
+/// Says whether a keeper that ended so left nothing: it ended by itself, or started nothing.
 pub(crate) fn left_nothing(status: ExitStatus) -> bool
     ensures { result ≡ true → LeftNothing status }
 {
@@ -80,7 +80,7 @@ pub(crate) fn end_of(status: ExitStatus) -> FirstEnd
     }
 }
 
-/// Whether the events of a group say that it has a process.
+/// Says whether a group has a process, by its events. None if they say neither.
 pub(crate) fn has_process(text: &str) -> Option<bool>
     ensures { result ≡ has_process text.now }
 {
@@ -94,7 +94,7 @@ pub(crate) fn has_process(text: &str) -> Option<bool>
     }
 }
 
-/// Where control groups of version 2 are mounted, by the table of mounts.
+/// The place at which control groups of version 2 are mounted, by the table of mounts.
 pub(crate) fn mount_in(mounts: &str) -> Option<&str> {
     for line in mounts.lines() {
         let mut words = line.split(' ');

@@ -11,7 +11,7 @@ use std::{fs, io};
 pub enum RoomFault {
     /// Another server has it.
     Taken,
-    /// What an older server left there was not ended.
+    /// Processes that an older server left there were not ended.
     Left,
     /// The programs that it needs are not there.
     NoKeeper,
@@ -37,7 +37,7 @@ pub struct Room {
     path: String,
     keeper: String,
     ender: String,
-    /// Whether contracts have time to end, and nobody waits for them.
+    /// Contracts have time to end, and nobody waits for them.
     gentle: bool,
     /// It is locked as long as it is open.
     lock: File,
@@ -56,13 +56,14 @@ fn touch<R: Files<File = File>>(rt: &R, path: &str) -> io::Result<File> {
     File::options().write(true).create(true).open(rt, path)
 }
 
-/// Whether both programs are there.
+/// Asks whether both programs are there.
 fn has_both<R: Files>(rt: &R, keeper: &str, ender: &str) -> io::Result<bool> {
     Ok(fs::exists(rt, keeper)? && fs::exists(rt, ender)?)
 }
 
 impl Room {
-    /// Takes a folder, and ends what an older server left. `libexec` is the folder of the programs `smf_keep` and `smf_end`.
+    /// Takes a folder, and ends what an older server left. `libexec` is the folder of the programs `smf_keep` and
+    /// `smf_end`.
     pub fn take<R: Processes + Files<File = File>>(
         alloc: Global,
         rt: &R,
@@ -92,7 +93,7 @@ impl Room {
         })
     }
 
-    /// From now on contracts end gently. What methods write goes into logs in a folder, unless its name is empty.
+    /// From now on contracts end gently. The output of methods goes into logs in a folder, unless its name is empty.
     pub fn stay<R: Files<File = File>>(
         &mut self,
         alloc: Global,
@@ -105,7 +106,7 @@ impl Room {
         Ok(())
     }
 
-    /// Whether contracts have time to end, and nobody waits for them.
+    /// Says whether contracts have time to end, and nobody waits for them.
     pub fn is_gentle(&self) -> bool {
         self.gentle
     }

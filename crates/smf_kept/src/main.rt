@@ -1,13 +1,13 @@
 //! A program for tests: lines of standard input are done to children in contracts that are followed. Its words are the
 //! folder of the contracts, the folder of the keepers' programs, and the form: `keepers` or `groups`.
 //! With no words it asks contracts whose commands say what they answer.
-//!   spawn ID COMMAND    starts a command in the next contract, which a failure ends
-//!   ignore ID COMMAND   the same, and no failure ends it
-//!   poll                prints all that is found
-//!   kill ID             ends a contract
-//!   list                prints the contracts with members
-//!   wait MS             does nothing for so many milliseconds
-//! Modules: `scripted` (contracts whose answers are written down), `telling` (the texts that are printed).
+//!   `spawn ID COMMAND`    starts a command in the next contract, which a failure ends.
+//!   `ignore ID COMMAND`   does the same, and no failure ends it.
+//!   `poll`                prints all that is found.
+//!   `kill ID`             ends a contract.
+//!   `list`                prints the contracts with members.
+//!   `wait MS`             does nothing for so many milliseconds.
+//! Modules: `scripted` (contracts whose answers are written down), `texts` (the texts that are printed).
 #![tactic(auto)]
 
 mod scripted;
@@ -27,13 +27,13 @@ use std::process::ExitCode;
 use std::time::Duration;
 use std::{env, io, thread};
 
-/// The status where the program could not begin.
+/// The status if the program could not begin.
 const FAULT: u8 = 3;
 
 /// The status for words that are not these.
 const BAD_USAGE: u8 = 2;
 
-/// Nothing is fatal where a service ignores failures; else a signal and a core are.
+/// The terms of a contract. Failures are fatal to it, unless the service ignores failures.
 fn terms(fatal: bool) -> Terms {
     Terms {
         informative: EventSet::NONE,

@@ -6,14 +6,14 @@ use smf_method::Command;
 use std::alloc::Global;
 use std::io;
 
-/// Contracts that answer what their commands say: how they stand, in turn, and after `|` whether nothing is left when they
-/// are asked to end. The last answer is given again and again.
+/// Contracts that answer what their commands say: how they stand, in turn, and after `|` whether nothing is left when
+/// they are asked to end. The last answer is given again and again.
 #[derive(Drop)]
 pub(crate) struct Scripted {
     alloc: Global,
 }
 
-/// What a contract answers. None is no answer.
+/// The answers of a contract. None is no answer.
 #[derive(Drop)]
 pub(crate) struct Script {
     stands: Vec<Option<Stand>>,
@@ -49,7 +49,7 @@ fn read_stand(word: &str) -> Option<Stand> {
     }
 }
 
-/// Whether nothing is left, by a word: `done` or `living`.
+/// True if nothing is left, by a word: `done` or `living`.
 fn read_done(word: &str) -> Option<bool> {
     match word {
         "done" => Some(true),

@@ -43,7 +43,7 @@ found_behind o x xs k y low r e = by (has_key o k x) refl
 found_first : {X K : Type 0} (o : By X K) (x : X) (xs : List X) → lookup o (x ∷ xs) (o.key x) ≡ Some x
 found_first o x xs = rw (same_key o (o.key x)) refl
 
--- what is true of all that is found is true of every item
+-- a fact that holds of each item that is found holds of every item
 each_found : {X K : Type 0} (o : By X K) (P : X → Type 0) (xs : List X) → Rises o xs → ((k : K) (x : X) → lookup o xs k ≡ Some x → P x) → AllByRecursion P xs
 each_found o P [] r f = tt
 each_found o P (x ∷ xs) r f = (f (o.key x) x (found_first o x xs), each_found o P xs r.1 (λ k y e. f k y (found_behind o x xs k y r.0 r.1 e)))

@@ -12,7 +12,7 @@ use Rattle.smf_state.specs.Rows.{allowed, applied, applied_unless, greatest_numb
 use Rattle.smf_model.specs.Next.{greatest, is_other_snapshot, is_running}
 use Rattle.smf_laws.specs.Consistent.{IsBounded, IsUpTo}
 
--- what a granted step leaves of a row: its bounds, and whose it is
+-- the row after a granted step: its bounds, its owner, and the numbers that it gets
 pub record IsStepped (r after : Row) (p : Proposal) : Type 0 where
   pub bounded : IsBounded after
   pub owner : after.owner ≡ r.owner

@@ -83,7 +83,7 @@ puts_each k gs (j ∷ js) c held =
     let f : Follows k (changed k (PutInstance (current gs j))) = instance_put k (current gs j) c held.0 in
     puts_each l gs js f.consistent (still_held k l gs js f.grows held.1)
 
--- what is found at row number 0 is held under any owner
+-- an instance that is found at row number 0 is held under any owner
 are_held : (k : Holdings) (gs : Groups) (js : List Instance) → IsConsistent k → AreHeldAtZero (instances k) js → AreHeld k gs js
 are_held k gs [] c found = tt
 are_held k gs (j ∷ js) c found = (current_held k gs j (c.instances j.number j found.0.found), are_held k gs js c found.1)

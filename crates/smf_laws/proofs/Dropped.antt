@@ -26,7 +26,7 @@ none_some x e = cc
 same_number : (n : ℕ) → n ≤ n
 same_number n = omega arith
 
--- what is found beside one that is gone was there, and is another
+-- an item that is found after another one is dropped was there, and is another
 left_cases : {X K : Type 0} (o : By X K) (j : K) (xs : List X) (k : K) (y : X) → lookup o (without o j xs) k ≡ Some y → (is_eq (o.cmp j k) ≡ false) × (lookup o xs k ≡ Some y)
 left_cases o j xs k y e = elim (with_answer_cases o (lookup o xs) j None k (Some y) (sym (lookup_without o j xs k) ∙ e)) [
   | inl q ↦ absurd (none_some y q.1)

@@ -139,7 +139,7 @@ some_amend : {X K : Type 0} (o : By X K) (j : K) (f : X → X) (xs : List X) (k 
 some_amend o j f xs k same e =
     rw (lookup_amend o j f xs k same) (some_either (is_eq (o.cmp j k)) (option_map f (lookup o xs k)) (lookup o xs k) (some_mapped f (lookup o xs k) e) e)
 
--- what is found after a put is new, or was there
+-- an item that is found after a put is the new one, or was there
 put_cases : {X K : Type 0} (o : By X K) (x : X) (xs : List X) (k : K) (y : X) → lookup o (put o x xs) k ≡ Some y → (x ≡ y) ⊎ (lookup o xs k ≡ Some y)
 put_cases o x xs k y e = elim (with_answer_cases o (lookup o xs) (o.key x) (Some x) k (Some y) (sym (lookup_put o x xs k) ∙ e)) [
   | inl q ↦ inl (some_same x y q.1)
@@ -150,7 +150,7 @@ mapped_from : {X : Type 0} (f : X → X) (o : Option X) (y : X) → option_map f
 mapped_from f None y e = absurd (none_some y e)
 mapped_from f (Some x) y e = (x, refl, some_same (f x) y e)
 
--- what is found after an amendment was there, as it is or before it was amended
+-- an item that is found after an amendment was there, as it is or as it was before
 pub data Amended {X K : Type 0} (o : By X K) (j : K) (f : X → X) (xs : List X) (k : K) (y : X) : Type 0 where
   here : (x : X) → j ≡ k → lookup o xs k ≡ Some x → f x ≡ y → Amended o j f xs k y
   other : lookup o xs k ≡ Some y → Amended o j f xs k y

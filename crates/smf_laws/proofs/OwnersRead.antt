@@ -293,7 +293,7 @@ reply_of : (h : Holdings) (e : Edit) → IsOther e → DoneOrNot (edited h e).1
 unfolding next asked
 reply_of h e other = subst DoneOrNot (sym (same_reply h (restarters_named h e) (asked_edit h e))) (edit_answers h e other)
 
--- what is refused changes nothing
+-- a refused command changes nothing
 refused_shown : (h : Holdings) (c : Command) → AreShown h → is_refusal (next h c).1 ≡ true → AreShown (next h c).0
 refused_shown h c a e = subst AreShown (sym (unchanged h c e)) a
 
@@ -482,7 +482,7 @@ refreshed_shown h k n i a it is = one_other h k i.number is.after a is.is_there 
 
 -- ---- owners that are written
 
--- what belongs to no written owner was shown before; the others are shown then
+-- an instance that is not the written owner's was shown before; the owner's instances are shown now
 written_shown : (k : Holdings) (owner : Owner) → Rises by_instance (instances k) → ((n : ℕ) (x : Instance) → instance k n ≡ Some x → belongs_to owner x ≡ false → IsShown (groups_of k) x) → AreShown (written_then k owner)
 written_shown k owner rises beyond n j e = subst (λ (gs : Groups). IsShown gs j) (sym (groups_written k owner)) (by (instance k n) refl (sym (written_at k owner n rises) ∙ e))
   where
@@ -497,7 +497,7 @@ written_shown k owner rises beyond n j e = subst (λ (gs : Groups). IsShown gs j
         clash x f = cc
     by (Some x) there same = at x (belongs_to owner x) refl there (some_same (shown k owner x) j same)
 
--- what belongs to no owner is not of it
+-- if an instance does not belong to an owner, neither the instance nor its service is that owner
 apart_of : (owner : Owner) (x : Instance) → belongs_to owner x ≡ false → (owners.Instance x.number ≡ owner → ⊥) × (service_owner x ≡ owner → ⊥)
 apart_of (owners.Service name) x e =
     (not_service x.number name, λ same. no_both (pointwise nat_eq (service_fmri x.name) name) ((same_text (service_fmri x.name) name).1 (name_in (service_fmri x.name) name same)) e)

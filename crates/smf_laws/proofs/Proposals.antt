@@ -94,7 +94,7 @@ granted_held h k i p row g held t s =
       };
     }
 
--- the same where the step takes the snapshot `running`
+-- the same if the step takes the snapshot `running`
 running_held : (h k : Holdings) (i : Instance) (p : Proposal) (row : Row) → IsOwn k i.number (Some h.next_snapshot) → IsInstanceHeld k (with_row i row) → IsInstanceHeld k (with_row i (with_running h row))
 running_held h k i p row own held =
     record {

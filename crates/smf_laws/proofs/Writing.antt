@@ -153,7 +153,7 @@ is_text : (a b : List ℕ) (t : Bool) → pointwise nat_eq a b ≡ t → not t �
 is_text a b true e f = (same_text a b).0 e
 is_text a b false e f = absurd cc
 
--- what is not to write shows what is read
+-- an instance whose owner need not be written shows the owner that is read
 pub shows_already : (gs : Groups) (i : Instance) → is_unwritten gs i ≡ false → current gs i ≡ i
 unfolding current
 shows_already gs i e = by (i.row.number == 0) e
@@ -177,7 +177,7 @@ shown_of k owner i e = by (is_unwritten (groups_of k) i) refl (belongs_to owner 
 pub rises_after : (h : Holdings) (a : Asked) → IsNumbered h → Rises by_instance (instances (installed h a.changes))
 rises_after h a numbered = rises_bare (installed h a.changes).instances (ordered_after h a.changes numbered.ordered).instances
 
--- owners are written behind its changes, if it may name restarters
+-- an edit that may name restarters writes owners after its changes
 pub gives_owners : (h : Holdings) (P Q : Holdings → Type 0) (o : Option Owner) (a : Asked) → Gives h Done P a
     → ((k : Holdings) → o ≡ None → P k → Q k)
     → ((k : Holdings) (owner : Owner) → o ≡ Some owner → (IsNumbered h → Rises by_instance (instances k)) → P k → Q (written_then k owner))

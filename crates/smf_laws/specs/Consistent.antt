@@ -98,8 +98,8 @@ pub record IsConsistent (h : Holdings) : Type 0 where
 
 -- ---- commands
 
--- a command adds a service or a restarter under a name of its kind, as the types of the program have it;
--- each other name that a command gives is looked up, or read first
+-- a command adds a service or a restarter under a name of its kind, as the types of the program have it. The repository
+-- looks up each other name that a command gives, or reads it first
 abbrev pub IsNamedEdit : Edit → Type 0
 IsNamedEdit (asked_for.AddService name) = IsServiceName name
 IsNamedEdit _ = Unit {0}

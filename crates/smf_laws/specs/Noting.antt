@@ -102,8 +102,8 @@ abbrev pub without_properties : List ℕ → List ℕ → Bool → GroupRecord
 without_properties name group_type non_persistent =
     record { name = name; group_type = group_type; non_persistent = non_persistent; properties = [] }
 
--- one revision is made, the group of a name of one owner is o, and no other group is changed; no row is changed
--- either, unless the group is `general`: then rows may come to show the owner that is read now
+-- one revision is made, the group of a name of one owner is o, and no other group changes. No row changes either,
+-- unless the group is `general`: then rows may come to show the owner that is read now
 pub record IsGroupThen (owner : Owner) (name : List ℕ) (o : Option GroupRecord) (h k : Holdings) : Type 0 where
   pub is_so : group k owner name ≡ o
   pub other_groups : (other : List ℕ) → (other ≡ name → ⊥) → group k owner other ≡ group h owner other

@@ -240,7 +240,7 @@ pub record HasStep (h : Holdings) (p : Proposal) (r : Row) : Type 0 where
   pub before : HasSnapshot h p r
   pub step : refusal r p.step ≡ None
 
--- the step leads from uninitialized, where there is no snapshot `running` yet
+-- the step leads from uninitialized, and there is no snapshot `running` yet
 abbrev pub takes_first : Holdings → Proposal → Row → Bool
 takes_first h p r =
     same_state r.state Uninitialized

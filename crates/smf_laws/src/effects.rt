@@ -115,8 +115,8 @@ pub fn proposals_are_judged_in_order()
         → IsJudged h p i.row (next h (commands.Propose p)).1 }
 {}
 
-/// An edit is refused for the first reason that holds: nothing there, then something in the way, then values that are
-/// not allowed, then a limit.
+/// An edit is refused for the first reason that holds. The repository looks first for a missing object, then for a
+/// conflict, then for values that are not allowed, and last for a limit.
 pub fn edits_are_answered_in_order()
     ensures { (h : Holdings) (e : Edit) → IsAnswered h e (next h (commands.Edit e)).1 }
 {}

@@ -1,7 +1,7 @@
-//! Laws of the repository, above the definitions of `smf_model`, that no function of it needs: each is a function whose
+//! Laws of the repository, above the definitions of `smf_model`, that no function of it needs. Each is a function whose
 //! contract is the law.
-//! Modules: `values` (each value that commands make keeps the rules of a store), `effects` (what each command changes, what
-//! it leaves, and why it is refused, as an administrator sees it).
+//! Modules: `values` (each value that commands make keeps the rules of a store); `effects` (what each command changes,
+//! what it leaves, and why it is refused, as an administrator sees it).
 #![tactic(auto)]
 
 mod effects;

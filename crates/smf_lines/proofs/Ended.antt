@@ -41,11 +41,11 @@ take_again zero xs ys = refl
 take_again (suc n) [] ys = refl
 take_again (suc n) (x ∷ xs) ys = ap (λ l. x ∷ l) (take_again n xs ys)
 
--- what is kept of a line goes on as the line does
+-- the kept part of a line goes on as the line does
 pub kept_more : (xs ys : List ℕ) → kept (kept xs ++ ys) ≡ kept (xs ++ ys)
 kept_more xs ys = take_again 65537 xs ys
 
--- what there is room for is kept
+-- the bytes that there is room for are kept
 pub kept_front : (old bytes : List ℕ) (n room : ℕ) → length old + room ≡ 65537 → n ≡ min (length bytes) room → old ++ take n bytes ≡ kept (old ++ bytes)
 kept_front old bytes n room whole is =
     let most : n ≡ min room (length bytes) = omega arith in

@@ -1,4 +1,4 @@
--- What a look adds to what is known of a reader's reads.
+-- The effect of a look on the counts of a reader's reads.
 use Rattle.std.proofs.Common.{◌≡◌, ℕ, ◌+◌, Bool, Result, Ok, ap, ◌∙◌, arith}
 use Rattle.smf_lines.specs.declared.fault.ReadFault.{ReadFault}
 use Rattle.smf_lines.specs.declared.reading.Part.{Part}

@@ -1,4 +1,4 @@
--- What is kept of a line shows which text the line is.
+-- The kept part of a line shows which text the line is.
 use Rattle.std.proofs.Common.{◌≡◌, ◌≤◌, ◌<◌, ℕ, suc, List, length, length-take-le, take, take_all, Bool, true, false, refl, ap, arith, lt-ltb, ltb-true, ltb-false}
 use Rattle.smf_lines.specs.Reading.{is_too_long, kept, text_in}
 

@@ -1,4 +1,4 @@
--- What a look at known bytes takes.
+-- The part that a look at known bytes takes.
 use Rattle.std.proofs.Common.{◌≡◌, ◌≢◌, ◌≤◌, ◌<◌, ℕ, zero, suc, ◌+◌, ◌&&◌, min, List, [], ◌∷◌, ◌++◌, length, length-take-le, take, take_all, drop, get_or, Bool, true, false, Option, Some, None, IfSome, refl, sym, ap, subst, ◌∙◌, arith, eqb, eqb-true, nat_le, nat_lt, append-nil}
 use Rattle.std.proofs.lemmas.Bool.{eqb-false}
 use Rattle.std.proofs.lemmas.Bool.Decides.{nat_tests}
@@ -66,7 +66,7 @@ none_of [] zero e = refl
 none_of [] (suc k) e = refl
 none_of (b ∷ bs) k e = absurd (omega arith)
 
--- what a part has of bytes that have so many before their first end of a line
+-- a part fits the bytes that are shown and the room, and a reader that consumed it took it
 abbrev HasPart : ℕ → List ℕ → Option (List ℕ) → Option (List ℕ) → Part → Type 0
 HasPart room shown a c p =
     (held_by p ≤ length shown) × (taken_by p ≤ length shown) × (held_by p ≤ room) × (Consumes a c (take (taken_by p) shown) → Took p (take (held_by p) shown) room a c)
@@ -123,7 +123,7 @@ none_shown : (bs : List ℕ) → length bs ≡ 0 → bs ≡ []
 none_shown [] e = refl
 none_shown (b ∷ bs) e = absurd (omega arith)
 
--- what a look at bytes in memory takes
+-- a look at bytes in memory takes this part
 pub takes_front : (room n : ℕ) (shown rest : List ℕ) (line line' : List ℕ) (part : Part) → part ≡ part_of room shown → n ≡ held_by part → rest ≡ drop (taken_by part) shown
     → line' ≡ kept (line ++ take n shown) → IsTaken part room (Some shown) (Some rest) line line'
 takes_front room n shown rest line line' part same held left keeps =

@@ -22,7 +22,7 @@ pub record IsPart (xs : List ℕ) (left : Option (List ℕ)) (line : List ℕ) (
 pub begins : (xs : List ℕ) (left : Option (List ℕ)) (line : List ℕ) → left ≡ Some xs → line ≡ [] → IsPart xs left line 0
 begins xs left line e none = record { bytes = []; rest = xs; split = refl; is_left = e; plain = tt; keeps = none; count = refl }
 
--- bytes were read behind the known ones
+-- bytes were read after the known ones
 joined : (xs bytes rest bs ys line line' : List ℕ) (len n : ℕ) (new : Option (List ℕ)) → xs ≡ bytes ++ rest → IsPlain bytes → line ≡ kept bytes → length bytes ≡ len
     → IsPlain bs → length bs ≡ n → rest ≡ bs ++ ys → new ≡ Some ys → line' ≡ kept (line ++ bs) → IsPart xs new line' (len + n)
 joined xs bytes rest bs ys line line' len n new split plain keeps count plain' count' split' is_left keeps' =
@@ -36,7 +36,7 @@ joined xs bytes rest bs ys line line' len n new split plain keeps count plain' c
       count = length-append bytes bs ∙ ap (λ k. k + length bs) count ∙ ap (λ k. len + k) count';
     }
 
--- what was consumed of known bytes
+-- the known bytes are those that were consumed and the rest
 consumed : (rest bs : List ℕ) (new : Option (List ℕ)) → Consumes (Some rest) new bs → (ys : List ℕ) × (new ≡ Some ys) × (rest ≡ bs ++ ys)
 consumed rest bs None c = absurd c
 consumed rest bs (Some ys) c = (ys, refl, c)
@@ -86,7 +86,7 @@ ends xs line line' left new len n room before after p t counted =
       counted ∙ ap (λ k. after + count_of_length k) (sym size),
     )
 
--- nothing is left behind what was read
+-- nothing is left after the bytes that were read
 none_left : (rest : List ℕ) (left : Option (List ℕ)) → left ≡ Some rest → IsAtEnd left → rest ≡ []
 none_left rest left e at_end = at_some IsAtEnd left rest e at_end
 

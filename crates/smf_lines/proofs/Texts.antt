@@ -1,4 +1,4 @@
--- Which lines are texts.
+-- The lines that are texts.
 use Rattle.std.proofs.Common.{◌≡◌, ◌≤◌, ◌<◌, false, true, refl, List, ℕ, length, le-ltb, lt-ltb, nat_lt, Some, None}
 use Rattle.std.specs.Str.{is_utf8}
 use Rattle.smf_lines.specs.Reading.{is_too_long, text_in}

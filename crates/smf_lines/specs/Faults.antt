@@ -47,7 +47,7 @@ Tells (Input fault) before after = Unit {0}
 
 -- ---- reads that failed
 
--- whether a read has failed, behind this fault
+-- true if a read has failed, with this fault or before
 abbrev pub failed_by : ReadFault → Bool → Bool
 failed_by (Input e) before = true
 failed_by Memory before = before

@@ -12,7 +12,7 @@ abbrev pub add_front : ℕ → List (List ℕ) → List (List ℕ)
 add_front b [] = (b ∷ []) ∷ []
 add_front b (l ∷ ls) = (b ∷ l) ∷ ls
 
--- the lines of a text, without their ends; what stands behind the last end is a line too, if anything does
+-- the lines of a text, without their ends; bytes after the last end are a line too
 unfoldable pub lines_of : List ℕ → List (List ℕ)
 lines_of [] = []
 lines_of (b ∷ bs) = if b == 10 then [] ∷ lines_of bs else add_front b (lines_of bs)
@@ -40,13 +40,13 @@ counts_of (l ∷ ls) = count_of l + counts_of ls
 abbrev pub is_too_long : List ℕ → Bool
 is_too_long line = nat_lt 65536 (length line)
 
--- the text of a line; none where it is too long or is no UTF-8
+-- the text of a line; none if it is too long or is no UTF-8
 unfoldable pub text_in : List ℕ → Option (List ℕ)
 text_in line = if is_too_long line || not (is_utf8 line) then None else Some line
 
 -- ---- what is kept
 
--- what is kept of a line: one byte more than a line may have, so that one that is too long shows itself
+-- the kept part of a line: one byte more than a line may have, so that one that is too long shows itself
 abbrev pub kept : List ℕ → List ℕ
 kept line = take 65537 line
 
@@ -55,7 +55,7 @@ kept line = take 65537 line
 abbrev pub is_end : ℕ → Bool
 is_end b = b == 10
 
--- what a look at these bytes takes, where a line has room for so many
+-- the part that a look at these bytes takes, if a line has room for so many
 abbrev pub part_at : ℕ → ℕ → ℕ → Part
 part_at room len at =
     if len == 0 then End
@@ -84,20 +84,20 @@ abbrev pub IsPlain : List ℕ → Type 0
 IsPlain [] = Unit {0}
 IsPlain (b ∷ bs) = (b ≢ 10) × IsPlain bs
 
--- what is known to be left begins with another byte than the end of a line
+-- the known rest begins with another byte than the end of a line
 abbrev pub GoesOn : Option (List ℕ) → Type 0
 GoesOn None = Unit {0}
 GoesOn (Some []) = ⊥
 GoesOn (Some (b ∷ bs)) = b ≢ 10
 
--- what a look took of the bytes that are left, where a line had room for so many
+-- a look took this part of the bytes that are left, if a line had room for so many
 abbrev pub Took : Part → List ℕ → ℕ → Option (List ℕ) → Option (List ℕ) → Type 0
 Took Interrupted bytes room old new = (bytes ≡ []) × Keeps old new
 Took End bytes room old new = (bytes ≡ []) × Keeps old new × IsAtEnd old
 Took (Line n) bytes room old new = (length bytes ≡ n) × IsPlain bytes × Consumes old new (bytes ++ 10 ∷ [])
 Took (Bytes n) bytes room old new = (length bytes ≡ n) × IsPlain bytes × Consumes old new bytes × (n ≡ 0 → (room ≡ 0) × GoesOn old)
 
--- some bytes were taken, and kept behind those that were kept of the line before
+-- some bytes were taken, and kept after those that were kept of the line before
 pub record IsTaken (part : Part) (room : ℕ) (old new : Option (List ℕ)) (before after : List ℕ) : Type 0 where
   pub bytes : List ℕ
   pub took : Took part bytes room old new

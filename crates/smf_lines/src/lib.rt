@@ -1,6 +1,6 @@
 //! Lines of any reader, and texts to any writer.
-//! Modules: `fault`, `turns` (how many lines may still be read), `reader` and `writer` (what lines are read from, and what
-//! texts are written to), `reading` (lines), `text` (which lines are texts).
+//! Modules: `fault`, `turns` (how many lines may still be read), `reader` (sources of lines), `writer` (targets of
+//! texts); `lines` (one line of a reader), `text` (which lines are texts).
 #![tactic(auto)]
 
 mod fault;

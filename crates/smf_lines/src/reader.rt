@@ -7,22 +7,22 @@ use crate::fault::ReadFault;
 use crate::reading::{Part, keep, part_of};
 use std::io::{BufRead, ErrorKind};
 
-/// What lines are read from, and what is known of its reads.
+/// A source of lines, and the known facts of its reads.
 pub trait LineReader {
-    /// The bytes that reads will give from here on, where they are known.
+    /// The bytes that reads will give from here on, if they are known.
     ghost remaining: { Self → Option (List ℕ) };
 
     /// How many reads were interrupted.
     ghost interrupted: { Self → ℕ };
 
-    /// Whether a read has failed.
+    /// True if a read has failed.
     ghost has_failed: { Self → Bool };
 
     /// With which errors a read may fail.
     ghost read_fails: { Error → Type 0 };
 
-    /// Takes bytes of a line that has room for so many, and keeps them behind those that were kept of it before: of a line no
-    /// more than 65,537. An interrupted read takes none, and is no fault.
+    /// Takes bytes of a line that has room for so many, and keeps them after those that were kept of it before. It
+    /// keeps no more than 65,537 bytes of a line. An interrupted read takes none, and is no fault.
     fn take_part(&mut self, room: usize, line: &mut Vec<u8>) -> Result<Part, ReadFault>
         requires { length line.old.items ≤ 65537 }
         ensures short { length line.new.items ≤ 65537 }
@@ -34,7 +34,7 @@ pub trait LineReader {
         ensures fault { IfErr result (λ e. IsUnread read_fails e) };
 }
 
-/// The bytes behind so many.
+/// The bytes after the first `count`.
 fn behind(bytes: &[u8], count: usize) -> &[u8]
     requires { count ≤ length bytes.now }
     ensures { result.now ≡ drop count bytes.now }

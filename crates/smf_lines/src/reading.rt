@@ -9,7 +9,7 @@ use crate::text::MAX_LINE;
 use crate::turns::Turns;
 use std::alloc::{AllocError, Global};
 
-/// What a look at a reader took.
+/// The part that a look at a reader took.
 #[derive(Clone, Copy)]
 pub enum Part {
     /// Nothing, since the read was interrupted.
@@ -18,7 +18,7 @@ pub enum Part {
     End,
     /// So many bytes and the end of their line.
     Line(usize),
-    /// So many bytes of a line that goes on. It is none only where the line has no room for more.
+    /// So many bytes of a line that goes on. It is none only if the line has no room for more.
     Bytes(usize),
 }
 
@@ -94,7 +94,7 @@ impl Part {
 /// The most bytes that are kept of a line: one that is too long shows itself.
 const KEPT: usize = MAX_LINE + 1;
 
-/// Keeps bytes behind those that were kept of their line before.
+/// Keeps bytes after those that were kept of their line before.
 pub(crate) fn keep(line: &mut Vec<u8>, bytes: &[u8]) -> Result<(), AllocError>
     requires { length line.old.items ≤ 65537 }
     ensures ok { OnOk result (line.new.items ≡ kept (line.old.items ++ bytes.now)) }

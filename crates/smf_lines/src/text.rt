@@ -6,7 +6,7 @@ use std::str;
 /// The most bytes of a line.
 pub(crate) const MAX_LINE: usize = 65_536;
 
-/// The text of a line, which stands without its end; none where it is too long or is no UTF-8.
+/// The text of a line, which stands without its end; none if it is too long or is no UTF-8.
 pub fn text_in(line: &[u8]) -> Option<&str>
     ensures { option_map (λ x. x.now) result ≡ text_in line.now }
 {

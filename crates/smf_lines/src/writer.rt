@@ -5,15 +5,15 @@ ghost use Rattle.std_io.specs.declared.io.error.Error.{Error};
 use std::io;
 use std::io::Write;
 
-/// What texts are written to, and what is known of its writes.
+/// A target of texts, and the known facts of its writes.
 pub trait TextWriter {
-    /// The bytes that it holds, where they are known.
+    /// The bytes that it holds, if they are known.
     ghost contents: { Self → Option (List ℕ) };
 
     /// With which errors a write may fail.
     ghost write_fails: { Error → Type 0 };
 
-    /// Writes a text. Nothing is known of what is held where that fails.
+    /// Writes a text. If that fails, nothing is known of the bytes that it holds.
     fn write_text(&mut self, text: &[u8]) -> io::Result<()>
         ensures ok { OnOk result (Appends (contents self.old) (contents self.new) text.now) }
         ensures fault { IfErr result (λ e. write_fails e) };

@@ -1,5 +1,5 @@
--- What an event makes can be installed: what is changed is what a command asks for, there is one command at most, and
--- one thing that becomes of the restarters.
+-- The work of each event can be installed. Its changes are those that its command asks for. It has one command at most,
+-- and one thing becomes of the restarters.
 use Rattle.std.proofs.Common.{◌≡◌, ◌⊎◌, inl, inr, ℕ, ◌==◌, List, [], ◌∷◌, Bool, true, false, Option, Some, None, refl, subst, sym, ap}
 use Rattle.std.specs.Prelude.{find, is_some}
 use Rattle.smf_contract.specs.declared.call.ContractCall.{ContractCall}

@@ -87,7 +87,7 @@ boot_refused w k fails is e = inr (refl, boot_limit w.now (ap is_done (sym (boot
 pub boot_undone : (w : World) (k : Work) (fails : RepoFault → Type 0) (e : MachineFault) → k ≡ worked w events.Boot → IsUndone fails k.changes e → IsUnbooted fails w.now e
 boot_undone w k fails e is h = inl (subst (λ xs. IsUndone fails xs e) (boot_changes w k is) h)
 
--- what the exit of a `?` gives
+-- a fault that a `?` passes on keeps what holds of it
 pub passed_on : {X : Type 0} (r : Result X MachineFault) (e : MachineFault) (P : MachineFault → Type 0) → IsErrAnd r (λ y. y ≡ e) → P e → IfErr r P
 passed_on (Ok x) e P q p = tt
 passed_on (Err y) e P q p = subst P (sym q) p

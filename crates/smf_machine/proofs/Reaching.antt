@@ -1,4 +1,4 @@
--- What every world knows that events reach: numbers were given once, and names are apart.
+-- In every world that events reach, numbers were given once, and names are apart.
 use Rattle.std.proofs.Common.{◌≡◌, ℕ, List, [], ◌∷◌, ◌++◌, Bool, true, false, cond, Option, Some, None, map, refl, subst, sym, ap, ◌∙◌}
 use Rattle.std.proofs.Common.{ap₂}
 use Rattle.std.proofs.lemmas.Bool.{eqb-false, eqb-true}

@@ -1,4 +1,4 @@
--- What is seen of a name.
+-- A name, as a look at it shows it.
 use Rattle.std.proofs.Common.{◌≡◌, ℕ, List, Ok, refl}
 use Rattle.std.specs.Str.{IsUtf8}
 use Rattle.smf_fmri.specs.Name.{read}

@@ -1,4 +1,4 @@
--- What children tell, as the world behind it.
+-- The events that children tell, and the worlds after them.
 use Rattle.std.proofs.Common.{◌≡◌, ℕ, List, [], ◌∷◌, ◌++◌, map, Option, None, Some, Result, Ok, Err, refl, sym, subst, ap, ◌∙◌}
 use Rattle.std.specs.Prelude.{reverse}
 use Rattle.smf_contract.proofs.After.{call_keeps, calls_order}

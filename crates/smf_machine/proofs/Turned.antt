@@ -1,4 +1,4 @@
--- A work that is made where children made a call.
+-- A work that is made if children made a call.
 use Rattle.std.proofs.Common.{◌≡◌, ◌⊎◌, inl, inr, ◌<◌, ℕ, Bool, true, false, List, [], ◌∷◌, length, map, Option, None, Some, Result, Ok, Err, IfOk, OnErr, OnOk, refl, sym, subst, ap, ◌∙◌, arith}
 use Rattle.smf_contract.specs.declared.event.Event.{Event as ContractEvent}
 use Rattle.smf_edge.specs.Answers.{Seen}
@@ -93,7 +93,7 @@ by_undone : (fails : RepoFault → Type 0) (cs : List Change) (e : MachineFault)
 by_undone fails cs e plain (inl is) = is
 by_undone fails cs e plain (inr h) = absurd (none_written cs plain h.2)
 
--- where a turn cannot be taken there was no memory
+-- if a turn cannot be taken, memory ran out
 pub memory_only : (fails : RepoFault → Type 0) (w : World) (name : List ℕ) (n : ℕ) (a : SpawnAnswer) (k : Work) (f : MachineFault) → k ≡ worked w (events.Tick name n a) → IsUndone fails k.changes f → f ≡ Memory
 memory_only fails w name n a k f is h = by_undone fails k.changes f (tick_plain w (events.Tick name n a) k name n a refl is) h
 

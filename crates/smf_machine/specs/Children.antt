@@ -40,7 +40,7 @@ happens_if false w e = w
 abbrev pub news : ProcessEvent → ℕ → News
 news what p = record { process = p; what = what }
 
--- what an event says of a process; a fork may have come of any member of the contract, which is the same
+-- the news of an event for a process; a fork may have come of any member of the contract, which is the same
 abbrev pub told : Contracts → ℕ → EventKind → Option News
 told t id kinds.Empty = None
 told t id (kinds.Fork p) = option_map (news Fork) (first_member id t.members)
@@ -57,7 +57,7 @@ abbrev pub news_in : Contracts → Option News → Option News
 news_in t None = None
 news_in t (Some n) = news_if (is_some (home t.members n.process)) n
 
--- what it says of a process that has not ended
+-- its news, if the process has not ended
 unfoldable pub news_of : Contracts → Event → Option News
 news_of t e = news_in t (told t e.contract e.kind)
 
@@ -70,7 +70,7 @@ abbrev pub heard : Option Event → World → World
 heard None w = w
 heard (Some e) w = happened (news_of w.table e) w
 
--- the contract that a process was in, where it has no members now
+-- the contract that a process was in, if it has no members now
 abbrev pub emptied_one : List Member → Option ℕ → List ℕ
 emptied_one ms None = []
 emptied_one ms (Some id) = if has_members id ms then [] else id ∷ []

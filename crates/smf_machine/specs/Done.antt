@@ -12,7 +12,7 @@ use Rattle.smf_world.specs.Happens.{happens}
 use Rattle.smf_world.specs.Worked.{sent_at, worked}
 use Rattle.smf_world.specs.World.{World}
 
--- an event happened, and its command had this reply, where it is one
+-- an event happened; if it is a command, it had this reply
 pub record IsDone (before : World) (event : Event) (after : World) (reply : List Reply) : Type 0 where
   pub made : after ≡ happens before event
   pub said : reply ≡ (worked before event).reply

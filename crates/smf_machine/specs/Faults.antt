@@ -10,7 +10,7 @@ use Rattle.smf_model.specs.Next.{asked}
 use Rattle.smf_machine.specs.declared.fault.MachineFault.{MachineFault}
 use Rattle.smf_machine.specs.declared.fault.MachineFault.TheVariants.{Memory, Database, Limit}
 
--- what a fault of the repository is to the machine
+-- the machine's fault for a fault of the repository
 abbrev pub fault_of : RepoFault → MachineFault
 fault_of journals.Memory = Memory
 fault_of journals.Database = Database

@@ -30,7 +30,7 @@ abbrev pub is_done : List CommandReply → Bool
 is_done (replies.Done ∷ rs) = true
 is_done _ = false
 
--- what a restarter knows behind its call, by what its reply changes
+-- the change of a restarter after its call, from the change of its reply
 abbrev pub change_behind : World → Knowledge → ℕ → KnowledgeChange → Call → Answer → KnowledgeChange
 change_behind w k n change asks.Nothing a = change
 change_behind w k n change asks.List a = listed k (statuses w.table)
@@ -42,7 +42,7 @@ change_behind w k n change (asks.Kill c) a = change
 abbrev pub known_behind : World → Knowledge → ℕ → KnowledgeChange → Call → Answer → List Becomes
 known_behind w k n change call a = knows k (change_behind w k n change call a)
 
--- what the trail shows of a turn: rows that are taken, methods that are begun in a contract, and what a call empties
+-- the trail's items for a turn: rows taken, methods begun in a contract, and contracts that a call empties
 abbrev pub acted_items : World → Knowledge → List Known → Option ℕ → List Begun → ContractCall → List Item
 acted_items w k taken contract begun call = held_items k taken ++ begun_items contract begun ++ emptied_items w.table call
 

@@ -77,7 +77,7 @@ pub record HasRoomLeft (p : Parts) (k : Rest) : Type 0 where
   pub becomes : RoomForAll k.becomes p.restarters.items
   pub call : p.table.room ≡ true
 
--- what is left of a work when the repository has committed
+-- the rest of a work when the repository has committed
 abbrev pub rest_of : Work → Rest
 rest_of k =
     record {
@@ -102,14 +102,14 @@ rest_with ks spawns.Made = ks.made
 rest_with ks spawns.Refused = ks.refused
 rest_with ks spawns.NotFollowed = ks.not_followed
 
--- what has room for the second has room for the first
+-- room for the second work is room for the first
 pub record IsCovered (small big : Work) : Type 0 where
   pub commands : length small.command ≤ length big.command
   pub items : length small.items ≤ length big.items
   pub messages : length small.messages ≤ length big.messages
   pub becomes : (rs : List Kept) → RoomForAll big.becomes rs → RoomForAll small.becomes rs
 
--- what has room for a process that is made has room for what comes of any other answer
+-- room for the work of a process that is made is room for the work of any other answer
 abbrev pub AreCovered : SpawnWorks → Type 0
 AreCovered ks = (a : SpawnAnswer) → IsCovered (work_with ks a) ks.made
 
@@ -127,8 +127,8 @@ AreOf h (c ∷ []) [] = ⊥
 AreOf h (c ∷ []) (x ∷ xs) = (installed h (x ∷ xs) ≡ (next h c).0) × ((next h c).0.revision ≡ h.revision + 1)
 AreOf h (c ∷ d ∷ cs) xs = ⊥
 
--- numbers stay given once, names are apart, there is one command at most and it made the changes, and one thing that
--- becomes of the restarters; the graph's view is not patched
+-- numbers stay given once, and names are apart. One command at most made the changes, and one thing at most becomes of
+-- the restarters. The graph's view is not patched
 pub record CanInstall (h : Holdings) (ks : List Knowledge) (k : Work) : Type 0 where
   pub numbered : IsNumbered (installed h k.changes)
   pub apart : NoTwins ks

@@ -20,7 +20,7 @@ abbrev pub NoTwins : List Knowledge → Type 0
 NoTwins [] = Unit {0}
 NoTwins (k ∷ ks) = NoneNamed k.name ks × NoTwins ks
 
--- what is launched was not launched before
+-- a restarter that is launched was not launched before
 abbrev pub IsFresh : List Knowledge → Becomes → Type 0
 IsFresh ks (Knows name c) = Unit {0}
 IsFresh ks (Launched name actor launch) = is_some (find (is_named name) ks) ≡ false

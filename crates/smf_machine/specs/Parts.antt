@@ -14,12 +14,12 @@ knowledge r = r.known
 abbrev pub history_of : Parts → History
 history_of p = record { first = p.first; past = reverse p.commands.items }
 
--- what the repository holds is the newest value of a history, and its record is of the history's commands
+-- the repository holds the newest value of a history, and its record is of the history's commands
 pub record IsLinked (h : Holdings) (nss : List (List ℕ)) (y : History) : Type 0 where
   pub newest : h ≡ made y.first y.past
   pub lists : nss ≡ recent y.first y.past
 
--- what the repository holds, and the rest
+-- the world of what the repository holds and of the other parts
 unfoldable pub world_of : Holdings → Parts → World
 world_of h p =
     record {

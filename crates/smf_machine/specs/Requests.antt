@@ -1,4 +1,4 @@
--- What the turn of a restarter for an instance asks of who runs methods.
+-- The request of a restarter's turn for an instance to whoever runs methods.
 use Rattle.std.specs.Prelude.{ℕ, ◌==◌, List, [], ◌∷◌, find, Bool, true, false, Option, Some, None}
 use Rattle.smf_contract.specs.declared.contract.Contract.{Contract}
 use Rattle.smf_contract.specs.declared.contract.Holder.{Holder}
@@ -40,7 +40,7 @@ is_holder actor (Held a) = a == actor
 is_holder actor Inherited = false
 is_holder actor Abandoned = false
 
--- whether an actor holds a contract
+-- an actor holds a contract
 abbrev pub is_held_by : ℕ → Option Contract → Bool
 is_held_by actor (Some c) = is_holder actor c.holder
 is_held_by actor None = false

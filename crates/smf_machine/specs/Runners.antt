@@ -17,7 +17,7 @@ use Rattle.smf_machine.specs.declared.requests.Ask.TheVariants.{Nothing, Unnumbe
 use Rattle.smf_machine.specs.Children.{happens_if, run_for}
 use Rattle.smf_machine.specs.Requests.{asked}
 
--- what is answered to a spawn, to a kill and to a question for an event, by what was seen before and after
+-- the rules for the answers to a spawn, to a kill and to a question for an event, by what was seen before and after
 pub record Rules : Type 1 where
   pub spawns : Wanted → SpawnAnswer → Seen → Seen → Type 0
   pub kills : ℕ → Bool → Seen → Seen → Type 0
@@ -25,7 +25,7 @@ pub record Rules : Type 1 where
 
 -- ---- children
 
--- a spawn is made where the service is followed; else, or where a run may be refused, nothing is made
+-- a spawn is made if the service is followed. Nothing is made if it is not followed, or if the run is refused
 abbrev pub HasSpawned : Skills → Wanted → SpawnAnswer → Ledger → Ledger → Type 0
 HasSpawned k w spawns.Made l m = (k.follows w.style ≡ true) × IsSpawned (run_for w) l m
 HasSpawned k w spawns.Refused l m = (k.follows w.style ≡ true) × k.may_refuse l w.contract × (m ≡ l)
@@ -46,7 +46,7 @@ rules_of k = record { spawns = λ w a s t. HasSpawned k w a s.ledger t.ledger; k
 
 -- ---- nobody
 
--- what is seen of nobody
+-- nobody keeps anything, and no device failed
 abbrev pub unseen : Seen
 unseen = record { ledger = record { notes = []; table = empty; due = []; pending = [] }; failures = 0 }
 

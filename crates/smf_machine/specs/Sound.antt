@@ -1,10 +1,10 @@
--- What every machine's world is.
+-- The laws of every machine's world.
 use Rattle.smf_world.specs.Formed.{IsFormed}
 use Rattle.smf_world.specs.Reached.{IsReached}
 use Rattle.smf_world.specs.Spelled.{AreSpelled}
 use Rattle.smf_world.specs.World.{World}
 
--- events behind an accepted boot make it, groups that are held are what a body may hold, and each message that was sent
+-- events after an accepted boot make it. Groups that are held are such as a body may hold. Each message that was sent
 -- is read again from its line
 pub record IsSound (w : World) : Type 0 where
   pub reached : IsReached w

@@ -74,7 +74,7 @@ fn row_if(same: bool, instance: &Instance) -> Option<Item>
     if same { None } else { Some(row_item(instance)) }
 }
 
-/// What the trail shows of a row that takes the place of one of this number.
+/// The trail's item for a row that takes the place of one of this number. There is none if the number stays the same.
 fn row_beside(before: Option<u64>, instance: &Instance) -> Option<Item>
     ensures { result ≡ row_beside before instance.now }
 {
@@ -123,7 +123,7 @@ pub(crate) fn is_done(replies: &[Reply]) -> bool
     matches!(replies.first(), Some(Reply::Done))
 }
 
-/// Where a boot was accepted no restarter is left, and no contract, and the graph has seen nothing.
+/// After an accepted boot no restarter and no contract is left, and the graph has seen nothing.
 #[tactic(auto, using(crate::proofs::Given::booted_done, crate::proofs::Given::booted_else))]
 pub(crate) fn booted(alloc: Global, mut work: Work) -> Result<Work, AllocError>
     ensures { IfOk result (λ k. k ≡ booted work) }
@@ -152,7 +152,7 @@ impl<J: Journal> System<J> {
         }
     }
 
-    /// What the trail shows of changes, behind what it shows already.
+    /// Adds the changes to the trail's items.
     fn push_items(
         &self,
         changes: &[Change],
@@ -229,7 +229,7 @@ impl<J: Journal> System<J> {
         }
     }
 
-    /// A restarter begins, where its launch was accepted.
+    /// A restarter begins if its launch was accepted.
     pub(crate) fn launched(&self, name: &InstanceFmri, mut work: Work) -> Result<Work, AllocError>
         ensures { IfOk result (λ k. k ≡ launched self.now name.now work) }
     {

@@ -46,7 +46,7 @@ fn copy_of_row(row: &Option<SharedRow>) -> Result<Option<SharedRow>, AllocError>
     }
 }
 
-/// What a proposal is answered. A number at its limit has no answer.
+/// The answer to a proposal. A number at its limit has no answer.
 fn answer_to(
     alloc: Global,
     proposal: &Proposal,
@@ -119,7 +119,7 @@ fn shown_to_graph(alloc: Global, view: &View) -> Result<Work, AllocError>
     Ok(work)
 }
 
-/// What changed of the graph's view is given to it.
+/// The graph is given the changes of its view.
 fn patching(alloc: Global, changes: &ViewChanges) -> Result<Work, AllocError>
     ensures { IfOk result (λ k. k ≡ record no_work { patches = changes.now ∷ [] }) }
 {
@@ -130,7 +130,7 @@ fn patching(alloc: Global, changes: &ViewChanges) -> Result<Work, AllocError>
 }
 
 impl<J: Journal> System<J> {
-    /// The rows of a restarter, where the launch is its last one.
+    /// The rows of a restarter, if the launch is its last one.
     fn joined(&self, name: &InstanceFmri, launch: u64) -> Result<Work, AllocError>
         ensures { IfOk result (λ k. k ≡ joined self.now name.now launch (launch == launch_of self.now.now name.now)) }
     {

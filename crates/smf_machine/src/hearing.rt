@@ -31,7 +31,7 @@ fn about(what: ProcessEvent, process: Number) -> News
     News { process, what }
 }
 
-/// What an event says of a process. Of whom a fork came it does not say.
+/// The news of an event for a process. A fork names no parent, so the first member of the contract stands for it.
 fn told(table: &Table, id: Number, kind: EventKind) -> Option<News>
     ensures { result ≡ told table.now.table id kind }
 {
@@ -54,7 +54,7 @@ fn news_if(is_member: bool, news: News) -> Option<News>
     if is_member { Some(news) } else { None }
 }
 
-/// What an event says of a process that has not ended. Of the events that something brings the first says it all, and the
+/// The news of an event, if its process has not ended. If one thing brings several events, the first says it all. The
 /// others name processes that have ended.
 #[tactic(auto, unfolding(crate::specs::Children::news_of))]
 fn news_of(table: &Table, event: &Event) -> Option<News>
@@ -66,7 +66,7 @@ fn news_of(table: &Table, event: &Event) -> Option<News>
     }
 }
 
-/// The contract that a process was in, where it has no members now.
+/// The contract that a process was in, if it has no members now.
 fn emptied(table: &Table, home: Option<Number>) -> Option<Number>
     ensures { option_to_list result ≡ emptied_one table.now.table.members home }
 {
@@ -77,7 +77,7 @@ fn emptied(table: &Table, home: Option<Number>) -> Option<Number>
     Some(id)
 }
 
-/// What the trail shows of a contract that was emptied.
+/// Shows a contract that was emptied in the trail.
 fn show(trail: &mut Vec<Item>, id: Option<Number>)
     requires { vec_len trail.old < vec_capacity trail.old }
     ensures { trail.new.items ≡ trail.old.items ++ map (λ c. EmptiedItem c) (option_to_list id) }
@@ -100,7 +100,7 @@ fn pass(parts: &mut Parts, process: Number, what: ProcessEvent)
     show(&mut parts.trail, id);
 }
 
-/// What children tell happens, for which there is room.
+/// The event that children tell happens. There is room for it.
 #[tactic(auto, unfolding(crate::specs::Parts::world_of))]
 fn learn(parts: &mut Parts, event: &Event)
     requires table { parts.old.table.room ≡ true }

@@ -24,7 +24,7 @@ use smf_wire::Message;
 use smf_world::{Becomes, Item, Work};
 use std::alloc::{AllocError, Global};
 
-/// What an event makes, the repository aside.
+/// The work of an event, the repository aside.
 #[derive(Drop)]
 pub(crate) struct Rest {
     command: Items<Command>,
@@ -147,7 +147,7 @@ pub(crate) fn install(alloc: Global, parts: &mut Parts, work: Rest)
     parts.messages.append(&mut messages.into_vec()).unwrap();
 }
 
-/// What is left of a work when the repository has committed.
+/// The rest of a work when the repository has committed.
 pub(crate) fn into_rest(work: Work) -> Rest
     ensures { result ≡ rest_of work }
 {

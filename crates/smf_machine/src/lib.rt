@@ -1,9 +1,11 @@
-//! The machine: what happens to it is worked out first, and then installed. Room is made before anything changes, the
-//! repository commits, and what is left to do cannot fail. So children are called once there is room for what comes of it.
-//! Modules: `parts` (the actors, seen as the world), `commanding` (what a command makes), `replying` (what the reply of
-//! a restarter makes), `received` (messages as their lines read), `delivering`, `working` (events), `room`, `installing`,
-//! `children` (the process that is asked for), `requests` (what a turn asks for), `runner` (who runs methods), `hearing` (what children tell), `turning`
-//! (turns with their answers), `seeing` (what the types let be held and asked), `machine`, `fault`.
+//! The machine works out first what an event makes, and then installs it. It makes room before anything changes, the
+//! repository commits, and what is left to do cannot fail. So children are called once there is room for what comes of
+//! it.
+//! Modules: `parts` (the actors, seen as the world); `command_work` (what a command makes); `reply_work` (what the reply of
+//! a restarter makes); `received` (messages as their lines read); `deliveries`; `event_work` (events); `room`;
+//! `installation`; `children` (the process that is asked for); `requests` (what a turn asks for); `runner` (who runs
+//! methods); `polls` (what children tell); `turns` (turns with their answers); `type_facts` (what the types let be held
+//! and asked); `patches` (changes that the graph takes); `machine`; `fault`.
 #![tactic(auto)]
 
 mod children;

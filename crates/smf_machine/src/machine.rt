@@ -39,8 +39,8 @@ use std::alloc::{AllocError, Global};
 use std::marker::Model;
 
 /// The repository, svc.startd's graph, the restarters, their messages, the contracts and the trail. Contracts see the
-/// world. A machine's world is always one that some events behind an accepted boot make. What is held then has groups
-/// that a body may hold, and each message that was sent is read again from its line.
+/// world. A machine's world is always one that events after an accepted boot make. The groups that it holds are such as
+/// a body may hold. Each message that was sent is read again from its line.
 #[derive(Drop)]
 pub struct Machine<J: Journal> {
     system: System<J>,
@@ -58,7 +58,7 @@ impl<J: Journal> Model for Machine<J> {
 }
 
 impl<J: Journal> System<J> {
-    /// What was found boots. `Limit` where a row or a launch has no next number.
+    /// Boots what was found. `Limit` if a row or a launch has no next number.
     fn boot(&mut self) -> Result<(), MachineFault>
         requires numbered { IsNumbered self.old.now }
         requires apart { NoTwins self.old.restarters }
@@ -75,7 +75,7 @@ impl<J: Journal> System<J> {
         Ok(())
     }
 
-    /// Whether the restarter of a name is launched, and does not take orders yet.
+    /// True if the restarter of a name is launched, and does not take orders yet.
     fn is_beginning(&self, name: &InstanceFmri) -> bool
         ensures { result ≡ is_beginning (restarter self.now name.now) }
     {
@@ -85,7 +85,7 @@ impl<J: Journal> System<J> {
         }
     }
 
-    /// Whether an event is the delivery of an order that its restarter lets go, since it does not take orders yet.
+    /// True if an event delivers an order that its restarter drops, since it does not take orders yet.
     fn is_let_go(&self, event: &Event) -> bool
         ensures { result ≡ true → IsDone self.now event.now self.now [] }
     {
@@ -158,8 +158,8 @@ impl<J: Journal> System<J> {
 }
 
 impl<J: Journal> Machine<J> {
-    /// Boots what was found. A fault hands the repository back, as it was; `Limit` where a row or a launch has no next
-    /// number, and `Memory` also where an owner has 2^32 groups, which no body may hold.
+    /// Boots what was found. A fault hands the repository back, as it was. `Limit` if a row or a launch has no next
+    /// number. `Memory` also if an owner has 2^32 groups, which no body may hold.
     pub fn new(alloc: Global, repository: Plain<J>) -> Result<Machine<J>, (MachineFault, Plain<J>)>
         ensures ok { IfOk result (λ m. m ≡ happens (found repository.held) events.Boot) }
         ensures safe { IfOk result (λ m. IsSafe m) }
@@ -181,8 +181,7 @@ impl<J: Journal> Machine<J> {
         }
     }
 
-    /// An event happens: all that it makes is made, or nothing. What is given back is the reply to its command, where
-    /// it is one.
+    /// An event happens: all that it makes is made, or nothing. If the event is a command, its reply is given back.
     pub fn happen(&mut self, event: &Event) -> Result<Items<Reply>, MachineFault>
         ensures ok { IfOk result (λ r. IsDone self.old event.now self.new r) }
         ensures err { OnErr result (self.new ≡ self.old) }
@@ -193,8 +192,8 @@ impl<J: Journal> Machine<J> {
         self.system.happen(event)
     }
 
-    /// A restarter has its turn for an instance, with the answer to what it asks for: room is made for what comes of each
-    /// answer before it is asked, so a fault leaves both as they were. A kill that is not done is owed again.
+    /// A restarter has its turn for an instance, with the answer to what it asks for. The machine makes room for what
+    /// comes of each answer before it asks. So a fault leaves both as they were. A kill that is not done is owed again.
     pub fn tick<R: Runner>(
         &mut self,
         runner: &mut R,
@@ -245,7 +244,8 @@ impl<J: Journal> Machine<J> {
         self.system.keep_view()
     }
 
-    /// Whether svc.startd's graph would order nothing of what is held. It looks at what changed since the view that it holds.
+    /// True if svc.startd's graph would order nothing of what is held. It looks at what changed since the view that it
+    /// holds.
     pub fn has_no_orders(&mut self) -> Result<bool, AllocError>
         ensures same { self.new ≡ self.old }
         ensures nothing { IfOk result (λ b. b ≡ has_no_orders (view self.old.now)) }

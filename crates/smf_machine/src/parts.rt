@@ -28,7 +28,7 @@ use std::marker::Model;
 /// All actors but the repository, and what was seen of them.
 #[derive(Drop)]
 pub struct Parts {
-    /// What the repository held when it was found.
+    /// The tables of the repository when it was found.
     pub(crate) first: Tables,
     /// The accepted commands since.
     pub(crate) commands: Vec<Command>,
@@ -108,14 +108,14 @@ fn actor_in(restarters: &[Restarter], actor: u64) -> Option<&Restarter>
 
 #[tactic(auto, unfolding(crate::specs::Parts::world_of))]
 impl<J: Journal> System<J> {
-    /// What a command asks to change, and its reply.
+    /// The changes that a command asks for, and its reply.
     pub(crate) fn asked(&self, command: &Command) -> Result<Outcome, AllocError>
         ensures { IfOk result (λ r. r ≡ asked self.now.now command.now) }
     {
         self.repository.plain().asked(command)
     }
 
-    /// The number of the row of an instance, where it is there.
+    /// The number of the row of an instance, if it is there.
     pub(crate) fn row_number(&self, number: u64) -> Option<u64>
         ensures { result ≡ option_map (λ i. i.row.number) (instance self.now.now number) }
     {
@@ -147,7 +147,7 @@ impl<J: Journal> System<J> {
         self.repository.plain().view()
     }
 
-    /// The repository's revision and what changed since another, where that is known.
+    /// The repository's revision and what changed since another, if that is known.
     pub(crate) fn changes_since(
         &self,
         from: u64,
@@ -171,7 +171,7 @@ impl<J: Journal> System<J> {
         self.parts.engine.decide_all(self.alloc)
     }
 
-    /// What the graph asks the repository.
+    /// The graph's question to the repository.
     pub(crate) fn question(&self) -> Message
         ensures { result ≡ question self.now.seen }
     {
@@ -185,7 +185,7 @@ impl<J: Journal> System<J> {
         self.parts.engine.look(self.alloc)
     }
 
-    /// Whether nothing is ordered of what is held. The graph looks at all of it.
+    /// True if nothing is ordered of what is held. The graph looks at all of it.
     fn shows_no_orders(&mut self) -> Result<bool, AllocError>
         ensures same { self.new ≡ self.old }
         ensures nothing { IfOk result (λ b. b ≡ has_no_orders (view self.old.now)) }
@@ -199,7 +199,7 @@ impl<J: Journal> System<J> {
         }
     }
 
-    /// Whether nothing is ordered of what is held. The graph looks at what changed since the view that it holds.
+    /// True if nothing is ordered of what is held. The graph looks at what changed since the view that it holds.
     pub(crate) fn has_no_orders(&mut self) -> Result<bool, AllocError>
         requires { IsReached self.old }
         ensures same { self.new ≡ self.old }

@@ -39,7 +39,7 @@ pub(crate) fn knowing(
     Ok(work)
 }
 
-/// What the trail shows of the rows that a restarter takes.
+/// The trail's items for the rows that a restarter takes.
 fn held_items(
     alloc: Global,
     restarter: &Restarter,
@@ -74,7 +74,7 @@ fn begun_item(contract: u64, begun: &Begun) -> Result<Item, AllocError>
     })
 }
 
-/// The methods that are begun in a contract, behind what the trail shows already.
+/// Adds the methods that are begun in a contract to the trail's items.
 fn push_begun(
     mut items: Items<Item>,
     contract: u64,
@@ -101,7 +101,7 @@ fn begun_items(
     }
 }
 
-/// Contracts that were emptied, behind what the trail shows already.
+/// Adds contracts that were emptied to the trail's items.
 fn push_emptied(mut items: Items<Item>, ids: &[Number]) -> Result<Items<Item>, AllocError>
     ensures { IfOk result (λ all. all ≡ items ++ map (λ c. EmptiedItem c) ids.now) }
 {
@@ -111,7 +111,7 @@ fn push_emptied(mut items: Items<Item>, ids: &[Number]) -> Result<Items<Item>, A
     Ok(items)
 }
 
-/// What a call empties, behind what the trail shows already.
+/// Adds the contracts that a call empties to the trail's items.
 fn emptied_items(
     items: Items<Item>,
     table: &Table,
@@ -147,7 +147,7 @@ fn is_inherited(holder: Holder) -> bool
     }
 }
 
-/// Whether a contract would be adopted.
+/// The answer to an adoption. A contract can be adopted only if it is inherited.
 #[tactic(auto, unfolding(smf_contract::specs::Calls::adopted))]
 fn adopt_answer(table: &Table, actor: u64, contract: Number) -> Answer
     ensures { result ≡ adopt_answer contract (adopted table.now.table actor contract) }
@@ -175,7 +175,7 @@ fn spawn_answer(spawn: SpawnAnswer, next: Option<Number>) -> Answer
     }
 }
 
-/// What becomes of what a restarter asks for.
+/// The answer to a restarter's call.
 #[tactic(auto, unfolding(smf_world::specs::Worked::answer_of))]
 fn answer_of(table: &Table, actor: u64, spawn: SpawnAnswer, call: &Call) -> Answer
     ensures { result ≡ answer_of table.now.table actor spawn call.now }
@@ -240,7 +240,7 @@ fn begun_in(call: &Call, answer: &Answer) -> Option<u64>
 
 // ---- replies
 
-/// What a restarter makes of a message.
+/// The work of a restarter's reply to a message.
 #[tactic(auto, unfolding(smf_world::specs::Worked::heard_by))]
 fn heard_by(alloc: Global, restarter: &Restarter, reply: Reply) -> Result<Work, AllocError>
     ensures { IfOk result (λ k. k ≡ heard_by restarter.now.known reply) }
@@ -272,7 +272,7 @@ impl<J: Journal> System<J> {
         heard_by(self.alloc, restarter, reply)
     }
 
-    /// What a restarter knows behind its call.
+    /// The change of a restarter after its call.
     fn change_behind(
         &self,
         restarter: &Restarter,
@@ -311,7 +311,7 @@ impl<J: Journal> System<J> {
         knows(self.alloc, restarter, change)
     }
 
-    /// What the trail shows of a turn: the rows that are taken, the method that is begun in a contract, and what the call
+    /// The trail's items for a turn: the rows taken, the method begun in a contract, and the contracts that the call
     /// empties.
     fn acted_items(
         &self,
@@ -328,7 +328,7 @@ impl<J: Journal> System<J> {
         emptied_items(items, self.table(), made)
     }
 
-    /// What a restarter makes of its turn, for itself (0) or for an instance.
+    /// The work of a restarter's turn, for itself (0) or for an instance.
     #[tactic(auto, unfolding(smf_world::specs::Worked::acted))]
     fn acted(
         &self,

@@ -13,7 +13,7 @@ use smf_model::Journal;
 use smf_restarter::{Begun, Call, KnownInstance, Restarter};
 use std::alloc::AllocError;
 
-/// What the turn of a restarter for an instance asks of who runs methods.
+/// The request of a restarter's turn for an instance to whoever runs methods.
 #[derive(Drop)]
 pub enum Ask {
     Nothing,
@@ -24,7 +24,7 @@ pub enum Ask {
     Kill(Number),
 }
 
-/// Where the instance of a number stands, or else where it belongs.
+/// The place of the instance of a number, or else the place that it belongs at.
 fn place_of(instances: &[KnownInstance], instance: u64) -> Result<usize, usize>
     requires { Rises by_instance instances.now }
     ensures { IsPlaced by_instance instance instances.now result }
@@ -69,7 +69,7 @@ fn is_holder(actor: u64, holder: Holder) -> bool
     }
 }
 
-/// Whether an actor holds a contract.
+/// True if an actor holds a contract.
 fn is_held_by(actor: u64, contract: &Option<Contract>) -> bool
     ensures { result ≡ is_held_by actor contract.now }
 {
@@ -141,7 +141,7 @@ fn want_in(
     }
 }
 
-/// What a call of a restarter asks of children.
+/// The request of a restarter's call to whoever runs methods.
 fn asked_by(
     table: &Table,
     restarter: &Restarter,
@@ -177,7 +177,7 @@ fn asked_in(table: &Table, restarter: &Restarter, instance: u64) -> Result<Ask, 
 }
 
 impl<J: Journal> System<J> {
-    /// What the turn of a restarter for an instance asks of who runs methods.
+    /// The request of a restarter's turn for an instance to whoever runs methods.
     #[tactic(auto, unfolding(crate::specs::Requests::asked))]
     pub(crate) fn ask_of(&self, name: &InstanceFmri, instance: u64) -> Result<Ask, AllocError>
         ensures { IfOk result (λ ask. ask ≡ asked self.now name.now instance) }

@@ -17,7 +17,7 @@ fn place_in(restarters: &[Restarter], name: &InstanceFmri) -> Option<usize>
     restarters.iter().position(|r| *r.name() == *name)
 }
 
-/// Where the restarter of a name stands.
+/// The place of the restarter of a name.
 #[tactic(auto, using(crate::proofs::Known::position_known))]
 pub(crate) fn place_of(restarters: &[Restarter], name: &InstanceFmri) -> Option<usize>
     ensures exact { result ≡ position (is_named name.now) (map knowledge restarters.now) }

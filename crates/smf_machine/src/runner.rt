@@ -11,7 +11,7 @@ use std::alloc::AllocError;
 
 /// Who runs the methods that restarters begin. A call fails only for want of memory, and then what is kept stays.
 pub trait Runner {
-    /// What is kept, and how often a device failed.
+    /// The ledger that is kept, and how often a device failed.
     ghost seen: { Self → Seen };
 
     ghost rules: { Rules };

@@ -57,7 +57,7 @@ fn see_edit(edit: &Edit)
     }
 }
 
-/// What a client asks is what the types let be asked.
+/// A client asks only what the types let be asked.
 pub(crate) fn see_event(event: &Event)
     ensures { IsFormedEvent event.now }
 {

@@ -28,7 +28,7 @@ use smf_model::Journal;
 use smf_world::{SpawnAnswer, Work};
 use std::alloc::{AllocError, Global};
 
-/// What a turn makes with each answer to the spawn that it asks for.
+/// The works of a turn, one for each answer to the spawn that it asks for.
 #[derive(Drop)]
 pub(crate) struct SpawnWorks {
     made: Work,
@@ -48,7 +48,7 @@ fn let_go(_works: SpawnWorks) {}
 
 fn let_rests_go(_rests: SpawnRests) {}
 
-/// What is left of each.
+/// The rest of each work.
 fn into_rests(works: SpawnWorks) -> SpawnRests
     ensures { (answer : AnyAnswer) → rest_with result answer ≡ rest_of (work_with works answer) }
 {
@@ -156,7 +156,7 @@ fn kill_with<R: Runner>(
 }
 
 impl<J: Journal> System<J> {
-    /// What the turn of a restarter for an instance makes, with this answer to its spawn.
+    /// The work of a restarter's turn for an instance, with this answer to its spawn.
     #[tactic(auto, unfolding(smf_world::specs::Worked::worked))]
     fn turn_work(
         &self,

@@ -56,7 +56,7 @@ fn reported_by(
 }
 
 impl<J: Journal> System<J> {
-    /// The message at a place is delivered, where there is one: its actor gets what its line reads as.
+    /// The message at a place is delivered, if there is one. Its actor gets what its line reads as.
     fn delivered_at(&self, place: u64) -> Result<Work, AllocError>
         requires { AreSpelled self.now }
         ensures { IfOk result (λ k. k ≡ delivered_if self.now (sent_at self.now place)) }
@@ -174,7 +174,7 @@ impl<J: Journal> System<J> {
         booted(self.alloc, work)
     }
 
-    /// What an event makes, worked out before anything changes.
+    /// The work of an event, worked out before anything changes.
     #[tactic(auto, unfolding(smf_world::specs::Worked::worked))]
     pub(crate) fn worked(&self, event: &Event) -> Result<Work, AllocError>
         requires { AreSpelled self.now }

@@ -16,7 +16,7 @@ pub record IsTaken {A : Type 0} (fields : A → List (List ℕ)) (Is : A → Typ
   pub rest_fits : IsBytes x.1
   pub inside : Is x.0
 
--- where a reader stopped
+-- the place at which a reader stopped
 pub record Stopped {A : Type 0} (fields : A → List (List ℕ)) (Is Good : A → Type 0) (bytes : List ℕ) (left : ℕ) : Type 0 where
   pub before : List (List ℕ)
   pub after : List ℕ
@@ -28,7 +28,8 @@ pub record Stopped {A : Type 0} (fields : A → List (List ℕ)) (Is Good : A �
   pub ending : List (List ℕ)
   pub begun : fields sample ≡ before ++ ending
 
--- a reader and what it reads: what is taken was spelled, what is spelled is read again, and where the reader stops
+-- a reader and its fields: what is taken was spelled, what is spelled is read again, and the reader stops at a wrong
+-- field
 pub record IsCode {A : Type 0} (read : List ℕ → Field A) (fields : A → List (List ℕ)) (Is Good : A → Type 0) : Type 0 where
   pub takes : (bytes : List ℕ) (x : A × List ℕ) → IsBytes bytes → read bytes ≡ Ok x → IsTaken fields Is bytes x
   pub again : (a : A) (rest : List ℕ) → Is a → read (bytes_of (fields a) ++ rest) ≡ Ok (a, rest)

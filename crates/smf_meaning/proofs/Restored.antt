@@ -49,7 +49,7 @@ left_out g (inr s) = by g.non_persistent (is_left_out g.name) (of_system g.name 
     by true s e = refl
     by false s e = ap not e
 
--- a group of a name where it passes
+-- the group of a name, if it passes
 found_in : (p : GroupRecord → Bool) (gs : List GroupRecord) (name : List ℕ) (o : Option GroupRecord) → Rises by_group gs → named_in gs name ≡ o
     → named_in (filter p gs) name ≡ option_filter p o
 found_in p gs name o rises e = lookup_filter by_group p gs name rises ∙ ap (option_filter p) e

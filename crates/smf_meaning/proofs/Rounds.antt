@@ -146,7 +146,7 @@ count_bounded f (x ∷ xs) = by (f x) (count_bounded f xs)
     by true low = omega arith
     by false low = omega arith
 
--- where no more are parked, each is as it was
+-- if no more are parked, each is as it was
 same_count : (f g : Member → Bool) (xs : List Member) → ((m : Member) → f m ≡ true → g m ≡ true)
     → (parked_count f xs < parked_count g xs)
     ⊎ ((parked_count g xs ≡ parked_count f xs) × ((m : Member) → IsAmong m xs → g m ≡ f m))

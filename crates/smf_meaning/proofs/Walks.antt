@@ -319,7 +319,7 @@ placed AreGood text fields before after left are first e =
       place_is = omega arith;
     }
 
--- where a reader stops
+-- the first wrong field is the one at which a reader stops
 pub wrong_stop : (tests : List Test) (AreGood : List (List ℕ) → Type 0) (example : List (List ℕ)) (text : List ℕ) (fields : List (List ℕ)) (left : ℕ)
     → Judges tests AreGood example → AreFieldsOf text fields → (w : StopsAt tests fields left) → AreTested tests AreGood w.before
     → IsWrongField AreGood text (length text - left)
@@ -345,7 +345,7 @@ too_many tests AreGood before [] p some tested = absurd (some refl)
 too_many tests AreGood before (g ∷ gs) p some tested =
     λ rest good. let none : g ∷ rest ≡ [] = pass_all tests before (g ∷ rest) (tested (g ∷ rest) good) p in cc
 
--- where more stands after the fields that a reader has read
+-- the first wrong field is the one after all fields that a reader has read
 pub wrong_rest : (tests : List Test) (AreGood : List (List ℕ) → Type 0) (example : List (List ℕ)) (text : List ℕ) (fields : List (List ℕ)) (rest : List ℕ)
     → Judges tests AreGood example → AreFieldsOf text fields → (w : GoesPast tests fields (Some rest)) → AreTested tests AreGood w.before
     → IsWrongField AreGood text (length text - length rest)

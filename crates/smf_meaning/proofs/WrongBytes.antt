@@ -28,7 +28,7 @@ record Told (p : Place) (at : ℕ) (text : List ℕ) (place : ℕ) : Type 0 wher
   first : IsFirstWrong (Reads p at) text before after
   place_is : place ≡ at + length before
 
--- the last byte that may come: a letter where a component is to begin
+-- the last byte that may come: a letter, if a component is to begin
 abbrev last_of : Place → List ℕ
 last_of Start = 97 ∷ []
 last_of Begin = 97 ∷ []

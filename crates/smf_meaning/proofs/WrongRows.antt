@@ -1,4 +1,4 @@
--- A row is wrong where its first wrong field begins.
+-- A row is wrong at the start of its first wrong field.
 use Rattle.std.proofs.Common.{◌≡◌, ℕ, ◌-◌, List, [], ◌∷◌, ◌++◌, length, true, Option, Some, None, Result, Ok, Err, refl, sym, ap, ◌∙◌, subst, codes}
 use Rattle.smf_fmri.specs.Counts.{read_count}
 use Rattle.smf_fmri.specs.Matching.{read_short}

@@ -1,4 +1,4 @@
--- A snapshot's first body or its second is wrong where its first wrong field begins.
+-- A snapshot's first body or its second is wrong at the start of its first wrong field.
 use Rattle.std.proofs.Common.{◌≡◌, inl, inr, ℕ, ◌+◌, ◌-◌, List, ◌++◌, length, Result, Ok, Err, refl, ap, ◌∙◌, subst, arith}
 use Rattle.std.proofs.lemmas.List.{length-append}
 use Rattle.smf_value.specs.declared.fault.BodyFault.{BodyFault}

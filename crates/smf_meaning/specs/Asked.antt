@@ -50,7 +50,7 @@ NamesEntity _ entity = ⊥
 abbrev pub IsOfNames : Kind → Type 0
 IsOfNames kind = (kind ≡ kinds.Fmri) ⊎ (kind ≡ kinds.Astring)
 
--- each value names an entity, in their order; where `entities` is missing there are none
+-- each value names an entity, in their order; if `entities` is missing there are none
 abbrev pub AreEntities : Option PropertyRecord → List (List ℕ) → Type 0
 AreEntities None es = [] ≡ es
 AreEntities (Some p) es = IsOfNames p.kind × AllZip NamesEntity p.values es

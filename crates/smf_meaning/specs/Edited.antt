@@ -14,7 +14,7 @@ pub record LeavesOthers (name : List ℕ) (before after : GroupRecord) : Type 0 
   pub typed : after.group_type ≡ before.group_type
   pub flagged : after.non_persistent ≡ before.non_persistent
 
--- the kind that was asked for, and that the property had, where there was one
+-- the kind that was asked for, and that the property had, if there was one
 pub record HasKind (asked : Option Kind) (found : Option PropertyRecord) (kind : Kind) : Type 0 where
   pub as_asked : (k : Kind) → asked ≡ Some k → kind ≡ k
   pub as_before : (p : PropertyRecord) → found ≡ Some p → kind ≡ p.kind

@@ -1,4 +1,4 @@
--- Where a text goes wrong, apart from how it is read.
+-- The place at which a text goes wrong, apart from how it is read.
 use Rattle.std.specs.Prelude.{◌≡◌, ℕ, List, [], ◌∷◌, ◌++◌, length}
 
 -- with what stands there nothing good can follow, or the end may not stand there

@@ -12,7 +12,7 @@ use Rattle.smf_meaning.specs.FirstWrong.{IsWrongByte}
 abbrev pub BeginsWith : List ℕ → List ℕ → Type 0
 BeginsWith scheme text = (rest : List ℕ) × (text ≡ scheme ++ rest)
 
--- the long scheme where the text begins with it, else the short one
+-- the long scheme if the text begins with it, else the short one
 abbrev pub IsSchemeOf : List ℕ → List ℕ → Type 0
 IsSchemeOf text scheme = (scheme ≡ long) ⊎ ((scheme ≡ short) × (BeginsWith long text → ⊥))
 

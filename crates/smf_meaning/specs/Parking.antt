@@ -4,7 +4,7 @@ use Rattle.smf_dep.specs.declared.member.Member.{Member}
 use Rattle.smf_dep.specs.Cycles.{IsAmong}
 use Rattle.smf_dep.specs.Verdicts.{any_blocked, is_idle, is_parked, is_waiting, parked_in}
 
--- an instance is parked where it is idle, and besides where it waits and one of its groups is blocked by what is parked
+-- an instance is parked if it is idle, and also if it waits and parked instances block one of its groups
 abbrev pub parks : List Member → (Member → Bool) → Member → Bool
 parks ms is_parked m = is_idle m || (is_waiting m && any_blocked is_parked ms m.dependencies)
 

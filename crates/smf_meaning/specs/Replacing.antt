@@ -1,4 +1,4 @@
--- The command of a method, and where a text has a token that is none.
+-- The command of a method, and the place of the first wrong token of a text.
 use Rattle.std.specs.Prelude.{◌≡◌, ℕ, List, [], ◌∷◌, ◌++◌, length, false, codes, Some}
 use Rattle.std.specs.List.{AllByRecursion}
 use Rattle.smf_fmri.specs.ByKey.{lookup}

@@ -14,7 +14,7 @@ abbrev pub TakesSide : Row → Row → Option ℕ → Type 0
 TakesSide before after None = (after.last ≡ before.last) × (after.side ≡ None)
 TakesSide before after (Some run) = IsNextRun before after run × (after.side ≡ Some run)
 
--- a start begins the live run where none is live; a stop and a refresh may begin one beside it; no other step begins one
+-- a start begins the live run if none is live; a stop and a refresh may begin one beside it; no other step begins one
 abbrev pub TakesRuns : Row → Row → Step → Type 0
 TakesRuns before after (Move to) = after.last ≡ before.last
 TakesRuns before after (Start run snapshot duration ignore base) =

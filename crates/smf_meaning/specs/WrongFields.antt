@@ -1,4 +1,4 @@
--- Where a line of fields goes wrong.
+-- The place at which a line of fields goes wrong.
 use Rattle.std.specs.Prelude.{◌≡◌, ℕ, List, [], ◌∷◌, ◌++◌, length, true, Option, Some, None}
 use Rattle.std.specs.List.{AllByRecursion}
 use Rattle.smf_fmri.specs.Counts.{no_space}
@@ -16,7 +16,7 @@ abbrev pub spaced : Option (List ℕ) → List ℕ
 spaced None = []
 spaced (Some rest) = 32 ∷ rest
 
--- fields with one space between, where there are any
+-- fields with one space between, if there are any
 abbrev pub line_of : List (List ℕ) → Option (List ℕ)
 line_of [] = None
 line_of (f ∷ fs) = Some (f ++ spaced (line_of fs))

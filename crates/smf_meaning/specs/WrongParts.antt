@@ -1,4 +1,4 @@
--- Where the bytes of a body go wrong, and what its fields are.
+-- The place at which the bytes of a body go wrong, and the fields of a body.
 use Rattle.std.specs.Prelude.{◌≡◌, ◌⊎◌, ℕ, ◌+◌, ◌<◌, ◌≤◌, ◌^◌, List, [], ◌∷◌, ◌++◌, length, map}
 use Rattle.std.specs.Int.{w16, w32, to_be_bytes}
 use Rattle.std.specs.List.{AllByRecursion}
@@ -17,7 +17,7 @@ abbrev pub fields_of_all : {A : Type 0} → (A → List (List ℕ)) → List A �
 fields_of_all fields [] = []
 fields_of_all fields (x ∷ xs) = fields x ++ fields_of_all fields xs
 
--- ---- the fields of a body, each with its length where it has one
+-- ---- the fields of a body, each with its length if it has one
 
 abbrev pub property_fields : PropertyRecord → List (List ℕ)
 property_fields p =
@@ -31,7 +31,8 @@ group_fields g =
 abbrev pub body_fields : List GroupRecord → List (List ℕ)
 body_fields gs = to_be_bytes w32 (length gs) ∷ fields_of_all group_fields gs
 
--- groups that a body may hold, their order and that of their properties aside: a name can be so great that none is above it
+-- groups that a body may hold, their order and that of their properties aside: a name can be so great that none is
+-- above it
 pub record IsFormedGroup (g : GroupRecord) : Type 0 where
   pub named : IsName g.name
   pub typed : IsName g.group_type

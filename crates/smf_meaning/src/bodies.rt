@@ -6,8 +6,8 @@ ghost use Rattle.smf_value.specs.Reading.{decoded};
 ghost use Rattle.smf_snap.specs.Body.{decoded_snapshot};
 ghost use Rattle.smf_meaning.specs.WrongParts.{AreBytes, IsBodyFault, IsSnapshotFault, body_fields, bytes_of};
 
-/// Bytes that are no body are refused at the place where the first wrong field begins, or at the end where one is
-/// missing: what stands before is fields that a body can begin with.
+/// The reader refuses bytes that are no body at the start of the first wrong field, or at the end if a field is
+/// missing. The bytes before that place are fields that a body can begin with.
 pub fn bodies_are_wrong_at_a_field()
     ensures spelled { (gs : List GroupRecord) → bytes_of (body_fields gs) ≡ spelled gs }
     ensures wrong { (bytes : List ℕ) (fault : AnyBodyFault) → AreBytes bytes → decoded bytes ≡ Err fault → IsBodyFault bytes fault }

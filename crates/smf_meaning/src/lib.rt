@@ -1,8 +1,9 @@
-//! Laws above definitions that are the code again: each is a function whose contract is the law, in the words of the
-//! manual and apart from how anything is read or worked out. A definition and a body that are wrong alike are refused here.
-//! Modules: `places`, `lines` and `bodies` (where texts and bytes are wrong), `waits` (parked instances), `asking`
-//! (dependency groups), `groups` (edits of a group), `composing` and `reverts` (the groups of an instance, by name),
-//! `methods` (commands), `steps` (runs).
+//! Laws above definitions that are the code again. Each is a function whose contract is the law, in the words of the
+//! manual and apart from how anything is read or worked out. A definition and a body that are wrong alike are refused
+//! here.
+//! Modules: `places`, `lines` and `bodies` (the places at which texts and bytes are wrong), `waits` (parked instances);
+//! `dependencies` (dependency groups), `groups` (edits of a group), `composition` and `reverts` (the groups of an instance, by
+//! name), `methods` (commands), `steps` (runs).
 #![tactic(auto)]
 
 mod asking;

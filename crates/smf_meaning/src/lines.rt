@@ -4,8 +4,8 @@ ghost use Rattle.smf_state.specs.declared.fault.StepTextFault.{StepTextFault as 
 ghost use Rattle.smf_state.specs.Texts.{read_row, read_step};
 ghost use Rattle.smf_meaning.specs.WrongFields.{IsRowFault, IsStepFault};
 
-/// A text that is no row is refused at the place where its first wrong field begins, or at its end where a field is
-/// missing: what stands before begins the text of a row.
+/// The reader refuses a text that is no row at the start of its first wrong field, or at its end if one is missing. The
+/// text before that place begins the text of a row.
 pub fn rows_are_wrong_at_a_field()
     ensures { (text : List ℕ) (fault : AnyRowFault) → read_row text ≡ Err fault → IsRowFault text fault }
 {}

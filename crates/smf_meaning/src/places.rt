@@ -5,8 +5,8 @@ ghost use Rattle.smf_value.specs.declared.fault.NameFault.{NameFault};
 ghost use Rattle.smf_value.specs.Names.{read_name};
 ghost use Rattle.smf_meaning.specs.NameFaults.{IsNameFault, IsPatternFault, IsWordFault};
 
-/// A text that is no name, no pattern or no word is refused with why it is none. A place is that of the first byte that
-/// is wrong, or the length where the text ends too early: what stands before it can go on to one.
+/// The reader refuses a text that is no name, no pattern or no word, and says why. A place is that of the first wrong
+/// byte, or the length if the text ends too early. The text before the place can go on to a name, a pattern or a word.
 pub fn names_are_wrong_at_a_byte()
     ensures name { (text : List ℕ) (fault : FmriFault) → read text ≡ Err fault → IsNameFault text fault }
     ensures pattern { (text : List ℕ) (fault : FmriFault) → read_pattern text ≡ Err fault → IsPatternFault text fault }

@@ -168,7 +168,7 @@ filled_plain names (b ∷ c ∷ cs) r i h =
     (append_plain (token_text names c) (filled_text names cs) (token_plain names c r i) (filled_plain names cs r i (tail_plain c cs rest)))
     (cons_plain b (filled_text names (c ∷ cs)) (head_plain b (c ∷ cs) h) (filled_plain names (c ∷ cs) r i rest))
 
--- a plain text stays plain where its tokens are replaced by names
+-- a plain text stays plain if its tokens are replaced by names
 pub filled_is_plain : (names : Names) (text : List ℕ) → read names.restarter ≡ Ok names.restarter → read names.instance ≡ Ok names.instance → list_all is_plain text ≡ true
     → list_all is_plain (filled_text names text) ≡ true
 filled_is_plain names text r i h = filled_plain names text (name_plain names.restarter r) (name_plain names.instance i) h

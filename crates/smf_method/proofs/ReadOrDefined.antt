@@ -1,4 +1,4 @@
--- What is read in one call is what is defined and then called.
+-- A method that is read in one call is one that is defined and then called.
 use Rattle.std.proofs.Common.{◌≡◌, ℕ, List, Option, Some, None, Result, Ok, Err, IfOk, IfSome, refl, ap}
 use Rattle.std.specs.Option.{ok_or}
 use Rattle.std.specs.Prelude.{codes}
@@ -87,7 +87,7 @@ group_found (Some g) startd gs names m e s h =
     found (text_in (property_of (codes "exec") g)) (timeout_in (property_of (codes "timeout_seconds") g)) (duration_of startd) (ignore_of startd) names m h in
     record { definition = f.definition; defined = rw (e, s) f.defined; called = f.called; duration = f.duration; ignore = f.ignore }
 
--- what is read is a definition, as it is called
+-- a method that is read is a definition, as it is called
 pub read_found : (r : Result (Option ReadMethod) MethodFault) (gs : List GroupRecord) (names : Names) → Gives r (method_of gs names) → IfOk r (λ read. IfSome read (IsReadBy gs names))
 unfolding method_of
 read_found (Ok None) gs names h = tt

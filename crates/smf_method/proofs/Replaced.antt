@@ -55,7 +55,7 @@ called_by false names exec command timeout call h r =
     let P : MethodCall → Type 0 = λ m. Replaces names exec m.command in
     subst P same r
 
--- what a definition is called as is its command with each token replaced
+-- the call of a definition has its command with each token replaced
 pub call_found : (r : Result MethodCall MethodFault) (d : Definition) (restarter instance : List ℕ) → wrong_token 0 d.exec ≡ None → Gives r (call_of d restarter instance)
     → IfOk r (λ call. Replaces (names_of restarter d.method instance) d.exec call.command)
 call_found (Ok call) d restarter instance e h =

@@ -13,7 +13,7 @@ nothing_left (x ∷ xs) (suc i) h = nothing_left xs i (omega arith)
 
 -- ---- finding
 
--- the place of the first wrong token, where a % may stand before the rest
+-- the place of the first wrong token, if a % may stand before the rest
 abbrev pub wrong_behind : Option ℕ → ℕ → List ℕ → Option ℕ
 wrong_behind None at rest = wrong_token at rest
 wrong_behind (Some place) at rest = wrong_token place (37 ∷ rest)

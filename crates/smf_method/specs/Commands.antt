@@ -1,4 +1,4 @@
--- What a method runs.
+-- The commands that methods run.
 use Rattle.std.specs.Prelude.{◌≡◌, ℕ, ◌==◌, ◌||◌, List, length, nat_eq, Bool, true, false, codes, Option, Some, None, if◌then◌else◌}
 use Rattle.std.specs.Char.{is_ascii_digit, is_ascii_uppercase}
 use Rattle.std.specs.Cmp.Lexicographic.{pointwise}

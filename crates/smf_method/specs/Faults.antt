@@ -3,7 +3,7 @@ use Rattle.std.specs.Prelude.{◌≡◌, Result, Ok, Err}
 use Rattle.smf_method.specs.declared.fault.MethodFault.{MethodFault}
 use Rattle.smf_method.specs.declared.fault.MethodFault.TheVariants.{Memory}
 
--- what a call returned is what the definition gives, unless memory ran out
+-- a call returned what the definition gives, unless memory ran out
 abbrev pub Fails : {X : Type 0} → MethodFault → Result X MethodFault → Type 0
 Fails Memory given = Unit {0}
 Fails e given = given ≡ Err e

@@ -13,7 +13,7 @@ use Rattle.smf_method.specs.Faults.{◌>>=◌}
 use Rattle.smf_method.specs.Settings.{timeout_in, duration_of, ignore_of}
 use Rattle.smf_method.specs.Tokens.{Names, names_of, method_text, wrong_token, filled_text, is_refused}
 
--- what groups say of a method: its command has its tokens
+-- the definition of a method by groups: its command still has its tokens
 pub record Definition : Type 0 where
   pub method : Method
   pub exec : List ℕ
@@ -51,7 +51,7 @@ abbrev pub define_if : Method → Option GroupRecord → Option GroupRecord → 
 define_if method None startd = Ok None
 define_if method (Some g) startd = define_by method g startd
 
--- what composed groups say of a method
+-- the definition of a method by composed groups
 unfoldable pub definition_of : List GroupRecord → Method → Result (Option Definition) MethodFault
 definition_of gs method = define_if method (group_of (method_text method) gs) (group_of (codes "startd") gs)
 
@@ -83,7 +83,7 @@ read_if names (Some g) startd = read_group names g startd
 unfoldable pub method_of : List GroupRecord → Names → Result (Option ReadMethod) MethodFault
 method_of gs names = read_if names (group_of (method_text names.method) gs) (group_of (codes "startd") gs)
 
--- what was read is a definition, as it is called
+-- a method that was read is a definition, as it is called
 pub record IsReadBy (gs : List GroupRecord) (names : Names) (read : ReadMethod) : Type 0 where
   pub definition : Definition
   pub defined : definition_of gs names.method ≡ Ok (Some definition)

@@ -1,4 +1,4 @@
--- What the end of a method means.
+-- The meaning of the end of a method.
 use Rattle.std.specs.Prelude.{ℕ, ◌==◌, ◌||◌, Bool, false, if◌then◌else◌}
 use Rattle.smf_contract.specs.declared.cookie.Method.{Method}
 use Rattle.smf_contract.specs.declared.cookie.Method.TheVariants.{Start, Stop, Refresh}

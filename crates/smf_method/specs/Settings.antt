@@ -1,4 +1,4 @@
--- What the properties of a method and of the group `startd` say.
+-- The properties of a method and of the group `startd`.
 use Rattle.std.specs.Prelude.{ℕ, ◌==◌, ◌||◌, List, [], ◌∷◌, length, nat_eq, Bool, true, false, codes, Option, Some, None, if◌then◌else◌}
 use Rattle.std.specs.Cmp.Lexicographic.{pointwise}
 use Rattle.std.specs.List.{list_all, list_any, slice_split}
@@ -14,7 +14,7 @@ abbrev pub timeout_by : List Value → Option (Option ℕ)
 timeout_by (Count seconds ∷ []) = Some (timeout_of seconds)
 timeout_by _ = None
 
--- a method has no timeout where the property is missing
+-- a method has no timeout if the property is missing
 abbrev pub timeout_in : Option PropertyRecord → Option (Option ℕ)
 timeout_in None = Some None
 timeout_in (Some p) = timeout_by p.values
@@ -33,7 +33,7 @@ abbrev pub duration_text : Option (List ℕ) → Option Duration
 duration_text None = None
 duration_text (Some text) = duration_by text
 
--- `duration`, which is contract where it is missing
+-- `duration`, which is contract if it is missing
 abbrev pub duration_in : Option PropertyRecord → Option Duration
 duration_in None = Some Contract
 duration_in (Some p) = duration_text (text_of p.values)
@@ -70,7 +70,7 @@ abbrev pub ignore_text : Option (List ℕ) → Option ℕ
 ignore_text None = None
 ignore_text (Some text) = ignore_by text
 
--- `ignore_error`, which is none where it is missing
+-- `ignore_error`, which is none if it is missing
 abbrev pub ignore_in : Option PropertyRecord → Option ℕ
 ignore_in None = Some 0
 ignore_in (Some p) = ignore_text (text_of p.values)

@@ -30,11 +30,11 @@ restarter_text name = if pointwise nat_eq name (codes "svc:/system/svc/restarter
 abbrev pub instance_text : List ℕ → List ℕ
 instance_text name = unwrap_or (instance_of name) []
 
--- the bytes of % r m s i f, which make a token behind a %
+-- the bytes of % r m s i f, which make a token after a %
 abbrev pub is_token : ℕ → Bool
 is_token b = b == 37 || b == 114 || b == 109 || b == 115 || b == 105 || b == 102
 
--- what stands for a token: a % for itself
+-- the text for a token: % for itself
 unfoldable pub token_text : Names → ℕ → List ℕ
 token_text names b =
     if b == 37 then codes "%"
@@ -65,7 +65,7 @@ filled_text names (b ∷ c ∷ cs) = if b == 37 then token_text names c ++ fille
 
 -- ---- the text of a command as pieces
 
--- a byte that is no %, or a token, by the byte behind its %
+-- a byte that is no %, or a token, by the byte after its %
 pub data Piece : Type 0 where
   Byte : ℕ → Piece
   Token : ℕ → Piece
@@ -106,12 +106,12 @@ is_refused Refresh command = false
 
 -- ---- byte by byte
 
--- behind a byte: the place of a % whose token comes next, or of one that begins none
+-- after a byte: the place of a % whose token comes next, or of one that begins none
 abbrev pub percent_behind : Option ℕ → ℕ → ℕ → Result (Option ℕ) ℕ
 percent_behind None at b = if b == 37 then Ok (Some at) else Ok None
 percent_behind (Some place) at b = if is_token b then Ok None else Err place
 
--- the rest of a text, which may stand behind a %
+-- the rest of a text, which may stand after a %
 abbrev pub filled_behind : Names → Bool → List ℕ → List ℕ
 filled_behind names false rest = filled_text names rest
 filled_behind names true rest = filled_text names (37 ∷ rest)

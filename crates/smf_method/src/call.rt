@@ -33,7 +33,7 @@ pub struct ReadMethod {
     pub ignore: Ignore,
 }
 
-/// Whether a command cannot be a method: a start that kills.
+/// True if a command cannot be a method: a start that kills.
 fn is_refused(method: Method, command: &Command) -> bool
     ensures { result ≡ is_refused method command.now }
 {
@@ -44,7 +44,7 @@ fn is_refused(method: Method, command: &Command) -> bool
     }
 }
 
-/// The command that a text becomes by what stands for its tokens, or none where the method may not be that.
+/// The command of a text with its tokens replaced, or none if the method may not be that.
 pub(crate) fn command_in(
     alloc: Global,
     exec: &str,
@@ -105,7 +105,7 @@ fn read_group(
 }
 
 impl ReadMethod {
-    /// The method of composed groups, or none where they have no group of its name.
+    /// The method of composed groups, or none if they have no group of its name.
     pub fn of(
         alloc: Global,
         composed: &Ordered<Group>,

@@ -13,7 +13,7 @@ use std::alloc::{AllocError, Global};
 use std::fmt;
 use std::marker::Model;
 
-/// What a method runs: a text of ASCII without control characters, of any length, which contracts see as its bytes.
+/// The command of a method: a text of ASCII without control characters, of any length. Contracts see its bytes.
 #[derive(Drop)]
 pub struct Command {
     text: String,
@@ -58,7 +58,7 @@ fn are_signal_bytes(bytes: &[u8]) -> bool
     bytes.iter().all(|b| is_signal_byte(*b))
 }
 
-/// Whether bytes name a signal.
+/// True if bytes name a signal.
 fn is_signal(bytes: &[u8]) -> bool
     ensures { result ≡ is_signal bytes.now }
 {
@@ -87,7 +87,7 @@ fn is_kill(text: &str) -> bool
 }
 
 impl Command {
-    /// A copy of a text, or none where a byte of it cannot stand in a command.
+    /// A copy of a text, or none if a byte of it cannot stand in a command.
     pub fn copy_of(alloc: Global, text: &str) -> Result<Option<Command>, AllocError>
         ensures { IfOk result (λ c. c ≡ command_of text.now) }
     {

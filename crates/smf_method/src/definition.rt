@@ -18,7 +18,7 @@ use smf_value::Group;
 use std::alloc::{AllocError, Global};
 use std::marker::Model;
 
-/// What groups say of a method, whose tokens are good and not replaced yet.
+/// The definition of a method by groups. Its tokens are good and not replaced yet.
 #[derive(Drop)]
 pub struct MethodDefinition {
     method: Method,
@@ -74,7 +74,7 @@ fn define_by(
 }
 
 impl MethodDefinition {
-    /// What composed groups say of a method, or none where they have no group of its name.
+    /// The definition of a method by composed groups, or none if they have no group of its name.
     #[tactic(auto, unfolding(crate::specs::Methods::definition_of))]
     pub fn of(
         alloc: Global,

@@ -14,7 +14,7 @@ pub enum MethodFault {
     NoExec,
     #[error("bad timeout")]
     BadTimeout,
-    /// The place of a `%` that begins no token, or 0 where a start would be a kill.
+    /// The place of a `%` that begins no token, or 0 if a start would be a kill.
     #[error("bad token at {0}")]
     BadToken(usize),
     #[error("bad duration")]

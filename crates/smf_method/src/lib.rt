@@ -1,7 +1,8 @@
-//! The methods of an instance: what its groups say is run to start, stop or refresh it, and what the end of a method means.
-//! Modules: `command` (a command, and which are built in), `timeout`, `naming` (texts of methods and names), `tokens`
-//! (what is replaced in a command), `settings` (properties), `definition`, `call` (with the tokens replaced), `outcome`,
-//! `fault`.
+//! The methods of an instance: the commands by which its groups start, stop and refresh it, and the meaning of a
+//! method's end.
+//! Modules: `command` (a command, and which are built in); `timeout`; `texts` (texts of methods and names); `tokens`
+//! (what is replaced in a command); `properties` (properties); `definition`; `call` (with the tokens replaced);
+//! `outcome`; `fault`.
 #![tactic(auto)]
 
 mod call;

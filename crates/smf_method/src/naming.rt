@@ -37,7 +37,7 @@ fn instance_text(instance: &InstanceFmri) -> &str
     }
 }
 
-/// What stands for a token, which is given by the byte behind its `%`.
+/// The text for a token, which is given by the byte after its `%`.
 #[tactic(auto, unfolding(crate::specs::Tokens::token_text))]
 pub(crate) fn token_text<'a>(
     restarter: &'a InstanceFmri,

@@ -3,7 +3,7 @@ ghost use Rattle.std.specs.Prelude.{◌≡◌};
 
 use smf_contract::{Exit, Method};
 
-/// What the end of a method means.
+/// The meaning of the end of a method.
 #[derive(Clone, Copy, PartialEq, Eq)]
 pub enum Outcome {
     Good,
@@ -13,7 +13,7 @@ pub enum Outcome {
     Fatal,
 }
 
-/// Whether a code says that no further run would succeed.
+/// True if a code says that no further run would succeed.
 fn is_fatal(method: Method, code: u8) -> bool
     ensures { result ≡ is_fatal method code }
 {
@@ -24,7 +24,7 @@ fn is_fatal(method: Method, code: u8) -> bool
     }
 }
 
-/// What it means that a method ended so.
+/// The outcome of a method that ended so.
 pub fn judge(method: Method, exit: Exit) -> Outcome
     ensures { result ≡ outcome_of method exit }
 {

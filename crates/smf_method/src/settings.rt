@@ -17,7 +17,7 @@ fn timeout_by(values: &[Value]) -> Option<Option<Timeout>>
     }
 }
 
-/// What `timeout_seconds` says, which may be that there is no timeout, or none where it is not one count.
+/// The timeout by `timeout_seconds`: `Some(None)` for no timeout, and `None` if the property is not one count.
 pub(crate) fn timeout_in(property: Option<&Property>) -> Option<Option<Timeout>>
     ensures { result ≡ timeout_in (option_copied property.entry) }
 {
@@ -53,7 +53,7 @@ fn duration_in(property: Option<&Property>) -> Option<Duration>
     }
 }
 
-/// What the group `startd` says of what a running instance is, or none where it names no duration.
+/// The duration by the group `startd`, or none if it names no duration.
 pub(crate) fn duration_of(startd: Option<&Group>) -> Option<Duration>
     ensures { result ≡ duration_of (option_copied startd.entry) }
 {
@@ -116,7 +116,7 @@ fn ignore_in(property: Option<&Property>) -> Option<Ignore>
     }
 }
 
-/// The failures that the group `startd` leaves out of account, or none where it lists anything else.
+/// The failures that the group `startd` ignores, or none if it lists anything else.
 pub(crate) fn ignore_of(startd: Option<&Group>) -> Option<Ignore>
     ensures { result ≡ ignore_of (option_copied startd.entry) }
 {

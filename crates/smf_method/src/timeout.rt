@@ -23,7 +23,7 @@ impl Model for Timeout {
 }
 
 impl Timeout {
-    /// The timeout of so many seconds, or none where they stand for none.
+    /// The timeout of so many seconds, or none if they stand for none.
     pub fn new(seconds: u64) -> Option<Timeout>
         ensures { result ≡ timeout_of seconds }
     {

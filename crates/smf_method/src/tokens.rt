@@ -14,8 +14,8 @@ fn is_token(b: u8) -> bool
     b == b'%' || b == b'r' || b == b'm' || b == b's' || b == b'i' || b == b'f'
 }
 
-/// Where there is a `%` behind a byte whose token comes next, by where there is one before it, or the place of a `%`
-/// that begins no token.
+/// The place of a `%` whose token comes after the byte at `at`, if there is one. `percent` is the place of such a `%`
+/// before that byte. The error is the place of a `%` that begins no token.
 fn percent_behind(percent: Option<usize>, at: usize, b: u8) -> Result<Option<usize>, usize>
     ensures { result ≡ percent_behind percent at b }
 {

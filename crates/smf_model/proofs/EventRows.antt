@@ -1,4 +1,4 @@
--- What a granted step makes of the revisions that a row keeps.
+-- The revisions that a row keeps after a granted step.
 use Rattle.std.proofs.Common.{◌≡◌, ◌⊎◌, inl, inr, ℕ, ◌+◌, ◌&&◌, ◌||◌, not, Bool, true, false, if◌then◌else◌, List, Option, Some, None, Ok, refl, sym, ap, subst}
 use Rattle.smf_state.specs.declared.row.Row.{Row}
 use Rattle.smf_state.specs.declared.fault.StepFault.{StepFault}
@@ -54,7 +54,7 @@ taken : (o : Option StepFault) (r after : Row) → applied_unless o r ≡ Ok aft
 taken None r after e = cc
 taken (Some f) r after e = absurd cc
 
--- what is granted
+-- the revisions in a row that was granted
 pub applied_dates : (r i after : Row) (p : Proposal) (revision : ℕ) → i ≡ record r { owner = i.owner } → applied i p revision ≡ Ok after → RowDates r after p.step revision
 unfolding applied
 applied_dates r i after p revision is e =
@@ -115,7 +115,7 @@ not_running Maintenance a b d e = absurd cc
 
 -- ---- what an end dates
 
--- a stop, where the instance ran and does not any more
+-- a stop, if the instance ran and does not run any more
 pub stop_dated : (a b d : Bool) (x revision old : ℕ) → x ≡ (if a && not b && d then revision else old) → ((a ≡ true) × (b ≡ false) × (d ≡ true) × (x ≡ revision)) ⊎ (x ≡ old)
 stop_dated true false true x revision old e = inl (refl, refl, refl, e)
 stop_dated true false false x revision old e = inr e

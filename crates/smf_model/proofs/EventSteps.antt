@@ -1,4 +1,4 @@
--- What one command makes of the revisions that the row of an instance keeps.
+-- The revisions that the row of an instance keeps after one command.
 use Rattle.std.proofs.Common.{◌≡◌, inl, inr, ℕ, ◌+◌, ◌==◌, ◌||◌, not, nat_lt, nat_le, Bool, true, false, cond, if◌then◌else◌, List, [], ◌∷◌, ◌++◌, map, Option, Some, None, option_map, Result, Ok, Err, refl, sym, ap, ◌∙◌, subst, arith}
 use Rattle.std.specs.List.{list_any}
 use Rattle.std.specs.Ordering.{is_eq, nat_cmp}
@@ -46,7 +46,7 @@ use Rattle.smf_model.proofs.LawLists.{at_put, is_number, some_same}
 use Rattle.smf_model.proofs.LawOutcomes.{Elsewhere, apart_after, booted_at, each_put, elsewhere, installed_append, installed_closed, instances_keep, relaunches, services_keep}
 use Rattle.smf_model.proofs.Written.{AreHeldAtZero, Written, stays_so, is_read as read_now, at_written, is_shown, put_each, unwritten_held}
 
--- what becomes of the instance n: its revisions stay and there is no event, or the event dates them
+-- the instance n after a command: its revisions stay and there is no event, or the event dates them
 pub data Dates (n : ℕ) (h : Holdings) (c : Command) (k : Holdings) (r : Reply) (before after : Instance) : Type 0 where
   undated : SameDates before.row after.row → ((kind : EventKind) → IsEventTo kind n h c k r → ⊥) → Dates n h c k r before after
   by_refresh : IsRefresh n h c k r → k.revision ≡ h.revision + 1 → SameDates (record before.row { refresh = k.revision }) after.row → Dates n h c k r before after
@@ -54,7 +54,7 @@ pub data Dates (n : ℕ) (h : Holdings) (c : Command) (k : Holdings) (r : Reply)
 
 -- ---- commands that are no events
 
--- what each instance that is put in the place of n keeps
+-- each instance that is put in the place of n keeps the revisions of this row
 abbrev Keeps : ℕ → Row → List Change → Type 0
 Keeps n r [] = Unit {0}
 Keeps n r (AddInstance e ∷ cs) = (e.instance.number ≡ n → ⊥) × Keeps n r cs
@@ -338,7 +338,7 @@ neither n h c k r proposed asked Started v = proposed v.end.proposal v.end.propo
 rises_by_one : (m : ℕ) → m ≡ m + 1 → ⊥
 rises_by_one m e = omega arith
 
--- where nothing changes
+-- a command that is not accepted, and changes nothing, is no event
 unrevised : (n : ℕ) (h : Holdings) (c : Command) (r : Reply) → is_accepted r ≡ false → NoEvent n h c h r
 unrevised n h c r e ErrorStop v = rises_by_one h.revision v.end.revised
 unrevised n h c r e OtherStop v = rises_by_one h.revision v.end.revised
@@ -466,7 +466,7 @@ refresh_by n h m before i k after false there f at revised running row =
     (record { err = ap (λ (r : Row). r.err) row ∙ s.err; stop = ap (λ (r : Row). r.stop) row ∙ s.stop; refresh = ap (λ (r : Row). r.refresh) row ∙ s.refresh; start = ap (λ (r : Row). r.start) row ∙ s.start })
     (idle n h m k Done before there (sym (ap (λ (r : Row). runs r.state) is) ∙ running))
 
--- of another instance
+-- a refresh of another instance is no event
 refresh_other : (n : ℕ) (h : Holdings) (m : ℕ) (i : Instance) (k : Holdings) (r : Reply) → FoundAt h m i → (i.number ≡ n → ⊥) → NoEvent n h (commands.Edit (asked_for.Refresh m)) k r
 refresh_other n h m i k r f differs = refresh_of n h m k r (λ same v. differs (f.number ∙ same))
 

@@ -21,7 +21,7 @@ kept_by g false e = rw e refl
 pub kept_some : (gs : List GroupRecord) (name : List ℕ) (g : GroupRecord) (b : Bool) → Rises by_group gs → Some g ≡ group_in gs name → g.non_persistent ≡ b → (if b then None else Some g) ≡ group_in (kept_groups gs) name
 kept_some gs name g b r e f = kept_by g b f ∙ ap (option_filter is_persistent) e ∙ sym (lookup_filter by_group is_persistent gs name r)
 
--- what is not there at all does not outlast a boot
+-- a group that is not there at all does not outlast a boot
 none_kept : (name : List ℕ) (gs : List GroupRecord) → group_in gs name ≡ None → group_in (kept_groups gs) name ≡ None
 none_kept name [] e = refl
 none_kept name (g ∷ gs) e = by (has_key by_group name g) (is_persistent g) refl e (none_kept name gs)

@@ -41,7 +41,7 @@ event_told h (c ∷ cs) kind n base j numbered low is more = by (instance (made 
       | inr q ↦ inl (q.0, subst (λ (m : ℕ). base < m) q.1 more)
     ]
 
--- what has happened, happened to an instance whose number was given
+-- an instance that is there has a number that was given
 given_below : (k : Holdings) (n : ℕ) (i : Instance) → IsNumbered k → instance k n ≡ Some i → n < k.next_instance
 given_below k n i numbered is = by (nat_lt n k.next_instance) refl
   where

@@ -1,4 +1,4 @@
--- What is found in a list after a change of it.
+-- The items found in a list after a change of it.
 use Rattle.std.proofs.Common.{◌≡◌, ◌⊎◌, inl, inr, ℕ, ◌<◌, Bool, true, false, cond, not, List, [], ◌∷◌, Option, Some, None, if◌then◌else◌, option_map, refl, sym, ap, ◌∙◌, subst, arith}
 use Rattle.std.specs.Prelude.{find, filter}
 use Rattle.std.specs.Ordering.{is_eq, nat_cmp}
@@ -18,7 +18,7 @@ found_passes test (y ∷ ys) x e = by (test y) refl e (found_passes test ys x)
     by true h e ih = cc
     by false h e ih = ih e
 
--- what a number finds has that number
+-- the instance found by a number has that number
 pub is_number : (n : ℕ) (xs : List Instance) (i : Instance) → lookup by_instance xs n ≡ Some i → i.number ≡ n
 is_number n xs i e = found_key by_instance n xs i e
 
@@ -50,7 +50,7 @@ put_new_by : {X K : Type 0} (o : By X K) (x : X) (xs : List X) (k : K) (q : Opti
 put_new_by o x xs k (Some y) e = inl refl
 put_new_by o x xs k None e = inr (e, lookup_put o x xs k)
 
--- what was found stays
+-- an item that was found stays
 pub some_put_new : {X K : Type 0} (o : By X K) (x : X) (xs : List X) (k : K) (y : X) → lookup o xs k ≡ Some y → lookup o (put_new o x xs) k ≡ Some y
 some_put_new o x xs k y e = elim (put_new_by o x xs k (lookup o xs (o.key x)) refl) [
   | inl same ↦ same ∙ e

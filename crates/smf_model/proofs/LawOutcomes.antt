@@ -1,4 +1,4 @@
--- What a command makes of what is held, by what it changes.
+-- The value after a command, by the changes that the command makes.
 use Rattle.std.proofs.Common.{eqb-true, is_none, ◌≡◌, ◌⊎◌, ℕ, ◌+◌, ◌≤◌, ◌==◌, ◌&&◌, ◌||◌, not, nat_lt, nat_le, Bool, true, false, if◌then◌else◌, List, [], ◌∷◌, ◌++◌, map, Option, Some, None, option_map, Result, Ok, Err, refl, sym, ap, ◌∙◌, subst, inl, inr, cond, arith}
 use Rattle.std.specs.Prelude.{filter}
 use Rattle.std.specs.List.{list_any}
@@ -179,7 +179,7 @@ pub record Put (h : Holdings) (c : Command) (x : Instance) : Type 0 where
 pub index_over : (h : Holdings) (c : Command) (x : Instance) → Put h c x → IsNumbered h → IsIndexed (put_over x (instances h)) h.names
 index_over h c x p b = index_same (instances h) (put_over x (instances h)) h.names (names_over p.number p.before x (instances h) p.is_there p.is_number p.name) b.indexed
 
--- changes of which the last are elsewhere, behind one that puts an instance
+-- a change that puts an instance, and after it changes elsewhere
 abbrev put_first : Holdings → Instance → Holdings
 put_first h x = changed h (PutInstance x)
 
@@ -242,7 +242,7 @@ by_found h c n ask none some = by (instance h n) refl
     by None e = none
     by (Some i) e = some i (current (groups_of h) i) (is_found h n i e)
 
--- what is put in its place has the same row, but for what may change under one number
+-- an instance put in its place has the same row, but for what may change under one number
 keeps : (h : Holdings) (c : Command) (n : ℕ) (before i x : Instance) → Found h n before i → x.number ≡ i.number → x.name ≡ i.name → Stays i.row x.row → Put h c x
 keeps h c n before i x f e d s = record { number = n; before = before; is_there = f.is_there; is_number = e ∙ f.is_number; name = d ∙ f.name; follows = stays (stays_on before.row i.row x.row f.reads s) }
 
@@ -529,7 +529,7 @@ each_behind f h cs is out =
       names = e.names ∙ m.names;
     })
 
--- what each instance of a list is put over
+-- the instance found by a number, after each instance of a list is put in its place
 abbrev pub each_over : (Instance → Instance) → Option Instance → Option Instance → Option Instance
 each_over f None o = o
 each_over f (Some i) o = option_map (in_place (f i)) o
@@ -597,7 +597,7 @@ names_written gs is ys w = record {
     back o p j (stays_so e) f = (j, sym e ∙ f, refl)
     back o p j (is_read d f at e) g = (d, f, sym (is_shown gs d).name ∙ ap (λ (z : Instance). z.name) (some_same (current gs d) j (sym e ∙ g)))
 
--- what is held once the changes of an edit are made, and what is held once owners are written too
+-- the value after the changes of an edit, and the value after its owners are written too
 abbrev pub before_owners : Holdings → List Change → Holdings
 before_owners h cs = installed h cs
 

@@ -23,6 +23,6 @@ found_at false p n k e h = cc
 pub replaced_at : {X : Type 0} (test : X → Bool) (x : X) (xs : List X) (k : ℕ) → position test xs ≡ Some k → replaced test x xs ≡ slice_set xs k x
 replaced_at test x xs k h = let at = found_at _ (position_or_len test xs) (length xs) k refl h in replaced_here test x xs at.0 ∙ ap (λ i. slice_set xs i x) at.1
 
--- where a clone equals its source, the clones of a list are the list
+-- if a clone equals its source, the clones of a list are the list
 pub same_items : {X : Type 0} (xs ys : List X) → AllZip (λ x y. y ≡ x) xs ys → ys ≡ xs
 same_items xs ys h = each_same xs ys h

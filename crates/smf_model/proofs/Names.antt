@@ -89,7 +89,7 @@ module _ (i : Instance) (is : List Instance) (names : List InstanceName) (index 
   at_name : (name : List ℕ) → lookup by_name (put by_name (name_of i.name i.number) names) name ≡ with_answer by_name (lookup by_name names) i.name (Some (name_of i.name i.number)) name
   at_name name = lookup_put by_name (name_of i.name i.number) names name
 
-  -- what stood under another number still does
+  -- an instance under another number stays
   stays : (n : ℕ) (j : Instance) → lookup by_instance is n ≡ Some j → with_answer by_instance (lookup by_instance is) i.number (Some i) n ≡ Some j
   stays n j e = with_answer_other by_instance (lookup by_instance is) i.number (Some i) n (differs by_instance i.number n (λ same. no_such (lookup by_instance is i.number) j new_number (ap (lookup by_instance is) same ∙ e))) ∙ e
 

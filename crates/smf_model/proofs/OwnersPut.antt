@@ -36,7 +36,7 @@ use Rattle.smf_model.proofs.Entries.{bare_groups, bare_instance, lookup_bare, ri
 use Rattle.smf_model.proofs.LawLists.{apart_from_rises, differs, is_number, some_same}
 use Rattle.smf_model.proofs.Written.{is_shown}
 
--- one step of a loop that puts changes behind others
+-- one step of a loop that puts changes after others
 pub put_behind : (new old piece rest : List Change) → new ≡ old ++ piece → new ++ rest ≡ old ++ (piece ++ rest)
 put_behind new old piece rest e = ap (λ (l : List Change). l ++ rest) e ∙ append_assoc old piece rest
 
@@ -68,7 +68,7 @@ front gs s i is false d = refl
 front gs s i is true false = refl
 front gs s i is true true = refl
 
--- what the groups `general` of an instance and of its service say of it
+-- the groups `general` of an instance and of its service are these
 abbrev SaysOf : Groups → List ℕ → Option GroupRecord → Option GroupRecord → Instance → Type 0
 SaysOf gs s g own i = (group_in (gs (owners.Instance i.number)) general ≡ own) × (group_in (gs (owners.Service s)) general ≡ g)
 
@@ -231,7 +231,7 @@ amended_here o k f xs same = lookup_amend o k f xs k same ∙ with_answer_here o
 amended_other : {X K : Type 0} (o : By X K) (j : K) (f : X → X) (xs : List X) (k : K) → KeepsKeys o f → is_eq (o.cmp j k) ≡ false → lookup o (amend o j f xs) k ≡ lookup o xs k
 amended_other o j f xs k same apart = lookup_amend o j f xs k same ∙ with_answer_other o (lookup o xs) j (option_map f (lookup o xs k)) k apart
 
--- of a service that is there, and of one that may not be
+-- the groups of a service that is there, and of one that may not be
 endowed_there : (gs : List GroupRecord) (o : Option Service) → is_some o ≡ true → services_in (option_map (endow gs) o) ≡ gs
 endowed_there gs (Some s) e = refl
 endowed_there gs None e = absurd cc
@@ -308,7 +308,7 @@ behind_instance h n gs m ordered =
     (sym (single (is_unwritten gs2) n (instances h) (apart_from_rises (instances h) (rises_bare h.instances ordered)))
     ∙ ap (filter (λ i. (i.number == n) && is_unwritten gs2 i)) (sym (bare_groups n gs h.instances)))
 
--- what is worked out before groups are put
+-- the owners worked out before groups are put are those that are left to write afterwards
 pub put_is_written : (h : Holdings) (owner : Owner) (gs : List GroupRecord) (m : ℕ) → is_there h owner ≡ true → Rises by_entry h.instances
     → owners_behind h owner gs ≡ owners_written (installed h (PutGroups owner gs ∷ SetRevision m ∷ [])) owner
 unfolding owners_behind installed
@@ -375,7 +375,7 @@ module _ (h : Holdings) (x : Instance) (ss gs : List GroupRecord) (shots : List 
       (seen_after h.instances (all_found h.instances ordered)) (ap (λ (l : List GroupRecord). group_in l general) (own_after i there)) service_after
       ∙ ap (writes (groups_of after_it) (service_fmri x.name)) (sym instances_after)
 
--- what is worked out before a revert
+-- the owners worked out before a revert are those that are left to write afterwards
 pub revert_is_written : (h : Holdings) (i : Instance) (ss gs : List GroupRecord) (s : Snapshot) (n m : ℕ) → IsHeldAs h i → Rises by_entry h.instances
     → owners_reverted h i ss gs
     ≡ owners_written (installed h (AddSnapshot s ∷ NextSnapshot n ∷ (reverting h i ss gs ++ SetRevision m ∷ []))) (service_owner i)
@@ -384,7 +384,7 @@ revert_is_written h i ss gs s n m held ordered = revert_written h (noted h i) ss
 
 -- ---- what is done
 
--- an outcome with more changes behind its own
+-- an outcome with more changes after its own
 abbrev pub with_others : Asked → List Change → Asked
 with_others a others = record a { changes = and_others a.changes others a.reply }
 
@@ -539,7 +539,7 @@ revert_found h n name i e =
     ap (λ (o : Option Owner). with_owners h o (reverted h i (named_snapshot h (number_of i name)))) (sym (found_service h n i e))
     ∙ ap (λ (o : Option Instance). with_owners h (option_map service_owner (instance h n)) (asked_revert h name o)) (sym e)
 
--- a fault that was told, where memory did not run out
+-- the result is this fault, if memory did not run out
 pub told_fault : {Y : Type 0} (f fault : GroupFault) (given : Result Y GroupFault) → Fails fault given → IsVerdict f fault → given ≡ Err f
 told_fault f Memory given told v = absurd v
 told_fault f faults.NoSuch given told v = told ∙ ap Err (sym v)

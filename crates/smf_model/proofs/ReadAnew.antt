@@ -44,7 +44,7 @@ module _ (gs : Groups) where
   first_by : (r : Ordering) (x y : InstanceEntry) (ys : List InstanceEntry) → r ≡ Less → (cond (is_eq r) x y) ∷ ys ≡ y ∷ ys
   first_by r x y ys h = rw h refl
 
-  -- the first stays where others are written
+  -- the first stays if others are written
   first_stays : (es : List InstanceEntry) (x : InstanceEntry) (xs : List InstanceEntry) → IsBelowFirst by_entry x.instance.number es → Rises by_entry es
       → all_written es (x ∷ xs) ≡ x ∷ all_written es xs
   first_stays [] x xs b r = refl
@@ -77,7 +77,7 @@ module _ (gs : Groups) where
   written_is [] h = refl
   written_is (e ∷ es) h = written_is es (record h { instances = written e h.instances })
 
--- what is read is what is held with each instance written as it is read
+-- a copy is the held value, with each instance written as it is read
 pub copied_is : (h now : Holdings) (changes : List Change) → Rises by_entry h.instances → changes ≡ reads_written (groups_of h) h.instances → now ≡ installed h changes → now ≡ copied h
 unfolding copied
 copied_is h now changes r e made =

@@ -1,4 +1,4 @@
--- Where no service has a group of a name, none is found in any.
+-- If no service has a group of a name, a look-up finds none in any service.
 use Rattle.std.proofs.Common.{◌≡◌, List, [], ◌∷◌, ℕ, Bool, true, false, not, Option, Some, None, is_some, find, option_map, refl, if◌then◌else◌}
 use Rattle.std.specs.List.{list_all}
 use Rattle.std.specs.Prelude.{◌&&◌, unwrap_or}

@@ -8,11 +8,11 @@ use Rattle.smf_model.specs.Look.{installed}
 same_revision : (n m : ℕ) → m ≡ n → n < m → ⊥
 same_revision n m e l = omega arith
 
--- what is as before made no revision
+-- a value that is as before made no revision
 pub unrevised : (h k : Holdings) → k ≡ h → IsRevised h k → ⊥
 unrevised h k e l = same_revision h.revision k.revision (ap (λ (x : Holdings). x.revision) e) l
 
--- what was revised has changes
+-- a command that made a revision has changes
 pub revised_some : (h k : Holdings) (cs : List Change) → k ≡ installed h cs → IsRevised h k → 0 < length cs
 unfolding installed
 revised_some h k [] e l = absurd (unrevised h k e l)

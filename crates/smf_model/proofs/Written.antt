@@ -1,4 +1,4 @@
--- What becomes of instances whose owners are written, one after another.
+-- Instances after their owners are written, one after another.
 use Rattle.std.proofs.Common.{◌≡◌, ℕ, ◌==◌, ◌&&◌, Bool, true, false, cond, List, [], ◌∷◌, Option, Some, None, option_map, refl, sym, ap, ◌∙◌, subst, eqb-true}
 use Rattle.std.specs.Prelude.{filter}
 use Rattle.std.specs.List.{AllByRecursion}
@@ -59,7 +59,7 @@ placed_again gs i = refl
 
 -- ---- what is found
 
--- what is found stays as it was, or is shown now as it is read
+-- a look-up finds the same as before, or the instance as it is read
 pub data Written (gs : Groups) (o p : Option Instance) : Type 0 where
   stays_so : p ≡ o → Written gs o p
   is_read : (i : Instance) → o ≡ Some i → i.row.number ≡ 0 → p ≡ Some (current gs i) → Written gs o p
@@ -84,7 +84,7 @@ written_over gs (j ∷ js) xs ys held w n =
 pub at_written : (gs : Groups) (js xs : List Instance) (n : ℕ) → AreHeldAtZero xs js → Written gs (lookup by_instance xs n) (lookup by_instance (put_each (current gs) js xs) n)
 at_written gs js xs n held = written_over gs js xs xs held (λ m. stays_so refl) n
 
--- what is not there stays away, and what is there stays there
+-- an instance that is not there stays away
 pub none_written : (gs : Groups) (o p : Option Instance) → Written gs o p → o ≡ None → p ≡ None
 none_written gs o p (stays_so e) f = e ∙ f
 none_written gs o p (is_read i f zero e) g = absurd (clash i (sym g ∙ f))
@@ -106,7 +106,7 @@ apart_by true x o i none e = absurd (clash (sym (none refl) ∙ e))
     clash : None ≡ Some i → ⊥
     clash e = cc
 
--- what is found in a list is found in it with another before it
+-- an instance found in a list is found in it with another before it
 found_behind : (x : Instance) (xs : List Instance) (i : Instance) → lookup by_instance xs x.number ≡ None → IsHeldAtZero xs i → IsHeldAtZero (x ∷ xs) i
 found_behind x xs i none held =
     record {

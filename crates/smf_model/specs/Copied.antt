@@ -11,7 +11,7 @@ use Rattle.smf_model.specs.Setting.{Groups, current}
 abbrev pub read_entry : Groups → InstanceEntry → InstanceEntry
 read_entry gs e = record e { instance = current gs e.instance }
 
--- what is held, each instance as it is read
+-- the held value, with each instance as it is read
 unfoldable pub copied : Holdings → Holdings
 copied h = record h { instances = map (read_entry (groups_of h)) h.instances }
 

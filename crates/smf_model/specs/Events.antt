@@ -1,4 +1,4 @@
--- The events of instances, told by commands and what they led to.
+-- The events of instances, by the commands and the values that these led to.
 use Rattle.std.specs.Prelude.{◌≡◌, ◌⊎◌, ℕ, ◌+◌, ◌≤◌, ◌<◌, List, [], ◌∷◌, Bool, true, false, Some}
 use Rattle.smf_state.specs.declared.state.Cause.{Cause}
 use Rattle.smf_state.specs.declared.state.Cause.TheVariants as causes
@@ -79,14 +79,14 @@ IsEvent kind n h c = IsEventTo kind n h c (next h c).0 (next h c).1
 
 -- ---- in a history
 
--- among these commands, of which the newest stands first, is an event of this kind for the instance n, and the revision
--- that it made is above the base
+-- these commands, the newest first, have an event of this kind for the instance n. The revision that it made is above
+-- the base
 abbrev pub Happened : EventKind → ℕ → ℕ → Holdings → List Command → Type 0
 Happened kind n base h [] = ⊥
 Happened kind n base h (c ∷ cs) =
     (IsEvent kind n (made h cs) c × (base < (made h (c ∷ cs)).revision)) ⊎ Happened kind n base h cs
 
--- where a row keeps a revision above the base, such an event happened after it
+-- if a row keeps a revision above the base, such an event happened after the base
 abbrev pub IsTold : Holdings → List Command → EventKind → ℕ → ℕ → Instance → Type 0
 IsTold h cs kind n base i =
     IsNumbered h
@@ -95,7 +95,7 @@ IsTold h cs kind n base i =
     → base < revision_of kind i.row
     → Happened kind n base h cs
 
--- and where one happened, the row keeps such a revision
+-- and if one happened, the row keeps such a revision
 abbrev pub IsKept : Holdings → List Command → EventKind → ℕ → ℕ → Instance → Type 0
 IsKept h cs kind n base i =
     IsNumbered h

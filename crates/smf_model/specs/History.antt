@@ -9,7 +9,7 @@ pub record History : Type 0 where
   pub first : Holdings
   pub past : List Command
 
--- what commands make of a value, one after another, the newest first in the list
+-- the value after these commands, one after another, the newest first in the list
 abbrev pub made : Holdings → List Command → Holdings
 made h [] = h
 made h (c ∷ cs) = (next (made h cs) c).0
@@ -38,7 +38,7 @@ history h (c ∷ cs) = told (history h cs) c
 
 -- ---- its values
 
--- a value behind the first, and the command that made it
+-- a value after the first, and the command that made it
 pub record Entry : Type 0 where
   pub command : Command
   pub value : Holdings

@@ -1,4 +1,4 @@
--- What a journal is told, and what a crash may leave in it.
+-- The values that stand in a journal after a write, and those that a crash may leave in it.
 use Rattle.std.specs.Prelude.{◌≡◌, ◌⊎◌, ◌<◌, List, length, Option, Some}
 use Rattle.smf_model.specs.declared.change.Change.{Change}
 use Rattle.smf_model.specs.declared.journal.RepoFault.{RepoFault}
@@ -7,12 +7,12 @@ use Rattle.smf_model.specs.Holdings.{Holdings}
 use Rattle.smf_model.specs.Laws.{IsNumbered}
 use Rattle.smf_model.specs.Look.{installed}
 
--- what stood in the journal stands in it with the changes made, where numbers are given once in what they make
+-- a value that stood in the journal stands in it with the changes made, if numbers are given once in the result
 abbrev pub IsTold : {J : Type 0} → (J → Holdings → Type 0) → J → J → List Change → Type 0
 IsTold stands old new changes =
     (h : Holdings) → IsNumbered (installed h changes) → stands old h → stands new (installed h changes)
 
--- what stood in the journal stands in it
+-- each value that stood in the journal stands in it
 abbrev pub IsUntold : {J : Type 0} → (J → Holdings → Type 0) → J → J → Type 0
 IsUntold stands old new = (h : Holdings) → stands old h → stands new h
 

@@ -1,4 +1,4 @@
--- What holds of every repository and every command.
+-- The laws that hold for every repository and every command.
 use Rattle.std.specs.Prelude.{◌≡◌, ◌⊎◌, ℕ, ◌+◌, ◌<◌, ◌≤◌, List, [], ◌∷◌, Bool, true, false, Option, Some, None, find}
 use Rattle.smf_state.specs.declared.row.Row.{Row}
 use Rattle.smf_state.specs.declared.state.State.TheVariants.{Uninitialized, Disabled}
@@ -59,8 +59,8 @@ pub record IsIndexed (is : List Instance) (names : List InstanceName) : Type 0 w
   pub whole : (n : ℕ) (i : Instance) → lookup by_instance is n ≡ Some i
       → lookup by_name names i.name ≡ Some (record { name = i.name; number = n })
 
--- every list is in order, numbers of instances begin at 1, nothing has the number that comes next, or a greater one, no
--- row keeps a revision that is still to come, and instances are found by their names
+-- every list is in order, and numbers of instances begin at 1. No instance or snapshot has the next number of its kind,
+-- or a greater one. No row keeps a revision that is still to come. Instances are found by their names
 pub record IsNumbered (h : Holdings) : Type 0 where
   pub ordered : IsOrdered h
   pub first : 1 ≤ h.next_instance
@@ -75,7 +75,7 @@ abbrev pub AreApart : List Instance → Type 0
 AreApart [] = Unit {0}
 AreApart (i ∷ is) = (find (has_number i.number) is ≡ None) × AreApart is
 
--- what had a number that was given, and is gone, stays gone
+-- an instance whose number was given, and that is gone, stays gone
 abbrev pub InstanceStaysGone : Holdings → Command → ℕ → Type 0
 InstanceStaysGone h c n = n < h.next_instance → instance h n ≡ None → instance (next h c).0 n ≡ None
 
@@ -116,8 +116,8 @@ RowRises h c n i j =
     → instance (next h c).0 n ≡ Some j
     → (i.row.number ≤ j.row.number) × (i.row.last ≤ j.row.last)
 
--- a row stays but for what is asked, the snapshot `running` and the last refresh;
--- its owner stays where its number isn't 0
+-- a row stays but for its asks, the snapshot `running` and the last refresh.
+-- Its owner stays if its number is not 0
 pub record Stays (before after : Row) : Type 0 where
   pub same : after
       ≡ record before { owner = after.owner; asks = after.asks; running = after.running; refresh = after.refresh }

@@ -87,7 +87,7 @@ named h name = instance_at h (lookup by_name h.names name)
 abbrev pub service : Holdings → List ℕ → Option Service
 service h name = lookup by_service h.services name
 
--- an owner's groups by name, where the owner is there
+-- an owner's groups by name, if the owner is there
 abbrev pub owned : Holdings → Owner → Option (List GroupRecord)
 owned h (owners.Service name) = option_map (λ s. s.groups) (service h name)
 owned h (owners.Instance n) = option_map (λ e. e.groups) (lookup by_entry h.instances n)
@@ -117,7 +117,7 @@ launch_of h name = option_map_or (λ l. l.count) (lookup by_launch h.launches na
 
 -- ---- changes
 
--- what passes a test gives way to this, where it stands
+-- the first item that passes a test gives way to this one
 abbrev pub replaced : {X : Type 0} → (X → Bool) → X → List X → List X
 replaced test x [] = []
 replaced test x (y ∷ ys) = if test y then x ∷ ys else y ∷ replaced test x ys
@@ -133,7 +133,7 @@ put_over i is = amend by_instance i.number (in_place i) is
 abbrev pub with_instance : Instance → InstanceEntry → InstanceEntry
 with_instance i e = record e { instance = in_place i e.instance }
 
--- in its place, where nothing has its key
+-- an item in its place, if no item has its key
 abbrev pub put_by_lookup : {X K : Type 0} → By X K → X → List X → Option X → List X
 put_by_lookup o x xs (Some there) = xs
 put_by_lookup o x xs None = put o x xs

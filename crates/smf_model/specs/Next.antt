@@ -1,4 +1,4 @@
--- What each command asks to change, its reply, and what the repository is after it.
+-- The changes and the reply of each command, and the repository after it.
 use Rattle.std.specs.Prelude.{ℕ, ◌+◌, ◌==◌, ◌&&◌, ◌||◌, not, nat_lt, nat_le, nat_eq, List, []}
 use Rattle.std.specs.Prelude.{◌∷◌, ◌++◌, length, map, filter, count_by, Bool, true, false, if◌then◌else◌, Option}
 use Rattle.std.specs.Prelude.{Some, None, is_some, is_none, option_map, unwrap_or, Result, Ok, Err}
@@ -58,13 +58,13 @@ use Rattle.smf_model.specs.Look.{service, instance, instances, named, groups_of,
 use Rattle.smf_model.specs.Setting.{Groups, general, general_ovr, enabled_name, restarter_name, framework}
 use Rattle.smf_model.specs.Setting.{service_fmri, service_owner, current, setting, setting_by, owner_by}
 
--- what a command makes: the changes, and the reply
+-- the outcome of a command: its changes, and its reply
 abbrev pub Asked : Type 0
 Asked = Outcome
 
 -- ---- limits
 
--- of revisions, launches, row numbers and serials
+-- the greatest revision, launch, row number and serial
 abbrev pub greatest : ℕ
 greatest = 0x7fff_ffff_ffff_ffff
 
@@ -82,7 +82,7 @@ most_groups = 1000
 abbrev pub refused : Reply → Asked
 refused reply = record { changes = []; reply = reply }
 
--- an accepted command makes one revision, where one is left
+-- an accepted command makes one revision, if one is left
 abbrev pub accepted : Holdings → List Change → Reply → Asked
 accepted h changes reply =
     if nat_lt h.revision greatest
@@ -199,7 +199,7 @@ abbrev pub deleted_group : Holdings → Owner → List ℕ → Option GroupRecor
 deleted_group h owner name None = refused NoSuch
 deleted_group h owner name (Some g) = accepted h (group_dropped h owner name ∷ []) Done
 
--- what an edit of a group asks, where it is given the owner's group of that name
+-- the outcome of an edit of a group, by the owner's group of that name
 abbrev pub asked_add_group : Holdings → Owner → GroupRecord → Asked
 asked_add_group h owner g = guarded h owner g.name (added_group h owner g (group h owner g.name))
 
@@ -309,11 +309,11 @@ snapshot_of h i =
       instance_groups = taken (groups_of h (owners.Instance i.number));
     }
 
--- the changes behind those that take a snapshot
+-- the changes that take a snapshot, and others after them
 abbrev pub behind_snapshot : Holdings → Instance → ℕ → List Change → List Change
 behind_snapshot h i next_one changes = AddSnapshot (snapshot_of h i) ∷ NextSnapshot next_one ∷ changes
 
--- a snapshot is taken, where a number is left for it
+-- a snapshot is taken, if a number is left for it
 abbrev pub with_snapshot : Holdings → Instance → List Change → Reply → Asked
 with_snapshot h i changes reply =
     if nat_le h.next_snapshot greatest_snapshot
@@ -460,7 +460,7 @@ restarters_named h (asked_for.Property owner name change) = if_general owner nam
 restarters_named h (asked_for.Revert n name) = option_map service_owner (instance h n)
 restarters_named h _ = None
 
--- the changes of an edit that is done, and behind them the owners that it leaves to write
+-- the changes of an edit that is done, and after them the owners that it leaves to write
 abbrev pub and_owners : Holdings → Owner → List Change → Reply → List Change
 and_owners h owner changes Done = changes ++ owners_written (installed h changes) owner
 and_owners h owner changes _ = changes
@@ -505,7 +505,7 @@ started_by before after start =
 abbrev pub with_row : Instance → Row → Instance
 with_row i row = record i { row = row; start = started_by i.row row i.start }
 
--- the move that leaves uninitialized takes `running` where there is none
+-- the move that leaves uninitialized takes the snapshot `running`, if there is none
 abbrev pub takes_running : Row → Row → Bool
 takes_running before after =
     same_state before.state Uninitialized && not (same_state after.state Uninitialized) && is_none before.running
@@ -617,13 +617,13 @@ asked_boot h = if may_not_boot h then refused Limit else accepted h (booting h) 
 
 -- ---- the whole
 
--- what a command asks to change, and its reply
+-- the changes of a command, and its reply
 unfoldable pub asked : Holdings → Command → Asked
 asked h (commands.Edit edit) = with_owners h (restarters_named h edit) (asked_edit h edit)
 asked h (commands.Propose p) = answer h p
 asked h (commands.Launch name) = asked_launch h name
 asked h commands.Boot = asked_boot h
 
--- what a command makes of what is held, and its reply
+-- the value after a command, and its reply
 unfoldable pub next : Holdings → Command → Holdings × Reply
 next h c = (installed h (asked h c).changes, (asked h c).reply)

@@ -38,7 +38,7 @@ owners_of_service service g [] = []
 owners_of_service service g (e ∷ es) =
     owner_put_in service (setting_by (group_in e.groups general) g) e.instance ++ owners_of_service service g es
 
--- one of them, where the instance x has this group `general` of its own from now on
+-- one of them, if the instance x has this group `general` of its own from now on
 abbrev pub owner_beside : List ℕ → Option GroupRecord → Instance → Option GroupRecord → InstanceEntry → List Change
 owner_beside service g x own e =
     if e.instance.number == x.number then owner_put_in service (setting_by own g) x
@@ -66,7 +66,7 @@ pub record IsHeldAs (h : Holdings) (i : Instance) : Type 0 where
   pub found : instance h i.number ≡ Some held
   pub name : i.name ≡ held.name
 
--- what a revert notes of the instance
+-- the instance, with the snapshot that a revert takes as its `previous`
 abbrev pub noted : Holdings → Instance → Instance
 noted h i = record i { previous = Some h.next_snapshot }
 
@@ -80,7 +80,7 @@ owners_reverted h i ss gs =
 
 -- ---- what is done
 
--- more changes behind those of an edit that is done
+-- more changes after those of an edit that is done
 abbrev pub and_others : List Change → List Change → Reply → List Change
 and_others changes others Done = changes ++ others
 and_others changes others _ = changes

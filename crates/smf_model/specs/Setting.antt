@@ -1,4 +1,4 @@
--- What the group `general` says of an instance: whether it is enabled, and by which restarter it is run.
+-- The meaning of an instance's group `general`: whether the instance is enabled, and which restarter runs it.
 use Rattle.std.specs.Prelude.{ℕ, ◌==◌, List, [], ◌∷◌, ◌++◌, length, Bool, true, false}
 use Rattle.std.specs.Prelude.{if◌then◌else◌, codes, Option, Some, None, is_some, Result, Ok, Err}
 use Rattle.smf_fmri.specs.declared.fault.FmriFault.{FmriFault}
@@ -89,15 +89,15 @@ abbrev pub set_by : Option PropertyRecord → Setting
 set_by None = Unset
 set_by (Some p) = setting_of p.values
 
--- what the groups `general` of an instance and of its service say
+-- the setting that the groups `general` of an instance and of its service give
 abbrev pub setting_by : Option GroupRecord → Option GroupRecord → Setting
 setting_by own services_own = set_by (property_of_either own services_own restarter_name)
 
--- what `general/restarter` says
+-- the setting that `general/restarter` gives
 unfoldable pub setting : Groups → Instance → Setting
 setting gs i = setting_by (group_in (gs (owners.Instance i.number)) general) (group_in (gs (service_owner i)) general)
 
--- the restarter that a setting names: svc.startd's own where it names none
+-- the restarter that a setting names, or svc.startd if it names none
 abbrev pub owner_by : Setting → List ℕ
 owner_by (Restarter name) = name
 owner_by _ = startd

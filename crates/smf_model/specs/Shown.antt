@@ -1,4 +1,4 @@
--- What the reads of a repository show.
+-- The results of the reads of a repository.
 use Rattle.std.specs.Prelude.{ℕ, nat_eq, List, [], ◌∷◌, map, filter, Bool, true, codes, Option, Some, None, option_map}
 use Rattle.std.specs.Cmp.Lexicographic.{pointwise}
 use Rattle.smf_state.specs.declared.row.Row.{Row}

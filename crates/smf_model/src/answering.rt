@@ -63,7 +63,7 @@ fn started_by(before: &Row, after: &Row, start: Option<Number>) -> Option<Number
     }
 }
 
-/// The move that leaves uninitialized takes `running` where there is none.
+/// The move that leaves uninitialized takes the snapshot `running`, if there is none.
 fn takes_running(before: &Row, after: &Row) -> bool
     ensures { result ≡ takes_running before.now after.now }
 {

@@ -149,7 +149,7 @@ fn booted_row(mut row: Row, owner: InstanceFmri) -> Row
     row
 }
 
-/// The group of a name, where it outlasts a boot.
+/// The group of a name, if it outlasts a boot.
 #[tactic(auto, using(crate::proofs::Kept::kept_none, crate::proofs::Kept::kept_some))]
 fn kept_of_name<'a>(groups: &'a Ordered<Group>, name: &str) -> Option<&'a Group>
     ensures { option_copied result ≡ group_in (kept_groups groups.now) name.now }
@@ -178,7 +178,7 @@ pub(crate) fn is_instance_of(
     Ok(of == *service)
 }
 
-/// Whether a service has an instance.
+/// True if a service has an instance.
 fn has_instance(
     alloc: Global,
     service: &ServiceFmri,
@@ -196,8 +196,8 @@ fn has_instance(
 }
 
 impl Planner<'_> {
-    /// The group `general` of the service of an instance, where it outlasts a boot. It is not looked for where no service
-    /// has one.
+    /// The group `general` of the service of an instance, if it outlasts a boot. It is not looked for if no service has
+    /// one.
     #[tactic(auto, unfolding(crate::specs::Look::groups_of), using(crate::proofs::Kept::none_at_boot))]
     fn services_general_at_boot(&self, instance: &InstanceFmri, none_has: bool) -> Option<&Group>
         requires { none_has ≡ true → no_service_has self.now.services general ≡ true }
@@ -213,7 +213,7 @@ impl Planner<'_> {
         }
     }
 
-    /// What `general/restarter` says of an instance once a boot has dropped groups.
+    /// The setting that `general/restarter` gives an instance after a boot has dropped groups.
     #[tactic(auto, unfolding(crate::specs::Setting::setting))]
     fn setting_at_boot(&self, entry: &InstanceEntry, none_has: bool) -> Result<Setting, AllocError>
         requires known { none_has ≡ true → no_service_has self.now.services general ≡ true }
@@ -270,7 +270,7 @@ impl Planner<'_> {
         any_last_launch(self.tables.launches()) || any_last_number(self.tables.entries())
     }
 
-    /// What a boot of the machine changes.
+    /// Plans a boot of the machine. It is refused if a launch or a row has no next number.
     #[tactic(auto, unfolding(crate::specs::Next::asked_boot))]
     pub(crate) fn boot(&self) -> Asked
         ensures { IfOk result (λ r. r ≡ asked_boot self.now) }

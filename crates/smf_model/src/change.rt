@@ -30,7 +30,7 @@ pub enum Change {
     SetRevision(Number),
 }
 
-/// What a command makes: the changes, in the order in which they are made, and the reply.
+/// The outcome of a command: its changes, in the order in which they are made, and its reply.
 #[derive(Drop)]
 pub struct Outcome {
     pub changes: Items<Change>,

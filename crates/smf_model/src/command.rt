@@ -8,10 +8,10 @@ use smf_state::{Proposal, SharedRow, Why};
 use smf_value::{GroupFault, Kind, Name};
 use std::alloc::AllocError;
 
-/// What is asked of the repository.
+/// A request to the repository.
 #[derive(Drop)]
 pub enum Command {
-    /// What a client may give.
+    /// A request that a client may make.
     Edit(Edit),
     Propose(Proposal),
     /// A restarter of this name begins.
@@ -45,14 +45,14 @@ pub enum Edit {
         group: Name,
         change: PropertyChange,
     },
-    /// Enables or disables, until the next boot alone where temporary.
+    /// Enables or disables an instance. A temporary request lasts until the next boot.
     Enable {
         instance: u64,
         enabled: bool,
         temporary: bool,
     },
     Restart(u64),
-    /// Takes the snapshot `running`, and moves the instance where its restarter is another now.
+    /// Takes the snapshot `running`, and moves the instance if its restarter is another now.
     Refresh(u64),
     Clear(u64),
     Mark {
@@ -87,7 +87,7 @@ pub enum PropertyChange {
     },
 }
 
-/// What svcadm mark asks for.
+/// The mark that svcadm(1M) mark asks for.
 #[derive(Clone, Copy, PartialEq, Eq)]
 pub enum Mark {
     Degraded,
@@ -96,7 +96,7 @@ pub enum Mark {
     MaintenanceNow,
 }
 
-/// What a command is answered with. All but the first three are refusals, which change nothing.
+/// The answer to a command. All but the first three are refusals, which change nothing.
 #[derive(Drop)]
 pub enum Reply {
     /// The number of an instance that was added, or of a launch.

@@ -5,7 +5,7 @@ use crate::command::{Command, Edit};
 use crate::planner::{Asked, Planner};
 
 impl Planner<'_> {
-    /// What a client's edit changes, the owners that it leaves to write among it, and its reply.
+    /// The changes of a client's edit, with the owners that it leaves to write, and its reply.
     #[tactic(auto, unfolding(crate::specs::Next::asked_edit, crate::specs::Next::with_owners))]
     fn asked_edit(&self, edit: &Edit) -> Asked
         ensures { IfOk result (λ r. r ≡ with_owners self.now (restarters_named self.now edit.now) (asked_edit self.now edit.now)) }
@@ -43,7 +43,7 @@ impl Planner<'_> {
         }
     }
 
-    /// What a command changes, and its reply.
+    /// The changes of a command, and its reply.
     #[tactic(auto, unfolding(crate::specs::Next::asked))]
     pub(crate) fn asked(&self, command: &Command) -> Asked
         ensures { IfOk result (λ r. r ≡ asked self.now command.now) }

@@ -96,7 +96,7 @@ fn verdict_of(fault: GroupFault) -> Result<GroupFault, AllocError>
     }
 }
 
-/// Whether a group of this name says which restarter an instance has.
+/// True if a group of this name says which restarter an instance has.
 fn is_general(name: &Name) -> bool
     ensures { result ≡ pointwise nat_eq name.now general }
 {
@@ -115,7 +115,7 @@ pub(crate) fn new_group(alloc: Global, name: Name, group_type: Name, non_persist
 }
 
 impl Planner<'_> {
-    /// Whether an owner has room for a group of one of two names.
+    /// True if an owner has room for a group of one of two names.
     #[tactic(auto, unfolding(crate::specs::Look::groups_of))]
     fn has_room(&self, owner: &Owner, first: &str, second: &str) -> bool
         ensures { result ≡ has_room self.now owner.now first.now second.now }
@@ -126,14 +126,14 @@ impl Planner<'_> {
         }
     }
 
-    /// Whether an owner has room for a group of a name.
+    /// True if an owner has room for a group of a name.
     fn has_room_for(&self, owner: &Owner, name: &str) -> bool
         ensures { result ≡ has_room self.now owner.now name.now name.now }
     {
         self.has_room(owner, name, name)
     }
 
-    /// Whether an instance has room for a group of one of two names.
+    /// True if an instance has room for a group of one of two names.
     fn has_own_room(&self, number: Number, first: &str, second: &str) -> bool
         ensures { result ≡ has_room self.now (Owner.Instance number) first.now second.now }
     {

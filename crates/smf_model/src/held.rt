@@ -12,7 +12,7 @@ use smf_value::Group;
 use std::alloc::{AllocError, Global};
 use std::marker::Model;
 
-/// What groups belong to.
+/// The owner of groups.
 #[derive(Drop)]
 pub enum Owner {
     Service(ServiceFmri),
@@ -54,7 +54,7 @@ pub struct InstanceName {
     pub number: Number,
 }
 
-/// What an instance's configuration was: the groups of its service and its own.
+/// The configuration of an instance at one time: the groups of its service and its own.
 #[derive(Drop)]
 pub struct Snapshot {
     /// From 1, never given again.
@@ -78,7 +78,7 @@ pub struct Launch {
     pub count: Number,
 }
 
-/// What takes the place of a part of an entry.
+/// A new part of an entry, which takes the place of the old one.
 #[derive(Drop)]
 pub enum EntryPart {
     /// The instance, which keeps its number.

@@ -23,18 +23,20 @@ impl From<AllocError> for RepoFault {
     }
 }
 
-/// What is told the changes of a command before they take effect. Numbers are given once in what the changes make.
+/// Receives the changes of a command before they take effect. Numbers are given once in the value that the changes
+/// make.
 pub trait Journal {
-    /// What it rests on has so far given back what was written. It may fall at any call, and no call says so.
+    /// The storage under the journal has so far given back what was written. This may end at any call, and no call says
+    /// so.
     ghost is_clean: { Self → Type 0 };
 
     /// It is clean and can be read and written.
     ghost is_sound: { Self → Type 0 };
 
-    /// Whether a value stands in the journal. Where it is not sound this says nothing.
+    /// A value stands in the journal. This says nothing of a journal that is not sound.
     ghost stands: { Self → Holdings → Type 0 };
 
-    /// What an open after a crash at this moment may find: a value, or that there is none.
+    /// An open after a crash at this moment may find this: a value, or that there is none.
     ghost could: { Self → Option Holdings → Type 0 };
 
     /// With which faults a write may end.

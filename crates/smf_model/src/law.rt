@@ -58,8 +58,8 @@ pub fn changes_follow_the_diagram()
     ensures { (h : Holdings) (c : AnyCommand) (n : ℕ) (j : AnyInstance) → IsNumbered h → RowGoesOn h c n j }
 {}
 
-/// The newest value of a history is what its commands make one after another; each value is what its command makes
-/// of the one before, under the next revision; and each revision from the first has its value.
+/// The newest value of a history is what its commands make one after another. Each value is what its command makes of
+/// the one before, under the next revision. Each revision from the first has its value.
 pub fn histories_are_made_in_turn()
     ensures now { (h : Holdings) (cs : List AnyCommand) → now (history h cs) ≡ made h cs }
     ensures first { (h : Holdings) (cs : List AnyCommand) → (history h cs).first ≡ h }
@@ -67,8 +67,8 @@ pub fn histories_are_made_in_turn()
     ensures found { (h : Holdings) (cs : List AnyCommand) (n : ℕ) → HasValueAt h cs n }
 {}
 
-/// A row keeps the revision of the last event of each kind: what it keeps is above a base exactly where such an event
-/// came after the base. No row keeps a revision that is still to come.
+/// A row keeps the revision of the last event of each kind. This revision is above a base exactly if such an event came
+/// after the base. No row keeps a revision that is still to come.
 pub fn revisions_tell_events()
     ensures kept { (h : Holdings) (cs : List AnyCommand) → IsNumbered h → IsDated (made h cs) }
     ensures told { (h : Holdings) (cs : List AnyCommand) (k : EventKind) (n base : ℕ) (i : AnyInstance)

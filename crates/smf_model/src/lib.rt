@@ -1,10 +1,14 @@
-//! The repository as a plain value: what it holds, what each command makes of it, and the body that keeps it in lists.
-//! Modules: `held` (what is held), `command` (commands and replies), `change` (record changes), `tables` (the lists and
-//! their changes), `planner` (what a command is planned over, and what it may answer), `setting` (restarters), `asking`
-//! (services, instances and notes of asks), `grouping` (edits of groups), `snapping` (refresh), `reverting` (revert),
-//! `owning` (owners that an edit leaves to write), `answering` (proposals), `booting` (boot), `dispatch` (which command it is), `journal` (what is told of changes),
-//! `plain` (the repository over a journal), `showing` (reads), `viewing` (what the graph sees, and snapshots by name),
-//! `law` (what no list of commands breaks).
+//! The repository as a plain value: its contents, the result of each command, and the body that keeps it in lists.
+//! Records: `held` (what is held), `command` (commands and replies), `change` (record changes), `tables` (the lists and
+//! their changes).
+//! Plans of commands: `planner` (the value under a plan, and the possible outcomes), `dispatch` (the kind of a
+//! command), `general_group` (restarters).
+//! Edits: `instance_edits` (services, instances and notes of asks), `group_edits` (edits of groups), `refreshes` (refresh),
+//! `reverts` (revert), `owner_changes` (owners that an edit leaves to write).
+//! Other commands: `proposals` (proposals), `boot_changes` (boot).
+//! The repository: `journal` (the promises of a journal), `plain` (the repository over a journal), `reads` (reads),
+//! `views` (the graph's view, and snapshots by name).
+//! Laws: `law` (the laws that no list of commands breaks).
 #![tactic(auto)]
 
 mod answering;

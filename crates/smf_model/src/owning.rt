@@ -20,7 +20,7 @@ use smf_state::Row;
 use smf_value::Group;
 use std::alloc::{AllocError, Global};
 
-/// Whether a row has number 0, and another owner than this.
+/// True if a row has number 0, and another owner than this.
 fn is_unwritten(row: &Row, owner: &InstanceFmri) -> bool
     ensures { result ≡ ((row.now.number == 0) && not (pointwise nat_eq row.now.owner owner.now)) }
 {
@@ -41,7 +41,7 @@ fn with_owner(
     Ok(after)
 }
 
-/// Changes, and behind them the owner that two groups `general` name for an instance, if its row is to show it.
+/// Changes, and after them the owner that two groups `general` name for an instance, if its row is to show it.
 fn put_owner(
     alloc: Global,
     changes: Items<Change>,
@@ -96,7 +96,7 @@ fn owners_of_service(
     Ok(changes)
 }
 
-/// Changes, and behind them the owner of an entry, where another instance has this group `general` of its own from now on.
+/// Changes, and after them the owner of an entry, if another instance has this group `general` of its own from now on.
 fn put_owner_beside(
     alloc: Global,
     changes: Items<Change>,
@@ -143,7 +143,7 @@ fn owners_beside(
     Ok(changes)
 }
 
-/// What is done, with more changes behind it; a refusal stays as it is.
+/// An outcome that is done, with more changes after its own; a refusal stays as it is.
 pub(crate) fn and_changes(outcome: Outcome, others: Items<Change>) -> Asked
     ensures { IfOk result (λ r. r ≡ (record outcome { changes = and_others outcome.changes others outcome.reply })) }
 {

@@ -44,7 +44,7 @@ impl<J: Journal> Model for Plain<J> {
 }
 
 impl<J: Journal> Plain<J> {
-    /// What is held, over a journal in which it stands.
+    /// The repository of a value, over a journal in which the value stands.
     pub fn over(alloc: Global, tables: Tables, journal: J) -> Plain<J>
         requires stands { J.stands journal tables }
         requires numbered { IsNumbered tables }
@@ -79,21 +79,21 @@ impl<J: Journal> Plain<J> {
         self.journal
     }
 
-    /// What is held, to be planned over and read.
+    /// The held value, to be planned over and read.
     fn planner(&self) -> Planner<'_>
         ensures { result ≡ self.now.held }
     {
         Planner::over(self.alloc, &self.tables)
     }
 
-    /// Whether a boot is refused, since a launch or a row has no next number.
+    /// True if a boot is refused, because a launch or a row has no next number.
     pub fn may_not_boot(&self) -> bool
         ensures { result ≡ may_not_boot self.now.held }
     {
         self.planner().may_not_boot()
     }
 
-    /// What a command changes, and its reply. It changes nothing itself.
+    /// Plans a command: its changes, and its reply. This changes nothing itself.
     pub fn asked(&self, command: &Command) -> Result<Outcome, AllocError>
         ensures exact { IfOk result (λ r. r ≡ asked self.now.held command.now) }
         ensures refused { IfOk result (λ r. is_refusal r.reply ≡ true → r.changes ≡ []) }
@@ -104,8 +104,8 @@ impl<J: Journal> Plain<J> {
         Ok(outcome)
     }
 
-    /// Makes changes: the journal is written first, and an error leaves what is held. Where there are none the journal
-    /// is not called.
+    /// Makes changes: the journal is written first, and an error leaves what is held. If there are no changes, the
+    /// journal is not called.
     pub fn commit(&mut self, changes: Items<Change>) -> Result<(), RepoFault>
         requires { IsNumbered (installed self.old.held changes) }
         ensures ok { OnOk result (self.new.held ≡ installed self.old.held changes) }
@@ -174,7 +174,7 @@ impl<J: Journal> Plain<J> {
         self.tables.services()
     }
 
-    /// The restarter that `general/restarter` of an instance names: svc.startd's own where it names none.
+    /// The restarter that `general/restarter` of an instance names, or svc.startd if it names none.
     pub fn owner_set(&self, instance: &Instance) -> Result<InstanceFmri, AllocError>
         ensures { IfOk result (λ name. name ≡ owner_by (setting (groups_of self.now.held) instance.now)) }
     {
@@ -209,7 +209,7 @@ impl<J: Journal> Plain<J> {
         self.planner().composed_groups(number)
     }
 
-    /// What svc.startd's graph sees of the instances, but for the bytes of snapshots.
+    /// The instances as svc.startd's graph sees them, but for the bytes of snapshots.
     pub fn rows(&self) -> Result<Items<ViewItem>, AllocError>
         ensures { IfOk result (λ all. all ≡ rows self.now.held) }
     {
@@ -222,7 +222,7 @@ impl<J: Journal> Plain<J> {
         self.tables.service(name).is_some()
     }
 
-    /// The row number of an instance, where it is there.
+    /// The row number of an instance, if it is there.
     pub fn row_number(&self, number: u64) -> Option<u64>
         ensures { result ≡ option_map (λ i. i.row.number) (instance self.now.held number) }
     {
@@ -258,7 +258,7 @@ impl<J: Journal> Plain<J> {
         }
     }
 
-    /// The names of the snapshots that an instance has, in byte order; none where there is no such instance.
+    /// The names of the snapshots that an instance has, in byte order; none if there is no such instance.
     pub fn snapshots(&self, instance: u64) -> Result<Option<Items<SnapshotName>>, AllocError>
         ensures { IfOk result (λ all. all ≡ snapshots_of self.now.held instance) }
     {
@@ -272,7 +272,7 @@ impl<J: Journal> Plain<J> {
         self.planner().snapshot_number(instance, name)
     }
 
-    /// What svc.startd's graph sees.
+    /// The repository as svc.startd's graph sees it.
     pub fn view(&self) -> Result<View, AllocError>
         ensures { IfOk result (λ v. v ≡ view self.now.held) }
     {
@@ -294,7 +294,7 @@ impl<J: Journal> Plain<J> {
         let _tables = &self.tables;
     }
 
-    /// Whether an instance that is there is enabled.
+    /// True if an instance that is there is enabled.
     pub fn is_enabled(&self, instance: &Instance) -> Result<bool, AllocError>
         ensures { IfOk result (λ b. b ≡ enabled (groups_of self.now.held) instance.now) }
     {

@@ -8,10 +8,10 @@ use smf_fmri::Items;
 use std::alloc::{AllocError, Global};
 use std::marker::Model;
 
-/// What a command makes, unless memory runs out.
+/// The outcome of a command, unless memory runs out.
 pub(crate) type Asked = Result<Outcome, AllocError>;
 
-/// What a command is planned over: what is held, and where what it makes is put. A clause sees what is held.
+/// The value that a command is planned over, and the memory for the plan. A clause sees the value.
 #[derive(Drop)]
 pub(crate) struct Planner<'a> {
     pub(crate) alloc: Global,
@@ -26,7 +26,7 @@ impl<'a> Model for Planner<'a> {
     ghost view = { λ p. p.tables.now };
 }
 
-/// Changes, and one more behind them.
+/// Changes, and one more after them.
 pub(crate) fn with_change(
     mut changes: Items<Change>,
     change: Change,
@@ -37,7 +37,7 @@ pub(crate) fn with_change(
     Ok(changes)
 }
 
-/// Lets go of a reply in whose place a refusal or a fault comes, which costs a proof once, and not at each exit.
+/// Drops a reply in whose place a refusal or a fault comes. The drop costs one proof here, and none at each exit.
 pub(crate) fn let_go(_reply: Reply) {}
 
 impl<'a> Planner<'a> {
@@ -57,7 +57,7 @@ impl<'a> Planner<'a> {
         })
     }
 
-    /// An accepted command makes one revision, where one is left.
+    /// An accepted command makes one revision. If none is left, the command is refused.
     pub(crate) fn accepted(&self, changes: Items<Change>, reply: Reply) -> Asked
         ensures { IfOk result (λ r. r ≡ accepted self.now changes reply) }
     {

@@ -40,7 +40,7 @@ pub(crate) fn number_of(instance: &Instance, name: SnapshotName) -> Option<u64>
     }
 }
 
-/// Whether an owner would have more groups than it may have.
+/// True if an owner would have more groups than it may have.
 fn are_past_most(first: &Ordered<Group>, second: &Ordered<Group>) -> bool
     ensures { result ≡ (is_past_most first.now || is_past_most second.now) }
 {
@@ -126,7 +126,7 @@ impl Planner<'_> {
         self.revert_within(instance, service_groups, instance_groups)
     }
 
-    /// What a revert makes of an owner's groups.
+    /// The groups of an owner after a revert.
     #[tactic(auto, unfolding(crate::specs::Look::groups_of))]
     fn restored(&self, owner: &Owner, groups: &Ordered<Group>) -> Result<Ordered<Group>, AllocError>
         ensures { IfOk result (λ gs. gs ≡ restored (groups_of self.now owner.now) groups.now) }
@@ -137,7 +137,7 @@ impl Planner<'_> {
         }
     }
 
-    /// What a revert makes of the groups of an instance's service.
+    /// The groups of an instance's service after a revert.
     fn restored_of_service(
         &self,
         instance: &Instance,
@@ -149,7 +149,7 @@ impl Planner<'_> {
         self.restored(&service, groups)
     }
 
-    /// What a revert makes of the groups of an instance.
+    /// The groups of an instance after a revert.
     fn restored_of_instance(
         &self,
         instance: &Instance,

@@ -14,7 +14,7 @@ use smf_state::{SharedRow, startd};
 use smf_value::{Group, Property, Value};
 use std::alloc::{AllocError, Global};
 
-/// What `general/restarter` says.
+/// The setting that `general/restarter` gives.
 #[derive(Drop)]
 pub enum Setting {
     /// Nothing, so svc.startd runs the instance.
@@ -24,7 +24,7 @@ pub enum Setting {
     Unreadable,
 }
 
-/// A property of a group, where it is there.
+/// A property of a group, if it is there.
 fn property_in<'a>(group: Option<&'a Group>, name: &str) -> Option<&'a Property>
     ensures { option_copied result ≡ property_in (option_copied group.entry) name.now }
 {
@@ -131,7 +131,7 @@ fn named(name: Fmri) -> Setting
     }
 }
 
-/// What the groups `general` of an instance and of its service say.
+/// The setting that the groups `general` of an instance and of its service give.
 pub(crate) fn setting_by(
     alloc: Global,
     own: Option<&Group>,
@@ -157,7 +157,7 @@ pub(crate) fn is_readable(setting: &Setting) -> bool
     !matches!(setting, Setting::Unreadable)
 }
 
-/// The restarter that a setting names: svc.startd's own where it names none.
+/// The restarter that a setting names, or svc.startd if it names none.
 pub(crate) fn owner_by(alloc: Global, setting: Setting) -> Result<InstanceFmri, AllocError>
     ensures { IfOk result (λ name. name ≡ owner_by setting) }
 {
@@ -227,7 +227,7 @@ impl Planner<'_> {
         self.group_of(&Owner::Instance(number), name)
     }
 
-    /// Whether an instance is enabled: by `general_ovr/enabled`, else by `general/enabled`.
+    /// True if an instance is enabled, by `general_ovr/enabled`, else by `general/enabled`.
     #[tactic(auto, unfolding(crate::specs::Setting::enabled))]
     pub(crate) fn enabled(&self, instance: &Instance) -> Result<bool, AllocError>
         ensures { IfOk result (λ b. b ≡ enabled (groups_of self.now) instance.now) }
@@ -238,7 +238,7 @@ impl Planner<'_> {
         Ok(is_true(enabled_property(ovr, general, services_own)))
     }
 
-    /// What `general/restarter` says of an instance.
+    /// The setting that `general/restarter` gives an instance.
     #[tactic(auto, unfolding(crate::specs::Setting::setting))]
     pub(crate) fn setting_for(&self, instance: &Instance) -> Result<Setting, AllocError>
         ensures { IfOk result (λ s. s ≡ setting (groups_of self.now) instance.now) }

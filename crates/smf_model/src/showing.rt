@@ -211,7 +211,7 @@ impl Planner<'_> {
         put_copies(services_own, own.as_slice())
     }
 
-    /// The groups that the instance of a number has, or none where there is no such instance.
+    /// The groups that the instance of a number has, or none if there is no such instance.
     #[tactic(auto, unfolding(crate::specs::Shown::composed_groups))]
     pub(crate) fn composed_groups(&self, number: u64) -> Result<Option<Ordered<Group>>, AllocError>
         ensures { IfOk result (λ gs. gs ≡ composed_groups self.now number) }

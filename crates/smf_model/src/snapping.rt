@@ -85,7 +85,7 @@ fn moved_row(mut row: Row, running: u64, owner: InstanceFmri) -> Row
     row
 }
 
-/// Changes, and others behind them.
+/// Changes, and others after them.
 pub(crate) fn append(
     mut changes: Items<Change>,
     others: Items<Change>,
@@ -99,7 +99,7 @@ pub(crate) fn append(
 }
 
 impl Planner<'_> {
-    /// What a snapshot keeps of an owner's groups now.
+    /// The groups of an owner, as a snapshot keeps them now.
     #[tactic(auto, unfolding(crate::specs::Look::groups_of))]
     fn taken(&self, owner: &Owner) -> Result<Ordered<Group>, AllocError>
         ensures { IfOk result (λ gs. gs ≡ taken (groups_of self.now owner.now)) }
@@ -110,7 +110,7 @@ impl Planner<'_> {
         }
     }
 
-    /// What a snapshot keeps of the groups of an instance's service now.
+    /// The groups of an instance's service, as a snapshot keeps them now.
     fn taken_of_service(&self, instance: &Instance) -> Result<Ordered<Group>, AllocError>
         ensures { IfOk result (λ gs. gs ≡ taken (groups_of self.now (owner_of_service instance.now))) }
     {
@@ -118,7 +118,7 @@ impl Planner<'_> {
         self.taken(&service)
     }
 
-    /// What a snapshot of an instance holds now, with its bytes.
+    /// A snapshot of an instance as it is now, with its bytes.
     fn snapshot_of(&self, instance: &Instance) -> Result<StoredSnapshot, AllocError>
         ensures { IfOk result (λ s. s ≡ snapshot_of self.now instance.now) }
     {
@@ -134,7 +134,7 @@ impl Planner<'_> {
         Ok(stored)
     }
 
-    /// A snapshot of an instance is taken, where a number is left for it.
+    /// Takes a snapshot of an instance, if a number is left for it.
     pub(crate) fn with_snapshot(
         &self,
         instance: &Instance,
@@ -171,7 +171,7 @@ impl Planner<'_> {
         with_change(changes, Change::NextSnapshot(next))
     }
 
-    /// The changes behind those that take a snapshot.
+    /// The changes that take a snapshot, and others after them.
     fn behind_snapshot(
         &self,
         instance: &Instance,
@@ -184,7 +184,7 @@ impl Planner<'_> {
         append(all, changes)
     }
 
-    /// Puts a new row of an instance behind a snapshot of it.
+    /// Takes a snapshot of an instance, and then puts a new row of it.
     fn with_row_and_snapshot(&self, instance: &Instance, row: Row) -> Asked
         ensures { IfOk result (λ r. r ≡ with_row_and_snapshot self.now instance.now row) }
     {
@@ -228,7 +228,7 @@ impl Planner<'_> {
         }
     }
 
-    /// Takes the snapshot `running`, and moves the instance where its restarter is another now.
+    /// Takes the snapshot `running`, and moves the instance if its restarter is another now.
     pub(crate) fn refresh(&self, number: u64) -> Asked
         ensures { IfOk result (λ r. r ≡ asked_refresh self.now (found self.now number)) }
     {

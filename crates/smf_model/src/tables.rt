@@ -14,7 +14,7 @@ use smf_value::Group;
 use std::alloc::{AllocError, Global};
 use std::marker::Model;
 
-/// What a repository holds, in lists in key order.
+/// The contents of a repository, in lists in key order.
 #[derive(Drop)]
 pub struct Tables {
     pub(crate) lists: Lists,
@@ -135,7 +135,7 @@ impl Tables {
         self.lists.services.get_text(text)
     }
 
-    /// Whether no service has a group of a name.
+    /// True if no service has a group of a name.
     pub(crate) fn no_service_has(&self, name: &str) -> bool
         ensures { result ≡ no_service_has self.now.services name.now }
     {
@@ -190,7 +190,7 @@ impl Tables {
         }
     }
 
-    /// The groups of an owner, or none where there is no such owner.
+    /// The groups of an owner, or none if there is no such owner.
     pub fn owned(&self, owner: &Owner) -> Option<&Ordered<Group>>
         ensures { option_copied result ≡ owned self.now owner.now }
     {
@@ -202,7 +202,7 @@ impl Tables {
 }
 
 impl Tables {
-    /// Makes changes, as a store does with what it reads. Where memory runs out what is held is as it was.
+    /// Makes changes, as a store does with what it reads. If memory runs out, what is held is as it was.
     pub fn make(&mut self, changes: Items<Change>) -> Result<(), AllocError>
         ensures ok { OnOk result (self.new ≡ installed self.old changes) }
         ensures err { OnErr result (self.new ≡ self.old) }
@@ -220,7 +220,7 @@ fn drop_snapshots(snapshots: &mut Table<StoredSnapshot>, instance: Number)
     snapshots.retain(|s| s.snapshot().instance != instance);
 }
 
-/// Puts a snapshot in its place, where none has its number.
+/// Puts a snapshot in its place, if none has its number.
 fn add_snapshot(snapshots: &mut Table<StoredSnapshot>, snapshot: StoredSnapshot)
     requires { 0 < snapshots.old.room }
     ensures put { snapshots.new.items ≡ put_new by_snapshot snapshot snapshots.old.items }
@@ -288,7 +288,7 @@ pub(crate) fn install(lists: &mut Lists, changes: Vec<Change>)
     }
 }
 
-/// Makes room for so many changes. Where memory runs out the lists hold what they held.
+/// Makes room for so many changes. If memory runs out, the lists hold what they held.
 pub(crate) fn reserve(lists: &mut Lists, changes: usize) -> Result<(), AllocError>
     ensures room { OnOk result (HasRoom lists.new changes) }
     ensures same { held_in lists.new ≡ held_in lists.old }

@@ -54,7 +54,7 @@ impl Planner<'_> {
         }
     }
 
-    /// The bytes of a snapshot, where there is one.
+    /// The bytes of a snapshot, if there is one.
     fn body_at(&self, number: Option<u64>) -> Result<Option<Bytes>, AllocError>
         ensures { IfOk result (λ body. body ≡ option_map body_of (named_snapshot self.now number)) }
     {
@@ -67,7 +67,7 @@ impl Planner<'_> {
         }
     }
 
-    /// The group `general` of the service of an instance, which is not looked for where no service has one.
+    /// The group `general` of the service of an instance, which is not looked for if no service has one.
     #[tactic(auto, using(crate::proofs::Services::none_of_it))]
     fn services_general(&self, instance: &InstanceFmri, none_has: bool) -> Option<&Group>
         requires { none_has ≡ true → no_service_has self.now.services general ≡ true }
@@ -119,7 +119,7 @@ impl Planner<'_> {
         Ok(all)
     }
 
-    /// What the graph sees but for the bytes of snapshots.
+    /// The instances as the graph sees them, but for the bytes of snapshots.
     #[tactic(auto, unfolding(crate::specs::Shown::rows))]
     pub(crate) fn rows(&self) -> Result<Items<ViewItem>, AllocError>
         ensures { IfOk result (λ all. all ≡ rows self.now) }
@@ -164,7 +164,7 @@ impl Planner<'_> {
         Ok(Ordered::from_vec(all))
     }
 
-    /// What svc.startd's graph sees.
+    /// The repository as svc.startd's graph sees it.
     #[tactic(auto, unfolding(crate::specs::Shown::view))]
     pub(crate) fn view(&self) -> Result<View, AllocError>
         ensures { IfOk result (λ v. v ≡ view self.now) }

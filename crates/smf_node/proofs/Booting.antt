@@ -1,4 +1,4 @@
--- Whether a boot is refused for want of a number, without what it changes.
+-- A boot that is refused for want of a number, without the changes that it would make.
 use Rattle.std.proofs.Common.{◌≡◌, ◌∙◌, ◌+◌, ◌++◌, ℕ, [], ◌∷◌, Bool, true, false, ◌||◌, if◌then◌else◌, Option, Some, None, refl, sym, ap}
 use Rattle.std.specs.Prelude.{is_none, nat_lt}
 use Rattle.smf_model.specs.declared.change.Change.TheVariants.{SetRevision}

@@ -1,4 +1,4 @@
--- What the exit of a `?` gives.
+-- A fault that a `?` passes on keeps what holds of it.
 use Rattle.std.proofs.Common.{◌≡◌, Result, Ok, Err, IfErr, sym, subst}
 use Rattle.std.specs.Result.{IsErrAnd}
 use Rattle.smf_node.specs.declared.fault.NodeFault.{NodeFault}

@@ -1,4 +1,4 @@
--- Whether restarters are there, and at rest.
+-- Restarters that are there, and restarters at rest.
 use Rattle.std.proofs.Common.{◌≡◌, ◌==◌, ℕ, List, [], ◌∷◌, Bool, true, false, Option, Some, is_some, find, map, refl, ap}
 use Rattle.std.specs.List.{list_all, list_any}
 use Rattle.std.specs.Prelude.{◌&&◌, ◌||◌, if◌then◌else◌}

@@ -1,4 +1,4 @@
--- What an edit makes of a node is what it makes of the repository.
+-- An edit changes a node as it changes the repository.
 use Rattle.std.proofs.Common.{◌≡◌, ◌⊎◌, inl, inr, List, [], ◌∷◌, Result, Ok, Err, refl, sym, ap, ◌∙◌}
 use Rattle.smf_model.specs.declared.command.Command.TheVariants as commands
 use Rattle.smf_model.specs.declared.command.Edit.{Edit}

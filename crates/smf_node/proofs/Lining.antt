@@ -1,4 +1,4 @@
--- What was sent is read again from its line, where all messages are spelled.
+-- If all messages are spelled, each message that was sent is read again from its line.
 use Rattle.std.proofs.Common.{◌≡◌, ℕ, Option, Some, None, IfSome, OnOk, Result, Ok, Err, refl}
 use Rattle.smf_wire.specs.declared.message.Message.{Message}
 use Rattle.smf_wire.specs.Grammar.{read_line}

@@ -1,4 +1,4 @@
--- What an event leaves of the marks, and its reply.
+-- The marks after an event, and its reply.
 use Rattle.std.proofs.Common.{◌≡◌, ◌==◌, ℕ, Bool, List, [], ◌∷◌, Option, Some, None, is_some, true, find, map, slice_get, nat_lt, refl, sym, ap, ◌∙◌, subst}
 use Rattle.std.specs.List.{list_any}
 use Rattle.smf_contract.specs.declared.event.Event.{Event as ContractEvent}

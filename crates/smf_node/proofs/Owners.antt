@@ -1,4 +1,4 @@
--- Where the owners of all rows are launched, no restarter is to be launched.
+-- If the owners of all rows are launched, no restarter is to be launched.
 use Rattle.std.proofs.Common.{◌≡◌, ℕ, List, [], ◌∷◌, ◌||◌, Bool, true, false, cond, map, filter, refl, sym, ap, ◌∙◌, subst}
 use Rattle.std.specs.Cmp.Lexicographic.{pointwise}
 use Rattle.std.specs.List.{AllByRecursion as Every, list_all, list_any}

@@ -14,7 +14,7 @@ use Rattle.smf_node.specs.Rounds.{AreGiven, Course, HasLearned, course, with_eve
 use Rattle.smf_world.specs.declared.schedule.Turn.TheVariants as turns
 use Rattle.smf_world.specs.Schedule.{Progress}
 
--- so many events were given, each where one was asked for
+-- so many events were given, each when one was asked for
 pub record HaveGiven (r : Rules) (count : ℕ) (c d : Course) : Type 0 where
   pub given : AreGiven r count c d
 

@@ -1,5 +1,5 @@
--- The turns of a restarter for instances at rest may be left out, since they change nothing: an instance that was at rest
--- when the first of these turns was taken is at rest when its own would be.
+-- The turns of a restarter for instances at rest may be left out, since they change nothing. An instance that was at
+-- rest at the first of these turns is at rest at its own.
 use Rattle.std.proofs.Common.{◌≡◌, ◌⊎◌, inl, inr, ℕ, List, [], ◌∷◌, ◌++◌, Bool, true, false, cond, find, map, not, Option, Some, None, Result, Ok, Err, IfErr, OnOk, if◌then◌else◌, refl, ap, sym, subst, ◌∙◌}
 use Rattle.std.specs.Prelude.{filter, option_map}
 use Rattle.std.specs.Ordering.{is_eq, nat_cmp}
@@ -173,7 +173,7 @@ one_more r fails x xs c m d e gone u =
 head_is : (x y : Deed) (xs ys : List Deed) → (x ∷ xs) ≡ (y ∷ ys) → (x ≡ y) × (xs ≡ ys)
 head_is x y xs ys e = (cc, cc)
 
--- where a later turn fails, however many of those before it are left out
+-- a later turn fails, however many of those before it are left out
 abbrev FailsLater : Rules → Fails → List ℕ → (KnownInstance → Bool) → List KnownInstance → Deed → List Deed → Course → Course → NodeFault → Type 0
 FailsLater r fails name p is x rest m d e =
     (ys : List Deed) (n : Course) → TheseRest n.progress.world name p is → ticks name (left_of p is) ≡ ys ++ x ∷ rest → AllDone (HasGone r) ys n m → DeedFails fails x m d e → DeedsFail r fails (ticks name is) n d e
@@ -265,7 +265,7 @@ deeds_failed r fails turns.Orders c d e ordered h = h
 deeds_failed r fails turns.Reports c d e ordered h = h
 deeds_failed r fails (turns.OwnTick name) c d e ordered h = h
 
--- what the deeds that are left leave is what all deeds of the turn leave
+-- the deeds that are left make what all deeds of the turn make
 pub turn_taken : {X : Type 0} (r : Rules) (t : Turn) (c m d : Course) (ds : List Deed) (result : Result X NodeFault) → IsEntered r t c m → IsTurnInOrder m.progress.world t → ds ≡ restless_deeds m.progress t → OnOk result (AreDone r ds m d) → OnOk result (IsTaken r t c d)
 unfolding IsTaken
 turn_taken r t c m d ds (Ok x) entered ordered is h = (m, entered, deeds_done r t m d ordered (subst (λ (xs : List Deed). AreDone r xs m d) is h))

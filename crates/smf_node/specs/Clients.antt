@@ -1,4 +1,4 @@
--- What becomes of a node that a client gives an edit.
+-- A node to which a client gives an edit.
 use Rattle.std.specs.Prelude.{◌≡◌, [], ◌∷◌, Result, Ok, Err}
 use Rattle.smf_model.specs.declared.command.Edit.{Edit}
 use Rattle.smf_model.specs.declared.command.Reply.{Reply}
@@ -13,7 +13,7 @@ use Rattle.smf_world.specs.Safe.{IsSafe}
 use Rattle.smf_world.specs.Schedule.{Progress, on}
 use Rattle.smf_world.specs.Worked.{worked}
 
--- what clients read
+-- the holdings that clients read
 abbrev pub held_by : Progress → Holdings
 held_by p = p.world.now
 

@@ -24,12 +24,12 @@ use Rattle.smf_world.specs.World.{World}
 
 -- ---- what cannot happen
 
--- whether an event delivers a message that was never sent
+-- an event delivers a message that was never sent
 abbrev pub is_unsent : World → Event → Bool
 is_unsent w (events.Deliver place) = not (nat_lt place (length w.sent))
 is_unsent w e = false
 
--- whether an event names an actor against its launch: one to be launched that is, or one to act or to crash that is not
+-- an event names an actor against its launch: one to be launched that is, or one to act or to crash that is not
 abbrev pub is_against_launch : World → Event → Bool
 is_against_launch w (events.Launch name) = is_launched w name
 is_against_launch w (events.OwnTick name) = not (is_launched w name)
@@ -42,11 +42,11 @@ abbrev pub is_limit : Reply → Bool
 is_limit replies.Limit = true
 is_limit _ = false
 
--- whether a command is refused, since a number that it needs has no next one
+-- a command is refused, since a number that it needs has no next one
 abbrev pub is_past_limit : Holdings → Command → Bool
 is_past_limit h c = is_limit (asked h c).reply
 
--- whether a launch or a boot is refused so
+-- a launch or a boot is refused so
 abbrev pub lacks_number : World → Event → Bool
 lacks_number w (events.Launch name) = is_past_limit w.now (commands.Launch name)
 lacks_number w events.Boot = is_past_limit w.now commands.Boot
@@ -62,7 +62,7 @@ refused w e =
 
 -- ---- faults
 
--- what a fault of the machine is to the node
+-- the node's fault for a fault of the machine
 abbrev pub fault_of : MachineFault → NodeFault
 fault_of machines.Memory = Memory
 fault_of machines.Database = Database
@@ -96,7 +96,7 @@ pub record IsFault (fails : RepoFault → Type 0) (w : World) (event : Event) (e
 
 -- ---- deeds
 
--- the event that a deed is, where it is one
+-- the event of a deed, if it makes one
 abbrev pub event_of : Progress → Deed → Event
 event_of p (deeds.Launch name) = events.Launch name
 event_of p deeds.DeliverNext = events.Deliver p.next

@@ -1,4 +1,4 @@
--- Whether no restarter is to be launched.
+-- No restarter is to be launched.
 use Rattle.std.specs.List.{list_all}
 use Rattle.std.specs.Prelude.{◌&&◌, Bool}
 use Rattle.smf_model.specs.Look.{groups_of}
@@ -8,7 +8,7 @@ use Rattle.smf_state.specs.OwnName.{startd}
 use Rattle.smf_world.specs.Worked.{is_launched}
 use Rattle.smf_world.specs.World.{World}
 
--- whether the owner of an instance, as it is read, is launched
+-- the owner of an instance, as it is read, is launched
 abbrev pub has_launched_owner : World → InstanceEntry → Bool
 has_launched_owner w e = is_launched w (current (groups_of w.now) e.instance).row.owner
 

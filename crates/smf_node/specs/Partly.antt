@@ -21,7 +21,7 @@ pub record Stays (c d : Course) : Type 0 where
 abbrev pub LacksMemory : Course → Course → NodeFault → Type 0
 LacksMemory c d e = (e ≡ Memory) × Stays c d
 
--- of a list of things to do, those before one that ended with this fault were done
+-- in a list of things to do, those before one that ended with this fault were done
 pub record FailsAt {X : Type 0} (Does : X → Course → Course → Type 0) (Fails : X → Course → Course → NodeFault → Type 0) (all : List X) (c d : Course) (e : NodeFault) : Type 0 where
   pub first : List X
   pub failed : X

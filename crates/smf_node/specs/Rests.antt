@@ -32,7 +32,7 @@ unfoldable pub restless_deeds : Progress → Turn → List Deed
 restless_deeds p (turns.Ticks name) = map (λ n. deeds.Tick name n) (numbers_restless (restarter p.world name))
 restless_deeds p t = deeds_of p t
 
--- what a restarter knows stands in order
+-- the instances and runs that a restarter knows stand in order
 abbrev pub IsInOrder : Option Knowledge → Type 0
 IsInOrder None = Unit {0}
 IsInOrder (Some k) = IsOrdered k

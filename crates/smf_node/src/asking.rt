@@ -56,7 +56,7 @@ fn all_lost(alloc: Global, lost: &[u64], sent: u64, count: u64) -> Result<Vec<u6
     }
 }
 
-/// The places behind the first so many.
+/// The places after the first so many.
 fn behind(places: &[u64], skipped: usize) -> &[u64]
     ensures { result.now ≡ drop skipped places.now }
 {
@@ -86,8 +86,8 @@ fn last(alloc: Global, delivered: &[u64], count: u64) -> Result<Vec<u64>, AllocE
 }
 
 impl<J: Journal> Node<J> {
-    /// Of the messages that are sent from now on the one of this number is lost (0: none), in place of what was asked
-    /// before.
+    /// Loses one of the messages that are sent from now on: the one of this number, or none for 0. It replaces an
+    /// earlier request.
     #[tactic(auto, unfolding(crate::specs::Marks::progress_of, smf_world::specs::Schedule::losing))]
     pub fn lose(&mut self, count: u64) -> Result<(), NodeFault>
         ensures ok { OnOk result (self.new ≡ losing count self.old) }

@@ -29,7 +29,7 @@ fn is_spawn(call: &Call) -> bool
     matches!(call, Call::Spawn { .. })
 }
 
-/// Whether the turn of a restarter for an instance asks for a spawn.
+/// True if the turn of a restarter for an instance asks for a spawn.
 fn spawns(restarter: &Restarter, instance: u64) -> Result<bool, AllocError>
     ensures { IfOk result (λ b. b ≡ is_spawn (ticked restarter.now.known instance).call) }
 {
@@ -61,7 +61,7 @@ impl<J: Journal> Node<J> {
         self.marks.next = next;
     }
 
-    /// Whether the next message in the order of sending is there.
+    /// True if the next message in the order of sending is there.
     fn is_due(&self) -> bool
         ensures sent { result ≡ is_some (sent_at self.now.world self.now.next) }
         ensures bound { result ≡ true → self.now.next < 2 ^ 63 }
@@ -69,7 +69,7 @@ impl<J: Journal> Node<J> {
         self.next() < self.sent_count()
     }
 
-    /// Whether the next message in the order of sending is lost.
+    /// True if the next message in the order of sending is lost.
     #[tactic(auto, unfolding(crate::specs::Marks::progress_of))]
     fn is_lost(&self) -> bool
         ensures { result ≡ list_any (is_next self.now) self.now.lost }
@@ -85,7 +85,7 @@ impl<J: Journal> Node<J> {
         self.marks.next
     }
 
-    /// Whether the next message in the order of sending was delivered before its turn.
+    /// True if the next message in the order of sending was delivered before its turn.
     #[tactic(auto, unfolding(crate::specs::Marks::progress_of))]
     fn is_early(&self) -> bool
         ensures { result ≡ list_any (is_next self.now) self.now.early }
@@ -149,7 +149,7 @@ impl<J: Journal> Node<J> {
         self.goes(Event::Launch(name.clone()?))
     }
 
-    /// Whether an actor is launched.
+    /// True if an actor is launched.
     #[tactic(auto, unfolding(crate::specs::Marks::progress_of), using(crate::proofs::Found::any_found))]
     pub(crate) fn is_actor(&self, actor: u64) -> bool
         ensures { result ≡ is_some (find (is_actor actor) self.now.world.restarters) }
@@ -194,7 +194,7 @@ impl<J: Journal> Node<J> {
         Ok(())
     }
 
-    /// Whether the turn of a restarter for an instance asks for a spawn.
+    /// True if the turn of a restarter for an instance asks for a spawn.
     #[tactic(auto, unfolding(crate::specs::Marks::progress_of))]
     fn asks_spawn(&self, name: &InstanceFmri, instance: u64) -> Result<bool, AllocError>
         ensures { IfOk result (λ b. b ≡ asks_spawn (restarter self.now.world name.now) instance) }
@@ -213,7 +213,7 @@ impl<J: Journal> Node<J> {
         self.marks.refuse
     }
 
-    /// Whether it is found at once that the turn of a restarter for an instance changes nothing.
+    /// True if the restarter finds at once that its turn for an instance changes nothing.
     fn rests_on(&self, name: &InstanceFmri, instance: u64) -> bool
         ensures { result ≡ true → RestsOn self.now.world name.now instance }
     {
@@ -223,7 +223,7 @@ impl<J: Journal> Node<J> {
         }
     }
 
-    /// Whether the turn of a restarter for an instance asks for a spawn that is to be refused.
+    /// True if the turn of a restarter for an instance asks for a spawn that is to be refused.
     fn refuses(&self, name: &InstanceFmri, instance: u64) -> Result<bool, AllocError>
         ensures { IfOk result (λ b. b ≡ refuses self.now name.now instance) }
     {

@@ -92,14 +92,14 @@ impl<J: Journal> Node<J> {
         }
     }
 
-    /// Whether the repository refuses a command, since a number that it needs has no next one.
+    /// True if the repository refuses a command, since a number that it needs has no next one.
     fn is_past_limit(&self, command: &Command) -> Result<bool, AllocError>
         ensures { IfOk result (λ b. b ≡ is_past_limit self.now.world.now command.now) }
     {
         is_past_limit(self.repository(), command)
     }
 
-    /// Whether a restarter cannot be launched, since a number has no next one.
+    /// True if a restarter cannot be launched, since a number has no next one.
     pub(crate) fn may_not_launch(&self, name: &InstanceFmri) -> Result<bool, AllocError>
         ensures { IfOk result (λ b. b ≡ is_past_limit self.now.world.now (commands.Launch name.now)) }
     {
@@ -117,7 +117,7 @@ impl<J: Journal> Node<J> {
         }
     }
 
-    /// Whether an event can happen.
+    /// An event can happen, or else the fault says why not.
     fn expect(&self, event: &Event) -> Result<(), NodeFault>
         ensures ok { OnOk result (refused self.now.world event.now ≡ None) }
         ensures err { IfErr result (λ e. IsFault J.write_fails self.now.world event.now e) }
@@ -134,7 +134,7 @@ impl<J: Journal> Node<J> {
         Ok(())
     }
 
-    /// Whether an event of a contract is there, and the contract's holder is launched.
+    /// True if an event of a contract is there, and the contract's holder is launched.
     #[tactic(auto, unfolding(smf_world::specs::Schedule::is_heard))]
     pub(crate) fn is_heard(&self, contract: Number, number: Number) -> bool
         ensures { result ≡ is_heard self.now.world contract number }
@@ -149,7 +149,7 @@ impl<J: Journal> Node<J> {
         }
     }
 
-    /// Whether an event is a report that a holder is about to hear.
+    /// True if an event is a report that a holder is about to hear.
     fn is_heard_in(&self, event: &Event) -> bool
         ensures { result ≡ is_heard_in self.now.world event.now }
     {
@@ -197,8 +197,8 @@ impl<J: Journal> Node<J> {
         Ok(reply_of(event, replies))
     }
 
-    /// An event happens, and gives the reply to a client's command. `NoSuchMessage` where no message was sent with that
-    /// number; `NoSuchActor` for an actor to be launched that is, or to act or to crash that is not; `Limit` where a
+    /// An event happens, and gives the reply to a client's command. `NoSuchMessage` if no message was sent with that
+    /// number. `NoSuchActor` for an actor to be launched that is, or to act or to crash that is not. `Limit` if a
     /// launch or a boot needs a number that has no next one.
     pub fn step(&mut self, event: Event) -> Result<Option<Reply>, NodeFault>
         ensures ok { IfOk result (λ reply. IsStep self.old event self.new reply) }

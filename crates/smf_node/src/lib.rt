@@ -1,9 +1,9 @@
 //! The node: the machine, and the schedule by which its actors act. It takes events one by one, or lets them happen in
 //! rounds until nothing is left to do.
-//! Modules: `fault`, `marks` (the marks and counts of a schedule), `naming` (restarters in order), `node` (the node and
-//! what it shows), `events` (what may happen, and happens), `deeds` (what a schedule does one at a time), `turns` (what
-//! the deeds of a turn are), `runners` (what those who run methods answer and tell), `rounds` (turns and rounds), `asking`
-//! (what is asked of a schedule), `client` (a node as a client of the repository).
+//! Modules: `fault`; `marks` (the marks and counts of a schedule); `name_order` (restarters in order); `node` (the node and
+//! what it shows); `events` (what may happen, and happens); `deeds` (what a schedule does one at a time); `turns` (the
+//! deeds of a turn); `runners` (what those who run methods answer and tell); `rounds` (turns and rounds); `requests`
+//! (what is asked of a schedule); `client` (a node as a client of the repository).
 #![tactic(auto)]
 
 mod asking;

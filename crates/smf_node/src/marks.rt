@@ -9,7 +9,7 @@ use smf_contract::Event as ContractEvent;
 use smf_world::{Event, EventKey};
 use std::alloc::{AllocError, Global};
 
-/// What a schedule keeps of its own.
+/// The marks that a schedule keeps.
 #[derive(Drop)]
 pub struct Marks {
     /// The places of the messages that were delivered, the newest last.
@@ -30,7 +30,7 @@ pub struct Marks {
     pub(crate) heard: Vec<EventKey>,
 }
 
-/// Whether an event of a contract has this number there.
+/// True if an event has this contract and this number.
 pub(crate) fn has_key(key: &EventKey, event: &ContractEvent) -> bool
     ensures { result ≡ has_key key.now event.now }
 {
@@ -118,7 +118,7 @@ impl Marks {
         self.heard.clear();
     }
 
-    /// An event is marked that has happened; `is_heard` says whether a holder heard a report, and `is_new` whether a
+    /// Marks an event that has happened. `is_heard` says whether a holder heard a report, and `is_new` whether a
     /// revision was made.
     #[tactic(auto, unfolding(crate::specs::Marks::progress_of))]
     pub(crate) fn mark(&mut self, event: &Event, is_heard: bool, is_new: bool)

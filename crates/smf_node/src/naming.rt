@@ -66,7 +66,7 @@ fn names(alloc: Global, restarters: &[Restarter]) -> Result<Ordered<Named>, Allo
     Ok(names)
 }
 
-/// Copies of the names but one, behind others.
+/// Adds copies of the names but one after others.
 fn push_others(
     all: &mut Vec<InstanceFmri>,
     names: &[Named],

@@ -29,8 +29,8 @@ use std::alloc::{AllocError, Global};
 use std::marker::Model;
 
 /// The repository, svc.startd's graph, the restarters, their messages, the contracts and the trail, and a schedule by
-/// which they act. Contracts see the world with the marks of the schedule. A node's world is always one that some events
-/// behind an accepted boot make, and each message that was sent in it is read again from its line.
+/// which they act. Contracts see the world with the marks of the schedule. A node's world is always one that events
+/// after an accepted boot make. Each message that was sent in it is read again from its line.
 #[derive(Drop)]
 pub struct Node<J: Journal> {
     pub(crate) alloc: Global,
@@ -47,14 +47,14 @@ impl<J: Journal> Model for Node<J> {
     ghost view = { λ n. progress_of n.machine n.marks };
 }
 
-/// Whether a reply says that a number has no next one.
+/// True if a reply says that a number has no next one.
 pub(crate) fn is_limit(reply: &Reply) -> bool
     ensures { result ≡ is_limit reply.now }
 {
     matches!(reply, Reply::Limit)
 }
 
-/// Whether a command is refused, since a number that it needs has no next one.
+/// True if a command is refused, since a number that it needs has no next one.
 pub(crate) fn is_past_limit<J: Journal>(
     repository: &Plain<J>,
     command: &Command,
@@ -65,7 +65,7 @@ pub(crate) fn is_past_limit<J: Journal>(
     Ok(is_limit(&outcome.reply))
 }
 
-/// Whether a boot is refused, since a number that it needs has no next one. What a boot changes is not worked out for it.
+/// True if a boot is refused, since a number that it needs has no next one. The changes of the boot are not worked out.
 pub(crate) fn is_past_boot<J: Journal>(repository: &Plain<J>) -> bool
     ensures { result ≡ is_past_limit repository.now.held commands.Boot }
 {
@@ -76,8 +76,8 @@ pub(crate) fn is_past_boot<J: Journal>(repository: &Plain<J>) -> bool
 }
 
 impl<J: Journal> Node<J> {
-    /// Boots what was found. A fault hands the repository back, as it was; `Limit` where a row or a launch has no next
-    /// number, and `Memory` also where an owner has 2^32 groups, which no body may hold.
+    /// Boots what was found. A fault hands the repository back, as it was. `Limit` if a row or a launch has no next
+    /// number. `Memory` also if an owner has 2^32 groups, which no body may hold.
     pub fn new(alloc: Global, repository: Plain<J>) -> Result<Node<J>, (NodeFault, Plain<J>)>
         ensures ok { IfOk result (λ node. node ≡ begun_at (happens (found repository.held) events.Boot)) }
         ensures safe { IfOk result (λ node. IsSafe node.world) }
@@ -98,7 +98,7 @@ impl<J: Journal> Node<J> {
         }
     }
 
-    /// What is held now.
+    /// The repository, as it is now.
     #[tactic(auto, unfolding(crate::specs::Marks::progress_of))]
     pub fn repository(&self) -> &Plain<J>
         ensures { result.now.held ≡ self.now.world.now }
@@ -114,7 +114,7 @@ impl<J: Journal> Node<J> {
         self.machine.into_repository()
     }
 
-    /// What happened, the first first.
+    /// The trail of what happened, the oldest item first.
     #[tactic(auto, unfolding(crate::specs::Marks::progress_of))]
     pub fn trail(&self) -> &[Item]
         ensures shown { result.now ≡ reverse self.now.world.trail }
@@ -174,7 +174,7 @@ impl<J: Journal> Node<J> {
         self.machine.table()
     }
 
-    /// What the launched restarter of a name knows.
+    /// The launched restarter of a name.
     #[tactic(auto, unfolding(crate::specs::Marks::progress_of))]
     pub fn restarter(&self, name: &InstanceFmri) -> Option<&Restarter>
         ensures { option_map knowledge (option_copied result) ≡ restarter self.now.world name.now }
@@ -182,7 +182,7 @@ impl<J: Journal> Node<J> {
         self.machine.restarter(name)
     }
 
-    /// Whether a restarter is launched.
+    /// True if a restarter is launched.
     #[tactic(auto, unfolding(crate::specs::Marks::progress_of))]
     pub fn is_launched(&self, name: &InstanceFmri) -> bool
         ensures { result ≡ is_launched self.now.world name.now }

@@ -19,7 +19,7 @@ use smf_restarter::Restarter;
 use smf_world::{Deed, Settled, Turn};
 use std::alloc::{AllocError, Global};
 
-/// What waits, what is sent on it, and what is sent on that.
+/// Three turns of messages: those that wait, those that are sent on these, and those that are sent on those.
 fn push_deliveries(all: &mut Vec<Turn>) -> Result<(), AllocError>
     ensures { OnOk result (all.new.items ≡ all.old.items ++ deliveries) }
 {
@@ -137,7 +137,7 @@ impl<J: Journal> Node<J> {
         self.take_restarter_turns(runner)
     }
 
-    /// Whether nothing is ordered of what is held.
+    /// True if nothing is ordered of what is held.
     #[tactic(auto, unfolding(crate::specs::Marks::progress_of))]
     fn has_no_orders(&mut self) -> Result<bool, AllocError>
         ensures same { self.new ≡ self.old }
@@ -153,7 +153,7 @@ impl<J: Journal> Node<J> {
         all_rest(self.machine.restarters())
     }
 
-    /// Whether nothing is left to do. What is ordered is looked at only if all restarters are at rest.
+    /// True if nothing is left to do. The node looks at the orders only if all restarters are at rest.
     #[tactic(auto, unfolding(smf_world::specs::Schedule::is_quiet))]
     fn is_quiet(&mut self) -> Result<bool, AllocError>
         ensures same { self.new ≡ self.old }
@@ -208,7 +208,7 @@ impl<J: Journal> Node<J> {
         how
     }
 
-    /// The same where nobody runs methods: each spawn and each kill is made, and nothing is told of processes.
+    /// The same if nobody runs methods. Each spawn and each kill is made, and nothing is told of processes.
     pub fn settle(&mut self, rounds: u64) -> Result<Settled, NodeFault>
         ensures ok { IfOk result (λ how. HasSettled table_rules rounds (course self.old unseen) (course self.new unseen) how) }
         ensures safe { IsSafe self.new.world }

@@ -75,7 +75,7 @@ fn after(events: &[ContractEvent], looked: usize) -> &[ContractEvent]
     }
 }
 
-/// Whether an event was heard before it was looked at.
+/// True if an event was heard before it was looked at.
 fn was_heard(keys: &[EventKey], event: &ContractEvent) -> bool
     ensures { result ≡ was_heard keys.now event.now }
 {
@@ -170,7 +170,7 @@ impl<J: Journal> Node<J> {
         self.machine.repository().owner_set(instance)
     }
 
-    /// Whether the owner of an instance, as it is read, is launched.
+    /// True if the owner of an instance, as it is read, is launched.
     #[tactic(auto, unfolding(smf_model::specs::Setting::current))]
     fn has_launched_owner(&self, entry: &InstanceEntry) -> Result<bool, AllocError>
         ensures { IfOk result (λ b. b ≡ has_launched_owner self.now.world entry.now) }
@@ -212,7 +212,7 @@ impl<J: Journal> Node<J> {
         true
     }
 
-    /// Whether the owners of all instances are known to be launched, with no look at the instances.
+    /// True if the owners of all instances are known to be launched, with no look at the instances.
     fn knows_owners(&self) -> bool
         ensures { result ≡ true → list_all (has_launched_owner self.now.world) self.now.world.now.instances ≡ true }
     {
@@ -222,8 +222,8 @@ impl<J: Journal> Node<J> {
         }
     }
 
-    /// Whether the owners of all instances are launched, and svc.startd's own restarter. The instances are looked at only if
-    /// this is not known without them.
+    /// True if the owners of all instances are launched, and svc.startd's own restarter. The instances are looked at
+    /// only if this is not known without them.
     #[tactic(auto, unfolding(crate::specs::Owners::has_all_owners))]
     fn has_all_owners(&self) -> Result<bool, AllocError>
         ensures { IfOk result (λ b. b ≡ has_all_owners self.now.world) }
@@ -247,7 +247,7 @@ impl<J: Journal> Node<J> {
         launches(self.alloc, &names)
     }
 
-    /// The owners are put in order only where one may have to be launched.
+    /// The node puts the owners in order only if one may have to be launched.
     #[tactic(auto, using(crate::proofs::Owners::none_to_launch))]
     fn launch_deeds(&self) -> Result<Vec<Deed>, AllocError>
         ensures { IfOk result (λ ds. ds.items ≡ launch_deeds self.now.world (in_order (owners self.now.world))) }
@@ -266,7 +266,7 @@ impl<J: Journal> Node<J> {
         self.sent_count().saturating_sub(self.next()) as usize
     }
 
-    /// What happened since events were looked at, and was not heard early.
+    /// The events since the last look, but for those that were heard early.
     #[tactic(auto, unfolding(crate::specs::Marks::progress_of))]
     pub(crate) fn unlooked(&self) -> Result<Vec<ContractEvent>, AllocError>
         ensures { IfOk result (λ all. all.items ≡ unlooked self.now) }

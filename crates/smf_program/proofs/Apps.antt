@@ -1,4 +1,4 @@
--- What clap's contract asks of the program's words.
+-- The program's words are as clap's contract wants them.
 use Rattle.std.proofs.Common.{◌≡◌, true, refl}
 use Rattle.clap.specs.Words.{is_simple, is_simple_and_free}
 use Rattle.clap.proofs.OnLiterals.{clap_on_literals}

@@ -1,4 +1,4 @@
--- What was read, and why nothing was.
+-- The task that was read, or why none was.
 use Rattle.std.proofs.Common.{◌≡◌, ◌∙◌, inl, inr, ap, ℕ, List, [], ◌∷◌, Option, Some, None, refl, sym, subst}
 use Rattle.std.specs.Prelude.{option_map}
 use Rattle.clap.specs.Words.{App, HasKind, IsAmong, Kinds, fault_of, kind_of, subcommand_of}

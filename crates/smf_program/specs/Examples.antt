@@ -1,4 +1,4 @@
--- What words of the program ask for, one example for each rule.
+-- The tasks that words of the program ask for, one example for each rule.
 use Rattle.std.specs.Prelude.{◌≡◌, ℕ, List, [], ◌∷◌, codes, Some, None, true, false}
 use Rattle.clap.specs.Words.{fault_of}
 use Rattle.clap.specs.declared.error.kind.ErrorKind.TheVariants as kinds
@@ -17,7 +17,7 @@ TasksAreRead =
     × (task_of (smf (codes "run" ∷ codes "a.db" ∷ [])) ≡ Some (Run false (codes "a.db")))
     × (task_of (smf (codes "cfg" ∷ codes "a.db" ∷ [])) ≡ Some (Cfg None (codes "a.db")))
 
--- before the database or behind it, joined or not
+-- before the database or after it, joined or not
 abbrev pub FilesAreRead : Type 0
 FilesAreRead =
     (task_of (smf (codes "cfg" ∷ codes "-f" ∷ codes "x" ∷ codes "a.db" ∷ [])) ≡ Some (Cfg (Some (codes "x")) (codes "a.db")))

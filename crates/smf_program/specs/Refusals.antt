@@ -1,4 +1,4 @@
--- What is told, and with which status, where words ask for no task.
+-- The message and the status if words ask for no task.
 use Rattle.std.specs.Prelude.{◌≡◌, ◌≢◌, ◌⊎◌, ℕ, List, [], ◌∷◌, ◌++◌, codes, Option, None}
 use Rattle.std.specs.String.{string_bytes}
 use Rattle.std.specs.Io.KnownBytes.{Appends}
@@ -36,7 +36,7 @@ IsMistaken words = (kind : ErrorKind) × (kind ≢ kinds.DisplayHelp) × IsAmong
 abbrev pub IsUnread : List (List ℕ) → Type 0
 IsUnread words = (task_of words ≡ None) × (IsMistaken words ⊎ (fault_of smf_app words ≡ []))
 
--- why words that are texts ask for no task: help only where clap gives it
+-- why words that are texts ask for no task: help only if clap gives it
 abbrev pub IsWhy : Refusal → List (List ℕ) → Type 0
 IsWhy (Help text) words = IsAmong kinds.DisplayHelp (fault_of smf_app words)
 IsWhy (BadUsage text) words = IsUnread words

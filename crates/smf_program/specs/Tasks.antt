@@ -1,4 +1,4 @@
--- What the words of the program ask for.
+-- The task that the words of the program ask for.
 use Rattle.std.specs.Prelude.{ℕ, List, [], ◌∷◌, map, Bool, nat_eq, codes, if◌then◌else◌, Option, Some, None, option_map, unwrap_or}
 use Rattle.std.specs.Cmp.Lexicographic.{pointwise}
 use Rattle.clap.specs.Words.{Kinds, Row, all_of, fault_of, first_of, found_of, rows_of, subcommand_of}
@@ -38,7 +38,7 @@ run_in rows = option_map (Run (is_set (codes "FOLLOW") rows)) (first_of (codes "
 abbrev pub cfg_in : List Row → Option TaskTexts
 cfg_in rows = option_map (Cfg (first_of (codes "FILE") rows)) (first_of (codes "DB") rows)
 
--- of two words that both have to be there
+-- a task of two words that both have to be there
 abbrev pub both : (List ℕ → List ℕ → TaskTexts) → Option (List ℕ) → Option (List ℕ) → Option TaskTexts
 both task None second = None
 both task (Some first) second = option_map (task first) second
@@ -59,7 +59,7 @@ check_in rows = option_map Check (first_of (codes "DB") rows)
 abbrev pub tick_in : List Row → Option TaskTexts
 tick_in rows = both Tick (first_of (codes "PIPE") rows) (first_of (codes "MS") rows)
 
--- the task of a subcommand, by its name and what stands behind it
+-- the task of a subcommand, by its name and by the rows of the words after it
 abbrev pub task_at : List ℕ → List Row → Option TaskTexts
 task_at name rows =
     if pointwise nat_eq name (codes "sim") then sim_in rows
@@ -75,7 +75,7 @@ abbrev pub task_in : Option (List ℕ × List Row) → Option TaskTexts
 task_in None = None
 task_in (Some found) = task_at found.0 found.1
 
--- what the words ask for; none where clap does not take them, as where they ask for help
+-- the task that the words ask for, or none if clap does not take them; it takes none that ask for help
 abbrev pub unless_refused : Kinds → Option TaskTexts → Option TaskTexts
 unless_refused [] task = task
 unless_refused (kind ∷ kinds) task = None

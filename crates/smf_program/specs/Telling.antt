@@ -1,4 +1,4 @@
--- What is told of a database that the library does not open.
+-- The message about a database that the library does not open.
 use Rattle.std.specs.Prelude.{ℕ, List, codes}
 use Rattle.sqlite.specs.declared.error.Error.{Error}
 use Rattle.sqlite.specs.declared.error.Error.TheVariants.{SqliteFailure}

@@ -72,6 +72,6 @@ smf_app =
     check_app.top)
     tick_app.top
 
--- whether a flag was found
+-- true if a flag was found
 abbrev pub is_set : List ℕ → List Row → Bool
 is_set id rows = option_map_or (λ text. bytes_eq text (codes "true")) (first_of id rows) false

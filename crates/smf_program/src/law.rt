@@ -1,4 +1,4 @@
-//! What the definitions of this crate come to.
+//! Laws that the definitions of this crate keep.
 
 ghost use Rattle.smf_program.specs.Examples.{ContractsAreFollowed, DatabaseIsWanted, FilesAreRead, HelpIsShown, OthersAreRefused, QuestionsAreRead, ServersAreRead, TasksAreRead};
 

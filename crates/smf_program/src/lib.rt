@@ -1,7 +1,7 @@
-//! What the program smf decides, over any writers: which task its words ask for, and what it tells, with which status, if
-//! it begins none.
-//! Modules: `task` (what words ask for), `words` (what clap reads), `refusal` (why there is no task), `telling` (what is
-//! told of files that do not open), `law` (what the definitions come to).
+//! The decisions of the program smf, over any writers. They are the task that its words ask for, or the message and the
+//! status if it begins none.
+//! Modules: `task` (the task that words ask for), `words` (what clap reads), `refusal` (why there is no task).
+//! The other modules are `messages` (messages about files that do not open) and `law` (laws of the definitions).
 #![tactic(auto)]
 
 mod law;

@@ -83,8 +83,8 @@ fn show_help<W: TextWriter, E: TextWriter>(writer: &mut W, errors: &mut E, text:
     }
 }
 
-/// Shows help that was asked for, or says why there is no task, and gives the status: 0 for help, 2 for bad usage, or 3 for
-/// a fault.
+/// Shows help that was asked for, or says why there is no task. The status is 0 for help, 2 for bad usage, or 3 for a
+/// fault.
 pub fn refuse<W: TextWriter, E: TextWriter>(writer: &mut W, errors: &mut E, refusal: &Refusal) -> u8
     ensures { IsRefused W.write_fails E.write_fails
         (W.contents writer.old) (W.contents writer.new) (E.contents errors.old) (E.contents errors.new) refusal.now result }

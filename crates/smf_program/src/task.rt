@@ -10,7 +10,7 @@ use crate::words::smf_command;
 use clap::{ArgMatches, Command, Error};
 use std::alloc::{AllocError, Global};
 
-/// What the program's words ask for.
+/// The task that the program's words ask for.
 #[derive(Drop)]
 pub enum Task<'a> {
     /// A script in memory: over nothing, or over what the database in a file holds, which is only read.
@@ -32,13 +32,13 @@ pub enum Task<'a> {
         folder: &'a str,
         database: &'a str,
     },
-    /// Why instances that the database in a file has do not run: those that words mean, or all without words. It is only
+    /// Why instances in the database of a file do not run: those that words mean, or all without words. It is only
     /// read.
     Why {
         database: &'a str,
         words: Vec<&'a str>,
     },
-    /// What is wrong of the instances that the database in a file has. It is only read.
+    /// The mistakes in the instances that the database in a file has. It is only read.
     Check {
         database: &'a str,
     },
@@ -49,7 +49,7 @@ pub enum Task<'a> {
     },
 }
 
-/// Whether a flag was found.
+/// True if a flag was found.
 fn is_set<'a>(found: &ArgMatches<'a>, id: &str) -> bool
     ensures { result ≡ is_set id.now (rows_in found.now) }
 {
@@ -150,7 +150,7 @@ fn tick_in<'a>(found: &ArgMatches<'a>) -> Option<Task<'a>>
     }
 }
 
-/// The task of a subcommand, by its name and what clap found behind it.
+/// The task of a subcommand, by its name and by the words that clap found after it.
 fn task_at<'a>(
     alloc: Global,
     name: &str,
@@ -197,7 +197,7 @@ fn parsed_by<'a>(
     Ok(task)
 }
 
-/// Reads the program's words, of which the first is its name. Where no task is read, the refusal says why.
+/// Reads the program's words, of which the first is its name. If they ask for no task, the refusal says why.
 pub fn read_task<'a>(alloc: Global, words: &'a [String]) -> Result<Task<'a>, Refusal>
     ensures ok { IfOk result (λ task. task_of (map string_bytes words.entry.now) ≡ Some (texts_of task)) }
     ensures err { IfErr result (λ refusal. IsWhy refusal (map string_bytes words.entry.now)) }

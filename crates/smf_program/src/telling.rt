@@ -31,7 +31,7 @@ fn failed_because(code: ErrorCode) -> &'static str
     }
 }
 
-/// What is told of a database that the library does not open.
+/// The message about a database that the library does not open.
 fn database_text(fault: &Error) -> &'static str
     ensures { result.now ≡ database_text fault.now }
 {
@@ -58,7 +58,7 @@ pub fn tell_no_input<E: TextWriter>(errors: &mut E) -> u8
     tell(errors, "smf: input failed")
 }
 
-/// Says that a task was not begun for want of memory, as far as that can be written, and gives the status of such a run.
+/// Says that there was no memory to begin a task, as far as that can be written. Gives the status of such a run.
 pub fn tell_no_memory<E: TextWriter>(errors: &mut E) -> u8
     ensures status { result ≡ 3 }
     ensures told { IsTold E.write_fails (E.contents errors.old) (E.contents errors.new) (codes "smf: no memory") }

@@ -13,7 +13,7 @@ fn file<'a>(alloc: Global) -> Arg<'a>
     Arg::new(alloc, "FILE").short('f')
 }
 
-/// Whether contracts are followed through forks.
+/// The flag for contracts that are followed through forks.
 fn follow<'a>(alloc: Global) -> Arg<'a>
     ensures rule { rule_of result ≡ follow_rule }
     ensures local { result.global ≡ false }
@@ -152,9 +152,9 @@ fn bare_command<'a>(alloc: Global) -> Command<'a>
     Command::new(alloc, "smf").subcommand_required(true)
 }
 
-/// The program as clap knows it: `sim` with or without a database, `run` with one, for which contracts may be followed,
-/// `cfg` with one and, after `-f`, a file of lines, `serve` with a folder and a database, `why` with a database and words
-/// that mean instances, `check` with a database, or `tick` with a pipe and milliseconds.
+/// The program as clap knows it. `sim` may have a database. `run` has one, and contracts may be followed.
+/// `cfg` has a database, and may have a file of lines after `-f`. `serve` has a folder and a database. `why` has a
+/// database and words that mean instances. `check` has a database. `tick` has a pipe and milliseconds.
 pub(crate) fn smf_command<'a>(alloc: Global) -> Result<Command<'a>, AllocError>
     ensures { IfOk result (λ c. app_of c ≡ smf_app) }
 {

@@ -1,4 +1,4 @@
--- What is wrong of an instance, put together.
+-- The flaws of an instance, put together.
 use Rattle.std.proofs.Common.{◌≡◌, ℕ, ◌+◌, List, [], ◌∷◌, ◌++◌, refl, subst, sym, ap, ◌∙◌, drop, append_assoc, append-nil}
 use Rattle.std.specs.Prelude.{flat_map, Ok, Err}
 use Rattle.std.specs.List.{AllZip}

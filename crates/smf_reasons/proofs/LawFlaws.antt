@@ -1,4 +1,4 @@
--- Nothing is told of an instance that is checked exactly where it has no flaw, and each reason holds.
+-- A check tells nothing of an instance exactly if it has no flaw, and each reason that it tells holds.
 use Rattle.std.proofs.Common.{◌≡◌, inl, inr, ℕ, List, [], ◌∷◌, ◌++◌, Bool, true, false, not, ◌&&◌, ◌||◌, map, Option, Some, None, Result, Ok, Err, refl, ap, subst, sym, ◌∙◌}
 use Rattle.std.specs.Prelude.{filter, flat_map, if◌then◌else◌, nat_eq}
 use Rattle.std.specs.List.{AllByRecursion, list_all, list_any}
@@ -294,14 +294,14 @@ none_by : (b : Bool) (m : Member) (rest : List Member) → b ≡ false → rest 
 none_by true m rest e f = absurd (false≢true (sym e))
 none_by false m rest e f = f
 
--- what names nothing cites none
+-- an entity that names nothing cites no instance
 none_cited : (ms : List Member) (entity : List ℕ) → is_there ms entity ≡ false → cited ms entity ≡ []
 none_cited [] entity e = refl
 none_cited (m ∷ ms) entity e =
     let parts = or_none (is_cited entity m) (is_there ms entity) e in
     none_by (is_cited entity m) m (cited ms entity) parts.0 (none_cited ms entity parts.1)
 
--- what an instance wants of this restarter
+-- the dependency of an instance on this restarter
 abbrev want : List ℕ → Dependency
 want owner = record { grouping = RequireAll; restart_on = restarts.Nothing; entities = owner ∷ [] }
 

@@ -85,7 +85,7 @@ pub no_way : (ms : List Member) (a b : Member) (o : Option (List (List ℕ))) �
 no_way ms a b None none w = w
 no_way ms a b (Some names) none w = absurd (none names refl)
 
--- ---- what a list begins with
+-- ---- the beginning of a list
 
 pub none_of : (xs : List Member) → length xs < 1 → xs ≡ []
 none_of [] lt = refl

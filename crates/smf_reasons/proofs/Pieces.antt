@@ -28,7 +28,7 @@ chain_7 s0 s1 s2 s3 s4 s5 s6 s7 a b c d e f f' g p q r s t u h v =
     v ∙ ap (λ l. l ++ g) (u ∙ ap (λ l. s5 ++ l) h ∙ ap (λ l. l ++ f') (t ∙ ap (λ l. l ++ e) (s ∙ ap (λ l. l ++ d) (r ∙ ap (λ l. l ++ c) (q ∙ ap (λ l. l ++ b) p)))))
     ∙ seven s0 a b c d e f' g
 
--- what the last of several calls has put
+-- the text that the last of several calls has put
 pub put_last : {X E : Type 0} (r : Result X E) (s old t : List ℕ) → s ≡ (if is_ok r then old ++ t else old) → OnOk r (s ≡ old ++ t)
 put_last (Ok x) s old t e = e
 put_last (Err fault) s old t e = tt

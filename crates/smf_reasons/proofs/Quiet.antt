@@ -1,4 +1,4 @@
--- No reason of a kind is given exactly where the definitions say that nothing of that kind is amiss.
+-- No reason of a kind is given exactly if the definitions say that nothing of that kind is amiss.
 use Rattle.std.proofs.Common.{◌≡◌, ◌⊎◌, inl, inr, ℕ, List, [], ◌∷◌, ◌++◌, Bool, true, false, ◌||◌, Option, Some, None, Result, Ok, Err, refl, subst, sym, ◌∙◌}
 use Rattle.std.specs.Prelude.{flat_map, is_some}
 use Rattle.std.specs.List.{list_all}

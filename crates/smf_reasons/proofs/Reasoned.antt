@@ -1,4 +1,4 @@
--- What is told of an instance, put together.
+-- The reasons of an instance, put together.
 use Rattle.std.proofs.Common.{◌≡◌, ◌<◌, ◌+◌, ℕ, List, [], ◌∷◌, ◌++◌, Bool, true, false, Option, Some, None, IsTrue, ◌↔◌, length, get_or, drop, refl, subst, sym, ap, ◌∙◌, append_assoc, append-nil, unwrap_or}
 use Rattle.std.specs.Prelude.{flat_map, slice_get}
 use Rattle.std.specs.List.{AllZip}

@@ -1,4 +1,4 @@
--- What a verdict says of whether a dependency is met.
+-- A verdict says if a dependency is met.
 use Rattle.std.proofs.Common.{◌≡◌, List, Bool, true, false, refl, sym, subst}
 use Rattle.smf_dep.specs.declared.dependency.Dependency.{Dependency}
 use Rattle.smf_dep.specs.declared.graph.Verdict.{Verdict}

@@ -18,7 +18,7 @@ use Rattle.smf_engine.specs.Orders.{asked, asked_or, asks, call_in, cleared, dec
 use Rattle.smf_reasons.specs.Holding.{IsStart, IsStartWhat}
 use Rattle.smf_reasons.proofs.Nil.{or_none}
 
--- ---- what is decided
+-- ---- the decision
 
 either : {D : Type 0} (Q : D → Type 0) (b : Bool) (x y : D) → Q x → Q y → Q (if b then x else y)
 either Q true x y p q = p
@@ -28,7 +28,7 @@ either_by : {D : Type 0} (Q : D → Type 0) (b : Bool) (x y : D) → (b ≡ true
 either_by Q true x y p q = p refl
 either_by Q false x y p q = q refl
 
--- what is asked is no start; if nothing is, it is as where nothing was
+-- an ask leads to no start; without one, the decision is that of an instance of which nothing is asked
 asked_shape : (i : ViewItem) (m : Member) (f : Finding) (R : Option What → Type 0)
     → ((w : What) → (IsStartWhat w → ⊥) → R (Some w)) → R (what_by i m (unasked i m f i.enabled)) → R (what_by i m (asked_or i m f (asked i)))
 asked_shape i m f R other unasked =
@@ -100,7 +100,7 @@ order_some revision i m f next still enabled idle well fit met there =
     (decision_shape i m f (λ o. is_some o ≡ true) (λ w no. refl)
     (λ begun. unasked_some i m f i.enabled enabled (enabling_some i m f i.row.state idle well begun fit met there))))
 
--- ---- what is ordered is a start
+-- ---- the order is a start
 
 abbrev pub IsStartOf : Option What → Type 0
 IsStartOf None = ⊥

@@ -1,4 +1,4 @@
--- What is wrong of an instance before it is started, whatever the states are.
+-- The flaws of an instance before it is started, whatever the states are.
 use Rattle.std.specs.Prelude.{◌≡◌, ℕ, List, [], ◌∷◌, ◌++◌, flat_map, Bool, true, false, not, ◌||◌, if◌then◌else◌, Option, Some, None, Result, Ok, Err}
 use Rattle.std.specs.List.{list_all, list_any}
 use Rattle.smf_state.specs.declared.view.View.{View}
@@ -20,7 +20,7 @@ use Rattle.smf_reasons.specs.Reasons.{NamesCycle, methods_read, of_cycle, restar
 
 -- ---- entities that name nothing
 
--- what is optional or excluded may be absent
+-- an entity that is optional or excluded may be absent
 abbrev pub wants : Grouping → Bool
 wants RequireAll = true
 wants RequireAny = true
@@ -35,7 +35,7 @@ is_there ms entity = list_any (is_cited entity) ms
 abbrev pub absent : List Member → List ℕ → List Standing
 absent ms entity = if is_there ms entity then [] else record { name = entity; state = None } ∷ []
 
--- of what a dependency wants
+-- the absent entities that a dependency wants
 unfoldable pub absent_of : List Member → Dependency → List Standing
 absent_of ms d = if wants d.grouping then flat_map (absent ms) d.entities else []
 
@@ -59,7 +59,7 @@ abbrev pub group_read_checked : List Member → List ℕ → Result (List Depend
 group_read_checked ms name (Ok ds) = flat_map (group_checked ms name) ds
 group_read_checked ms name (Err fault) = reasons.UnreadableGroup name fault ∷ []
 
--- of a group: that it can't be read, or that entities of it name nothing
+-- the reasons of a group: it can't be read, or entities of it name nothing
 unfoldable pub group_flaws : List Member → GroupRecord → List Reason
 group_flaws ms g = group_read_checked ms g.name (read_groups (g ∷ []))
 
@@ -78,11 +78,11 @@ restarter_flaws ms owner = flat_map (owner_checked ms) (implicit owner)
 
 -- ---- all of them
 
--- what of an item can't be read
+-- the parts of an item that can't be read
 abbrev pub of_item : ViewItem → List Reason
 of_item i = restarter_read i.readable ++ snapshot_read (snapshot_in i.body)
 
--- what its groups say
+-- the flaws of its groups, of its restarter and of its methods
 abbrev pub of_configured : List Member → ViewItem → Member → List Reason
 of_configured ms i m = flat_map (group_flaws ms) m.composed ++ restarter_flaws ms i.row.owner ++ methods_read i.row.owner i.name m.composed
 
@@ -96,7 +96,7 @@ pub record AreFlaws (v : View) (i : ViewItem) (rs : List Reason) : Type 0 where
   pub names : NamesCycle (members v.items) (member_of i) cycle
   pub all : rs ≡ flaws v i (member_of i) cycle
 
--- what is told of an instance of a view that is checked
+-- the name and the flaws that a check tells of an instance of a view
 pub record IsChecked (v : View) (i : ViewItem) (t : Told) : Type 0 where
   pub name : t.name ≡ i.name
   pub flaws : AreFlaws v i t.reasons

@@ -1,4 +1,4 @@
--- What each reason says, and when there is none.
+-- The claim of each reason, and when there is none.
 use Rattle.std.specs.Prelude.{◌≡◌, ◌≢◌, ◌⊎◌, ℕ, List, [], ◌∷◌, false, true, Option, Some, None, Ok, Err, find}
 use Rattle.smf_contract.specs.declared.cookie.Method.TheVariants as methods
 use Rattle.smf_state.specs.declared.state.State.{State}
@@ -47,14 +47,14 @@ IsSeen v i = find (is_about i.instance) v.items ≡ Some i
 abbrev pub IsFine : View → ViewItem → Type 0
 IsFine v i = (i.enabled ≡ false) ⊎ ((runs i.row.state ≡ true) ⊎ IsStart (decided (Some v) i.instance))
 
--- all that its restarter, its groups and its methods are to say can be read, what it wants is there, and it is on no cycle
+-- its restarter, its groups and its methods can be read, what it wants is there, and it is on no cycle
 pub record IsFlawless (v : View) (i : ViewItem) : Type 0 where
   pub restarter : i.readable ≡ true
   pub dependencies : all_there (members v.items) (member_of i).dependencies ≡ true
   pub methods : has_unfit_methods i.row.owner i.name (member_of i).composed ≡ false
   pub cycle : on_cycle (members v.items) (member_of i) ≡ false
 
--- ---- what a reason says
+-- ---- the claim of a reason
 
 abbrev pub IsErrand : State → State → What → Type 0
 IsErrand state to (whats.To next) = next ≡ to
@@ -100,7 +100,7 @@ pub record IsLost (ms : List Member) (gs : List GroupRecord) (name : List ℕ) (
   pub standing : absent_of ms dependency ≡ stood
   pub some : stood ≢ []
 
--- what it wants of its restarter is not met
+-- the dependency on its restarter is not met
 pub record IsOff (ms : List Member) (owner : List ℕ) (stood : List Standing) : Type 0 where
   pub dependency : Dependency
   pub wanted : implicit owner ≡ dependency ∷ []

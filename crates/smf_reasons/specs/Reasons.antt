@@ -34,13 +34,13 @@ use Rattle.smf_reasons.specs.Ways.{names_of}
 abbrev pub is_amiss : ViewItem → Bool
 is_amiss i = i.enabled && not (runs i.row.state)
 
--- ---- what is under way or due
+-- ---- transitions that are under way or due
 
 abbrev pub under_way : Option State → List Reason
 under_way None = []
 under_way (Some next) = reasons.UnderWay next ∷ []
 
--- where an order leads that is no start; a refresh stays
+-- the state that an order leads to, if it is no start; a refresh stays
 abbrev pub errand : State → What → List Reason
 errand state (whats.To to) = reasons.Ordered to ∷ []
 errand state (whats.Start call duration ignore) = []
@@ -55,7 +55,7 @@ abbrev pub in_maintenance : State → List Reason
 in_maintenance states.Maintenance = reasons.Maintenance ∷ []
 in_maintenance _ = []
 
--- ---- what can't be read
+-- ---- parts that can't be read
 
 abbrev pub restarter_read : Bool → List Reason
 restarter_read true = []
@@ -100,7 +100,7 @@ or_absent entity (s ∷ ss) = s ∷ ss
 abbrev pub alone : Dependency → List ℕ → Dependency
 alone d entity = record { grouping = d.grouping; restart_on = d.restart_on; entities = entity ∷ [] }
 
--- of an entity on which alone the dependency would not be met
+-- the standings of an entity on which alone the dependency would not be met
 abbrev pub standing : List Member → Dependency → List ℕ → List Standing
 standing ms d entity = if is_met ms (alone d entity) then [] else or_absent entity (map stood (cited ms entity))
 
@@ -114,7 +114,7 @@ abbrev pub group_read : List Member → List ℕ → Result (List Dependency) De
 group_read ms name (Ok ds) = flat_map (group_met ms name) ds
 group_read ms name (Err fault) = reasons.UnreadableGroup name fault ∷ []
 
--- of a group: that it can't be read, or is not met
+-- the reasons of a group: it can't be read, or is not met
 unfoldable pub of_group : List Member → GroupRecord → List Reason
 of_group ms g = group_read ms g.name (read_groups (g ∷ []))
 
@@ -127,7 +127,7 @@ of_restarter ms owner = flat_map (restarter_met ms) (implicit owner)
 
 -- ---- cycles
 
--- the instance and those after it on a cycle, each of which cites the next and the last the first; none if it is on no cycle
+-- the instance and those after it on a cycle, each citing the next and the last the first; none if it is on none
 pub data NamesCycle (ms : List Member) (m : Member) (names : List (List ℕ)) : Type 0 where
   on_none : on_cycle ms m ≡ false → names ≡ [] → NamesCycle ms m names
   on_one : (path : List Member) → IsCycle ms m path → names ≡ m.name ∷ names_of path → NamesCycle ms m names
@@ -138,7 +138,7 @@ of_cycle (name ∷ names) = reasons.OnCycle (name ∷ names) ∷ []
 
 -- ---- all of them
 
--- what a row says, by what the graph orders
+-- the reasons of a row, by what the graph orders
 abbrev pub of_row : Option View → ViewItem → List Reason
 of_row seen i =
     under_way i.row.next
@@ -147,7 +147,7 @@ of_row seen i =
     ++ restarter_read i.readable
     ++ snapshot_read (snapshot_in i.body)
 
--- what the groups of its running snapshot say
+-- the reasons of the groups of its running snapshot, of its restarter and of its methods
 abbrev pub of_member : List Member → ViewItem → Member → List Reason
 of_member ms i m =
     flat_map (of_group ms) m.composed
@@ -169,7 +169,7 @@ pub data IsReasons (v : View) (i : ViewItem) (rs : List Reason) : Type 0 where
   quiet : is_amiss i ≡ false → rs ≡ [] → IsReasons v i rs
   given : is_amiss i ≡ true → IsInTheWay v i rs → IsReasons v i rs
 
--- what is told of an instance of a view
+-- the name, the state and the reasons that are told of an instance of a view
 pub record IsTold (v : View) (i : ViewItem) (t : Told) : Type 0 where
   pub name : t.name ≡ i.name
   pub state : t.state ≡ i.row.state

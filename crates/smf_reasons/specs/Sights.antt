@@ -1,4 +1,4 @@
--- What is looked at of a view.
+-- A view's engine, members and graph, by which its reasons are found.
 use Rattle.std.specs.Prelude.{◌≡◌, Some}
 use Rattle.smf_state.specs.declared.view.View.{View}
 use Rattle.smf_dep.specs.Members.{members}

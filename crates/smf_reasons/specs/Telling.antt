@@ -29,7 +29,7 @@ property_text BadRestartOn = codes "restart_on"
 property_text PathType = codes "type"
 property_text BadEntity = codes "entities"
 
--- what of a method can't be read
+-- the part of a method that can't be read
 abbrev pub part_text : MethodFault → List ℕ
 part_text method_faults.Memory = codes "memory"
 part_text method_faults.NoExec = codes "exec"
@@ -96,7 +96,7 @@ told_text t = block_if t t.reasons
 abbrev pub text_of : List Told → List ℕ
 text_of all = flat_map told_text all
 
--- ---- what is wrong
+-- ---- flaws
 
 -- the block of an instance that was checked, whose state says nothing
 abbrev pub check_block : Told → List ℕ

@@ -11,7 +11,7 @@ pub record IsWay (ms : List Member) (a b : Member) (names : List (List ℕ)) : T
   pub along : IsPath ms a path b
   pub named : names ≡ names_of path
 
--- what a hint came to: it says nothing if it does not hold
+-- the way that a hint gave; nothing is said if the hint does not hold
 abbrev pub IfWay : List Member → Member → Member → Option (List (List ℕ)) → Type 0
 IfWay ms a b None = Unit {0}
 IfWay ms a b (Some names) = IsWay ms a b names

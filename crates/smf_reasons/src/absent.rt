@@ -10,7 +10,7 @@ use smf_fmri::{Fmri, InstanceFmri, Items};
 use smf_value::{Group, Name};
 use std::alloc::{AllocError, Global};
 
-/// Whether an instance that is absent stands in the way of a group. What is optional or excluded may be absent.
+/// True if an absent instance stands in the way of a group. An entity that is optional or excluded may be absent.
 fn wants(grouping: Grouping) -> bool
     ensures { result ≡ wants grouping }
 {
@@ -22,14 +22,14 @@ fn wants(grouping: Grouping) -> bool
     }
 }
 
-/// Whether an entity stands for an instance.
+/// True if an entity stands for an instance.
 fn is_there(members: &[Member], entity: &Fmri) -> bool
     ensures { result ≡ is_there members.now entity.now }
 {
     members.iter().any(|member| member.is_cited(entity))
 }
 
-/// That an entity stands for no instance.
+/// Puts an entity, if it stands for no instance.
 fn put_absent(
     members: &[Member],
     entity: &Fmri,
@@ -90,7 +90,7 @@ fn put_standings(
     })
 }
 
-/// That entities of a group name nothing.
+/// Puts a reason if entities of a group name nothing.
 #[tactic(auto, using(crate::proofs::Flawed::none_lost, crate::proofs::Flawed::some_lost))]
 fn put_lost(
     alloc: Global,
@@ -123,7 +123,7 @@ fn put_all_lost(
     Ok(())
 }
 
-/// That a group can't be read, or that entities of it name nothing.
+/// Puts the reasons of a group: it can't be read, or entities of it name nothing.
 #[tactic(auto, using(crate::proofs::Flawed::group_asked, crate::proofs::Flawed::group_unread))]
 fn put_group_flaws(
     alloc: Global,
@@ -153,7 +153,7 @@ fn put_group_flaws(
     }
 }
 
-/// Of each group that it can't be read, or that entities of it name nothing.
+/// Puts the reasons of each group: it can't be read, or entities of it name nothing.
 pub(crate) fn put_groups_flaws(
     alloc: Global,
     members: &[Member],
@@ -184,7 +184,7 @@ fn put_owner(
     }
 }
 
-/// That the restarter's instance is absent.
+/// Puts a reason if the restarter's instance is absent.
 #[tactic(auto, using(crate::proofs::Flawed::unwanted, crate::proofs::Flawed::wanted))]
 pub(crate) fn put_restarter_flaws(
     alloc: Global,

@@ -13,7 +13,7 @@ use smf_fmri::Items;
 use smf_state::{View, ViewItem};
 use std::alloc::{AllocError, Global};
 
-/// What of an item can't be read.
+/// Puts the parts of an item that can't be read.
 fn put_item(alloc: Global, item: &ViewItem, all: &mut Items<Reason>) -> Result<(), AllocError>
     ensures { OnOk result (all.new ≡ all.old ++ of_item item.now) }
 {
@@ -21,7 +21,7 @@ fn put_item(alloc: Global, item: &ViewItem, all: &mut Items<Reason>) -> Result<(
     put_snapshot_read(alloc, all, item)
 }
 
-/// What is wrong of the groups of a member.
+/// Puts the flaws of a member's groups, of its restarter and of its methods.
 fn put_configured(
     alloc: Global,
     members: &[Member],
@@ -36,7 +36,7 @@ fn put_configured(
     put_methods(alloc, &item.row.owner, &item.name, &member.composed, all)
 }
 
-/// What is wrong of an instance, whatever the states are.
+/// The flaws of an instance, whatever the states are.
 #[tactic(auto, using(crate::proofs::Placed::placed_member))]
 fn flaws_of(
     alloc: Global,
@@ -106,7 +106,7 @@ fn check_all(
     Ok(all)
 }
 
-/// What is wrong of each instance of a view, enabled or not, in number order, whatever the states are.
+/// The flaws of each instance of a view, enabled or not, in number order, whatever the states are.
 pub fn check(alloc: Global, view: &View) -> Result<Items<Told>, AllocError>
     ensures { IfOk result (λ all. AllZip (IsChecked view.now) view.now.items all) }
 {

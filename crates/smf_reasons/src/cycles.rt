@@ -16,7 +16,7 @@ fn is_among(member: &Member, entities: &[Fmri]) -> bool
     entities.iter().any(|entity| member.is_cited(entity))
 }
 
-/// Whether a dependency cites an instance, and does not exclude it.
+/// True if a dependency cites an instance, and does not exclude it.
 fn asks_for(member: &Member, dependency: &Dependency) -> bool
     ensures { result ≡ asks_for member.now dependency.now }
 {
@@ -31,7 +31,7 @@ fn any_asks_for(member: &Member, dependencies: &[Dependency]) -> bool
         .any(|dependency| asks_for(member, dependency))
 }
 
-/// Whether an instance cites another.
+/// True if an instance cites another.
 pub(crate) fn cites(from: &Member, to: &Member) -> bool
     ensures { result ≡ cites from.now to.now }
 {
@@ -75,8 +75,8 @@ fn straight(alloc: Global, from: &Member, to: &Member) -> Option<Items<InstanceF
     }
 }
 
-/// The names of the instances at these places, if each is cited by the one before it, the first by `from`, and the last
-/// cites `to`.
+/// The names of the instances at these places, if they are a way. Then `from` cites the first, each cites the next, and
+/// the last cites `to`.
 #[tactic(auto, using(crate::proofs::Leading::hinted, crate::proofs::Leading::longer))]
 fn checked(
     alloc: Global,
@@ -131,8 +131,8 @@ fn way(
     Ok(Some(names))
 }
 
-/// The names of the instances between an instance and itself on a cycle. A search finds them; if what it finds were wrong,
-/// all ways would be tried.
+/// The names of the instances between an instance and itself on a cycle. A search finds them. If what it found were
+/// wrong, this would try all ways.
 fn between(
     alloc: Global,
     members: &[Member],

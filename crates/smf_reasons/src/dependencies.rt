@@ -11,7 +11,7 @@ use smf_state::is_startd;
 use smf_value::{Group, Name};
 use std::alloc::{AllocError, Global};
 
-/// What a group of type `dependency` asks alone.
+/// The dependency that a group of type `dependency` asks for alone.
 pub(crate) fn read_alone(alloc: Global, group: &Group) -> Result<Items<Dependency>, DependencyFault>
     ensures { Gives (λ x. x) result (read_groups (group.now ∷ [])) }
 {
@@ -20,7 +20,7 @@ pub(crate) fn read_alone(alloc: Global, group: &Group) -> Result<Items<Dependenc
     read_groups(alloc, &groups)
 }
 
-/// That a dependency of a group is not met.
+/// Puts a reason if a dependency of a group is not met.
 fn put_unmet(
     alloc: Global,
     members: &[Member],
@@ -72,7 +72,7 @@ pub(crate) fn put_unreadable(
     all.push(Reason::UnreadableGroup { group, fault })
 }
 
-/// That a group can't be read, or is not met.
+/// Puts the reasons of a group: it can't be read, or is not met.
 #[tactic(auto, using(crate::proofs::Reasoned::group_asked, crate::proofs::Reasoned::group_unread))]
 fn put_group(
     alloc: Global,
@@ -109,7 +109,7 @@ fn put_group(
     }
 }
 
-/// Of each group that it can't be read, or is not met.
+/// Puts the reasons of each group: it can't be read, or is not met.
 pub(crate) fn put_groups(
     alloc: Global,
     members: &[Member],
@@ -126,7 +126,7 @@ pub(crate) fn put_groups(
     Ok(())
 }
 
-/// What an instance wants of its restarter.
+/// The dependency of an instance on its restarter, if that is not svc.startd.
 pub(crate) fn implicit(
     alloc: Global,
     owner: &InstanceFmri,
@@ -162,7 +162,7 @@ fn put_off(
     all.push(Reason::RestarterIsOff(standings))
 }
 
-/// That the restarter's instance is absent or does not run.
+/// Puts a reason if the restarter's instance is absent or does not run.
 #[tactic(auto, using(crate::proofs::Reasoned::unwanted, crate::proofs::Reasoned::wanted))]
 pub(crate) fn put_restarter(
     alloc: Global,

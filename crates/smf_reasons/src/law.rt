@@ -9,7 +9,7 @@ ghost use Rattle.smf_reasons.specs.declared.reason.Reason.{Reason as AnyReason};
 
 use smf_dep::cycles_are_lists;
 
-/// An instance has no reason exactly if it is not enabled, it runs, or svc.startd's graph orders its start; and each reason
+/// An instance has no reason exactly if it is not enabled, it runs, or svc.startd's graph orders its start. Each reason
 /// holds, by the definitions that decide.
 pub fn reasons_are_exact()
     ensures silent { (v : AnyView) (i : AnyItem) (rs : List AnyReason) → IsSeen v i → IsReasons v i rs → rs ≡ [] → IsFine v i }
@@ -19,8 +19,8 @@ pub fn reasons_are_exact()
     cycles_are_lists();
 }
 
-/// Nothing is told of an instance that is checked exactly if all of it can be read, what it wants is there, and it is on no
-/// cycle; and each reason holds, by the definitions that decide.
+/// A check tells nothing exactly if all of an instance can be read, what it wants is there, and it is on no cycle. Each
+/// reason holds, by the definitions that decide.
 pub fn flaws_are_exact()
     ensures silent { (v : AnyView) (i : AnyItem) (rs : List AnyReason) → AreFlaws v i rs → rs ≡ [] → IsFlawless v i }
     ensures fine { (v : AnyView) (i : AnyItem) (rs : List AnyReason) → AreFlaws v i rs → IsFlawless v i → rs ≡ [] }

@@ -1,8 +1,9 @@
-//! Why instances that are enabled do not run: what can't be read, what is not met, cycles, what is under way. And what is
-//! wrong of instances whatever their states are.
-//! Modules: `reason` (reasons as values), `standing` (entities with their states), `dependencies` (groups), `methods`,
-//! `cycles` (a cycle by its names), `telling` (all reasons of a view), `absent` (entities that name nothing), `checking`
-//! (what is wrong of a view), `text` (as lines), `law` (what reasons come to).
+//! Why instances that are enabled do not run: what can't be read, what is not met, cycles, what is under way. And the
+//! flaws of instances, whatever their states are.
+//! Modules: `reason` has reasons as values, `entity_states` entities with their states. `dependencies` has the reasons of
+//! groups and restarters, `methods` those of methods. `cycles` has a cycle by its names, and `search` looks for one.
+//! `reasons` has all reasons of a view, `absent` entities that name nothing, `flaws` the flaws of a view.
+//! `text` has reasons as lines, and `law` the laws of reasons.
 #![tactic(auto)]
 
 mod absent;

@@ -19,7 +19,7 @@ fn put_unreadable(
     all.push(Reason::UnreadableMethod { method, fault })
 }
 
-/// That there is no start method, or that it can't be read.
+/// Puts a reason if there is no start method, or it can't be read.
 fn put_start(
     alloc: Global,
     restarter: &InstanceFmri,
@@ -44,7 +44,7 @@ fn put_start(
     }
 }
 
-/// That a method can't be read.
+/// Puts a reason if a method can't be read.
 fn put_method(
     alloc: Global,
     restarter: &InstanceFmri,
@@ -68,7 +68,7 @@ fn put_method(
     }
 }
 
-/// What is wrong with the methods of an instance.
+/// Puts the reasons of the methods of an instance.
 pub(crate) fn put_methods(
     alloc: Global,
     restarter: &InstanceFmri,

@@ -31,7 +31,7 @@ pub enum Reason {
     NotMet {
         group: Name,
         grouping: Grouping,
-        /// Of the entities on which alone the group would not be met.
+        /// The entities on which alone the group would not be met.
         standings: Items<Standing>,
     },
     /// Entities that a group wants, which stand for no instance.
@@ -51,8 +51,8 @@ pub enum Reason {
     OnCycle(Items<InstanceFmri>),
 }
 
-/// An instance, and why it does not run, or what of it is wrong. There are no reasons why if it runs, is not enabled, or is
-/// about to start.
+/// An instance, and why it does not run, or what of it is wrong. There are no reasons why if it runs, is not enabled,
+/// or is about to start.
 #[derive(Drop)]
 pub struct Told {
     pub name: InstanceFmri,

@@ -1,4 +1,4 @@
-//! A search for the places of a cycle. What it finds is a hint, which is checked.
+//! A search for the places of a cycle. Its answer is a hint, which is checked.
 
 use crate::cycles::cites;
 use smf_dep::Member;

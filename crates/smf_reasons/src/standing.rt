@@ -17,7 +17,7 @@ fn says_met(verdict: Verdict) -> bool
     }
 }
 
-/// Whether a dependency is met.
+/// True if a dependency is met.
 #[tactic(auto, using(crate::proofs::Saying::met_is))]
 pub(crate) fn is_met(
     alloc: Global,
@@ -73,7 +73,7 @@ fn cited(alloc: Global, members: &[Member], entity: &Fmri) -> Result<Items<Stand
     Ok(all)
 }
 
-/// Puts standings behind others.
+/// Puts standings after others.
 fn append(all: &mut Items<Standing>, more: Items<Standing>) -> Result<(), AllocError>
     ensures { OnOk result (all.new ≡ all.old ++ more) }
 {
@@ -83,7 +83,7 @@ fn append(all: &mut Items<Standing>, more: Items<Standing>) -> Result<(), AllocE
     Ok(())
 }
 
-/// Of an entity on which alone a dependency would not be met.
+/// Puts the standings of an entity, if a dependency on it alone would not be met.
 fn put_standing(
     alloc: Global,
     members: &[Member],

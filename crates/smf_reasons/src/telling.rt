@@ -20,7 +20,7 @@ use smf_value::BodyFault;
 use smf_wire::{Order, What};
 use std::alloc::{AllocError, Global};
 
-/// What is looked at of a view.
+/// A view's engine, members and graph, by which its reasons are found.
 #[derive(Drop)]
 struct Sight {
     engine: Engine,
@@ -112,7 +112,7 @@ pub(crate) fn put_cycle(
     }
 }
 
-/// What svc.startd's graph orders of an instance, if it is no start.
+/// Puts what svc.startd's graph orders of an instance, if it is no start.
 fn put_order(
     alloc: Global,
     engine: &Engine,
@@ -125,7 +125,7 @@ fn put_order(
     put_ordered(all, item.row.state, &order)
 }
 
-/// What a row says, and what of it is read.
+/// Puts the reasons of a row: a transition, maintenance, and a restarter or a snapshot that can't be read.
 fn put_row(
     alloc: Global,
     engine: &Engine,
@@ -141,7 +141,7 @@ fn put_row(
     put_snapshot_read(alloc, all, item)
 }
 
-/// What groups say of a member.
+/// Puts the reasons of a member's groups, of its restarter and of its methods.
 fn put_member(
     alloc: Global,
     members: &[Member],
@@ -165,7 +165,7 @@ fn is_amiss(item: &ViewItem) -> bool
     item.enabled && !item.row.state.runs()
 }
 
-/// Whether the instance at a place depends on itself.
+/// True if the instance at a place depends on itself.
 #[tactic(auto, unfolding(smf_dep::specs::Places::finding_of))]
 pub(crate) fn is_on_cycle(graph: &Graph, place: usize) -> bool
     ensures { result ≡ option_map_or (on_cycle graph.now) (slice_get graph.now place) false }
@@ -282,7 +282,8 @@ fn tell_all(alloc: Global, view: &View, sight: &Sight) -> Result<Items<Told>, Al
     Ok(all)
 }
 
-/// What is told of each instance of a view, in number order.
+/// The reasons of each instance of a view, in number order. There are none if it runs, is not enabled, or is about to
+/// start.
 pub fn tell(alloc: Global, view: &View) -> Result<Items<Told>, AllocError>
     ensures { IfOk result (λ all. AllZip (IsTold view.now) view.now.items all) }
 {

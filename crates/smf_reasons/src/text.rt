@@ -34,7 +34,7 @@ fn property_text(fault: DependencyFault) -> &'static str
     }
 }
 
-/// What of a method can't be read.
+/// Puts the part of a method that can't be read.
 fn put_part(out: &mut String, fault: MethodFault) -> Result<(), AllocError>
     ensures { OnOk result (string_bytes out.new ≡ string_bytes out.old ++ part_text fault) }
 {
@@ -255,7 +255,7 @@ pub fn text_of(alloc: Global, all: &[Told]) -> Result<Text, AllocError>
     Ok(Text::from_string(out))
 }
 
-/// The name of an instance, and what of it is wrong. Its state says nothing.
+/// Puts the name of an instance and its flaws, without its state.
 fn put_check_block(out: &mut String, told: &Told) -> Result<(), AllocError>
     ensures { OnOk result (string_bytes out.new ≡ string_bytes out.old ++ check_block told.now) }
 {

@@ -54,7 +54,7 @@ abbrev pub tick_of : Option (List ℕ) → Option ℕ → Option SpawnAnswer →
 tick_of (Some name) (Some n) (Some spawn) = Some (tick_event name n spawn)
 tick_of _ _ _ = None
 
--- a spawn is made where the line does not say
+-- if the line does not say, the spawn is made
 abbrev pub tick_by : List (List ℕ) → Option Event
 tick_by (name ∷ n ∷ []) = tick_of (read_short name) (read_count n) (Some Made)
 tick_by (name ∷ n ∷ answer ∷ []) = tick_of (read_short name) (read_count n) (spawn_answer_of answer)
@@ -135,7 +135,7 @@ event_named first arguments =
     else if is first (codes "report") then report_by arguments
     else None
 
--- the event that words name, where they name one
+-- the event that words name, if they name one
 unfoldable pub event_of : List (List ℕ) → Option Event
 event_of [] = None
 event_of (first ∷ arguments) = event_named first arguments

@@ -4,7 +4,7 @@ use smf_contract::Method;
 use smf_state::{State, edge};
 use smf_world::Item;
 
-/// What an item of a trail breaks.
+/// The rule that an item of a trail breaks.
 #[derive(Clone, Copy)]
 pub(crate) enum Broken {
     /// An instance has two live starts.
@@ -34,13 +34,13 @@ impl Broken {
     }
 }
 
-/// What was committed of an instance.
+/// A commit of an instance.
 #[derive(Clone, Copy)]
 struct Commit {
     number: u64,
     state: State,
     next: Option<State>,
-    /// Whether a boot came after it.
+    /// A boot came after it.
     booted: bool,
 }
 
@@ -78,7 +78,7 @@ fn was_begun(before: &[Item], instance: u64, run: u64) -> bool {
     })
 }
 
-/// What was committed last of an instance.
+/// The last commit of an instance.
 fn last_commit(before: &[Item], instance: u64) -> Option<Commit> {
     let mut last: Option<Commit> = None;
     for item in before {
@@ -126,7 +126,7 @@ fn follows(last: Option<Commit>, number: u64, state: State) -> bool {
     state == commit.state || edge(commit.state, state)
 }
 
-/// Whether a contract that was begun at a place was found empty, or went with a boot.
+/// Says whether a contract was found empty after it was begun, or went with a boot.
 fn is_gone(behind: &[Item], contract: u64) -> bool {
     behind.iter().any(|item| match item {
         Item::Boot => true,
@@ -135,7 +135,7 @@ fn is_gone(behind: &[Item], contract: u64) -> bool {
     })
 }
 
-/// Whether an instance has a live start.
+/// Says whether an instance has a live start.
 fn has_live_start(before: &[Item], instance: u64) -> bool {
     for place in 0..before.len() {
         if let Item::Spawned {
@@ -153,7 +153,7 @@ fn has_live_start(before: &[Item], instance: u64) -> bool {
     false
 }
 
-/// Whether a start was announced by what was committed last of its instance.
+/// Says whether the last commit of an instance announced a start.
 fn is_announced(last: Option<Commit>) -> bool {
     match last {
         Some(commit) => {
@@ -188,7 +188,7 @@ fn broken_start(before: &[Item], contract: u64, instance: u64, run: u64) -> Opti
     }
 }
 
-/// What an item breaks behind those before it.
+/// The rule that an item breaks, if it comes after these.
 fn broken_by(before: &[Item], item: &Item) -> Option<Broken> {
     match item {
         Item::Committed {

@@ -282,7 +282,7 @@ fn event_named(alloc: Global, first: &str, arguments: &[Text]) -> Result<Option<
     }
 }
 
-/// The event that the words of a line name, where they name one.
+/// The event that the words of a line name, if they name one.
 #[tactic(auto, unfolding(crate::specs::Events::event_of))]
 pub(crate) fn event_of(alloc: Global, words: &[Text]) -> Result<Option<Event>, AllocError>
     ensures { IfOk result (λ event. event ≡ event_of words.now) }

@@ -1,7 +1,7 @@
-//! `smf_replay`: replays a text of events, one a line, on a node over a repository in memory, and prints what each refuses or
-//! shows. Behind the word `trace` it prints at its end what it gave to the node, line by line.
-//! Modules: `event` (the event that a line names), `checking` (what is safe about a trail), `replay` (what a line does),
-//! `tracing` (what is given to the node), `fault`.
+//! `smf_replay`: replays a text of events, one a line, on a node over a repository in memory, and prints what each
+//! refuses or shows. With the word `trace` it prints at its end what it gave to the node, line by line.
+//! Modules: `event` (a line's event), `safety` (the safety of a trail), `replay` (what a line does), `traces` (what
+//! the node is given), `fault`.
 #![tactic(auto)]
 
 mod checking;
@@ -43,7 +43,7 @@ fn words(rt: &HostRuntime) -> io::Result<Vec<String>> {
     Ok(words)
 }
 
-/// Whether the words ask for the trace.
+/// Says whether the words ask for the trace.
 fn is_traced(words: &[String]) -> bool {
     match words {
         [_, word] => word.as_str() == "trace",

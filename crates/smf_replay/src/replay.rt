@@ -15,16 +15,17 @@ use std::alloc::{AllocError, Global};
 use std::fmt::Write;
 use std::str;
 
-/// What is printed for a line that is none of a replay.
+/// The text for a line that is none of a replay.
 const BAD_LINE: &str = "smf: bad line\n";
 
-/// A node over a repository in memory, and what svccfg has selected. It is let go by `end` alone.
+/// A node over a repository in memory, and what svccfg has selected. Only `end` drops it.
 pub(crate) struct Replay {
     node: Node<NoJournal>,
     selection: Selection,
 }
 
-/// Whether a line is one of a script too, which shows or changes what the node holds, or lets the schedule run.
+/// Says whether a line is one of a script too. Such a line shows or changes what the node holds, or lets the schedule
+/// run.
 fn is_of_a_script(first: &str) -> bool {
     let is_of_a_program = first == "svccfg" || first == "svcadm" || first == "svcs";
     is_of_a_program || first == "trail" || first == "settle"
@@ -46,7 +47,7 @@ fn is_comment(line: &[u8]) -> bool {
 }
 
 impl Replay {
-    /// Begins behind the boot of a repository that holds nothing.
+    /// Begins after the boot of a repository that holds nothing.
     pub(crate) fn new(alloc: Global) -> Result<Replay, NodeFault> {
         let selection = Selection::Nothing;
         match Node::new(alloc, Plain::new(alloc, NoJournal {})) {
@@ -96,7 +97,7 @@ impl Replay {
         Ok(())
     }
 
-    /// What is safe about the trail: `ok`, or the first item that is not, behind what it breaks.
+    /// The safety of the trail: `ok`, or the rule that is broken, and the first item that breaks it.
     fn put_check(&self, alloc: Global, out: &mut String) -> Result<(), AllocError> {
         let trail = self.node.trail();
         let Some((place, broken)) = first_broken(trail) else {
@@ -140,7 +141,8 @@ impl Replay {
         }
     }
 
-    /// A line that is one of a script too. What it says of children is no line of a replay, since nobody runs methods.
+    /// A line that is one of a script too. One that asks something of children, except `settle`, is no line of a
+    /// replay, since nobody runs methods.
     fn put_request(
         &mut self,
         alloc: Global,

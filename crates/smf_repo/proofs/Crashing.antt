@@ -1,4 +1,4 @@
--- What a crash leaves behind edits that were given in turn.
+-- The values that a crash leaves after edits that were given in turn.
 use Rattle.std.proofs.Common.{◌≡◌, ◌⊎◌, List, [], ◌∷◌, Option, Some, inl, inr, refl, ap, subst}
 use Rattle.smf_model.specs.declared.command.Command.TheVariants as commands
 use Rattle.smf_model.specs.Holdings.{Holdings}

@@ -1,4 +1,4 @@
--- What edits leave of a client, and what an edit leaves of a repository over a journal.
+-- The effects of edits on a client, and of an edit on a repository over a journal.
 use Rattle.std.specs.Prelude.{◌≡◌, ◌⊎◌, ◌++◌, List, [], ◌∷◌, Option, Some, Result, Ok, Err}
 use Rattle.smf_model.specs.declared.command.Command.TheVariants as commands
 use Rattle.smf_model.specs.declared.command.Edit.{Edit}
@@ -9,8 +9,10 @@ use Rattle.smf_model.specs.Journals.{IsRevised, LeavesOldOr, LeavesOnly}
 use Rattle.smf_model.specs.Next.{next}
 use Rattle.smf_model.specs.Whole.{Whole}
 
--- what is held stands in the journal; a crash within the edit leaves what it could leave before, or what the edit makes,
--- and one after it, if the journal is sound, what is held; an edit that was accepted leaves a clean journal sound
+-- after an edit the held value stands in the journal.
+-- A crash within the edit leaves what it could leave before, or what the edit makes.
+-- If the journal is sound, a crash after the edit leaves the held value.
+-- An edit that was accepted leaves a clean journal sound
 pub record IsEdited {J : Type 0} (is_clean is_sound : J → Type 0) (stands : J → Holdings → Type 0) (could : J → Option Holdings → Type 0) (before : Whole J) (edit : Edit) (after : Whole J) : Type 0 where
   pub trusted : is_clean after.journal → is_clean before.journal
   pub sound : IsRevised before.held after.held → is_clean after.journal → is_sound after.journal
@@ -25,7 +27,7 @@ pub record Given : Type 0 where
   pub edit : Edit
   pub end : Result Reply RepoFault
 
--- what is held behind an edit that ended so
+-- the value held after an edit that ended so
 abbrev pub held_behind : Edit → Result Reply RepoFault → Holdings → Holdings
 held_behind edit (Ok reply) h = (next h (commands.Edit edit)).0
 held_behind edit (Err fault) h = h
@@ -40,16 +42,16 @@ abbrev pub AreGiven : {C : Type 0} → (C → Holdings) → (C → Edit → Resu
 AreGiven held follows before [] after = after ≡ before
 AreGiven {C = C} held follows before (g ∷ gs) after = (then_on : C) × IsGiven held follows before g then_on × AreGiven held follows then_on gs after
 
--- what was done to a client was edits alone
+-- only edits were given to a client
 abbrev pub IsEditedAlone : {C : Type 0} → (C → Holdings) → (C → Edit → Result Reply RepoFault → C → Type 0) → C → C → Type 0
 IsEditedAlone held follows before after = (all : List Given) × AreGiven held follows before all after
 
--- what is held behind edits
+-- the value held after edits
 abbrev pub held_behind_all : List Given → Holdings → Holdings
 held_behind_all [] h = h
 held_behind_all (g ∷ gs) h = held_behind_all gs (held_behind g.edit g.end h)
 
--- what some of the edits make, the first of them; the last of these is carried out also where it had no reply
+-- the value that the first of the edits make. The last of these is carried out even if it had no reply
 pub record IsMadeByFirst (all : List Given) (h value : Holdings) : Type 0 where
   pub first : List Given
   pub last : Given

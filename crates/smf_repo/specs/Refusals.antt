@@ -1,4 +1,4 @@
--- The words in which a client is told of a refusal.
+-- The words that tell a client of a refusal.
 use Rattle.std.specs.Prelude.{ℕ, List, ◌++◌, codes, Option, Some, None}
 use Rattle.smf_value.specs.declared.fault.GroupFault.{GroupFault}
 use Rattle.smf_value.specs.declared.fault.GroupFault.TheVariants as groups

@@ -20,12 +20,12 @@ use smf_snap::SnapshotName;
 use smf_value::Group;
 use std::alloc::AllocError;
 
-/// What takes edits to a repository, and reads what it holds.
+/// Takes edits to a repository, and reads what it holds.
 pub trait Client {
-    /// What the repository holds.
+    /// The value that the repository holds.
     ghost held: { Self → Holdings };
 
-    /// What else is so behind an edit that ended so.
+    /// The other promises of an edit that ended so.
     ghost follows: { Self → AnyEdit → Result AnyReply AnyFault → Self → Type 0 };
 
     /// With which faults an edit may end, beside want of memory.
@@ -64,7 +64,7 @@ pub trait Client {
     fn snapshot(&self, number: u64) -> Option<&Snapshot>
         ensures { option_copied result ≡ snapshot (held self.now) number };
 
-    /// The names of the snapshots that an instance has, in byte order; none where there is no such instance.
+    /// The names of the snapshots that an instance has, in byte order; none if there is no such instance.
     fn snapshots(&self, instance: u64) -> Result<Option<Items<SnapshotName>>, AllocError>
         ensures { IfOk result (λ all. all ≡ snapshots_of (held self.now) instance) };
 
@@ -73,7 +73,7 @@ pub trait Client {
         ensures { result ≡ snapshot_number (held self.now) instance name };
 }
 
-/// The repository itself: behind an edit what is held stands in the journal, and a crash leaves what it could leave
+/// The repository itself. After an edit the held value stands in the journal. A crash leaves what it could leave
 /// before, or what the edit makes.
 impl<J: Journal> Client for Plain<J> {
     ghost held = { λ r. r.held };

@@ -1,5 +1,5 @@
 //! The repository as its clients see it.
-//! Modules: `client` (edits and reads), `law` (what a crash leaves behind edits), `refusal` (the words of refusals).
+//! Modules: `client` (edits and reads), `law` (what a crash leaves after edits), `refusal` (the words of refusals).
 #![tactic(auto)]
 
 mod client;

@@ -1,4 +1,4 @@
--- What a restarter makes of the answers to its calls, and of what is reported of its contracts.
+-- The changes that a restarter makes on the answers to its calls, and on the reports of its contracts.
 use Rattle.std.specs.Prelude.{ℕ, ◌==◌, ◌&&◌, ◌||◌, not, List, [], ◌∷◌, map, flat_map, Bool, true, false, if◌then◌else◌, find, Option, Some, None, is_some}
 use Rattle.smf_state.specs.declared.row.Row.{Row}
 use Rattle.smf_state.specs.declared.state.State.{State}
@@ -40,7 +40,7 @@ use Rattle.smf_restarter.specs.Runs.{is_exit_of, is_failure, ignore_of, listed_r
 
 -- ---- the list of contracts
 
--- what was under way when the restarter was launched is ended
+-- the phase once the contracts are listed: the restarter ends a step that was under way at its launch
 abbrev pub phase_under : Row → Option State → Phase
 phase_under r None = Idle
 phase_under r (Some next) =
@@ -88,7 +88,7 @@ abbrev pub started_as : Owed → Duration → Method → Course
 started_as o Child methods.Start = courses.Ending start_succeeded
 started_as o duration method = courses.Running (running o)
 
--- of the method that was owed
+-- the change of an instance that owes a method, by the answer to its call
 abbrev pub answered_owed : KnownInstance → Owed → Answer → Change
 answered_owed i o (answers.Spawned c) =
     record (turning i.instance (started_as o i.row.duration o.method)) { run = Some (run_begun i.instance o c) }
@@ -135,11 +135,11 @@ abbrev pub is_failure_of : Option KnownInstance → EventKind → Bool
 is_failure_of None kind = false
 is_failure_of (Some i) kind = is_failure i.row.ignore kind
 
--- what was known of the run of a report
+-- the run of a report as the restarter knew it before
 abbrev pub run_before : Knowledge → Report → Cookie → KnownRun
 run_before k r c = run_or (run_at k c.instance c.run) (run_reported r c)
 
--- what is known of a run after an event of its contract
+-- the run as the restarter knows it after an event of its contract
 abbrev pub run_after : Knowledge → Report → Cookie → KnownRun → KnownRun
 run_after k r c old =
     record old {
@@ -173,7 +173,7 @@ same_method methods.Stop methods.Stop = true
 same_method methods.Refresh methods.Refresh = true
 same_method _ _ = false
 
--- the exit ends the method that runs, where it is one of its own run
+-- the exit ends the method that runs, if the contract is of its own run
 abbrev pub is_run_of : RunningMethod → Cookie → Bool
 is_run_of m c = m.run == c.run && same_method m.method c.method
 

@@ -1,4 +1,4 @@
--- What a step makes of what a restarter knows, and replies by what they do.
+-- The changes of a restarter's knowledge, and the replies, each by what it does.
 use Rattle.std.specs.Prelude.{ℕ, ◌+◌, List, [], ◌∷◌, Option, Some, None, unwrap_or, option_to_list}
 use Rattle.smf_fmri.specs.ByKey.{amend, put_all, without}
 use Rattle.smf_contract.specs.declared.terms.Terms.{Terms}

@@ -22,7 +22,7 @@ ended_refresh r = record { to = r.state; failed = 0; cause = NonError; drain = d
 abbrev pub ended_stop : Row → State → Ending
 ended_stop r next = record { to = next; failed = 0; cause = unwrap_or r.cause NonError; drain = drains.Both }
 
--- what the success of a method leads to
+-- the end that follows a method's success
 abbrev pub succeeded : Row → Method → Ending
 succeeded r methods.Start = start_succeeded
 succeeded r methods.Stop = ended_stop r (unwrap_or r.next r.state)
@@ -48,7 +48,7 @@ start_failed r fatal = if fatal || nat_le 2 r.failed then start_given_up else st
 abbrev pub stop_failed : Ending
 stop_failed = record { to = Maintenance; failed = 0; cause = Error; drain = drains.Both }
 
--- what the failure of a method leads to
+-- the end that follows a method's failure
 abbrev pub failed_with : Row → Method → Bool → Ending
 failed_with r methods.Start fatal = start_failed r fatal
 failed_with r methods.Stop fatal = stop_failed

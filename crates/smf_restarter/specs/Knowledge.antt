@@ -1,4 +1,4 @@
--- What a restarter knows.
+-- The knowledge of a restarter.
 use Rattle.std.specs.Prelude.{ℕ, List, [], Option}
 use Rattle.std.specs.Cmp.{on_total}
 use Rattle.std.specs.Ordering.{nat_cmp, ordering_then}
@@ -13,8 +13,8 @@ use Rattle.smf_restarter.specs.declared.known.RunKey.{RunKey}
 use Rattle.smf_restarter.specs.declared.known.Stage.{Stage}
 use Rattle.smf_restarter.specs.declared.known.Stage.TheVariants.{Joining}
 
--- its name; the actor that holds its contracts; its launch; the serial of its last proposal; how far it has come; the
--- instances by number, and the runs that have a contract, by instance and run
+-- its name; the actor that holds its contracts; its launch; the serial of its last proposal; how far it has come. Then
+-- its instances by number, and its runs that have a contract, by instance and run
 pub record Knowledge : Type 0 where
   pub name : List ℕ
   pub actor : ℕ
@@ -24,7 +24,7 @@ pub record Knowledge : Type 0 where
   pub instances : List KnownInstance
   pub runs : List KnownRun
 
--- what is known, for how many more instances and runs there is room, and the instance whose tick is made ahead
+-- the knowledge, the room for more instances and runs, and the instance whose tick is made ahead
 pub record Kept : Type 0 where
   pub known : Knowledge
   pub instances_room : ℕ

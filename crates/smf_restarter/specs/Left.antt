@@ -1,4 +1,4 @@
--- What the turn of a restarter for one instance leaves of the others.
+-- The other instances of a restarter after its turn for one instance.
 use Rattle.std.specs.Prelude.{◌≡◌, ℕ, true, Some}
 use Rattle.smf_restarter.specs.declared.known.KnownInstance.{KnownInstance}
 use Rattle.smf_restarter.specs.declared.reply.Call.{Call}

@@ -1,4 +1,4 @@
--- What a restarter proposes.
+-- The proposals of a restarter.
 use Rattle.std.specs.Prelude.{ℕ, ◌+◌, ◌==◌, ◌&&◌, nat_lt, List, [], ◌∷◌, Bool, true, false, if◌then◌else◌, Option, Some, None, unwrap_or}
 use Rattle.smf_state.specs.declared.row.Row.{Row}
 use Rattle.smf_state.specs.declared.state.State.{State}
@@ -26,11 +26,11 @@ use Rattle.smf_restarter.specs.Changes.{nothing, putting}
 use Rattle.smf_restarter.specs.Ends.{ended_refresh, stopped}
 use Rattle.smf_restarter.specs.Knowledge.{Knowledge}
 
--- of serials
+-- the greatest serial
 abbrev pub greatest_serial : ℕ
 greatest_serial = 0x7fff_ffff_ffff_ffff
 
--- of numbers that a row can have
+-- the greatest number that a row can have
 abbrev pub greatest_word : ℕ
 greatest_word = 0xffff_ffff_ffff_ffff
 
@@ -48,7 +48,7 @@ proposal k i step =
 abbrev pub waiting : KnownInstance → Proposal → After → KnownInstance
 waiting i p after = record i { phase = Waiting p after }
 
--- a step of an instance is proposed under the next serial and the next number, where these are left
+-- a step of an instance is proposed under the next serial and the next number, if these are left
 abbrev pub proposing_if : Bool → Knowledge → KnownInstance → Step → After → List Known → Reply
 proposing_if true k i step after taken =
     record nothing {
@@ -81,7 +81,7 @@ starting_if false k i o taken call duration ignore = proposing k i (steps.Move M
 abbrev pub starting : Knowledge → KnownInstance → Order → List Known → MethodCall → Duration → ℕ → Reply
 starting k i = starting_if (nat_lt i.row.last greatest_run) k i
 
--- the method of a stop or a refresh, where a run is left for it
+-- the method of a stop or a refresh, if a run is left for it
 abbrev pub call_with_run : Row → Option MethodCall → Option MethodCall
 call_with_run r None = None
 call_with_run r (Some call) = if nat_lt r.last greatest_run then Some call else None

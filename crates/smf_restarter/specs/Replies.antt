@@ -1,4 +1,4 @@
--- What a restarter does on a message.
+-- The replies of a restarter to messages.
 use Rattle.std.specs.Prelude.{ℕ, ◌==◌, ◌&&◌, nat_lt, List, [], ◌∷◌, map, Bool, true, false, if◌then◌else◌, Option, Some, None, option_map}
 use Rattle.smf_state.specs.declared.row.Row.{Row}
 use Rattle.smf_state.specs.declared.step.Proposal.{Proposal}
@@ -79,7 +79,7 @@ phase_after afters.Idle = Idle
 phase_after (afters.Owes owed) = Owes owed
 phase_after (afters.Ending ending) = Ends ending
 
--- whether an answer is that to a proposal
+-- an answer is to a proposal of the same launch and serial
 abbrev pub is_answer : ℕ → ℕ → Proposal → Bool
 is_answer launch serial p = (p.launch == launch) && (p.serial == serial)
 

@@ -1,4 +1,4 @@
--- What is known of the runs that have a contract.
+-- The runs that have a contract, as a restarter knows them.
 use Rattle.std.specs.Prelude.{ℕ, ◌==◌, ◌&&◌, ◌||◌, not, nat_le, nat_lt, List, [], ◌∷◌, Bool, true, false, if◌then◌else◌, find, Option, Some, None}
 use Rattle.std.specs.List.{list_any}
 use Rattle.smf_fmri.specs.ByKey.{lookup}
@@ -17,7 +17,7 @@ use Rattle.smf_restarter.specs.Knowledge.{Knowledge, by_run, known}
 abbrev pub run_at : Knowledge → ℕ → ℕ → Option KnownRun
 run_at k n run = lookup by_run k.runs (record { instance = n; run = run })
 
--- of a run that a row names, if it names one
+-- the run that a row names, if it names one
 abbrev pub known_run : Knowledge → ℕ → Option ℕ → Option KnownRun
 known_run k n None = None
 known_run k n (Some run) = run_at k n run
@@ -27,7 +27,7 @@ abbrev pub is_empty : Option KnownRun → Bool
 is_empty None = true
 is_empty (Some r) = r.empty
 
--- of an instance, with members, and held by nobody
+-- a run of an instance has members, and the restarter does not hold it
 abbrev pub is_orphan : ℕ → KnownRun → Bool
 is_orphan n r = r.key.instance == n && not r.empty && not r.held
 
@@ -69,7 +69,7 @@ abbrev pub has_none : List ℕ → Bool
 has_none [] = true
 has_none (p ∷ ps) = false
 
--- what a contract says of the run that its cookie names
+-- the run that a contract's cookie names, as the contract's status tells it
 abbrev pub listed_as : Knowledge → Status → Cookie → KnownRun
 listed_as k s c =
     record {

@@ -1,4 +1,4 @@
--- What a restarter does in its turn, for itself and for an instance, and whether it has anything left to do.
+-- The turns of a restarter, for itself and for an instance, and when it has nothing left to do.
 use Rattle.std.specs.Prelude.{ℕ, ◌==◌, ◌&&◌, ◌||◌, not, List, [], ◌∷◌, Bool, true, false, if◌then◌else◌, Option, Some, None, is_none, is_some, Result, Ok, Err}
 use Rattle.std.specs.List.{list_all}
 use Rattle.smf_state.specs.declared.row.Row.{Row}
@@ -69,7 +69,7 @@ fatal_of methods.Start r = fatal_if r.duration r.ignore
 fatal_of methods.Stop r = 0
 fatal_of methods.Refresh r = 0
 
--- empty, core, signal and hwerr are critical, and a contract waits to be adopted where its holder is gone
+-- empty, core, signal and hwerr are critical, and a contract whose holder is gone waits to be adopted
 abbrev pub terms_of : Method → Row → Terms
 terms_of method r =
     record {
@@ -92,7 +92,7 @@ spawning_by i o (Ok cookie) = beginning (begun_of i o) (calls.Spawn cookie (term
 abbrev pub spawning : KnownInstance → Owed → Reply
 spawning i o = spawning_by i o (packed (record { instance = i.instance; run = o.run; method = o.method }))
 
--- the contract of a run, where it is known and not known empty
+-- the kill of a run's contract, if the run is known and not known empty
 abbrev pub kill_of : Option KnownRun → Call
 kill_of None = calls.Nothing
 kill_of (Some r) = if r.empty then calls.Nothing else calls.Kill r.contract
@@ -119,14 +119,14 @@ live_call k i = kill_of (known_run k i.instance i.row.live)
 abbrev pub side_call : Knowledge → KnownInstance → Call
 side_call k i = kill_of (known_run k i.instance i.row.side)
 
--- of the runs that have to be drained, live before side
+-- the call on the runs that have to be drained, live before side
 abbrev pub drain_call : Knowledge → KnownInstance → Drain → Call
 drain_call k i drains.Nothing = calls.Nothing
 drain_call k i drains.Live = live_call k i
 drain_call k i drains.Side = side_call k i
 drain_call k i drains.Both = first_call (live_call k i) (side_call k i)
 
--- the live run of a start that ends online is kept where its contract is known and, for a transient service, not empty
+-- the live run of a start that ends online is kept if its contract is known and, for a transient service, not empty
 abbrev pub keeps_run : Duration → Option KnownRun → Bool
 keeps_run duration None = false
 keeps_run Transient (Some r) = not r.empty
@@ -172,13 +172,13 @@ abbrev pub is_ended : Option KnownRun → Bool
 is_ended None = false
 is_ended (Some r) = r.ended
 
--- what the end of a live run, or of its first process, is noted as, by the duration of the service
+-- the bits that note the end of a live run, or of its first process, by the duration of the service
 abbrev pub note_bits : Duration → Option KnownRun → Option ℕ
 note_bits Contract live = if is_empty live || is_failed live then Some failed_ask else None
 note_bits Child live = if is_empty live || is_ended live then Some exited_ask else None
 note_bits Transient live = if is_empty live then Some 0 else None
 
--- it is due where the instance runs with a live run, and nothing is under way
+-- it can be due only if the instance runs with a live run, and nothing is under way
 abbrev pub note_due : Row → Option KnownRun → Option ℕ
 note_due r live = if is_steady r && is_some r.live then note_bits r.duration live else None
 

@@ -51,7 +51,7 @@ IsWatched ns is rs = (n : ℕ) → lookup by_itself ns n ≡ judged rs (lookup b
 abbrev pub IsWatchedBut : ℕ → List ℕ → List KnownInstance → List KnownRun → Type 0
 IsWatchedBut m ns is rs = (n : ℕ) → is_eq (nat_cmp m n) ≡ false → lookup by_itself ns n ≡ judged rs (lookup by_instance is n)
 
--- what is made ahead is what the tick of that instance gives
+-- the reply that is made ahead is that to the tick of its instance
 abbrev pub IsReady : Knowledge → Option Ready → Type 0
 IsReady k None = Unit {0}
 IsReady k (Some r) = r.reply ≡ ticked k r.instance
@@ -59,8 +59,8 @@ IsReady k (Some r) = r.reply ≡ ticked k r.instance
 abbrev pub ready_for : Option Ready → Option ℕ
 ready_for o = option_map (λ r. r.instance) o
 
--- the lists are watched; for so many more instances and runs there is room in them, and room to note what these touch;
--- a tick that is made ahead is that of what is known
+-- the lists are watched, and have room for so many more instances and runs, and to note the instances that these touch.
+-- A tick that is made ahead is that of what is known
 pub record IsRestarter (k : Knowledge) (ready : Option Ready) (ns : WithRoom ℕ) (is : WithRoom KnownInstance) (rs : WithRoom KnownRun) (instances runs : ℕ) : Type 0 where
   pub watched : IsWatched ns.items is.items rs.items
   pub instances_room : instances ≤ is.room

@@ -1,4 +1,4 @@
-//! What a restarter makes of the answers to its calls, and of what is reported of its contracts.
+//! The changes that a restarter makes on the answers to its calls, and on the reports of its contracts.
 
 ghost use Rattle.std.specs.Option.{option_copied};
 ghost use Rattle.std.specs.Prelude.{◌≡◌, ◌++◌, find, flat_map, map, IfOk, OnOk};
@@ -20,7 +20,7 @@ use smf_method::{Outcome, judge};
 use smf_state::{Duration, Row, State};
 use std::alloc::{AllocError, Global};
 
-/// What was under way when the restarter was launched is ended.
+/// The phase of an instance once the contracts are listed. If its row has a next state, the restarter ends that step.
 fn phase_under(row: &Row) -> Phase
     ensures { result ≡ phase_under row.now row.now.next }
 {
@@ -49,7 +49,7 @@ fn all_phased(
     Ok(Items::from_vec(all))
 }
 
-/// Puts the run of a contract behind the others, where its cookie names one.
+/// Adds the run of a contract after the others, if its cookie names one.
 fn push_listed(
     all: &mut Items<KnownRun>,
     restarter: &Restarter,
@@ -169,7 +169,7 @@ fn spawned_in(alloc: Global, known: &KnownInstance, owed: &Owed, contract: Numbe
     change
 }
 
-/// What becomes of the method that was owed.
+/// The change of an instance that owes a method, by the answer to its call.
 fn answered_owed(alloc: Global, known: &KnownInstance, owed: &Owed, answer: &Answer) -> Change
     ensures { result ≡ answered_owed known.now owed.now answer.now }
 {
@@ -247,7 +247,7 @@ fn is_empty_event(kind: &EventKind) -> bool
     matches!(kind, EventKind::Empty)
 }
 
-/// Whether an event is a failure of an instance that is known.
+/// True if an event is a failure of a known instance.
 fn is_failure_of(known: Option<&KnownInstance>, kind: &EventKind) -> bool
     ensures { result ≡ is_failure_of (option_copied known.entry) kind.now }
 {
@@ -257,7 +257,7 @@ fn is_failure_of(known: Option<&KnownInstance>, kind: &EventKind) -> bool
     }
 }
 
-/// What is known of a run after an event of its contract.
+/// The run as the restarter knows it after an event of its contract.
 fn run_after(restarter: &Restarter, report: &Report, cookie: &Cookie, old: &KnownRun) -> KnownRun
     ensures { result ≡ run_after restarter.now.known report.now cookie.now old.now }
 {
@@ -271,7 +271,7 @@ fn run_after(restarter: &Restarter, report: &Report, cookie: &Cookie, old: &Know
     }
 }
 
-/// What was known of the run of a report.
+/// The run of a report as the restarter knew it before. A run that it did not know counts as held and not empty.
 fn run_before(restarter: &Restarter, report: &Report, cookie: &Cookie) -> KnownRun
     ensures { result ≡ run_before restarter.now.known report.now cookie.now }
 {
@@ -317,7 +317,7 @@ fn ended_well(row: &Row, method: Method, left: bool) -> Ending
     }
 }
 
-/// What the end of a method leads to.
+/// The end to propose after a method ended with this outcome.
 fn end_by(row: &Row, method: Method, left: bool, outcome: Outcome) -> Ending
     ensures { result ≡ end_by row.now method left outcome }
 {
@@ -328,14 +328,14 @@ fn end_by(row: &Row, method: Method, left: bool, outcome: Outcome) -> Ending
     }
 }
 
-/// Whether a contract is that of the method that runs.
+/// True if a contract's cookie names the run of the method that runs.
 fn is_run_of(method: &RunningMethod, cookie: &Cookie) -> bool
     ensures { result ≡ is_run_of method.now cookie.now }
 {
     method.run == cookie.run && method.method == cookie.method
 }
 
-/// The exit ends the method that runs, where it is one of its own run.
+/// The exit ends the method that runs, if the contract is of its own run.
 fn turn_by(
     known: &KnownInstance,
     report: &Report,
@@ -380,7 +380,7 @@ fn turn_known(report: &Report, cookie: &Cookie, known: Option<&KnownInstance>) -
     }
 }
 
-/// What is done from now on about the instance of a report.
+/// The new course of the instance of a report, if the report gives one.
 fn turn_up(restarter: &Restarter, report: &Report, cookie: &Cookie) -> Option<Turn>
     ensures { result ≡ turn_up restarter.now.known report.now cookie.now restarter.now.known.stage }
 {

@@ -1,4 +1,4 @@
-//! What a step makes of what a restarter knows, and replies by what they do.
+//! The changes of a restarter's knowledge, and the replies, each by what it does.
 
 ghost use Rattle.std.specs.Prelude.{◌≡◌, ◌∷◌, [], IfOk, OnErr, true};
 ghost use Rattle.smf_restarter.specs.Changes.{beginning, calling, forgetting, nothing, noting, putting, sending, taking, turning, unchanged};

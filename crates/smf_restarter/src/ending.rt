@@ -7,7 +7,7 @@ use crate::known::{Drain, Ending};
 use smf_contract::Method;
 use smf_state::{Cause, Row, State};
 
-/// How many starts fail in a row before the next failure is the last.
+/// After this many failed starts in a row, one more failure means maintenance.
 const LAST_FAILURE: u64 = 2;
 
 /// A start that succeeded ends online, with nothing to be drained.
@@ -22,7 +22,7 @@ pub(crate) fn start_succeeded() -> Ending
     }
 }
 
-/// Of a refresh, which ends in the state itself.
+/// The end of a refresh, in the state that the row has.
 pub(crate) fn ended_refresh(row: &Row) -> Ending
     ensures { result ≡ ended_refresh row.now }
 {
@@ -34,7 +34,7 @@ pub(crate) fn ended_refresh(row: &Row) -> Ending
     }
 }
 
-/// Of a stop to a state.
+/// The end of a stop to a state. If the row names no cause, the cause is `NonError`.
 pub(crate) fn ended_stop(row: &Row, next: State) -> Ending
     ensures { result ≡ ended_stop row.now next }
 {
@@ -46,7 +46,7 @@ pub(crate) fn ended_stop(row: &Row, next: State) -> Ending
     }
 }
 
-/// What the success of a method leads to.
+/// The end that follows a method's success.
 pub(crate) fn succeeded(row: &Row, method: Method) -> Ending
     ensures { result ≡ succeeded row.now method }
 {
@@ -57,7 +57,7 @@ pub(crate) fn succeeded(row: &Row, method: Method) -> Ending
     }
 }
 
-/// Of a stop to a state, without a method.
+/// The end of a stop to a state that has no method.
 pub(crate) fn stopped(to: State, cause: Cause) -> Ending
     ensures { result ≡ stopped to cause }
 {
@@ -69,7 +69,7 @@ pub(crate) fn stopped(to: State, cause: Cause) -> Ending
     }
 }
 
-/// Of a start that is given up.
+/// The end of a start that the restarter gives up: maintenance.
 fn start_given_up() -> Ending
     ensures { result ≡ start_given_up }
 {
@@ -81,7 +81,7 @@ fn start_given_up() -> Ending
     }
 }
 
-/// Of a start that may be tried again, after so many failures.
+/// The end of a start that may be tried again, with this count of failures.
 fn start_counted(failed: u64) -> Ending
     ensures { result ≡ start_counted failed }
 {
@@ -93,8 +93,8 @@ fn start_counted(failed: u64) -> Ending
     }
 }
 
-/// Of a start that failed. The third failure in a row is the last, and so is one after which a further start would
-/// fail too.
+/// The end of a start that failed. The third failure in a row is the last, and so is one after which a further start
+/// would fail too.
 fn start_failed(row: &Row, fatal: bool) -> Ending
     ensures { result ≡ start_failed row.now fatal }
 {
@@ -105,7 +105,7 @@ fn start_failed(row: &Row, fatal: bool) -> Ending
     }
 }
 
-/// Of a stop whose method failed.
+/// The end of a stop whose method failed.
 fn stop_failed() -> Ending
     ensures { result ≡ stop_failed }
 {
@@ -117,7 +117,7 @@ fn stop_failed() -> Ending
     }
 }
 
-/// What the failure of a method leads to; `fatal` where a further run would fail too.
+/// The end that follows a method's failure. `fatal` says that a further run would fail too.
 pub(crate) fn failed_with(row: &Row, method: Method, fatal: bool) -> Ending
     ensures { result ≡ failed_with row.now method fatal }
 {
@@ -128,7 +128,7 @@ pub(crate) fn failed_with(row: &Row, method: Method, fatal: bool) -> Ending
     }
 }
 
-/// What it leads to that the children of a method could not be followed.
+/// The end that follows if the children of a method could not be followed.
 pub(crate) fn not_followed(row: &Row, method: Method) -> Ending
     ensures { result ≡ not_followed row.now method }
 {
@@ -139,7 +139,7 @@ pub(crate) fn not_followed(row: &Row, method: Method) -> Ending
     }
 }
 
-/// Of a start that was under way when the restarter was launched: it does not count as a failure.
+/// The end of a start that was under way when the restarter was launched. It does not count as a failure.
 pub(crate) fn ended_start(row: &Row) -> Ending
     ensures { result ≡ ended_start row.now }
 {

@@ -1,4 +1,4 @@
-//! What a restarter does on a message.
+//! The replies of a restarter to messages.
 
 ghost use Rattle.std.specs.Option.{option_copied};
 ghost use Rattle.std.specs.Prelude.{◌≡◌, map, IfOk};
@@ -181,14 +181,14 @@ fn taking_row(
     Ok(taking(alloc, taken, change))
 }
 
-/// Whether an answer is that to a proposal.
+/// True if an answer is to a proposal: it has the same launch and serial.
 fn is_answer(launch: u64, serial: u64, proposal: &Proposal) -> bool
     ensures { result ≡ is_answer launch serial proposal.now }
 {
     proposal.launch == launch && proposal.serial == serial
 }
 
-/// The run that a granted step marks no more: the live one, where the step is the note of its failure.
+/// If the granted step is a note, the live run without the mark of its failure.
 fn unmarked(restarter: &Restarter, known: &KnownInstance, step: &Step) -> Option<KnownRun>
     ensures { result ≡ unmarked restarter.now.known known.now step.now }
 {
@@ -296,7 +296,7 @@ fn nacked(
     }
 }
 
-/// What a restarter does on a message that names it.
+/// The reply of a restarter to a message that names it.
 #[tactic(auto, unfolding(crate::specs::Replies::heard))]
 pub(crate) fn heard(
     alloc: Global,

@@ -54,7 +54,7 @@ pub struct Ending {
     pub drain: Drain,
 }
 
-/// What follows when a proposal is granted.
+/// The phase that follows if the repository grants a proposal.
 #[derive(Drop)]
 pub enum After {
     Idle,
@@ -62,7 +62,7 @@ pub enum After {
     Ending(Ending),
 }
 
-/// What a restarter does about an instance.
+/// A restarter's work on an instance.
 #[derive(Drop)]
 pub enum Phase {
     Idle,

@@ -1,8 +1,7 @@
-//! A restarter: what it knows of its instances and of their runs, and what it does on a message, a tick, an answer or
-//! a report.
-//! Modules: `known` (what it knows), `reply` (what a step is, and what it changes), `changing` (changes and replies by
-//! what they do), `running` (runs and their contracts), `ending` (ends that follow on methods), `orders` (proposals),
-//! `hearing` (messages), `ticking` (ticks), `answering` (answers and reports), `watching` (which instances rest),
+//! A restarter knows its instances and their runs. It acts on messages, ticks, answers and reports.
+//! Modules: `known` (what it knows); `reply` (what a step is, and what it changes); `changes` (changes and replies by
+//! what they do); `runs` (runs and their contracts); `ends` (ends that follow on methods); `orders` (proposals);
+//! `replies` (messages); `ticks` (ticks); `answers` (answers and reports); `restless_list` (which instances rest);
 //! `restarter`.
 #![tactic(auto)]
 

@@ -1,4 +1,4 @@
-//! What a restarter proposes.
+//! The proposals of a restarter.
 
 ghost use Rattle.std.specs.Prelude.{◌≡◌, IfOk, OnErr, true};
 ghost use Rattle.smf_restarter.specs.Orders.{ordered, owed_by, proposing, refreshing, start_step, starting, stopping, waiting};
@@ -45,7 +45,7 @@ fn waiting(
     with(known, &known.row, Phase::Waiting { proposal, after })
 }
 
-/// Proposes a step under the next serial and the next number. Where one of these is not left, nothing is done.
+/// Proposes a step under the next serial and the next number. If either has run out, it does nothing.
 pub(crate) fn proposing(
     alloc: Global,
     restarter: &Restarter,
@@ -92,7 +92,7 @@ fn start_step(order: &Order, run: u64, duration: Duration, ignore: Ignore) -> St
     }
 }
 
-/// What follows the grant of a step with a run: its method is begun.
+/// After the repository grants a step with a run, the restarter owes the method of that run.
 fn owed_by(order: &Order, method: Method, run: u64, call: &MethodCall) -> Result<After, AllocError>
     ensures { IfOk result (λ t. t ≡ owed_by order.now method run call.now) }
 {
@@ -104,7 +104,7 @@ fn owed_by(order: &Order, method: Method, run: u64, call: &MethodCall) -> Result
     }))
 }
 
-/// Proposes the start of an order. Where no run is left, it leads to maintenance.
+/// Proposes the start of an order. If no run is left, it proposes maintenance.
 fn starting(
     alloc: Global,
     restarter: &Restarter,
@@ -128,7 +128,7 @@ fn starting(
     }
 }
 
-/// Proposes the stop of an order, by its method where it has one and a run is left for it.
+/// Proposes the stop of an order. The method runs if the order has one and a run is left for it.
 fn stopping(
     alloc: Global,
     restarter: &Restarter,
@@ -158,7 +158,7 @@ fn stopping(
     }
 }
 
-/// Proposes the refresh of an order, by its method where it has one and a run is left for it.
+/// Proposes the refresh of an order. The method runs if the order has one and a run is left for it.
 fn refreshing(
     alloc: Global,
     restarter: &Restarter,

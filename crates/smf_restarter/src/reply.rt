@@ -15,7 +15,7 @@ pub struct Begun {
     pub command: Command,
 }
 
-/// What a restarter asks of the contracts.
+/// A call of a restarter on the contracts.
 #[derive(Clone, Copy, PartialEq, Eq)]
 pub enum Call {
     Nothing,
@@ -27,7 +27,7 @@ pub enum Call {
     Kill(Number),
 }
 
-/// What becomes of a call. That of a kill says nothing: that the contract is empty is an event of it.
+/// The answer to a call. The answer to a kill is `Nothing`: an event tells that the contract is empty.
 #[derive(Clone, Copy)]
 pub enum Answer {
     Nothing,
@@ -40,7 +40,7 @@ pub enum Answer {
     NotFollowed,
 }
 
-/// What is done about an instance from now on, where that needs no row.
+/// The course of an instance from now on, if it needs no new row.
 #[derive(Clone, Copy)]
 pub enum Course {
     Running(RunningMethod),
@@ -54,7 +54,7 @@ pub struct Turn {
     pub course: Course,
 }
 
-/// What a step makes of what a restarter knows.
+/// The change of what a restarter knows.
 #[derive(Drop)]
 pub struct Change {
     pub stage: Option<Stage>,
@@ -69,8 +69,8 @@ pub struct Change {
     pub run: Option<KnownRun>,
 }
 
-/// What a restarter does on an input: what changes, what it says, the rows that it takes, the method that it begins,
-/// and what it asks of the contracts. A method whose call is a spawn begins if that is made; any other is built in.
+/// The reply of a restarter to an input: the change, a message, the rows that it takes, the method that it begins, and
+/// its call. A method whose call is a spawn begins if the spawn is made. Any other method is built in.
 #[derive(Drop)]
 pub struct Reply {
     pub change: Change,

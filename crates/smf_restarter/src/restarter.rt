@@ -135,14 +135,14 @@ impl Restarter {
         self.instances.get(&instance)
     }
 
-    /// What it does on a message that names it.
+    /// Its reply to a message that names it.
     pub fn heard(&self, message: &Message) -> Result<Reply, AllocError>
         ensures { IfOk result (λ r. r ≡ heard self.now.known message.now) }
     {
         heard(self.alloc, self, message)
     }
 
-    /// What it does on a tick of its own. It needs memory only for a message.
+    /// Its reply to a tick of its own. It needs memory only for a message.
     pub fn own_tick(&self) -> Result<Reply, AllocError>
         ensures exact { IfOk result (λ r. r ≡ own_tick self.now.known self.now.known.stage) }
         ensures memory { OnErr result (needs_memory (own_tick self.now.known self.now.known.stage) ≡ true) }
@@ -150,9 +150,9 @@ impl Restarter {
         own_tick(self.alloc, self)
     }
 
-    /// What it does on a tick of an instance. It needs memory only to send a message, or to begin a method, whose
-    /// command it copies. The change needs room for one instance and one run at most. A spawn changes nothing before
-    /// its answer.
+    /// Its reply to a tick of an instance. It needs memory only to send a message, or to begin a method, whose command
+    /// it copies. The change needs room for one instance and one run at most. A spawn changes nothing before its
+    /// answer.
     pub fn ticked(&self, instance: u64) -> Result<Reply, AllocError>
         ensures exact { IfOk result (λ r. r ≡ ticked self.now.known instance) }
         ensures memory { OnErr result (needs_memory (ticked self.now.known instance) ≡ true) }
@@ -162,7 +162,7 @@ impl Restarter {
         ticked(self.alloc, self, instance)
     }
 
-    /// Whether it is found at once that a tick of an instance does nothing.
+    /// True if it finds at once that a tick of an instance does nothing.
     #[tactic(auto, unfolding(crate::specs::Ticks::ticked))]
     pub fn rests_on(&self, instance: u64) -> bool
         ensures { result ≡ true → ticked self.now.known instance ≡ nothing }
@@ -183,14 +183,14 @@ impl Restarter {
         self.restless.as_slice()
     }
 
-    /// What becomes of it when it is told which contracts there are.
+    /// The change that the list of all contracts makes to it.
     pub fn listed(&self, statuses: &[Status]) -> Result<Change, AllocError>
         ensures { IfOk result (λ c. c ≡ listed self.now.known statuses.now) }
     {
         listed(self.alloc, self, statuses)
     }
 
-    /// What becomes of it on the answer to what the tick of an instance asked for. The change needs room for one run.
+    /// The change that the answer to the call of an instance's tick makes to it. The change needs room for one run.
     pub fn answered(&self, instance: u64, answer: Answer) -> Change
         ensures exact { result ≡ answered self.now.known instance answer }
         ensures room { HasPlace result 0 1 }
@@ -198,7 +198,7 @@ impl Restarter {
         answered(self.alloc, self, instance, &answer)
     }
 
-    /// What becomes of it when an event of a contract is reported. The change needs room for one run.
+    /// The change that the report of a contract's event makes to it. The change needs room for one run.
     pub fn reported(&self, report: &Report) -> Change
         ensures exact { result ≡ reported self.now.known report.now }
         ensures room { HasPlace result 0 1 }
@@ -206,8 +206,8 @@ impl Restarter {
         reported(self.alloc, self, report)
     }
 
-    /// What becomes of it when the method that runs for an instance has taken too long. The change needs room for one
-    /// run.
+    /// The change that it makes when the method that runs for an instance has taken too long. The change needs room for
+    /// one run.
     pub fn timed_out(&self, instance: u64) -> Change
         ensures exact { result ≡ timed_out self.now.known instance }
         ensures room { HasPlace result 0 1 }
@@ -216,8 +216,8 @@ impl Restarter {
     }
 
     /// Makes room for so many more instances and runs, if it is not there. Room for one of each is enough for the
-    /// change of the next tick, of its answer but to a list, or of the next report. If memory runs out it knows what it
-    /// knew.
+    /// change of the next tick or the next report. It is enough for the change of an answer too, but not of a list. If
+    /// memory runs out it knows what it knew.
     #[tactic(auto, using(crate::proofs::Rooms::lacks_instances, crate::proofs::Rooms::lacks_runs))]
     pub fn reserve(&mut self, instances: usize, runs: usize) -> Result<(), AllocError>
         ensures known { self.new.known ≡ self.old.known }
@@ -284,8 +284,8 @@ impl Restarter {
         }
     }
 
-    /// What it does on the tick that was made ahead, if one was. It takes no memory. A change of what is known lets that
-    /// tick go.
+    /// Its reply to the tick that was made ahead, if one was. It takes no memory. A change of what is known drops that
+    /// tick.
     pub fn take_tick(&mut self) -> Option<Reply>
         ensures reply { result ≡ option_map (ticked self.old.known) self.old.ready }
         ensures taken { self.new ≡ record self.old { ready = None } }
@@ -324,7 +324,7 @@ impl Restarter {
         set_ready(&mut self.ready, None);
     }
 
-    /// Whether it is up, and awaits and owes nothing.
+    /// True if it is up, and awaits and owes nothing.
     pub fn is_at_rest(&self) -> bool
         ensures { result ≡ at_rest self.now.known }
     {

@@ -1,4 +1,4 @@
-//! What is known of the runs that have a contract.
+//! The runs that have a contract, as a restarter knows them.
 
 ghost use Rattle.std.specs.List.{list_any};
 ghost use Rattle.std.specs.Option.{option_copied};
@@ -38,7 +38,7 @@ pub(crate) fn is_empty(run: Option<&KnownRun>) -> bool
     }
 }
 
-/// Whether a run of the instance has members, and nobody holds it.
+/// True if a run of the instance has members, and the restarter does not hold its contract.
 fn is_orphan(instance: u64, run: &KnownRun) -> bool
     ensures { result ≡ is_orphan instance run.now }
 {
@@ -77,7 +77,7 @@ pub(crate) fn ignores_signal(ignore: Ignore) -> bool
     bits == 2 || bits == 3
 }
 
-/// Whether an event is a failure, and not one that the service leaves out of account.
+/// True if an event is a failure that the service does not ignore.
 pub(crate) fn is_failure(ignore: Ignore, kind: &EventKind) -> bool
     ensures { result ≡ is_failure ignore kind.now }
 {
@@ -98,7 +98,7 @@ fn ignore_of(known: Option<&KnownInstance>) -> Ignore
     }
 }
 
-/// Whether an event is the exit of a contract's first process.
+/// True if an event is the exit of a contract's first process.
 pub(crate) fn is_exit_of(first: Number, kind: &EventKind) -> bool
     ensures { result ≡ is_exit_of first kind.now }
 {
@@ -139,7 +139,7 @@ fn any_exit_of(first: Number, events: &[Event]) -> bool
     events.iter().any(|event| is_exit_of(first, &event.kind))
 }
 
-/// What a contract says of the run that its cookie names.
+/// The run that a contract's cookie names, as the contract's status tells it.
 fn listed_as(restarter: &Restarter, status: &Status, cookie: Cookie) -> KnownRun
     ensures { result ≡ listed_as restarter.now.known status.now cookie }
 {
@@ -158,7 +158,7 @@ fn listed_as(restarter: &Restarter, status: &Status, cookie: Cookie) -> KnownRun
     }
 }
 
-/// The run of a contract, where its cookie names one.
+/// The run of a contract, if its cookie names one.
 pub(crate) fn listed_run(restarter: &Restarter, status: &Status) -> Option<KnownRun>
     ensures { option_to_list result ≡ listed_run restarter.now.known status.now }
 {

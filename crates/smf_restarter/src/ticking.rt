@@ -1,4 +1,4 @@
-//! What a restarter does in its turn, for itself and for an instance.
+//! The turns of a restarter, for itself and for an instance.
 
 ghost use Rattle.std.specs.Option.{option_copied};
 ghost use Rattle.std.specs.Prelude.{◌≡◌, IfOk, OnErr, true};
@@ -81,7 +81,7 @@ fn fatal_of(method: Method, row: &Row) -> EventSet
     }
 }
 
-/// The terms of a method's contract: it waits to be adopted where its holder is gone.
+/// The terms of a method's contract. If its holder is gone, it waits to be adopted.
 fn terms_of(method: Method, row: &Row) -> Terms
     ensures { result ≡ terms_of method row.now }
 {
@@ -126,7 +126,7 @@ fn spawning(alloc: Global, known: &KnownInstance, owed: &Owed) -> Result<Reply, 
     beginning(alloc, begun, call, unchanged(alloc))
 }
 
-/// The contract of a run is killed, where it is known and not known empty.
+/// The kill of a run's contract, if the run is known and not known empty.
 fn kill_of(run: Option<&KnownRun>) -> Call
     ensures { result ≡ kill_of (option_copied run.entry) }
 {
@@ -188,7 +188,7 @@ fn first_call(first: Call, second: Call) -> Call
     }
 }
 
-/// What is asked of the runs that have to be drained, of the live one first.
+/// The call on the runs that have to be drained, on the live one first.
 fn drain_call(restarter: &Restarter, known: &KnownInstance, drain: Drain) -> Call
     ensures { result ≡ drain_call restarter.now.known known.now drain }
 {
@@ -202,7 +202,8 @@ fn drain_call(restarter: &Restarter, known: &KnownInstance, drain: Drain) -> Cal
     }
 }
 
-/// Whether a start that ends online keeps its run: where the contract is known and, for a transient service, not empty.
+/// True if a start that ends online keeps its run. The contract has to be known and, for a transient service, not
+/// empty.
 fn keeps_run(duration: Duration, live: Option<&KnownRun>) -> bool
     ensures { result ≡ keeps_run duration (option_copied live.entry) }
 {
@@ -225,14 +226,14 @@ fn leads_to(next: Option<State>, to: State) -> bool
     }
 }
 
-/// Whether a refresh is under way, and this is its end.
+/// True if a refresh is under way, and this is its end.
 fn is_refresh_end(row: &Row, to: State) -> bool
     ensures { result ≡ is_refresh_end row.now to }
 {
     row.state.runs() && to == row.state && leads_to(row.next, row.state)
 }
 
-/// Whether an end keeps the live run.
+/// True if an end keeps the live run.
 fn keeps(row: &Row, to: State, live: Option<&KnownRun>) -> bool
     ensures { result ≡ keeps row.now to (option_copied live.entry) }
 {
@@ -299,7 +300,7 @@ fn is_ended(run: Option<&KnownRun>) -> bool
     }
 }
 
-/// What the end of a live run, or of its first process, is noted as, by the duration of the service.
+/// The bits that note the end of a live run, or of its first process, by the duration of the service.
 fn note_bits(duration: Duration, live: Option<&KnownRun>) -> Option<u8>
     ensures { result ≡ note_bits duration (option_copied live.entry) }
 {
@@ -322,7 +323,7 @@ fn note_bits(duration: Duration, live: Option<&KnownRun>) -> Option<u8>
     }
 }
 
-/// A note is due where the instance runs with a live run, and nothing is under way.
+/// A note can be due only if the instance runs with a live run, and nothing is under way.
 pub(crate) fn note_due(row: &Row, live: Option<&KnownRun>) -> Option<u8>
     ensures { result ≡ note_due row.now (option_copied live.entry) }
 {

@@ -1,4 +1,4 @@
-//! Whether an instance rests, and the instances that do not.
+//! The instances that rest, and those that do not.
 
 ghost use Rattle.std.specs.Option.{option_copied};
 ghost use Rattle.std.specs.Prelude.{◌≡◌, ◌+◌, ◌<◌, ◌≤◌, find, is_some, OnOk};
@@ -78,7 +78,7 @@ fn note(restless: &mut Table<u64>, judged: Option<u64>, number: u64)
     }
 }
 
-/// Whether a number is noted.
+/// True if a number is noted.
 pub(crate) fn is_noted(restless: &Table<u64>, number: u64) -> bool
     ensures { result ≡ is_some (lookup by_itself restless.now.items number) }
 {

@@ -45,7 +45,7 @@ holds_as p q l m is same h = subst (λ (x : Progress). Holds x.world m) (sym is)
 
 -- ---- what is asked of children, and leaves the node as it is
 
--- what children keep where they did it agrees with the same worlds
+-- if children did it, their ledger agrees with the same worlds
 abbrev Waits : Ask → Type 0
 Waits ask = (w : World) (l m : Ledger) → IsDone ask l m → Agrees w l → Agrees w m
 

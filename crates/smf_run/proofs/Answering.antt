@@ -1,4 +1,4 @@
--- What a line gives by what children answer.
+-- The deed of a line, by the answer of children.
 use Rattle.std.proofs.Common.{◌≡◌, ℕ, List, ◌++◌, Bool, false, is_ok, Result, Ok, Err, IfOk, OnOk, refl, ap, subst}
 use Rattle.smf_admin.specs.declared.finding.Found.{Found}
 use Rattle.smf_admin.specs.Finding.{found_of}
@@ -10,7 +10,7 @@ use Rattle.smf_run.specs.Lines.{AskedBy, HasAskedOf, HasPut, deed}
 use Rattle.smf_script.specs.Session.{failed}
 use Rattle.smf_world.specs.Schedule.{Progress}
 
--- what was answered is said
+-- the line says the answer of children
 pub said_by : (k : Skills) (asked ask : Ask) (p : Progress) (old new : Seen) (answer : Result (Unit {0}) KidsFault) (b b' : List ℕ) (r : Result Bool NodeFault)
     → asked ≡ ask → HasAnswered k asked answer old new → IfOk r (λ fine. fine ≡ is_ok answer) → OnOk r (b' ≡ b ++ answer_text answer) → OnOk r (HadMemory answer)
     → IfOk r (λ fine. HasPut (λ text. HasAsked k ask (said p) old new (deed p fine text)) b b')

@@ -1,4 +1,4 @@
--- What a line does, by what is done for what it asks.
+-- The effect of a line, by the deed for its request.
 use Rattle.std.proofs.Common.{◌≡◌, ◌∙◌, inl, ℕ, List, Bool, true, false, None, Result, Ok, Err, IfErr, IfOk, OnOk, refl, sym, subst}
 use Rattle.std.specs.Result.{IsErrAnd}
 use Rattle.smf_edge.specs.Answers.{Seen, Skills}
@@ -20,12 +20,12 @@ use Rattle.smf_world.specs.declared.event.ProcessEvent.{ProcessEvent}
 use Rattle.smf_world.specs.Schedule.{Progress}
 use Rattle.smf_world.specs.World.{World}
 
--- what the exit of a `?` gives
+-- the error that the exit of a `?` passes on
 pub passed_on : {X : Type 0} (r : Result X NodeFault) (e : NodeFault) (P : NodeFault → Type 0) → IsErrAnd r (λ y. y ≡ e) → P e → IfErr r P
 passed_on (Ok x) e P q p = tt
 passed_on (Err y) e P q p = subst P (sym q) p
 
--- what is done where children have a part
+-- the effect of a line in which children have a part
 together_by : (k : Skills) (request : Request) (s : Session) (old new : Seen) (q : Progress) (b b' : List ℕ) (r : Result Bool NodeFault)
     → IfOk r (λ fine. HasPut (λ text. DoesWith k request s.progress old new (deed q fine text)) b b')
     → IfOk r (λ fine. HasPut (λ text. HasDone k request s old new (effect (record { progress = q; selection = s.selection }) fine text)) b b')
@@ -40,7 +40,7 @@ pub process_done : (k : Skills) (request : Request) (word : List ℕ) (what : Pr
 process_done k request word what s old new b b' r is h =
     subst (λ q. IfOk r (λ fine. HasPut (λ text. HasDone k q s old new (effect s fine text)) b b')) (sym is) (together_by k (requests.Process word what) s old new s.progress b b' r h)
 
--- a boot that can happen where children dropped all that they had
+-- a boot that can happen if children dropped all that they had
 pub could_boot : (r : Result Bool NodeFault) (P : Type 0) → OnOk r P → IfOk r (λ fine. fine ≡ true → P)
 could_boot (Ok fine) P h = λ e. h
 could_boot (Err e) P h = tt
@@ -69,7 +69,7 @@ boot_done k request s old new q b b' r is h taken =
 stays_so : (w : World) (l : Ledger) → Moves w w l l
 stays_so w l = (0, (refl, refl))
 
--- of a line nothing was done
+-- nothing of a line was done
 pub unread : (k : Skills) (stores : RepoFault → Type 0) (request : Request) (s : Session) (old : Seen) (e : NodeFault) → e ≡ Memory → LineFails k stores request s old old s.progress e
 unread k stores (requests.Process word what) s old e is = fails_together (is, refl, refl)
 unread k stores (requests.Join word) s old e is = fails_together (is, refl, refl)

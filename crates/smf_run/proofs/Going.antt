@@ -71,7 +71,7 @@ pub goes_first : (k : Skills) (p : Progress) (input : Option (List ℕ)) (turns 
 goes_first k p input turns old was e =
     record { lines = []; effect = silent (begun p); ran = (refl, refl); known = all_left input turns e; session = refl; text = Appends-nil was; flag = refl }
 
--- what a read of known bytes gives, at what is left of them
+-- the result of a read of known bytes, at those that are left
 at_left : (bytes : List ℕ) (lines : List (List ℕ)) (left : Option (List ℕ)) (turns : ℕ) (P : List ℕ → Type 0) → (r : AreRead bytes lines left turns) → IfSome left P → P r.rest
 at_left bytes lines None turns P r h = absurd (cc)
 at_left bytes lines (Some xs) turns P r h = let same : xs ≡ r.rest = cc in subst P same h

@@ -1,4 +1,4 @@
--- What lines do in which children have no part, is done by events in which children have none.
+-- Lines in which children have no part act by events in which they have none.
 use Rattle.std.proofs.Common.{◌≡◌, ◌⊎◌, inl, inr, ℕ, Bool, true, false, List, [], ◌∷◌, Option, Some, None, Result, Ok, Err, refl, sym, subst}
 use Rattle.smf_admin.specs.declared.asking.Asked.{Asked}
 use Rattle.smf_admin.specs.declared.asking.Asked.TheVariants as asks
@@ -172,7 +172,7 @@ leaves_apart stores s (requests.Again count) after e none m =
     apart_to s.progress (delivered_again m.first s.progress) after (again_apart s.progress s.progress m.first (self s.progress)) m.went
 leaves_apart stores s _ after e none m = absurd m
 
--- what is left of a line that ended in mid-course
+-- the node after a line that ended in mid-course
 pub fails_apart : (stores : RepoFault → Type 0) (s : Session) (request : Request) (after : Progress) (e : NodeFault) → asks_children request ≡ false → RequestFails stores s request after e → Apart s.progress after
 fails_apart stores s request after e none h = by h.left
   where

@@ -1,4 +1,4 @@
--- Where the node's world and what children keep agree, or nearly, behind a script.
+-- The node's world and the ledger of children agree, or nearly, after a script.
 use Rattle.std.specs.Prelude.{◌≡◌, ◌⊎◌, []}
 use Rattle.smf_contract.specs.Entries.{empty}
 use Rattle.smf_drive.specs.Agrees.{Agrees}
@@ -6,11 +6,11 @@ use Rattle.smf_edge.specs.Ledgers.{Ledger}
 use Rattle.smf_edge.specs.Steps.{restarted}
 use Rattle.smf_world.specs.World.{World}
 
--- what children keep that were asked nothing yet
+-- the ledger of children that were asked nothing yet
 abbrev pub unasked : Ledger
 unasked = record { notes = []; table = empty; due = []; pending = [] }
 
--- children dropped all that they had, and the node did not boot behind it
+-- children dropped all that they had, and the node did not boot after that
 abbrev pub HasDropped : World → Ledger → Type 0
 HasDropped w l = (k : Ledger) × Agrees w k × (l ≡ restarted k)
 

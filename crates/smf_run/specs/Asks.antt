@@ -1,4 +1,4 @@
--- What is asked of the children of services, and what they answer.
+-- The requests to the children of services, and their answers.
 use Rattle.std.specs.Prelude.{◌≡◌, ℕ, List, [], ◌++◌, codes, Bool, true, false, is_ok, Result, Ok, Err, IfErr, OnErr, OnOk}
 use Rattle.smf_edge.specs.declared.deed.Happening.{Happening}
 use Rattle.smf_edge.specs.declared.fault.KidsFault.{KidsFault}
@@ -10,22 +10,22 @@ use Rattle.smf_script.specs.Session.{Deed, no_member, not_here}
 use Rattle.smf_words.specs.Text.{line_end}
 use Rattle.smf_world.specs.Schedule.{Progress}
 
--- what is asked of them: that something happens to the lowest member of a contract, to wait until a member ends, to end
--- all members, or to drop all members and contracts
+-- A request to them. Something is to happen to the lowest member of a contract, or they are to wait until a member
+-- ends. Or they are to end all members, or to drop all members and contracts.
 pub data Ask : Type 0 where
   to_act : ℕ → Happening → Ask
   to_join : ℕ → Ask
   to_kill : ℕ → Ask
   to_reboot : Ask
 
--- whether it can be asked of these children
+-- it can be asked of these children
 abbrev pub is_here : Skills → Ask → Bool
 is_here k (to_act id happening) = k.acts
 is_here k (to_join id) = k.joins
 is_here k (to_kill id) = true
 is_here k to_reboot = k.acts
 
--- what they keep where they did it
+-- the ledger that they keep if they did it
 abbrev pub IsDone : Ask → Ledger → Ledger → Type 0
 IsDone (to_act id happening) old new = new ≡ happened old id happening
 IsDone (to_join id) old new = IsJoined id old new
@@ -51,7 +51,7 @@ pub record HasAnswered (k : Skills) (ask : Ask) (answer : Result (Unit {0}) Kids
 abbrev pub device_failed : List ℕ
 device_failed = codes "smf: device failed" ++ line_end
 
--- a line says why they did not do what was asked; where memory ran out the script ends
+-- a line says why they did not do what was asked; if memory ran out, the script ends
 abbrev pub why_text : KidsFault → List ℕ
 why_text NoChild = no_member
 why_text NotHere = not_here

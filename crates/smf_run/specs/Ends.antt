@@ -1,4 +1,4 @@
--- What is done of children that are left.
+-- The end of children that are left.
 use Rattle.std.specs.Prelude.{◌≡◌, ℕ, List, [], ◌∷◌, true, Result}
 use Rattle.smf_edge.specs.declared.fault.KidsFault.{KidsFault}
 use Rattle.smf_edge.specs.Answers.{MayNotAnswer, Seen, Skills}
@@ -11,13 +11,13 @@ AreAsked k [] old new = new ≡ old
 AreAsked k (id ∷ ids) old new =
     (answer : Result (Unit {0}) KidsFault) × (mid : Seen) × HasAnswered k (to_kill id) answer old mid × AreAsked k ids mid new
 
--- of all contracts that have members, which were listed first
+-- the contracts that have members were listed first, and then all their members asked to be ended
 pub record HasEnded (k : Skills) (old new : Seen) : Type 0 where
   pub mid : Seen
   pub same : mid.ledger ≡ old.ledger
   pub asked : AreAsked k (listed old.ledger) mid new
 
--- what is left could not be listed, and nothing was asked
+-- the children that are left could not be listed, and nothing was asked
 pub record IsUnlisted (k : Skills) (old new : Seen) : Type 0 where
   pub why : KidsFault
   pub may : MayNotAnswer k true old.failures new.failures why

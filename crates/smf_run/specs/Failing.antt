@@ -1,4 +1,4 @@
--- What is left of a line that a fault of the node ended.
+-- The node and children after a line that a fault of the node ended.
 use Rattle.std.specs.Prelude.{◌≡◌, ◌⊎◌, ℕ, false}
 use Rattle.smf_drive.specs.Moves.{Moves}
 use Rattle.smf_edge.specs.Ledgers.{Ledger}
@@ -35,8 +35,8 @@ IsCutShort k stores rounds p old after new e =
 abbrev pub IsUnbooted : (RepoFault → Type 0) → World → NodeFault → Type 0
 IsUnbooted stores w e = (e ≡ Memory) ⊎ IsFault stores w events.Boot e
 
--- where children have a part: nothing was asked of them or they did not do it; children dropped all that they had, and the
--- node did not boot; or rounds ended in mid-course
+-- A line in which children have a part. Nothing was asked of them, or they did not do it. Or they dropped all that they
+-- had, and the node did not boot. Or rounds ended in mid-course.
 abbrev pub LeavesWith : Skills → (RepoFault → Type 0) → Request → Progress → Seen → Progress → Seen → NodeFault → Type 0
 LeavesWith k stores (requests.Process word what) p old after new e = IsUndone p old.ledger after new.ledger e
 LeavesWith k stores (requests.Join word) p old after new e = IsUndone p old.ledger after new.ledger e

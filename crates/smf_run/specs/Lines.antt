@@ -1,4 +1,4 @@
--- What a line does over a node and the children of its services.
+-- The effect of a line on a node and the children of its services.
 use Rattle.std.specs.Prelude.{◌≡◌, ℕ, List, [], ◌++◌, Bool, true, false, None, Result, Ok, Err}
 use Rattle.std.specs.Option.{option_map_or}
 use Rattle.smf_admin.specs.declared.finding.Found.{Found}
@@ -31,28 +31,28 @@ happening Fork = happens.Fork
 happening (Exit exit) = happens.Exit exit
 happening (Fail failure) = happens.Fail failure
 
--- the contract of an instance that has members, of its latest run; 0, which is no contract's, where there is none
+-- the contract of an instance that has members, of its latest run; 0, which is no contract's, if there is none
 abbrev pub contract_of : Contracts → ℕ → ℕ
 contract_of t n = option_map_or (λ c. c.id) (latest t n) 0
 
--- it is asked of that contract of the instance that was found; where none or several were, nothing is asked
+-- it is asked of that contract of the instance that was found; if none or several were, nothing is asked
 abbrev pub HasAskedOf : Skills → Progress → (ℕ → Ask) → Found → Seen → Seen → Deed → Type 0
 HasAskedOf k p ask (finds.One n) old new d = HasAsked k (ask (contract_of p.world.table n)) (said p) old new d
 HasAskedOf k p ask (finds.NoMatch word) old new d = (d ≡ failed p (no_match_text script_name word)) × (new ≡ old)
 HasAskedOf k p ask (finds.Several word count) old new d = (d ≡ failed p (several_text script_name word count)) × (new ≡ old)
 
--- of the instance that a word stands for
+-- it is asked of the instance that a word stands for
 unfoldable pub AskedBy : Skills → Progress → (ℕ → Ask) → List ℕ → Seen → Seen → Deed → Type 0
 AskedBy k p ask word old new d = HasAskedOf k p ask (found_of p.world.now.names word) old new d
 
 -- ---- the machine
 
--- the node boots where children dropped all that they had
+-- the node boots if children dropped all that they had
 abbrev pub booted : Progress → Result (Unit {0}) KidsFault → Deed
 booted p (Ok u) = done (on p events.Boot) []
 booted p (Err why) = failed p (why_text why)
 
--- children were asked to drop all that they had; where they did, the boot can happen
+-- children were asked to drop all that they had; if they did, the boot can happen
 pub record HasBooted (k : Skills) (p : Progress) (old new : Seen) (d : Deed) : Type 0 where
   pub asked : HasAsked k to_reboot (booted p) old new d
   pub taken : d.fine ≡ true → refused p.world events.Boot ≡ None
@@ -66,7 +66,7 @@ pub record HasSettled (k : Skills) (rounds : ℕ) (p : Progress) (old new : Seen
 
 -- ---- the line
 
--- what is done where children have a part
+-- the deed of a line in which children have a part
 abbrev pub DoesWith : Skills → Request → Progress → Seen → Seen → Deed → Type 0
 DoesWith k (requests.Process word what) p old new d = AskedBy k p (λ id. to_act id (happening what)) word old new d
 DoesWith k (requests.Join word) p old new d = AskedBy k p to_join word old new d
@@ -90,7 +90,7 @@ deed p fine text = record { progress = p; text = text; fine = fine }
 abbrev pub effect : Session → Bool → List ℕ → Effect
 effect s fine text = record { session = s; text = text; fine = fine }
 
--- a text of which this holds was put behind what was there
+-- a text of which this holds was put after what was there
 pub record HasPut (Is : List ℕ → Type 0) (old new : List ℕ) : Type 0 where
   pub text : List ℕ
   pub put : new ≡ old ++ text

@@ -1,4 +1,4 @@
--- What comes of a script over a node and the children of its services.
+-- The result of a script over a node and the children of its services.
 use Rattle.std.specs.Prelude.{◌≡◌, ◌⊎◌, ℕ, List, [], ◌∷◌, ◌++◌, take, Bool, Option, IfSome}
 use Rattle.std.specs.Io.KnownBytes.{Appends}
 use Rattle.smf_edge.specs.Answers.{Skills}
@@ -17,14 +17,14 @@ use Rattle.smf_script.specs.Script.{Ends, Wrote, joined, max_lines, silent}
 use Rattle.smf_script.specs.Session.{Effect, Session}
 use Rattle.smf_world.specs.Schedule.{Progress}
 
--- these lines were done in turn behind what was done before, each on what those before it left
+-- these lines were done in turn after what was done before, each on what those before it left
 abbrev pub Runs : Skills → List (List ℕ) → Effect → Seen → Seen → Effect → Type 0
 Runs k [] before old new e = (e ≡ before) × (new ≡ old)
 Runs k (line ∷ lines) before old new e =
     (one : Effect) × (mid : Seen) × HasDone k (request_of line) before.session old mid one × Runs k lines (joined before one) mid new e
 
--- a script came to its end: lines were done, all that there are where the bytes are known; the node and the status are
--- what they gave, and their texts and nothing else was written
+-- A script came to its end. Lines were done, and if the bytes are known, these are all that there are. The node and the
+-- status are what the lines gave, and their texts and nothing else was written.
 pub record HasRun (k : Skills) (start : Session) (input : Option (List ℕ)) (old new : Seen) (after : Progress) (was is : Option (List ℕ)) (status : ℕ) : Type 0 where
   pub lines : List (List ℕ)
   pub effect : Effect

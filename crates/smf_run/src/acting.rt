@@ -31,7 +31,7 @@ fn happening(what: ProcessEvent) -> Happening
     }
 }
 
-/// The contract of an instance that has members, of its latest run; 0 where there is none.
+/// The contract of an instance that has members, of its latest run; 0 if there is none.
 fn contract_of(table: &Table, instance: u64) -> Number
     ensures { result ≡ contract_of table.now.table instance }
 {

@@ -14,8 +14,8 @@ fn end_each<K: Kids>(kids: &mut K, contracts: &[Number])
     }
 }
 
-/// Kills every child that is left, and waits for its end; what fails is left as it is. Gives back whether what is left could
-/// be listed.
+/// Kills every child that is left, and waits for its end; what fails is left as it is. Gives back whether what is left
+/// could be listed.
 pub fn end_all<K: Kids>(kids: &mut K) -> bool
     ensures ended { result ≡ true → HasEnded K.skills (seen (K.ledger kids.old) (K.failures kids.old)) (seen (K.ledger kids.new) (K.failures kids.new)) }
     ensures unlisted { result ≡ false → IsUnlisted K.skills (seen (K.ledger kids.old) (K.failures kids.old)) (seen (K.ledger kids.new) (K.failures kids.new)) }

@@ -1,7 +1,7 @@
-//! Scripts over a node and the children of its services: each line is read, done on what the lines before it left, and
-//! its text is written. What a line says of processes is done to the children, of which the node learns when it is
+//! Scripts over a node and the children of its services. A script reads each line, does it on what the lines before it
+//! left, and writes its text. The children do what a line says of processes, and the node learns of that when it is
 //! settled next.
-//! Modules: `acting` (what is asked of children), `ending` (when no more is asked of them), `lines` (what a line does),
+//! Modules: `actions` (what is asked of children), `ends` (when no more is asked of them), `lines` (what a line does),
 //! `script`.
 #![tactic(auto)]
 

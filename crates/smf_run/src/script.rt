@@ -81,7 +81,7 @@ fn do_lines<R: LineReader, W: TextWriter, J: Journal, K: Kids>(
 }
 
 /// Reads lines to the end, does each over a node and its children, and writes its text when it is done. The status is 1
-/// where a line failed.
+/// if a line failed.
 pub fn run_script<R: LineReader, W: TextWriter, J: Journal, K: Kids>(
     alloc: Global,
     reader: &mut R,
@@ -89,8 +89,8 @@ pub fn run_script<R: LineReader, W: TextWriter, J: Journal, K: Kids>(
     node: &mut Node<J>,
     kids: &mut K,
 ) -> Result<u8, ScriptFault>
-    // The lines were done one after another, and what they gave was written in this order; the status is 0 where none
-    // failed. Where the bytes are known, they are all lines of these.
+    // The lines were done one after another, and what they gave was written in this order; the status is 0 if none
+    // failed. If the bytes are known, they are all lines of these.
     ensures ran { IfOk result (λ status.
         HasRun K.skills (begun node.old) (R.remaining reader.old) (seen (K.ledger kids.old) (K.failures kids.old)) (seen (K.ledger kids.new) (K.failures kids.new)) node.new (W.contents writer.old) (W.contents writer.new) status) }
     ensures exit { IfOk result (λ status. status ≤ 1) }
@@ -98,7 +98,7 @@ pub fn run_script<R: LineReader, W: TextWriter, J: Journal, K: Kids>(
     // Some of the lines were done, and their texts were written.
     ensures err { IfErr result (λ fault.
         Stops K.skills J.write_fails fault (begun node.old) (R.remaining reader.old) (seen (K.ledger kids.old) (K.failures kids.old)) (seen (K.ledger kids.new) (K.failures kids.new)) node.new (W.contents writer.old) (W.contents writer.new)) }
-    // Where children and the node agreed, they agree; only a fault in a boot may leave children that have dropped all.
+    // If children and the node agreed, they agree; only a fault in a boot may leave children that have dropped all.
     ensures agrees { OnOk result (Agrees node.old.world (K.ledger kids.old) → Agrees node.new.world (K.ledger kids.new)) }
     ensures dropped { OnErr result (Agrees node.old.world (K.ledger kids.old) → AgreesOrDropped node.new.world (K.ledger kids.new)) }
     // Whatever the lines and the children: what the trail shows is what happened.

@@ -1,4 +1,4 @@
--- What is left of a line that a fault ended.
+-- The node after a line that a fault ended.
 use Rattle.std.proofs.Common.{◌≡◌, inl, inr, ℕ, List, Bool, true, Result, Ok, Err, IfErr, sym, ap, subst, ◌∙◌}
 use Rattle.std.specs.Result.{IsErrAnd}
 use Rattle.smf_model.specs.declared.command.Edit.{Edit}
@@ -12,7 +12,7 @@ use Rattle.smf_svccfg.specs.declared.selection.Judged.TheVariants as judgements
 use Rattle.smf_svccfg.specs.declared.selection.Selection.{Selection}
 use Rattle.smf_world.specs.Schedule.{Progress}
 
--- what the exit of a `?` gives
+-- the error that the exit of a `?` passes on
 pub passed_on : {X : Type 0} (r : Result X NodeFault) (e : NodeFault) (P : NodeFault → Type 0) → IsErrAnd r (λ y. y ≡ e) → P e → IfErr r P
 passed_on (Ok x) e P q p = tt
 passed_on (Err y) e P q p = subst P (sym q) p

@@ -1,4 +1,4 @@
--- What is asked for is done one by one.
+-- The requests of a line of svcadm are done one by one.
 use Rattle.std.proofs.Common.{◌≡◌, ℕ, List, [], ◌∷◌, ◌++◌, ◌&&◌, ◌⊎◌, inl, inr, Bool, true, refl, sym, ap, ◌∙◌, append_assoc, append-nil}
 use Rattle.smf_admin.specs.declared.asking.Asked.{Asked}
 use Rattle.smf_script.specs.Failing.{AreDone}

@@ -1,4 +1,4 @@
--- What lines do is what events do.
+-- Lines act by events alone.
 use Rattle.std.proofs.Common.{◌≡◌, ℕ, inl, inr, List, sym, ap, ◌∙◌, subst}
 use Rattle.smf_model.specs.declared.journal.RepoFault.{RepoFault}
 use Rattle.smf_node.specs.declared.fault.NodeFault.{NodeFault}

@@ -25,7 +25,7 @@ pub may_unwritten : (stores : RepoFault → Type 0) (changes : List Change) (e :
 may_unwritten stores changes e (inl is) = may_memory stores true e is
 may_unwritten stores changes e (inr h) = rw h.0 (h.1, refl)
 
--- what one of them may end with all of them may
+-- all of them may end with a fault with which one of them may
 pub may_more : {X : Type 0} (stores : RepoFault → Type 0) (f : X → Bool) (before : List X) (x : X) (rest : List X) (e : NodeFault) → MayEnd stores (f x) e → MayEnd stores (list_any f (before ++ x ∷ rest)) e
 may_more stores f before x rest Memory h = tt
 may_more {X = X} stores f before x rest Database h = (h.0, among before)

@@ -1,4 +1,4 @@
--- What is selected behind an edit of svccfg.
+-- The selection after an edit of svccfg.
 use Rattle.std.proofs.Common.{◌≡◌, ℕ, List, Bool, sym, ap, ◌∙◌}
 use Rattle.smf_model.specs.declared.command.Edit.{Edit}
 use Rattle.smf_script.specs.Session.{IsDeed, IsEffect, Session, given, given_selected, selected_behind, svccfg_name}

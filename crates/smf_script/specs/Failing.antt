@@ -1,4 +1,4 @@
--- What is left of a line that a fault of the node ended.
+-- The node after a line that a fault of the node ended.
 use Rattle.std.specs.Prelude.{◌≡◌, ◌⊎◌, ℕ, List, [], ◌++◌, Bool, true, false, Option, Some, None, Result, Ok}
 use Rattle.std.specs.List.{list_any}
 use Rattle.smf_admin.specs.Asking.{commands_of}
@@ -45,9 +45,9 @@ asks_repository s _ = false
 
 -- ---- faults
 
--- with which faults a line may end in which children have no part: memory ran out, or it asks the repository to change and
--- the journal could not be written. No such line needs a number that has no next one, delivers what was never sent, or
--- names an actor against its launch
+-- The faults with which a line may end in which children have no part. Memory ran out, or it asks the repository to
+-- change and the journal could not be written. No such line needs a number that has no next one, delivers what was
+-- never sent, or names an actor against its launch.
 abbrev pub MayEnd : (RepoFault → Type 0) → Bool → NodeFault → Type 0
 MayEnd stores asks Memory = Unit {0}
 MayEnd stores asks Database = stores journals.Database × (asks ≡ true)
@@ -59,7 +59,7 @@ MayEnd stores asks NoSuchActor = ⊥
 abbrev pub DeedFails : (RepoFault → Type 0) → Bool → Progress → Deed → Progress → NodeFault → Type 0
 DeedFails stores asks before d after e = MayEnd stores asks e × ((after ≡ before) ⊎ (after ≡ d.progress))
 
--- of what was asked some was done
+-- some of what was asked was done
 pub record AreDone (before : Progress) (all : List Asked) (after : Progress) : Type 0 where
   pub first : List Asked
   pub rest : List Asked
@@ -71,7 +71,7 @@ pub record SvcadmLeaves (before : Progress) (words : List (List ℕ)) (after : P
   pub asks : commands_of before.world.now.names words ≡ Some all
   pub some : AreDone before all after
 
--- what a fault of the node leaves of what a line asks for, in mid-course
+-- the node that a fault leaves if it ends a line in mid-course
 abbrev pub Leaves : (RepoFault → Type 0) → Session → Request → Progress → NodeFault → Type 0
 Leaves stores s (requests.Svcadm words) after e = SvcadmLeaves s.progress words after
 Leaves stores s (requests.Again count) after e = RepeatsUntilFault stores s.progress (last_delivered count s.progress) after e

@@ -21,7 +21,7 @@ Tells (Node fault) before after = Unit {0}
 Tells (Lines fault) before after = reads.Tells fault before after
 Tells (Output fault) before after = Unit {0}
 
--- whether a read has failed, behind this fault
+-- a read has failed, after this fault
 abbrev pub failed_by : ScriptFault → Bool → Bool
 failed_by (Node fault) before = before
 failed_by (Lines fault) before = reads.failed_by fault before
@@ -31,8 +31,8 @@ abbrev pub failed_in : {T : Type 0} → Result T ScriptFault → Bool → Bool
 failed_in (Ok v) before = before
 failed_in (Err e) before = failed_by e before
 
--- with which faults of the node a script may stop: memory ran out, the journal could not be written, or a launch or a boot
--- needs a number that has no next one
+-- The faults of the node with which a script may stop. Memory ran out, the journal could not be written, or a launch or
+-- a boot needs a number that has no next one.
 abbrev pub MayStop : (RepoFault → Type 0) → NodeFault → Type 0
 MayStop stores Memory = Unit {0}
 MayStop stores Database = stores journals.Database
@@ -40,8 +40,8 @@ MayStop stores Limit = Unit {0}
 MayStop stores NoSuchMessage = ⊥
 MayStop stores NoSuchActor = ⊥
 
--- why a script ended: the node, as a script may stop; the reader or the writer, with an error that it may have; or too
--- many lines
+-- The reason why a script ended. The node failed, as a script may stop. The reader or the writer failed, with an error
+-- that it may have. Or there were too many lines.
 abbrev pub IsWhy : (RepoFault → Type 0) → (Error → Type 0) → (Error → Type 0) → ScriptFault → Type 0
 IsWhy stores reader writes (Node fault) = MayStop stores fault
 IsWhy stores reader writes (Lines fault) = reads.IsUnread reader fault

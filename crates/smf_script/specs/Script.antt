@@ -1,4 +1,4 @@
--- What a script of lines gives.
+-- The effect of a script of lines.
 use Rattle.std.specs.Prelude.{◌≡◌, ◌≤◌, ℕ, ◌+◌, List, [], ◌++◌, ◌&&◌, Bool, true, false, Option}
 use Rattle.std.specs.Io.KnownBytes.{Appends}
 use Rattle.smf_lines.specs.Faults.{counted}
@@ -9,7 +9,7 @@ use Rattle.smf_script.specs.declared.fault.ScriptFault.TheVariants.{Node, Lines,
 use Rattle.smf_svccfg.specs.declared.selection.Selection.TheVariants.{Nothing}
 use Rattle.smf_world.specs.Schedule.{Progress}
 
--- where a script begins, nothing is selected
+-- a script begins with nothing selected
 abbrev pub begun : Progress → Session
 begun p = record { progress = p; selection = Nothing }
 
@@ -21,7 +21,7 @@ joined e f = record { session = f.session; text = e.text ++ f.text; fine = e.fin
 abbrev pub silent : Session → Effect
 silent s = record { session = s; text = []; fine = true }
 
--- the status of a script: 1 where a line failed
+-- the status of a script: 1 if a line failed
 abbrev pub status_of : Bool → ℕ
 status_of true = 0
 status_of false = 1
@@ -30,7 +30,8 @@ status_of false = 1
 abbrev pub max_lines : ℕ
 max_lines = 1000000
 
--- a script came to its end: the node and the status are what its lines give, and their text and nothing else was written
+-- a script came to its end: the node and the status are what its lines give, and their text and nothing else was
+-- written
 pub record Ends (e : Effect) (after : Progress) (old new : Option (List ℕ)) (status : ℕ) : Type 0 where
   pub node : after ≡ e.session.progress
   pub text : Appends old new e.text

@@ -1,4 +1,4 @@
--- What each line does.
+-- The effect of each line.
 use Rattle.std.specs.Prelude.{◌≡◌, ℕ, ◌==◌, List, [], ◌∷◌, ◌++◌, ◌&&◌, not, nat_lt, position, reverse, codes, Bool, true, false, if◌then◌else◌, is_none, is_some, Option, Some, None, Result, Ok, Err}
 use Rattle.std.specs.List.{list_any}
 use Rattle.smf_admin.specs.Asking.{commands_of}
@@ -44,7 +44,7 @@ use Rattle.smf_world.specs.declared.schedule.Settled.TheVariants.{Quiet, Busy}
 
 -- ---- what is done to the node
 
--- the node behind something that is done, the text that this gives, and whether nothing failed
+-- the node after something that is done, the text that this gives, and whether nothing failed
 pub record Deed : Type 0 where
   pub progress : Progress
   pub text : List ℕ
@@ -58,12 +58,12 @@ failed p text = record { progress = p; text = text; fine = false }
 
 -- ---- edits
 
--- a refusal is told behind the name of the program
+-- a refusal is told after the name of the program
 abbrev pub told_text : List ℕ → Option (List ℕ) → List ℕ
 told_text program None = []
 told_text program (Some words) = program ++ words ++ line_end
 
--- what becomes of an edit, and the reply to it
+-- the deed of an edit, by the reply to it
 abbrev pub replied : List ℕ → Progress → List Reply → Deed
 replied program p [] = done p []
 replied program p (r ∷ rs) =
@@ -87,7 +87,7 @@ asked p (asks.Several word count) = failed p (several_text (codes "svcadm") word
 abbrev pub behind : Deed → Deed → Deed
 behind d e = record { progress = e.progress; text = d.text ++ e.text; fine = d.fine && e.fine }
 
--- all of them in turn, each on what the one before left, also where one is refused
+-- all of them in turn, each on what the one before left, also if one is refused
 unfoldable pub asked_all : Deed → List Asked → Deed
 asked_all d [] = d
 asked_all d (one ∷ more) = asked_all (behind d (asked d.progress one)) more
@@ -102,7 +102,7 @@ svcadm p words = svcadm_by p (commands_of p.world.now.names words)
 
 -- ---- svcs
 
--- what svcs prints; the bodies of snapshots are looked at only where dependencies are asked for
+-- the output of svcs; the bodies of snapshots are looked at only if dependencies are asked for
 abbrev pub listing_of : Holdings → Options → Listing
 listing_of h options = if needs_bodies options.chosen then svcs_text (view h).items options else svcs_text (rows h) options
 
@@ -158,7 +158,7 @@ is_above _ _ = false
 abbrev pub is_later_run : Contracts → ℕ → Option ℕ → Contract → Bool
 is_later_run t n run c = is_above (run_in t n c) run
 
--- whether it is of some run of the instance, and none is of a later one
+-- the contract is of some run of the instance, and none is of a later one
 abbrev pub is_latest : Contracts → ℕ → Contract → Bool
 is_latest t n c = is_some (run_in t n c) && not (list_any (is_later_run t n (run_in t n c)) t.contracts)
 
@@ -209,13 +209,13 @@ pub record Session : Type 0 where
   pub progress : Progress
   pub selection : Selection
 
--- the session behind a line, the text that the line gives, and whether it did not fail
+-- the session after a line, the text that the line gives, and whether it did not fail
 pub record Effect : Type 0 where
   pub session : Session
   pub text : List ℕ
   pub fine : Bool
 
--- what is selected stays
+-- the effect of a deed, with this selection
 abbrev pub with_selection : Selection → Deed → Effect
 with_selection s d = record { session = record { progress = d.progress; selection = s }; text = d.text; fine = d.fine }
 
@@ -224,7 +224,7 @@ with_selection s d = record { session = record { progress = d.progress; selectio
 abbrev pub svccfg_name : List ℕ
 svccfg_name = codes "svccfg: "
 
--- what is selected behind an edit is selected where it is accepted
+-- if the edit is accepted, `after` becomes the selection
 abbrev pub selected_behind : Selection → Selection → Bool → Selection
 selected_behind before after true = after
 selected_behind before after false = before
@@ -251,7 +251,7 @@ svccfg s line = svccfg_by s (judged s.progress.world.now s.selection line)
 abbrev pub bad_line : List ℕ
 bad_line = codes "smf: bad line" ++ line_end
 
--- whether children have a part in what a line asks for
+-- children have a part in what a line asks for
 abbrev pub asks_children : Request → Bool
 asks_children (requests.Process word what) = true
 asks_children (requests.Join word) = true
@@ -259,7 +259,7 @@ asks_children (requests.Settle rounds) = true
 asks_children requests.Boot = true
 asks_children _ = false
 
--- what a line does in which children have no part; of the others nothing is said here
+-- the effect of a line in which children have no part; nothing is said here of the others
 unfoldable pub effect_of : Session → Request → Effect
 effect_of s (requests.Svccfg line) = svccfg s line
 effect_of s (requests.Svcadm words) = with_selection s.selection (svcadm s.progress words)
@@ -275,13 +275,13 @@ effect_of s _ = with_selection s.selection (done s.progress [])
 
 -- ---- how calls do it
 
--- a deed left this node, and put its text behind what was there
+-- a deed left this node, and put its text after what was there
 pub record IsDeed (d : Deed) (progress : Progress) (old new : List ℕ) (no_fault : Bool) : Type 0 where
   pub node : progress ≡ d.progress
   pub texts : new ≡ old ++ d.text
   pub flag : no_fault ≡ d.fine
 
--- a line left this node and this selection, and put its text behind what was there
+-- a line left this node and this selection, and put its text after what was there
 pub record IsEffect (e : Effect) (progress : Progress) (selection : Selection) (old new : List ℕ) (no_fault : Bool) : Type 0 where
   pub node : progress ≡ e.session.progress
   pub chosen : selection ≡ e.session.selection

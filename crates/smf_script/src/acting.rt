@@ -65,7 +65,7 @@ fn has_later_run(table: &Table, instance: u64, run: Option<u64>) -> bool
         .any(|contract| is_later_run(table, instance, run, contract))
 }
 
-/// Whether a contract is of some run of an instance, and none is of a later one.
+/// Says whether a contract is of some run of an instance, and none is of a later one.
 fn is_latest(table: &Table, instance: u64, contract: &Contract) -> bool
     ensures { result ≡ is_latest table.now.table instance contract.now }
 {
@@ -73,7 +73,7 @@ fn is_latest(table: &Table, instance: u64, contract: &Contract) -> bool
     run.is_some() && !has_later_run(table, instance, run)
 }
 
-/// Where the contract of an instance that has members stands, of its latest run.
+/// The place of the contract of an instance that has members, of its latest run.
 fn latest_place(table: &Table, instance: u64) -> Option<usize>
     ensures exact { result ≡ position (is_latest table.now.table instance) table.now.table.contracts }
     ensures in_range { IfSome result (λ k. k < length table.now.table.contracts) }

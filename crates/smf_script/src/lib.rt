@@ -1,6 +1,6 @@
-//! What lines of scripts do to a node in which children have no part: each is done on what the lines before it left, and
-//! its text is put.
-//! Modules: `fault` (why a script ends), `acting` (what happens to processes and restarters), `session` (what a line
+//! The effect on a node of script lines in which children have no part. Each line is done on what the lines before it
+//! left, and its text is put.
+//! Modules: `fault` (why a script ends), `processes` (what happens to processes and restarters), `session` (what a line
 //! does).
 #![tactic(auto)]
 

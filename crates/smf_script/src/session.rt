@@ -61,7 +61,7 @@ fn give<J: Journal>(
     Ok(fine)
 }
 
-/// Gives an edit of svccfg. What is selected behind it is selected where it is accepted.
+/// Gives an edit of svccfg. If it is accepted, `after` becomes the selection.
 fn give_selected<J: Journal>(
     alloc: Global,
     node: &mut Node<J>,
@@ -142,7 +142,7 @@ fn asked<J: Journal>(
     }
 }
 
-/// Does all of them in turn, also where one is refused.
+/// Does all of them in turn, also if one is refused.
 fn asked_all<J: Journal>(
     alloc: Global,
     node: &mut Node<J>,
@@ -161,7 +161,7 @@ fn asked_all<J: Journal>(
     Ok(fine)
 }
 
-/// What the words behind svcadm ask for, over what the node holds; none is bad usage.
+/// The commands that the words after svcadm ask for, over what the node holds; none is bad usage.
 fn commands_on<J: Journal>(
     alloc: Global,
     node: &Node<J>,
@@ -192,7 +192,7 @@ fn svcadm<J: Journal>(
     }
 }
 
-/// What svcs prints of what the node holds. The bodies of snapshots are read only where dependencies are asked for.
+/// The output of svcs over what the node holds. The bodies of snapshots are read only if dependencies are asked for.
 fn listing<J: Journal>(
     alloc: Global,
     node: &Node<J>,
@@ -227,7 +227,7 @@ fn svcs<J: Journal>(
     Ok(listing.all_matched)
 }
 
-/// What `settle` prints.
+/// The text that `settle` prints.
 pub fn settled_text(how: Settled) -> &'static str
     ensures { result.now ≡ settled_text how }
 {
@@ -245,7 +245,7 @@ fn put_trail<J: Journal>(alloc: Global, node: &Node<J>, out: &mut String) -> Res
     out.push_str(text.as_str())
 }
 
-/// Whether children have a part in what a line asks for.
+/// Says whether children have a part in what a line asks for.
 pub fn asks_children(request: &Request) -> bool
     ensures { result ≡ asks_children request.now }
 {

@@ -1,4 +1,4 @@
--- What is told of instances that words mean.
+-- The reasons of the instances that words mean.
 use Rattle.std.proofs.Common.{◌≡◌, ◌<◌, ◌++◌, arith, length, ℕ, List, [], ◌∷◌, map, drop, refl, ap, sym, subst, append-nil, ◌∙◌}
 use Rattle.smf_admin.specs.Listing.{patterns_of}
 use Rattle.smf_fmri.proofs.Rising.{rises_map}

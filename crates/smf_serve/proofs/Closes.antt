@@ -1,4 +1,4 @@
--- What a run and the close after it come to.
+-- The end of a run and of the close after it.
 use Rattle.std.proofs.Common.{◌≡◌, ◌≢◌, ◌⊎◌, inl, inr, ℕ, List, Option, sym, subst}
 use Rattle.std_io.specs.declared.io.error.Error.{Error}
 use Rattle.sqlite.specs.Closing.{IsCopied}
@@ -16,7 +16,7 @@ use Rattle.smf_serve.specs.Cfgs.{IsLeft}
 use Rattle.smf_serve.specs.Closed.{HoldLeft, IsCopiedOut, IsEndedAfter, IsUncopied, not_closed}
 use Rattle.smf_serve.specs.Closed.IsEndedAfter.{ended, uncopied}
 
--- what is asked of the end of a run that a fault ended, or that could not be closed
+-- the end of a run that a fault ended, or whose database could not be closed
 pub ended_after : {D : Type 0} {g : Ghosts D} (Done : Held (FileStore D g) → ℕ → Type 0) (Ended : Held (FileStore D g) → Option (List ℕ) → Type 0) (tells : Error → Type 0) (after : Held (FileStore D g)) (status : ℕ) (files : Files D) (mid new : Option (List ℕ))
     → (status ≢ 3 → Done after status) → (status ≡ 3 → Ended after mid)
     → ((status ≡ 3) × (new ≡ mid) × (IsCopiedOut after files ⊎ IsUncopied after files)) ⊎ ((status ≢ 3) × IsUncopied after files × IsTold tells mid new not_closed)

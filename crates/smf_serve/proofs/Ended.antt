@@ -23,7 +23,7 @@ pub are_ended : (is_listed : Bool) (k : Skills) (old new : Seen) → (is_listed 
 are_ended true k old new ended unlisted = inl (ended refl)
 are_ended false k old new ended unlisted = inr (unlisted refl)
 
--- a node behind its boot and children that were asked nothing
+-- a node after its boot agrees with children that were asked nothing
 first_agrees : (h : Holdings) (p : Progress) (old : Seen) → p ≡ first h → old.ledger ≡ unasked → Agrees p.world old.ledger
 first_agrees h p old begins none =
     subst (λ (l : Ledger). Agrees p.world l) (sym none) (subst (λ (q : Progress). Agrees q.world unasked) (sym begins) (agree_first h))

@@ -1,4 +1,4 @@
--- What a snapshot keeps of the groups that are shown is what it keeps of those that are held.
+-- A snapshot keeps the same of the groups that are shown as of those that are held.
 use Rattle.std.proofs.Common.{◌≡◌, ℕ, List, [], ◌∷◌, ◌++◌, Bool, true, false, Option, Some, refl, ap, ap₂, sym, ◌∙◌}
 use Rattle.std.specs.Prelude.{filter, if◌then◌else◌, not, ◌&&◌}
 use Rattle.std.specs.declared.cmp.Ordering.{Ordering}

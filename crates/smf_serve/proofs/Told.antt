@@ -1,4 +1,4 @@
--- What is told of a database that is not opened.
+-- The text about a database that is not opened.
 use Rattle.std.proofs.Common.{◌≡◌, ◌⊎◌, inl, ℕ, ℤ, List, Option, sym, subst}
 use Rattle.std_io.specs.declared.io.error.Error.{Error}
 use Rattle.smf_cfg.specs.Serving.{IsTold}

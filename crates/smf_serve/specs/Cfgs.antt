@@ -1,4 +1,4 @@
--- What lines of svccfg over a database print, and how such a run ends.
+-- The output of lines of svccfg over a database, and the end of such a run.
 use Rattle.std.specs.Prelude.{◌≡◌, ℕ, List, Option, IfSome}
 use Rattle.std_io.specs.declared.io.error.Error.{Error}
 use Rattle.sqlite.specs.Held.{Held, state}
@@ -34,8 +34,8 @@ pub record IsNotOpened {S : Type 0} (g : Ghosts S) (conn after : Held S) (tells 
 
 -- ---- lines
 
--- no fault ended the run: what is written, the status and what stands in the database are those of all lines, over what it
--- was opened with
+-- no fault ended the run: output, status and the database's value are those of all lines, over the value that it was
+-- opened with
 pub record IsDone {S : Type 0} (g : Ghosts S) (conn after : Held S) (input out_old out_new errors_old errors_new : Option (List ℕ)) (status : ℕ) : Type 0 where
   pub held : Holdings
   pub opened : IsOpenedAs g conn held

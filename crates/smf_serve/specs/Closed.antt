@@ -45,8 +45,8 @@ pub record IsClosedAfter {D : Type 0} {g : Ghosts D} (Done : Held (FileStore D g
   pub done : Done after
   pub copied : IsCopiedOut after files
 
--- a fault ended it, and the database was closed if that could be done; or no fault did, and it could not be closed, which
--- was told
+-- a fault ended it, and the database was closed if possible; or no fault did, and the database could not be closed,
+-- which was told
 pub data IsEndedAfter {D : Type 0} {g : Ghosts D} (Done : Held (FileStore D g) → ℕ → Type 0) (Ended : Held (FileStore D g) → Option (List ℕ) → Type 0) (tells : Error → Type 0) (files : Files D) (told_new : Option (List ℕ)) : Type 0 where
   ended : (after : Held (FileStore D g)) → Ended after told_new → IsCopiedOut after files ⊎ IsUncopied after files
       → IsEndedAfter Done Ended tells files told_new

@@ -1,4 +1,4 @@
--- What a run over a copy in memory of a database's files begins with.
+-- The start of a run over a copy in memory of a database's files.
 use Rattle.std.specs.Prelude.{◌≡◌, IsTrue}
 use Rattle.sqlite.specs.declared.error.Error.{Error}
 use Rattle.sqlite.specs.declared.error.Error.TheVariants.{SqliteFailure}
@@ -32,7 +32,7 @@ pub data IsUncopied {D : Type 0} (g : Ghosts D) (image : Image) (fault : Error) 
 
 -- ---- a run over a copy
 
--- what these bytes hold was found in a new database, which was run over
+-- a new database found the content of these bytes, and the run was over that database
 pub record IsOverCopy {D : Type 0} (g : Ghosts D) (image : Image) (Ran : Held (FileStore D g) → Held (FileStore D g) → Type 0) : Type 0 where
   pub conn : Held (FileStore D g)
   pub after : Held (FileStore D g)

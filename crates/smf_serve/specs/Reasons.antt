@@ -1,4 +1,4 @@
--- What is written of why instances of a database do not run, and of what is wrong of them.
+-- The texts that say why instances of a database do not run, and what is wrong of them.
 use Rattle.std.specs.Prelude.{◌≡◌, ◌⊎◌, ◌==◌, ℕ, List, [], ◌∷◌, Bool, true, false, codes, filter, flat_map, if◌then◌else◌, length, map, Option, Some, None, option_map}
 use Rattle.std.specs.Io.KnownBytes.{Appends}
 use Rattle.std.specs.List.{AllZip}
@@ -83,7 +83,7 @@ pub record IsExcused (tells : Error → Type 0) (old new : Option (List ℕ)) : 
 
 -- ---- what is wrong of instances
 
--- what a snapshot keeps of the groups of an owner today
+-- the groups of an owner that a snapshot would keep today
 abbrev pub taken_of : Holdings → Owner → List GroupRecord
 taken_of h owner = taken (shown_groups h owner)
 
@@ -95,11 +95,11 @@ body_of h i = spelled_both (taken_of h (service_owner i)) (taken_of h (owners.In
 abbrev pub refreshed : Holdings → ViewItem → ViewItem
 refreshed h i = record i { body = option_map (body_of h) (found h i.instance) }
 
--- what the graph would see if all were refreshed
+-- the view that the graph would have if all instances were refreshed
 unfoldable pub configured : Holdings → View
 configured h = record { revision = (view h).revision; items = map (refreshed h) (view h).items }
 
--- what is wrong of each instance of a view was printed, in number order
+-- the flaws of each instance of a view were printed, in number order
 pub record AreFound (v : View) (text : List ℕ) : Type 0 where
   pub all : List Told
   pub checked : AllZip (IsChecked v) v.items all
@@ -109,7 +109,7 @@ pub record AreFound (v : View) (text : List ℕ) : Type 0 where
 abbrev pub status_of : List ℕ → ℕ
 status_of text = if length text == 0 then 0 else 1
 
--- what is wrong of each instance of a value was written, and the status says if something is
+-- the flaws of each instance of a value were written, and the status says if there are any
 pub record AreChecked (h : Holdings) (old new : Option (List ℕ)) (status : ℕ) : Type 0 where
   pub text : List ℕ
   pub found : AreFound (configured h) text

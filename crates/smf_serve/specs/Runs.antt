@@ -1,4 +1,4 @@
--- What a script over a database and the children of its services prints, and how such a run ends.
+-- The output of a script over a database and the children of its services, and the end of such a run.
 use Rattle.std.specs.Prelude.{◌≡◌, ◌⊎◌, ℕ, List, Option}
 use Rattle.std_io.specs.declared.io.error.Error.{Error}
 use Rattle.sqlite.specs.Held.{Held}
@@ -27,18 +27,18 @@ use Rattle.smf_world.specs.Safe.{IsSafe}
 use Rattle.smf_world.specs.Schedule.{Progress, begun_at}
 use Rattle.smf_world.specs.World.{found}
 
--- the node over what was found, behind its boot
+-- the node over what was found, after its boot
 abbrev pub first : Holdings → Progress
 first h = begun_at (happens (found h) events.Boot)
 
 -- ---- over what was found
 
--- what was left of children was asked to end, where they could list it
+-- all children that were left were asked to end, or they could not be listed
 abbrev pub AreEnded : Skills → Seen → Seen → Type 0
 AreEnded k old new = HasEnded k old new ⊎ IsUnlisted k old new
 
--- all lines were done and what they gave was written; then what was left of children was ended. The trail is safe, and the
--- node agreed with children that had been asked nothing before
+-- all lines were done and what they gave was written; then what was left of children was ended. The trail is safe, and
+-- the node agreed with children that had been asked nothing before
 pub record HasRunOver (k : Skills) (stands : Holdings → Type 0) (h : Holdings) (input : Option (List ℕ)) (old new : Seen) (was is : Option (List ℕ)) (status : ℕ) : Type 0 where
   pub after : Progress
   pub mid : Seen
@@ -55,8 +55,9 @@ pub record HasNotBegun (stores : RepoFault → Type 0) (stands : Holdings → Ty
   pub unasked : new ≡ old
   pub silent : is ≡ was
 
--- some of the lines were done and what they gave was written; then what was left of children was ended. The trail is safe,
--- and the node agreed with children that had been asked nothing before, or a boot had made them drop all that they had
+-- some of the lines were done and what they gave was written; then what was left of children was ended. The trail is
+-- safe. The node agreed with children that had been asked nothing before, or a boot had made them drop all that they
+-- had
 pub record HasStopped (k : Skills) (stores : RepoFault → Type 0) (stands : Holdings → Type 0) (reads writes : Error → Type 0) (h : Holdings) (input : Option (List ℕ)) (old new : Seen) (was is : Option (List ℕ)) (fault : ScriptFault) : Type 0 where
   pub after : Progress
   pub mid : Seen
@@ -79,8 +80,8 @@ pub record IsCut (k : Skills) (stores : RepoFault → Type 0) (stands : Holdings
 
 -- ---- over a database
 
--- no fault ended the run: the script was done over what the database was opened with, and what the node held at its end
--- stands there
+-- no fault ended the run: the script was done over the value that the database was opened with. The value that the node
+-- held at its end stands there
 pub record IsDone {S : Type 0} (g : Ghosts S) (conn after : Held S) (k : Skills) (input : Option (List ℕ)) (old new : Seen) (was is : Option (List ℕ)) (status : ℕ) : Type 0 where
   pub held : Holdings
   pub opened : IsOpenedAs g conn held

@@ -1,4 +1,4 @@
--- What a script in memory prints over children of its services, and how it ends.
+-- The output of a script in memory over children of its services, and the end of such a run.
 use Rattle.std.specs.Prelude.{ℕ, List, Option}
 use Rattle.std_io.specs.declared.io.error.Error.{Error}
 use Rattle.smf_edge.specs.Answers.{Skills}

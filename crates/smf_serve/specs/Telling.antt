@@ -1,4 +1,4 @@
--- What is said on standard error where a fault ended a run.
+-- The text on standard error if a fault ended a run.
 use Rattle.std.specs.Prelude.{◌≡◌, ◌⊎◌, ℕ, ℤ, List, ◌++◌, codes, Option}
 use Rattle.std.specs.Fmt.{signed_decimal}
 use Rattle.std_io.specs.declared.io.error.Error.{Error}

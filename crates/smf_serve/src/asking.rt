@@ -19,7 +19,7 @@ use std::alloc::{AllocError, Global};
 #[derive(Drop)]
 struct Answer {
     text: Text,
-    /// What is told of words that match no instance.
+    /// The lines about words that match no instance.
     missed: Text,
     all_matched: bool,
 }
@@ -122,8 +122,8 @@ fn excuse<E: TextWriter>(errors: &mut E, why: Unwritten) -> u8
     }
 }
 
-/// Writes why instances that words mean do not run though they are enabled, by what a database has, and gives the status:
-/// 0, 1 if a word matches no instance, which is told, or 3 for a fault. Without words all instances are meant.
+/// Writes why instances of a database that words mean do not run though they are enabled. Without words all instances
+/// are meant. The status is 0, 1 if a word matches no instance, which is told, or 3 for a fault.
 pub(crate) fn why<S: Alter + Drop, W: TextWriter, E: TextWriter>(
     alloc: Global,
     conn: Connection<S>,
@@ -147,7 +147,7 @@ pub(crate) fn why<S: Alter + Drop, W: TextWriter, E: TextWriter>(
     }
 }
 
-/// What is wrong of the instances of a view.
+/// The text of the flaws of a view's instances.
 fn flaws(alloc: Global, view: &View) -> Result<Text, AllocError>
     ensures { IfOk result (AreFound view.now) }
 {
@@ -187,8 +187,8 @@ fn write_flaws<J: Journal, W: TextWriter>(
     }
 }
 
-/// Writes what is wrong of each instance that a database has, enabled or not, before it is started, and gives the status:
-/// 0, 1 if something was written, or 3 for a fault.
+/// Writes what is wrong of each instance that a database has, enabled or not, before it is started. The status is 0, 1
+/// if something was written, or 3 for a fault.
 pub(crate) fn check<S: Alter + Drop, W: TextWriter, E: TextWriter>(
     alloc: Global,
     conn: Connection<S>,

@@ -13,8 +13,8 @@ use sqlite_disk::Disk;
 use sqlite_store::FileStore;
 use std::alloc::Global;
 
-/// Does lines of svccfg over a database, without a boot, and gives the status of the run: 0, 1 where a line failed, or 3
-/// for a fault. What an edit changed stands in the database before the next line is read. The database is handed back.
+/// Does lines of svccfg over a database, without a boot. The status of the run is 0, 1 if a line failed, or 3 for a
+/// fault. The change of an edit stands in the database before the next line is read. The database is handed back.
 pub fn serve_cfg<S: Alter + Drop, R: LineReader, W: TextWriter, E: TextWriter>(
     alloc: Global,
     conn: Connection<S>,
@@ -40,8 +40,8 @@ pub fn serve_cfg<S: Alter + Drop, R: LineReader, W: TextWriter, E: TextWriter>(
     }
 }
 
-/// Does lines of svccfg over the database in two files, without a boot, closes the database, and gives the status of the
-/// run: 0, 1 if a line failed, or 3 for a fault, also one of the close.
+/// Does lines of svccfg over the database in two files, without a boot, and closes the database. The status of the run
+/// is 0, 1 if a line failed, or 3 for a fault, also one of the close.
 pub fn serve_cfg_file<D: Disk + Drop, R: LineReader, W: TextWriter, E: TextWriter>(
     alloc: Global,
     conn: Connection<FileStore<D>>,

@@ -100,7 +100,7 @@ fn put_missed(alloc: Global, out: &mut String, words: &[Text]) -> Result<(), All
     Ok(())
 }
 
-/// What is told of words that match no instance.
+/// The lines about words that match no instance.
 pub(crate) fn missed_text(alloc: Global, words: &[Text]) -> Result<Text, AllocError>
     ensures { IfOk result (λ text. text ≡ flat_map missed_text words.now) }
 {
@@ -109,7 +109,7 @@ pub(crate) fn missed_text(alloc: Global, words: &[Text]) -> Result<Text, AllocEr
     Ok(Text::from_string(out))
 }
 
-/// What is told of instances that a pattern matches.
+/// The reasons of the instances that a pattern matches.
 fn named(alloc: Global, patterns: &[Pattern], all: Items<Told>) -> Result<Items<Told>, AllocError>
     ensures { IfOk result (λ kept. kept ≡ named patterns.now all) }
 {
@@ -122,7 +122,7 @@ fn named(alloc: Global, patterns: &[Pattern], all: Items<Told>) -> Result<Items<
     Ok(kept)
 }
 
-/// What is told of the instances that words mean: without words, of all.
+/// The reasons of the instances that words mean: of all instances, if there are no words.
 #[tactic(auto, using(crate::proofs::Asked::some_asked))]
 pub(crate) fn asked(
     alloc: Global,
@@ -137,7 +137,7 @@ pub(crate) fn asked(
     }
 }
 
-/// What is told of the instances that one of the words matches.
+/// The reasons of the instances that one of the words matches.
 fn matched(alloc: Global, words: &[Text], all: Items<Told>) -> Result<Items<Told>, AllocError>
     ensures { IfOk result (λ kept. kept ≡ named (patterns_of words.now) all) }
 {

@@ -19,7 +19,8 @@ use sqlite_store::FileStore;
 /// The status of a run that was ended by a fault.
 const FAULT: u8 = 3;
 
-/// Closes the database of a run, so that its file alone holds everything. If that fails, it is told, unless a fault was.
+/// Closes the database of a run, so that its file alone holds everything. If that fails, it is told, unless a fault
+/// was.
 pub(crate) fn close<D: Disk + Drop, E: TextWriter>(
     served: Served<FileStore<D>>,
     errors: &mut E,

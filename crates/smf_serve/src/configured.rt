@@ -1,4 +1,4 @@
-//! What svc.startd's graph would see if each instance was refreshed.
+//! The view that svc.startd's graph would have if each instance was refreshed.
 
 ghost use Rattle.std.specs.Prelude.{◌≡◌, IfOk, Some, map, option_map};
 ghost use Rattle.smf_fmri.specs.ByKey.{Rises};
@@ -17,7 +17,7 @@ use smf_state::{View, ViewItem};
 use smf_value::Group;
 use std::alloc::{AllocError, Global};
 
-/// What a snapshot keeps of the groups of an owner today.
+/// The groups of an owner that a snapshot would keep today.
 fn taken_of<J: Journal>(
     alloc: Global,
     repository: &Plain<J>,
@@ -88,7 +88,7 @@ fn all_refreshed<J: Journal>(
     Ok(Ordered::from_vec(all))
 }
 
-/// What the graph would see if each instance was refreshed.
+/// The view that the graph would have if each instance was refreshed.
 #[tactic(auto, unfolding(crate::specs::Reasons::configured))]
 pub(crate) fn configured<J: Journal>(
     alloc: Global,

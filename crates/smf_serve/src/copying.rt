@@ -20,11 +20,11 @@ use sqlite_store::FileStore;
 use std::alloc::Global;
 use std::io;
 
-/// How many pages the log of a copy has before they go into the database: few, since each sync of a disk in memory copies
-/// it.
+/// The log of a copy has so many pages before they go into the database. They are few, since each sync of a disk in
+/// memory copies the disk.
 const LOG_FRAMES: usize = 64;
 
-/// What a database file and its log hold.
+/// The bytes of a database file and of its log.
 #[derive(Drop)]
 pub struct FileBytes {
     pub log: Vec<u8>,
@@ -86,9 +86,9 @@ fn open_copy(alloc: Global, found: &FileBytes) -> Result<Connection<FileStore<Me
     }
 }
 
-/// Does a script over a copy in memory of the database that these bytes hold and the children of its services, and gives
-/// the status of the run: 0, 1 where a line failed, or 3 for a fault. At the end every child that is left is killed. If the
-/// copy does not open, no line is read.
+/// Does a script over a copy in memory of the database that these bytes hold, and over the children of its services.
+/// The status of the run is 0, 1 if a line failed, or 3 for a fault. At the end every child that is left is killed. If
+/// the copy does not open, no line is read.
 pub fn serve_copy<R: LineReader, W: TextWriter, E: TextWriter, K: Kids>(
     alloc: Global,
     found: &FileBytes,
@@ -118,9 +118,9 @@ pub fn serve_copy<R: LineReader, W: TextWriter, E: TextWriter, K: Kids>(
     }
 }
 
-/// Writes why instances that the database which these bytes hold has do not run though they are enabled: those that words
-/// mean, as svcs takes them, or all without words. It gives the status: 0, 1 if a word matches no instance, which is told,
-/// or 3 for a fault. It is a copy in memory that is opened.
+/// Opens a copy in memory of the database that these bytes hold. Writes why its instances do not run though they are
+/// enabled: those that words mean, as svcs takes them, or all without words. The status is 0, 1 if a word matches no
+/// instance, which is told, or 3 for a fault.
 pub fn why_copy<W: TextWriter, E: TextWriter>(
     alloc: Global,
     found: &FileBytes,
@@ -139,8 +139,8 @@ pub fn why_copy<W: TextWriter, E: TextWriter>(
     }
 }
 
-/// Writes what is wrong of each instance that the database which these bytes hold has, enabled or not, before it is
-/// started, and gives the status: 0, 1 if something was written, or 3 for a fault. It is a copy in memory that is opened.
+/// Opens a copy in memory of the database that these bytes hold. Writes what is wrong of each of its instances, enabled
+/// or not, before it is started. The status is 0, 1 if something was written, or 3 for a fault.
 pub fn check_copy<W: TextWriter, E: TextWriter>(
     alloc: Global,
     found: &FileBytes,

@@ -1,9 +1,10 @@
-//! Runs of the program, over any reader and writers and, where it takes one, any database that is open: what `smf` does
-//! behind its words, of which the status and the texts are part.
-//! Modules: `telling` (why a run was ended), `sim` (a script in memory), `cfg` (lines of svccfg over a database),
-//! `script` (a script over a database and children), `copying` (a script or a question over a copy of a database), `asking`
-//! (why instances do not run, and what is wrong of them), `choosing` (which instances words mean), `configured` (what the
-//! graph would see after a refresh), `closing` (the close of a database in files), `served` (the end of a run).
+//! Runs of the program: all that `smf` does after it has read its words, with the status and the texts. A run is over
+//! any reader and writers, and over any open database if it takes one.
+//! Modules: `fault_texts` (why a run was ended), `sim` (a script in memory), `cfg` (lines of svccfg over a database);
+//! `script` (a script over a database and children), `copies` (a script or a question over a copy of a database);
+//! `questions` (why instances do not run, and what is wrong of them), `patterns` (the instances that words mean);
+//! `configured` (the graph's view after a refresh), `database_close` (the close of a database in files), `served` (the end of
+//! a run).
 #![tactic(auto)]
 
 mod asking;

@@ -88,8 +88,8 @@ pub(crate) fn serve_over<J: Journal + Drop, R: LineReader, W: TextWriter, E: Tex
     }
 }
 
-/// Does a script over a database and the children of its services, and gives the status of the run: 0, 1 where a line
-/// failed, or 3 for a fault. At the end every child that is left is killed and waited for. The database is handed back.
+/// Does a script over a database and the children of its services. The status of the run is 0, 1 if a line failed, or 3
+/// for a fault. At the end every child that is left is killed and waited for. The database is handed back.
 pub fn serve<S: Alter + Drop, R: LineReader, W: TextWriter, E: TextWriter, K: Kids>(
     alloc: Global,
     conn: Connection<S>,
@@ -120,8 +120,8 @@ pub fn serve<S: Alter + Drop, R: LineReader, W: TextWriter, E: TextWriter, K: Ki
     }
 }
 
-/// Does a script over the database in two files and the children of its services, closes the database, and gives the
-/// status of the run: 0, 1 if a line failed, or 3 for a fault, also one of the close.
+/// Does a script over the database in two files and the children of its services, and closes the database. The status
+/// of the run is 0, 1 if a line failed, or 3 for a fault, also one of the close.
 pub fn serve_file<D: Disk + Drop, R: LineReader, W: TextWriter, E: TextWriter, K: Kids>(
     alloc: Global,
     conn: Connection<FileStore<D>>,

@@ -3,7 +3,7 @@ use sqlite_disk::{Disk, Files};
 
 /// The end of a run over a database.
 pub struct Served<S: Alter> {
-    /// 0, 1 where a line failed, or 3 for a fault.
+    /// 0, 1 if a line failed, or 3 for a fault.
     pub status: u8,
     /// The database, as the run left it.
     pub conn: Connection<S>,

@@ -8,8 +8,8 @@ use smf_lines::{LineReader, TextWriter};
 use smf_model::{NoJournal, Plain};
 use std::alloc::Global;
 
-/// Does a script over a repository in memory and the children of its services, and gives the status of the run: 0, 1
-/// where a line failed, or 3 for a fault. At the end every child that is left is killed.
+/// Does a script over a repository in memory and the children of its services. The status of the run is 0, 1 if a line
+/// failed, or 3 for a fault. At the end every child that is left is killed.
 pub fn serve_sim<R: LineReader, W: TextWriter, E: TextWriter, K: Kids>(
     alloc: Global,
     reader: &mut R,

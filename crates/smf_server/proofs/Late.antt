@@ -39,7 +39,7 @@ as_before : (any : Bool) → (any || false) ≡ any
 as_before true = refl
 as_before false = refl
 
--- what timed out so far
+-- methods timed out so far
 pub record HaveEnded (p q : Progress) (any : Bool) : Type 0 where
   pub times : HaveTimedOut p q any
   pub later : IsLater p.world q.world

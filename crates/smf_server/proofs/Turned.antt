@@ -1,4 +1,4 @@
--- What a turn leaves, out of what its parts do.
+-- The state after a turn, out of the steps of its parts.
 use Rattle.std.proofs.Common.{◌≡◌, ℕ, List, [], ◌∷◌, map, Bool, true, false, Option, Some, None, refl, sym, ap, ◌∙◌}
 use Rattle.std.specs.declared.time.Duration.{Duration}
 use Rattle.smf_drive.specs.Moves.{Moves}

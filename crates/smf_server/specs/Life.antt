@@ -1,4 +1,4 @@
--- What a server comes to, from its boot to its end.
+-- The life of a server, from its boot to its end.
 use Rattle.std.specs.Prelude.{◌≡◌, ◌⊎◌, ℕ, List, [], ◌∷◌, length, true, Option, Result, Ok, Err}
 use Rattle.std.specs.declared.time.Duration.{Duration}
 use Rattle.smf_edge.specs.Answers.{Seen, Skills}
@@ -57,7 +57,8 @@ HasLasted k clock stores most (Err fault) was is s t = IsBroken k clock stores f
 abbrev pub AreLeft : Skills → Seen → Seen → Type 0
 AreLeft k old new = HasEnded k old new ⊎ IsUnlisted k old new
 
--- turns were taken, and then what was left was ended. What the last turn left stands in the journal
+-- turns were taken, and then the children that were left were ended. The value after the last turn stands in the
+-- journal
 pub record HasLived {J : Type 0} (k : Skills) (clock : Duration → Type 0) (stores : RepoFault → Type 0) (stands : J → Holdings → Type 0)
     (most : ℕ) (how : Result Onward ScriptFault) (journal : J) (was is : Option (List Passed)) (first : Between) (new : Seen) : Type 0 where
   pub last : Between

@@ -25,7 +25,7 @@ abbrev pub steady_if : Bool → Bool → Option Bool
 steady_if true steady = Some steady
 steady_if false steady = None
 
--- whether a row is in a state, with nothing under way, if an item shows a row of an instance
+-- true if a row is in a state, with nothing under way; none if the item shows no row of the instance
 abbrev pub steady_in : ℕ → State → Item → Option Bool
 steady_in n s (Committed i number state next) = steady_if (i == n) (same_state state s && is_none next)
 steady_in n s _ = None
@@ -41,7 +41,7 @@ abbrev pub steady_or : Option Bool → Bool → Bool
 steady_or None before = before
 steady_or (Some steady) before = steady
 
--- whether the newest row of an instance among the first items of a trail is in a state, with nothing under way
+-- true if the newest row of an instance among the first items of a trail is in a state, with nothing under way
 abbrev pub was_steady : List Item → ℕ → State → ℕ → Bool
 was_steady shown n s zero = false
 was_steady shown n s (suc k) = steady_or (steady_at shown n s k) (was_steady shown n s k)
@@ -50,7 +50,7 @@ abbrev pub end_if : Bool → ℕ → Option ℕ
 end_if true n = Some n
 end_if false n = None
 
--- a restarter noted that what it ran has ended: the row was committed again, in the state in which the instance ran with
+-- a restarter noted that what it ran ended: it committed the row again, in the state in which the instance ran with
 -- nothing under way. A stop that was ordered, and a start that fails, are no such ends
 abbrev pub end_in : List Item → ℕ → Item → Option ℕ
 end_in shown place (Committed i number state next) = end_if (runs state && is_none next && was_steady shown i state place) i

@@ -1,10 +1,10 @@
--- What passes over a desk.
+-- The traffic over a desk.
 use Rattle.std.specs.Prelude.{ℕ, List, [], ◌∷◌, ◌++◌, Bool, true, false, Option, option_map}
 use Rattle.smf_server.specs.declared.ask.Ask.{Ask}
 use Rattle.smf_server.specs.declared.ask.Ask.TheVariants as asks
 
--- a request came in; a reply went out, its text and its status; a reply went out that says that its text could not be
--- written; a line was told to whoever runs the server; or no more is asked
+-- A request came in. A reply went out, with a text and a status. A reply went out that says that its text could not be
+-- written. A line was told to whoever runs the server. No more is asked
 pub data Passed : Type 0 where
   Asked : List ℕ → Passed
   Replied : List ℕ → ℕ → Passed
@@ -12,7 +12,7 @@ pub data Passed : Type 0 where
   Told : List ℕ → Passed
   Closed : Passed
 
--- these passed after what passed before, where that is known
+-- these passed after what passed before, if that is known
 abbrev pub passing : List Passed → Option (List Passed) → Option (List Passed)
 passing more was = option_map (λ first. first ++ more) was
 

@@ -62,12 +62,12 @@ stops_of h = stops_among h h.instances
 
 -- ---- what is told
 
--- whether anything happened since it was told
+-- true if anything happened since it was told
 abbrev pub is_new : Option Size → Size → Bool
 is_new None now = true
 is_new (Some before) now = not (is_same before now)
 
--- these were told after what was told before, where that is known
+-- these were told after what was told before, if that is known
 abbrev pub telling : Bool → List Stop → Option (List (List Stop)) → Option (List (List Stop))
 telling true stops was = option_map (λ first. first ++ stops ∷ []) was
 telling false stops was = was

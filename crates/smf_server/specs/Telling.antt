@@ -1,4 +1,4 @@
--- What is said of the fault that ended a server.
+-- The text of the fault that ended a server.
 use Rattle.std.specs.Prelude.{ℕ, List, codes}
 use Rattle.smf_cfg.specs.Serving.{read_text}
 use Rattle.smf_node.specs.declared.fault.NodeFault.{NodeFault}

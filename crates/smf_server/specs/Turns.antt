@@ -1,4 +1,4 @@
--- What a server comes to, turn by turn.
+-- The state of a server, turn by turn.
 use Rattle.std.specs.Prelude.{◌≡◌, ℕ, nat_lt, ◌==◌, ◌||◌, ◌&&◌, not, List, [], ◌∷◌, ◌++◌, length, filter, flat_map, map, reverse, option_to_list, Bool, true, false, Option, Some, None, option_map, is_some, slice_get}
 use Rattle.std.specs.declared.time.Duration.{Duration}
 use Rattle.smf_edge.specs.Answers.{Seen, Skills}
@@ -76,8 +76,8 @@ abbrev pub GoesIf : Bool → Skills → Course → Bool → Standing → Type 0
 GoesIf true k c busy t = HasGone k max_rounds c t
 GoesIf false k c busy t = t ≡ record { course = c; busy = busy }
 
--- one round was made, and more if they are wanted and it came to anything. Else the next one would not either: a kill is
--- owed that is not done yet
+-- one round was made, and more if they are wanted and it came to anything. Else the next one would not either: a kill
+-- is owed that is not done yet
 pub record HasTried (k : Skills) (c : Course) (t : Standing) : Type 0 where
   pub one : Standing
   pub first : HasGone k 1 c one
@@ -149,7 +149,7 @@ shown_of w = reverse w.trail
 abbrev pub shown : Between → List Item
 shown s = shown_of s.standing.course.progress.world
 
--- whether the trail shows anything that was not looked at
+-- true if the trail shows anything that was not looked at
 abbrev pub has_more : Between → Bool
 has_more s = nat_lt s.looked (length (shown s))
 
@@ -157,8 +157,8 @@ has_more s = nat_lt s.looked (length (shown s))
 abbrev pub ends_by : Duration → Between → List End
 ends_by now s = seen_by now (shown s) s.looked s.ends
 
--- the clock was read, and the instances that ended too often were marked for maintenance, each once: this is told of them,
--- their ends are forgotten, and rounds are wanted
+-- the clock was read, and the instances that ended too often were marked for maintenance, each once. This is told of
+-- them, their ends are forgotten, and rounds are wanted
 pub record HasLooked (clock : Duration → Type 0) (s t : Between) (lines : List (List ℕ)) : Type 0 where
   pub now : Duration
   pub read : clock now

@@ -1,4 +1,4 @@
-/// What comes next.
+/// The next thing that a server is asked.
 #[derive(Drop)]
 pub enum Ask {
     /// Time has passed.
@@ -9,7 +9,7 @@ pub enum Ask {
     End,
 }
 
-/// Whether there is a next turn.
+/// The answer of a turn: there is a next one, or it was the last.
 #[derive(Clone, Copy, PartialEq, Eq)]
 pub enum Onward {
     Goes,

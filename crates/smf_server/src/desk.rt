@@ -3,12 +3,12 @@ ghost use Rattle.smf_server.specs.Passing.{Passed, Told, asked_in, passing, repl
 
 use crate::ask::Ask;
 
-/// Where requests come from and replies go, and whoever runs the server.
+/// The place from which requests come and to which replies go, and whoever runs the server.
 pub trait Desk {
-    /// What passed over it, the first first, where that is known.
+    /// All that passed over it, the first first, if that is known.
     ghost passed: { Self → Option (List Passed) };
 
-    /// What comes next. A request is replied to before the next call.
+    /// The next ask. The server replies to a request before the next call.
     fn next(&mut self) -> Ask
         ensures { passed self.new ≡ passing (asked_in result) (passed self.old) };
 

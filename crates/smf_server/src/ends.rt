@@ -35,7 +35,7 @@ fn steady_if(is_row: bool, is_steady: bool) -> Option<bool>
     if is_row { Some(is_steady) } else { None }
 }
 
-/// Whether a row is in a state, with nothing under way, if an item shows a row of an instance.
+/// True if a row is in a state, with nothing under way; none if the item shows no row of the instance.
 fn steady_in(instance: u64, state: State, item: &Item) -> Option<bool>
     ensures { result ≡ steady_in instance state item.now }
 {
@@ -65,7 +65,7 @@ fn steady_at(trail: &[Item], instance: u64, state: State, place: usize) -> Optio
     }
 }
 
-/// Whether the newest row of an instance among the first items of a trail is in a state, with nothing under way.
+/// True if the newest row of an instance among the first items of a trail is in a state, with nothing under way.
 fn was_steady(trail: &[Item], instance: u64, state: State, count: usize) -> bool
     ensures { result ≡ was_steady trail.now instance state count }
 {
@@ -165,7 +165,7 @@ fn count_of(instance: u64, ends: &[End]) -> usize
     ends.iter().filter(|end| is_end_of(instance, end)).count()
 }
 
-/// Whether an instance ended too often.
+/// True if an instance ended too often.
 fn is_hasty(ends: &[End], instance: u64) -> bool
     ensures { result ≡ is_hasty ends.now instance }
 {
@@ -226,8 +226,8 @@ impl Ends {
         }
     }
 
-    /// Looks at the items of a trail that are new, and drops the ends that are too long ago. Gives the instances that ended
-    /// too often, whose ends are dropped too.
+    /// Looks at the items of a trail that are new, and drops the ends that are too long ago. Gives the instances that
+    /// ended too often, whose ends are dropped too.
     pub(crate) fn look(
         &mut self,
         alloc: Global,

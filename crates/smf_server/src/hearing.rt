@@ -21,7 +21,8 @@ fn about(what: ProcessEvent, process: Number) -> News
     News { process, what }
 }
 
-/// What an event says of a process. Of whom a fork came it does not say.
+/// The news of a process in an event. A fork does not name its parent, so the first member of the contract stands for
+/// it.
 fn told(table: &Table, id: Number, kind: EventKind) -> Option<News>
     ensures { result ≡ told table.now.table id kind }
 {
@@ -44,7 +45,7 @@ fn news_if(is_member: bool, news: News) -> Option<News>
     if is_member { Some(news) } else { None }
 }
 
-/// What an event says of a process that has not ended.
+/// The news of a process in an event, if the process has not ended.
 #[tactic(auto, unfolding(smf_machine::specs::Children::news_of))]
 fn news_of(table: &Table, event: &ContractEvent) -> Option<News>
     ensures { result ≡ news_of table.now.table event.now }
@@ -67,7 +68,7 @@ fn pass<J: Journal>(node: &mut Node<J>, news: News) -> Result<(), NodeFault>
     Ok(())
 }
 
-/// What children told happens.
+/// The event that children told happens.
 fn learn<J: Journal>(node: &mut Node<J>, event: &ContractEvent) -> Result<(), NodeFault>
     ensures heard { OnOk result (node.new ≡ with_world node.old (heard (Some event.now) node.old.world)) }
     ensures err { OnErr result (node.new ≡ node.old) }

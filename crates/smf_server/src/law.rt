@@ -1,4 +1,4 @@
-//! What turns come to, one after another.
+//! The law of turns, one after another.
 
 ghost use Rattle.smf_server.specs.Turns.{TurnsFollow};
 

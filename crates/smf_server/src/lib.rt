@@ -1,11 +1,11 @@
-//! A service manager that stays, over any desk, clock, children and journal: turn by turn it answers requests, each of which
-//! is a script, lets children tell what happened to them, lets methods time out, marks for maintenance what ends again and
-//! again, and tells by which signals contracts are ended.
-//! Modules: `ask` (what comes next), `desk` (requests and replies), `timer` (what time it is), `hearing` (what children tell), `watch` (methods that
-//! may take too long), `ends` (ends of instances that nobody asked for), `marks` (instances that are marked for maintenance),
-//! `server` (what is kept between turns), `telling` (why a server ended), `size` (how much has happened), `stops` (how
-//! contracts are ended), `turning` (a turn), `life` (from boot to end), `law` (what
-//! turns come to).
+//! A service manager that stays, over any desk, clock, children and journal. Turn by turn it answers requests, each of
+//! which is a script. It lets children tell what happened to them, and lets methods time out. It marks for maintenance
+//! what ends again and again, and tells by which signals contracts are ended.
+//! Modules: `ask` (the next ask), `desk` (requests and replies), `timer` (the clock), `child_events` (the events of
+//! children), `watch` (methods that may take too long); `ends` (ends of instances that nobody asked for), `marks`
+//! (instances that are marked for maintenance), `server` (the state between turns); `fault_texts` (why a server ended),
+//! `size` (how much has happened), `stops` (how contracts are ended), `turns` (a turn), `life` (from boot to end);
+//! `law` (the law of turns).
 #![tactic(auto)]
 
 mod ask;

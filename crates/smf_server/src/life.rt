@@ -60,7 +60,7 @@ fn stay<D: Desk, T: Timer, E: Ender, J: Journal, K: Kids>(
     Ok(Onward::Goes)
 }
 
-/// What a server leaves at its end.
+/// The end of a server: how it ended, and the journal and the children that it leaves.
 #[derive(Drop)]
 pub struct Life<J: Journal, K: Kids> {
     /// `Ends` if no more was asked, or the fault that ended it.

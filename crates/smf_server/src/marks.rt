@@ -9,7 +9,7 @@ use smf_model::{Edit, Journal, Mark};
 use smf_node::{Node, NodeFault};
 use std::alloc::{AllocError, Global};
 
-/// What is told of an instance that ended too often.
+/// The line about an instance that ended too often.
 #[tactic(auto, unfolding(crate::specs::Loops::loop_text))]
 fn loop_text(alloc: Global, name: &InstanceFmri) -> Result<Text, AllocError>
     ensures { IfOk result (λ text. text ≡ loop_text name.now) }
@@ -37,7 +37,7 @@ fn push_line<J: Journal>(
     }
 }
 
-/// What is told of instances that ended too often.
+/// The lines about instances that ended too often.
 pub(crate) fn lines_of<J: Journal>(
     alloc: Global,
     node: &Node<J>,

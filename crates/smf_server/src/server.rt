@@ -12,7 +12,7 @@ pub struct Server<J: Journal, K: Kids> {
     pub kids: K,
     /// The methods that may take too long.
     pub watch: Watch,
-    /// Whether more rounds are wanted.
+    /// True if more rounds are wanted.
     pub busy: bool,
     /// The ends of instances that were seen lately.
     pub ends: Ends,

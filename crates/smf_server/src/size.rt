@@ -1,4 +1,4 @@
-/// What is held by its revision, how much the trail shows, and how many messages were sent.
+/// The revision of the value that is held, the length of the trail, and the number of messages that were sent.
 #[derive(Clone, Copy)]
 pub struct Size {
     pub revision: u64,

@@ -26,7 +26,7 @@ pub struct Stop {
     pub signal: Text,
     /// The time after which KILL comes, if the stop method has one.
     pub timeout: Option<Timeout>,
-    /// Whether the first process stays as long as the service runs.
+    /// True if the first process stays as long as the service runs.
     pub child: bool,
 }
 
@@ -35,7 +35,7 @@ pub trait Ender {
     ghost use Rattle.smf_server.specs.declared.stops.Stop.{Stop};
     ghost use Rattle.std.specs.Prelude.{List, Option, true};
 
-    /// What was told, the first first, where that is known.
+    /// All that was told, the first first, if that is known.
     ghost told: { Self → Option (List (List Stop)) };
 
     /// From now on what start methods began is ended so, and all else by TERM.
@@ -61,7 +61,7 @@ fn are_signal_bytes(bytes: &[u8]) -> bool
     bytes.iter().all(|b| is_signal_byte(*b))
 }
 
-/// Whether bytes name a signal.
+/// True if bytes name a signal.
 fn is_signal(bytes: &[u8]) -> bool
     ensures { result ≡ is_signal bytes.now }
 {
@@ -272,7 +272,7 @@ fn stops_of<J: Journal>(alloc: Global, repository: &Plain<J>) -> Result<Items<St
     Ok(stops)
 }
 
-/// Whether anything happened since it was told.
+/// True if anything happened since it was told.
 fn is_new(noted: &Noted, now: &Size) -> bool
     ensures { result ≡ is_new noted.now.size now.now }
 {
@@ -309,7 +309,8 @@ impl Noted {
         Noted { size: None }
     }
 
-    /// Tells how all are ended whose stop method is `:kill`, if anything happened since it was told. An error tells nothing.
+    /// Tells how all are ended whose stop method is `:kill`, if anything happened since it was told. An error tells
+    /// nothing.
     pub fn tell<E: Ender, J: Journal>(
         &mut self,
         alloc: Global,

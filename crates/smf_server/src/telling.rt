@@ -17,7 +17,7 @@ fn node_text(fault: NodeFault) -> &'static str
     }
 }
 
-/// What is told of the fault that ended a server.
+/// The text of the fault that ended a server.
 pub fn fault_text(fault: &ScriptFault) -> &'static str
     ensures { result.now ≡ fault_text fault.now }
 {

@@ -2,9 +2,9 @@ ghost use Rattle.std.specs.declared.time.Duration.{Duration as AnyDuration};
 
 use std::time::Duration;
 
-/// What time it is.
+/// A clock.
 pub trait Timer {
-    /// What it may say.
+    /// The times that it may say.
     ghost says: { Self → AnyDuration → Type 0 };
 
     /// The time since some moment, which stays the same. It never falls.

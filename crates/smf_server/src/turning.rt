@@ -80,15 +80,15 @@ fn go_if<T: Timer, J: Journal, K: Kids>(
     }
 }
 
-/// Whether more rounds are wanted, and a round came to anything.
+/// True if more rounds are wanted, and a round came to anything.
 fn wants_more(busy: bool, before: &Size, after: &Size) -> bool
     ensures { result ≡ (busy && not (is_same before.now after.now)) }
 {
     busy && !is_same(before, after)
 }
 
-/// One round happens, and more if they are wanted and it came to anything. A kill that is owed comes to nothing until it is
-/// done.
+/// One round happens, and more if they are wanted and it came to anything. A kill that is owed comes to nothing until
+/// it is done.
 fn go_on<T: Timer, J: Journal, K: Kids>(
     timer: &T,
     server: &mut Server<J, K>,
@@ -128,15 +128,15 @@ fn go_by<T: Timer, J: Journal, K: Kids>(
     Ok(())
 }
 
-/// Whether anything happened: children told something, or methods timed out.
+/// True if anything happened: children told something, or methods timed out.
 fn has_happened(any: bool, late: bool) -> bool
     ensures { result ≡ (any || late) }
 {
     any || late
 }
 
-/// Time has passed: children tell what happened, and methods that take too long time out. Rounds happen only if there was
-/// anything of this, or if more were wanted.
+/// Time has passed: children tell what happened, and methods that take too long time out. Rounds happen only if there
+/// was anything of this, or if more were wanted.
 fn pass<T: Timer, J: Journal, K: Kids>(
     timer: &T,
     server: &mut Server<J, K>,
@@ -156,15 +156,15 @@ fn pass<T: Timer, J: Journal, K: Kids>(
     Ok(())
 }
 
-/// Whether rounds are wanted, by whether they were before and which instances are marked.
+/// True if rounds were wanted before, or if instances are marked.
 fn is_busy_with(busy: bool, numbers: &[u64]) -> bool
     ensures { result ≡ (busy || nat_lt 0 (length numbers.now)) }
 {
     busy || 0 < numbers.len()
 }
 
-/// Looks at what is new in the trail, and marks the instances that ended too often for maintenance. Gives what is told of
-/// them.
+/// Looks at what is new in the trail, and marks the instances that ended too often for maintenance. Gives what is told
+/// of them.
 fn look<T: Timer, J: Journal, K: Kids>(
     alloc: Global,
     timer: &T,
@@ -189,7 +189,7 @@ fn look<T: Timer, J: Journal, K: Kids>(
     Ok(lines)
 }
 
-/// Whether the trail shows anything new.
+/// True if the trail shows anything new.
 fn has_more<J: Journal, K: Kids>(server: &Server<J, K>) -> bool
     ensures { result ≡ nat_lt server.now.ends.looked (length (shown_of server.now.node.world)) }
 {
@@ -220,8 +220,8 @@ fn look_if<T: Timer, J: Journal, K: Kids>(
     }
 }
 
-/// Time has passed: what happened is done, and the instances that ended too often are marked for maintenance. Gives what is
-/// told of them.
+/// Time has passed: what happened is done, and the instances that ended too often are marked for maintenance. Gives
+/// what is told of them.
 fn tick<T: Timer, J: Journal, K: Kids>(
     alloc: Global,
     timer: &T,
@@ -288,14 +288,14 @@ pub(crate) fn size<J: Journal>(node: &Node<J>) -> Size
     }
 }
 
-/// Whether two sizes are the same.
+/// True if two sizes are the same.
 pub(crate) fn is_same(one: &Size, other: &Size) -> bool
     ensures { result ≡ is_same one.now other.now }
 {
     one.revision == other.revision && one.shown == other.shown && one.sent == other.sent
 }
 
-/// Whether all restarters are launched and wait for nothing but methods that run.
+/// True if all restarters are launched and wait for nothing but methods that run.
 fn rests<J: Journal>(alloc: Global, node: &Node<J>) -> Result<bool, AllocError> {
     let names = owners(alloc, node.repository().entries())?;
     for name in names.as_slice() {
@@ -311,7 +311,7 @@ fn rests<J: Journal>(alloc: Global, node: &Node<J>) -> Result<bool, AllocError> 
     Ok(true)
 }
 
-/// Whether rounds are wanted after a request: if anything came of it, or restarters have something to do.
+/// True if rounds are wanted after a request: if anything came of it, or restarters have something to do.
 fn wants_rounds<J: Journal>(alloc: Global, node: &Node<J>, before: &Size) -> bool
     ensures { is_same before.now (size_of node.now.world) ≡ false → result ≡ true }
 {
@@ -379,7 +379,7 @@ fn answer<D: Desk, T: Timer, J: Journal, K: Kids>(
     }
 }
 
-/// What comes next is done.
+/// Does the next ask of the desk.
 fn do_next<D: Desk, T: Timer, J: Journal, K: Kids>(
     alloc: Global,
     desk: &mut D,
@@ -421,7 +421,7 @@ fn do_next<D: Desk, T: Timer, J: Journal, K: Kids>(
     }
 }
 
-/// What comes next is done, and the trail is looked at.
+/// Does the next ask of the desk, and looks at the trail.
 fn take<D: Desk, T: Timer, J: Journal, K: Kids>(
     alloc: Global,
     desk: &mut D,
@@ -453,7 +453,7 @@ fn take<D: Desk, T: Timer, J: Journal, K: Kids>(
     onward
 }
 
-/// It is told how contracts are ended, and then what comes next is done: a tick, or a request, which is replied to.
+/// Tells how contracts are ended, and then does the next ask of the desk: a tick, or a request, which gets a reply.
 pub fn turn<D: Desk, T: Timer, E: Ender, J: Journal, K: Kids>(
     alloc: Global,
     desk: &mut D,

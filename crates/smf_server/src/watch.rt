@@ -57,7 +57,7 @@ fn watched(phase: &Phase) -> Option<Timed>
     }
 }
 
-/// Whether the method that is due runs for an instance.
+/// True if the method that is due runs for an instance.
 fn runs(known: &KnownInstance, due: &Due) -> bool
     ensures timed { result ≡ true → MayTimeOut known.now.phase }
     ensures instance { result ≡ true → known.now.instance ≡ due.now.instance }
@@ -71,7 +71,7 @@ fn runs(known: &KnownInstance, due: &Due) -> bool
     }
 }
 
-/// Whether the method that is due runs for one of these instances.
+/// True if the method that is due runs for one of these instances.
 fn any_runs(known: &[KnownInstance], due: &Due) -> bool
     ensures { result ≡ true → IsTimedIn known.now due.now.instance }
 {
@@ -83,7 +83,7 @@ fn any_runs(known: &[KnownInstance], due: &Due) -> bool
     false
 }
 
-/// Whether the method that is due runs still.
+/// True if the method that is due runs still.
 fn runs_still<J: Journal>(node: &Node<J>, due: &Due) -> bool
     ensures { result ≡ true → IsTimed (restarter node.now.world due.now.restarter) due.now.instance }
 {
@@ -226,7 +226,7 @@ impl Watch {
         Ok(())
     }
 
-    /// What runs too long times out. Says whether anything did.
+    /// Methods that run too long time out. Says whether any did.
     pub(crate) fn time_out<J: Journal>(
         &self,
         now: Duration,

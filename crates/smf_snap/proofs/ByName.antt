@@ -22,7 +22,7 @@ over (g ∷ gs) others name rises =
     over gs (put by_group g others) name rises.1 ∙ ap (first_of (group_of name gs)) (lookup_put by_group g others name)
     ∙ put_once g (has_key by_group name g) (group_of name gs) (group_of name others) (none_behind g gs name rises)
 
--- of a name, the list of all has what the instance has
+-- the list of all has, under a name, the group that the instance has
 pub listed : (instance service : List GroupRecord) (name : List ℕ) → Rises by_group instance → composed instance service name ≡ group_of name (composition instance service)
 unfolding composed
 listed instance service name rises = sym (over instance service name rises)

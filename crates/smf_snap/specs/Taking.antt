@@ -1,4 +1,4 @@
--- What a snapshot keeps of one owner's groups, and what a revert makes of them.
+-- The groups of one owner that a snapshot keeps, and those that a revert leaves.
 use Rattle.std.specs.Prelude.{ℕ, List, Bool, not, ◌&&◌, ◌||◌, filter, nat_eq, codes}
 use Rattle.std.specs.Cmp.Lexicographic.{pointwise}
 use Rattle.smf_fmri.specs.ByKey.{put_all}
@@ -17,10 +17,10 @@ is_snapped g = not g.non_persistent && not (is_left_out g.name)
 unfoldable pub taken : List GroupRecord → List GroupRecord
 taken gs = filter is_snapped gs
 
--- what stays of the current groups
+-- the current groups that stay
 unfoldable pub staying : List GroupRecord → List GroupRecord
 staying gs = filter (λ g. not (is_snapped g)) gs
 
--- what stays of the current groups, and the snapshot's groups
+-- the current groups that stay, and the snapshot's groups
 unfoldable pub restored : List GroupRecord → List GroupRecord → List GroupRecord
 restored current snapshot = put_all by_group snapshot (staying current)

@@ -1,5 +1,5 @@
 //! Snapshots: what they keep of groups, what a revert makes of groups, and which group an instance has in the end.
-//! Modules: `composing`, `taking` (taking and restoring), `name` (the names of snapshots), `body` (a snapshot's bytes).
+//! Modules: `compositions`, `snapshots` (taking and restoring), `name` (the names of snapshots), `body` (a snapshot's bytes).
 #![tactic(auto)]
 
 mod body;

@@ -8,11 +8,11 @@ use std::fmt;
 /// The name of a snapshot that an instance has.
 #[derive(Clone, Copy, PartialEq, Eq)]
 pub enum SnapshotName {
-    /// What stood before the last revert.
+    /// The groups before the last revert.
     Previous,
-    /// What methods and dependencies are read from.
+    /// The groups that methods and dependencies are read from.
     Running,
-    /// What the last successful start ran under.
+    /// The groups that the last successful start ran under.
     Start,
 }
 

@@ -13,14 +13,14 @@ fn is_left_out(name: &str) -> bool
     name == "general" || name == "general_ovr" || name == "restarter"
 }
 
-/// Whether snapshots hold a group: a persistent one that is not `general`, `general_ovr` or `restarter`.
+/// True if snapshots hold a group: a persistent one that is not `general`, `general_ovr` or `restarter`.
 pub fn is_snapped(group: &Group) -> bool
     ensures { result ≡ is_snapped group.now }
 {
     !group.is_non_persistent() && !is_left_out(group.name().as_str())
 }
 
-/// What a snapshot keeps of one owner's groups.
+/// The groups of one owner that a snapshot keeps.
 pub fn take(alloc: Global, groups: &Ordered<Group>) -> Result<Ordered<Group>, AllocError>
     ensures { IfOk result (λ gs. gs ≡ taken groups.now) }
 {
@@ -41,7 +41,7 @@ fn taken(alloc: Global, groups: &[Group]) -> Result<Items<Group>, AllocError>
     Ok(taken)
 }
 
-/// What no snapshot holds of one owner's groups.
+/// The groups of one owner that no snapshot holds.
 #[tactic(auto, unfolding(crate::specs::Taking::staying))]
 fn staying(alloc: Global, groups: &[Group]) -> Result<Items<Group>, AllocError>
     ensures { IfOk result (λ gs. gs ≡ staying groups.now) }
@@ -66,8 +66,7 @@ fn put_copies(groups: Ordered<Group>, copied: &[Group]) -> Result<Ordered<Group>
     Ok(groups)
 }
 
-/// What a revert makes of one owner's groups: the snapshot's groups are put over those that stay, which are the
-/// groups that no snapshot holds.
+/// One owner's groups after a revert: the snapshot's groups, put over the current groups that no snapshot holds.
 #[tactic(auto, unfolding(crate::specs::Taking::restored))]
 pub fn restore(
     alloc: Global,

@@ -1,4 +1,4 @@
--- Where a clone equals its source, the clones of a list are the list.
+-- The clones of a list are the list, if each clone equals its source.
 use Rattle.std.proofs.Common.{◌≡◌, List}
 use Rattle.std.specs.List.{AllZip, each_same}
 

@@ -1,4 +1,4 @@
--- Fields of a line: what is written is read, and what is read was written so.
+-- Fields of a line: one is read from its written text and from no other.
 use Rattle.std.proofs.Common.{◌≡◌, ◌≢◌, ℕ, suc, ◌<◌, List, [], ◌∷◌, ◌++◌, length, get_or, Bool, true, false, not, ◌==◌, cond, Option, Some, None, MatchOption, IfSome, option_map, Result, Ok, Err, refl, ◌∙◌, ap, subst, arith, lit<, ne_eqb, eqb-true, codes}
 use Rattle.std.specs.Borrow.{Bor}
 use Rattle.std.specs.Cmp.Lexicographic.{pointwise}
@@ -30,7 +30,7 @@ split_once_is text (Some x) h =
     let parts = split_parts 32 text (Some x) h (lit< tt) in
     ap split_field parts.0 ∙ split_found x.0.now x.1.now parts.1
 
--- what is left of a line, with its space
+-- the rest of a line, with its space
 abbrev pub behind : Option (List ℕ) → List ℕ
 behind None = []
 behind (Some rest) = 32 ∷ rest
@@ -62,7 +62,7 @@ pub record IsSpelling {X : Type 0} (read : List ℕ → Option X) (text : X → 
   pub spelled : (t : List ℕ) (x : X) → read t ≡ Some x → (t ≡ text x) × In x
   pub spaceless : (x : X) → In x → no_space (text x) ≡ true
 
--- what is written is read: with nothing behind it or more, and with more
+-- a field that is written is read again, and leaves the rest of the line
 pub takes : {X : Type 0} {read : List ℕ → Option X} {text : X → List ℕ} {In : X → Type 0} → IsSpelling read text In → (x : X) → In x → (rest : Option (List ℕ)) → taken read (Some (text x ++ behind rest)) ≡ Ok (x, rest)
 unfolding taken
 takes {text = text} s x h rest = rw (split_again (text x) rest (s.spaceless x h), s.reads x h) refl
@@ -70,7 +70,7 @@ takes {text = text} s x h rest = rw (split_again (text x) rest (s.spaceless x h)
 pub takes_on : {X : Type 0} {read : List ℕ → Option X} {text : X → List ℕ} {In : X → Type 0} → IsSpelling read text In → (x : X) → In x → (rest : List ℕ) → taken read (Some (text x ++ 32 ∷ rest)) ≡ Ok (x, Some rest)
 takes_on s x h rest = takes s x h (Some rest)
 
--- what was read, and what was left behind it
+-- a field that was read, and the rest of the line after it
 pub record IsTaken {X : Type 0} (text : X → List ℕ) (In : X → Type 0) (s : Option (List ℕ)) (x : X) (rest : Option (List ℕ)) : Type 0 where
   pub line : s ≡ Some (text x ++ behind rest)
   pub inside : In x
@@ -88,7 +88,7 @@ unfolding taken
 took sp None x rest h = cc
 took {read = read} sp (Some s) x rest h = field_taken sp (read (split_field s).0) s x rest refl h
 
--- one field behind another
+-- one field after another
 pub joined : (s a : Option (List ℕ)) (t u : List ℕ) → s ≡ Some (t ++ behind a) → a ≡ Some u → s ≡ Some (t ++ 32 ∷ u)
 joined s a t u h k = h ∙ ap (λ r. Some (t ++ behind r)) k
 

@@ -1,4 +1,4 @@
--- Rows and steps: what is written is read, and what is read was written so.
+-- Rows and steps: one is read from its written text and from no other.
 use Rattle.std.proofs.Common.{◌≡◌, ℕ, List, [], ◌∷◌, ◌++◌, Option, Some, None, Result, Ok, Err, refl, sym, ◌∙◌, ap, subst, append_assoc, append-nil, OnOk}
 use Rattle.smf_fmri.specs.Counts.{read_count}
 use Rattle.smf_fmri.specs.Matching.{read_short}
@@ -130,7 +130,7 @@ third_found q s r rest h =
     let found : IsThirdOf q s made g.0.1 = record { line = line; inside = record { stop = ta.inside; refresh = tb.inside; start = tc.inside; running = td.inside; begun = te.inside; launch = tf.inside; serial = tg.inside }; keeps_first = λ tail. refl; keeps_second = λ tail. refl } in
     subst (λ (x : Row × Option (List ℕ)). IsThirdOf q s x.0 x.1) is found
 
--- one part behind another
+-- one part after another
 parted : (s a : Option (List ℕ)) (part : List ℕ → List ℕ) (u : List ℕ) → s ≡ Some (part (behind a)) → a ≡ Some u → s ≡ Some (part (32 ∷ u))
 parted s a part u h k = h ∙ ap (λ r. Some (part (behind r))) k
 

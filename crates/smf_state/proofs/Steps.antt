@@ -23,7 +23,7 @@ last_reason false false true d h = cc
 last_reason false false false true h = refl
 last_reason false false false false h = cc
 
--- where an end leads
+-- an end leads from one state to the other
 abbrev Leads : State → State → Type 0
 Leads from to = (to ≡ from) ⊎ (edge from to ≡ true)
 

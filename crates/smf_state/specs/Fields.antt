@@ -8,12 +8,12 @@ use Rattle.smf_state.specs.declared.fault.FieldFault.TheVariants.{Memory, Left}
 use Rattle.smf_state.specs.declared.fault.WrongField.{WrongField}
 use Rattle.smf_state.specs.declared.flags.Asks.{Asks}
 
--- what stands before the first space, and what stands behind it, where there is one: 32 is ' '
+-- the text before the first space and, if there is one, the text after it: 32 is ' '
 abbrev pub split_field : List ℕ → List ℕ × Option (List ℕ)
 split_field [] = ([], None)
 split_field (b ∷ bs) = if b == 32 then ([], Some bs) else (b ∷ (split_field bs).0, (split_field bs).1)
 
--- the first field of what is left of a line, and what is left behind it; nothing is left behind the last field
+-- the first field of the rest of a line, and the rest after it; nothing is left after the last field
 abbrev pub first_field : Option (List ℕ) → Option (List ℕ × Option (List ℕ))
 first_field None = None
 first_field (Some text) = Some (split_field text)
@@ -31,7 +31,7 @@ abbrev pub read_as : {X : Type 0} → (List ℕ → Option X) → ℕ → Option
 read_as read left None = Err left
 read_as read left (Some f) = field_read (read f.0) f.1 left
 
--- what the first field is read as, and what is left; or how much is left where the field is wrong or missing
+-- the value of the first field, and the rest after it; or the length of the rest, if the field is wrong or missing
 unfoldable pub taken : {X : Type 0} → (List ℕ → Option X) → Option (List ℕ) → Result (X × Option (List ℕ)) ℕ
 taken read rest = read_as read (left_of rest) (first_field rest)
 
@@ -70,18 +70,18 @@ flag_text true = codes "1"
 abbrev pub seen : Option (Bor (List ℕ)) → Option (List ℕ)
 seen rest = option_map (λ r. r.now) rest
 
--- what a reader returned is what the definition gives, unless memory ran out
+-- a reader returned the value of the definition, unless memory ran out
 abbrev pub GivesAt : {X : Type 0} → Result (X × Option (Bor (List ℕ))) FieldFault → Result (X × Option (List ℕ)) ℕ → Type 0
 GivesAt (Ok x) given = given ≡ Ok (x.0, seen x.1)
 GivesAt (Err Memory) given = Unit {0}
 GivesAt (Err (Left n)) given = given ≡ Err n
 
--- what a reader returned that takes no memory is what the definition gives
+-- a reader that takes no memory returned the value of the definition
 abbrev pub IsRead : {X : Type 0} → Result (X × Option (Bor (List ℕ))) WrongField → Result (X × Option (List ℕ)) ℕ → Type 0
 IsRead (Ok x) given = given ≡ Ok (x.0, seen x.1)
 IsRead (Err wrong) given = given ≡ Err wrong.left
 
--- one reader behind another
+-- one reader after another
 infixl 10 ◌>>=◌
 abbrev pub ◌>>=◌ : {X Y E : Type 0} → Result X E → (X → Result Y E) → Result Y E
 ◌>>=◌ (Ok x) f = f x

@@ -1,4 +1,4 @@
--- A view that is brought up to date by what changed.
+-- A view that is brought up to date by the changed items.
 use Rattle.std.specs.Prelude.{ℕ, List, [], ◌∷◌, Option, Some, None}
 use Rattle.smf_fmri.specs.ByKey.{By, WithRoom, by_number, put, without}
 use Rattle.smf_state.specs.declared.view.ChangedItem.{ChangedItem}

@@ -1,4 +1,4 @@
--- Rows, and what a granted step makes of one.
+-- Rows, and the effect of a granted step on one.
 use Rattle.std.specs.Prelude.{◌≡◌, ◌⊎◌, ℕ, List, ◌+◌, ◌≤◌, ◌==◌, ◌||◌, ◌&&◌, not, nat_lt, Bool, true, false, if◌then◌else◌, Option, Some, None, is_some, is_none, Result, Ok, Err}
 use Rattle.bitflags.specs.Sets.{without}
 use Rattle.std.specs.Int.RustNames.{bit_and, bit_or}
@@ -48,7 +48,7 @@ is_past_last (Some run) = nat_lt greatest_run run
 abbrev pub exhausted : Row → Step → Bool
 exhausted r s = not (nat_lt r.number greatest_number) || is_past_last (run_of s)
 
--- a run is live where none may be
+-- a run is live, but the step allows none
 abbrev pub still_live : Row → Step → Bool
 still_live r (Start run s d i b) = is_some r.live
 still_live r (Move to) = is_some r.live && not (runs r.state && runs to)
@@ -113,7 +113,7 @@ abbrev pub kept : Bool → Option ℕ → Option ℕ
 kept true run = run
 kept false run = None
 
--- the asks behind a commit that changes the state, or keeps it
+-- the asks after a commit that changes the state, or keeps it
 abbrev pub asks_at : State → State → ℕ → ℕ
 asks_at old new asks = if same_state new Maintenance then 0 else if same_state old new then asks else bit_and asks 3
 
@@ -159,7 +159,7 @@ abbrev pub applied_unless : Option StepFault → Row → Result Row StepFault
 applied_unless None r = Ok r
 applied_unless (Some f) r = Err f
 
--- what the step of a proposal makes of a row at a revision
+-- the row that the step of a proposal makes at a revision, or why it is refused
 unfoldable pub applied : Row → Proposal → ℕ → Result Row StepFault
 applied r p revision = applied_unless (refusal r p.step) (numbered (stepped r p.step revision) (r.number + 1) p)
 

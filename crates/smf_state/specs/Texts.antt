@@ -79,7 +79,7 @@ row_at rest = do
   second ← second_at first.0 first.1
   third_at second.0 second.1
 
--- a text is a row where nothing is left; else the place is where the first wrong field begins
+-- a text is a row if nothing is left of it; else the place is the start of the first wrong field
 abbrev pub whole_row : ℕ → Result (Row × Option (List ℕ)) ℕ → Result Row RowFault
 whole_row size (Ok (row, None)) = Ok row
 whole_row size (Ok (row, Some rest)) = Err (row_faults.BadRow (size - length rest))
@@ -116,7 +116,7 @@ read_verb text =
     else if pointwise nat_eq text (codes "note") then Some verbs.Note
     else None
 
--- the fields behind the verb
+-- the fields after the verb
 abbrev pub fields_onto : Step → List ℕ → List ℕ
 fields_onto (Move to) tail = state_text to ++ tail
 fields_onto (Start run snapshot duration ignore base) tail = decimal run ++ 32 ∷ (decimal snapshot ++ 32 ∷ (duration_text duration ++ 32 ∷ (decimal ignore ++ 32 ∷ (decimal base ++ tail))))
@@ -177,7 +177,7 @@ read_step text = whole_step (length text) (step_at (Some text))
 
 -- ---- what a call returned
 
--- what a row is read as is what the definition gives, unless memory ran out
+-- a call read the row of the definition, unless memory ran out
 abbrev pub GivesRow : Result Row RowFault → Result Row RowFault → Type 0
 GivesRow (Ok row) given = given ≡ Ok row
 GivesRow (Err row_faults.Memory) given = Unit {0}

@@ -10,7 +10,7 @@ pub enum StepFault {
     /// A run or a row number past the last.
     #[error("exhausted")]
     Exhausted,
-    /// A run is live where none may be.
+    /// A run is live, but the step allows none.
     #[error("live")]
     StillLive,
     /// Nothing is under way that could end.
@@ -20,19 +20,19 @@ pub enum StepFault {
     NoEdge,
 }
 
-/// A field of a line that is wrong or missing: so many bytes stand from where it begins to the end.
+/// A field of a line that is wrong or missing: so many bytes stand from its start to the end.
 #[derive(Clone, Copy, Debug, PartialEq, Eq, Error)]
 #[error("wrong field {left} bytes before the end")]
 pub struct WrongField {
     pub left: usize,
 }
 
-/// Why a field of a line is not read, where reading takes memory.
+/// Why a reader that takes memory does not read a field of a line.
 #[derive(Clone, Copy, Debug, PartialEq, Eq, Error)]
 pub enum FieldFault {
     #[error("no memory")]
     Memory,
-    /// So many bytes stand from where the wrong field begins to the end of the line.
+    /// So many bytes stand from the start of the wrong field to the end of the line.
     #[error("wrong field {0} bytes before the end")]
     Left(usize),
 }
@@ -58,7 +58,7 @@ impl From<WrongField> for FieldFault {
 pub enum RowFault {
     #[error("no memory")]
     Memory,
-    /// Where the first wrong field begins, or the text's length where one is missing.
+    /// The place of the first wrong field, or the text's length if one is missing.
     #[error("bad row at {0}")]
     BadRow(usize),
 }
@@ -66,7 +66,7 @@ pub enum RowFault {
 /// Why a text is no step.
 #[derive(Clone, Copy, Debug, PartialEq, Eq, Error)]
 pub enum StepTextFault {
-    /// Where the first wrong field begins, or the text's length where one is missing.
+    /// The place of the first wrong field, or the text's length if one is missing.
     #[error("bad step at {0}")]
     BadStep(usize),
 }

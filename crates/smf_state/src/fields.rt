@@ -11,8 +11,7 @@ use bitflags::Flags;
 use smf_fmri::{InstanceFmri, read_count};
 use std::alloc::Global;
 
-/// The first field of what is left of a line, and what is left behind it: nothing behind the last
-/// field, the rest behind its space.
+/// The first field of the rest of a line, and the rest after its space. Nothing is left after the last field.
 pub fn field_at(rest: Option<&str>) -> Option<(&str, Option<&str>)>
     ensures { option_map (λ x. (x.0.now, seen x.1)) result ≡ first_field (seen rest.entry) }
 {

@@ -4,7 +4,7 @@ ghost use Rattle.std.specs.Int.RustNames.{bit_and};
 use bitflags::{Flag, Flags, bitflag_items};
 use std::marker::Model;
 
-/// What is asked of an instance: by svcadm(1M), or by a note of its restarter (failed, exited).
+/// The requests to an instance: from svcadm(1M), or from a note of its restarter (failed, exited).
 #[derive(Clone, Copy, PartialEq, Eq)]
 pub struct Asks(u8);
 
@@ -24,10 +24,10 @@ bitflag_items! {
 impl Asks {
     pub const NONE: Asks = Asks(0);
 
-    /// What a change of the state leaves.
+    /// The asks that a change of the state keeps.
     pub const LASTING: Asks = Asks(3);
 
-    /// What a note may add.
+    /// The asks that a note may add.
     pub const NOTES: Asks = Asks(12);
 
     /// The asks of a number, in which each is one bit.
@@ -99,8 +99,8 @@ impl Flags for Failures {
     }
 }
 
-/// The kinds of failure that a method leaves out of account (`startd/ignore_error` of svc.startd(1M)),
-/// which contracts see as their bits: 1 for core, 2 for signal.
+/// The kinds of failure that a method ignores (`startd/ignore_error` of svc.startd(1M)). Contracts see them as their
+/// bits: 1 for core, 2 for signal.
 #[derive(Clone, Copy, PartialEq, Eq)]
 pub struct Ignore {
     bits: u8,
@@ -133,7 +133,7 @@ impl Ignore {
         Ignore { bits }
     }
 
-    /// The set of these bits, or none where one of them names no kind.
+    /// The set of these bits, or none if one of them names no kind.
     pub fn from_bits(bits: u8) -> Option<Ignore>
         ensures { result ≡ (if nat_le bits 3 then Some bits else None) }
     {

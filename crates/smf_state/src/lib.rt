@@ -1,7 +1,8 @@
 //! States of instances, their rows, the steps that change them, and the texts of both.
-//! Modules: `state`, `flags` (asks, failures left out), `step`, `refusal` (why a step is not granted), `row`,
-//! `shared_row` (a row that its copies share), `fields` (readers of a line), `text`, `view` (what svc.startd's graph sees),
-//! `held_view` (a view that is brought up to date in place), `own_name` (that of svc.startd's restarter), `fault`.
+//! Modules: `state`, `flags` (asks, ignored failures), `step`, `refusal` (why a step is not granted), `row`,
+//! `shared_row` (a row that its copies share); `fields` (readers of a line), `text`, `view` (the repository as
+//! svc.startd's graph sees it); `held_view` (a view that is brought up to date in place), `own_name` (that of
+//! svc.startd's restarter), `fault`.
 #![tactic(auto)]
 
 mod fault;

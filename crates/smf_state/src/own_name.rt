@@ -14,7 +14,7 @@ pub fn startd(alloc: Global) -> Result<InstanceFmri, AllocError>
     InstanceFmri::known(alloc, STARTD)
 }
 
-/// Whether it is svc.startd's own restarter.
+/// True if it is svc.startd's own restarter.
 pub fn is_startd(name: &InstanceFmri) -> bool
     ensures { result ≡ pointwise nat_eq name.now startd }
 {

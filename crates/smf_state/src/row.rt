@@ -17,7 +17,7 @@ pub const MAX_RUN: u64 = 0x3f_ffff_ffff;
 /// The greatest row number, 2^63 - 1.
 pub const MAX_NUMBER: u64 = 0x7fff_ffff_ffff_ffff;
 
-/// What the repository holds of an instance's state.
+/// The state of an instance, as the repository holds it.
 #[derive(Drop)]
 pub struct Row {
     /// The restarter of the instance.
@@ -25,7 +25,7 @@ pub struct Row {
     /// Grows by one with each granted step, each boot and each move.
     pub number: u64,
     pub state: State,
-    /// Where a transition under way leads.
+    /// The state that a transition under way leads to.
     pub next: Option<State>,
     /// The run of the start contract.
     pub live: Option<u64>,
@@ -318,9 +318,9 @@ impl Row {
         }
     }
 
-    /// Takes the step of a proposal into the row at a revision, or says why it is refused, the first
-    /// reason in the order of the faults. Takes no memory. The snapshots `running` and `start` are the
-    /// repository's to set.
+    /// Takes the step of a proposal into the row at a revision, or gives the first reason to refuse it. The reasons
+    /// stand in the order of the faults. Takes no memory. The repository itself sets the snapshots `running` and
+    /// `start`.
     #[tactic(auto, unfolding(crate::specs::Rows::applied))]
     pub fn apply(&mut self, proposal: &Proposal, revision: u64) -> Result<(), StepFault>
         ensures exact { MatchResult result (λ _. applied self.old proposal.now revision ≡ Ok self.new) (λ e. applied self.old proposal.now revision ≡ Err e) }

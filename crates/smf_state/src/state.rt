@@ -23,8 +23,8 @@ pub enum Cause {
     Config,
 }
 
-/// What a running instance is: processes of a contract, nothing, or one child, as svc.startd(1M)
-/// reads `startd/duration`.
+/// The kind of a running instance: processes of a contract, nothing, or one child, as svc.startd(1M) reads
+/// `startd/duration`.
 #[derive(Clone, Copy, PartialEq, Eq)]
 pub enum Duration {
     Contract,
@@ -32,8 +32,8 @@ pub enum Duration {
     Child,
 }
 
-/// Whether an instance may go from one state to the other without a boot. The edge from disabled to
-/// uninitialized is that of a move to another restarter, and no step takes it.
+/// True if an instance may go from one state to the other without a boot. The edge from disabled to uninitialized is
+/// that of a move to another restarter, and no step takes it.
 pub fn edge(from: State, to: State) -> bool
     ensures { result ≡ edge from to }
 {

@@ -5,7 +5,7 @@ use crate::state::{Cause, Duration, State};
 use smf_fmri::InstanceFmri;
 use std::alloc::AllocError;
 
-/// What a restarter proposes to do with an instance.
+/// A step that a restarter proposes for an instance.
 #[derive(Clone, Copy)]
 pub enum Step {
     /// To another state at once.
@@ -18,17 +18,17 @@ pub enum Step {
         ignore: Ignore,
         base: u64,
     },
-    /// A stop begins, as a run where it has a method.
+    /// A stop begins, as a run if it has a method.
     Stop {
         to: State,
         cause: Cause,
         run: Option<u64>,
     },
-    /// A refresh begins, as a run where it has a method.
+    /// A refresh begins, as a run if it has a method.
     Refresh {
         run: Option<u64>,
     },
-    /// What was under way ends. The live run is kept or freed.
+    /// The start, stop or refresh under way ends. The live run is kept or freed.
     End {
         to: State,
         keep: bool,

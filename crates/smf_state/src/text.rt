@@ -85,7 +85,7 @@ fn third_at(mut row: Row, rest: Option<&str>) -> Result<(Row, Option<&str>), Wro
     Ok((row, rest))
 }
 
-/// A row that stands first in what is left of a line, and what is left behind it.
+/// Reads the row at the start of the rest of a line, and gives the rest after it.
 #[tactic(auto, unfolding(crate::specs::Texts::row_at))]
 pub fn row_at(alloc: Global, rest: Option<&str>) -> Result<(Row, Option<&str>), FieldFault>
     ensures { GivesAt result (row_at (seen rest.entry)) }
@@ -111,11 +111,11 @@ fn read_row(alloc: Global, text: &str) -> Result<Row, RowFault>
 impl Row {
     /// The row that a text spells: its fields with one space between, as `print` writes them.
     pub fn read(alloc: Global, text: &str) -> Result<Row, RowFault>
-        // What is read is spelled so.
+        // A text that is read is the text of the row.
         ensures found { IfOk result (λ row. text.now ≡ row_text row) }
-        // What is spelled so is read, unless memory runs out.
+        // The text of any row is read, unless memory runs out.
         ensures only { (row : AnyRow) → IsRow row → text.now ≡ row_text row → GivesRow result (Ok row) }
-        // Where the first wrong field begins.
+        // A refusal gives the place of the first wrong field.
         ensures exact { GivesRow result (read_row text.now) }
     {
         read_row(alloc, text)
@@ -133,7 +133,7 @@ impl Row {
         Ok(Text::from_string(out))
     }
 
-    /// Writes the text of the row behind another.
+    /// Writes the text of the row after another.
     #[tactic(auto, unfolding(crate::specs::Texts::row_onto))]
     pub fn print_onto(&self, out: &mut String) -> Result<(), AllocError>
         ensures text { OnOk result (string_bytes out.new ≡ string_bytes out.old ++ row_text self.now) }
@@ -284,7 +284,7 @@ fn end_at(rest: Option<&str>) -> Result<(Step, Option<&str>), WrongField>
     Ok((step, rest))
 }
 
-/// A step that stands first in what is left of a line, and what is left behind it. Takes no memory.
+/// Reads the step at the start of the rest of a line, and gives the rest after it. Takes no memory.
 #[tactic(auto, unfolding(crate::specs::Texts::step_at))]
 pub fn step_at(rest: Option<&str>) -> Result<(Step, Option<&str>), WrongField>
     ensures { IsRead result (step_at (seen rest.entry)) }
@@ -307,11 +307,11 @@ fn read_step(text: &str) -> Result<Step, StepTextFault>
 impl Step {
     /// The step that a text spells: its verb and its fields with one space between. Takes no memory.
     pub fn read(text: &str) -> Result<Step, StepTextFault>
-        // What is read is spelled so.
+        // A text that is read is the text of the step.
         ensures found { IfOk result (λ step. text.now ≡ step_text step) }
-        // What is spelled so is read.
+        // The text of any step is read.
         ensures only { (step : AnyStep) → IsStep step → text.now ≡ step_text step → result ≡ Ok step }
-        // Where the first wrong field begins.
+        // A refusal gives the place of the first wrong field.
         ensures exact { result ≡ read_step text.now }
     {
         read_step(text)
@@ -327,7 +327,7 @@ impl Step {
         Ok(Text::from_string(out))
     }
 
-    /// Writes the text of the step behind another.
+    /// Writes the text of the step after another.
     #[tactic(auto, unfolding(crate::specs::Texts::step_onto))]
     pub fn print_onto(&self, out: &mut String) -> Result<(), AllocError>
         ensures text { OnOk result (string_bytes out.new ≡ string_bytes out.old ++ step_text self.now) }

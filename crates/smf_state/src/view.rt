@@ -5,16 +5,16 @@ use crate::shared_row::SharedRow;
 use smf_fmri::{Bytes, ExactClone, InstanceFmri, Keyed, SharedOrdered};
 use std::alloc::AllocError;
 
-/// What svc.startd's graph sees of an instance.
+/// An instance, as svc.startd's graph sees it.
 #[derive(Drop)]
 pub struct ViewItem {
     pub instance: u64,
     pub name: InstanceFmri,
     pub enabled: bool,
-    /// Whether the instance's restarter property could be read.
+    /// True if the instance's restarter property could be read.
     pub readable: bool,
     pub row: SharedRow,
-    /// The body of the running snapshot, where there is one.
+    /// The body of the running snapshot, if there is one.
     pub body: Option<Bytes>,
 }
 
@@ -61,7 +61,7 @@ fn copy_of(body: &Option<Bytes>) -> Result<Option<Bytes>, AllocError>
     }
 }
 
-/// What svc.startd's graph sees of the repository.
+/// The repository, as svc.startd's graph sees it.
 #[derive(Drop)]
 pub struct View {
     /// How many commands the repository had accepted. In a message it is any number.

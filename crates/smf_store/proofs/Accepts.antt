@@ -1,4 +1,4 @@
--- What a reading of rows accepts: names of their kinds, and numbers within their limits.
+-- The rows that a reading accepts: names of their kinds, and numbers within their limits.
 use Rattle.std.proofs.Common.{◌≡◌, ◌≤◌, ◌&&◌, ℕ, ℤ, pos, negsuc, List, ◌∷◌, ◌++◌, nat_eq, Bool, true, false, cond, Option, Some, None, is_some, Result, Ok, Err, codes, refl, ap, subst, ◌∙◌, leb-true}
 use Rattle.std.specs.Cmp.Lexicographic.{pointwise}
 use Rattle.sqlite.specs.declared.types.Value.{Value}
@@ -22,7 +22,7 @@ use Rattle.smf_store.proofs.Makes.{some_is}
 pub none_is : {X : Type 0} (x : X) → None ≡ Some x → ⊥
 none_is x e = cc
 
--- what a reading behind another gives
+-- the result of a reading after another
 pub bind_is : {A B : Type 0} (o : Option A) (f : A → Option B) (y : B) → (o >>= f) ≡ Some y → (x : A) × (o ≡ Some x) × (f x ≡ Some y)
 bind_is None f y e = absurd (none_is y e)
 bind_is (Some x) f y e = (x, refl, e)

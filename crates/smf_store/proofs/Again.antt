@@ -40,7 +40,7 @@ low_again v t e low = text_again v t e (IsUtf8-from_ascii t low)
 pub number_again : (v : Value) (n : ℕ) → v ≡ Int (pos n) → n ≤ greatest → number_in v ≡ Some n
 number_again v n e low = rw (e, is_at_most n greatest low) refl
 
--- a number is not past the greatest, where there is one
+-- a number is not past the greatest, if there is a number
 abbrev pub IsWithin : Option ℕ → Type 0
 IsWithin None = Unit {0}
 IsWithin (Some n) = n ≤ greatest

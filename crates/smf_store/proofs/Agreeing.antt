@@ -1,4 +1,4 @@
--- What the tables of a store that opens say of one another.
+-- The agreement among the tables of a store that opens.
 use Rattle.std.proofs.Common.{◌≡◌, ◌≤◌, ℕ, List, [], ◌∷◌, Bool, true, false, Option, Some, None, if◌then◌else◌, refl, sym, ap, subst, ◌∙◌, arith}
 use Rattle.std.specs.Prelude.{◌&&◌, ◌==◌, not, find, nat_le}
 use Rattle.std.proofs.lemmas.Bool.Decides.{nat_tests}

@@ -1,4 +1,4 @@
--- What the CREATEs make, and the counters.
+-- The tables that the CREATEs make, and the counters.
 use Rattle.std.proofs.Common.{◌≡◌, ◌⊎◌, inl, inr, ℕ, pos, List, [], codes, Some, None, Ok, refl, sym, ap, ap₂, subst, ◌∙◌, false}
 use Rattle.sqlite.specs.Order.{Row}
 use Rattle.sqlite.specs.Table.{Table}
@@ -208,7 +208,7 @@ made_store old begun mid last end now one two s = record {
   keeps = λ has. record { stands = subst (λ d. Stands d empty) (sym s.now_is) (stands_made begun mid last one two (ap (λ (d : Database). d.schema) now ∙ has)); settled = s.committed_is ∙ sym s.now_is };
 }
 
--- a store is told by its trees
+-- a store is known by its trees
 pub stands_in : (db : Database) (trees : Trees) (h : Holdings) → Stands db h → trees ≡ db.trees → StandsIn trees h
 stands_in db trees h st is =
     let same : ◌≡◌ {A = Database} db (record { schema = store_schema; trees = trees }) = ap₂ (λ a b. record { schema = a; trees = b }) st.holds.schema (sym is) in

@@ -1,4 +1,4 @@
--- What the rows of a store say keeps the rules that commands keep.
+-- The value that the rows of a store show keeps the rules that commands keep.
 use Rattle.std.proofs.Common.{◌≡◌, ◌≤◌, ◌+◌, ℕ, List, [], ◌∷◌, Bool, true, false, if◌then◌else◌, Option, Some, None, Result, Ok, Err, refl, subst, leb-true}
 use Rattle.std.specs.Prelude.{nat_le}
 use Rattle.std.specs.List.{list_all}
@@ -36,7 +36,7 @@ told_is : {X Y : Type 0} (table : StoreTable) (o : Option X) (f : X → Result Y
 told_is table None f y e = absurd cc
 told_is table (Some x) f y e = (x, refl, e)
 
--- what each row keeps, all rows of a table keep
+-- a property that each row keeps, all rows of a table keep
 all_keep : (P : Holdings → Type 0) (add : Holdings → Row → Option Holdings) → ((h k : Holdings) (r : Row) → P h → add h r ≡ Some k → P k) → (rows : List Row) (h k : Holdings) → P h → add_all add h rows ≡ Some k → P k
 all_keep P add step [] h k p e = subst P (some_is h k e) p
 all_keep P add step (r ∷ rs) h k p e =
@@ -67,7 +67,7 @@ module _ (version : StoreVersion) where
       let g = passes (list_all (is_launched b.0) b.0.instances) b.0 k b.2 in
       (subst (KeepsRules version) g.1 (all_keep (KeepsRules version) add_launch (launch_keeps version) rows h b.0 p b.1), subst AreLaunched g.1 (all_launched b.0 g.0))
 
-  -- what the tables say keeps all rules but that of rows with no number, which an open does not judge
+  -- the value of the tables keeps all rules but that of rows with the number 0, which an open does not judge
   record IsRight (h : Holdings) : Type 0 where
     rules : KeepsRules version h
     own : NameOwn h
@@ -147,6 +147,6 @@ module _ (rows : StoreRows) (h : Holdings) (unlaunched : AreUnlaunched h) where
   unfolding judged
   consistent_said e = judged_by (version_said rows.counts.items) e
 
--- and so does what they say where they are listed
+-- and so does the value of the rows that are listed
 pub consistent_read : (trees : Trees) (h : Holdings) → Says trees (Ok h) → AreUnlaunched h → IsConsistent h
 consistent_read trees h says unlaunched = consistent_said says.rows h unlaunched says.said

@@ -1,4 +1,4 @@
--- What a crash of an open may leave, by what stood in the database.
+-- The files that a crash of an open may leave, by what stood in the database.
 use Rattle.std.proofs.Common.{◌≡◌, ℕ, pos, Some, refl, sym, ap, ◌∙◌, arith, length}
 use Rattle.sqlite.specs.declared.types.Value.TheVariants.{Int, Text}
 use Rattle.sqlite.specs.Schema.{Schema}

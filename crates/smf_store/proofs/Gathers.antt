@@ -1,4 +1,4 @@
--- What each row more makes of the value that the rows show.
+-- The value that the rows show, after each row more.
 use Rattle.std.proofs.Common.{◌≡◌, ◌<◌, ◌≤◌, ◌⊎◌, inl, inr, ℕ, List, [], ◌∷◌, ◌++◌, Option, Some, None, option_map, refl, sym, ap, subst, ◌∙◌, arith}
 use Rattle.sqlite.specs.declared.types.Value.TheVariants.{Text}
 use Rattle.sqlite.specs.Order.{Row, column}
@@ -359,7 +359,7 @@ reads_launch k l none r shows rows a =
       };
     }
 
--- where no instance is found by a name, none has it
+-- if no instance is found by a name, none has it
 pub unnamed_is : (h : Holdings) (name : List ℕ) → IsIndexed (bare h.instances) h.names → named h name ≡ None → lookup by_name h.names name ≡ None
 unnamed_is h name x none = by (lookup by_name h.names name) refl
   where

@@ -1,4 +1,4 @@
--- What is read of the groups and of the launches.
+-- The groups and the launches that are read.
 use Rattle.std.proofs.Common.{◌≡◌, ◌<◌, ℕ, pos, List, [], ◌∷◌, ◌++◌, ◌||◌, Bool, true, false, cond, find, Option, Some, None, option_map, refl, sym, ap, subst, ◌∙◌}
 use Rattle.std.specs.List.{list_any}
 use Rattle.sqlite.specs.declared.types.Value.TheVariants.{Int, Text}
@@ -62,7 +62,7 @@ none_by : {X : Type 0} (b : Bool) (x : X) (any : Bool) (o : Option X) → (b || 
 none_by true x any o e later = absurd cc
 none_by false x any o e later = later e
 
--- where no item passes, none is found
+-- if no item passes, none is found
 pub none_found : {X : Type 0} (p : X → Bool) (xs : List X) → list_any p xs ≡ false → find p xs ≡ None
 none_found p [] e = refl
 none_found p (x ∷ xs) e = none_by (p x) x (list_any p xs) (find p xs) e (none_found p xs)

@@ -1,4 +1,4 @@
--- Rows that are put in one behind another, each of which may stand there.
+-- Rows that are put in one after another, each of which may stand there.
 use Rattle.std.proofs.Common.{◌≡◌, inl, inr, List, [], ◌∷◌, ◌++◌, Option, Some, refl, sym, ap, subst, ◌∙◌, append_assoc, append-nil}
 use Rattle.sqlite.specs.Order.{Row}
 use Rattle.sqlite.specs.Tree.{rowid}
@@ -20,7 +20,7 @@ unlike_more done todo r apart unlike a b ha hb = elim (has_either done (r ∷ []
   | inr (inr none) ↦ absurd none
 ]
 
--- where each row in turn may stand behind those before it, all of them may
+-- if each row in turn may stand after those before it, all of them may
 module _ (add : Holdings → Row → Option Holdings) (all : List Row) (P : List Row → Holdings → Type 0)
     (step : (done : List Row) (r : Row) (k : Holdings) → Has all r → ((a : Row) → Has done a → Has all a) → ((a : Row) → Has done a → rowid a ≡ rowid r → ⊥) → P done k → (h : Holdings) × (add k r ≡ Some h) × P (done ++ r ∷ []) h) where
   go_on : (todo done : List Row) (k : Holdings) → ((r : Row) → Has todo r → Has all r) → ((a : Row) → Has done a → Has all a) → AreApart todo → AreUnlike done todo → P done k

@@ -1,4 +1,4 @@
--- What the journal promises.
+-- The promises of the journal.
 use Rattle.std.proofs.Common.{◌≡◌, ◌⊎◌, inl, inr, List, Option, Some, sym, subst, arith}
 use Rattle.sqlite.specs.State.{State, HasCleanDisk, Survives}
 use Rattle.smf_model.specs.declared.change.Change.{Change}

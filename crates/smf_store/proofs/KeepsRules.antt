@@ -1,4 +1,4 @@
--- Each row that is read of a store leaves a value whose parts keep the rules, but for those that only later tables give.
+-- Each row read of a store leaves a value whose parts keep the rules, but for those that only later tables give.
 use Rattle.std.proofs.Common.{◌≡◌, ◌<◌, ◌≤◌, ◌+◌, ◌⊎◌, inl, inr, ℕ, List, [], length, nat_lt, Bool, true, false, if◌then◌else◌, Option, Some, None, is_some, option_map, IsSome, refl, sym, ap, subst, ◌∙◌, arith, leb-true, ltb-true}
 use Rattle.std.specs.Prelude.{is_none}
 use Rattle.std.specs.Ordering.{is_eq}

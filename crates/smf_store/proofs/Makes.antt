@@ -1,4 +1,4 @@
--- What each change makes of the value that the tables show.
+-- The value that the tables show after each change.
 use Rattle.std.proofs.Common.{◌≡◌, ◌<◌, ◌⊎◌, inl, inr, ℕ, pos, List, [], ◌∷◌, ◌++◌, not, cond, Bool, true, false, Option, Some, None, refl, sym, ap, ap₂, subst, ◌∙◌, codes, arith}
 use Rattle.std.specs.Prelude.{◌==◌, string_bytes}
 use Rattle.std.proofs.lemmas.Map.Entries.{option_filter}
@@ -294,7 +294,7 @@ own_back h n front x m = (m.0, λ both. m.1 both.1)
 
 -- ---- an instance that goes
 
--- where no row has the number, nothing has it
+-- if no row has the number, nothing has it
 none_has : (db : Database) (h : Holdings) (n : ℕ) → Holds db h → HasNoRow (db.trees 4) (equal 0 0 ∷ []) (Int (pos n) ∷ []) → (i : Instance) → HasInstance h i → i.number ≡ n → ⊥
 none_has db h n p none i m =
     let s = p.show.instances.there i m in

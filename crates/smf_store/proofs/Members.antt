@@ -1,4 +1,4 @@
--- What is found in a list after a change, by cases.
+-- The items found in a list after a change, by cases.
 use Rattle.std.proofs.Common.{◌≡◌, ◌⊎◌, inl, inr, true, false, List, Option, Some, None, option_map, refl, sym, ap, ◌∙◌}
 use Rattle.std.specs.Ordering.{is_eq}
 use Rattle.smf_fmri.specs.ByKey.{By, KeepsKeys, amend, lookup, put, without}
@@ -55,6 +55,6 @@ module _ {X K : Type 0} (o : By X K) where
   pub amend_other : (j : K) (f : X → X) (xs : List X) (k : K) → KeepsKeys o f → (j ≡ k → ⊥) → lookup o (amend o j f xs) k ≡ lookup o xs k
   amend_other j f xs k same diff = lookup_amend o j f xs k same ∙ with_answer_other o (lookup o xs) j (option_map f (lookup o xs k)) k (differs o j k diff)
 
-  -- whether two keys are one
+  -- two keys are one, or they are not
   pub one_or_other : (a b : K) → (a ≡ b) ⊎ (a ≡ b → ⊥)
   one_or_other a b = elim (key_cases o a b (is_eq (o.cmp a b)) refl) [ inl e ↦ inl e | inr e ↦ inr (apart o a b e) ]

@@ -1,4 +1,4 @@
--- What the six tables present, each by what is a member of it.
+-- The contents of the six tables, each by its members.
 use Rattle.std.proofs.Common.{◌≡◌, ◌≢◌, ℕ, List, sym, subst, arith}
 use Rattle.sqlite.specs.Order.{Row}
 use Rattle.sqlite.specs.Effect.{Database, IsDatabase}

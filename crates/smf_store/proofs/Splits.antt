@@ -1,4 +1,4 @@
--- A name is its service, a colon, and what stands behind it.
+-- A name is its service, a colon, and the rest after it.
 use Rattle.std.proofs.Common.{◌≡◌, ◌<◌, ℕ, List, ◌∷◌, ◌++◌, length, get_or, Bool, true, false, nat_lt, Option, Some, None, refl, sym, subst, ap, ap₂, ◌∙◌, if◌then◌else◌, arith}
 use Rattle.std.specs.List.{position_or_len, before_first, after_first}
 use Rattle.std.proofs.lemmas.Bool.Decides.{nat_tests}

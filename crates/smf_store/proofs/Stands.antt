@@ -1,4 +1,4 @@
--- What is read of the six tables stands in them.
+-- The value that is read of the six tables stands in them.
 use Rattle.std.proofs.Common.{◌≡◌, ◌⊎◌, inl, inr, ℕ, pos, codes, Some, None, false, List, [], ◌∷◌, Result, Ok, Err, IsTrue, refl, sym, ap, subst, ◌∙◌}
 use Rattle.std.specs.Prelude.{IfErr}
 use Rattle.std.specs.Result.{IsErrAnd}
@@ -174,7 +174,7 @@ lists_all a b c d e f g rows keyed one two three four five six =
 abbrev two : Counter → Count
 two c = record { counter = c; value = 2 }
 
--- what its counters become
+-- its counters in the second version
 abbrev IsNext : Holdings → Count → Type 0
 IsNext h x = (x ≡ two Layout) ⊎ ((x ≡ two Version) ⊎ (HasCountIn versions.First h x × (counter_text x.counter ≡ counter_text Version → ⊥)))
 
@@ -293,7 +293,7 @@ may_open : (a : State) (db : Database) (trees : Trees) (h : Holdings) → IsRais
 may_open a db trees h (stayed stands same) is = of_second h stands (is ∙ ap (λ (d : Database). d.trees) same)
 may_open a db trees h (raised before stands) is = of_first h before (stands_in db trees h stands is)
 
--- where the database is not opened
+-- if the database is not opened
 pub leaves_failing : (e : OpenFault) (a b : State) → Survives a b (MayFailToRead e a) → Survives a b (MayFailToOpen e a)
 leaves_failing e a b s =
     survives_weaker a b (MayFailToRead e a) (MayFailToOpen e a) (λ clean db it. (it.0, may_open a it.1.0 db it.1.1 it.1.2 it.1.3)) s
@@ -302,12 +302,12 @@ pub leaves_failed_make : (e : OpenFault) (a b : State) → IsFailure e → Survi
 leaves_failed_make e a b fails s =
     survives_weaker a b (MayMake a) (MayFailToOpen e a) (λ clean db it. (fails, of_empty it.was_empty it.stands)) s
 
--- where a failure ended the reading
+-- if a failure ended the reading
 pub failed_leaves : {X : Type 0} (r : Result X OpenFault) (a b : State) → IsErrAnd r IsFailure → Survives a b (MayRead a) → IfErr r (λ e. Survives a b (MayFailToRead e a))
 failed_leaves (Ok x) a b p s = tt
 failed_leaves (Err e) a b p s = survives_weaker a b (MayRead a) (MayFailToRead e a) (λ clean db it. (p, it)) s
 
--- where nothing was left
+-- if nothing was left
 pub nothing_left : {X : Type 0} (r : Result X OpenFault) (a b : State) → Survives a b (λ _. ⊥) → IfErr r (λ e. Survives a b (MayFailToRead e a))
 nothing_left (Ok x) a b s = tt
 nothing_left (Err e) a b s = survives_weaker a b (λ _. ⊥) (MayFailToRead e a) (λ clean db none. absurd none) s

@@ -98,7 +98,7 @@ none_any_by : {X : Type 0} (p : X → Bool) (x : X) (xs : List X) (b : Bool) →
 none_any_by p x xs true f g behind = absurd cc
 none_any_by p x xs false f g behind = ap (λ z. z || list_any p xs) f ∙ behind g
 
--- where none is found, none passes
+-- if none is found, none passes
 none_any : {X : Type 0} (p : X → Bool) (xs : List X) → find p xs ≡ None → list_any p xs ≡ false
 none_any p [] e = refl
 none_any p (x ∷ xs) e = none_any_by p x xs (p x) refl e (none_any p xs)

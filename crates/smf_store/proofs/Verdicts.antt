@@ -1,4 +1,4 @@
--- What is said of the rows of a store, step by step.
+-- The verdict on the rows of a store, step by step.
 use Rattle.std.proofs.Common.{◌≡◌, Option, Some, None, Result, Ok, Err, refl, sym, ap, ◌∙◌}
 use Rattle.smf_model.specs.Holdings.{Holdings}
 use Rattle.smf_store.specs.declared.counting.Counters.{Counters}

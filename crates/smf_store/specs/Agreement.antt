@@ -1,4 +1,4 @@
--- What the tables of a store that opens say of one another.
+-- The agreement among the tables of a store that opens.
 use Rattle.std.specs.Prelude.{◌≡◌, ◌≤◌, ℕ, Some}
 use Rattle.smf_model.specs.declared.held.Instance.{Instance}
 use Rattle.smf_model.specs.declared.held.Snapshot.{Snapshot}

@@ -16,12 +16,12 @@ pub record Finds (key : List ℕ) (v : ℤ) (rows : List Row) : Type 0 where
   pub value_is : column row 2 ≡ Int v
   pub only : (r : Row) → Has rows r → column r 1 ≡ Text key → column r 2 ≡ Int v
 
--- what was found of the key in these rows
+-- the value of the key that these rows have, or no row has the key
 abbrev pub SoFar : List ℕ → Option ℤ → List Row → Type 0
 SoFar key None rows = (r : Row) → Has rows r → column r 1 ≡ Text key → ⊥
 SoFar key (Some v) rows = Finds key v rows
 
--- what one row more has of it
+-- one row more: it has another key, or it has the key and its value
 pub data LooksAt (key : List ℕ) (row : Row) (old new : Option ℤ) : Type 0 where
   other : (column row 1 ≡ Text key → ⊥) → new ≡ old → LooksAt key row old new
   has : (v : ℤ) → column row 1 ≡ Text key → column row 2 ≡ Int v → new ≡ Some v → old ≡ None → LooksAt key row old new

@@ -1,4 +1,4 @@
--- What the making of a store does.
+-- The effects of the steps that make a store.
 use Rattle.std.specs.Prelude.{◌≡◌, [], true, IsTrue}
 use Rattle.std.specs.List.{AllByRecursion}
 use Rattle.sqlite.specs.Effect.{Database, IsDatabase}

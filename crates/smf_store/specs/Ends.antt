@@ -1,4 +1,4 @@
--- What a call promises of the database that it leaves.
+-- The promises of a call about the database that it leaves.
 use Rattle.std.specs.Prelude.{ℕ, List, Result, OnErr}
 use Rattle.sqlite.specs.Held.{Held, state}
 use Rattle.sqlite.specs.State.{State, HasCleanDisk, Survives}
@@ -11,7 +11,7 @@ use Rattle.smf_model.specs.declared.held.Owner.TheVariants as owners
 use Rattle.smf_store.specs.Shown.{ShowsGroup}
 use Rattle.smf_store.specs.Steps.{AddsRow, Makes, owned_by}
 
--- where it failed, this is so
+-- if the call failed, this is so
 abbrev pub Fails : {S A E : Type 0} → (State → State → Type 0) → Ghosts S → Held S → Held S → Result A E → Type 0
 Fails P g old new result = HasCleanDisk (state g new) → OnErr result (P (state g old) (state g new))
 

@@ -1,4 +1,4 @@
--- Which fault is told of which: want of memory is told apart, and every other failure alike.
+-- The fault that a caller gets for each lower fault: want of memory stands apart, and every other failure is alike.
 use Rattle.sqlite.specs.declared.error.Error.{Error}
 use Rattle.sqlite.specs.declared.error.Error.TheVariants.{SqliteFailure}
 use Rattle.sqlite.specs.declared.error.ErrorCode.TheVariants as code

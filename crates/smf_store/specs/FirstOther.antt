@@ -37,7 +37,7 @@ AreBefore s Group = IsThere s Meta × IsThere s Service × IsThere s Instance
 AreBefore s Snapshot = IsThere s Meta × IsThere s Service × IsThere s Instance × IsThere s Group
 AreBefore s Restarter = IsThere s Meta × IsThere s Service × IsThere s Instance × IsThere s Group × IsThere s Snapshot
 
--- the first of the six that is absent or another; none, where all are there
+-- the first of the six that is absent or another; none, if all are there
 abbrev pub IsFirstOther : Schema → Option StoreTable → Type 0
 IsFirstOther schema None = AreBefore schema Restarter × IsThere schema Restarter
 IsFirstOther schema (Some other) = AreBefore schema other × (IsThere schema other → ⊥)
@@ -47,8 +47,8 @@ abbrev pub is_before : StoreTable → Option StoreTable → Bool
 is_before table None = true
 is_before table (Some other) = nat_lt (place_of table) (place_of other)
 
--- the snapshots are read where they stand before that one. Where it is that of the groups, which stands before them, they
--- are read where the first table of their name is as a store has it
+-- the snapshots are read if they stand before the first that is absent or another. If that is the table of groups, they
+-- are read too, if the first table of their name is as a store has it
 abbrev pub reads_snapshots : Option StoreTable → Bool → Bool
 reads_snapshots (Some Group) are_there = are_there
 reads_snapshots other are_there = is_before Snapshot other
@@ -57,12 +57,13 @@ reads_snapshots other are_there = is_before Snapshot other
 abbrev pub earlier : StoreTable → StoreTable → StoreTable
 earlier a b = if nat_lt (place_of a) (place_of b) then a else b
 
--- what is told where this table has a row that breaks a rule
+-- the table that a fault names, if this table has a row that breaks a rule
 abbrev pub told_before : Option StoreTable → StoreTable → StoreTable
 told_before None table = table
 told_before (Some other) table = earlier table other
 
--- what is told of the schema where no row breaks a rule: where something stands beside the six, the first of all
+-- the table that a fault of the schema names, if no row breaks a rule. It is the first of all, if something stands
+-- beside the six
 abbrev pub told_for : Option StoreTable → StoreTable
 told_for None = Meta
 told_for (Some other) = other

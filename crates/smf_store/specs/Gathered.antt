@@ -1,4 +1,4 @@
--- What is read of the rows of the six tables, one after another.
+-- The value read from the rows of the six tables, one after another.
 use Rattle.std.specs.Prelude.{◌≡◌, List, [], ◌∷◌, ◌++◌}
 use Rattle.sqlite.specs.Order.{Row}
 use Rattle.sqlite_rules.specs.Lists.{Has}

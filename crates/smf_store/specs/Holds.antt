@@ -89,6 +89,6 @@ abbrev pub Leaves : Trees → Option Holdings → Type 0
 Leaves trees (Some h) = StandsIn trees h
 Leaves trees None = (h : Holdings) → ¬ StandsIn trees h
 
--- what an open after a crash now may find: a value, or none
+-- an open after a crash now may find this: a value, or none
 abbrev pub Could : State → Option Holdings → Type 0
 Could s found = HasCleanDisk s × (trees : Trees) × s.may_leave trees × Leaves trees found

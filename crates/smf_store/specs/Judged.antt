@@ -1,4 +1,5 @@
--- What the rows of the tables hold, or why it is no store that is opened: its version, or the first table that breaks the rules.
+-- The value that the rows of the tables hold, or why they are not opened as a store.
+-- The reason is the version, or the first table that breaks the rules.
 use Rattle.std.specs.Prelude.{ℕ, ℤ, pos, List, [], ◌∷◌, ◌++◌, ◌≡◌, ◌+◌, ◌==◌, ◌&&◌, not, nat_eq, nat_le, nat_lt, codes, length, Bool, true, false, Option, Some, None, is_some, is_none, Result, Ok, Err, if◌then◌else◌}
 use Rattle.std.specs.Cmp.Lexicographic.{pointwise}
 use Rattle.std.specs.List.{filter_map, list_all, list_any}
@@ -34,7 +35,7 @@ use Rattle.smf_store.specs.Readings.{◌>>=◌, given, integer_in, number_in, te
 
 -- ---- the counters
 
--- what is found of a key, with one value more
+-- the value found of a key, with one value more
 abbrev pub looked : Option ℤ → Option ℤ → Option (Option ℤ)
 looked None (Some v) = Some (Some v)
 looked None None = None
@@ -74,8 +75,8 @@ version_by (Some v) =
 unfoldable pub version_said : List Row → Result StoreVersion OpenFault
 version_said rows = version_by (value_of (codes "version") rows)
 
--- a key that may stand in a store of this version: that of the layout belongs to the second alone, and one that is no counter's
--- says nothing
+-- a key that may stand in a store of this version. The key of the layout belongs to the second version alone. A key
+-- that is no counter's says nothing
 abbrev pub may_stand : StoreVersion → List ℕ → Bool
 may_stand versions.First text = not (pointwise nat_eq text (codes "layout"))
 may_stand versions.Second text = true
@@ -114,7 +115,7 @@ abbrev pub is_up_to : ℕ → Option ℕ → Bool
 is_up_to last None = true
 is_up_to last (Some run) = nat_le run last
 
--- a row has no revision that is still to come, no run past its last, and no number past a limit; its base is not judged
+-- a row has no revision that is still to come, no run past its last, and no number past a limit. Its base is not judged
 abbrev pub is_right : ℕ → StateRow → Bool
 is_right revision row =
     nat_le row.err revision && nat_le row.stop revision && nat_le row.refresh revision && nat_le row.start revision
@@ -193,7 +194,7 @@ names_snapshots has i =
 abbrev pub names_held : (ℕ → Bool) → InstanceEntry → Bool
 names_held has e = names_snapshots has e.instance
 
--- the instances of these rows, where each snapshot that they name has a row
+-- the instances of these rows, if each snapshot that they name has a row
 unfoldable pub instances_said : List Row → List Row → Holdings → Option Holdings
 instances_said rows snapshots h =
     add_all add_instance h rows >>= (λ k. given (list_all (names_held (has_row snapshots)) k.instances) k)
@@ -224,7 +225,7 @@ is_launched h e = nat_le e.instance.row.launch (launch_of h e.instance.row.owner
 unfoldable pub launches_said : List Row → Holdings → Option Holdings
 launches_said rows h = add_all add_launch h rows >>= (λ k. given (list_all (is_launched k) k.instances) k)
 
--- the tables behind that of the counters
+-- the tables after that of the counters
 unfoldable pub tables_said : StoreRows → Holdings → Result Holdings OpenFault
 tables_said rows h =
     told tables.Service (add_all add_service h rows.services.items) (λ h1.
@@ -247,12 +248,12 @@ judged_as rows (Err e) = Err e
 judged_as rows (Ok version) =
     told tables.Meta (counters_said version rows.counts.items) (λ c. held_by version (tables_said rows (begun c)))
 
--- what is held, or why it is not opened
+-- the held value, or why it is not opened
 unfoldable pub judged : StoreRows → Result Holdings OpenFault
 judged rows = judged_as rows (version_said rows.counts.items)
 
--- what is told where the first table that is absent or another is this one, or where something stands beside the six: a
--- fault of the tables before it, or that one
+-- the fault of a database that is no store, by the first table that is absent or another.
+-- There is none, if the six are there and something stands beside them. A fault of the tables before it comes first
 abbrev pub broken_by : Option StoreTable → OpenFault → OpenFault
 broken_by other Memory = Memory
 broken_by other (Version n) = Version n
@@ -279,7 +280,7 @@ abbrev pub Takes : Bool → Option Holdings → Holdings → Type 0
 Takes true said new = said ≡ Some new
 Takes false said new = said ≡ None
 
--- the tables behind that of the counters were read
+-- the tables after that of the counters were read
 abbrev pub IsRead : {X : Type 0} → Result X OpenFault → Holdings → Result Holdings OpenFault → Type 0
 IsRead (Ok x) new given = given ≡ Ok new
 IsRead (Err Memory) new given = Unit {0}

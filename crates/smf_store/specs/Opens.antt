@@ -1,4 +1,4 @@
--- What the opening of a store does.
+-- The effects of the opening of a store.
 use Rattle.std.specs.Prelude.{◌≡◌, Ok}
 use Rattle.sqlite.specs.Effect.{Database}
 use Rattle.sqlite.specs.Held.{Held, state}
@@ -23,11 +23,11 @@ pub data IsStoreOf (db : Database) (h : Holdings) : Type 0 where
   in_second : Stands db h → IsStoreOf db h
   in_first : StandsFirst db h → IsStoreOf db h
 
--- a crash of an open may leave this in the file, besides what it could leave before:
--- of an empty database, a store of the empty value;
--- of a store of the second version, exactly what stood there;
--- of a store of the first version, a store of the second that holds the same value;
--- of any other database, nothing else.
+-- a crash of an open may leave this in the file, besides what it could leave before.
+-- An empty database: a store of the empty value.
+-- A store of the second version: exactly what stood there.
+-- A store of the first version: a store of the second that holds the same value.
+-- Any other database: nothing else.
 pub data MayOpen (old : State) (trees : Trees) : Type 0 where
   of_empty : old.now.schema ≡ no_schema → StandsIn trees empty → MayOpen old trees
   of_second : (h : Holdings) → Stands old.now h → trees ≡ old.now.trees → MayOpen old trees
@@ -37,8 +37,8 @@ pub data MayOpen (old : State) (trees : Trees) : Type 0 where
 abbrev pub MayFailToOpen : OpenFault → State → Trees → Type 0
 MayFailToOpen e old trees = IsFailure e × MayOpen old trees
 
--- a database was opened with this value: it stands there, or the database was empty; a crash within leaves what it could
--- leave before, or a store of this value
+-- a database was opened with this value: it stands there, or the database was empty. A crash within leaves what it
+-- could leave before, or a store of this value
 pub record IsOpenedAs {S : Type 0} (g : Ghosts S) (conn : Held S) (h : Holdings) : Type 0 where
   pub opened : Held S
   pub found : HasCleanDisk (state g opened) → IsFoundIn (state g conn) (state g opened) h

@@ -1,4 +1,4 @@
--- What a row says by its columns; none where it breaks the grammar of its table.
+-- The value that a row shows by its columns; none if it breaks the grammar of its table.
 use Rattle.std.specs.Prelude.{ℕ, ℤ, pos, List, [], ◌∷◌, ◌++◌, nat_eq, nat_le, Bool, Option, Some, None, option_map, Result, Ok, Err, if◌then◌else◌}
 use Rattle.std.specs.Cmp.Lexicographic.{pointwise}
 use Rattle.std.specs.Str.{is_utf8}
@@ -23,7 +23,7 @@ abbrev pub ◌>>=◌ : {A B : Type 0} → Option A → (A → Option B) → Opti
 None >>= f = None
 (Some x) >>= f = f x
 
--- where the test passes
+-- the value, if the test passes
 abbrev pub given : {A : Type 0} → Bool → A → Option A
 given test x = if test then Some x else None
 

@@ -37,7 +37,7 @@ counter_text Revision = codes "revision"
 counter_text NextInstance = codes "next_instance"
 counter_text NextSnapshot = codes "next_snapshot"
 
--- of a store of the version that is written
+-- the counters of a store of the version that is written
 abbrev pub count_of : Holdings → Counter → ℕ
 count_of h Version = 2
 count_of h Layout = 2
@@ -86,7 +86,7 @@ ShowsService name r = column r 1 ≡ Text name
 
 -- ---- the table of instances
 
--- a name is that of its service, a colon, and what stands behind it
+-- a name is that of its service, a colon, and the rest after it
 pub record IsSplit (whole front behind : List ℕ) : Type 0 where
   pub service : front ≡ short ++ service_of whole
   pub joined : whole ≡ front ++ 58 ∷ behind
@@ -111,7 +111,7 @@ pub record ShowsInstance (i : Instance) (r : Row) : Type 0 where
 
 -- ---- the table of groups
 
--- a group under the name of a service, with the number of the instance whose it is, or 0 where it is the service's own
+-- a group under the name of a service, with the number of its instance, or 0 if it is the service's own
 pub record OwnedGroup : Type 0 where
   pub service : List ℕ
   pub number : ℕ

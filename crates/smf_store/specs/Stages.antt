@@ -1,4 +1,4 @@
--- What the reading of a store does.
+-- The effects of the reading of a store.
 use Rattle.std.specs.Prelude.{◌≡◌, ◌⊎◌, ℕ, Bool, true, false, List, [], ◌∷◌, IsTrue, Option, Some, Result, Ok, Err}
 use Rattle.sqlite.specs.Order.{Row}
 use Rattle.sqlite.specs.Tree.{Trees}
@@ -44,8 +44,8 @@ pub record AreLookedFor (db : Database) (rows : List Row) : Type 0 where
   pub listed : (tree : ℕ) → StandsNamed db.schema (snap_at tree) → IsListed tree (0 ∷ 0 ∷ 2 ∷ 3 ∷ []) db.trees rows
   pub none : (StandsSomewhere db.schema snap_at → ⊥) → rows ≡ []
 
--- the rows of the snapshots, by which it is known which are there: where the groups, which stand before them, are absent or
--- others, they are looked for by the name of their table
+-- the rows of the snapshots, which show the snapshots that are there. If the table of groups, which stands before them,
+-- is absent or another, they are looked for by their table's name
 abbrev pub AreSnapshots : Option StoreTable → Database → List Row → Type 0
 AreSnapshots (Some tables.Group) db rows = AreLookedFor db rows
 AreSnapshots other db rows = ListedIf (is_before tables.Snapshot other) 8 (0 ∷ 0 ∷ 2 ∷ 3 ∷ []) db.trees rows
@@ -86,7 +86,7 @@ IsFailure (Version n) = ⊥
 IsFailure (Damaged table) = ⊥
 IsFailure TooManyInstances = ⊥
 
--- what the rows of these tables say
+-- the rows of these tables say this
 pub record Says (trees : Trees) (what : Result Holdings OpenFault) : Type 0 where
   pub rows : StoreRows
   pub listed : AreListed rows trees
@@ -100,22 +100,22 @@ IsSaid trees (Version n) = Says trees (Err (Version n))
 IsSaid trees (Damaged table) = Says trees (Err (Damaged table))
 IsSaid trees TooManyInstances = Says trees (Err TooManyInstances)
 
--- what the rows of the tables before the first that is absent or another say, or that one
+-- this fault comes from the rows of the tables before the first that is absent or another, or names that one
 pub record SaysBefore (other : Option StoreTable) (db : Database) (e : OpenFault) : Type 0 where
   pub rows : StoreRows
   pub listed : AreListedBefore other rows db
   pub said : e ≡ first_broken other (judged rows)
 
--- a fault that says something of the store is what is told so
+-- a fault is a failure, or it comes from the rows before that table
 abbrev pub IsSaidBefore : Option StoreTable → Database → OpenFault → Type 0
 IsSaidBefore other db e = IsFailure e ⊎ SaysBefore other db e
 
--- the tables of the schema are not those of a store, and this is told of them
+-- the tables of the schema are not those of a store, and this fault comes from them
 abbrev pub IsOther : Database → OpenFault → Type 0
 IsOther db e = (db.schema ≡ store_schema → ⊥) × (other : Option StoreTable) × IsFirstOther db.schema other × SaysBefore other db e
 
--- a fault that names a table or a version: the first table, in their order, that is absent, or another, or has a row that
--- breaks a rule
+-- a fault that names a table or a version. The table is the first, in their order, that is absent, or another, or has a
+-- row that breaks a rule
 abbrev pub IsRefused : Database → OpenFault → Type 0
 IsRefused db e = IsFailure e ⊎ (IsOther db e ⊎ ((db.schema ≡ store_schema) × IsSaid db.trees e))
 
@@ -146,7 +146,7 @@ pub record Opened (old new : State) (h : Holdings) : Type 0 where
   pub raised : IsRaised old.now new.now h
   pub keeps : Keeps new h
 
--- what the opening may leave in the file: what is there, or the same made a store of the second version
+-- the opening may leave this in the file: the store that is there, or the same made a store of the second version
 abbrev pub MayRead : State → Trees → Type 0
 MayRead old trees = (db : Database) × (h : Holdings) × IsRaised old.now db h × (trees ≡ db.trees)
 

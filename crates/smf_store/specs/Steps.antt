@@ -1,4 +1,4 @@
--- What each step of a write does.
+-- The effects of each step of a write.
 use Rattle.std.specs.Prelude.{◌≡◌, ◌⊎◌, ℕ, ◌<◌, List, length, true, IsTrue}
 use Rattle.sqlite.specs.Order.{Row}
 use Rattle.sqlite.specs.Table.{Table}
@@ -26,13 +26,13 @@ pub record Grows (service : List ℕ) (number : ℕ) (gs : List GroupRecord) (ol
   pub stays : (r : Row) → Has old r → Has new r
   pub keyed : IsKeyed new
 
--- inside a transaction, where the six tables are there
+-- inside a transaction, if the six tables are there
 pub record GrowsAll (service : List ℕ) (number : ℕ) (gs : List GroupRecord) (old new : State) : Type 0 where
   pub shows : Shows old new new.now old.committed true
   pub turns : old.now.schema ≡ store_schema → IsDatabase old.now → IsKeyed (old.now.trees grp.tree)
       → Turns (Grows service number gs) grp old.now new.now
 
--- where the store is open: for no group nothing is asked of it
+-- if the store is open; for no group nothing is asked of it
 abbrev pub GrowsBy : List ℕ → ℕ → List GroupRecord → State → State → Type 0
 GrowsBy service number gs old new = IsTrue old.is_open → GrowsAll service number gs old new
 
@@ -65,12 +65,12 @@ pub record Wrote (changes : List Change) (old new : State) : Type 0 where
   pub made : (h : Holdings) → Holds old.now h → Holds new.now (installed h changes)
   pub settled : new.committed ≡ new.now
 
--- what was committed is there, where the store is still open
+-- the committed database is there, if the store is still open
 pub record Kept (old new : State) : Type 0 where
   pub was_open : IsTrue new.is_open → IsTrue old.is_open
   pub same : IsTrue new.is_open → old.committed ≡ old.now → (new.now ≡ old.now) × (new.committed ≡ new.now)
 
--- what a write may leave in the file
+-- a write may leave this in the file
 abbrev pub MayCommit : List Change → State → Trees → Type 0
 MayCommit changes old trees =
     IsTrue old.is_open × (db : Database) × ((h : Holdings) → Holds old.now h → Holds db (installed h changes))

@@ -152,7 +152,7 @@ one_count c d r p q =
     let value : c.value ≡ d.value = int_is c.value d.value (sym p.value_is ∙ q.value_is) in
     λ z. record { counter = counter z; value = value z }
 
--- what one value has, another that the same rows show has too
+-- a member of one value is a member of another that the same rows show
 goes : {X : Type 0} {M N : X → Type 0} {S : X → Row → Type 0} (rows : List Row) → ((x y : X) (r : Row) → S x r → S y r → x ≡ y) → Listed M S rows → Listed N S rows → (x : X) → M x → N x
 goes {N = N} rows one p q x m =
     let r = p.there x m in

@@ -10,7 +10,7 @@ use smf_model::{Instance, InstanceEntry, Tables};
 use sqlite::Row;
 use std::alloc::{AllocError, Global};
 
-/// Whether a snapshot that is named is there, and is of the instance of this number.
+/// True if a snapshot that is named is there, and is of the instance of this number, or none is named.
 fn is_own(tables: &Tables, number: u64, snapshot: Option<u64>) -> bool
     ensures { result ≡ is_own tables.now number snapshot }
 {
@@ -33,7 +33,7 @@ fn is_held(tables: &Tables, number: u64, snapshot: Option<Number>) -> bool
     }
 }
 
-/// Whether each snapshot that an instance names is there, and is its own.
+/// True if each snapshot that an instance names is there, and is its own.
 fn names_own(tables: &Tables, instance: &Instance) -> bool
     ensures { result ≡ names_own tables.now instance.now }
 {
@@ -44,7 +44,7 @@ fn names_own(tables: &Tables, instance: &Instance) -> bool
     is_own(tables, number, instance.row.running) && is_own(tables, number, instance.row.begun)
 }
 
-/// Whether this holds of each instance.
+/// True if this holds for each instance.
 fn all_name_own(tables: &Tables) -> bool
     ensures { result ≡ list_all (entry_names_own tables.now) tables.now.instances }
 {
@@ -76,7 +76,7 @@ pub(crate) fn gather_own(
     Ok(true)
 }
 
-/// Whether the launch of an instance's row is not past the last of its restarter.
+/// True if the launch of an instance's row is not past the last of its restarter.
 fn is_launched(tables: &Tables, entry: &InstanceEntry) -> bool
     ensures { result ≡ is_launched tables.now entry.now }
 {
@@ -84,7 +84,7 @@ fn is_launched(tables: &Tables, entry: &InstanceEntry) -> bool
     row.launch <= tables.launch_of(&row.owner)
 }
 
-/// Whether this holds of each instance.
+/// True if this holds for each instance.
 fn are_launched(tables: &Tables) -> bool
     ensures { result ≡ list_all (is_launched tables.now) tables.now.instances }
 {

@@ -34,7 +34,7 @@ pub(crate) struct Counters {
 /// The greatest number that may come next for an instance.
 pub(crate) const MAX_NEXT_INSTANCE: u64 = 0x100_0000;
 
-/// Whether a row has a key.
+/// True if a row has a key.
 fn has_key(row: &Row, key: &str) -> bool
     ensures exact { result ≡ has_text key.now (text_in (column row.now 1)) }
     ensures same { IsTrue result → column row.now 1 ≡ Text key.now }
@@ -46,7 +46,7 @@ fn has_key(row: &Row, key: &str) -> bool
     text == key
 }
 
-/// What is found of a key, with one row more.
+/// The value found of a key, with one row more.
 #[tactic(auto, unfolding(crate::specs::Judged::look))]
 fn look_at(row: &Row, key: &str, found: Option<i64>) -> Option<Option<i64>>
     ensures exact { result ≡ look key.now found row.now }
@@ -127,7 +127,7 @@ pub(crate) fn version_said(rows: &[Row]) -> Result<StoreVersion, OpenFault>
     Err(OpenFault::Version(version))
 }
 
-/// Whether a key may stand in a store of this version.
+/// True if a key may stand in a store of this version.
 fn may_stand(version: StoreVersion, text: &str) -> bool
     ensures { result ≡ may_stand version text.now }
 {
@@ -137,7 +137,7 @@ fn may_stand(version: StoreVersion, text: &str) -> bool
     }
 }
 
-/// Whether the key of a row is a text and may stand there.
+/// True if the key of a row is a text and may stand there.
 #[tactic(auto, unfolding(crate::specs::Judged::is_known))]
 fn is_known(version: StoreVersion, row: &Row) -> bool
     ensures { result ≡ is_known version row.now }
@@ -154,7 +154,7 @@ fn are_keys(version: StoreVersion, rows: &[Row]) -> bool
     rows.iter().all(|row| is_known(version, row))
 }
 
-/// Whether the key of each row is a text and may stand there.
+/// True if the key of each row is a text and may stand there.
 fn are_known(version: StoreVersion, rows: &[Row]) -> bool
     ensures exact { result ≡ list_all (is_known version) rows.now }
     ensures known { IsTrue result → (r : AnyRow) → Has rows.now r → IsKnown version r }
@@ -162,7 +162,7 @@ fn are_known(version: StoreVersion, rows: &[Row]) -> bool
     are_keys(version, rows)
 }
 
-/// Whether the rows show the layout of their version.
+/// True if the rows show the layout of their version.
 #[tactic(auto, unfolding(crate::specs::Judged::has_layout))]
 fn has_layout(version: StoreVersion, rows: &[Row]) -> bool
     ensures exact { result ≡ has_layout version rows.now }
@@ -177,7 +177,7 @@ fn has_layout(version: StoreVersion, rows: &[Row]) -> bool
     }
 }
 
-/// Whether there are numbers for so many instances. A store of the first version is asked when all of it was read.
+/// True if there are numbers for so many instances. A store of the first version is judged after all of it was read.
 fn is_within(version: StoreVersion, next: Number) -> bool
     ensures { result ≡ is_within version next }
 {

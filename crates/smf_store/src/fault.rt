@@ -10,7 +10,7 @@ use std::alloc::AllocError;
 #[derive(Clone, Copy, PartialEq, Eq)]
 pub(crate) enum WriteFault {
     Memory,
-    /// A statement failed, or a change that no command makes was told.
+    /// A statement failed, or the store was given a change that no command makes.
     Database,
 }
 

@@ -76,7 +76,7 @@ pub(crate) fn split(alloc: Global, name: &InstanceFmri) -> Result<Columns, Write
     }
 }
 
-/// Whether these are the columns of a row that was read.
+/// True if these are the columns of a row that was read.
 pub(crate) fn are_same(columns: &Columns, read: &NameColumns) -> bool
     ensures service { IsTrue result → string_bytes read.now.service ≡ columns.now.service }
     ensures name { IsTrue result → string_bytes read.now.name ≡ columns.now.name }

@@ -184,7 +184,7 @@ fn state_said(alloc: Global, row: &Row) -> Result<Option<StateRow>, AllocError>
     }
 }
 
-/// Whether a run is not behind the last.
+/// True if a run is not past the last.
 fn is_up_to(last: u64, run: Option<u64>) -> bool
     ensures { result ≡ is_up_to last run }
 {
@@ -194,7 +194,7 @@ fn is_up_to(last: u64, run: Option<u64>) -> bool
     }
 }
 
-/// Whether a row keeps revisions up to this alone, runs up to its last, and numbers within their limits. Its base is no
+/// True if a row keeps revisions up to this alone, runs up to its last, and numbers within their limits. Its base is no
 /// revision of an event, and is not judged.
 fn is_right(row: &StateRow, revision: u64) -> bool
     ensures exact { result ≡ is_right revision row.now }
@@ -245,8 +245,8 @@ fn instance_said(alloc: Global, row: &Row) -> Result<Option<Instance>, AllocErro
     }))
 }
 
-/// Whether an instance may be held beside those that are: its number was given, nothing has its number or its name, its
-/// service is there, and its row is right.
+/// True if an instance may be held beside those that are. Its number was given, no other has its number or its name,
+/// its service is there, and its row is right.
 fn is_new(alloc: Global, tables: &Tables, instance: &Instance) -> Result<bool, AllocError>
     ensures exact { IfOk result (λ new. new ≡ is_new tables.now instance.now) }
     ensures above { IfOk result (λ new. IsTrue new → 0 < instance.now.number) }
@@ -545,7 +545,7 @@ pub(crate) fn gather_groups(
     Ok(true)
 }
 
-/// Whether a restarter was launched.
+/// True if a restarter was launched.
 fn was_launched(launches: &[Launch], restarter: &InstanceFmri) -> bool
     ensures { result ≡ list_any (has_key by_launch restarter.now) launches.now }
 {
@@ -607,7 +607,7 @@ fn numbers_of(alloc: Global, rows: &[Row]) -> Result<BTreeSet<u64>, AllocError>
         .collect(alloc)
 }
 
-/// Whether a snapshot that is named is there.
+/// True if a snapshot that is named is there, or none is named.
 fn is_there(numbers: &BTreeSet<u64>, number: Option<u64>) -> bool
     ensures { result ≡ is_there (contains nat_cmp numbers.now) number }
 {
@@ -627,7 +627,7 @@ fn has(numbers: &BTreeSet<u64>, number: Option<Number>) -> bool
     }
 }
 
-/// Whether the snapshots that an instance names are there.
+/// True if the snapshots that an instance names are there.
 fn names_snapshots(numbers: &BTreeSet<u64>, instance: &Instance) -> bool
     ensures { result ≡ names_snapshots (contains nat_cmp numbers.now) instance.now }
 {
@@ -637,7 +637,7 @@ fn names_snapshots(numbers: &BTreeSet<u64>, instance: &Instance) -> bool
     is_there(numbers, instance.row.running) && is_there(numbers, instance.row.begun)
 }
 
-/// Whether the snapshots that these instances name are there.
+/// True if the snapshots that these instances name are there.
 fn name_held(numbers: &BTreeSet<u64>, entries: &[InstanceEntry]) -> bool
     ensures { result ≡ list_all (names_held (contains nat_cmp numbers.now)) entries.now }
 {
@@ -646,7 +646,7 @@ fn name_held(numbers: &BTreeSet<u64>, entries: &[InstanceEntry]) -> bool
         .all(|entry| names_snapshots(numbers, &entry.instance))
 }
 
-/// Whether each snapshot that an instance names has a row.
+/// True if each snapshot that an instance names has a row.
 fn have_rows(alloc: Global, tables: &Tables, snapshots: &[Row]) -> Result<bool, AllocError>
     ensures { IfOk result (λ all. all ≡ list_all (names_held (has_row snapshots.now)) tables.now.instances) }
 {

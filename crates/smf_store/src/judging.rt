@@ -24,14 +24,14 @@ pub(crate) struct StoreRows {
     pub(crate) launches: Vec<Row>,
 }
 
-/// What stands in a store, and in which version.
+/// The contents of a store, and its version.
 #[derive(Drop)]
 pub(crate) struct Judgement {
     pub(crate) version: StoreVersion,
     pub(crate) tables: Tables,
 }
 
-/// Puts in what the tables behind that of the counters show.
+/// Puts in what the tables after that of the counters show.
 #[tactic(auto, unfolding(crate::specs::Judged::tables_said))]
 fn read_tables(alloc: Global, rows: &StoreRows, tables: &mut Tables) -> Result<(), OpenFault>
     ensures exact { IsRead result tables.new (tables_said rows.now tables.old) }
@@ -72,7 +72,7 @@ fn read_tables(alloc: Global, rows: &StoreRows, tables: &mut Tables) -> Result<(
     Ok(())
 }
 
-/// Whether there are numbers for so many instances as a store of the first version may have.
+/// True if a store of the first version has given more numbers than there are for instances.
 fn is_past(version: StoreVersion, tables: &Tables) -> bool
     ensures past { IsTrue result → fitting version tables.now ≡ Err OpenFault.TooManyInstances }
     ensures fits { result ≡ false → fitting version tables.now ≡ Ok tables.now }
@@ -83,7 +83,7 @@ fn is_past(version: StoreVersion, tables: &Tables) -> bool
     }
 }
 
-/// What the rows of a store show.
+/// The value that the rows of a store show, and its version.
 #[tactic(auto, unfolding(crate::specs::Judged::judged))]
 pub(crate) fn judge(alloc: Global, rows: &StoreRows) -> Result<Judgement, OpenFault>
     ensures exact { IsJudged result (judged rows.now) }
@@ -113,7 +113,7 @@ pub(crate) fn judge(alloc: Global, rows: &StoreRows) -> Result<Judgement, OpenFa
     Ok(Judgement { version, tables })
 }
 
-/// What is told of a fault where the first table that is absent or another is this one.
+/// The fault to report. `other` is the first table that is absent or another.
 fn broken_by(fault: OpenFault, other: Option<StoreTable>) -> OpenFault
     ensures { result ≡ broken_by other fault }
 {
@@ -125,8 +125,8 @@ fn broken_by(fault: OpenFault, other: Option<StoreTable>) -> OpenFault
     }
 }
 
-/// The first table that breaks a rule, where the first that is absent or another is this one and those before it have these
-/// rows.
+/// The fault that names the first table that breaks a rule. `other` is the first table that is absent or another, and
+/// those before it have these rows.
 #[tactic(auto, using(crate::proofs::Verdicts::broken_none, crate::proofs::Verdicts::broken_some))]
 pub(crate) fn find_broken(alloc: Global, rows: &StoreRows, other: Option<StoreTable>) -> OpenFault
     ensures { IsBroken result (first_broken other (judged rows.now)) }

@@ -1,9 +1,12 @@
 //! The repository in the tables of a database.
-//! Modules: `creating` (the six tables of a new store), `fault` (why a write fails), `fields` (what rows hold),
-//! `rows` (rows put in), `making` (one change), `writing` (all changes of a command), `cells` (values of a row that is
-//! read), `counting` (the counters), `gathering` (rows made what is held), `agreement` (whether a table agrees with the earlier ones), `judging` (the rows of all tables), `places`
-//! (the order of the tables), `reading` (their queries), `opening` (all of a store, in either version), `refusal` (why a
-//! store is not opened), `store` (the journal), `repository` (the repository over a store).
+//! Rows: `creation` (the six tables of a new store), `fields` (what rows hold), `rows` (rows put in), `fault` (why a
+//! write fails).
+//! Changes: `changes` (one change), `writes` (all changes of a command).
+//! Reads of rows: `cells` (values of a row), `counter_rows` (the counters), `additions` (the value that rows make).
+//! Judgements: `agreement` (the agreement of a table with the earlier ones), `judgements` (the rows of all tables).
+//! Opens: `places` (the order of the tables), `queries` (their queries), `opens` (all of a store, in either version),
+//! `refusal` (why a store is not opened).
+//! The whole: `store` (the journal), `repository` (the repository over a store).
 #![tactic(auto)]
 
 mod agreement;

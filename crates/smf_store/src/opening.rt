@@ -108,8 +108,8 @@ fn first_other(schema: &Schema) -> Option<StoreTable>
     None
 }
 
-/// What is told where the tables are not those of a store: the first that is absent, or another, or has a row that breaks
-/// a rule.
+/// The fault of tables that are not those of a store. It names the first that is absent, or another, or has a row that
+/// breaks a rule.
 fn find_fault<S: Alter>(
     alloc: Global,
     tx: &mut Transaction<'_, S>,
@@ -145,7 +145,7 @@ fn refuse<S: Alter>(alloc: Global, conn: &mut Connection<S>) -> OpenFault
     find_fault(alloc, &mut tx, other, are_there)
 }
 
-/// What the tables of a store hold. The database stays as it is, but for one of the first version.
+/// The value that the tables of a store hold. The database stays as it is, but for one of the first version.
 pub(crate) fn read_store<S: Alter>(
     alloc: Global,
     conn: &mut Connection<S>,

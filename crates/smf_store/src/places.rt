@@ -17,7 +17,7 @@ fn place_of(table: StoreTable) -> usize
     }
 }
 
-/// Whether a table stands before the first that is absent or another.
+/// True if a table stands before the first that is absent or another.
 pub(crate) fn is_before(table: StoreTable, other: Option<StoreTable>) -> bool
     ensures { result ≡ is_before table other }
 {
@@ -27,8 +27,8 @@ pub(crate) fn is_before(table: StoreTable, other: Option<StoreTable>) -> bool
     }
 }
 
-/// Whether the snapshots are read: those before that table, and where it is that of the groups, which stands before them,
-/// those of the first table of their name, if it is as a store has it.
+/// True if the snapshots are read: they stand before the first table that is absent or another. If that is the table of
+/// groups, they are read too, if the first table of their name is as a store has it.
 pub(crate) fn reads_snapshots(other: Option<StoreTable>, are_there: bool) -> bool
     ensures { result ≡ reads_snapshots other are_there }
 {
@@ -48,7 +48,7 @@ fn earlier(table: StoreTable, other: StoreTable) -> StoreTable
     other
 }
 
-/// What is told where a table has a row that breaks a rule.
+/// The table that a fault names, if this table has a row that breaks a rule.
 pub(crate) fn told_before(other: Option<StoreTable>, table: StoreTable) -> StoreTable
     ensures { result ≡ told_before other table }
 {
@@ -58,7 +58,7 @@ pub(crate) fn told_before(other: Option<StoreTable>, table: StoreTable) -> Store
     }
 }
 
-/// What is told of the schema where no row breaks a rule.
+/// The table that a fault of the schema names, if no row breaks a rule.
 pub(crate) fn told_for(other: Option<StoreTable>) -> StoreTable
     ensures { result ≡ told_for other }
 {

@@ -18,7 +18,7 @@ use smf_tables::{
 use sqlite::{Alter, Row, Transaction};
 use std::alloc::Global;
 
-/// Whether each table shows each rowid once.
+/// True if each table shows each rowid once.
 fn are_all_keyed(rows: &StoreRows) -> bool
     ensures { IsTrue result → AreAllKeyed rows.now }
 {
@@ -146,7 +146,7 @@ fn snapshots_if<S: Alter>(
     requires { IsInside S.Store tx.old.conn.now }
     ensures same_reference { tx.new.conn.ghost_name ≡ tx.old.conn.ghost_name }
     ensures ok { Reads (λ old new rows. LooksIf looks LooksAtSnapshots old new rows.items) S.Store tx.old.conn.now tx.new.conn.now result }
-    // Also where the tables before it are others than those of a store.
+    // Also if the tables before it are others than those of a store.
     ensures named { Reads (λ old new rows. LooksIf looks LooksForSnapshots old new rows.items) S.Store tx.old.conn.now tx.new.conn.now result }
     ensures kept { HasCleanDisk (state S.Store tx.new.conn.now) → KeepsCommit (state S.Store tx.old.conn.now) (state S.Store tx.new.conn.now) }
     ensures inside { IfOk result (λ _. IsInside S.Store tx.new.conn.now) }
@@ -179,8 +179,8 @@ fn launches_if<S: Alter>(
     }
 }
 
-/// All rows of the tables before the first that is absent or another. Where it is that of the groups, the snapshots behind it
-/// are read too, if they are there, so that it is known which an instance may name.
+/// All rows of the tables before the first that is absent or another. If that is the table of groups, the snapshots
+/// after it are read too, if they are there. They show which an instance may name.
 pub(crate) fn read_before<S: Alter>(
     alloc: Global,
     tx: &mut Transaction<'_, S>,

@@ -26,14 +26,14 @@ pub fn open_repository<S: Alter>(
     ensures stands { IfOk result (λ r. IsSound (state S.Store r.journal.conn) → Keeps (state S.Store r.journal.conn) r.held) }
     ensures sound { IfOk result (λ r. HasCleanDisk (state S.Store r.journal.conn) → IsSound (state S.Store r.journal.conn)) }
     ensures found { IfOk result (λ r. HasCleanDisk (state S.Store r.journal.conn) → IsFoundIn (state S.Store conn) (state S.Store r.journal.conn) r.held) }
-    // Also where the disk is not clean.
+    // Also if the disk is not clean.
     ensures numbered { IfOk result (λ r. IsNumbered r.held) }
     ensures named { IfOk result (λ r. NameOwn r.held) }
     ensures launched { IfOk result (λ r. AreLaunched r.held) }
     // The value keeps the rules that commands keep, if no row with the number 0 keeps a launch.
     // No open judges this one.
     ensures consistent { IfOk result (λ r. HasCleanDisk (state S.Store r.journal.conn) → AreUnlaunched r.held → IsConsistent r.held) }
-    // What callers need that see no store.
+    // Callers that see no store need these.
     ensures opened { IfOk result (λ r. IsOpenedAs S.Store conn r.held) }
     ensures crash { IfOk result (λ r. LeavesOr MayOpen S.Store conn r.journal.conn) }
     // A fault that names a version or a table says what the rows of the tables say.

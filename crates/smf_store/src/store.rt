@@ -33,15 +33,15 @@ pub struct Store<S: Alter> {
 }
 
 impl<S: Alter> Store<S> {
-    /// The journal over a database that is open. What stands in it is what its tables show.
+    /// The journal over a database that is open. The value that its tables show stands in it.
     pub fn over(alloc: Global, conn: Connection<S>) -> Store<S>
         ensures { result.conn ≡ conn }
     {
         Store { alloc, conn }
     }
 
-    /// Makes the tables of an empty database, which show that nothing is held: all of them or none. Where it is not
-    /// empty or a statement fails, the database is handed back.
+    /// Makes the tables of an empty database, which show that nothing is held: all of them or none. If it is not empty
+    /// or a statement fails, the caller gets the database back.
     pub fn create(
         alloc: Global,
         mut conn: Connection<S>,
@@ -70,7 +70,7 @@ impl<S: Alter> Store<S> {
         ensures stands { IfOk result (λ p. IsSound (state S.Store p.0.conn) → Keeps (state S.Store p.0.conn) p.1) }
         ensures sound { IfOk result (λ p. HasCleanDisk (state S.Store p.0.conn) → IsSound (state S.Store p.0.conn)) }
         ensures found { IfOk result (λ p. HasCleanDisk (state S.Store p.0.conn) → IsFoundIn (state S.Store conn) (state S.Store p.0.conn) p.1) }
-        // Also where the disk is not clean.
+        // Also if the disk is not clean.
         ensures numbered { IfOk result (λ p. IsNumbered p.1) }
         // Each snapshot that an instance names is there, and is its own.
         ensures named { IfOk result (λ p. NameOwn p.1) }
@@ -107,7 +107,7 @@ impl<S: Alter> Store<S> {
     }
 }
 
-/// Whether a database has no tables, indexes and views.
+/// True if a database has no tables, indexes and views.
 fn is_bare(schema: &Schema) -> bool
     ensures { IsTrue result ↔ (schema.now ≡ no_schema) }
 {

@@ -1,4 +1,4 @@
--- What stands above an instance does not depend on who runs it.
+-- The service above an instance does not depend on who runs the instance.
 use Rattle.std.proofs.Common.{◌≡◌, ℕ, List, Bool, true, false, Option, Some, None, refl, sym, ◌∙◌, ap}
 use Rattle.std.specs.Prelude.{option_map}
 use Rattle.smf_model.specs.declared.held.Instance.{Instance}

@@ -1,4 +1,4 @@
--- The names that stand behind a prefix stand together.
+-- The names that begin with a prefix stand together.
 use Rattle.std.proofs.Common.{◌≡◌, ℕ, zero, suc, List, [], ◌∷◌, ◌++◌, ◌⊎◌, length, drop, Bool, true, false, cond, Option, Some, None, inl, inr, refl, sym, ◌∙◌, ap, subst}
 use Rattle.std.proofs.lemmas.Bool.Decides.{Decides-eqb}
 use Rattle.std.proofs.lemmas.List.{append-nil}
@@ -49,7 +49,7 @@ not_less_first Less s e h = absurd cc
 not_less_first Equal s e h = h
 not_less_first Greater s e h = absurd cc
 
--- what begins with a prefix is not below it
+-- a text that begins with a prefix is not below it
 not_below : (p rest : List ℕ) → slice_cmp nat_cmp (p ++ rest) p ≡ Less → ⊥
 not_below [] [] h = cc
 not_below [] (b ∷ bs) h = cc
@@ -68,7 +68,7 @@ between_by Equal p a x b c d e h k f =
     let t = f h k in
     (t.0, ap (λ (n : ℕ). n ∷ x) (sym (exact_unsigned c d e)) ∙ ap (λ (l : List ℕ). c ∷ l) t.1)
 
--- what stands between two that begin with a prefix begins with it
+-- a text between two that begin with a prefix begins with it
 between : (p a x b : List ℕ) → slice_cmp nat_cmp (p ++ a) x ≡ Less → slice_cmp nat_cmp x (p ++ b) ≡ Less → (rest : List ℕ) × (x ≡ p ++ rest)
 between [] a x b h k = (x, refl)
 between (c ∷ p) a [] b h k = absurd cc
@@ -88,7 +88,7 @@ head_below p x y (inl l) h s =
     between p [] x s.0 (subst (λ (t : List ℕ). slice_cmp nat_cmp t x ≡ Less) (sym (append-nil p)) l) (subst (λ (t : List ℕ). slice_cmp nat_cmp x t ≡ Less) s.1 h)
 head_below p x y (inr e) h s = ([], sym e ∙ sym (append-nil p))
 
--- behind one that does not begin with the prefix none does
+-- after a name that does not begin with the prefix, none does
 none_behind : (p x : List ℕ) (ns : List InstanceName) → IsFrom p x → (HasHead p x → ⊥) → IsBelowFirst by_name x ns → Rises by_name ns → lines_behind p ns ≡ []
 none_behind p x [] l none b r = refl
 none_behind p x (n ∷ ns) l none b r =

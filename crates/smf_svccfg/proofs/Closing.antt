@@ -3,7 +3,7 @@ use Rattle.std.proofs.Common.{◌≡◌, ℕ, zero, suc, ◌+◌, List, [], ◌�
 use Rattle.smf_svccfg.specs.declared.token.Token.{Token}
 use Rattle.smf_svccfg.specs.Lines.{no_tokens, onto}
 
--- words, and further ones behind them, if there are any to be had
+-- words, and further ones after them, if there are any to be had
 abbrev pub behind : List (List ℕ) → Option (List (List ℕ)) → Option (List (List ℕ))
 behind ws None = None
 behind ws (Some others) = Some (ws ++ others)
@@ -17,7 +17,7 @@ pub one_more : (ws : List (List ℕ)) (word : List ℕ) (o : Option (List (List 
 one_more ws word None = refl
 one_more ws word (Some others) = ap Some (append_assoc ws (word ∷ []) others)
 
--- whether nothing is left
+-- no tokens are left exactly if their count is 0
 pub none_left : (ts : List Token) (i left : ℕ) → left + i ≡ length ts → no_tokens (drop i ts) ≡ eqb left 0
 none_left [] zero zero e = refl
 none_left [] zero (suc left) e = absurd (omega arith)

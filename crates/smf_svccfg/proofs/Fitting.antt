@@ -1,4 +1,4 @@
--- What a line comes to is of the repository and of what is selected.
+-- A line selects or edits only what the repository has or what is selected.
 use Rattle.std.proofs.Common.{◌≡◌, ℕ, List, ◌∷◌, ◌++◌, Bool, true, false, cond, Option, Some, None, IfSome, Result, Ok, Err, IfOk, inl, inr, refl, ap, subst}
 use Rattle.std.specs.Prelude.{is_some, option_map}
 use Rattle.smf_fmri.specs.declared.fault.FmriFault.{FmriFault}

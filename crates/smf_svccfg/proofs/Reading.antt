@@ -34,7 +34,7 @@ nothing_in bytes line i e high = ap (λ (l : List ℕ). drop i l) (sym e) ∙ no
 
 -- ---- what a reader gives with what stands before it
 
--- all tokens, where a reader has come to a place
+-- all tokens, if a reader has come to a place
 abbrev whole_at : Place → List ℕ → List Token → Rest → List Token
 whole_at places.Between word ts r = ts ++ r.tokens
 whole_at places.Bare word ts r = ts ++ tokens.Bare (word ++ r.word) ∷ r.tokens
@@ -49,7 +49,7 @@ whole p word ts (Err e) = Err e
 abbrev Behind : Type 0
 Behind = Place → Result Rest LineFault
 
--- what a reader gives, with what is left by where it stands
+-- the tokens of a reader, with those of the bytes that are left, by the reader's place
 abbrev given_with : Behind → Result Reading LineFault → Result (List Token) LineFault
 given_with behind (Ok r) = whole r.place r.word r.tokens (behind r.place)
 given_with behind (Err e) = Err e
@@ -60,7 +60,7 @@ left_from at rest p = read_from p at rest
 abbrev given : Reading → ℕ → List ℕ → Result (List Token) LineFault
 given r at rest = given_with (left_from at rest) (Ok r)
 
--- no word has begun where none may
+-- no word has begun at a place that has none
 abbrev IsFormed : Place → List ℕ → Type 0
 IsFormed places.Between word = word ≡ []
 IsFormed places.Closed word = word ≡ []
@@ -101,7 +101,7 @@ begins_by false false false false false at b ts behind = bare_is ts b (behind pl
 begins_is : (at b : ℕ) (ts : List Token) (behind : Behind) → whole places.Between [] ts (begins at b behind) ≡ given_with behind (begun at b [] ts)
 begins_is at b ts behind = begins_by (is_blank b) (eqb b 40) (eqb b 41) (eqb b 34) (eqb b 92) at b ts behind
 
--- where no word has begun, none goes on
+-- no word goes on, as none has begun
 abbrev HasNoWord : Result Rest LineFault → Type 0
 HasNoWord (Ok r) = r.word ≡ []
 HasNoWord (Err e) = Unit {0}
@@ -134,7 +134,7 @@ begins_no_word at b behind =
     (either_no_word (eqb b 34) _ _ (quoted_no_word (behind (places.Quoted at)))
     (either_no_word (eqb b 92) (Err (Quote at)) _ tt (bare_no_word b (behind places.Bare))))))
 
--- a bare word ends where no word goes on
+-- a bare word ends if no word goes on
 bare_ends : (word : List ℕ) (ts : List Token) (r : Result Rest LineFault) → HasNoWord r → whole places.Bare word ts r ≡ whole places.Between [] (ts ++ tokens.Bare word ∷ []) r
 bare_ends word ts (Ok r) h =
     ap (λ (l : List ℕ). Ok (ts ++ tokens.Bare l ∷ r.tokens)) (ap (λ (l : List ℕ). word ++ l) h ∙ append-nil word) ∙ ap Ok (sym (append_assoc ts (tokens.Bare word ∷ []) r.tokens))
@@ -248,7 +248,7 @@ around_by xs ys bs b e u low =
 pub around : (xs ys : List ℕ) (b : ℕ) → IsUtf8 (xs ++ b ∷ ys) → b < 128 → IsAround xs b ys
 around xs ys b u low = around_by xs ys (xs ++ b ∷ ys) b refl u low
 
--- the word that has begun with what is left, and that none has begun where none may
+-- the word that has begun is text with the bytes that are left, and no word has begun at a place that has none
 abbrev IsSound : List ℕ → Result Reading LineFault → Type 0
 IsSound bs (Ok r) = IsUtf8 (r.word ++ bs) × IsFormed r.place r.word
 IsSound bs (Err e) = Unit {0}
@@ -335,7 +335,7 @@ read_on line rest bs r s at b so_far e h =
       gives = ap (given_with (left_from (at + 1) bs)) (sym h) ∙ sym (given_step r at b bs so_far.formed) ∙ ap (given r at) (sym e) ∙ so_far.gives;
     }
 
--- the word is text where a byte of ASCII comes next
+-- the word is text if a byte of ASCII comes next
 pub word_is_text : (line rest bs : List ℕ) (r : Reading) (at b : ℕ) → IsRead line r at rest → rest ≡ b ∷ bs → b < 128 → IsUtf8 r.word
 word_is_text line rest bs r at b so_far e low = (around r.word bs b (subst (λ (l : List ℕ). IsUtf8 (r.word ++ l)) e so_far.text) low).before
 

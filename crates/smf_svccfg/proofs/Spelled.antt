@@ -12,11 +12,11 @@ or_parts : (a b : Bool) → (a || b) ≡ false → (a ≡ false) × (b ≡ false
 or_parts true b h = absurd cc
 or_parts false b h = (refl, h)
 
--- a word, and tokens behind it
+-- a word, and tokens after it
 abbrev with_word : List ℕ → List Token → Result Rest LineFault
 with_word word ts = Ok (record { word = word; tokens = ts })
 
--- what stands behind is read, wherever it stands
+-- the rest is read as these tokens, at any place of a line
 abbrev IsBehind : List ℕ → List Token → Type 0
 IsBehind rest ts = (at : ℕ) → read_from places.Between at rest ≡ with_word [] ts
 

@@ -1,4 +1,4 @@
--- What a line is judged to be, where something is selected in a repository.
+-- How a line is judged, by a repository and by the selection.
 use Rattle.std.specs.Fmt.{decimal}
 use Rattle.std.specs.Prelude.{◌≡◌, ◌==◌, ◌⊎◌, ℕ, List, ◌∷◌, ◌++◌, nat_eq, codes, Bool, false, true, if◌then◌else◌, Option, Some, None, is_some, option_map, Result, Ok, Err}
 use Rattle.std.specs.Cmp.Lexicographic.{pointwise}
@@ -32,7 +32,7 @@ use Rattle.smf_svccfg.specs.declared.selection.Judged.TheVariants as judgements
 use Rattle.smf_svccfg.specs.Lines.{command_text, name_in, line_of}
 use Rattle.smf_svccfg.specs.Listed.{children_text, groups_in, groups_text, properties_text, snapshots_in, snapshots_text}
 
--- what a call returned is what the definition gives, unless memory ran out
+-- a call returned what the definition gives, unless memory ran out
 abbrev pub Fails : {X : Type 0} → CfgFault → Result X CfgFault → Type 0
 Fails Memory given = Unit {0}
 Fails e given = given ≡ Err e
@@ -77,7 +77,7 @@ abbrev pub child_or : Option Owner → Option Owner → Option Owner
 child_or (Some owner) other = Some owner
 child_or None other = other
 
--- what a word names: a child of what is selected, else an entity in full
+-- the owner that a word names: a child of what is selected, else an entity in full
 abbrev pub named_by : Holdings → Selection → List ℕ → Option Owner
 named_by h s word = child_or (child h s word) (entity h word)
 
@@ -94,7 +94,7 @@ instance_in (selected.Service s) = None
 instance_in (selected.Instance n) = Some n
 instance_in (selected.Snapshot n name) = Some n
 
--- what stands above an instance: its service, or nothing where it is not there any more
+-- the selection above an instance: its service, or nothing if the instance is not there any more
 abbrev pub above_instance : Option Instance → Selection
 above_instance None = selected.Nothing
 above_instance (Some i) = selected.Service (service_fmri i.name)
@@ -156,13 +156,13 @@ abbrev pub deleting : Owner → Edit
 deleting (owners.Service name) = edits.DeleteService name
 deleting (owners.Instance n) = edits.DeleteInstance n
 
--- whether what is selected is what is deleted
+-- true if the owner that is deleted is selected
 abbrev pub is_owner : Selection → Owner → Bool
 is_owner (selected.Service a) (owners.Service b) = pointwise nat_eq a b
 is_owner (selected.Instance m) (owners.Instance n) = m == n
 is_owner _ _ = false
 
--- what stands above a service or an instance
+-- the selection above a service or an instance
 abbrev pub above : Holdings → Owner → Selection
 above h (owners.Service name) = selected.Nothing
 above h (owners.Instance n) = above_instance (instance h n)
@@ -175,7 +175,7 @@ abbrev pub deleted : Holdings → Selection → Option Owner → Result Judged C
 deleted h s None = Err NoSuch
 deleted h s (Some owner) = Ok (judgements.Edit (deleting owner) (after_delete h s owner))
 
--- what a word names is deleted
+-- the owner that a word names is deleted
 abbrev pub deleted_by_name : Holdings → Selection → List ℕ → Result Judged CfgFault
 deleted_by_name h s word = deleted h s (named_by h s word)
 
@@ -200,7 +200,7 @@ abbrev pub reverting_to : Selection → ℕ → Option SnapshotName → Result J
 reverting_to s n None = Err NoSuch
 reverting_to s n (Some name) = Ok (judgements.Edit (edits.Revert n name) s)
 
--- back to the selected snapshot, else to the running one; no snapshot is selected behind it
+-- back to the selected snapshot, else to the running one; no snapshot is selected after it
 abbrev pub reverting : Selection → Result Judged CfgFault
 reverting selected.Nothing = Err NotSelected
 reverting (selected.Service s) = Err NotSelected
@@ -250,7 +250,7 @@ abbrev pub judged_by : Holdings → Selection → Result Line LineFault → Resu
 judged_by h s (Ok line) = judged_line h s line
 judged_by h s (Err e) = Err (given_by e)
 
--- what a line is judged to be; the repository may still refuse the edit
+-- the judgement of a line; the repository may still refuse the edit
 unfoldable pub judged : Holdings → Selection → List ℕ → Result Judged CfgFault
 judged h s line = judged_by h s (line_of line)
 
@@ -261,13 +261,14 @@ abbrev pub IsOwner : Holdings → Owner → Type 0
 IsOwner h (owners.Service s) = is_some (service h s) ≡ true
 IsOwner h (owners.Instance n) = (name : List ℕ) × (option_map (λ i. i.number) (named h name) ≡ Some n)
 
--- what stands above what was selected: nothing, or the service of the instance
+-- the service above the instance that was selected
 abbrev pub IsAboveInstance : Holdings → Option ℕ → List ℕ → Type 0
 IsAboveInstance h None service = ⊥
 IsAboveInstance h (Some n) service = option_map (λ i. service_fmri i.name) (instance h n) ≡ Some service
 
--- what is selected anew: nothing; a service that is there, or that stands above the selected instance; an instance that
--- is there, or the one of which a snapshot was selected; or a snapshot that the selected instance has
+-- the new selection may be nothing. It may be a service that is there, or that stands above the selected instance.
+-- It may be an instance that is there, or the one of which a snapshot was selected. It may be a snapshot that the
+-- selected instance has
 abbrev pub MaySelect : Holdings → Selection → Selection → Type 0
 MaySelect h s selected.Nothing = Unit {0}
 MaySelect h s (selected.Service name) = IsOwner h (owners.Service name) ⊎ IsAboveInstance h (instance_in s) name
@@ -286,7 +287,7 @@ Concerns h s (edits.Property owner group change) = owner_of s ≡ Ok owner
 Concerns h s (edits.Revert n name) = instance_in s ≡ Some n
 Concerns h s _ = ⊥
 
--- what a line may come to
+-- a judgement that a line may come to
 abbrev pub Fits : Holdings → Selection → Judged → Type 0
 Fits h s (judgements.Select found) = MaySelect h s found
 Fits h s (judgements.Edit edit after) = Concerns h s edit

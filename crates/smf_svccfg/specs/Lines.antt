@@ -1,4 +1,4 @@
--- What a line asks for.
+-- The command that a line asks for.
 use Rattle.std.specs.Prelude.{◌≡◌, ◌++◌, ℕ, ◌==◌, ◌&&◌, List, [], ◌∷◌, length, map, not, nat_eq, nat_lt, Bool, true, false, codes, if◌then◌else◌, Option, Some, None, option_map, Result, Ok, Err}
 use Rattle.std.specs.Char.{is_ascii_alphanumeric}
 use Rattle.std.specs.Cmp.Lexicographic.{pointwise}
@@ -79,7 +79,7 @@ name_by (Err e) = None
 abbrev pub name_in : List ℕ → Option (List ℕ)
 name_in word = name_by (read_name word)
 
--- the kind that a word names with a colon behind it
+-- the kind that a word names with a colon at its end
 abbrev pub kind_in : List ℕ → Option Kind
 kind_in word =
     if pointwise nat_eq word (codes "boolean:") then Some kinds.Boolean
@@ -95,7 +95,7 @@ kind_in word =
 abbrev pub is_slash : ℕ → Bool
 is_slash b = b == 47
 
--- what stands before the first slash, and what stands behind it
+-- the parts before the first slash and after it
 abbrev pub parts_at_slash : List ℕ → Option (List ℕ × List ℕ)
 parts_at_slash word =
     if nat_lt (position_or_len is_slash word) (length word)
@@ -114,7 +114,7 @@ target_at (Some parts) = target_of (name_in parts.0) (name_in parts.1)
 abbrev pub target_in : List ℕ → Option Target
 target_in word = target_at (parts_at_slash word)
 
--- behind a byte of a service's name: whether a component begins now, or none where the byte cannot stand there
+-- true if a component begins after a byte of a service's name, or none if the byte cannot stand there
 abbrev pub component_behind : Bool → ℕ → Option Bool
 component_behind true b = if is_ascii_alphanumeric b then Some false else None
 component_behind false b = if is_slash b then Some true else if is_word_byte b then Some false else None
@@ -123,7 +123,7 @@ abbrev pub components_by : (Bool → Bool) → Option Bool → Bool
 components_by rest None = false
 components_by rest (Some begins) = rest begins
 
--- whether a text goes on as components with slashes between them, of which one may just begin
+-- true if a text goes on as components with slashes between them, of which one may just begin
 abbrev pub are_components : Bool → List ℕ → Bool
 are_components begins [] = not begins
 are_components begins (b ∷ bs) = components_by (λ next. are_components next bs) (component_behind begins b)
@@ -160,7 +160,7 @@ abbrev pub onto : Option (List ℕ) → Option (List (List ℕ)) → Option (Lis
 onto (Some word) (Some others) = Some (word ∷ others)
 onto _ _ = None
 
--- words up to a closing parenthesis, behind which nothing stands
+-- words up to a closing parenthesis, which is the last token
 abbrev pub words_before_close : List Token → Option (List (List ℕ))
 words_before_close [] = None
 words_before_close (tokens.Close ∷ ts) = if no_tokens ts then Some [] else None
@@ -178,12 +178,12 @@ abbrev pub with_kind : Option Kind → List Token → Option (Option Kind × Lis
 with_kind None ts = None
 with_kind (Some kind) ts = Some (Some kind, ts)
 
--- a word that names a kind, where values follow
+-- a word that has to name a kind, as it ends in a colon and values follow
 abbrev pub names_kind : List ℕ → List Token → Bool
 names_kind word ts = ends_in_colon word && not (no_tokens ts)
 
--- the values behind a command, and the kind before them: a first bare word that ends in a colon names a kind where more
--- follows; none where it names no kind
+-- the values after a command, and the kind before them. A first bare word that ends in a colon has to name a kind, if
+-- more follows
 abbrev pub kind_and_values : List Token → Option (Option Kind × List Token)
 kind_and_values (tokens.Bare word ∷ ts) = if names_kind word ts then with_kind (kind_in word) ts else Some (None, tokens.Bare word ∷ ts)
 kind_and_values ts = Some (None, ts)
@@ -194,7 +194,7 @@ abbrev pub used : CfgCommand → Option Line → Result Line LineFault
 used command None = Err (Usage command)
 used command (Some line) = Ok line
 
--- a command with nothing behind it
+-- a command with nothing after it
 abbrev pub alone : Line → List Token → Option Line
 alone line [] = Some line
 alone line _ = None
@@ -276,7 +276,7 @@ abbrev pub set_property : List Token → Option Line
 set_property (target ∷ sign ∷ ts) = if is_equals (text_in sign) then set_values (target_by (text_in target)) (kind_and_values ts) else None
 set_property _ = None
 
--- what a command asks for with these tokens behind it; none where it cannot be used so
+-- the line of a command with these tokens after it; none if it cannot be used so
 abbrev pub asked : CfgCommand → List Token → Option Line
 asked commands.Select ts = option_map (λ word. lines.Select word) (one_word ts)
 asked commands.Delete ts = option_map (λ word. lines.Delete word) (one_word ts)
@@ -321,7 +321,7 @@ abbrev pub line_by : Result (List Token) LineFault → Result Line LineFault
 line_by (Err e) = Err e
 line_by (Ok ts) = line_in ts
 
--- what a line asks for; a comment and a blank line ask for nothing
+-- the command of a line; a comment and a blank line ask for nothing
 unfoldable pub line_of : List ℕ → Result Line LineFault
 line_of text = if is_comment text then Ok lines.Nothing else line_by (tokens_of text)
 

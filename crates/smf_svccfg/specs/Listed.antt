@@ -1,4 +1,4 @@
--- What the lines that list print.
+-- The output of the lines that list.
 use Rattle.std.specs.Prelude.{ℕ, List, [], ◌∷◌, ◌++◌, Bool, true, false, codes, Option, Some, None}
 use Rattle.std.specs.List.{flat_map}
 use Rattle.smf_fmri.specs.Matching.{service_of}
@@ -42,7 +42,7 @@ abbrev pub name_line : Option (List ℕ) → List ℕ
 name_line None = []
 name_line (Some name) = line_for name
 
--- a line for a name that stands behind a prefix
+-- a line for the rest of a name after a prefix
 abbrev pub line_behind : List ℕ → InstanceName → List ℕ
 line_behind prefix n = name_line (strip prefix n.name)
 
@@ -57,7 +57,7 @@ abbrev pub first_line : Option (List ℕ) → List ℕ → List ℕ
 first_line None behind = []
 first_line (Some name) behind = line_for name ++ behind
 
--- the lines of those at the head of a list that stand behind a prefix
+-- the lines of the names at the head of a list that begin with a prefix
 abbrev pub head_lines : List ℕ → List InstanceName → List ℕ
 head_lines prefix [] = []
 head_lines prefix (n ∷ ns) = first_line (strip prefix n.name) (head_lines prefix ns)
@@ -80,11 +80,11 @@ abbrev pub flag_text : Bool → List ℕ
 flag_text true = codes " P"
 flag_text false = []
 
--- the name and the type of a group, and P where it is not kept over a boot
+-- the name and the type of a group, and P if it is not kept over a boot
 abbrev pub group_line : GroupRecord → List ℕ
 group_line g = line_for (g.name ++ 32 ∷ (g.group_type ++ flag_text g.non_persistent))
 
--- each value behind a space
+-- each value after a space
 abbrev pub values_text : List Value → List ℕ
 values_text vs = flat_map (λ v. 32 ∷ value_text v) vs
 
@@ -117,7 +117,7 @@ composed_in (Some s) = composition s.instance_groups s.service_groups
 abbrev pub snapshot_by_name : Holdings → ℕ → SnapshotName → Option Snapshot
 snapshot_by_name h n name = named_snapshot h (snapshot_number h n name)
 
--- the groups of what is selected, by name; none where nothing is
+-- the groups of what is selected, by name; none if nothing is
 abbrev pub groups_in : Holdings → Selection → Option (List GroupRecord)
 groups_in h selected.Nothing = None
 groups_in h (selected.Service s) = Some (shown_groups h (owners.Service s))

@@ -9,7 +9,7 @@ use Rattle.smf_svccfg.specs.declared.token.Token.{Token}
 use Rattle.smf_svccfg.specs.declared.token.Token.TheVariants as tokens
 use Rattle.smf_svccfg.specs.Words.{is_blank, is_word}
 
--- what a call returned is what the definition gives, unless memory ran out
+-- a call returned what the definition gives, unless memory ran out
 abbrev pub Fails : {X : Type 0} → LineFault → Result X LineFault → Type 0
 Fails Memory given = Unit {0}
 Fails e given = given ≡ Err e
@@ -18,7 +18,7 @@ abbrev pub Gives : {X : Type 0} → Result X LineFault → Result X LineFault �
 Gives (Ok x) given = given ≡ Ok x
 Gives (Err e) given = Fails e given
 
--- what a call that changes something leaves is what the definition gives, unless memory ran out
+-- a call that changes something leaves what the definition gives, unless memory ran out
 abbrev pub Leaves : {X : Type 0} → Result (Unit {0}) LineFault → Result X LineFault → X → Type 0
 Leaves (Ok _) given new = given ≡ Ok new
 Leaves (Err e) given new = Fails e given
@@ -35,7 +35,7 @@ is_mark b = b == 34 || b == 92
 
 -- ---- reading
 
--- what stands from a byte on: the rest of the word that has begun, and the tokens behind it
+-- a line from a byte on: the rest of the word that has begun, and the tokens after it
 pub record Rest : Type 0 where
   pub word : List ℕ
   pub tokens : List Token
@@ -63,12 +63,12 @@ abbrev pub bare_first : ℕ → Result Rest LineFault → Result Rest LineFault
 bare_first b (Ok r) = Ok (record { word = []; tokens = tokens.Bare (b ∷ r.word) ∷ r.tokens })
 bare_first b (Err e) = Err e
 
--- a quoted word, behind its opening quote
+-- a quoted word, after its opening quote
 abbrev pub quoted_first : Result Rest LineFault → Result Rest LineFault
 quoted_first (Ok r) = Ok (record { word = []; tokens = tokens.Quoted r.word ∷ r.tokens })
 quoted_first (Err e) = Err e
 
--- where no word has begun: a blank, a parenthesis, an opening quote, or the first byte of a bare word; no backslash
+-- a byte outside a word: a blank, a parenthesis, an opening quote, or the first byte of a bare word; no backslash
 abbrev pub begins : ℕ → ℕ → (Place → Result Rest LineFault) → Result Rest LineFault
 begins at b behind =
     if is_blank b then end_first (behind places.Between)
@@ -78,10 +78,10 @@ begins at b behind =
     else if b == 92 then Err (Quote at)
     else bare_first b (behind places.Bare)
 
--- a byte at a place of the line, with what stands behind it by where a reader then stands:
--- a bare word ends at a blank or a parenthesis, and has neither quote nor backslash;
--- a quoted word ends at a quote, and a backslash stands before a quote or a backslash alone;
--- behind a quoted word stands a blank or a parenthesis
+-- a byte at a place of the line; `behind` gives the rest of the line by the reader's next place.
+-- A bare word ends at a blank or a parenthesis, and has neither quote nor backslash.
+-- A quoted word ends at a quote, and a backslash stands before a quote or a backslash alone.
+-- A blank or a parenthesis stands after a quoted word
 abbrev pub goes_on : Place → ℕ → ℕ → (Place → Result Rest LineFault) → Result Rest LineFault
 goes_on places.Between at b behind = begins at b behind
 goes_on places.Bare at b behind =
@@ -120,7 +120,7 @@ tokens_of line = tokens_in (read_from places.Between 0 line)
 
 -- ---- writing
 
--- a quote and a backslash stand behind a backslash
+-- a quote and a backslash stand after a backslash
 abbrev pub escaped_byte : ℕ → List ℕ
 escaped_byte b = if is_mark b then 92 ∷ b ∷ [] else b ∷ []
 
@@ -153,14 +153,14 @@ IsToken _ = Unit {0}
 abbrev pub AreTokens : List Token → Type 0
 AreTokens ts = AllByRecursion IsToken ts
 
--- tokens with a space behind each
+-- tokens with a space after each
 unfoldable pub written : List Token → List ℕ
 written [] = []
 written (t ∷ ts) = token_text t ++ 32 ∷ written ts
 
 -- ---- byte by byte
 
--- a reader of tokens: where it stands, the word that has begun, and the tokens before it
+-- a reader of tokens: its place, the word that has begun, and the tokens before it
 pub record Reading : Type 0 where
   pub place : Place
   pub word : List ℕ
@@ -169,7 +169,7 @@ pub record Reading : Type 0 where
 abbrev pub reading : Place → List ℕ → List Token → Reading
 reading p word ts = record { place = p; word = word; tokens = ts }
 
--- a reader that stands before a byte where no word has begun
+-- a reader after a byte outside a word
 abbrev pub begun : ℕ → ℕ → List ℕ → List Token → Result Reading LineFault
 begun at b word ts =
     if is_blank b then Ok (reading places.Between word ts)
@@ -179,7 +179,7 @@ begun at b word ts =
     else if b == 92 then Err (Quote at)
     else Ok (reading places.Bare (word ++ b ∷ []) ts)
 
--- a reader behind a bare word, and behind a quoted one
+-- a reader after a bare word, and after a quoted one
 abbrev pub behind_bare : List ℕ → List Token → Reading
 behind_bare word ts = reading places.Between [] (ts ++ tokens.Bare word ∷ [])
 
@@ -201,7 +201,7 @@ stepped_at (places.Escaped opening escape) at b word ts =
     else Err (Quote escape)
 stepped_at places.Closed at b word ts = if is_bound b then begun at b word ts else Err (Quote at)
 
--- a reader behind one byte more
+-- a reader after one byte more
 abbrev pub stepped : Reading → ℕ → ℕ → Result Reading LineFault
 stepped r at b = stepped_at r.place at b r.word r.tokens
 
@@ -212,6 +212,6 @@ finished_at (places.Quoted opening) word ts = Err (Quote opening)
 finished_at (places.Escaped opening escape) word ts = Err (Quote opening)
 finished_at places.Closed word ts = Ok ts
 
--- what a reader gives at the line's end
+-- the tokens of a reader at the line's end
 abbrev pub finished : Reading → Result (List Token) LineFault
 finished r = finished_at r.place r.word r.tokens

@@ -20,7 +20,7 @@ pub enum LineFault {
     Quote(usize),
     #[error("unknown command")]
     Unknown,
-    /// What stands behind the command is not what belongs there.
+    /// The tokens after the command are not those that it takes.
     #[error("bad use of {0}")]
     Usage(CfgCommand),
 }

@@ -142,7 +142,7 @@ fn is_snapshot(selection: &Selection) -> bool
     }
 }
 
-/// Whether what is selected is a service or an instance.
+/// True if this service or this instance is selected.
 fn is_owner(selection: &Selection, owner: &Owner) -> bool
     ensures { result ≡ is_owner selection.now owner.now }
 {
@@ -153,7 +153,7 @@ fn is_owner(selection: &Selection, owner: &Owner) -> bool
     }
 }
 
-/// What is selected behind a delete.
+/// The selection after a delete.
 fn after_delete<C: Client>(
     alloc: Global,
     repository: &C,
@@ -361,8 +361,8 @@ pub fn judge<C: Client>(
     selection: &Selection,
     line: &str,
 ) -> Result<Judged, CfgFault>
-    // What is selected anew is present, or stands above what is left; an edit is of what is selected or is there, and
-    // under a selected snapshot it is a revert.
+    // The new selection is present, or stands above what is left. An edit is of what is selected or is there. If a
+    // snapshot is selected, the edit is a revert.
     ensures fits { IfOk result (λ j. Fits (C.held repository.now) selection.now j) }
     ensures exact { Gives result (judged (C.held repository.now) selection.now line.now) }
 {

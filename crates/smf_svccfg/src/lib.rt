@@ -1,7 +1,8 @@
-//! Lines of svccfg(1M): what they ask for, and what they are judged to be where something is selected.
-//! Modules: `splitting` (words between blanks), `token` (words, quoted words and parentheses), `command` (command
-//! words), `parsing` (what stands behind each command), `line` (lines), `selection` (what is selected, and what a line comes
-//! to), `naming` (what a word names), `quoting` (texts in quotes), `listing` (what is listed), `judging`, `fault`.
+//! Lines of svccfg(1M): what they ask for, and how they are judged by a repository and by the selection.
+//! Modules: `line_words` (words between blanks), `token` (words, quoted words, parentheses), `quotes` (quoted texts).
+//! Lines are in `command` (command words), `arguments` (the tokens after each command) and `line`.
+//! Judgements are in `selection` (what is selected), `entities` (what a word names), `output` (what is listed) and
+//! `judgement`. The faults of both are in `fault`.
 #![tactic(auto)]
 
 mod command;

@@ -12,7 +12,7 @@ use smf_model::PropertyChange;
 use smf_value::Name;
 use std::alloc::Global;
 
-/// What a line asks for.
+/// The command that a line asks for.
 #[derive(Drop)]
 pub enum Line {
     Nothing,
@@ -20,7 +20,7 @@ pub enum Line {
     Select(Text),
     /// The same.
     Delete(Text),
-    /// What stands above what is selected.
+    /// Selects what stands above the selection.
     Unselect,
     /// The names of what stands below.
     List,
@@ -43,7 +43,7 @@ pub enum Line {
     SelectSnapshot(Option<Text>),
     /// Back to a snapshot by its name, else to the selected one, else to the running one.
     Revert(Option<Text>),
-    /// svccfg ends. Nothing is selected where it begins again.
+    /// svccfg ends. Nothing is selected when it begins again.
     End,
 }
 

@@ -1,4 +1,4 @@
-//! What the lines that list print.
+//! The output of the lines that list.
 
 ghost use Rattle.std.specs.Option.{option_copied};
 ghost use Rattle.std.specs.Prelude.{◌≡◌, ◌≤◌, ◌++◌, drop, length, IfOk, OnOk, string_bytes};
@@ -44,7 +44,7 @@ fn compare(entry: &InstanceName, text: &str) -> Ordering
     entry.name.print().cmp(text)
 }
 
-/// Where the instance of a text stands, or else where it belongs.
+/// The place of the instance that has this name, or else the place at which it belongs.
 fn place_of(names: &[InstanceName], text: &str) -> Result<usize, usize>
     requires { Rises by_name names.now }
     ensures { IsPlaced by_name text.now names.now result }
@@ -52,7 +52,7 @@ fn place_of(names: &[InstanceName], text: &str) -> Result<usize, usize>
     names.binary_search_by(|entry| compare(entry, text))
 }
 
-/// The place from which on names may stand behind a prefix.
+/// The first place at which a name may begin with a prefix.
 fn first_behind(names: &[InstanceName], prefix: &str) -> usize
     requires { Rises by_name names.now }
     ensures lines { head_lines prefix.now (drop result names.now) ≡ lines_behind prefix.now names.now }
@@ -71,7 +71,7 @@ fn names_from(names: &[InstanceName], at: usize) -> &[InstanceName]
     &names[at..]
 }
 
-/// Puts the lines of those at the head of a list that stand behind a prefix.
+/// Puts the lines of the names at the head of a list that begin with a prefix.
 fn put_head(out: &mut String, prefix: &str, names: &[InstanceName]) -> Result<(), AllocError>
     ensures { OnOk result (string_bytes out.new ≡ string_bytes out.old ++ head_lines prefix.now names.now) }
 {
@@ -147,7 +147,7 @@ fn put_value(alloc: Global, out: &mut String, value: &Value) -> Result<(), Alloc
     }
 }
 
-/// Puts each value behind a space.
+/// Puts each value after a space.
 fn put_values(alloc: Global, out: &mut String, values: &[Value]) -> Result<(), AllocError>
     ensures { OnOk result (string_bytes out.new ≡ string_bytes out.old ++ values_text values.now) }
 {
@@ -271,7 +271,7 @@ fn snapshot_of<C: Client>(repository: &C, instance: Number, name: SnapshotName) 
     }
 }
 
-/// The groups of what is selected, by name; none where nothing is.
+/// The groups of what is selected, by name; none if nothing is.
 pub(crate) fn groups_in<C: Client>(
     alloc: Global,
     repository: &C,

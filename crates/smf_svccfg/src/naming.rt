@@ -1,4 +1,4 @@
-//! What a word names, where something is selected.
+//! The entity that a word names, by the selection.
 
 ghost use Rattle.std.specs.Prelude.{◌≡◌, ◌++◌, IfOk};
 ghost use Rattle.smf_fmri.specs.Name.{short};
@@ -13,7 +13,7 @@ use smf_model::Owner;
 use smf_repo::Client;
 use std::alloc::{AllocError, Global};
 
-/// The service that a text names in the short form, or none where it does not.
+/// The service that a text names in the short form, or none if it names none so.
 fn read_service(alloc: Global, text: &str) -> Result<Option<ServiceFmri>, AllocError>
     ensures { IfOk result (λ name. name ≡ read_service text.now) }
 {
@@ -107,7 +107,7 @@ fn entity<C: Client>(alloc: Global, repository: &C, word: &str) -> Result<Option
     }
 }
 
-/// What a word names: a child of what is selected, else an entity in full.
+/// The owner that a word names: a child of what is selected, else an entity in full.
 pub(crate) fn named_by<C: Client>(
     alloc: Global,
     repository: &C,
@@ -143,7 +143,7 @@ pub(crate) fn instance_in(selection: &Selection) -> Option<Number>
     }
 }
 
-/// What stands above an instance: its service, or nothing where it is not there any more.
+/// The selection above an instance: its service, or nothing if the instance is not there any more.
 pub(crate) fn above_instance<C: Client>(
     alloc: Global,
     repository: &C,
@@ -160,7 +160,7 @@ pub(crate) fn above_instance<C: Client>(
     }
 }
 
-/// What stands above a service or an instance.
+/// The selection above a service or an instance.
 pub(crate) fn above<C: Client>(
     alloc: Global,
     repository: &C,

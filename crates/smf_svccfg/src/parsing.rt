@@ -1,4 +1,4 @@
-//! What stands behind each command.
+//! The tokens after each command.
 
 ghost use Rattle.std.specs.Prelude.{◌≡◌, ◌∷◌, [], Some, IfOk, option_map};
 ghost use Rattle.smf_fmri.specs.Name.{is_word_byte};
@@ -34,7 +34,7 @@ pub(crate) fn name_in(alloc: Global, word: &str) -> Result<Option<Name>, AllocEr
     }
 }
 
-/// The kind that a word names with a colon behind it.
+/// The kind that a word names with a colon at its end.
 fn kind_in(word: &str) -> Option<Kind>
     ensures { result ≡ kind_in word.now }
 {
@@ -50,7 +50,7 @@ fn kind_in(word: &str) -> Option<Kind>
     }
 }
 
-/// What stands before the first slash, and what stands behind it.
+/// The parts before the first slash and after it.
 fn parts_at_slash(word: &str) -> Option<(&str, &str)>
     ensures { option_map (λ x. (x.0.now, x.1.now)) result ≡ parts_at_slash word.now }
 {
@@ -73,7 +73,7 @@ fn target_in(alloc: Global, word: &str) -> Result<Option<Target>, AllocError>
     Ok(Some(Target { group, property }))
 }
 
-/// Whether a component begins behind a byte of a service's name, or none where the byte cannot stand there.
+/// True if a component begins after a byte of a service's name, or none if the byte cannot stand there.
 fn component_behind(begins: bool, b: u8) -> Option<bool>
     ensures { result ≡ component_behind begins b }
 {
@@ -96,7 +96,7 @@ fn is_word_byte(b: u8) -> bool
     b.is_ascii_alphanumeric() || b == b'_' || b == b'-' || b == b'.' || b == b','
 }
 
-/// Whether a text is one or more components with slashes between them.
+/// True if a text is one or more components with slashes between them.
 fn is_service_text(bytes: &[u8]) -> bool
     ensures { result ≡ is_service_text bytes.now }
 {
@@ -148,7 +148,7 @@ fn word_or_none(alloc: Global, tokens: &[Token]) -> Result<Option<Option<Text>>,
     }
 }
 
-/// Words up to a closing parenthesis, behind which nothing stands.
+/// Words up to a closing parenthesis, which is the last token.
 fn words_before_close(alloc: Global, tokens: &[Token]) -> Result<Option<Items<Text>>, AllocError>
     ensures { IfOk result (λ words. words ≡ words_before_close tokens.now) }
 {
@@ -202,14 +202,14 @@ fn no_tokens(tokens: &[Token]) -> bool
     }
 }
 
-/// Whether a word names a kind, where values follow.
+/// True if a word has to name a kind, as it ends in a colon and values follow.
 fn names_kind(word: &str, values: &[Token]) -> bool
     ensures { result ≡ names_kind word.now values.now }
 {
     ends_in_colon(word) && !no_tokens(values)
 }
 
-/// The kind that a word names, and the values behind it.
+/// The kind that a word names, and the values after it.
 fn with_kind<'a>(word: &str, values: &'a [Token]) -> Option<(Option<Kind>, &'a [Token])>
     ensures { option_map (λ x. (x.0, x.1.now)) result ≡ with_kind (kind_in word.now) values.now }
 {
@@ -219,7 +219,7 @@ fn with_kind<'a>(word: &str, values: &'a [Token]) -> Option<(Option<Kind>, &'a [
     }
 }
 
-/// The values behind a command, and the kind that may stand before them; none where a word names no kind.
+/// The values after a command, and the kind that may stand before them; none if the word that has to name it does not.
 fn kind_and_values(behind: &[Token]) -> Option<(Option<Kind>, &[Token])>
     ensures { option_map (λ x. (x.0, x.1.now)) result ≡ kind_and_values behind.now }
 {
@@ -233,7 +233,7 @@ fn kind_and_values(behind: &[Token]) -> Option<(Option<Kind>, &[Token])>
 
 // ---- commands
 
-/// A command with nothing behind it.
+/// A command with nothing after it.
 fn alone(line: Line, behind: &[Token]) -> Option<Line>
     ensures { result ≡ alone line behind.now }
 {
@@ -505,7 +505,7 @@ fn revert(alloc: Global, behind: &[Token]) -> Result<Option<Line>, AllocError>
     }
 }
 
-/// What a command asks for with these tokens behind it; none where it cannot be used so.
+/// The line of a command with these tokens after it; none if it cannot be used so.
 pub(crate) fn asked(
     alloc: Global,
     command: CfgCommand,

@@ -7,7 +7,7 @@ use smf_fmri::Text;
 use std::alloc::{AllocError, Global};
 use std::str;
 
-/// Puts a byte, behind a backslash where it is a quote or a backslash.
+/// Puts a byte, after a backslash if it is a quote or a backslash.
 fn put_escaped(all: &mut Vec<u8>, b: u8) -> Result<(), AllocError>
     ensures { OnOk result (all.new.items ≡ all.old.items ++ escaped_byte b) }
 {

@@ -5,7 +5,7 @@ use smf_model::Edit;
 use smf_snap::SnapshotName;
 use std::alloc::AllocError;
 
-/// What lines speak of. Nothing tells a selection that its service or instance was deleted by another.
+/// The entity that lines speak of. Nothing tells a selection that its service or instance was deleted by another.
 #[derive(Drop)]
 pub enum Selection {
     Nothing,
@@ -19,17 +19,17 @@ pub enum Selection {
     },
 }
 
-/// What a line comes to.
+/// The judgement of a line.
 #[derive(Drop)]
 pub enum Judged {
     Nothing,
     /// This is selected from now on.
     Select(Selection),
-    /// To be given to the repository, and what is selected behind it where it is accepted.
+    /// An edit to be given to the repository, and the selection after it if it is accepted.
     Edit(Edit, Selection),
     /// To be printed.
     Print(Text),
-    /// svccfg ends. Nothing is selected where it begins again.
+    /// svccfg ends. Nothing is selected when it begins again.
     End,
 }
 

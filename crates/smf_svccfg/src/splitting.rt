@@ -11,7 +11,7 @@ pub(crate) fn is_blank(b: u8) -> bool
     b == b' ' || b == b'\t'
 }
 
-/// The place of the first blank, or the length where there is none.
+/// The place of the first blank, or the length if there is none.
 fn blank_at(bytes: &[u8]) -> usize
     ensures { result ≡ position_or_len is_blank bytes.now }
 {
@@ -25,7 +25,7 @@ fn blank_at(bytes: &[u8]) -> usize
     at
 }
 
-/// What stands before the first blank, and what stands behind it.
+/// The parts before the first blank and after it.
 fn split_blank(text: &str) -> Option<(&str, &str)>
     ensures parts { MatchOption result (slice_split is_blank text.now ≡ text.now ∷ []) (λ x. slice_split is_blank text.now ≡ x.0.now ∷ slice_split is_blank x.1.now) }
     ensures shorter { IfSome result (λ x. length x.1.now < length text.now) }

@@ -12,7 +12,7 @@ use std::alloc::{AllocError, Global};
 use std::marker::Model;
 use std::str;
 
-/// What a line is made of.
+/// A part of a line.
 #[derive(Drop)]
 pub enum Token {
     /// `(`
@@ -20,21 +20,21 @@ pub enum Token {
     /// `)`
     Close,
     Bare(Text),
-    /// What stands between quotes.
+    /// The text between quotes.
     Quoted(Text),
 }
 
-/// Where a reader of tokens stands.
+/// The place of a reader of tokens.
 #[derive(Clone, Copy)]
 enum Place {
-    /// Where a word may begin.
+    /// Outside words: a word may begin.
     Between,
     Bare,
     /// In a quoted word, whose opening quote stands at this place.
     Quoted(usize),
-    /// Behind a backslash in such a word.
+    /// After a backslash in such a word.
     Escaped { opening: usize, escape: usize },
-    /// Behind a closing quote.
+    /// After a closing quote.
     Closed,
 }
 
@@ -43,7 +43,7 @@ enum Place {
 struct Reader {
     alloc: Global,
     place: Place,
-    /// What was read of a word that has begun.
+    /// The bytes read so far of a word that has begun.
     word: Vec<u8>,
     tokens: Items<Token>,
 }
@@ -136,7 +136,7 @@ impl Reader {
         self.push_token(Place::Closed, Token::Quoted(word))
     }
 
-    /// Takes a byte where no word has begun.
+    /// Takes a byte outside a word.
     fn begin(&mut self, at: usize, b: u8) -> Result<(), LineFault>
         ensures { Leaves result (begun at b self.old.word self.old.tokens) self.new }
     {
@@ -156,7 +156,7 @@ impl Reader {
         }
     }
 
-    /// Takes a byte behind a bare word that has begun.
+    /// Takes a byte after a bare word that has begun.
     fn step_bare(&mut self, at: usize, b: u8) -> Result<(), LineFault>
         requires { b < 128 → IsUtf8 self.old.word }
         ensures { Leaves result (stepped_at places.Bare at b self.old.word self.old.tokens) self.new }
@@ -189,7 +189,7 @@ impl Reader {
         self.push_byte(Place::Quoted(opening), b)
     }
 
-    /// Takes a byte behind a backslash in a quoted word.
+    /// Takes a byte after a backslash in a quoted word.
     fn step_escaped(&mut self, opening: usize, back: usize, b: u8) -> Result<(), LineFault>
         ensures { Leaves result (stepped_at (places.Escaped opening back) 0 b self.old.word self.old.tokens) self.new }
     {
@@ -199,7 +199,7 @@ impl Reader {
         Err(LineFault::Quote(back))
     }
 
-    /// Takes a byte behind a closing quote.
+    /// Takes a byte after a closing quote.
     fn step_closed(&mut self, at: usize, b: u8) -> Result<(), LineFault>
         ensures { Leaves result (stepped_at places.Closed at b self.old.word self.old.tokens) self.new }
     {

@@ -1,4 +1,5 @@
--- The list of children: a line for each, with the number of its session, when its first process was started, and the boot.
+-- The list of children: a line for each, with the number of its session, when its first process was started, and the
+-- boot.
 use Rattle.std.specs.Prelude.{ℕ, List, [], ◌∷◌, nat_eq, nat_lt, ◌==◌, if◌then◌else◌, Option, Some, None}
 use Rattle.std.specs.Cmp.Lexicographic.{pointwise}
 use Rattle.std.specs.List.{filter_map}

@@ -23,7 +23,7 @@ is_held processes child =
 abbrev pub is_member : List Process → Process → Child → Bool
 is_member processes process child = process.session == child.number && is_held processes child
 
--- what has ended is not left; no group of a session has a number below 2
+-- a process that has ended is not left; no group of a session has a number below 2
 abbrev pub is_left : List Child → List Process → Process → Bool
 is_left children processes process =
     if process.has_ended || nat_lt process.group 2 then false else list_any (is_member processes process) children

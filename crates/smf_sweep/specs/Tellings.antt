@@ -1,4 +1,4 @@
--- What a system is asked for what an older run left, and what it tells.
+-- The questions that a system is asked about what an older run left, and its answers.
 use Rattle.std.specs.Prelude.{ℕ, List, Option}
 use Rattle.smf_sweep.specs.declared.child.Child.{Child}
 use Rattle.smf_sweep.specs.declared.process.Process.{Process}

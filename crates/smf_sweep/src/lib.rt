@@ -1,7 +1,7 @@
 //! Ends what an older run over a database left, and has the children of this run listed beside it.
-//! Modules: `child` (a line of the list), `process` (which processes are left of its children), `survey` (what is asked of
-//! the system), `rounds` (the older run ends), `words` (what a method's shell does first), `lister` (what starts methods),
-//! `stat` (what the system tells of a process).
+//! Modules: `child` (a line of the list), `process` (which processes are left), `survey` (questions to the system),
+//! `stat` (its answer on a process); `rounds` (the older run ends), `words` (what a method's shell does first),
+//! `lister` (what starts methods).
 #![tactic(auto)]
 
 mod child;

@@ -13,7 +13,7 @@ use std::process::{Child, Command as Program, Processes, Stdio};
 /// How often an older run is told to end, ten milliseconds apart.
 const MOST: u32 = 1000;
 
-/// Where a run lists its children.
+/// The place in which a run lists its children.
 #[derive(Drop)]
 pub struct ListPlace {
     /// The path of the list.
@@ -23,8 +23,8 @@ pub struct ListPlace {
     pub number: String,
 }
 
-/// What starts programs. A method's shell writes its line into a list first. It is there only after all was ended that the
-/// list named before.
+/// A starter of programs. A method's shell writes its line into a list first. A lister is there only after all was
+/// ended that the list named before.
 #[derive(Drop)]
 pub struct Lister<S: Survey> {
     alloc: Global,

@@ -19,21 +19,22 @@ pub struct Process {
     pub is_method: bool,
 }
 
-/// Whether a process has a child's number.
+/// Says whether a process has a child's number.
 fn has_number(process: &Process, child: &Child) -> bool
     ensures { result ≡ has_number child.now process.now }
 {
     process.number == child.number
 }
 
-/// Whether a process is a child's first one. Another one that the system gave this number was started at another time.
+/// Says whether a process is a child's first one. Another one that the system gave this number was started at another
+/// time.
 fn is_child(process: &Process, child: &Child) -> bool
     ensures { result ≡ is_child child.now process.now }
 {
     process.number == child.number && process.start == child.start
 }
 
-/// Whether a process of a child's session has the variables of a method.
+/// Says whether a process is of a child's session and has the variables of a method.
 fn is_marked(process: &Process, child: &Child) -> bool
     ensures { result ≡ is_marked child.now process.now }
 {
@@ -58,8 +59,8 @@ fn any_marked(child: &Child, processes: &[Process]) -> bool
     processes.iter().any(|process| is_marked(process, child))
 }
 
-/// Whether the session of a child's number is this child's: its first process is there; or no process has the number, and
-/// one of the session has the variables of a method.
+/// Says whether the session of a child's number is this child's. If a process has the number, it must be the child's
+/// first one. If none has, one of the session must have the variables of a method.
 fn is_held(child: &Child, processes: &[Process]) -> bool
     ensures { result ≡ is_held processes.now child.now }
 {
@@ -69,7 +70,7 @@ fn is_held(child: &Child, processes: &[Process]) -> bool
     any_marked(child, processes)
 }
 
-/// Whether a process is in the session of a child.
+/// Says whether a process is in the session of a child.
 fn is_member(process: &Process, child: &Child, processes: &[Process]) -> bool
     ensures { result ≡ is_member processes.now process.now child.now }
 {
@@ -84,7 +85,7 @@ fn any_member(process: &Process, children: &[Child], processes: &[Process]) -> b
         .any(|child| is_member(process, child, processes))
 }
 
-/// Whether a process is left of children.
+/// Says whether a process is left of children.
 fn is_left(process: &Process, children: &[Child], processes: &[Process]) -> bool
     ensures { result ≡ is_left children.now processes.now process.now }
 {

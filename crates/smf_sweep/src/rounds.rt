@@ -11,7 +11,7 @@ use crate::process::{Process, left_of};
 use crate::survey::Survey;
 use std::alloc::{AllocError, Global};
 
-/// What is left of children. Without children the system is not asked.
+/// The processes that are left of children. Without children the system is not asked.
 #[tactic(auto, using(crate::proofs::Older::with_reason, crate::proofs::Older::no_children, crate::proofs::Older::found_none, crate::proofs::Older::found_some))]
 fn look<S: Survey>(
     alloc: Global,
@@ -128,7 +128,7 @@ pub(crate) fn clear<S: Survey>(
     }
 }
 
-/// Whether none is left of children.
+/// Asks whether none is left of children.
 fn has_none<S: Survey>(
     alloc: Global,
     survey: &mut S,

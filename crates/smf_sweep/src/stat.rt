@@ -1,8 +1,8 @@
-// What the system tells of a process.
+// A process, as the system tells of it.
 use crate::process::Process;
 use smf_fmri::read_count;
 
-/// Where fields stand in what the system tells of a process after its name.
+/// The places of fields in what the system tells of a process after its name.
 const STATE: usize = 0;
 
 const GROUP: usize = 2;
@@ -13,7 +13,7 @@ const THREADS: usize = 17;
 
 const START: usize = 19;
 
-/// What stands after the last such byte.
+/// The bytes after the last such byte.
 fn after_last(bytes: &[u8], wanted: u8) -> Option<&[u8]> {
     let place = bytes.iter().rposition(|byte| *byte == wanted)?;
     bytes.get(place + 1..)
@@ -39,7 +39,7 @@ fn count_at(fields: &str, place: usize) -> Option<u64> {
     read_count(field_at(fields, place)?)
 }
 
-/// Whether a process has ended. If its first thread has ended alone, the others go on.
+/// Says whether a process has ended. If its first thread has ended alone, the others go on.
 fn has_ended(fields: &str) -> Option<bool> {
     let state = field_at(fields, STATE)?;
     Some((state == "Z" || state == "X") && count_at(fields, THREADS)? < 2)
@@ -58,7 +58,7 @@ pub(crate) fn read_stat(stat: &[u8]) -> Option<Process> {
     })
 }
 
-/// Whether variables of a process are a method's.
+/// Says whether variables of a process are a method's.
 pub(crate) fn is_method(variables: &[u8]) -> bool {
     variables
         .split(|byte| *byte == 0)

@@ -1,4 +1,4 @@
-// What is asked of the system for an older run.
+// The questions that the system is asked for an older run.
 ghost use Rattle.std.specs.Prelude.{◌≡◌, IfOk, OnErr, OnOk, option_map, string_bytes};
 ghost use Rattle.smf_sweep.specs.Tellings.{Telling, Booted, Listed, Looked, Ended, Emptied, Removed, NoAnswer};
 
@@ -15,8 +15,8 @@ use std::rt::{Clock, Files};
 use std::time::Duration;
 use std::{fs, io, thread};
 
-/// A system that is asked for its processes and for a list of children: each answer leads from one state to the next. What
-/// the system tells is known only from the call that asks it.
+/// A system that is asked for its processes and for a list of children: each answer leads from one state to the next. A
+/// caller knows an answer only from the call that asks for it.
 pub trait Survey {
     ghost tells: { Self → Telling → Self → Type 0 };
 
@@ -25,7 +25,7 @@ pub trait Survey {
         ensures told { IfOk result (λ boot. tells self.old (Booted (string_bytes boot)) self.new) }
         ensures lost { OnErr result (tells self.old NoAnswer self.new) };
 
-    /// What a list holds. None if it is not there.
+    /// The text of a list. None if it is not there.
     fn list(&mut self, alloc: Global, path: &str) -> io::Result<Option<String>>
         ensures told { IfOk result (λ text. tells self.old (Listed path.now (option_map string_bytes text)) self.new) }
         ensures lost { OnErr result (tells self.old NoAnswer self.new) };
@@ -65,12 +65,13 @@ fn text_of<R: Files<File = File>>(alloc: Global, rt: &R, path: &str) -> io::Resu
     Ok(text)
 }
 
-/// Whether a process is one of a child's, or has its number.
+/// Says whether a process is in the session of a child's number, or has that number.
 fn is_near(process: &Process, children: &[Child]) -> bool {
     children.iter().any(|child| child.number == process.number || child.number == process.session)
 }
 
-/// Whether a process has the variables of a method. Those of another user's cannot be read.
+/// Asks whether a process has the variables of a method. Those of another user's process cannot be read, and count as
+/// none.
 fn has_method<R: Files<File = File>>(alloc: Global, rt: &R, folder: &str) -> io::Result<bool> {
     let path = format!(in alloc; "{folder}/environ")?;
     match bytes_of(alloc, rt, path.as_str()) {
@@ -80,7 +81,8 @@ fn has_method<R: Files<File = File>>(alloc: Global, rt: &R, folder: &str) -> io:
     }
 }
 
-/// What the system tells of the process with this folder. None if it ended meanwhile, or if nobody but its user may see it.
+/// The process with this folder, as the system tells of it. None if it ended meanwhile, if nobody but its user may see
+/// it, or if it is not near the children.
 fn process_in<R: Files<File = File>>(
     alloc: Global,
     rt: &R,
@@ -107,8 +109,8 @@ fn is_number(name: &str) -> bool {
     name.bytes().all(|byte| byte.is_ascii_digit())
 }
 
-/// The kit says nothing of files, nor of programs. So these bodies are trusted: each asks the system once, for what its name
-/// says, and tells what that answered.
+/// The kit says nothing of files, nor of programs. So these bodies are trusted: each asks the system once, for what its
+/// name says, and tells what that answered.
 impl<R: Processes + Files<File = File> + Clock + AllocGlobal + Clone + Drop> Survey for R {
     ghost tells = { λ _ _ _. Unit {0} };
 

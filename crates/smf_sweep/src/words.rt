@@ -1,4 +1,4 @@
-// What is started for a child, and what ends one.
+// The programs that are started for a child, and that end one.
 ghost use Rattle.std.specs.Prelude.{◌≡◌, ◌++◌, IfOk, OnOk, ℕ, List, Some, None, true, codes, flat_map, string_bytes, [], ◌∷◌};
 ghost use Rattle.std.specs.Process.{SameEnv, SameOtherVars, SameProgramAndArgs, clears_env, command_args, command_program, command_var};
 ghost use Rattle.smf_sweep.specs.Words.{IsOther, ender_text, first_words, group_text};
@@ -8,13 +8,14 @@ use std::alloc::{AllocError, Allocator, Global};
 use std::fmt::Write;
 use std::process::{Command as Program, Stdio};
 
-/// What a method's shell does first, with the list, the lock, the program's number, the boot, and the method's own words. It
-/// writes its line. If the program still has the lock then, it becomes the method; else it ends. So no method begins that the
-/// next run does not find in the list. An end of line comes first, since the last line may have been cut short.
+/// The first commands of a method's shell, with the list, the lock, the program's number, the boot, and the method's
+/// own words. The shell writes its line. If the program still has the lock then, it becomes the method; else it ends.
+/// So no method begins that the next run does not find in the list. An end of line comes first, since the last line may
+/// have been cut short.
 pub(crate) const FIRST: &str =
     "line() { read -r stat < /proc/$$/stat && boot=$1 && set -- ${stat##*) } && printf '\\n%s %s %s\\n' $$ ${20} $boot; }; line \"$4\" >> \"$1\" && read -r owner < \"$2\" && test \"$owner\" = \"$3\" || exit 126; shift 4; unset PWD OLDPWD SHLVL; exec \"$@\"";
 
-/// Whether a program runs a method: it makes a session of its own.
+/// Says whether a program runs a method: it makes a session of its own.
 pub(crate) fn is_method<B: Allocator + Clone>(command: &Program<B>) -> bool {
     command.get_program() == "/usr/bin/setsid"
 }
@@ -96,7 +97,8 @@ fn add_words<B: Allocator + Clone>(
     Ok(())
 }
 
-/// A method's program, which writes its line first. Its variables are the four of a method, as far as the program sets them.
+/// A method's program, which writes its line first. Its variables are the four of a method, as far as the program sets
+/// them.
 pub(crate) fn listed<B: Allocator + Clone>(
     alloc: Global,
     command: &Program<B>,
@@ -148,7 +150,7 @@ fn ender_text(alloc: Global, left: &[Process]) -> Result<String, AllocError>
     Ok(text)
 }
 
-/// What ends the groups of processes.
+/// The program that ends the groups of processes.
 pub(crate) fn ender(alloc: Global, left: &[Process]) -> Result<Program, AllocError>
     ensures program { IfOk result (λ c. command_program c ≡ codes "/bin/sh") }
     ensures args { IfOk result (λ c. command_args c ≡ codes "-c" ∷ ender_text left.now ∷ []) }

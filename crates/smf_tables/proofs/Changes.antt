@@ -1,4 +1,5 @@
--- What DELETE and INSERT do to the rows of any table on which no foreign key acts. No lemma here needs the order of the rows.
+-- The effect of DELETE and INSERT on the rows of any table on which no foreign key acts. No lemma here needs the order
+-- of the rows.
 use Rattle.std.proofs.Common.{◌≡◌, ◌≢◌, ◌⊎◌, inl, inr, ℕ, ℤ, List, [], ◌∷◌, None, Ok, Err, Option, Result, refl, sym, ap, subst, ◌∙◌, Bool, true, false, cond, true≢false, nat_le, fold}
 use Rattle.std.specs.List.{list_all, list_any}
 use Rattle.std.specs.Ordering.{is_eq}

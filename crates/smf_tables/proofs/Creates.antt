@@ -1,4 +1,4 @@
--- What the texts that make the tables mean.
+-- The meaning of the texts that make the tables.
 use Rattle.std.proofs.Common.{◌≡◌, List, ℕ, codes, Ok, refl}
 use Rattle.sqlite.specs.Command.TheVariants.{CreateTable}
 use Rattle.sqlite.specs.Compile.{table_defined_by}

@@ -1,4 +1,4 @@
--- What the queries inside a transaction show.
+-- The results of the queries inside a transaction.
 use Rattle.std.proofs.Common.{◌≡◌, ◌<◌, ◌⊎◌, inl, inr, ℕ, ℤ, List, [], ◌∷◌, length, get_or, codes, string_bytes, Option, Some, None, Err, IsTrue, Bool, if◌then◌else◌, true, false, refl, sym, subst, ap, ◌∙◌, arith}
 use Rattle.sqlite_value.specs.declared.keys.Key.{Key}
 use Rattle.sqlite.specs.declared.types.Value.TheVariants.{Null, Int, Text}

@@ -1,4 +1,4 @@
--- What the query of the snapshots means where their table is found by its name, whatever stands before it and behind it.
+-- The meaning of the query of the snapshots if their table is found by its name, with any tables before and after it.
 -- The text is read once; then each step of its resolution is followed, with the table's place in place of a search.
 use Rattle.std.proofs.Common.{◌≡◌, ◌-◌, ◌^◌, ◌==◌, ◌∷◌, ◌++◌, ℕ, negsuc, List, [], codes, take, find, nat_lt, nat_le, Some, None, Ok, Bool, true, false, refl, sym, ap, subst}
 use Rattle.std.specs.List.{slice_get}
@@ -47,7 +47,7 @@ use Rattle.smf_tables.specs.Schema.{snap_at, column as column_of}
 use Rattle.smf_tables.proofs.Answers.{ordered_query, by_rowid}
 use Rattle.smf_tables.proofs.Wholes.{all_snapshots}
 
--- what is collected while the columns are read
+-- the state while the columns are read
 abbrev so_far : ℕ → Carried → State
 so_far budget last = record { next = 2; steps = []; aggregates = []; budget = budget; written = None; last = last }
 

@@ -1,4 +1,4 @@
--- What each statement does to what the tables hold.
+-- The effect of each statement on the contents of the tables.
 use Rattle.std.proofs.Common.{◌≡◌, ◌≢◌, ℕ, List, [], ◌∷◌, Some, None, Ok, Option, length, slice_get, refl, sym, ap, subst, true, false}
 use Rattle.std.specs.Prelude.{◌==◌}
 use Rattle.std.specs.List.{AllByRecursion, flat_map, filter_map}

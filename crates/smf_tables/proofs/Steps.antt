@@ -1,4 +1,4 @@
--- What each statement of the store does, inside a transaction.
+-- The effect of each statement of the store, inside a transaction.
 use Rattle.std.proofs.Common.{◌≡◌, ◌<◌, ℕ, ℤ, List, [], ◌∷◌, Some, None, Ok, Option, slice_get, refl, ap, ap₂, ◌∙◌, true, false, ◌&&◌, arith}
 use Rattle.sqlite.specs.declared.types.Value.{Value}
 use Rattle.sqlite.specs.declared.types.Value.TheVariants.{Null, Int, Text, Blob}

@@ -1,4 +1,4 @@
--- What the texts of the statements mean.
+-- The meaning of the texts of the statements.
 use Rattle.std.proofs.Common.{◌≡◌, ℕ, List, [], ◌∷◌, codes, false, refl}
 use Rattle.sqlite.specs.declared.types.Value.TheVariants.{Null}
 use Rattle.sqlite.specs.Term.{lit, col}

@@ -1,4 +1,4 @@
--- What the texts of the queries of whole tables mean.
+-- The meaning of the texts of the queries of whole tables.
 use Rattle.std.proofs.Common.{◌≡◌, ℕ, List, [], ◌∷◌, codes, false, refl}
 use Rattle.sqlite.specs.Term.{col}
 use Rattle.sqlite.specs.Command.TheVariants.{Select}

@@ -1,4 +1,4 @@
--- What the queries of whole tables show.
+-- The results of the queries of whole tables.
 use Rattle.std.proofs.Common.{◌≡◌, ◌+◌, ◌<◌, ◌≤◌, ℕ, zero, suc, List, [], ◌∷◌, ◌&&◌, length, drop, codes, ◌==◌, ◌^◌, nat_lt, nat_le, find, position, cond, slice_get, Option, Some, None, IsTrue, Bool, true, false, refl, sym, ap, subst, ◌∙◌, arith}
 use Rattle.std.specs.List.{AllByRecursion}
 use Rattle.sqlite.specs.declared.types.Value.{Value}

@@ -55,7 +55,7 @@ pub record StandsNamed (schema : Schema) (table : Table) : Type 0 where
 abbrev pub StandsSomewhere : Schema → (ℕ → Table) → Type 0
 StandsSomewhere schema table = (tree : ℕ) × StandsNamed schema (table tree)
 
--- what stands in a schema behind its first tables
+-- the rest of a schema after its first tables
 pub record Rest : Type 0 where
   pub tables : List Table
   pub indexes : List Index

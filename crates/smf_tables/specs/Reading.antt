@@ -1,4 +1,4 @@
--- What the query of a whole table shows.
+-- The result of the query of a whole table.
 use Rattle.std.specs.Prelude.{◌≡◌, ℕ, true, List, [], ◌∷◌, map}
 use Rattle.sqlite.specs.Order.{Row, column}
 use Rattle.sqlite.specs.Effect.{IsDatabase}
@@ -18,16 +18,16 @@ shown places r = map (column r) places
 pub record AreShown (places : List ℕ) (all rows : List Row) : Type 0 where
   pub sound : (x : Row) → Has rows x → (r : Row) × Has all r × (x ≡ shown places r)
   pub complete : (r : Row) → Has all r → Has rows (shown places r)
-  -- where no rowid is shown twice, none stands twice
+  -- if no rowid is shown twice, none stands twice
   pub keyed : IsKeyed rows → IsKeyed all
 
--- a look at all of a table, where it is there and those before it are, whatever stands behind it
+-- a look at all of a table, if it is there and those before it are, with any tables after it
 pub record Looks (begun : Rest → Schema) (tree : ℕ) (places : List ℕ) (old new : State) (rows : List Row) : Type 0 where
   pub shows : Shows old new new.now old.committed true
   pub same : Begins begun old.now.schema → new.now ≡ old.now
   pub seen : Begins begun old.now.schema → IsDatabase old.now → AreShown places (old.now.trees tree) rows
 
--- the same, where the table is the first of its name, whatever stands before it and behind it
+-- the same, if the table is the first of its name, with any tables before it and after it
 pub record LooksNamed (table : ℕ → Table) (places : List ℕ) (old new : State) (rows : List Row) : Type 0 where
   pub shows : Shows old new new.now old.committed true
   pub same : (tree : ℕ) → StandsNamed old.now.schema (table tree) → IsDatabase old.now → new.now ≡ old.now

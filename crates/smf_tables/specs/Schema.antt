@@ -49,7 +49,7 @@ service_at tree = record {
   is_counted = false;
 }
 
--- the instances: the name is that behind the service, and the row in its text
+-- the instances: the name is the one after the service, and the row is kept as its text
 abbrev pub instance_at : ℕ → Table
 instance_at tree = record {
   name = codes "instance";

@@ -1,4 +1,4 @@
--- What each statement does.
+-- The effect of each statement.
 use Rattle.std.specs.Prelude.{◌≡◌, ℕ, ℤ, pos, Bool, true, false, List, [], ◌∷◌, Option, IfSome, IfNone, IsTrue, string_bytes}
 use Rattle.sqlite.specs.declared.types.Value.TheVariants.{Null, Int, Text, Blob}
 use Rattle.sqlite.specs.Values.{or_null}

@@ -11,7 +11,7 @@ use sqlite_schema::schema::{Action, Column, Index, Kind, Reference, Schema, Tabl
 use sqlite_value::keys::{Collation, Order};
 use sqlite_value::value::{Bytes, Value};
 
-/// Whether a column of a STRICT table has this name and type.
+/// True if a column of a STRICT table has this name and type.
 fn is_column(it: &Column, name: &str, kind: Kind, not_null: bool) -> bool
     ensures { IsTrue result ↔ (it.now ≡ column name.now kind not_null) }
 {
@@ -27,7 +27,7 @@ fn is_column(it: &Column, name: &str, kind: Kind, not_null: bool) -> bool
     it.collation == Collation::Binary
 }
 
-/// Whether a table has this name and this tree, and no rules beside its columns and keys.
+/// True if a table has this name and this tree, and no rules beside its columns and keys.
 fn has_no_more(table: &Table, name: &str, tree: u32) -> bool
     ensures { IsTrue result ↔ (HasNoMore table.now name.now tree) }
 {
@@ -43,7 +43,7 @@ fn has_no_more(table: &Table, name: &str, tree: u32) -> bool
     table.stamps.formats.is_empty()
 }
 
-/// Whether there is one unique key, of these columns.
+/// True if there is one unique key, of these columns.
 fn is_only(uniques: &[Items<usize>], unique: &[usize]) -> bool
     ensures { IsTrue result ↔ (uniques.now ≡ unique.now ∷ []) }
 {
@@ -56,7 +56,7 @@ fn is_only(uniques: &[Items<usize>], unique: &[usize]) -> bool
     true
 }
 
-/// Whether there is one order, and it is the plain one.
+/// True if there is one order, and it is the plain one.
 fn is_plain(orders: &[Order]) -> bool
     ensures { IsTrue result ↔ (orders.now ≡ plain ∷ []) }
 {
@@ -69,7 +69,7 @@ fn is_plain(orders: &[Order]) -> bool
     true
 }
 
-/// Whether a table has these keys.
+/// True if a table has these keys.
 fn has_keys(table: &Table, key: Option<usize>, primary: &[usize], unique: &[usize]) -> bool
     ensures { IsTrue result ↔ (HasKeys table.now key primary.now unique.now) }
 {
@@ -82,7 +82,7 @@ fn has_keys(table: &Table, key: Option<usize>, primary: &[usize], unique: &[usiz
     is_plain(table.orders.as_slice())
 }
 
-/// Whether a table has a row key alone.
+/// True if a table has a row key alone.
 fn has_row_key(table: &Table) -> bool
     ensures { IsTrue result ↔ (HasRowKey table.now) }
 {
@@ -92,7 +92,7 @@ fn has_row_key(table: &Table) -> bool
     table.uniques.is_empty() && table.orders.is_empty()
 }
 
-/// Whether the names of a reference's columns are this one alone.
+/// True if the names of a reference's columns are this one alone.
 fn is_name(names: &[Bytes], name: &str) -> bool
     ensures { IsTrue result ↔ (names.now ≡ name.now ∷ []) }
 {
@@ -105,7 +105,7 @@ fn is_name(names: &[Bytes], name: &str) -> bool
     true
 }
 
-/// Whether this is the reference of an instance to its service.
+/// True if this is the reference of an instance to its service.
 fn is_reference(it: &Reference) -> bool
     ensures { IsTrue result ↔ (it.now ≡ to_service) }
 {
@@ -118,7 +118,7 @@ fn is_reference(it: &Reference) -> bool
     it.on_delete == Action::NoAction && it.on_update == Action::NoAction
 }
 
-/// Whether there is no other reference.
+/// True if a table has this reference and no other.
 fn has_reference(table: &Table) -> bool
     ensures { IsTrue result ↔ (table.now.references ≡ to_service ∷ []) }
 {
@@ -131,7 +131,7 @@ fn has_reference(table: &Table) -> bool
     true
 }
 
-/// Whether these are the columns of the table of counters.
+/// True if these are the columns of the table of counters.
 fn are_meta_columns(columns: &[Column]) -> bool
     ensures { IsTrue result ↔ (columns.now ≡ meta.columns) }
 {
@@ -147,7 +147,7 @@ fn are_meta_columns(columns: &[Column]) -> bool
     true
 }
 
-/// Whether this is the table of counters.
+/// True if this is the table of counters.
 fn is_meta(table: &Table) -> bool
     ensures { IsTrue result ↔ (table.now ≡ meta) }
 {
@@ -160,7 +160,7 @@ fn is_meta(table: &Table) -> bool
     table.references.is_empty()
 }
 
-/// Whether these are the columns of the table of services.
+/// True if these are the columns of the table of services.
 fn are_service_columns(columns: &[Column]) -> bool
     ensures { IsTrue result ↔ (columns.now ≡ service.columns) }
 {
@@ -173,7 +173,7 @@ fn are_service_columns(columns: &[Column]) -> bool
     true
 }
 
-/// Whether this is the table of services.
+/// True if this is the table of services.
 fn is_service(table: &Table) -> bool
     ensures { IsTrue result ↔ (table.now ≡ service) }
 {
@@ -186,7 +186,7 @@ fn is_service(table: &Table) -> bool
     table.references.is_empty()
 }
 
-/// Whether these are the columns of the table of instances.
+/// True if these are the columns of the table of instances.
 fn are_instance_columns(columns: &[Column]) -> bool
     ensures { IsTrue result ↔ (columns.now ≡ instance_table.columns) }
 {
@@ -214,7 +214,7 @@ fn are_instance_columns(columns: &[Column]) -> bool
     true
 }
 
-/// Whether this is the table of instances.
+/// True if this is the table of instances.
 fn is_instance(table: &Table) -> bool
     ensures { IsTrue result ↔ (table.now ≡ instance_table) }
 {
@@ -227,7 +227,7 @@ fn is_instance(table: &Table) -> bool
     has_reference(table)
 }
 
-/// Whether these are the columns of the table of groups.
+/// True if these are the columns of the table of groups.
 fn are_grp_columns(columns: &[Column]) -> bool
     ensures { IsTrue result ↔ (columns.now ≡ grp.columns) }
 {
@@ -249,7 +249,7 @@ fn are_grp_columns(columns: &[Column]) -> bool
     true
 }
 
-/// Whether this is the table of groups.
+/// True if this is the table of groups.
 fn is_grp(table: &Table) -> bool
     ensures { IsTrue result ↔ (table.now ≡ grp) }
 {
@@ -262,7 +262,7 @@ fn is_grp(table: &Table) -> bool
     table.references.is_empty()
 }
 
-/// Whether these are the columns of the table of snapshots.
+/// True if these are the columns of the table of snapshots.
 fn are_snap_columns(columns: &[Column]) -> bool
     ensures { IsTrue result ↔ (columns.now ≡ snap.columns) }
 {
@@ -281,7 +281,7 @@ fn are_snap_columns(columns: &[Column]) -> bool
     true
 }
 
-/// Whether this is the table of snapshots, with this tree.
+/// True if this is the table of snapshots, with this tree.
 fn is_snap_of(table: &Table, tree: u32) -> bool
     ensures { IsTrue result ↔ (table.now ≡ snap_at tree) }
 {
@@ -294,14 +294,14 @@ fn is_snap_of(table: &Table, tree: u32) -> bool
     table.references.is_empty()
 }
 
-/// Whether this is the table of snapshots.
+/// True if this is the table of snapshots.
 fn is_snap(table: &Table) -> bool
     ensures { IsTrue result ↔ (table.now ≡ snap) }
 {
     is_snap_of(table, 8)
 }
 
-/// Whether these are the columns of the table of restarters.
+/// True if these are the columns of the table of restarters.
 fn are_restarter_columns(columns: &[Column]) -> bool
     ensures { IsTrue result ↔ (columns.now ≡ restarter.columns) }
 {
@@ -317,7 +317,7 @@ fn are_restarter_columns(columns: &[Column]) -> bool
     true
 }
 
-/// Whether this is the table of restarters.
+/// True if this is the table of restarters.
 fn is_restarter(table: &Table) -> bool
     ensures { IsTrue result ↔ (table.now ≡ restarter) }
 {
@@ -330,7 +330,7 @@ fn is_restarter(table: &Table) -> bool
     table.references.is_empty()
 }
 
-/// Whether these are the six tables.
+/// True if these are the six tables.
 fn are_tables(tables: &[Table]) -> bool
     ensures { IsTrue result ↔ (tables.now ≡ store_schema.tables) }
 {
@@ -346,7 +346,7 @@ fn are_tables(tables: &[Table]) -> bool
     true
 }
 
-/// Whether this is the index of a unique key.
+/// True if this is the index of a unique key.
 fn is_index(it: &Index, name: &str, tree: u32, table: u32, columns: &[usize]) -> bool
     ensures { IsTrue result ↔ (it.now ≡ index name.now tree table columns.now) }
 {
@@ -359,7 +359,7 @@ fn is_index(it: &Index, name: &str, tree: u32, table: u32, columns: &[usize]) ->
     it.is_unique
 }
 
-/// Whether these are the indexes of their unique keys.
+/// True if these are the indexes of their unique keys.
 fn are_indexes(indexes: &[Index]) -> bool
     ensures { IsTrue result ↔ (indexes.now ≡ store_schema.indexes) }
 {
@@ -384,7 +384,7 @@ fn are_indexes(indexes: &[Index]) -> bool
     true
 }
 
-/// Whether a database has the six tables and nothing else.
+/// True if a database has the six tables and nothing else.
 pub fn is_store(schema: &Schema) -> bool
     ensures { IsTrue result ↔ (schema.now ≡ store_schema) }
 {
@@ -401,7 +401,7 @@ fn table_at(schema: &Schema, place: usize) -> Option<&Table>
     schema.tables.as_slice().get(place)
 }
 
-/// Whether the table of counters stands in its place.
+/// True if the table of counters stands in its place.
 pub fn has_meta_table(schema: &Schema) -> bool
     ensures { IsTrue result ↔ (StandsAt schema.now 0 meta) }
 {
@@ -411,7 +411,7 @@ pub fn has_meta_table(schema: &Schema) -> bool
     is_meta(table)
 }
 
-/// Whether the table of services stands in its place.
+/// True if the table of services stands in its place.
 pub fn has_service_table(schema: &Schema) -> bool
     ensures { IsTrue result ↔ (StandsAt schema.now 1 service) }
 {
@@ -421,7 +421,7 @@ pub fn has_service_table(schema: &Schema) -> bool
     is_service(table)
 }
 
-/// Whether the table of instances stands in its place.
+/// True if the table of instances stands in its place.
 pub fn has_instance_table(schema: &Schema) -> bool
     ensures { IsTrue result ↔ (StandsAt schema.now 2 instance_table) }
 {
@@ -431,7 +431,7 @@ pub fn has_instance_table(schema: &Schema) -> bool
     is_instance(table)
 }
 
-/// Whether the table of groups stands in its place.
+/// True if the table of groups stands in its place.
 pub fn has_grp_table(schema: &Schema) -> bool
     ensures { IsTrue result ↔ (StandsAt schema.now 3 grp) }
 {
@@ -441,7 +441,7 @@ pub fn has_grp_table(schema: &Schema) -> bool
     is_grp(table)
 }
 
-/// Whether the table of snapshots stands in its place.
+/// True if the table of snapshots stands in its place.
 pub fn has_snap_table(schema: &Schema) -> bool
     ensures { IsTrue result ↔ (StandsAt schema.now 4 snap) }
 {
@@ -451,7 +451,7 @@ pub fn has_snap_table(schema: &Schema) -> bool
     is_snap(table)
 }
 
-/// Whether the table of restarters stands in its place.
+/// True if the table of restarters stands in its place.
 pub fn has_restarter_table(schema: &Schema) -> bool
     ensures { IsTrue result ↔ (StandsAt schema.now 5 restarter) }
 {
@@ -472,14 +472,14 @@ fn place_of_tree(schema: &Schema, tree: u32) -> Option<usize>
         .position(|table| table.tree == tree)
 }
 
-/// Whether the first table that has this tree stands at this place.
+/// True if the first table that has this tree stands at this place.
 fn is_first_of_tree(schema: &Schema, place: usize, tree: u32) -> bool
     ensures { IsTrue result ↔ (position (λ t. t.tree == tree) schema.now.tables ≡ Some place) }
 {
     place_of_tree(schema, tree) == Some(place)
 }
 
-/// Whether the first table that has the name of that of snapshots is one, wherever it stands.
+/// True if the first table with the name of the table of snapshots is one, wherever it stands.
 pub fn has_snapshots(schema: &Schema) -> bool
     ensures { IsTrue result ↔ StandsSomewhere schema.now snap_at }
 {

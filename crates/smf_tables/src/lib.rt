@@ -1,6 +1,6 @@
 //! The six tables of a store, statement by statement. It knows nothing of what they hold.
-//! Modules: `layout` (whether the tables are those of a store), `writing` (rows put in and taken out, inside a transaction), `looking` (rows looked up there), `reading`
-//! (whole tables).
+//! Modules: `layout` (tests that the tables are those of a store), `edits` (rows put in and taken out, inside a
+//! transaction); `lookups` (rows looked up there), `scans` (whole tables).
 #![tactic(auto)]
 
 mod layout;

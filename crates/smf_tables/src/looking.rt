@@ -45,7 +45,7 @@ pub fn name_of<S: Alter>(tx: &mut Transaction<'_, S>, id: i64) -> Result<Option<
     }
 }
 
-/// Whether a service is there.
+/// True if a service is there.
 pub fn has_service<S: Alter>(tx: &mut Transaction<'_, S>, name: &str) -> Result<bool, Error>
     requires { IsInside S.Store tx.old.conn.now }
     ensures same_reference { tx.new.conn.ghost_name ≡ tx.old.conn.ghost_name }

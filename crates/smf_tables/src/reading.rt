@@ -72,7 +72,7 @@ pub fn all_snapshots<S: Alter>(tx: &mut Transaction<'_, S>) -> Result<Vec<Row>, 
     requires { IsInside S.Store tx.old.conn.now }
     ensures same_reference { tx.new.conn.ghost_name ≡ tx.old.conn.ghost_name }
     ensures ok { Finds (λ old new rows. LooksAtSnapshots old new rows.items) S.Store tx.old.conn.now tx.new.conn.now result }
-    // Also where the tables before it are others than those of a store.
+    // The same, if the tables before it are others than those of a store.
     ensures named { Finds (λ old new rows. LooksForSnapshots old new rows.items) S.Store tx.old.conn.now tx.new.conn.now result }
     ensures err { CommitsNone S.Store tx.old.conn.now tx.new.conn.now result }
     ensures crash { LeavesAsBefore S.Store tx.old.conn.now tx.new.conn.now }
@@ -100,7 +100,7 @@ pub fn all_launches<S: Alter>(tx: &mut Transaction<'_, S>) -> Result<Vec<Row>, E
     }
 }
 
-/// Whether a rowid comes after the last.
+/// True if a rowid comes after the last.
 fn is_past(last: Option<i64>, id: i64) -> bool
     ensures { IsTrue result → IfSome last (λ before. before <ℤ id) }
 {
@@ -110,7 +110,7 @@ fn is_past(last: Option<i64>, id: i64) -> bool
     }
 }
 
-/// Whether the rows show rowids that rise, so that none comes twice.
+/// True if the rows show rowids that rise, so that none comes twice.
 pub fn are_keyed(rows: &[Row]) -> bool
     ensures { IsTrue result → AreKeyed rows.now }
 {

@@ -31,7 +31,7 @@ pub fn add_meta<S: Alter>(tx: &mut Transaction<'_, S>, key: &str, value: i64) ->
     Ok(())
 }
 
-/// Takes out a service. It fails where the service has instances.
+/// Takes out a service. It fails if the service has instances.
 pub fn drop_service<S: Alter>(tx: &mut Transaction<'_, S>, name: &str) -> Result<(), Error>
     requires { IsInside S.Store tx.old.conn.now }
     ensures same_reference { tx.new.conn.ghost_name ≡ tx.old.conn.ghost_name }
@@ -67,13 +67,13 @@ pub fn drop_instance<S: Alter>(tx: &mut Transaction<'_, S>, id: i64) -> Result<(
     Ok(())
 }
 
-/// What a row of the table of instances holds.
+/// A row of the table of instances.
 #[derive(Drop)]
 pub struct InstanceRow<'a> {
     pub id: i64,
     /// The name of its service, which is there.
     pub service: &'a str,
-    /// What stands behind the service and a colon in its name.
+    /// The part of its name after the service and a colon.
     pub name: &'a str,
     /// The text of its row.
     pub row: &'a str,
@@ -81,7 +81,7 @@ pub struct InstanceRow<'a> {
     pub previous: Option<i64>,
 }
 
-/// Puts in an instance. It fails where its number or its name is taken, or its service is not there.
+/// Puts in an instance. It fails if its number or its name is taken, or its service is not there.
 pub fn add_instance<S: Alter>(tx: &mut Transaction<'_, S>, i: &InstanceRow<'_>) -> Result<(), Error>
     requires { IsInside S.Store tx.old.conn.now }
     ensures same_reference { tx.new.conn.ghost_name ≡ tx.old.conn.ghost_name }
@@ -160,7 +160,7 @@ pub fn drop_snapshots<S: Alter>(tx: &mut Transaction<'_, S>, id: i64) -> Result<
     Ok(())
 }
 
-/// Puts in a snapshot of an instance. It fails where its number is taken.
+/// Puts in a snapshot of an instance. It fails if its number is taken.
 pub fn add_snapshot<S: Alter>(
     tx: &mut Transaction<'_, S>,
     id: i64,

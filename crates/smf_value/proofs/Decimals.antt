@@ -25,7 +25,7 @@ decimal_plain [] h e = cc
 decimal_plain (d ∷ []) h e = refl
 decimal_plain (d ∷ c ∷ ds) h e = absurd (no_zero d (d == 48) refl (both (not (d == 48)) (list_all is_ascii_digit (d ∷ c ∷ ds)) h).0 e)
 
--- what is in decimal is what its number prints as
+-- a text in decimal is the text that its number prints as
 pub decimal_again : (ds : List ℕ) → is_decimal ds ≡ true → digits_value 10 ds < 2 ^ 64 → ds ≡ decimal (digits_value 10 ds)
 decimal_again ds h low = sym (decimal-digits_value own ds (decimal_digits ds h) (decimal_filled ds h) (decimal_plain ds h) low)
 
@@ -42,7 +42,7 @@ decimal_is_plain : (n : ℕ) → n < 2 ^ 64 → IsPlain (decimal n)
 decimal_is_plain zero low e = ap length (decimal_digit 0 (omega arith))
 decimal_is_plain (suc n) low e = absurd (omega (arith, first_decimal (suc n) (omega arith) low))
 
--- what a number prints as is in decimal, and is that number
+-- the text that a number prints as is in decimal, and is that number
 pub prints_decimal : (n : ℕ) → n < 2 ^ 64 → is_decimal (decimal n) ≡ true
 prints_decimal n low = decimal_from (decimal n) (digits_decimal own n low) (decimal_nonempty n low) (decimal_is_plain n low)
 

@@ -15,7 +15,7 @@ use Rattle.smf_value.proofs.Changes.{fails_bind}
 use Rattle.smf_value.proofs.Texts.{both}
 use Rattle.smf_value.proofs.OneValue.{kind_same, kind_itself}
 
--- what was read before, and what is still read
+-- the values that were read before, and those that are still read
 abbrev pub after : List Value → Result (List Value) GroupFault → Result (List Value) GroupFault
 after front read = read >>= λ vs. Ok (front ++ vs)
 
@@ -23,7 +23,7 @@ regroup : (front : List Value) (v : Value) (read : Result (List Value) GroupFaul
 regroup front v (Ok vs) = let done : List Value → Result (List Value) GroupFault = λ l. Ok l in ap done (sym (append_assoc front (v ∷ []) vs))
 regroup front v (Err e) = refl
 
--- what is left at a place
+-- the list that is left at a place
 pub left_at : {A : Type 0} (xs : List A) (i : ℕ) (x : A) → i < length xs → x ≡ get_or xs i x → drop i xs ≡ x ∷ drop (i + 1) xs
 left_at xs i x lt e = rw add-one (drop-cons xs i x lt ∙ ap (λ y. y ∷ drop (suc i) xs) (sym e))
 

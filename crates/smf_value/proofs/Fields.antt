@@ -46,7 +46,7 @@ done x = Ok x
 pub ok_is : {A : Type 0} (x y : A) → done x ≡ done y → x ≡ y
 ok_is x y e = cc
 
--- what a reader took from the front
+-- the text that a reader took from the front
 pub record Takes (bytes text rest : List ℕ) : Type 0 where
   pub parts : bytes ≡ text ++ rest
   pub rest_fits : IsBytes rest
@@ -138,7 +138,7 @@ text_again w limit wide is_text text rest is lt = rw (sized_again w limit wide t
 
 -- ---- one after another
 
--- each is right behind the one before it
+-- each has the relation to the one before it
 abbrev pub Chain : (Option (List ℕ) → List ℕ → Type 0) → Option (List ℕ) → List (List ℕ) → Type 0
 Chain R before [] = Unit {0}
 Chain R before (name ∷ names) = R before name × Chain R (Some name) names

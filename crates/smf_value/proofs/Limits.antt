@@ -8,13 +8,13 @@ use Rattle.smf_value.specs.declared.fault.GroupFault.TheVariants.{NoSuch, Full}
 use Rattle.smf_value.specs.Groups.{PropertyRecord, GroupRecord, by_property, property_of}
 use Rattle.smf_value.specs.Edits.{put_property, del}
 
--- what was found, by what a call on the answer says
+-- a property was found exactly if a call on the answer says so
 pub is_found : {X : Type 0} (r : Option (Bor X)) (found : Option X) (none v : Bool) → option_copied r ≡ found
     → is_some r ≡ not none → none ≡ v → is_some found ≡ not v
 is_found None found none v e h t = ap is_some (sym e) ∙ h ∙ ap not t
 is_found (Some x) found none v e h t = ap is_some (sym e) ∙ h ∙ ap not t
 
--- past the limit: only where there is no such property yet
+-- past the limit: only if there is no such property yet
 pub over_by : (p : PropertyRecord) (ps : List PropertyRecord) (found : Option PropertyRecord) (none : Bool)
     → lookup by_property ps p.name ≡ found → is_some found ≡ not none → Rises by_property ps → length ps ≡ 1000
     → none ≡ nat_lt 1000 (length (put by_property p ps))

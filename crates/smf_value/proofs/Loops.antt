@@ -9,7 +9,7 @@ use Rattle.smf_value.specs.declared.value.Value.{Value}
 use Rattle.smf_value.specs.Groups.{PropertyRecord, GroupRecord}
 use Rattle.smf_value.specs.Reading.{◌>>=◌, Field, FailsAt, value_at, values_at, property_at, properties_at, group_at, groups_at}
 
--- what was read before, and what is still read
+-- the items that were read before, and those that are still read
 abbrev pub with_front : {A : Type 0} → List A → Field (List A) → Field (List A)
 with_front {A} front read = read >>= λ x. let y : Field (List A) = Ok (front ++ x.0, x.1) in y
 

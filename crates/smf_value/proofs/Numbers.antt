@@ -48,7 +48,7 @@ signed_err text d h =
     let p = parse_signed_digits own {E = ℕ} w64 text (Err 0) h (decimal_digits text d) in
     not_below _ _ (λ low. p (decimal_filled text d, low))
 
--- what stands behind a minus
+-- the number after a minus
 pub minus_ok : (text rest : List ℕ) (z : ℤ) → text ≡ 45 ∷ rest → is_decimal rest ≡ true → ParsesSigned {E = ℕ} w64 10 text (Ok z)
     → (nat_le (digits_value 10 rest) (2 ^ 63) ≡ true) × (z ≡ neg_ℤ (pos (digits_value 10 rest))) × FitsSigned w64 z
 minus_ok text rest z e d h =
@@ -72,7 +72,7 @@ nine_parse ds d n h = let p = nine_fit ds d n in parse_digits own {E = ℕ} 32 d
 pub nine_value : (ds : List ℕ) (n : ℕ) → AreDigits ds → ParsesUnsigned {E = ℕ} 32 10 ds (Ok n) → n ≡ digits_value 10 ds
 nine_value ds n d h = (parse_digits own {E = ℕ} 32 ds (Ok n) h d).1
 
--- what does not fit 64 bits does not fit 63
+-- a number that does not fit 64 bits does not fit 63
 pub seconds_err : (text : List ℕ) → is_decimal text ≡ true → ParsesUnsigned {E = ℕ} 64 10 text (Err 0) → nat_lt (digits_value 10 text) (2 ^ 63) ≡ false
 seconds_err text d h = let e = ltb-false (digits_value 10 text) (2 ^ 64) (unsigned_err text d h) in le-ltb _ _ (omega arith)
 

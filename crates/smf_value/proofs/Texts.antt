@@ -30,7 +30,7 @@ all_are_ascii (b ∷ bs) h (suc i) = all_are_ascii bs (both (is_plain b) (list_a
 pub astring_is_utf8 : (text : List ℕ) → is_astring text ≡ true → is_utf8 text ≡ true
 astring_is_utf8 text h = is_utf8-from_IsUtf8 text (IsUtf8-from_ascii text (all_are_ascii text (both (nat_le (length text) 4096) (list_all is_plain text) h).1))
 
--- the text that bytes are, where they are one
+-- the text that bytes are, if they are one
 pub text_is : {E : Type 0} (r : Result (Bor (List ℕ)) E) (bytes : List ℕ) (v : Bool) (Q : E → Type 0) → is_utf8 bytes ≡ v → MatchResult r (λ s. (s.now ≡ bytes) × IsUtf8 bytes) (λ e. ¬ (IsUtf8 bytes) × Q e)
     → option_map {U = List ℕ} (λ x. x.now) (result_ok r) ≡ cond v (Some bytes) None
 text_is (Ok s) bytes true Q e h = ap Some h.0
@@ -38,7 +38,7 @@ text_is (Ok s) bytes false Q e h = let k : is_utf8 bytes ≡ true = is_utf8-from
 text_is (Err f) bytes true Q e h = absurd (h.0 (IsUtf8-from_is_utf8 bytes e))
 text_is (Err f) bytes false Q e h = refl
 
--- the same where a test says that they are one
+-- the same if a test says that they are one
 pub text_if : (o : Option (Bor (List ℕ))) (bytes : List ℕ) (v w : Bool) → option_map {U = List ℕ} (λ x. x.now) o ≡ cond v (Some bytes) None → v ≡ true → w ≡ true
     → option_map {U = List ℕ} (λ x. x.now) o ≡ cond w (Some bytes) None
 text_if o bytes true true h e f = h
@@ -54,7 +54,7 @@ pub utf8_is : {E : Type 0} (r : Result (Bor (List ℕ)) E) (bytes : List ℕ) (Q
 utf8_is (Ok s) bytes Q h = sym (is_utf8-from_IsUtf8 bytes h.1)
 utf8_is (Err f) bytes Q h = not_true (is_utf8 bytes) (λ e. h.0 (IsUtf8-from_is_utf8 bytes e))
 
--- the rest behind a prefix
+-- the rest after a prefix
 strip_by : (v : Bool) (p text rest : List ℕ) → starts_with nat_eq text p ≡ v → cond v (Some (drop (length p) text)) None ≡ Some rest → text ≡ p ++ rest
 strip_by true p text rest e h = let same : drop (length p) text ≡ rest = cc in (starts_is Decides-eqb text p _ refl).0 e ∙ ap (λ l. p ++ l) same
 strip_by false p text rest e h = cc

@@ -150,7 +150,7 @@ properties_spelled = record { takes = property_takes; again = property_again }
 properties_take : (n : ℕ) (bytes : List ℕ) (x : List PropertyRecord × List ℕ) → IsBytes bytes → properties_at None n bytes ≡ Ok x → AreTaken property_name spelled_property IsWholeProperty IsAbove None n bytes x
 properties_take n bytes x fits e = all_take property_name property_at properties_at spelled_property IsWholeProperty IsAbove properties_all properties_spelled n None bytes x fits e
 
--- what is known of a property that is read part by part
+-- facts about a property that is read part by part
 pub property_parts : (before : Option (List ℕ)) (bytes name r1 r2 r3 r4 : List ℕ) (kind : Kind) (count : ℕ) (values : List Value) → IsBytes bytes → name_at before bytes ≡ Ok (name, r1) → kind_at r1 ≡ Ok (kind, r2)
     → count_at r2 ≡ Ok (count, r3) → values_at kind count r3 ≡ Ok (values, r4) → AreOf kind values × (length values ≤ 1000)
 property_parts before bytes name r1 r2 r3 r4 kind count values fits a b c d =
@@ -206,7 +206,7 @@ group_again before g rest is above =
       all_again property_name property_at properties_at spelled_property IsWholeProperty IsAbove properties_all properties_spelled None g.properties rest is.each (rises_chain property_name g.properties is.formed.rises),
     ) refl
 
--- what is known of a group that is read part by part
+-- facts about a group that is read part by part
 pub group_parts : (before : Option (List ℕ)) (bytes name group_type r1 r2 r3 r4 r5 : List ℕ) (flag : Bool) (count : ℕ) (ps : List PropertyRecord) → IsBytes bytes → name_at before bytes ≡ Ok (name, r1)
     → text_at w16 is_name r1 ≡ Ok (group_type, r2) → bit_at r2 ≡ Ok (flag, r3) → count_at r3 ≡ Ok (count, r4) → properties_at None count r4 ≡ Ok (ps, r5) → Rises by_property ps × (length ps ≤ 1000)
 group_parts before bytes name group_type r1 r2 r3 r4 r5 flag count ps fits a b c d e =
@@ -233,7 +233,7 @@ body_takes bytes x fits e =
     let low : length x.0 < 2 ^ 32 = rw t1.count t0.1 in
     (record { bounded = low; rises = chain_rises group_name None x.0 t1.chain; each = t1.each }, parts)
 
--- what is known of groups that are read part by part
+-- a fact about groups that are read part by part
 pub body_rises : (bytes r1 r2 : List ℕ) (count : ℕ) (gs : List GroupRecord) → IsBytes bytes
     → number_at w32 bytes ≡ Ok (count, r1) → groups_at None count r1 ≡ Ok (gs, r2) → Rises by_group gs
 body_rises bytes r1 r2 count gs fits a b =

@@ -46,7 +46,7 @@ spelled_group g =
 abbrev pub spelled : List GroupRecord → List ℕ
 spelled gs = spelled_all w32 spelled_group gs
 
--- what is true of a property and all its parts
+-- a property that is right in all its parts
 pub record IsWholeProperty (p : PropertyRecord) : Type 0 where
   pub named : IsName p.name
   pub formed : IsProperty p

@@ -16,12 +16,12 @@ abbrev pub Fails : {Y : Type 0} → GroupFault → Result Y GroupFault → Type 
 Fails Memory given = Unit {0}
 Fails e given = given ≡ Err e
 
--- what a call that changes something leaves: what the definition gives, or the fault and all as it was
+-- a call that changes something leaves what the definition gives, or all as it was with the fault
 abbrev pub Leaves : {A : Type 0} → Result (Unit {0}) GroupFault → Result A GroupFault → A → A → Type 0
 Leaves (Ok _) given old new = given ≡ Ok new
 Leaves (Err e) given old new = Fails e given × (new ≡ old)
 
--- what a call returned, seen by view, is what the definition gives, unless memory ran out
+-- a call returned, seen by `view`, what the definition gives, unless memory ran out
 abbrev pub Answers : {X Y : Type 0} → (X → Y) → Result X GroupFault → Result Y GroupFault → Type 0
 Answers view (Ok x) given = given ≡ Ok (view x)
 Answers view (Err e) given = Fails e given
@@ -83,7 +83,7 @@ set name kind texts g = do
   p ← property_set name kind texts (property_of name g)
   put_property p g
 
--- a value behind the others, also one that is there
+-- a value after the others, even if the property has it already
 unfoldable pub property_added : List ℕ → Option Kind → List ℕ → Option PropertyRecord → Result PropertyRecord GroupFault
 property_added name kind text found = do
   k ← agreed kind found

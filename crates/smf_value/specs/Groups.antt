@@ -1,4 +1,4 @@
--- What properties and groups are.
+-- Properties and groups.
 use Rattle.std.specs.Prelude.{◌≡◌, ℕ, ◌≤◌, ◌-◌, List, [], ◌∷◌, length, Bool, true, Option, Some, None, option_map, slice_get}
 use Rattle.std.specs.List.{list_all}
 use Rattle.smf_fmri.specs.ByKey.{By, Rises, by_text, lookup}
@@ -52,7 +52,7 @@ abbrev pub text_of : List Value → Option (List ℕ)
 text_of (Astring text ∷ []) = Some text
 text_of _ = None
 
--- that of a property, where it is there
+-- that of a property, if it is there
 abbrev pub text_in : Option PropertyRecord → Option (List ℕ)
 text_in None = None
 text_in (Some p) = text_of p.values

@@ -1,4 +1,4 @@
--- What a time is.
+-- Times.
 use Rattle.std.specs.Prelude.{ℕ, ◌<◌}
 
 -- seconds from 0 to 2^63 - 1, and nanoseconds below 10^9

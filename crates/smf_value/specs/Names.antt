@@ -1,4 +1,4 @@
--- What the name of a group, a type or a property is.
+-- The names of groups, types and properties.
 use Rattle.std.specs.Prelude.{◌≡◌, ℕ, ◌+◌, ◌≤◌, List, [], ◌∷◌, length, Bool, true, ◌&&◌, nat_lt, if◌then◌else◌, Option, Some, None, is_none, Result, Ok, Err}
 use Rattle.std.specs.Char.{is_ascii_alphanumeric}
 use Rattle.smf_fmri.specs.Name.{is_word_byte}
@@ -6,7 +6,7 @@ use Rattle.smf_fmri.specs.Spelling.{IsComponent}
 use Rattle.smf_value.specs.declared.fault.NameFault.{NameFault}
 use Rattle.smf_value.specs.declared.fault.NameFault.TheVariants.{Memory, Component}
 
--- what a call returned, seen by view, is what the definition gives, unless memory ran out
+-- a call returned, seen by `view`, what the definition gives, unless memory ran out
 abbrev pub Fails : {Y : Type 0} → NameFault → Result Y NameFault → Type 0
 Fails Memory given = Unit {0}
 Fails e given = given ≡ Err e
@@ -15,7 +15,7 @@ abbrev pub Gives : {X Y : Type 0} → (X → Y) → Result X NameFault → Resul
 Gives view (Ok x) given = given ≡ Ok (view x)
 Gives view (Err e) given = Fails e given
 
--- the place of the first byte that cannot stand behind the first one, counted from at
+-- the place of the first byte that cannot stand after the first one, counted from `at`
 abbrev pub rest_wrong : ℕ → List ℕ → Option ℕ
 rest_wrong at [] = None
 rest_wrong at (b ∷ bs) = if is_word_byte b && nat_lt at 255 then rest_wrong (at + 1) bs else Some at

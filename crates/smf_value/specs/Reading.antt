@@ -1,5 +1,5 @@
--- Reading a body from left to right. A field that is wrong or missing is named by how many bytes there are from
--- where it begins to the end.
+-- Reading a body from left to right. The fault of a field that is wrong or missing is the number of bytes from its
+-- beginning to the end.
 use Rattle.std.specs.Prelude.{◌≡◌, ℕ, zero, suc, ◌-◌, ◌≤◌, List, [], ◌∷◌, length, take, drop, Bool, true, false, ◌==◌, ◌&&◌, nat_lt, if◌then◌else◌, Option, Some, None, Result, Ok, Err}
 use Rattle.std.specs.Cmp.Lexicographic.{slice_cmp}
 use Rattle.std.specs.Int.{Width, w16, w32, w64, byte_len, from_be_bytes, cast_signed}
@@ -19,7 +19,7 @@ use Rattle.smf_value.specs.Names.{is_name}
 use Rattle.smf_value.specs.Texts.{is_astring, is_ustring, is_short}
 use Rattle.smf_value.specs.Groups.{PropertyRecord, GroupRecord}
 
--- what a reader returned, seen by view, is what the definition gives, unless memory ran out
+-- a reader returned, seen by `view`, what the definition gives, unless memory ran out
 abbrev pub FailsAt : {Y : Type 0} → ReadFault → Result Y ℕ → Type 0
 FailsAt faults.Memory given = Unit {0}
 FailsAt (faults.Left n) given = given ≡ Err n
@@ -28,7 +28,7 @@ abbrev pub GivesAt : {X Y : Type 0} → (X → Y) → Result X ReadFault → Res
 GivesAt view (Ok x) given = given ≡ Ok (view x)
 GivesAt view (Err e) given = FailsAt e given
 
--- what a call returned, seen by view, is what the definition gives, unless memory ran out
+-- a call returned, seen by `view`, what the definition gives, unless memory ran out
 abbrev pub Fails : {Y : Type 0} → BodyFault → Result Y BodyFault → Type 0
 Fails Memory given = Unit {0}
 Fails e given = given ≡ Err e
@@ -42,11 +42,11 @@ abbrev pub ◌>>=◌ : {A B : Type 0} → Result A ℕ → (A → Result B ℕ) 
 (Ok x) >>= f = f x
 (Err e) >>= f = Err e
 
--- a field: a value, and the bytes behind it
+-- a field: a value, and the bytes after it
 abbrev pub Field : Type 0 → Type 0
 Field A = Result (A × List ℕ) ℕ
 
--- where the bytes begin
+-- the fault of a field that begins with the bytes
 abbrev pub wrong : {A : Type 0} → List ℕ → Field A
 wrong bytes = Err (length bytes)
 
@@ -179,13 +179,13 @@ groups_at before (suc n) bytes = do
   others ← groups_at (Some first.0.name) n first.1
   Ok (first.0 ∷ others.0, others.1)
 
--- a body, and what stands behind it
+-- a body, and the bytes after it
 unfoldable pub body_at : List ℕ → Field (List GroupRecord)
 body_at bytes = do
   count ← number_at w32 bytes
   groups_at None count.0 count.1
 
--- where a fault is, from the start
+-- the place of a fault, from the start
 abbrev pub placed : {A : Type 0} → List ℕ → Result A ℕ → Result A BodyFault
 placed bytes (Ok x) = Ok x
 placed bytes (Err left) = Err (BadBody (length bytes - left))
@@ -199,7 +199,7 @@ abbrev pub IsWithin : ℕ → BodyFault → Type 0
 IsWithin len Memory = Unit {0}
 IsWithin len (BadBody place) = place ≤ len
 
--- nothing stands behind the body
+-- nothing stands after the body
 abbrev pub whole : List GroupRecord × List ℕ → Result (List GroupRecord) ℕ
 whole found = if length found.1 == 0 then Ok found.0 else Err (length found.1)
 
@@ -208,7 +208,7 @@ all_at bytes = do
   found ← body_at bytes
   whole found
 
--- the groups of a body that stands first, and what stands behind it
+-- the groups of a body that stands first, and the bytes after it
 unfoldable pub decoded_first : List ℕ → Result (List GroupRecord × List ℕ) BodyFault
 decoded_first bytes = placed bytes (body_at bytes)
 

@@ -17,7 +17,7 @@ use Rattle.smf_value.specs.declared.value.Value.{Value}
 use Rattle.smf_value.specs.declared.value.Value.TheVariants.{Boolean, Count, Integer, Time, Astring, Ustring, Fmri}
 use Rattle.smf_value.specs.Values.{IsValue}
 
--- what a call returned, seen by view, is what the definition gives, unless memory ran out
+-- a call returned, seen by `view`, what the definition gives, unless memory ran out
 abbrev pub Fails : {Y : Type 0} → ValueFault → Result Y ValueFault → Type 0
 Fails Memory given = Unit {0}
 Fails e given = given ≡ Err e
@@ -75,7 +75,7 @@ read_positive text =
     if is_decimal text then in_range (nat_lt (digits_value 10 text) (2 ^ 63)) (Integer (pos (digits_value 10 text)))
     else Err (NotA kinds.Integer)
 
--- what stands behind a minus, which is not 0
+-- the number after a minus, which is not 0
 abbrev pub read_negative : List ℕ → Result Value ValueFault
 read_negative text =
     if is_decimal text && not (pointwise nat_eq text (codes "0")) then in_range (nat_le (digits_value 10 text) (2 ^ 63)) (Integer (neg_ℤ (pos (digits_value 10 text))))

@@ -1,4 +1,4 @@
--- What values are.
+-- Values, and the kinds that they are of.
 use Rattle.std.specs.Prelude.{◌<◌, ◌^◌, Bool, true, false, not, ◌&&◌, ◌==◌, nat_eq}
 use Rattle.std.specs.Cmp.Lexicographic.{pointwise}
 use Rattle.std.specs.Prelude.{FitsSigned}
@@ -20,7 +20,7 @@ kind_of (Astring text) = kinds.Astring
 kind_of (Ustring text) = kinds.Ustring
 kind_of (Fmri name) = kinds.Fmri
 
--- what each value of the program is
+-- the bounds that each value of the program keeps
 abbrev pub IsValue : Value → Type 0
 IsValue (Boolean b) = Unit {0}
 IsValue (Count n) = n < 2 ^ 64
@@ -30,7 +30,7 @@ IsValue (Astring text) = IsAstring text
 IsValue (Ustring text) = IsUstring text
 IsValue (Fmri name) = IsShort name
 
--- whether two values are one
+-- true if two values are one
 abbrev pub is_value : Value → Value → Bool
 is_value (Boolean true) (Boolean b) = b
 is_value (Boolean false) (Boolean b) = not b

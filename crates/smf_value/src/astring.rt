@@ -36,7 +36,7 @@ fn all_plain(bytes: &[u8]) -> bool
 }
 
 impl Astring {
-    /// Whether bytes are such a text.
+    /// True if bytes are such a text.
     pub fn is_text(bytes: &[u8]) -> bool
         ensures { result ≡ is_astring bytes.now }
     {

@@ -168,7 +168,8 @@ impl Group {
         self.put(property)
     }
 
-    /// Puts a value behind a property's others, also one that is there. A missing property is made, as by `set`.
+    /// Puts a value after a property's others, even if the property has it already. A missing property is made, as by
+    /// `set`.
     pub fn add_value(
         &mut self,
         alloc: Global,

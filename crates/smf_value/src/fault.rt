@@ -63,7 +63,7 @@ pub enum GroupFault {
 pub enum BodyFault {
     #[error("no memory")]
     Memory,
-    /// Where the first wrong or missing field begins.
+    /// The place at which the first wrong or missing field begins.
     #[error("bad body at {0}")]
     BadBody(usize),
 }

@@ -2,7 +2,7 @@ ghost use Rattle.std.specs.Prelude.{⊤, ◌≡◌, ◌==◌, [], ◌∷◌, cod
 
 use bitflags::{Flag, Flags, bitflag_items};
 
-/// What is set of a group.
+/// The flags of a group.
 #[derive(Clone, Copy, PartialEq, Eq)]
 pub struct GroupFlags(u8);
 

@@ -108,7 +108,7 @@ impl Group {
         self.properties.get_text(name)
     }
 
-    /// The text of the property of a name, where it has one value, of kind astring.
+    /// The text of the property of a name, if it has one value, of kind astring.
     pub fn text(&self, name: &str) -> Option<&Astring>
         ensures { option_copied result ≡ text_in (property_of name.now self.now) }
     {
@@ -145,7 +145,7 @@ impl Group {
     }
 }
 
-/// Whether a property would be one more than a group has.
+/// True if a property would be one more than a group may have.
 fn is_one_too_many(properties: &Ordered<Property>, property: &Property) -> bool
     requires { length properties.now ≤ 1000 }
     ensures { result ≡ nat_lt 1000 (length (put by_property property.now properties.now)) }

@@ -1,6 +1,6 @@
-//! What services are described by: values of seven kinds, properties, groups, and the bytes that groups are kept in.
-//! Modules: `name`, `kind`, `time`, `astring`, `ustring`, `value`, `flags`, `property`, their `spelling`,
-//! `group` and its `edits`, `body` and its `reading`, `fault`.
+//! The data that describe services: values of seven kinds, properties, groups, and the bytes that groups are kept in.
+//! Modules: `name`, `kind`, `time`, `astring`, `ustring`, `value`, `flags`, `property`, their `value_texts`,
+//! `group` and its `edits`, `body` and its `decoder`, `fault`.
 #![tactic(auto)]
 
 mod astring;

@@ -68,7 +68,7 @@ pub(crate) fn name_wrong(bytes: &[u8]) -> Option<usize>
 impl Name {
     /// The name that a text is.
     pub fn parse(alloc: Global, text: &str) -> Result<Name, NameFault>
-        // What is read is a name.
+        // A text that is read is a name.
         ensures found { IfOk result (λ n. (n ≡ text.now) × IsNameText text.now) }
         // A name is read, unless memory runs out.
         ensures only { IsNameText text.now → Gives (λ n. n) result (Ok text.now) }

@@ -77,7 +77,7 @@ impl Property {
         self.values.as_slice()
     }
 
-    /// Its text, where it has one value, of kind astring.
+    /// Its text, if it has one value, of kind astring.
     pub fn text(&self) -> Option<&Astring>
         ensures { option_copied result ≡ text_of self.now.values }
     {

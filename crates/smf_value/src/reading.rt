@@ -25,8 +25,8 @@ use std::alloc::{AllocError, AllocFailed, Global};
 use std::cmp::Ordering;
 use std::str;
 
-/// Why a reader stops: no memory, or a field that is wrong or missing, by how many bytes there are from where it
-/// begins to the end.
+/// Why a reader stops: no memory, or a field that is wrong or missing. `Left` has the number of bytes from the field's
+/// beginning to the end.
 #[derive(Clone, Copy)]
 enum ReadFault {
     Memory,
@@ -174,7 +174,7 @@ fn short_name(alloc: Global, bytes: &[u8]) -> Result<Option<Fmri>, ReadFault>
     }
 }
 
-/// The bytes that a length of two bytes counts, and what stands behind them.
+/// The bytes that a length of two bytes counts, and the bytes after them.
 fn short_text_at(bytes: &[u8]) -> Result<(&[u8], &[u8]), ReadFault>
     ensures { GivesAt (λ x. (x.0.now, x.1.now)) result (sized_at w16 bytes.now) }
 {
@@ -186,7 +186,7 @@ fn short_text_at(bytes: &[u8]) -> Result<(&[u8], &[u8]), ReadFault>
     Ok(rest.split_at(len))
 }
 
-/// The bytes that a length of four bytes counts, and what stands behind them.
+/// The bytes that a length of four bytes counts, and the bytes after them.
 fn long_text_at(bytes: &[u8]) -> Result<(&[u8], &[u8]), ReadFault>
     ensures { GivesAt (λ x. (x.0.now, x.1.now)) result (sized_at w32 bytes.now) }
 {
@@ -424,7 +424,7 @@ fn all_at(alloc: Global, bytes: &[u8]) -> Result<Ordered<Group>, ReadFault>
     Ok(groups)
 }
 
-/// Where a fault is, from the start of the bytes.
+/// A fault with its place, from the start of the bytes.
 fn placed(fault: ReadFault, bytes: &[u8]) -> BodyFault
     ensures fault { result ≡ placed_fault (length bytes.now) fault }
     ensures place { IsWithin (length bytes.now) result }
@@ -437,9 +437,9 @@ fn placed(fault: ReadFault, bytes: &[u8]) -> BodyFault
 
 /// The groups of a body.
 pub fn decode(alloc: Global, bytes: &[u8]) -> Result<Ordered<Group>, BodyFault>
-    // What is read is spelled so.
+    // Groups that are read are spelled so.
     ensures found { IfOk result (λ gs. AreGroups gs × (bytes.now ≡ spelled gs)) }
-    // What is spelled so is read, unless memory runs out.
+    // Groups that are spelled so are read, unless memory runs out.
     ensures only { (gs : List GroupRecord) → AreGroups gs → bytes.now ≡ spelled gs → Gives (λ x. x) result (Ok gs) }
     // Which field is the first wrong one.
     ensures exact { Gives (λ x. x) result (decoded bytes.now) }
@@ -459,7 +459,7 @@ fn decode_exact(alloc: Global, bytes: &[u8]) -> Result<Ordered<Group>, BodyFault
     }
 }
 
-/// The groups of a body that stands first, and what stands behind it.
+/// The groups of a body that stands first, and the bytes after it.
 pub fn decode_first(alloc: Global, bytes: &[u8]) -> Result<(Ordered<Group>, &[u8]), BodyFault>
     ensures found { IfOk result (λ x. AreGroups x.0 × (bytes.now ≡ spelled x.0 ++ x.1.now)) }
     ensures only { (gs : List GroupRecord) (rest : List ℕ) → AreGroups gs → bytes.now ≡ spelled gs ++ rest

@@ -34,7 +34,7 @@ fn all_digits(bytes: &[u8]) -> bool
     bytes.iter().all(|b| b.is_ascii_digit())
 }
 
-/// Whether a text is a number in decimal, without sign or leading zero.
+/// True if a text is a number in decimal, without sign or leading zero.
 fn is_decimal(bytes: &[u8]) -> bool
     ensures { result ≡ is_decimal bytes.now }
 {
@@ -82,7 +82,7 @@ fn read_positive(text: &str) -> Result<Value, ValueFault>
     }
 }
 
-/// A number behind a minus, where `rest` is what stands behind it in `text`.
+/// A number after a minus: `text` is the minus and then `rest`.
 fn read_negative(text: &str, rest: &str) -> Result<Value, ValueFault>
     requires { text.now ≡ 45 ∷ rest.now }
     ensures { result ≡ read_negative rest.now }
@@ -244,9 +244,9 @@ fn push_digits(alloc: Global, text: &mut String, number: u32) -> Result<(), Allo
 impl Value {
     /// The value of a kind that a text spells.
     pub fn read(alloc: Global, kind: Kind, text: &str) -> Result<Value, ValueFault>
-        // What is read is of the kind, and is spelled so.
+        // A value that is read is of the kind, and is spelled so.
         ensures found { IfOk result (λ v. (kind_of v ≡ kind) × Spells text.now v) }
-        // What is spelled so is read, unless memory runs out.
+        // A value that is spelled so is read, unless memory runs out.
         ensures only { (v : AnyValue) → kind_of v ≡ kind → Spells text.now v → Gives (λ v. v) result (Ok v) }
         // Which refusal it is, the first one that applies.
         ensures exact { Gives (λ v. v) result (read_value kind text.now) }
@@ -257,9 +257,9 @@ impl Value {
     /// The one spelling of the value, of an fmri the short one.
     pub fn print(&self, alloc: Global) -> Result<Text, AllocError>
         ensures printed { IfOk result (λ t. t ≡ printed self.now) }
-        // What is printed spells the value.
+        // The text that is printed spells the value.
         ensures spelled { IfOk result (λ t. Spells t self.now) }
-        // What is printed is read as the value again.
+        // The text that is printed is read as the value again.
         ensures again { IfOk result (λ t. read_value (kind_of self.now) t ≡ Ok self.now) }
     {
         printed(alloc, self)

@@ -26,7 +26,7 @@ impl Time {
     /// The greatest number of seconds, 2^63 - 1.
     pub const MAX_SECONDS: u64 = 0x7fff_ffff_ffff_ffff;
 
-    /// The time of these parts, where they are in range.
+    /// The time of these parts, if they are in range.
     pub fn new(seconds: u64, nanoseconds: u32) -> Option<Time>
         ensures { result ≡ (if nat_lt seconds 0x8000_0000_0000_0000 && nat_lt nanoseconds 1_000_000_000
             then Some (record { seconds = seconds; nanoseconds = nanoseconds }) else None) }

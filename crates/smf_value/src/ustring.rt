@@ -44,7 +44,7 @@ fn is_utf8(bytes: &[u8]) -> bool
 }
 
 impl Ustring {
-    /// Whether bytes are such a text.
+    /// True if bytes are such a text.
     pub fn is_text(bytes: &[u8]) -> bool
         ensures { result ≡ is_ustring bytes.now }
     {

@@ -37,7 +37,7 @@ impl Value {
 }
 
 impl Value {
-    /// Whether it is the same value.
+    /// True if it is the same value.
     pub fn is_value(&self, other: &Value) -> bool
         ensures { result ≡ is_value self.now other.now }
     {

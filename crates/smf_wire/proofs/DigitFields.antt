@@ -101,7 +101,7 @@ plain_ascii text h i =
 command_bytes : (text : List ℕ) → IsCommand text → IsBytes text
 command_bytes text h i = let small : slice_index text i < 128 = plain_ascii text h.plain i in omega arith
 
--- what is not in UTF-8 is no command
+-- a text that is not in UTF-8 is no command
 pub no_command : (v : Bool) (text : List ℕ) → list_all is_plain text ≡ v → (IsUtf8 text → ⊥) → None ≡ cond v (Some text) None
 no_command true text e wrong = absurd (wrong (IsUtf8-from_ascii text (plain_ascii text e)))
 no_command false text e wrong = refl

@@ -170,7 +170,7 @@ unfolding item_behind
 fields_on i h k rest =
     rw (takes flag i.enabled tt (on (flag_text i.readable ∷ row_text i.row ∷ optional_text hex_text i.body ∷ []) rest), takes flag i.readable tt (on (row_text i.row ∷ optional_text hex_text i.body ∷ []) rest), row_is_read i.row h.row (on (optional_text hex_text i.body ∷ []) rest), takes optional_body i.body (written_in i.body h.body k) rest) refl
 
--- what was read after a number and a name
+-- the fields that were read after a number and a name
 record AreFieldsOf (n : ℕ) (named : List ℕ) (s : Option (List ℕ)) (i : ViewItem) (rest : Option (List ℕ)) : Type 0 where
   line : s ≡ on (fields_of i) rest
   instance : i.instance ≡ n
@@ -270,7 +270,7 @@ change_is_read before c h up rest =
     ap (λ (l : List ℕ). changed_at before (Some l)) (spaced_on (decimal c.instance) (change_parts c.item) rest)
     ∙ change_on before c.instance c.item h.changed.instance h.changed.item h.spelled.same h.spelled.body up rest
 
--- what was read after a number, or after a number and a name
+-- the change that was read after a number, or after a number and a name
 record IsChangeOf (n : ℕ) (s : Option (List ℕ)) (c : ChangedItem) (rest : Option (List ℕ)) : Type 0 where
   line : s ≡ on (change_parts c.item) rest
   instance : c.instance ≡ n

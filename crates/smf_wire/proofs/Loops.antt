@@ -8,7 +8,7 @@ use Rattle.smf_state.specs.Fields.{◌>>=◌}
 use Rattle.smf_wire.specs.Grammar.{Field}
 use Rattle.smf_wire.proofs.InOrder.{IsAll, Reader}
 
--- what was read before, and what is still read
+-- the items that were read before, and those that are still read
 abbrev pub with_front : {A : Type 0} → List A → Field (List A) → Field (List A)
 with_front {A} front read = read >>= λ x. let y : Field (List A) = Ok (front ++ x.0, x.1) in y
 

@@ -1,4 +1,4 @@
--- Parts of a line, one behind another.
+-- Parts of a line, one after another.
 use Rattle.std.proofs.Common.{◌≡◌, ℕ, List, [], ◌∷◌, ◌++◌, map, Option, Some, None, Result, Ok, Err, refl, sym, ◌∙◌, ap, subst, append_assoc, append-nil, OnOk}
 use Rattle.smf_state.specs.Texts.{row_at, step_at, row_onto, row_text, step_onto, step_text, first_part, second_part, third_part, verb_of, verb_text, fields_onto, IsRow, IsStep}
 use Rattle.smf_state.specs.declared.row.Row.{Row}
@@ -9,7 +9,7 @@ use Rattle.smf_state.proofs.Spelled.{row_reads, row_found, step_reads, step_foun
 use Rattle.smf_wire.specs.Lines.{each_behind, spaced}
 use Rattle.smf_wire.specs.Grammar.{Field}
 
--- parts, and what is left behind them
+-- parts, and the rest after them
 abbrev pub on : List (List ℕ) → Option (List ℕ) → Option (List ℕ)
 on [] rest = rest
 on (part ∷ parts) rest = Some (part ++ behind (on parts rest))
@@ -42,11 +42,11 @@ pub always : {X E : Type 0} {A : Type 0} (r : Result X E) → A → OnOk r A
 always (Ok x) h = h
 always (Err e) h = tt
 
--- one part behind another
+-- one part after another
 pub joins : (s a b : Option (List ℕ)) (t : List ℕ) → s ≡ Some (t ++ behind a) → a ≡ b → s ≡ Some (t ++ behind b)
 joins s a b t h k = h ∙ ap (λ (r : Option (List ℕ)). Some (t ++ behind r)) k
 
--- what was read, as parts and as one text
+-- the text that was read, as parts and as one
 pub as_text : (s : Option (List ℕ)) (part : List ℕ) (parts : List (List ℕ)) (rest : Option (List ℕ)) → s ≡ on (part ∷ parts) rest → s ≡ Some (spaced (part ∷ parts) ++ behind rest)
 as_text s part parts rest h = h ∙ ap (λ (l : List ℕ). Some l) (sym (spaced_on part parts rest))
 

@@ -315,7 +315,7 @@ line_spelled line m h = (line_was line m h).spelled
 
 -- ---- no line begins another
 
--- behind a line that goes on, the close is no close
+-- if a line goes on after the close, it is no close
 ends_at : (tail : List ℕ) (x : Unit {0}) → close_at (Some (codes "." ++ tail)) ≡ Ok x → tail ≡ []
 ends_at tail x h = let is : 46 ∷ tail ≡ 46 ∷ [] = some_is _ _ (closed_was (Some (codes "." ++ tail)) x h) in cc
 

@@ -1,4 +1,4 @@
--- How a line is read: each field in turn, what is left behind it, or how much is left where one is wrong.
+-- How a line is read: each field in turn and the rest after it, or the length of the rest from a wrong field on.
 use Rattle.std.specs.Prelude.{◌≡◌, ℕ, zero, suc, ◌-◌, List, [], ◌∷◌, length, nat_eq, nat_le, nat_lt, slice_get, codes, if◌then◌else◌, Bool, true, false, Option, Some, None, option_map, Result, Ok, Err}
 use Rattle.std.specs.Cmp.Lexicographic.{pointwise}
 use Rattle.smf_fmri.specs.Counts.{read_count}
@@ -35,7 +35,7 @@ use Rattle.smf_wire.specs.declared.word.MessageWord.TheVariants as words
 use Rattle.smf_wire.specs.declared.word.OrderWord.{OrderWord}
 use Rattle.smf_wire.specs.declared.word.OrderWord.TheVariants as order_words
 
--- a field that was read, and what is left behind it
+-- a field that was read and the rest after it, or the length of the rest from a wrong field on
 abbrev pub Field : Type 0 → Type 0
 Field A = Result (A × Option (List ℕ)) ℕ
 
@@ -85,7 +85,7 @@ method_at rest = do
   command ← taken read_command seconds.1
   Ok (method_of seconds.0 command.0, command.1)
 
--- behind the seconds, or behind "-"
+-- after the seconds, or after "-"
 abbrev pub method_behind : Option ℕ → Option (List ℕ) → Field (Option MethodCall)
 method_behind None rest = Ok (None, rest)
 method_behind (Some seconds) rest = do
@@ -231,7 +231,7 @@ changes_at rest = do
   items ← all_changed_at None count.0 count.1
   Ok (record { from = from.0; to = to.0; items = items.0 }, items.1)
 
--- the fields behind the word
+-- the fields after the word
 unfoldable pub message_behind : MessageWord → Option (List ℕ) → Field Message
 message_behind words.Join rest = do
   name ← taken read_short rest
@@ -287,7 +287,7 @@ abbrev pub nothing_behind : Option (List ℕ) → Result (Unit {0}) ℕ
 nothing_behind None = Ok tt
 nothing_behind (Some rest) = Err (length rest)
 
--- the field that closes a line, with nothing behind it
+-- the field that closes a line, with nothing after it
 unfoldable pub close_at : Option (List ℕ) → Result (Unit {0}) ℕ
 close_at rest = do
   close ← taken read_close rest
@@ -299,12 +299,12 @@ whole_message line = do
   close ← close_at message.1
   Ok message.0
 
--- where a fault is, from the start
+-- a fault by its place, counted from the start
 abbrev pub placed : ℕ → Result Message ℕ → Result Message WireFault
 placed size (Ok m) = Ok m
 placed size (Err left) = Err (NotInGrammar (size - left))
 
--- the message that a line spells, or where the first wrong field begins
+-- the message that a line spells, or the place of the first wrong field
 unfoldable pub read_line : List ℕ → Result Message WireFault
 read_line line = placed (length line) (whole_message line)
 

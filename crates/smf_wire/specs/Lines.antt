@@ -46,7 +46,7 @@ seconds_of timeout = unwrap_or timeout 0
 abbrev pub method_text : MethodCall → List ℕ
 method_text m = spaced (decimal (seconds_of m.timeout) ∷ hex_text m.command ∷ [])
 
--- the parts of what an order says behind its word
+-- the parts of an order after its word
 abbrev pub what_parts : What → List (List ℕ)
 what_parts (To state) = state_text state ∷ []
 what_parts (Start m duration ignore) = method_text m ∷ duration_text duration ∷ decimal ignore ∷ []
@@ -59,7 +59,7 @@ what_text w = spaced (order_word_text (order_word w) ∷ what_parts w)
 abbrev pub known_text : Known → List ℕ
 known_text k = spaced (decimal k.instance ∷ k.name ∷ row_text k.row ∷ [])
 
--- the parts of a view item behind its number
+-- the parts of a view item after its number
 abbrev pub item_parts : ViewItem → List (List ℕ)
 item_parts i = i.name ∷ flag_text i.enabled ∷ flag_text i.readable ∷ row_text i.row ∷ optional_text hex_text i.body ∷ []
 
@@ -74,7 +74,7 @@ change_parts (Some i) = item_parts i
 abbrev pub changed_text : ChangedItem → List ℕ
 changed_text c = spaced (decimal c.instance ∷ change_parts c.item)
 
--- the parts of a message behind its word
+-- the parts of a message after its word
 abbrev pub message_parts : Message → List (List ℕ)
 message_parts (Join name launch) = name ∷ decimal launch ∷ []
 message_parts (Rows name launch rows) = name ∷ decimal launch ∷ decimal (length rows) ∷ map known_text rows
@@ -181,7 +181,7 @@ IsMessage (Ordered order) = IsOrder order
 
 -- ---- what a message keeps to that has a line, and the types let others through
 
--- a proposal is refused with the row as it is, where the instance is there
+-- a proposal is refused with the row as it is, if the instance is there
 abbrev pub has_row : Why → Bool
 has_row reasons.NoSuch = false
 has_row _ = true

@@ -76,7 +76,7 @@ fn why_at(rest: Option<&str>) -> Result<(Why, Option<&str>), WrongField>
     }
 }
 
-/// Whether a number is above the one before it.
+/// True if a number is above the one before it.
 fn is_above(before: Option<u64>, number: u64) -> bool
     ensures { result ≡ is_above before number }
 {
@@ -180,7 +180,7 @@ fn command_at(alloc: Global, rest: Option<&str>) -> Result<(Command, Option<&str
     }
 }
 
-/// Whether bytes can be a body: any can, if there are some.
+/// True if bytes can be a body: any can, if there are some.
 fn is_body(bytes: &[u8]) -> bool
     ensures { result ≡ is_body bytes.now }
 {
@@ -604,7 +604,7 @@ fn has_row(why: Why) -> bool
     }
 }
 
-/// The row as it is, where a refused proposal has one.
+/// The row as it is, if a refused proposal has one.
 fn row_if(
     alloc: Global,
     is_there: bool,
@@ -679,7 +679,7 @@ fn nack_behind(alloc: Global, rest: Option<&str>) -> Result<(Message, Option<&st
     Ok((message, rest))
 }
 
-/// The fields of a message behind its word.
+/// The fields of a message after its word.
 #[tactic(auto, unfolding(crate::specs::Grammar::message_behind))]
 fn message_behind(
     alloc: Global,
@@ -717,7 +717,7 @@ fn message_behind(
     }
 }
 
-/// A message that stands first in what is left of a line, and what is left behind it.
+/// The message that stands first in the rest of a line, and the rest after it.
 #[tactic(auto, unfolding(crate::specs::Grammar::message_at))]
 fn message_at(alloc: Global, rest: Option<&str>) -> Result<(Message, Option<&str>), FieldFault>
     ensures { GivesAt result (message_at (seen rest.entry)) }
@@ -726,7 +726,7 @@ fn message_at(alloc: Global, rest: Option<&str>) -> Result<(Message, Option<&str
     message_behind(alloc, word, rest)
 }
 
-/// The field that closes a line, with nothing behind it.
+/// The field that closes a line, with nothing after it.
 #[tactic(auto, unfolding(crate::specs::Grammar::close_at, smf_state::specs::Fields::taken))]
 fn close_at(rest: Option<&str>) -> Result<(), WrongField>
     ensures { IsClosed result (close_at (seen rest.entry)) }
@@ -767,12 +767,12 @@ fn read_line(alloc: Global, line: &str) -> Result<Message, WireFault>
 
 /// The message that a line spells, without its end of line: fields with one space between, closed by the field `.`.
 pub fn decode(alloc: Global, line: &str) -> Result<Message, WireFault>
-    // What is read is spelled so.
+    // A message that is read is spelled so.
     ensures found { IfOk result (λ m. line.now ≡ line_text m) }
     ensures spelled { IfOk result IsSpelled }
-    // What is spelled so is read, unless memory runs out.
+    // A message that is spelled so is read, unless memory runs out.
     ensures only { (m : AnyMessage) → HasLine m → line.now ≡ line_text m → GivesMessage result (Ok m) }
-    // Where the first wrong field begins.
+    // A fault gives the place of the first wrong field.
     ensures exact { GivesMessage result (read_line line.now) }
 {
     read_line(alloc, line)

@@ -21,7 +21,7 @@ pub(crate) fn hex_text(alloc: Global, bytes: &[u8]) -> Result<String, AllocError
     hex::encode(alloc, bytes)
 }
 
-/// Whether bytes are written so.
+/// True if bytes are written so.
 fn is_written_so(alloc: Global, text: &str, bytes: &[u8]) -> Result<bool, AllocError>
     ensures { IfOk result (λ b. b ≡ pointwise nat_eq (hex_text bytes.now) text.now) }
 {
@@ -29,7 +29,7 @@ fn is_written_so(alloc: Global, text: &str, bytes: &[u8]) -> Result<bool, AllocE
     Ok(again.as_str() == text)
 }
 
-/// The bytes that digits are, or none where some are missing or of the wrong form.
+/// The bytes that digits are, or none if some are missing or of the wrong form.
 fn decoded(alloc: Global, text: &str) -> Result<Option<Bytes>, AllocError>
     ensures { IfOk result (λ bytes. bytes ≡ result_ok (decode_of text.now)) }
 {

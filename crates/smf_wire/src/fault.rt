@@ -9,7 +9,7 @@ use thiserror::Error;
 pub enum WireFault {
     #[error("no memory")]
     Memory,
-    /// Where the first wrong field begins, or the line's length where one is missing with its space.
+    /// The place of the first wrong field, in bytes, or the line's length if a field is missing with its space.
     #[error("not in the grammar at {0}")]
     NotInGrammar(usize),
 }

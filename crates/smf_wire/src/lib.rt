@@ -1,5 +1,5 @@
 //! Messages between the repository, svc.startd's graph and the restarters, and the lines that they are written as.
-//! Modules: `order` (what the graph orders), `message`, `encoding` and `decoding` (lines), `law`, `word`, `digits`, `fault`.
+//! Modules: `order` (what the graph orders), `message`, `encoder` and `decoder` (lines), `law`, `word`, `digits`, `fault`.
 #![tactic(auto)]
 
 mod decoding;

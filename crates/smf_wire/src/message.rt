@@ -13,7 +13,7 @@ pub struct Known {
     pub row: SharedRow,
 }
 
-/// What changed of what svc.startd's graph sees, from one revision to another.
+/// The changes of what svc.startd's graph sees, from one revision to another.
 #[derive(Drop)]
 pub struct ViewChanges {
     pub from: u64,
@@ -22,7 +22,7 @@ pub struct ViewChanges {
     pub items: Items<ChangedItem>,
 }
 
-/// What the actors send to one another. Launches and serials are those of the restarter that is named.
+/// A message that one actor sends to another. Launches and serials are those of the restarter that is named.
 #[derive(Drop)]
 pub enum Message {
     /// A restarter asks for the rows that it owns.
@@ -46,7 +46,7 @@ pub enum Message {
         instance: u64,
         row: SharedRow,
     },
-    /// A proposal was refused: why, and the row as it is, where the instance is there.
+    /// A proposal was refused: why, and the row as it is, if the instance is there.
     Nack {
         name: InstanceFmri,
         launch: u64,
@@ -57,11 +57,11 @@ pub enum Message {
     },
     /// The graph asks what the repository holds.
     AskView,
-    /// What the repository holds.
+    /// The repository shows what it holds.
     View(View),
     /// The graph, which holds the view of a revision, asks what changed since.
     AskChange(u64),
-    /// What changed.
+    /// The repository tells what changed.
     Changes(ViewChanges),
     Order(Order),
 }

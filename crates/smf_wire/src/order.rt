@@ -5,7 +5,7 @@ use smf_method::MethodCall;
 use smf_state::{Cause, Duration, Ignore, SharedRow, State};
 use std::alloc::AllocError;
 
-/// What is to be done with an instance.
+/// The thing to do with an instance.
 #[derive(Drop)]
 pub enum What {
     /// To another state at once.
@@ -25,7 +25,7 @@ pub enum What {
     },
 }
 
-/// What svc.startd's graph tells the restarter of an instance to do.
+/// An order of svc.startd's graph to the restarter of an instance.
 #[derive(Drop)]
 pub struct Order {
     /// The owner of the row.

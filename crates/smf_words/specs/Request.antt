@@ -1,4 +1,4 @@
--- What a line asks for.
+-- The request of a line.
 use Rattle.std.specs.Prelude.{ℕ, nat_eq, nat_lt, List, [], ◌∷◌, codes, if◌then◌else◌, Option, Some, None}
 use Rattle.std.specs.Cmp.Lexicographic.{pointwise}
 use Rattle.std.specs.Option.{option_map_or}
@@ -14,7 +14,7 @@ use Rattle.smf_world.specs.declared.event.ProcessEvent.TheVariants as processes
 use Rattle.smf_words.specs.declared.request.Request.{Request}
 use Rattle.smf_words.specs.declared.request.Request.TheVariants as asks
 
--- ---- what stands behind the first word
+-- ---- what stands after the first word
 
 abbrev pub behind_blank : List ℕ → Option (List ℕ)
 behind_blank [] = None
@@ -28,11 +28,11 @@ front (b ∷ bs) = if is_blank b then front bs else b ∷ bs
 abbrev pub behind_one_blank : List ℕ → List ℕ
 behind_one_blank text = option_map_or (λ behind. behind) (behind_blank text) []
 
--- what stands behind the blanks in front, a word and one blank
+-- the text after the blanks in front, a word and one blank
 abbrev pub behind_word : List ℕ → List ℕ → List ℕ
 behind_word word text = option_map_or behind_one_blank (strip word (front text)) []
 
--- ---- what stands behind them
+-- ---- what stands after them
 
 -- the count that stands alone
 abbrev pub count_in : List (List ℕ) → Option ℕ
@@ -106,7 +106,7 @@ exit_line _ = asks.Bad
 
 -- ---- the line by its first word
 
--- what happens to processes, restarters and the machine
+-- a request in which something happens to processes, restarters or the machine
 abbrev pub happening : List ℕ → List (List ℕ) → Request
 happening first arguments =
     if pointwise nat_eq first (codes "exit") then exit_line arguments
@@ -120,7 +120,7 @@ happening first arguments =
     else if pointwise nat_eq first (codes "boot") then boot_line arguments
     else asks.Bad
 
--- what is asked of the schedule, and of its trail
+-- a request to the schedule, or for its trail
 abbrev pub scheduling : List ℕ → List (List ℕ) → Request
 scheduling first arguments =
     if pointwise nat_eq first (codes "settle") then settle_by (count_in arguments)
@@ -138,7 +138,7 @@ asked_by text (first ∷ arguments) =
     else if pointwise nat_eq first (codes "svcs") then asks.Svcs arguments
     else scheduling first arguments
 
--- what a text asks for; a comment has its sign as the first byte
+-- the request of a text; a comment has its sign as the first byte
 unfoldable pub asked_of : List ℕ → Request
 asked_of text = if is_comment text then asks.Nothing else asked_by text (words text)
 
@@ -148,6 +148,6 @@ abbrev pub request_in : Option (List ℕ) → Request
 request_in None = asks.Bad
 request_in (Some text) = asked_of text
 
--- what a line asks for, which stands without its end; one that is too long or no text is a bad one
+-- the request of a line, which stands without its end; one that is too long or no text is a bad one
 unfoldable pub request_of : List ℕ → Request
 request_of line = request_in (text_in line)

@@ -9,22 +9,22 @@ use smf_svccfg::words;
 use smf_world::ProcessEvent;
 use std::alloc::{AllocError, Global};
 
-/// What a line asks for.
+/// The request of a line.
 #[derive(Drop)]
 pub enum Request {
     /// A blank line or a comment.
     Nothing,
     /// A line of svccfg.
     Svccfg(Text),
-    /// The words behind svcadm.
+    /// The words after svcadm.
     Svcadm(Items<Text>),
-    /// The words behind svcs.
+    /// The words after svcs.
     Svcs(Items<Text>),
     /// So many rounds at most.
     Settle(u64),
     /// The next so many spawns are refused.
     Refuse(u64),
-    /// Of the messages that are sent from now on the one of this number is lost.
+    /// The message of this number is lost, among those that are sent from now on.
     Lose(u64),
     /// So many messages, the last that were delivered, are delivered again.
     Again(u64),
@@ -60,7 +60,7 @@ fn copies(alloc: Global, words: &[Text]) -> Result<Items<Text>, AllocError>
     Ok(all)
 }
 
-/// What stands behind a blank in front.
+/// The text after a blank in front, if there is one.
 fn behind_blank(text: &str) -> Option<&str>
     ensures { option_map (λ x. x.now) result ≡ behind_blank text.now }
 {
@@ -92,7 +92,7 @@ fn behind_one_blank(text: &str) -> &str
     }
 }
 
-/// What stands behind the blanks in front, a word and one blank.
+/// The text after the blanks in front, a word and one blank.
 fn behind_word<'a>(word: &str, text: &'a str) -> &'a str
     ensures { result.now ≡ behind_word word.now text.now }
 {
@@ -244,7 +244,7 @@ fn exit_line(arguments: &[Text]) -> Result<Request, AllocError>
     }
 }
 
-/// What happens to processes, restarters and the machine.
+/// A request in which something happens to processes, restarters or the machine.
 fn happening(first: &str, arguments: &[Text]) -> Result<Request, AllocError>
     ensures { IfOk result (λ request. request ≡ happening first.now arguments.now) }
 {
@@ -274,7 +274,7 @@ fn happening(first: &str, arguments: &[Text]) -> Result<Request, AllocError>
     }
 }
 
-/// What is asked of the schedule, and of its trail.
+/// A request to the schedule, or for its trail.
 fn scheduling(first: &str, arguments: &[Text]) -> Result<Request, AllocError>
     ensures { IfOk result (λ request. request ≡ scheduling first.now arguments.now) }
 {

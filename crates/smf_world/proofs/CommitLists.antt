@@ -40,7 +40,7 @@ has_itself n = ap is_eq (same_key by_instance n)
 pub has_same : (m n : ℕ) → m ≡ n → is_eq (nat_cmp m n) ≡ true
 has_same m n e = subst (λ (k : ℕ). is_eq (nat_cmp m k) ≡ true) e (has_itself m)
 
--- what has a number is it
+-- numbers that compare as equal are the same
 pub number_is : (m n : ℕ) → is_eq (nat_cmp m n) ≡ true → m ≡ n
 number_is m n e = by_instance.exact m n (equal_from_test (nat_cmp m n) e)
 
@@ -106,7 +106,7 @@ none_pass_filter test keep (x ∷ xs) a = by (keep x) (none_pass_filter test kee
 pub in_place_is : (x y : Instance) → y.number ≡ x.number → in_place x y ≡ x
 in_place_is x y e = ap (λ (n : ℕ). let placed : Instance = record x { number = n } in placed) e
 
--- it is put over nothing where nothing has its number
+-- a put over a list changes nothing if no instance of the list has its number
 over_none : (x : Instance) (xs : List Instance) → find (has_number x.number) xs ≡ None → put_over x xs ≡ xs
 over_none x [] n = refl
 over_none x (y ∷ ys) n = by (has_number x.number y) n (over_none x ys)

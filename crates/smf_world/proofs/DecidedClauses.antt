@@ -1,4 +1,4 @@
--- What views and orders say of the history.
+-- Clauses on views and orders: they agree with the history.
 use Rattle.std.specs.Prelude.{◌≡◌, ℕ, List, true, false, Option, Some, None, Ok, find}
 use Rattle.smf_contract.specs.declared.cookie.Method.TheVariants as methods
 use Rattle.smf_state.specs.declared.row.Row.{Row}
@@ -65,8 +65,8 @@ OrderSaid y _ = Unit {0}
 abbrev pub OrdersSaid : History → List Message → Type 0
 OrdersSaid y sent = Each (OrderSaid y) sent
 
--- ready: in the history's value of a revision an instance has this row, under this number, with this snapshot, and is
--- to be started by this method
+-- ready: at a revision of the history an instance has this row, with this number and this snapshot, and this method
+-- starts it
 pub record IsReadyAt (y : History) (revision i number snapshot : ℕ) (read : ReadMethod) (row : Row) : Type 0 where
   pub value : Holdings
   pub item : ViewItem

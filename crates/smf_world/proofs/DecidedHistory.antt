@@ -87,7 +87,7 @@ record IsEarlier (n number : ℕ) (m : Holdings) : Type 0 where
 no_such : (h : Holdings) (n : ℕ) (a : Instance) → instance h n ≡ None → instance h n ≡ Some a → ⊥
 no_such h n a e f = cc
 
--- what is there was given before
+-- the number of an instance that is there was given before
 pub was_given : (h : Holdings) (n : ℕ) (a : Instance) → IsNumbered h → instance h n ≡ Some a → n < h.next_instance
 was_given h n a b e = by (nat_lt n h.next_instance) refl
   where

@@ -1,4 +1,4 @@
--- What the trail shows as committed last of an instance is its row, with what it leads to.
+-- The commit that the trail shows last of an instance is its row, with the state that it leads to.
 use Rattle.std.proofs.Common.{◌≡◌, ◌+◌, ◌==◌, not, ℕ, Bool, true, false, cond, if◌then◌else◌, List, [], ◌∷◌, map, filter, Option, Some, None, refl, sym, ap, ◌∙◌, subst, arith}
 use Rattle.std.specs.Prelude.{find}
 use Rattle.std.specs.Ordering.{is_eq, nat_cmp}
@@ -90,7 +90,7 @@ found_newest test n (i ∷ is) j o a e = by (is_eq (nat_cmp i.number n)) refl e 
 abbrev pub item_at : ℕ → Row → Item
 item_at n r = Committed n r.number r.state r.next
 
--- what was committed last of an instance that is there is its row
+-- the last commit of each instance that is there is its row
 abbrev pub AreLast : Holdings → List Item → Type 0
 AreLast h t = (n : ℕ) (i : Instance) → instance h n ≡ Some i → last_committed n t ≡ Some (item_at n i.row)
 
@@ -114,7 +114,7 @@ same_number m n e = grind (arith, nat_tests)
 too_far : (m n : ℕ) → m ≡ n → m ≡ n + 1 → ⊥
 too_far m n e f = omega arith
 
--- under the same number a row stays in its state, and leads where it led
+-- under the same number a row keeps its state and its next state
 stays_there : (c : Command) (n : ℕ) (before after : Row) → RowFollows c n before after → after.number ≡ before.number → item_at n before ≡ item_at n after
 stays_there c n before after (stays s) e = sym (ap (item_at n) s.same)
 stays_there c n before after (steps p d i g) e = absurd (too_far after.number before.number e g.counted)
@@ -146,7 +146,7 @@ Last y h t = IsNumbered h × AreLast h t
 last_kept : IsKept Last
 last_kept = record { numbered = λ y h t f. f.0; kept = λ y h c t m f. (stays_numbered h c f.0, made_last h c t f.0 f.1) }
 
--- what is no commit is passed over
+-- items that are no commits do not change the last commit
 last_commits : (n : ℕ) (t : List Item) → last_committed n (commits t) ≡ last_committed n t
 last_commits n [] = refl
 last_commits n (Committed j m s next ∷ t) = ap (λ (o : Option Item). if j == n then Some (Committed j m s next) else o) (last_commits n t)

@@ -1,4 +1,4 @@
--- Starts stay well decided, and no run is begun twice, where what is owed was decided so and never begun.
+-- Starts stay well decided, and no run begins twice, if each owed start was decided so and no owed run was begun.
 use Rattle.std.proofs.Common.{◌≡◌, ℕ, List, [], ◌∷◌, ◌++◌, map, refl, sym, ap, ◌∙◌, subst}
 use Rattle.smf_contract.specs.declared.call.ContractCall.{ContractCall}
 use Rattle.smf_contract.specs.declared.cookie.Method.{Method}
@@ -27,7 +27,7 @@ use Rattle.smf_world.proofs.Noting.{noted, noted_both, noted_more}
 use Rattle.smf_world.proofs.RowClauses.{AreAnnounced}
 use Rattle.smf_world.proofs.TablesWalked.{IsBegun, IsHeld, IsOwing, IsRow, IsTabled, acts, at_once, boots, nothing, passes, spawned, tabled}
 
--- what restarters owe: its run was never begun
+-- no run that a restarter owes was ever begun
 abbrev pub AreFresh : List Knowledge → List Item → Type 0
 AreFresh ks trail = (s : IsOwing ks) → WasSpawned s.of.instance s.owed.run trail → ⊥
 
@@ -71,7 +71,7 @@ emptied_none : (cs : List ℕ) → NoneBegun (map (λ (c : ℕ). Emptied c) cs)
 emptied_none [] = tt
 emptied_none (c ∷ cs) = emptied_none cs
 
--- rows, what is begun, and what is emptied, one behind another
+-- rows, begun methods and emptied contracts on a trail, one after another
 pub noted_three : (rows begun emptied t : List Item) → noted (rows ++ begun ++ emptied) t ≡ noted emptied (noted begun (noted rows t))
 noted_three rows begun emptied t = noted_both (rows ++ begun) emptied t ∙ ap (noted emptied) (noted_both rows begun t)
 

@@ -104,7 +104,7 @@ are_items h numbered = all_items h (instances h) (found_all (instances h) (apart
 
 -- ---- orders
 
--- what an order for an item is, if there is one
+-- an order for an item, if there is one, names its instance and this revision
 abbrev IsGiven : ℕ → List ViewItem → ViewItem → Option Order → Type 0
 IsGiven revision items i None = Unit {0}
 IsGiven revision items i (Some o) = (o.instance ≡ i.instance) × (o.revision ≡ revision)
@@ -194,7 +194,7 @@ read_as call duration ignore = record { call = call; duration = duration; ignore
 abbrev start_of : ReadMethod → Option What
 start_of read = Some (whats.Start read.call read.duration read.ignore)
 
--- what makes no start is not that
+-- a decision that makes no start is not this start
 not_that : (w : Option What) (read : ReadMethod) → (Starts w → ⊥) → w ≡ start_of read → ⊥
 not_that w read no_start e = no_start (subst Starts (sym e) tt)
 

@@ -1,4 +1,4 @@
--- What restarters owe is well decided and was never begun, by what they know.
+-- Restarters owe only starts that are well decided and runs that were never begun, by the facts that they know.
 use Rattle.std.proofs.Common.{◌≡◌, ℕ, List, Some, sym, ap, ◌∙◌, subst}
 use Rattle.std.specs.Ordering.{nat_cmp}
 use Rattle.smf_fmri.specs.ByKey.{has_key}
@@ -29,7 +29,7 @@ use Rattle.smf_world.proofs.TablesWalked.{IsOwing}
 abbrev pub begun_on : List Item → ℕ → ℕ → Type 0
 begun_on trail n run = WasSpawned n run trail
 
--- what each launched restarter knows
+-- each launched restarter is informed
 abbrev pub AllInformed : History → Holdings → List Message → List Item → List Knowledge → Type 0
 AllInformed y h ms trail ks = Each (IsInformed y h ms (begun_on trail)) ks
 

@@ -105,7 +105,7 @@ after_seen y false o vs a b = newest_seen y o vs a b
 
 -- ---- what the messages and the graph's view say
 
--- M.view, M.engine and M.order, where the newest value is what is held
+-- M.view, M.engine and M.order, if the value that is held is the newest
 pub record IsShown (y : History) (h : Holdings) (seen : Option View) (sent : List Message) : Type 0 where
   pub first : IsNumbered y.first
   pub numbered : IsNumbered h
@@ -117,7 +117,7 @@ pub record IsShown (y : History) (h : Holdings) (seen : Option View) (sent : Lis
 abbrev pub Shown : World → Type 0
 Shown w = IsShown w.history w.now w.seen w.sent
 
--- what work says and sees is in the history
+-- the messages, views and changes of an event's work are in the history
 record Shows (y : History) (ms : List Message) (vs : List View) (cs : List ViewChanges) : Type 0 where
   says : Each (Said y) ms
   sees : Each (IsViewIn y) vs
@@ -251,7 +251,7 @@ work_shows w events.Boot f = booted_shows w (commanded w commands.Boot) (command
 
 -- ---- events
 
--- what is held is the newest value
+-- the value that is held is the newest one
 abbrev IsNewest : Fact
 IsNewest y h t = IsNumbered h × (h ≡ made y.first y.past)
 

@@ -16,8 +16,8 @@ use Rattle.smf_world.proofs.DecidedLast.{AreLast, item_at}
 use Rattle.smf_world.proofs.Noting.{noted, noted_more}
 use Rattle.smf_world.proofs.RowClauses.{AreAnnounced, WasAnnounced}
 
--- a start that is owed: the row is that which its grant left, and the instance was ready on the revision that it was
--- decided on, under the number before, with the snapshot with which it began
+-- an owed start: the row is the one that its grant left. On the revision of the decision the instance was ready, under
+-- the number before, with the snapshot that the start began with
 pub record IsOwedStart (y : History) (h : Holdings) (i run revision : ℕ) (command : List ℕ) : Type 0 where
   pub of : Instance
   pub number : ℕ

@@ -1,4 +1,4 @@
--- What commands ask to change are groups that a body may hold.
+-- Commands change groups only into groups that a body may hold.
 use Rattle.std.proofs.Common.{◌≡◌, ℕ, ◌+◌, ◌≤◌, nat_lt, nat_le, ◌||◌, not, List, [], ◌∷◌, ◌++◌, map, length, Bool, true, false, cond, Option, Some, None, Result, Ok, Err, refl, ap, ◌∙◌, arith}
 use Rattle.std.specs.List.{AllByRecursion, list_any}
 use Rattle.std.specs.Prelude.{unwrap_or}
@@ -112,7 +112,7 @@ instance_deleted h (Some i) = either (is_in_use i.row) _ _ tt (accepts h (leavin
 guards : (h : Holdings) (owner : Owner) (name : List ℕ) (a : Outcome) → Asks a → Asks (guarded h owner name a)
 guards h owner name a p = either (not (is_there h owner)) _ _ tt (either (is_made owner name) _ _ tt p)
 
--- where there is room, there are not many
+-- an owner that has room has at most 1001 groups
 put_where : (h : Holdings) (owner : Owner) → IsFormed h → (first second : List ℕ) → has_room h owner first second ≡ true → length (groups_of h owner) ≤ 1001
 put_where h owner f first second t = room_for first second (groups_of h owner) (formed_groups h owner f).rises t
 

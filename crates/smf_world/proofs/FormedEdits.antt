@@ -108,7 +108,7 @@ bounded_ok p q named are e = by (nat_lt 1000 (length p.values)) refl e
         subst IsWholeProperty (given_is p q h)
         (record { named = named; formed = record { kinds = are.1; bounded = ltb-false 1000 (length p.values) t }; each = are.0 })
 
--- what is there is whole
+-- a property that is there is whole
 abbrev AreWhole : Option PropertyRecord → Type 0
 AreWhole o = IfSome o IsWholeProperty
 

@@ -118,7 +118,7 @@ every_put : (gs hs : List GroupRecord) → AllByRecursion IsWholeGroup gs → Al
 every_put [] hs a b = b
 every_put (g ∷ gs) hs a b = every_put gs (put by_group g hs) a.1 (all_put by_group IsWholeGroup g hs a.0 b)
 
--- what a revert makes, where it is not past the limit
+-- a revert within the limit makes groups that a body may hold
 pub groups_restored : (now of : List GroupRecord) → AreGroups now → AreGroups of → nat_lt 1000 (length (restored now of)) ≡ false → AreGroups (restored now of)
 unfolding restored staying
 groups_restored now of are was t =

@@ -1,4 +1,4 @@
--- What a restarter takes is what it was told.
+-- A restarter takes only rows that it was told.
 use Rattle.std.proofs.Common.{◌≡◌, ◌==◌, ◌&&◌, nat_lt, ℕ, Bool, true, false, cond, if◌then◌else◌, List, [], ◌∷◌, map, Option, Some, None, Result, Ok, Err, refl, sym, subst}
 use Rattle.std.specs.Ordering.{nat_cmp}
 use Rattle.smf_fmri.specs.ByKey.{has_key, lookup}

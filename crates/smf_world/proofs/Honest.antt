@@ -66,7 +66,8 @@ pub record IsHonest (h : Holdings) (v : Option View) (ms : List Message) (t : Li
 abbrev pub Honest : World → Type 0
 Honest w = IsHonest w.now w.seen w.sent w.trail
 
--- what work says tells rows that were committed by then, what it shows was seen, and what it notes as held was committed
+-- the work's messages, views and changes tell only rows that were committed by then. The rows that it notes as held
+-- were committed too
 record IsTold (t items : List Item) (ms : List Message) (vs : List View) (cs : List ViewChanges) : Type 0 where
   sent : MessagesTold (noted items t) ms
   seen : ViewsTold t vs

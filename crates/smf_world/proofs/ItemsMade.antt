@@ -1,4 +1,4 @@
--- What the trail shows of a command that is accepted is what is new after it, or has another number.
+-- For an accepted command the trail shows the rows that are new after it, or have another number.
 use Rattle.std.proofs.Common.{◌≡◌, ℕ, ◌+◌, nat_lt, nat_le, not, Bool, true, false, if◌then◌else◌, List, [], ◌∷◌, ◌++◌, map, filter, Option, Some, None, option_map, Result, Ok, Err, refl, sym, ap, ◌∙◌, arith}
 use Rattle.std.specs.List.{cons_option, filter_map}
 use Rattle.smf_fmri.specs.ByKey.{put}
@@ -73,7 +73,7 @@ either : (h : Holdings) (b : Bool) (x y : Asked) → ShowsOf h x → ShowsOf h y
 either h true x y p q = p
 either h false x y p q = q
 
--- what a snapshot is taken with
+-- the changes that take a snapshot, before further changes
 abbrev with_taken : Holdings → Instance → List Change → List Change
 with_taken h i cs = AddSnapshot (snapshot_of h i) ∷ NextSnapshot (h.next_snapshot + 1) ∷ cs
 
@@ -242,7 +242,7 @@ plain : (h : Holdings) (c : Command) → is_plain c ≡ true → IsNumbered h �
 unfolding next
 plain h c p numbered = (says_nothing h c p (apart h numbered)).shown ∙ sym (ap (map row_item) (none_committed h c p (apart h numbered)))
 
--- what the changes of a command show is what is new after them, or has another number
+-- the changes of a command show the rows that are new after them, or have another number
 pub shown : (h : Holdings) (c : Command) → IsNumbered h → shown_of h (asked h c).changes ≡ new_rows h (installed h (asked h c).changes)
 unfolding asked asked_edit with_owners
 shown h (commands.Edit (asked_for.AddInstance s name)) numbered = add_instance h name (service h s) numbered
@@ -307,7 +307,7 @@ pub boot_leaves : (h : Holdings) → AreApart (instances h) → AreMade (asked h
 unfolding next asked
 boot_leaves h a m = boot_of h a m
 
--- what raises the revision makes changes
+-- without changes the revision stays
 unmade : (h : Holdings) (cs : List Change) → cs ≡ [] → (installed h cs).revision ≡ h.revision
 unfolding installed
 unmade h cs e = ap (λ (ds : List Change). (installed h ds).revision) e

@@ -41,7 +41,7 @@ ack_parts a b c d e f g i r s x = (cc, cc, cc, cc)
 nack_parts : (a b : List ℕ) (c d e f g i : ℕ) (v w : Why) (r s : Option Row) → messages.Nack a c e g v r ≡ messages.Nack b d f i w s → (a ≡ b) × (c ≡ d) × (e ≡ f) × (g ≡ i) × (v ≡ w) × (r ≡ s)
 nack_parts a b c d e f g i v w r s x = (cc, cc, cc, cc, cc, cc)
 
--- an ack is true where it is for another, or the row is what was granted
+-- an ack is true if it is for another restarter or launch, or if the row is the one that was granted
 pub informed_ack : (y : History) (h : Holdings) (ms : List Message) (B : ℕ → ℕ → Type 0) (k : Knowledge) (name : List ℕ) (launch serial n : ℕ) (row : Row)
     → (name ≡ k.name → launch ≡ k.launch → IsStill h k n serial) → IsInformed y h ms B k → IsInformed y h (messages.Ack name launch serial n row ∷ ms) B k
 informed_ack y h ms B k name launch serial n row still f =
@@ -76,7 +76,7 @@ informed_ack y h ms B k name launch serial n row still f =
         subst (λ (x : ℕ). IsStill h k x s) a.3 (subst (IsStill h k n) a.2 (still a.0 a.1))
     ack_by s j r p after i e ph t b (inr w) = f.acks s j r p after i w e ph t b
 
--- a nack is true where it is for another, or refuses what is awaited
+-- a nack is true if it is for another restarter or launch, or if it refuses the awaited proposal
 pub informed_nack : (y : History) (h : Holdings) (ms : List Message) (B : ℕ → ℕ → Type 0) (k : Knowledge) (name : List ℕ) (launch serial n : ℕ) (why : Why) (row : Option Row)
     → (name ≡ k.name → launch ≡ k.launch → (q : Proposal) → WasProposed q ms → IsMine k q → q.serial ≡ serial → IsRefusal h k q why row) → IsInformed y h ms B k → IsInformed y h (messages.Nack name launch serial n why row ∷ ms) B k
 informed_nack y h ms B k name launch serial n why row refuses f =
@@ -156,7 +156,7 @@ unmade : (h : Holdings) (cs : List Change) → cs ≡ [] → installed h cs ≡ 
 unfolding installed
 unmade h cs e = ap (installed h) e
 
--- what is known behind the answer, where it is known behind the command
+-- a restarter is informed after the answer if it is informed after the command
 pub informed_answer : (y : History) (h : Holdings) (ms : List Message) (B : ℕ → ℕ → Type 0) (k : Knowledge) (p : Proposal) (a : Outcome)
     → AreFit h → AreSaid h ms → AreExplained h ms → WasProposed p ms → Answers h p a → IsInformed y (installed h a.changes) ms B k → IsInformed y (installed h a.changes) (reverse (answer_to p a.reply) ++ ms) B k
 informed_answer y h ms B k p a fit said explained was x f = by x
@@ -184,7 +184,7 @@ informed_answer y h ms B k p a fit said explained was x f = by x
 
 -- ---- a launch
 
--- what a restarter knows at first: nothing that was said bears its launch
+-- a restarter is informed at first: no proposal that was said bears its launch
 pub informed_first : (y : History) (h : Holdings) (ms : List Message) (B : ℕ → ℕ → Type 0) (name : List ℕ) (actor launch : ℕ) → launch ≡ launch_of h name → 1 ≤ launch
     → ((q : Proposal) → WasProposed q ms → q.proposer ≡ name → q.launch < launch) → IsInformed y h ms B (at_first name actor launch)
 informed_first y h ms B name actor launch is low new =

@@ -80,7 +80,7 @@ apart_of k l [] a m = absurd m
 apart_of k l (x ∷ xs) a (inl same) = λ e. a.0 (sym e ∙ ap (λ (z : Knowledge). z.name) (sym same))
 apart_of k l (x ∷ xs) a (inr m) = apart_of k l xs a.1 m
 
--- where one of them knows more, each goes on
+-- if one of them knows more, the facts of each go on
 pub all_know : (P Q : Knowledge → Type 0) (k : Knowledge) (c : Change) (ks : List Knowledge) → AreApart ks → IsIn k ks → (P k → Q (changed k c)) → ((l : Knowledge) → IsApartFrom k l → P l → Q l) → Each P ks → Each Q (map (knowing_by k.name c) ks)
 all_know P Q k c [] apart m here other a = absurd m
 all_know P Q k c (l ∷ ls) apart (inl same) here other a = (

@@ -1,5 +1,5 @@
--- What holds of what a launched restarter knows: clauses over it, over what is held and was held, over the messages that
--- were said, and over the runs that were begun.
+-- Clauses on the knowledge of a launched restarter. They speak of the values that are held and were held, of the
+-- messages that were said, and of the runs that were begun.
 use Rattle.std.specs.Prelude.{◌≡◌, ◌⊎◌, ◌+◌, ◌≤◌, ℕ, Bool, true, false, List, [], Option, Some, None}
 use Rattle.smf_fmri.specs.ByKey.{Rises}
 use Rattle.smf_contract.specs.declared.cookie.Method.{Method}
@@ -74,7 +74,7 @@ pub record IsStartPlanned (y : History) (n : ℕ) (r : Row) (run snapshot revisi
   pub ready : IsReadyAt y revision n r.number snapshot read decided
   pub call : owed.call ≡ read.call
 
--- what follows where a step is granted
+-- the plan after a granted step
 abbrev pub IsPlanned : History → ℕ → Row → Step → After → Type 0
 IsPlanned y n r (Start run snapshot duration ignore revision) after = IsStartPlanned y n r run snapshot revision after
 IsPlanned y n r (Stop to cause (Some run)) after = IsOwedNext methods.Stop run r after
@@ -196,7 +196,7 @@ pub record IsStill (h : Holdings) (k : Knowledge) (n serial : ℕ) : Type 0 wher
   pub launch : of.row.launch ≡ k.launch
   pub serial_is : of.row.serial ≡ serial
 
--- a proposal can never be granted anew, where the row is this restarter's and has a number
+-- a proposal can never be granted anew if the row is this restarter's and has a number
 abbrev pub IsDeadFor : Holdings → Knowledge → Proposal → Type 0
 IsDeadFor h k q = (i : Instance) → instance h q.instance ≡ Some i → i.row.owner ≡ k.name → 1 ≤ i.row.number → IsDead h q
 
@@ -206,7 +206,7 @@ IsAckOf k serial n r ms = WasSaid (messages.Ack k.name k.launch serial n r) ms
 abbrev pub IsNackOf : Knowledge → ℕ → ℕ → Why → Option Row → List Message → Type 0
 IsNackOf k serial n why r ms = WasSaid (messages.Nack k.name k.launch serial n why r) ms
 
--- the answer that is awaited: where a method was granted, the row has not gone on
+-- the answer that is awaited: if it grants a method, the row has not gone on
 abbrev pub AcksAreStill : Holdings → List Message → Knowledge → Type 0
 AcksAreStill h ms k =
     (serial n : ℕ) (r : Row) (p : Proposal) (after : After) (i : KnownInstance)
@@ -231,7 +231,7 @@ NacksAreTrue h ms k =
     → p.serial ≡ serial
     → IsRefusal h k p why o
 
--- a proposal that was said can be granted anew only where it is awaited
+-- a proposal that was said can be granted anew only if it is awaited
 abbrev pub DeadOrAwaited : Holdings → List Message → Knowledge → Type 0
 DeadOrAwaited h ms k = (q : Proposal) → WasProposed q ms → IsMine k q → IsDeadFor h k q ⊎ IsAwaitedBy k q
 

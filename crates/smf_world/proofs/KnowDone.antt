@@ -224,7 +224,7 @@ quiet_changed y h ms B C k c n o said q f =
       dropped = q.dropped;
     }) f
 
--- what is done about an instance is begun only once a restarter is up
+-- a restarter acts for an instance only once it is up
 pub up_by : (y : History) (h : Holdings) (ms : List Message) (B : ℕ → ℕ → Type 0) (k : Knowledge) (i : KnownInstance) → IsInformed y h ms B k → IsAt k i → (i.phase ≡ phases.Idle → ⊥) → is_up k.stage ≡ true
 up_by y h ms B k i f at busy = by (is_up k.stage) refl
   where
@@ -258,14 +258,14 @@ pub put_rises : (k : Knowledge) (i : KnownInstance) (run : Option KnownRun) → 
 unfolding changed
 put_rises k i run r = rises_put by_instance i k.instances r
 
--- what is known of an instance under a change that leaves the serial
+-- the knowledge of an instance after a change that leaves the serial
 pub phase_known : (y : History) (h : Holdings) (ms : List Message) (B : ℕ → ℕ → Type 0) (k : Knowledge) (c : Change) (n : ℕ) (i : KnownInstance) → c.serial ≡ None → IsKnown y h ms B k n i → IsKnown y h ms B (changed k c) n i
 phase_known y h ms B k c n i e a =
     known_more y h ms ms B B k (changed k c) n i (record { same = same_but k c e; said = λ q w. w; mine = λ q w is at. w; begun = λ run of there owner b. b }) a
 
 -- ---- what was awaited is granted
 
--- what an ack of the awaited proposal says
+-- an ack of the awaited proposal tells a row of the instance, as the proposal's step left it
 pub record IsTheAck (h : Holdings) (k : Knowledge) (n : ℕ) (p : Proposal) (row : Row) : Type 0 where
   pub was : WasRow h n row
   pub owner : row.owner ≡ k.name

@@ -1,4 +1,5 @@
--- Each event keeps what holds of what launched restarters know; they say what may be said, and begin runs that were given.
+-- Each event keeps the clauses on the knowledge of launched restarters. They say only messages that may be said, and
+-- begin only runs that were given.
 use Rattle.std.proofs.Common.{◌≡◌, ◌⊎◌, inl, inr, ℕ, ◌+◌, ◌≤◌, ◌<◌, nat_lt, not, Bool, true, false, if◌then◌else◌, List, [], ◌∷◌, ◌++◌, reverse, Some, None, refl, sym, ap, ◌∙◌, subst, arith}
 use Rattle.std.proofs.lemmas.Grind.{reverse_onto}
 use Rattle.std.proofs.lemmas.List.{append_assoc}
@@ -69,7 +70,7 @@ use Rattle.smf_world.proofs.KnowApart.{AreApart, all_know, filter_apart, knowing
 use Rattle.smf_world.proofs.KnowSays.{may_does, order_given}
 use Rattle.smf_world.proofs.KnowWalked.{HasOrders, IsKnowing, ToldIn, answers, begins, begun_on, boots, edits, idles, is_edit, knowing, leaves, steps}
 
--- what launched restarters know, and that no two have one name
+-- launched restarters are informed, and no two have one name
 pub record AreInformed (y : History) (h : Holdings) (ms : List Message) (t : List Item) (ks : List Knowledge) : Type 0 where
   pub informed : Each (IsInformed y h ms (begun_on t)) ks
   pub apart : AreApart ks
@@ -77,7 +78,7 @@ pub record AreInformed (y : History) (h : Holdings) (ms : List Message) (t : Lis
 abbrev pub AreInformedOf : World → Type 0
 AreInformedOf w = AreInformed w.history w.now w.sent w.trail w.restarters
 
--- behind work with these parts
+-- restarters are informed after work with these parts
 abbrev Behind : World → List Change → List Command → List Message → List Item → List Becomes → Type 0
 Behind w cs past says items bs = AreInformed (record w.history { past = past ++ w.history.past }) (installed w.now cs) (reverse says ++ w.sent) (noted items w.trail) (all_becoming bs w.restarters)
 
@@ -151,7 +152,7 @@ command_begins_none w c r = by (asked w.now c).changes refl
     by [] e = nothing c
     by (x ∷ xs) e = subst (λ (cs : List Change). NoneBegun (items_of w.now c cs)) e (items_begin_none w.now c r.numbered (subst AreMade (sym e) tt))
 
--- what is known behind the changes of a command
+-- a restarter is informed after the changes of a command
 abbrev Valued : World → Knowledge → List Change → List Command → Type 0
 Valued w k cs past = IsInformed (record w.history { past = past ++ w.history.past }) (installed w.now cs) w.sent (begun_on w.trail) k
 
@@ -179,7 +180,7 @@ valued w c k r ask no_boot launches f = by (asked w.now c).changes refl
 kept_launches : (h : Holdings) (c : Command) (name : List ℕ) → is_launching c ≡ false → launch_of (next h c).0 name ≡ launch_of h name
 kept_launches h c name e = ap (λ (ls : List Launch). option_map_or (λ (l : Launch). l.count) (lookup by_launch ls name) 0) (launches_stay h c e)
 
--- behind the changes and items of a command
+-- a restarter is informed after the changes and items of a command
 abbrev ValuedAt : World → Command → Knowledge → Type 0
 ValuedAt w c k =
     IsInformed (record w.history { past = accepted c (asked w.now c).changes ++ w.history.past }) (installed w.now (asked w.now c).changes) w.sent (begun_on (noted (items_of w.now c (asked w.now c).changes) w.trail)) k
@@ -321,7 +322,7 @@ work_behind w k r f (begins name none x m b) =
 work_behind w k r f (boots x m b) =
     parts_are w k.changes k.changes k.command k.command k.messages k.messages k.items k.becomes (becomes.NoneLeft ∷ []) refl refl refl b (record { informed = tt; apart = tt })
 
--- what launched restarters know holds behind each event
+-- launched restarters are informed after each event
 pub informed_event : (w : World) (e : Event) → AreRowsOf w → HasOrders w → AreInformedOf w → AreInformedOf (happens w e)
 unfolding happens done
 informed_event w e r h f = work_behind w (worked w e) r f (knowing w e h)

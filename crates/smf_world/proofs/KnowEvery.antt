@@ -39,7 +39,7 @@ use Rattle.smf_world.proofs.KnowKept.{IsElsewhere, informed_elsewhere}
 online_ends : (e : Ending) (r : Row) → IsStarting r → e.to ≡ Online → IsEndOf e r
 online_ends e r s to = record { start = λ t. inl to; stop = λ t. absurd (no_start r.state t.state s.state) }
 
--- what the success of a method leads to is an end of it
+-- the success of a method leads to an end of it
 pub succeeded_ends : (r : Row) (m : Method) → IsUnder m r → IsEndOf (succeeded r m) r
 succeeded_ends r methods.Start u = online_ends start_succeeded r u refl
 succeeded_ends r methods.Stop u = record { start = λ s. inr refl; stop = λ s. refl }
@@ -140,7 +140,7 @@ abbrev pub IsBegunIn : ℕ → ℕ → List Begun → Type 0
 IsBegunIn n run [] = ⊥
 IsBegunIn n run (b ∷ bs) = ((b.instance ≡ n) × (b.run ≡ run)) ⊎ IsBegunIn n run bs
 
--- the runs that were begun behind a step
+-- each run that was begun after a step was begun before it, or by it
 abbrev pub BegunBy : (ℕ → ℕ → Type 0) → List Begun → (ℕ → ℕ → Type 0) → Type 0
 BegunBy B bs C = (n run : ℕ) → C n run → B n run ⊎ IsBegunIn n run bs
 

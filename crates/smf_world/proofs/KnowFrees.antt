@@ -73,7 +73,7 @@ online_not_kept : (r : Row) (to : State) (o : Option KnownRun) → r.state ≡ O
 online_not_kept r to o e f g =
     if_true (same_state r.state Offline) (same_state Online Online && keeps_run r.duration o) (is_refresh_end r Online) (ap (λ (s : State). same_state s Offline) e) (subst (λ (s : State). keeps r s o ≡ false) f g)
 
--- an end that does not keep the live run, where it fits, is that of a start or of a stop
+-- an end that fits and does not keep the live run is the end of a start or of a stop
 abbrev IsFreed : Row → Type 0
 IsFreed r = IsStarting r ⊎ IsStopping r
 
@@ -152,7 +152,7 @@ plain_frees_none (Note bits keep) e f = cc
 end_fits : (r : Row) (to : State) (keep : Bool) (failed : ℕ) (cause : Cause) → fits r (End to keep failed cause) ≡ true → may_end r.state r.next to keep ≡ true
 end_fits r to keep failed cause e = both_first (may_end r.state r.next to keep) _ (is_tested r (End to keep failed cause) e).form
 
--- a step that is proposed, fits the row as it is held, and frees its live run: no contract of that run is known to have members
+-- if a proposed step fits the row that is held and frees its live run, no contract of that run is known to have members
 pub proposed_frees : (y : History) (h : Holdings) (ms : List Message) (B : ℕ → ℕ → Type 0) (k : Knowledge) (T : Message → Type 0) (i : KnownInstance) (step : Step) (after : After)
     → IsInformed y h ms B k → Proposes k T i step after → frees step ≡ true → fits i.row step ≡ true → is_empty (known_run k i.instance i.row.live) ≡ true
 proposed_frees y h ms B k T i step after f (starts o call duration ignore t x what is then_is) free fit =

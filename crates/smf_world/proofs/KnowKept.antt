@@ -1,4 +1,4 @@
--- What a change of one instance keeps of what a restarter knows, and what more messages and more runs keep of it.
+-- A change of one instance keeps the other clauses on a restarter's knowledge; so do more messages and more runs.
 use Rattle.std.proofs.Common.{◌≡◌, ◌⊎◌, inl, inr, ℕ, ◌≤◌, ◌<◌, Bool, true, false, List, [], ◌∷◌, Option, Some, refl, sym, ap, ◌∙◌, subst, arith}
 use Rattle.std.specs.Ordering.{is_eq, nat_cmp}
 use Rattle.smf_fmri.specs.ByKey.{Rises, with_answer}
@@ -28,7 +28,7 @@ use Rattle.smf_world.proofs.KnowClauses.{IsAckOf, IsAwaited, IsAwaitedBy, IsDead
 
 -- ---- messages
 
--- what is true of each message is true of one that was said
+-- a fact of each message holds of one that was said
 pub said_is : (P : Message → Type 0) (m : Message) (ms : List Message) → Each P ms → WasSaid m ms → P m
 said_is P m [] e w = absurd w
 said_is P m (x ∷ xs) e (inl same) = subst P same e.0
@@ -154,7 +154,7 @@ informed_elsewhere y h ms us B C k m begun f =
 
 -- ---- one instance is known otherwise
 
--- what a proposal is that is new
+-- a new proposal: its instance, its serial, and that it is awaited
 pub record IsNew (k l : Knowledge) (n : ℕ) (q : Proposal) : Type 0 where
   pub at : q.instance ≡ n
   pub serial : q.serial ≤ l.serial

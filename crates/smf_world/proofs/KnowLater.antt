@@ -1,4 +1,4 @@
--- What an accepted command keeps of what holds of a launched restarter's knowledge.
+-- Accepted commands keep the clauses on a launched restarter's knowledge.
 use Rattle.std.proofs.Common.{◌≡◌, ◌⊎◌, inl, inr, ℕ, ◌+◌, ◌≤◌, ◌==◌, Bool, true, false, List, Option, Some, None, refl, sym, ap, ◌∙◌, subst, arith}
 use Rattle.std.proofs.lemmas.Bool.Decides.{nat_tests}
 use Rattle.smf_fmri.proofs.Matching.{same_text}

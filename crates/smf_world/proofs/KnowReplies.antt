@@ -1,4 +1,4 @@
--- What a restarter does on a message, in a turn, and on what is reported is one of the few kinds of steps.
+-- A restarter takes one of a few kinds of steps on a message, in a turn, and on a report.
 use Rattle.std.proofs.Common.{◌≡◌, inl, inr, ◌==◌, ◌&&◌, nat_lt, ℕ, ◌+◌, Bool, true, false, if◌then◌else◌, List, [], ◌∷◌, map, Option, Some, None, refl, sym, ap, ◌∙◌, subst, eqb-true}
 use Rattle.smf_fmri.proofs.SameLists.{found_key}
 use Rattle.smf_contract.specs.declared.cookie.Method.{Method}

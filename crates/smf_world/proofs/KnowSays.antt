@@ -1,4 +1,4 @@
--- What a restarter says may be said, and what it hears it was told.
+-- A restarter says only messages that may be said, and hears only messages that it was told.
 use Rattle.std.proofs.Common.{◌≡◌, ℕ, ◌≤◌, List, [], ◌∷◌, Option, Some, None, refl, sym, ap, ◌∙◌, subst, arith}
 use Rattle.std.specs.Prelude.{find, unwrap_or}
 use Rattle.smf_state.specs.declared.view.ViewItem.{ViewItem}

@@ -39,7 +39,7 @@ use Rattle.smf_world.proofs.KnowKept.{IsSame, dead_on, known_more, mine_back, re
 
 -- ---- what is found in a list
 
--- what is in a list whose keys rise is what its key finds
+-- a member of a list whose keys rise is the one that its key finds
 member_by : {X K : Type 0} (o : By X K) (x y : X) (ys : List X) (b : Bool) → is_eq (o.cmp (o.key y) (o.key x)) ≡ b → Rises o (y ∷ ys) → lookup o ys (o.key x) ≡ Some x → cond b (Some y) (lookup o ys (o.key x)) ≡ Some x
 member_by {X = X} {K = K} o x y ys true e r behind =
     let key : o.key y ≡ o.key x = o.exact (o.key y) (o.key x) (equal_from_test _ e) in
@@ -56,7 +56,7 @@ member_found {X = X} o x (y ∷ ys) r (inl same) =
     subst (λ (z : X). cond (is_eq (o.cmp (o.key y) (o.key z))) (Some y) (lookup o ys (o.key z)) ≡ Some z) same (rw (same_key o (o.key y)) refl)
 member_found o x (y ∷ ys) r (inr m) = member_by o x y ys (is_eq (o.cmp (o.key y) (o.key x))) refl r (member_found o x ys r.1 m)
 
--- what is found behind several puts was put, or was found before
+-- an item that is found after several puts was put, or was found before
 pub put_all_found : {X K : Type 0} (o : By X K) (ys xs : List X) (k : K) (x : X) → lookup o (put_all o ys xs) k ≡ Some x → IsIn x ys ⊎ (lookup o xs k ≡ Some x)
 put_all_found o [] xs k x e = inr e
 put_all_found {X = X} o (y ∷ ys) xs k x e = by (put_all_found o ys (put o y xs) k x e)
@@ -72,7 +72,7 @@ put_all_found {X = X} o (y ∷ ys) xs k x e = by (put_all_found o ys (put o y xs
     by (inl m) = inl (inr m)
     by (inr p) = put_by_one (with_answer_cases o (lookup o xs) (o.key y) (Some y) k (Some x) (sym (lookup_put o y xs k) ∙ p))
 
--- what is in a mapped list comes of what is in the list
+-- an item of a mapped list is made from an item of the list
 pub mapped_in : {X Y : Type 0} (f : X → Y) (xs : List X) (z : Y) → IsIn z (map f xs) → (x : X) × (f x ≡ z) × IsIn x xs
 mapped_in f [] z m = absurd m
 mapped_in f (x ∷ xs) z (inl same) = (x, same, inl refl)

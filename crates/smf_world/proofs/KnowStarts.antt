@@ -33,7 +33,7 @@ use Rattle.smf_world.proofs.DecidedShown.{Shown, shown_event, shown_first}
 use Rattle.smf_world.proofs.KnowWalked.{HasOrders}
 use Rattle.smf_world.proofs.KnowEvents.{AreInformed, AreInformedOf, begins_given, informed_event, may_say}
 
--- what holds of a world's rows, messages and restarters, and of its starts
+-- the clauses on a world's rows, messages, restarters and starts hold
 pub record Stands (w : World) : Type 0 where
   pub first : IsNumbered w.history.first
   pub rows : AreRowsOf w

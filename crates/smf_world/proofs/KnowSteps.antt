@@ -1,4 +1,4 @@
--- What a restarter does in one step, by what it knows: one of few kinds, with what each of them stands on.
+-- The few kinds of steps that a restarter takes, and the knowledge that each of them stands on.
 use Rattle.std.specs.Prelude.{◌≡◌, ◌⊎◌, ◌+◌, ℕ, not, Bool, true, false, List, [], ◌∷◌, map, flat_map, Option, Some, None, Ok}
 use Rattle.smf_contract.specs.declared.contract.Status.{Status}
 use Rattle.smf_contract.specs.declared.cookie.Method.{Method}
@@ -44,7 +44,7 @@ use Rattle.smf_world.proofs.KnowClauses.{IsEndOf, IsPlanned, IsUnder}
 
 -- ---- what is done
 
--- what changes of what is known, what is said, the methods that are begun, and what is asked of the contracts
+-- the change of knowledge, the messages, the methods that are begun, and the call on the contracts
 pub record Doing : Type 0 where
   pub change : Change
   pub said : List Message
@@ -74,11 +74,11 @@ is_plain (steps.Stop to cause run) = true
 is_plain (steps.Refresh run) = true
 is_plain _ = false
 
--- what follows a step that is no start, whatever was decided
+-- the plan after a step that is no start, whatever was decided
 abbrev pub IsPlannedAnyhow : Row → Step → After → Type 0
 IsPlannedAnyhow r step after = (y : History) (n : ℕ) → IsPlanned y n r step after
 
--- why a step of an instance is proposed, and what follows where it is granted: an order, an end, or a note
+-- the reason for which a step of an instance is proposed, and the plan if it is granted: an order, an end, or a note
 pub data Proposes (k : Knowledge) (T : Message → Type 0) (i : KnownInstance) (step : Step) (after : After) : Type 0 where
   starts : (o : Order) (call : MethodCall) (duration : Duration) (ignore : ℕ)
       → T (messages.Order o) → IsOrdered k o i → o.what ≡ whats.Start call duration ignore
@@ -110,14 +110,14 @@ pub data Does (k : Knowledge) (T : Message → Type 0) (d : Doing) : Type 0 wher
   -- nothing but the note of a run, and calls on contracts that are known
   rests : (run : Option KnownRun) (call : Call) → d ≡ doing (record unchanged { run = run }) [] [] call → Does k T d
   joins : k.stage ≡ stages.Joining → d ≡ doing unchanged (messages.Join k.name k.launch ∷ []) [] calls.Nothing → Does k T d
-  -- what is awaited is said again
+  -- an awaited proposal is said again
   repeats : (i : KnownInstance) (p : _) (after : After) → IsAt k i → i.phase ≡ phases.Waiting p after
       → d ≡ doing unchanged (messages.Propose p ∷ []) [] calls.Nothing
       → Does k T d
   proposes : (i : KnownInstance) (step : Step) (after : After) → k.stage ≡ stages.Up → Proposes k T i step after
       → d ≡ doing (proposing_change k i step after) (messages.Propose (proposal k i step) ∷ []) [] calls.Nothing
       → Does k T d
-  -- what was awaited is granted
+  -- an awaited proposal is granted
   granted : (i : KnownInstance) (p : _) (after : After) (name : List ℕ) (row : Row) → IsAt k i → i.phase ≡ phases.Waiting p after
       → T (messages.Ack name p.launch p.serial i.instance row)
       → d ≡ doing (record (putting (record i { row = row; phase = phase_after after })) { run = unmarked k i p.step }) [] [] calls.Nothing

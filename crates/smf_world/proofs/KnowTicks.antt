@@ -1,4 +1,4 @@
--- What a restarter does in its turn and on what is reported is one of the few kinds of steps.
+-- A restarter takes one of the few kinds of steps in its turn and on a report.
 use Rattle.std.proofs.Common.{◌≡◌, inl, inr, ◌&&◌, nat_lt, ℕ, Bool, true, false, if◌then◌else◌, List, [], ◌∷◌, Option, Some, None, Result, Ok, Err, refl, sym, ap, ◌∙◌, subst}
 use Rattle.std.specs.Prelude.{find, is_some}
 use Rattle.smf_contract.specs.declared.contract.Report.{Report}
@@ -52,7 +52,7 @@ use Rattle.smf_world.proofs.KnowReplies.{at_known, does_propose, exit_ends, fail
 
 -- ---- a turn, with the answer to what it asks of the contracts
 
--- what is begun is shown where a contract was made, or none was asked for
+-- a method that is begun is shown if a contract was made, or if none was asked for
 abbrev pub shown_begun : Option ℕ → List Begun → List Begun
 shown_begun None bs = []
 shown_begun (Some c) bs = bs
@@ -71,7 +71,7 @@ stays : (w : World) (k : Knowledge) (n : ℕ) (spawn : SpawnAnswer) (T : Message
 unfolding answer_of
 stays w k n spawn T = rests None calls.Nothing refl
 
--- what asks nothing of the contracts
+-- a reply with a proposal asks nothing of the contracts
 asks_none : (w : World) (k : Knowledge) (n : ℕ) (spawn : SpawnAnswer) (T : Message → Type 0) (b : Bool) (i : KnownInstance) (step : Step) (after : After) → Does k T (of_reply (proposing_if b k i step after [])) → Acts w k n spawn T (proposing_if b k i step after [])
 unfolding answer_of
 asks_none w k n spawn T true i step after d = d

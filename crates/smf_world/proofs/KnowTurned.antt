@@ -28,7 +28,7 @@ use Rattle.smf_world.proofs.KnowKept.{said_is}
 
 -- ---- refusals
 
--- what a nack of the awaited proposal says
+-- a nack of the awaited proposal is a refusal of it
 the_nack : (y : History) (h : Holdings) (ms : List Message) (B : ℕ → ℕ → Type 0) (k : Knowledge) (i : KnownInstance) (p : Proposal) (after : After) (name : List ℕ) (why : Why) (o : Option Row)
     → IsAt k i → i.phase ≡ phases.Waiting p after → WasSaid (messages.Nack name p.launch p.serial i.instance why o) ms → name ≡ k.name → IsInformed y h ms B k → IsRefusal h k p why o
 the_nack y h ms B k i p after name why o at ph w to f =

@@ -1,4 +1,4 @@
--- What each event is for those who know: a step of one restarter, a command, or neither.
+-- To the restarters each event is one of three things: a step of one restarter, a command, or neither.
 use Rattle.std.proofs.Common.{◌≡◌, ◌⊎◌, inl, inr, ℕ, ◌+◌, ◌==◌, nat_lt, Bool, true, false, if◌then◌else◌, List, [], ◌∷◌, ◌++◌, map, Option, Some, None, is_some, refl, sym, ap, ◌∙◌, subst}
 use Rattle.smf_contract.specs.declared.call.ContractCall.{ContractCall}
 use Rattle.smf_contract.specs.declared.call.ContractCall.TheVariants as asked_of
@@ -67,7 +67,7 @@ use Rattle.smf_world.proofs.KnowSays.{order_given}
 abbrev pub begun_on : List Item → ℕ → ℕ → Type 0
 begun_on trail n run = WasSpawned n run trail
 
--- what a restarter of this world was told
+-- a restarter of this world was told the message
 abbrev pub ToldIn : World → Knowledge → Message → Type 0
 ToldIn w k m = WasTold w.history w.now w.sent k m
 
@@ -214,7 +214,7 @@ proposed_knows : (w : World) (p : Proposal) → WasProposed p w.sent → IsKnowi
 unfolding delivered commanded
 proposed_knows w p s = answers p s (record { changes = refl; command = refl; items = refl }) refl refl
 
--- what holds of the world's orders
+-- the world holds the newest value of its history, and its orders agree with the history
 pub record HasOrders (w : World) : Type 0 where
   pub numbered : IsNumbered w.history.first
   pub newest : w.now ≡ made w.history.first w.history.past

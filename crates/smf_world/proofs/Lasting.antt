@@ -1,4 +1,4 @@
--- What each command that is accepted keeps, each event keeps.
+-- Each event keeps a fact that each accepted command keeps.
 use Rattle.std.proofs.Common.{◌≡◌, List, [], ◌∷◌, ◌++◌, refl, sym, ap, ◌∙◌, subst}
 use Rattle.smf_model.specs.declared.change.Change.{Change}
 use Rattle.smf_model.specs.declared.command.Command.{Command}
@@ -31,7 +31,7 @@ Fact = History → Holdings → List Item → Type 0
 abbrev pub Of : Fact → World → Type 0
 Of P w = P w.history w.now (commits w.trail)
 
--- behind one command more, which made a revision
+-- the fact after one command more, which made a revision
 abbrev pub Behind : Fact → History → Holdings → Command → List Item → Type 0
 Behind P y h c t = P (record y { past = c ∷ y.past }) (next h c).0 (noted (made_items c h (next h c).0) t)
 
@@ -40,7 +40,7 @@ pub record IsKept (P : Fact) : Type 0 where
   pub numbered : (y : History) (h : Holdings) (t : List Item) → P y h t → IsNumbered h
   pub kept : (y : History) (h : Holdings) (c : Command) (t : List Item) → AreMade (asked h c).changes → P y h t → Behind P y h c t
 
--- behind these changes, commands and items
+-- the fact after these changes, commands and items
 abbrev pub After : Fact → World → List Change → List Command → List Item → Type 0
 After P w cs past items = P (record w.history { past = past ++ w.history.past }) (installed w.now cs) (commits (noted items w.trail))
 

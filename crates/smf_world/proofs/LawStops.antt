@@ -1,4 +1,4 @@
--- What rows say of a dependency that stops an instance is what the history says.
+-- Rows tell the same as the history of a dependency that stops an instance.
 use Rattle.std.proofs.Common.{◌≡◌, ◌⊎◌, inl, inr, ℕ, ◌≤◌, ◌<◌, ◌==◌, nat_lt, Bool, true, false, cond, ◌||◌, if◌then◌else◌, List, [], ◌∷◌, map, Some, None, refl, sym, ap, ◌∙◌, subst, ltb-true}
 use Rattle.std.proofs.lemmas.Bool.{lt-ltb, or_cases, or_left, or_right}
 use Rattle.std.proofs.lemmas.List.Folds.{Any-from_list_any, list_any-from_Any}

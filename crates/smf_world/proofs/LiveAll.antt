@@ -1,4 +1,4 @@
--- At most one start of an instance lives, whatever happens behind a boot of what was found.
+-- At most one start of an instance lives, whatever happens after a boot of the value that was found.
 use Rattle.std.proofs.Common.{◌≡◌, ◌⊎◌, ℕ, List, [], ◌∷◌, inl, inr}
 use Rattle.smf_model.specs.declared.command.Command.TheVariants as commands
 use Rattle.smf_model.specs.declared.command.Reply.TheVariants as replies
@@ -28,7 +28,7 @@ use Rattle.smf_world.proofs.LiveTrue.{KnowsWell}
 use Rattle.smf_world.proofs.TablesClauses.{IsTable}
 use Rattle.smf_world.proofs.TablesKept.{first_table, table_event}
 
--- what holds of a world, its contract table and its starts that live
+-- the clauses on a world, its contract table and its starts that live hold
 pub record LivesWell (w : World) : Type 0 where
   pub stands : Stands w
   pub table : IsTable w.table w.trail

@@ -41,7 +41,7 @@ abbrev pub begun_run : Bool → ℕ → ℕ → ℕ → List LiveRun → List Li
 begun_run true c i run ls = if c == 0 then ls else record { contract = c; instance = i; run = run } ∷ ls
 begun_run false c i run ls = ls
 
--- those that live behind a trail, as `live_starts` has them
+-- the runs that live after a trail, as `live_starts` has them
 abbrev pub live_runs : List Item → List LiveRun
 live_runs [] = []
 live_runs (Spawned c i run method revision command ∷ trail) = begun_run (is_start method) c i run (live_runs trail)
@@ -101,7 +101,7 @@ pub record IsOver (ks : List Knowledge) (trail : List Item) (n run : ℕ) : Type
   pub dead : Lives n run trail → ⊥
   pub unowed : IsOwed ks n run → ⊥
 
--- L.frees: the live run that a proposal would free, where it can still be granted, is over
+-- L.frees: the live run that a proposal would free is over, if the proposal can still be granted
 abbrev pub FreesTheOver : Holdings → List Knowledge → List Item → Message → Type 0
 FreesTheOver h ks trail (messages.Propose q) =
     (o : IsOpen h q) (run : ℕ) → frees q.step ≡ true → o.of.row.live ≡ Some run → IsOver ks trail q.instance run

@@ -1,4 +1,4 @@
--- What holds of each item of a list.
+-- Facts that hold of each item of a list.
 use Rattle.std.proofs.Common.{◌≡◌, ℕ, zero, suc, Bool, true, false, cond, List, [], ◌∷◌, ◌++◌, map, filter, reverse, Some, inl, inr, sym, ap, ◌∙◌, subst, append-nil}
 use Rattle.std.specs.Prelude.{slice_get}
 use Rattle.std.proofs.lemmas.Grind.{reverse_onto}
@@ -46,6 +46,6 @@ at_place P [] n x a e = absurd cc
 at_place P (y ∷ ys) zero x a e = let same : y ≡ x = cc in subst P same a.0
 at_place P (y ∷ ys) (suc n) x a e = at_place P ys n x a.1 e
 
--- what holds of each message that was sent holds of the one at a place
+-- a fact of each message that was sent holds of the one at a place
 pub each_sent : {X : Type 0} (P : X → Type 0) (xs : List X) (n : ℕ) (x : X) → Each P xs → slice_get (reverse xs) n ≡ Some x → P x
 each_sent P xs n x a e = at_place P (reverse xs) n x (subst (Each P) (append-nil (reverse xs)) (each_reversed P xs [] a tt)) e

@@ -1,4 +1,4 @@
--- Which starts live behind an event: those that lived, but for one that was owed and is begun.
+-- The starts that live after an event lived before it, but for one that was owed and is begun.
 use Rattle.std.proofs.Common.{◌≡◌, ◌⊎◌, ◌==◌, not, ℕ, true, List, [], ◌∷◌, inl, inr, refl, sym, ap, ◌∙◌, subst}
 use Rattle.smf_contract.specs.declared.call.ContractCall.{ContractCall}
 use Rattle.smf_contract.specs.declared.cookie.Method.{Method}
@@ -57,7 +57,7 @@ begun_lives ks table call n run xs t (spawned s c cookie terms m p q e) l = one_
 rows_lives : (n run : ℕ) (xs t : List Item) → Each IsRow xs → Lives n run (noted xs t) → Lives n run t
 rows_lives n run xs t a l = subst (IsAmong n run) (rows_live xs t a) l
 
--- what lives behind the work of an event
+-- the starts that live after the work of an event
 pub lives_of : (ks : List Knowledge) (table : Contracts) (items : List Item) (call : ContractCall) (n run : ℕ) (t : List Item) → IsTabled ks table items call → Lives n run (noted items t) → Lives n run t ⊎ IsStartOf ks n run
 lives_of ks table items call n run t (passes e a) l = inl (rows_lives n run items t a l)
 lives_of ks table items call n run t (boots rows a e c) l =

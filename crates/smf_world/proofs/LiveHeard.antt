@@ -1,4 +1,5 @@
--- What a restarter notes of runs on a message is true, since it was known; a report and a time-out bring nobody up.
+-- A restarter notes only true facts of runs on a message, since they were known. A report and a time-out bring nobody
+-- up.
 use Rattle.std.proofs.Common.{◌==◌, ◌&&◌, nat_lt, ℕ, Bool, true, false, if◌then◌else◌, List, [], ◌∷◌, map, Option, Some, None, refl}
 use Rattle.std.specs.Prelude.{is_some, option_map, option_to_list}
 use Rattle.smf_contract.specs.declared.contract.Report.{Report}
@@ -41,7 +42,7 @@ use Rattle.smf_world.proofs.LiveKnown.{IsTrue, RunsAreTrue}
 use Rattle.smf_world.proofs.LiveLists.{Each}
 use Rattle.smf_world.proofs.LiveTrue.{IsNoting, NotUp, known_true, unchanged_notes}
 
--- what a reply changes
+-- a reply lists no contracts, brings nobody up, and notes only a true run
 abbrev pub Notes : List Item → Reply → Type 0
 Notes t r = IsNoting t r.change
 

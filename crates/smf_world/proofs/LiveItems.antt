@@ -1,4 +1,4 @@
--- What items put on a trail leave of what it says of runs.
+-- Items that are put on a trail leave the facts of runs that it shows.
 use Rattle.std.proofs.Common.{◌≡◌, ℕ, List, [], ◌∷◌, map, refl, sym, ◌∙◌, subst}
 use Rattle.smf_world.specs.declared.item.Item.{Item}
 use Rattle.smf_world.specs.declared.item.Item.TheVariants.{Boot, Committed, Held, Spawned, Emptied}
@@ -9,7 +9,7 @@ use Rattle.smf_world.proofs.Noting.{noted, noted_more}
 use Rattle.smf_world.proofs.TablesClauses.{spawned_for}
 use Rattle.smf_world.proofs.TablesWalked.{IsHeld, IsRow}
 
--- what each item of a kind keeps, all of them keep
+-- if each item of a kind keeps a fact, all of them together keep it
 pub each_noted : (P : List Item → Type 0) (Q : Item → Type 0) → ((x : Item) (t : List Item) → Q x → P t → P (x ∷ t)) → (xs t : List Item) → Each Q xs → P t → P (noted xs t)
 each_noted P Q step [] t a p = p
 each_noted P Q step (x ∷ xs) t a p = subst P (sym (noted_more x xs t)) (each_noted P Q step xs (x ∷ t) a.1 (step x t a.0 p))

@@ -1,5 +1,5 @@
--- What restarters know of runs agrees with the contract table: a run that is known empty does not live, and who lists the
--- contracts knows each start that lives.
+-- The facts that restarters know of runs agree with the contract table. A run that is known empty does not live. A
+-- restarter that lists the contracts knows each start that lives.
 use Rattle.std.proofs.Common.{◌≡◌, ◌⊎◌, ◌+◌, ◌==◌, ◌&&◌, ◌||◌, not, nat_lt, arith, length, ℕ, suc, Bool, true, false, cond, if◌then◌else◌, List, [], ◌∷◌, ◌++◌, map, filter, position, Option, Some, None, inl, inr, refl, sym, ap, ◌∙◌, subst, eqb-true}
 use Rattle.std.specs.Prelude.{IsSome, flat_map, find, option_to_list, slice_get}
 use Rattle.std.specs.List.{prefix_len}
@@ -52,7 +52,7 @@ for_spawned c (Committed i n s next ∷ t) k e = for_spawned c t k e
 for_spawned c (Held name launch i n s ∷ t) k e = for_spawned c t k e
 for_spawned c (Emptied d ∷ t) k e = for_spawned c t k e
 
--- of another contract, behind a method that was begun
+-- the cookie of contract c after a method was begun in contract d: that of the method, or the one from before
 record IsFor (d c i run : ℕ) (t : List Item) (k : Cookie) : Type 0 where
   is : ((d ≡ c) × (i ≡ k.instance) × (run ≡ k.run)) ⊎ (spawned_for c t ≡ Some k)
 
@@ -108,7 +108,7 @@ dead_where_none t trail g c k once there unpacks none lives =
     let same : g.id ≡ h.of.contract = one_of_run t trail k.spawned once g other c (record { instance = h.of.instance; run = h.of.run; method = methods.Start }) there h.held.is_there unpacks h.held.unpacks (sym h.instance) (sym h.run_is) in
     clash (has_members g.id t.members) (subst (λ (n : ℕ). has_members n t.members ≡ true) (sym same) h.held.members) none
 
--- what a contract's cookie says was begun
+-- the run that a contract's cookie names was begun
 pub begun_of : (t : Contracts) (trail : List Item) (g : Tag) (c : Cookie) → AreSpawned t trail → IsIn g (tags t.contracts) → unpacked g.cookie ≡ Some c → WasSpawned c.instance c.run trail
 begun_of t trail g c spawned there e =
     let x : IsSpawned trail g = each_in (IsSpawned trail) g (tags t.contracts) spawned there in
@@ -116,7 +116,7 @@ begun_of t trail g c spawned there e =
 
 -- ---- runs that are known
 
--- a run that is known was begun, and where it is known empty it does not live
+-- a run that is known was begun, and a run that is known empty does not live
 pub record IsTrue (trail : List Item) (r : KnownRun) : Type 0 where
   pub begun : WasSpawned r.key.instance r.key.run trail
   pub dead : r.empty ≡ true → Lives r.key.instance r.key.run trail → ⊥
@@ -152,7 +152,7 @@ each_put_all : {X K : Type 0} (P : X → Type 0) (o : By X K) (ys xs : List X) �
 each_put_all P o [] xs a b = b
 each_put_all P o (y ∷ ys) xs a b = each_put_all P o ys (put o y xs) a.1 (each_put P o y xs a.0 b)
 
--- what a change brings is true, and so is all behind it
+-- if a change brings true facts of runs, all facts of runs are true after it
 pub true_changed : (trail : List Item) (k : Knowledge) (c : Change) → RunsAreTrue trail k → Each (IsTrue trail) c.listed → Each (IsTrue trail) (option_to_list c.run) → RunsAreTrue trail (changed k c)
 unfolding changed
 true_changed trail k c a b d = each_put_all (IsTrue trail) by_run (option_to_list c.run) (put_all by_run c.listed k.runs) d (each_put_all (IsTrue trail) by_run c.listed k.runs b a)
@@ -190,7 +190,7 @@ tag_in c [] i = absurd i
 tag_in c (d ∷ ds) (inl e) = inl (ap tag_of e)
 tag_in c (d ∷ ds) (inr i) = inr (tag_in c ds i)
 
--- what is listed is true
+-- the facts of the listed runs are true
 pub listed_true : (t : Contracts) (trail : List Item) (k : Knowledge) → IsTable t trail → Once trail → Each (IsTrue trail) (flat_map (listed_run k) (statuses t))
 listed_true t trail k is once = each_flat (IsTrue trail) (listed_run k) (statuses t) (all_listed t trail k t.contracts is once (λ c i. tag_in c t.contracts i))
 
@@ -243,7 +243,7 @@ in_put_all o y [] xs i = absurd i
 in_put_all o y (z ∷ zs) xs (inl e) = some_put_all o zs (put o z xs) (o.key y) (subst (λ x. IsSome (lookup o (put o z xs) (o.key x))) e (here_put o z xs))
 in_put_all o y (z ∷ zs) xs (inr i) = in_put_all o y zs (put o z xs) i
 
--- what is known stays known
+-- a run that is known stays known
 pub knows_changed : (k : Knowledge) (c : Change) (n run : ℕ) → IsSome (run_at k n run) → IsSome (run_at (changed k c) n run)
 unfolding changed
 knows_changed k c n run e =
@@ -269,7 +269,7 @@ knows_listed t trail k c n run is e lives =
 
 -- ---- an event is reported
 
--- what is at the place where a test first passes
+-- an item of the list that passes the test: the one at the first such place
 record IsFoundBy {X : Type 0} (p : X → Bool) (xs : List X) (x : X) : Type 0 where
   is_in : IsIn x xs
   passes : p x ≡ true
@@ -363,14 +363,14 @@ reported_run : (t : Contracts) (trail : List Item) (k : Knowledge) (r : Report) 
 reported_run t trail k r None e a is once report = true_changed trail k (reported_as k r None) a tt tt
 reported_run t trail k r (Some c) e a is once report = true_changed trail k (reported_as k r (Some c)) a tt (before_true t trail k r c (run_at k c.instance c.run) refl a is once report e, tt)
 
--- what is known behind a report is true
+-- the known facts of runs are true after a report
 pub reported_true : (t : Contracts) (trail : List Item) (k : Knowledge) (id number : ℕ) (r : Report) → report_at t id number ≡ Some r → RunsAreTrue trail k → IsTable t trail → Once trail → RunsAreTrue trail (changed k (reported k r))
 unfolding reported
 reported_true t trail k id number r e a is once = reported_run t trail k r (unpacked r.contract.cookie) refl a is once (report_is t id number r e)
 
 -- ---- a trail that goes on
 
--- what was begun stays so, and no run of those that were begun comes to life
+-- a run that was begun stays so, and does not come to life later
 pub record GoesOn (t u : List Item) : Type 0 where
   pub begun : (n run : ℕ) → WasSpawned n run t → WasSpawned n run u
   pub lives : (n run : ℕ) → WasSpawned n run t → Lives n run u → Lives n run t

@@ -1,5 +1,5 @@
--- Each event keeps what launched restarters know of runs: that is true, and who is up knows each start that lives of the
--- instances that it runs.
+-- Each event keeps the knowledge of runs of launched restarters. That knowledge is true, and a restarter that is up
+-- knows each start that lives of the instances that it runs.
 use Rattle.std.proofs.Common.{◌≡◌, ◌⊎◌, inl, inr, ◌==◌, ◌+◌, not, ℕ, Bool, true, false, List, [], ◌∷◌, ◌++◌, map, Option, Some, None, refl, sym, ap, ◌∙◌, subst}
 use Rattle.std.specs.Prelude.{IsSome}
 use Rattle.smf_contract.specs.declared.call.ContractCall.{ContractCall}
@@ -79,7 +79,7 @@ pub data Hears (w : World) (k : Work) : Type 0 where
   hears : (l : Knowledge) (c : KnowledgeChange) → IsIn l w.restarters → k.becomes ≡ knows l c → Brings w l c k.items → Hears w k
   silent : NoneKnows k.becomes → Hears w k
 
--- what holds of a world whose restarters hear, turn and are told
+-- the clauses on a world whose restarters hear, turn and are told
 pub record CanHear (w : World) : Type 0 where
   pub table : IsTable w.table w.trail
   pub once : Once w.trail
@@ -373,13 +373,13 @@ work_knows w k r f live g a (begins name none x m b) h =
     (launched_each w (installed w.now (asked w.now c).changes) (noted k.items w.trail) name ((asked w.now c).reply ∷ []) (command_each w c k.items x.items r (no_launched_boot name) live g a))
 work_knows w k r f live g a (boots x m b) h = parts_are w k.changes k.changes k.items k.becomes (becomes.NoneLeft ∷ []) refl b tt
 
--- what restarters know of runs holds behind each event
+-- the restarters' knowledge of runs holds after each event
 pub knows_event : (w : World) (e : Event) → Stands w → IsTable w.table w.trail → LiveInRows w.now w.trail → Each (KnowsWell w.now w.trail) w.restarters → Each (KnowsWell (happens w e).now (happens w e).trail) (happens w e).restarters
 unfolding happens done
 knows_event w e s table live a =
     work_knows w (worked w e) s.rows s.informed live (goes_on w e (owed_fresh w s)) a (knowing w e (has_orders w s))
     (hears_event w e (record { table = table; once = s.once; informed = s.informed; runs = each_later (KnowsWell w.now w.trail) (RunsAreTrue w.trail) (λ k p. p.0) w.restarters a }))
 
--- behind a boot of what was found there is nobody who could know anything
+-- after a boot of a found value there is no restarter that could know anything
 pub knows_first : (h : Holdings) → Each (KnowsWell (happens (found h) events.Boot).now (happens (found h) events.Boot).trail) (happens (found h) events.Boot).restarters
 knows_first h = subst (Each (KnowsWell (happens (found h) events.Boot).now (happens (found h) events.Boot).trail)) (sym (first_restarters h)) tt

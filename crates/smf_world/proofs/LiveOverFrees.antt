@@ -1,4 +1,4 @@
--- Behind each event the live run that a proposal would free, where it can still be granted, is over.
+-- After each event the live run that a proposal would free is over, if the proposal can still be granted.
 use Rattle.std.proofs.Common.{◌≡◌, ◌⊎◌, ◌+◌, ℕ, true, List, [], Option, Some, None, inl, inr, refl, sym, ap, ◌∙◌, subst, arith}
 use Rattle.std.specs.Prelude.{IsSome}
 use Rattle.smf_state.specs.declared.row.Row.{Row}
@@ -184,7 +184,7 @@ all_dead : (w : World) (e : Event) → Each (FreesTheDead (happens w e).now (hap
 unfolding happens done
 all_dead w e news olds = each_reversed (FreesTheDead (happens w e).now (happens w e).trail) (worked w e).messages w.sent news olds
 
--- what a proposal would free is over, behind each event
+-- the run that a proposal would free is over after each event
 pub frees_event : (w : World) (e : Event) → Stands w → AllFreeTheOver w.now w.restarters w.trail w.sent → Each (KnowsWell w.now w.trail) w.restarters
     → AllFreeTheOver (happens w e).now (happens w e).restarters (happens w e).trail (happens w e).sent
 frees_event w e s over knows =

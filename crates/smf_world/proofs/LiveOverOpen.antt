@@ -1,5 +1,5 @@
 -- Who may free a run: a proposal that can still be granted is its restarter's awaited one, so that who owes a start has
--- none. What is left to say of the live run that a proposal would free is that it does not live.
+-- none. It remains to say that the live run that a proposal would free does not live.
 use Rattle.std.proofs.Common.{◌≡◌, ◌⊎◌, ◌+◌, ◌≤◌, ℕ, zero, suc, Bool, true, false, List, [], ◌∷◌, Option, Some, None, inl, inr, refl, sym, ap, ◌∙◌, subst, arith}
 use Rattle.smf_contract.specs.declared.cookie.Method.{Method}
 use Rattle.smf_state.specs.declared.step.Proposal.{Proposal}
@@ -63,7 +63,7 @@ open_lives h q k o dead owner number = by (dead o.of o.there owner number o.of o
 owes_or_waits : (p : Phase) (o : Owed) (q : Proposal) (after : After) → p ≡ phases.Owes o → p ≡ phases.Waiting q after → ⊥
 owes_or_waits p o q after e f = let g : phases.Owes o ≡ phases.Waiting q after = sym e ∙ f in cc
 
--- no start is owed of an instance whose live run a proposal would free, where it can still be granted
+-- no start of an instance is owed if a proposal that can still be granted would free its live run
 pub owed_by_none : (y : History) (h : Holdings) (ms : List Message) (t : List Item) (ks : List Knowledge) (q : Proposal) (o : IsOpen h q) (run : ℕ) → AllInformed y h ms t ks → AreFit h → WasProposed q ms → o.of.row.live ≡ Some run → IsOwed ks q.instance run → ⊥
 owed_by_none y h ms t ks q o run all fit said live x = by (k.dead q said (record { proposer = proposer; launch = o.launch ∙ (ap (launch_of h) proposer ∙ sym k.launch) }))
   where
@@ -87,7 +87,7 @@ owed_by_none y h ms t ks q o run all fit said live x = by (k.dead q said (record
 
 -- ---- what is left to say
 
--- the live run that a proposal would free, where it can still be granted, does not live
+-- the live run that a proposal would free does not live, if the proposal can still be granted
 abbrev pub FreesTheDead : Holdings → List Item → Message → Type 0
 FreesTheDead h t (messages.Propose q) =
     (o : IsOpen h q) (run : ℕ) → frees q.step ≡ true → o.of.row.live ≡ Some run → Lives q.instance run t → ⊥

@@ -1,4 +1,4 @@
--- What lives behind an event is the live run of its instance's row.
+-- A start that lives after an event is the live run of its instance's row.
 use Rattle.std.proofs.Common.{◌≡◌, ◌⊎◌, ℕ, true, List, [], ◌∷◌, inl, inr, refl, sym, subst}
 use Rattle.std.specs.List.{filter_map}
 use Rattle.smf_state.specs.declared.step.Proposal.{Proposal}
@@ -61,7 +61,7 @@ over_at h ks t u (messages.View v) later over = tt
 over_at h ks t u (messages.Changes news) later over = tt
 over_at h ks t u (messages.Order o) later over = tt
 
--- the proposals that were said before an event free what is over behind its items
+-- the proposals that were said before an event free only runs that are over after its items
 pub free_at : (w : World) (e : Event) → AreInformedOf w → AllFreeTheOver w.now w.restarters w.trail w.sent → AllFreeTheOver w.now w.restarters (happens w e).trail w.sent
 free_at w e f over =
     each_later (FreesTheOver w.now w.restarters w.trail) (FreesTheOver w.now w.restarters (happens w e).trail)
@@ -130,7 +130,7 @@ propose_no_boot p e = cc
 one_proposal : (p q : Proposal) → commands.Propose p ≡ commands.Propose q → p ≡ q
 one_proposal p q e = cc
 
--- nothing lives behind a boot
+-- nothing lives after a boot
 boot_lives : (h : Holdings) (xs : List Change) (x : Change) (t : List Item) (n run : ℕ) → Lives n run (noted (items_of h commands.Boot (x ∷ xs)) t) → ⊥
 unfolding items_of
 boot_lives h xs x t n run l =
@@ -158,7 +158,7 @@ live_behind w k (begins name none x m b) r over live =
 live_behind w k (boots x m b) r over live =
     subst (LiveBehind w (noted k.items w.trail)) (sym x.changes) (boot_behind w k.items (asked w.now commands.Boot).changes x.items live)
 
--- what lives is the live run of its row, behind each event
+-- a start that lives is the live run of its row, after each event
 pub live_event : (w : World) (e : Event) → Stands w → AllFreeTheOver w.now w.restarters w.trail w.sent → LiveInRows w.now w.trail → OneLive w.trail → LiveInRows (happens w e).now (happens w e).trail
 unfolding happens done
 live_event w e s over live one =

@@ -1,4 +1,5 @@
--- What an accepted command that is no boot keeps of the starts that live, of who knows them, and of who may free them.
+-- An accepted command that is no boot keeps the clauses on the starts that live, on who knows them, and on who may free
+-- them.
 use Rattle.std.proofs.Common.{◌≡◌, ◌⊎◌, ◌+◌, ◌≤◌, not, ℕ, Bool, true, false, List, [], ◌∷◌, Option, Some, None, is_some, inl, inr, refl, sym, ap, ◌∙◌, subst, arith}
 use Rattle.std.specs.Prelude.{IsSome}
 use Rattle.smf_state.specs.declared.row.Row.{Row}
@@ -46,7 +47,7 @@ keep_true : (keep : Bool) → not keep ≡ false → keep ≡ true
 keep_true true e = refl
 keep_true false e = absurd cc
 
--- what a step that frees no run makes of the live one
+-- a step that frees no run leaves the live one
 stepped_live : (r : Row) (live revision : ℕ) (s : Step) → r.live ≡ Some live → fits r s ≡ true → frees s ≡ false → (stepped r s revision).live ≡ Some live
 stepped_live r live revision (Move to) e f g = e
 stepped_live r live revision (Start run snapshot d ignore base) e f g = absurd (start_unfit r live run snapshot ignore base d e f)
@@ -95,7 +96,7 @@ grant_live h m ks t n live p i j true e at there g over is lives =
     let dead : IsOver ks t p.instance live = over (open_by h m p i j.row here g) live e is in
     absurd (dead.dead (subst (λ (l : ℕ). Lives l live t) (sym at) lives))
 
--- the proposal of a command that is one, where it frees a run, frees one that is over
+-- if the command is a proposal that frees a run, that run is over
 abbrev pub GivesTheOver : Holdings → List Knowledge → List Item → Command → Type 0
 GivesTheOver h ks t c = (p : Proposal) → c ≡ commands.Propose p → FreesTheOver h ks t (messages.Propose p)
 

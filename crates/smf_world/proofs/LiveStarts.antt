@@ -148,7 +148,7 @@ one_each h t live o = subst OneEach (sym (starts_are t)) (each_one h (live_runs 
 
 -- ---- at each place
 
--- what lives is the live run of its row, no run was begun twice, and no instance has two that live
+-- a start that lives is the live run of its row, no run was begun twice, and no instance has two that live
 pub record IsLiveOnce (h : Holdings) (t : List Item) : Type 0 where
   pub live : LiveInRows h t
   pub once : Once t

@@ -1,5 +1,5 @@
--- What a restarter's turn brings of runs: it notes a run that was known, lists all contracts, or begins a method in a
--- contract, which it notes.
+-- The turn of a restarter does one of three things with runs. It notes a run that was known, lists all contracts, or
+-- begins a method in a contract and notes its run.
 use Rattle.std.proofs.Common.{◌≡◌, ◌&&◌, nat_lt, ℕ, Bool, true, false, List, [], ◌∷◌, Option, Some, None, Result, Ok, Err, refl, sym, ap, ◌∙◌, subst}
 use Rattle.std.specs.Prelude.{find, flat_map}
 use Rattle.smf_contract.specs.declared.cookie.CookieFault.{CookieFault}
@@ -46,7 +46,7 @@ use Rattle.smf_world.proofs.LiveClauses.{IsAmong, Lives, begun_run, live_runs}
 use Rattle.smf_world.proofs.LiveKnown.{IsTrue, RunsAreTrue, each_found}
 use Rattle.smf_world.proofs.LiveTrue.{AddsNone, IsNoting, unchanged_notes}
 
--- what a turn changes, and the methods that it begins
+-- the change of a turn, and the methods that it begins
 pub data Turns (w : World) (k : Knowledge) (c : Change) (begun : List Item) : Type 0 where
   tells : IsNoting w.trail c → AddsNone begun → Turns w k c begun
   enlists : c.listed ≡ flat_map (listed_run k) (statuses w.table) → c.run ≡ None → AddsNone begun → Turns w k c begun

@@ -1,4 +1,4 @@
--- What a change of what a restarter knows brings of runs, and which starts live behind it.
+-- The facts of runs that a change of a restarter's knowledge brings, and the starts that live after it.
 use Rattle.std.proofs.Common.{◌≡◌, ◌⊎◌, ◌==◌, not, ℕ, true, List, [], ◌∷◌, ◌++◌, Option, Some, None, inl, inr, refl, sym, ap, ◌∙◌, subst}
 use Rattle.std.specs.Prelude.{IsSome, flat_map, option_to_list, unwrap_or}
 use Rattle.smf_fmri.specs.ByKey.{has_key}
@@ -36,7 +36,7 @@ use Rattle.smf_world.proofs.Noting.{noted, noted_both, noted_more}
 use Rattle.smf_world.proofs.RowWorld.{NoneBegun}
 use Rattle.smf_world.proofs.TablesClauses.{IsTable}
 
--- what a restarter knows of runs is true, and it knows the starts that live
+-- a restarter's knowledge of runs is true, and it knows the starts that live
 abbrev pub KnowsWell : Holdings → List Item → Knowledge → Type 0
 KnowsWell h trail k = RunsAreTrue trail k × KnowsLive h trail k
 
@@ -91,8 +91,8 @@ both_none xs ys a b t n run l = a t n run (b (noted xs t) n run (subst (Lives n 
 
 -- ---- what a change leaves known
 
--- of a restarter of a world, behind these items: what it then knows is true, it knows the starts that come to live where
--- it is up then, and they are of its instances
+-- a restarter of a world, after these items: its knowledge of runs is true. If it is up then, it knows the starts that
+-- come to live. These starts are of its instances
 pub record Brings (w : World) (l : Knowledge) (c : Change) (items : List Item) : Type 0 where
   pub trues : GoesOn w.trail (noted items w.trail) → RunsAreTrue (noted items w.trail) (changed l c)
   pub own : (changed l c).stage ≡ Up → (n run : ℕ) → Lives n run (noted items w.trail) → (Lives n run w.trail × (l.stage ≡ Up)) ⊎ IsSome (run_at (changed l c) n run)
@@ -111,7 +111,7 @@ up_before l c not_up e = by c.stage not_up e
     by (Some Listing) p f = absurd cc
     by (Some Up) p f = absurd p
 
--- where no start comes to live
+-- `Brings` holds if no start comes to live
 pub brings_true : (w : World) (l : Knowledge) (c : Change) (items : List Item) → NotUp c.stage → (GoesOn w.trail (noted items w.trail) → RunsAreTrue (noted items w.trail) (changed l c)) → AddsNone items → Brings w l c items
 brings_true w l c items not_up trues none =
     record {
@@ -157,7 +157,7 @@ pub turn_none : (rows begun emptied items : List Item) → IsTurn rows begun emp
 turn_none rows begun emptied items is none t n run l =
     none_lives rows is.rows_none t n run (none (noted rows t) n run (none_lives emptied is.emptied_none (noted begun (noted rows t)) n run (subst (Lives n run) (in_turn rows begun emptied items t is) l)))
 
--- where one method is begun
+-- the item of one method that is begun
 abbrev pub begun_alone : ℕ → KnownInstance → Owed → List Item
 begun_alone c i o = begun_item c (begun_of i o) ∷ []
 
@@ -176,7 +176,7 @@ turn_begun rows emptied items t c i o is =
     subst (WasSpawned i.instance o.run) (sym (in_turn rows (begun_alone c i o) emptied items t is))
     (begun_noted i.instance o.run emptied (begun_item c (begun_of i o) ∷ noted rows t) (inl (refl, refl)))
 
--- where this restarter owed it, and notes its run
+-- `Brings` holds if this restarter owed the method and notes its run
 pub brings_begun : (w : World) (l : Knowledge) (c : Change) (rows emptied items : List Item) (i : KnownInstance) (o : Owed) (contract : ℕ) → RunsAreTrue w.trail l → IsInformed w.history w.now w.sent (begun_on w.trail) l
     → IsAt l i → i.phase ≡ Owes o → l.stage ≡ Up → c.listed ≡ [] → c.run ≡ Some (run_begun i.instance o contract) → IsTurn rows (begun_alone contract i o) emptied items → Brings w l c items
 brings_begun w l c rows emptied items i o contract a f at ph up lists notes is =

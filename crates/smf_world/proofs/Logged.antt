@@ -1,4 +1,4 @@
--- What the trail shows as committed is what the history is, and what an event changes is what its work says.
+-- The commits that the trail shows are the history, and an event changes only the parts that its work names.
 use Rattle.std.proofs.Common.{◌≡◌, List, [], refl, sym, ap, ◌∙◌, subst}
 use Rattle.smf_model.specs.declared.change.Change.{Change}
 use Rattle.smf_model.specs.declared.command.Command.{Command}

@@ -68,7 +68,7 @@ no_orders h e = none_of_each (order h.revision (view h).items) (view h).items e
 pub none_ordered : (w : World) → is_quiet w ≡ true → AllByRecursion (λ i. order w.now.revision (view w.now).items i ≡ None) (view w.now).items
 none_ordered w e = no_orders w.now (still w e).orders
 
--- what holds of each item holds of the one that is found
+-- a fact of each item holds of the one that is found
 every_found : {X : Type 0} (P : X → Type 0) (p : X → Bool) (xs : List X) (x : X) → AllByRecursion P xs → find p xs ≡ Some x → P x
 every_found P p [] x all e = absurd cc
 every_found P p (y ∷ ys) x all e = by (p y) e (every_found P p ys x all.1)
@@ -139,7 +139,7 @@ decision_orders : (i : ViewItem) (m : Member) (f : Finding) (read : ReadMethod) 
 decision_orders i m f read c =
     either (what_by i m) (same_state i.row.state Uninitialized) _ _ refl (asked_first i m f (asked i) (asked_orders i m) (start_orders i m f read c))
 
--- what is ordered makes an order, unless something is under way
+-- a decision for an instance makes an order, unless something is under way
 is_ordered : (revision : ℕ) (i : ViewItem) (o : Option What) → is_some o ≡ true → order_to revision i o ≡ None → ⊥
 is_ordered revision i None e none = absurd cc
 is_ordered revision i (Some what) e none = absurd cc

@@ -6,7 +6,7 @@ use Rattle.smf_world.specs.declared.item.Item.{Item}
 use Rattle.smf_world.specs.declared.item.Item.TheVariants.{Boot, Committed, Emptied, Held, Spawned}
 use Rattle.smf_world.specs.Safe.{AlongTheDiagram, CommittedOnce, Last, RowFollows, WasNumbered, behind_boot, last_of}
 
--- what was committed last has this number or a greater one
+-- the last commit has this number or a greater one
 abbrev IsReachedBy : ℕ → Option Last → Type 0
 IsReachedBy n None = ⊥
 IsReachedBy n (Some l) = n ≤ l.number

@@ -1,4 +1,4 @@
--- What holds of the changes of an edit holds of them with the owners that it leaves to write.
+-- A fact of the changes of an edit still holds with the owners that the edit leaves to write.
 use Rattle.std.proofs.Common.{◌≡◌, List, ◌++◌, Option, Some, None, refl, ap, ◌∙◌, subst}
 use Rattle.smf_model.specs.declared.change.Change.{Change}
 use Rattle.smf_model.specs.declared.change.Outcome.{Outcome as Asked}
@@ -12,7 +12,7 @@ use Rattle.smf_model.specs.Setting.{current}
 use Rattle.smf_model.proofs.LawOutcomes.{each_put, installed_append}
 use Rattle.smf_model.proofs.Written.{put_each}
 
--- owners are written behind the changes of an edit that is done, and behind no others
+-- an edit that is done writes owners after its changes, and no other edit does
 pub owners_behind : (P : List Change → Type 0) (h : Holdings) (o : Option Owner) (a : Asked) → P a.changes
     → ((owner : Owner) → a.reply ≡ Done → P (a.changes ++ owners_written (installed h a.changes) owner)) → P (with_owners h o a).changes
 unfolding with_owners
@@ -31,7 +31,7 @@ owners_behind P h (Some owner) a p more = by a.reply refl
     by Limit e = p
     by (Stale why row) e = p
 
--- what holds of an edit holds of it with the owners, if it does where it is done
+-- a fact of an edit holds of it with the owners, if it does for an edit that is done
 pub owners_or_none : (P : Asked → Type 0) (h : Holdings) (o : Option Owner) (a : Asked) → P a → (a.reply ≡ Done → P (with_owners h o a)) → P (with_owners h o a)
 unfolding with_owners
 owners_or_none P h None a p more = p

@@ -52,7 +52,7 @@ Others h (AddInstance e ∷ cs) = ⊥
 Others h (PutInstance i ∷ cs) = (row_over (instance h i.number) i ≡ None) × Others h cs
 Others h (c ∷ cs) = Others h cs
 
--- what shows nothing is not committed
+-- a row that shows nothing is not committed
 not_over : (o : Option Instance) (i : Instance) → row_over o i ≡ None → is_other_number o i ≡ false
 not_over None i e = absurd cc
 not_over (Some before) i e = by (i.row.number == before.row.number) e

@@ -1,4 +1,4 @@
--- What was committed last, behind rows that are put on a trail.
+-- The last commit of an instance, after rows are put on a trail.
 use Rattle.std.proofs.Common.{◌≡◌, ℕ, ◌==◌, Bool, true, false, cond, if◌then◌else◌, List, [], ◌∷◌, map, filter, Option, Some, None, option_map, refl, sym, ap, ◌∙◌, subst}
 use Rattle.std.specs.Prelude.{find}
 use Rattle.smf_model.specs.declared.held.Instance.{Instance}
@@ -30,7 +30,7 @@ along_commits (item ∷ t) a = along_commits t a
 abbrev pub last_held : Instance → Last
 last_held i = record { number = i.row.number; state = i.row.state; booted = false }
 
--- what was committed last of each of these is its row
+-- the last commit of each of these instances is its row
 abbrev pub AreTracked : List Item → List Instance → Type 0
 AreTracked t [] = Unit {0}
 AreTracked t (i ∷ is) = (last_of i.number t ≡ Some (last_held i)) × AreTracked t is

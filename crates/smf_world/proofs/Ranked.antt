@@ -1,5 +1,5 @@
--- Each message has a rank, and a delivery sends only messages of lower ranks. So each turn of messages lowers the ranks of
--- what waits.
+-- Each message has a rank, and a delivery sends only messages of lower ranks. So each turn of messages lowers the ranks
+-- of the messages that wait.
 use Rattle.std.proofs.Common.{◌≡◌, ◌==◌, ◌<◌, ◌≤◌, ◌+◌, ◌-◌, ℕ, zero, suc, Bool, true, false, if◌then◌else◌, List, [], ◌∷◌, ◌++◌, length, drop, map, Option, Some, None, refl, sym, ap, ◌∙◌, subst, arith}
 use Rattle.std.specs.Prelude.{reverse, slice_get}
 use Rattle.std.specs.List.{AllByRecursion}
@@ -35,8 +35,8 @@ use Rattle.smf_world.proofs.Questions.{of_answer}
 
 -- ---- ranks
 
--- a restarter proposes on an order; the repository answers a proposal, a join and a question for the view or for what changed; nobody sends
--- anything on an answer
+-- a restarter proposes on an order. The repository answers a proposal, a join and a question for the view or for its
+-- changes. Nobody sends anything on an answer
 abbrev pub rank : Message → ℕ
 rank (messages.Order o) = 3
 rank (messages.Propose p) = 2
@@ -161,7 +161,7 @@ delivery_sends w (messages.Order o) = told_sends 3 (messages.Order o) (restarter
 
 -- ---- the front of what waits
 
--- what is left of a list begins with the item at that place
+-- the rest of a list from a place begins with the item at that place
 front_at : {X : Type 0} (xs : List X) (n : ℕ) (x : X) (rest : List X) → drop n xs ≡ x ∷ rest → slice_get xs n ≡ Some x
 front_at [] zero x rest e = absurd cc
 front_at [] (suc n) x rest e = absurd cc

@@ -1,4 +1,4 @@
--- What is reached, and what comes later.
+-- Worlds that are reached, and worlds that come later.
 use Rattle.std.proofs.Common.{◌≡◌, ◌++◌, List, [], ◌∷◌, refl, sym, ap, ◌∙◌, subst}
 use Rattle.smf_model.specs.declared.command.Command.TheVariants as commands
 use Rattle.smf_model.specs.declared.command.Reply.TheVariants as answers
@@ -30,7 +30,7 @@ later_by w v e h = (e ∷ [], sym h)
 pub later_then : (u v w : World) → IsLater u v → IsLater v w → IsLater u w
 later_then u v w a b = (a.0 ++ b.0, run_both a.0 b.0 u ∙ ap (run b.0) a.1 ∙ b.1)
 
--- what was found stays known
+-- the value that was found stays known
 happens_first : (w : World) (e : Event) → (happens w e).history.first ≡ w.history.first
 unfolding happens done
 happens_first w e = refl
@@ -53,7 +53,7 @@ reached_as w h e r =
 pub reached_later : (w v : World) → IsReached w → IsLater w v → IsReached v
 reached_later w v r l = reached_as v w.history.first (later_first w v l) (r.numbered, r.accepted, later_then _ w v r.since l)
 
--- behind an accepted boot
+-- the world after an accepted boot is reached
 pub reached_first : (h : Holdings) (w : World) → IsNumbered h → (next h commands.Boot).1 ≡ answers.Done → w ≡ happens (found h) events.Boot → IsReached w
 reached_first h w numbered done e =
     let l : IsLater (happens (found h) events.Boot) w = later_same _ w e in

@@ -1,4 +1,4 @@
--- What holds of the rows that the repository holds and held: clauses, each of the fields that it speaks of.
+-- Clauses on the rows that the repository holds and held, each on the fields that it speaks of.
 use Rattle.std.specs.Prelude.{◌≡◌, ◌⊎◌, ◌+◌, ◌<◌, ◌≤◌, ℕ, ◌&&◌, ◌||◌, not, Bool, true, false, List, Option, Some, None, is_some, is_none}
 use Rattle.smf_state.specs.declared.row.Row.{Row}
 use Rattle.smf_state.specs.declared.state.State.{State}
@@ -32,13 +32,14 @@ pub record IsUnbegun (r : Row) : Type 0 where
   pub launch : r.launch ≡ 0
   pub serial : r.serial ≡ 0
 
--- where a transition from a state may lead: from offline to online, and from a running state to itself or to a stopped one
+-- the states that a transition may lead to: from offline to online, and from a running state to itself or to a stopped
+-- one
 abbrev pub may_be_next : State → Option State → Bool
 may_be_next s None = true
 may_be_next Offline (Some n) = same_state n Online
 may_be_next s (Some n) = runs s && (same_state n s || is_stopped n)
 
--- an instance that does not run has a live run while it starts alone, and no side run; no side run is left of a
+-- an instance that does not run has a live run while it starts alone, and no side run. No side run is left of a
 -- transition that ended
 pub record IsShaped (r : Row) : Type 0 where
   pub next : may_be_next r.state r.next ≡ true
@@ -84,7 +85,7 @@ pub record WasRow (h : Holdings) (n : ℕ) (r : Row) : Type 0 where
 abbrev pub WereRows : History → Holdings → Type 0
 WereRows y h = (m : ℕ) (v : Holdings) (n : ℕ) (i : Instance) → value_at y m ≡ Some v → instance v n ≡ Some i → WasRow h n i.row
 
--- the row with which a start began, in a value behind the one that it was decided on
+-- the row with which a start began, in a value after the one that it was decided on
 pub record WasAnnounced (y : History) (n : ℕ) (r : Row) : Type 0 where
   pub revision : ℕ
   pub value : Holdings

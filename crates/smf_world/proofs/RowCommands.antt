@@ -62,7 +62,7 @@ pub puts : (h : Holdings) (c : Command) (n : ℕ) (before x : Instance) (r : Rep
 unfolding installed
 puts h c n before x r there number p = accepts h c (PutInstance x ∷ []) r (put n before x there number p (bare_instance x h.instances))
 
--- the value behind a snapshot that is taken
+-- the value after a snapshot is taken
 abbrev taken : Holdings → Instance → Holdings
 taken h i = changed (changed h (AddSnapshot (snapshot_of h i))) (NextSnapshot (h.next_snapshot + 1))
 

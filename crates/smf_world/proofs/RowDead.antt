@@ -77,13 +77,13 @@ dead_later h c k q fit m p d j there = by (came_of h c k q.instance j m there)
     by (began none is new) = absurd (let a = p.known in omega arith)
     by (booted i owner at is new) = counted i at (ap (λ (r : Row). r.number) new)
 
--- where the row's number was raised, each proposal from before is dead
+-- if the row's number rose, each proposal from before is dead
 pub raised_dead : (h k : Holdings) (q : Proposal) (i j : Instance) → IsProposal h q → instance h q.instance ≡ Some i → instance k q.instance ≡ Some j → j.row.number ≡ i.row.number + 1 → IsDead k q
 raised_dead h k q i j p at there e l f =
     let same : j ≡ l = some_same j l (sym there ∙ f) in
     inl (let a = p.number i at in let b : j.row.number ≡ l.row.number = ap (λ (x : Instance). x.row.number) same in omega arith)
 
--- what is granted anew was not dead
+-- a proposal that is granted anew was not dead
 pub granted_alive : (h : Holdings) (m : ℕ) (p : Proposal) (i : Instance) (s : Row) → instance h p.instance ≡ Some i → IsGrant h m p i.row s → IsDead h p → ⊥
 granted_alive h m p i s there g d = by (d i there)
   where
@@ -112,7 +112,7 @@ at_most a b le other = by (a == b + 1) refl
     by true e = absurd (other (eqb-true a (b + 1) e))
     by false e = below_next a b le e
 
--- of a restarter's own row, and its present launch
+-- a refused proposal is dead, if the row is the restarter's own and the launch its present one
 pub refused_dead : (h : Holdings) (p : Proposal) (why : Why) (r : Option Row) → IsProposal h p → p.launch ≡ launch_of h p.proposer → IsRefused h p why r
     → (i : Instance) → instance h p.instance ≡ Some i → i.row.owner ≡ p.proposer → 1 ≤ i.row.number → IsDead h p
 refused_dead h p why r q launch x i there owner number = by why r x.row x.reason

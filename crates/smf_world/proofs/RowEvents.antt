@@ -1,4 +1,4 @@
--- Each event keeps what holds of rows, proposals and answers, where its restarters say what may be said.
+-- Each event keeps the clauses on rows, proposals and answers, if its restarters say only messages that may be said.
 use Rattle.std.proofs.Common.{◌≡◌, inl, inr, ℕ, ◌==◌, Bool, true, false, List, [], ◌∷◌, ◌++◌, Option, Some, None, refl, sym, subst}
 use Rattle.smf_contract.specs.declared.call.ContractCall.{ContractCall}
 use Rattle.smf_contract.specs.declared.contract.Report.{Report}
@@ -36,7 +36,7 @@ use Rattle.smf_world.proofs.SaidLater.{IsAskable}
 
 -- ---- what an event asks of the repository
 
--- nothing; or a command is given to it, where a proposal is one that was said
+-- nothing is asked; or a command is given to it, and a proposal is one that was said
 pub data IsAskedOf (h : Holdings) (ms : List Message) (cs : List Change) (past : List Command) : Type 0 where
   still : cs ≡ [] → past ≡ [] → IsAskedOf h ms cs past
   asks : (c : Command) → cs ≡ (asked h c).changes → past ≡ accepted c (asked h c).changes → IsAskable ms c → IsAskedOf h ms cs past

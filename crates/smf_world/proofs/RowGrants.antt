@@ -225,7 +225,7 @@ gives_answer h p = by_found h (commands.Propose p) p.instance (answer_at h p) (r
 
 -- ---- what a proposal is answered
 
--- what stands in its place is found
+-- an instance in place of one of its number stays as it is
 pub in_its_place : (x before : Instance) → before.number ≡ x.number → in_place x before ≡ x
 in_its_place x before e = ap (λ (n : ℕ). let placed : Instance = record x { number = n } in placed) e
 

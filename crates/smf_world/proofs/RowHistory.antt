@@ -1,4 +1,4 @@
--- What accepted commands keep of the rows of the history, and of starts that were announced.
+-- Accepted commands keep the clauses on the rows of the history, and on starts that were announced.
 use Rattle.std.proofs.Common.{◌≡◌, ◌⊎◌, inl, inr, ℕ, ◌≤◌, ◌<◌, ◌==◌, Bool, true, false, cond, [], ◌∷◌, Option, Some, refl, sym, ap, ◌∙◌, subst, arith}
 use Rattle.smf_state.specs.declared.row.Row.{Row}
 use Rattle.smf_state.specs.declared.state.State.TheVariants.{Uninitialized, Offline, Online}
@@ -20,7 +20,7 @@ use Rattle.smf_world.proofs.RowLater.{CameOf, IsGiven, IsProper, began, booted, 
 use Rattle.smf_world.proofs.RowSteps.{HasBegun}
 use Rattle.smf_world.proofs.SaidClauses.{IsPastStep, IsProposal}
 
--- a history behind one command more
+-- a history after one command more
 abbrev pub more : History → Command → History
 more y c = record y { past = c ∷ y.past }
 

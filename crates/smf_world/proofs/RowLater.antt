@@ -1,4 +1,4 @@
--- What accepted commands keep of the rows that are held.
+-- Accepted commands keep the clauses on the rows that are held.
 use Rattle.std.proofs.Common.{◌≡◌, ◌⊎◌, inl, inr, ℕ, ◌+◌, ◌≤◌, ◌<◌, nat_lt, Bool, true, false, List, Option, Some, None, refl, sym, ap, ◌∙◌, subst, arith}
 use Rattle.std.proofs.lemmas.Bool.Decides.{nat_tests}
 use Rattle.smf_state.specs.Rows.{fresh, run_of}
@@ -25,7 +25,7 @@ use Rattle.smf_world.proofs.SaidClauses.{IsProposal}
 
 -- ---- where a row came from
 
--- a row behind a command, by what was there before
+-- a row after a command, by the instance that was there before
 pub data CameOf (h : Holdings) (m : ℕ) (c : Command) (n : ℕ) (o : Option Instance) (r : Row) : Type 0 where
   changed : (i : Instance) → o ≡ Some i → RowPut h m c n i.row r → CameOf h m c n o r
   began : o ≡ None → n ≡ h.next_instance → r ≡ fresh r.owner → CameOf h m c n o r
@@ -204,7 +204,7 @@ was_later h c k n r fit m w =
     by j (began none is new) = absurd (let a = w.known in omega arith)
     by j (booted i owner there is new) = before_on r i.row j.row (w.before i there) (boot_is_later i.row j.row owner new)
 
--- what is there has a number that was given
+-- an instance that is there has a number that was given
 pub is_known : (h : Holdings) (n : ℕ) (i : Instance) → IsNumbered h → instance h n ≡ Some i → n < h.next_instance
 is_known h n i b e = by (nat_lt n h.next_instance) refl
   where

@@ -1,4 +1,4 @@
--- What a command makes of the row of an instance, and how a proposal is answered.
+-- The effect of a command on the row of an instance, and the answer to a proposal.
 use Rattle.std.specs.Prelude.{◌≡◌, ◌⊎◌, ◌+◌, ◌≤◌, ℕ, true, false, List, [], Option, Some, None}
 use Rattle.smf_fmri.specs.ByKey.{put as put_in, without}
 use Rattle.smf_state.specs.declared.row.Row.{Row}
@@ -29,7 +29,7 @@ pub record IsRead (before read : Row) : Type 0 where
   pub same : read ≡ record before { owner = read.owner }
   pub owner : (before.number ≡ 0) ⊎ (read.owner ≡ before.owner)
 
--- the snapshot stays, or is the one that is taken now; m is the number that comes next behind it
+-- the snapshot stays, or is the one that is taken now; m is the number that comes next after it
 abbrev pub TakesOrKeeps : Holdings → ℕ → Row → Row → Type 0
 TakesOrKeeps h m before after =
     (after.running ≡ before.running) ⊎ ((after.running ≡ Some h.next_snapshot) × (m ≡ h.next_snapshot + 1))
@@ -46,8 +46,8 @@ pub record IsAtRest (r : Row) : Type 0 where
   pub live : r.live ≡ None
   pub side : r.side ≡ None
 
--- a proposal is granted anew: it is the owner's, of its last launch, of the next number, and its step fits; the row is
--- what the step makes of it, with the proposal's launch and serial
+-- a proposal is granted anew: it is the owner's, of its last launch, of the next number, and its step fits. The step
+-- makes the row, with the proposal's launch and serial
 pub record IsGrant (h : Holdings) (m : ℕ) (p : Proposal) (before after : Row) : Type 0 where
   pub read : Row
   pub reads : IsRead before read
@@ -70,13 +70,13 @@ pub record IsHandedOver (h : Holdings) (m : ℕ) (before after : Row) : Type 0 w
 
 -- ---- all rows
 
--- what a command makes of a row that it puts over another; m is the number of the snapshot that comes next
+-- a row that a command puts over another; m is the number of the snapshot that comes next
 pub data RowPut (h : Holdings) (m : ℕ) (c : Command) (n : ℕ) (before after : Row) : Type 0 where
   quiet : IsQuiet h m before after → RowPut h m c n before after
   granted : (p : Proposal) → c ≡ commands.Propose p → p.instance ≡ n → IsGrant h m p before after → RowPut h m c n before after
   handed : c ≡ commands.Edit (edits.Refresh n) → IsHandedOver h m before after → RowPut h m c n before after
 
--- what a command makes of the list of instances
+-- the list of instances that a command makes
 pub data ListPut (h : Holdings) (m : ℕ) (c : Command) (xs : List Instance) : Type 0 where
   alike : xs ≡ instances h → ListPut h m c xs
   joined : (name : List ℕ) → xs ≡ put_in by_instance (new_instance h name) (instances h) → ListPut h m c xs
@@ -84,12 +84,12 @@ pub data ListPut (h : Holdings) (m : ℕ) (c : Command) (xs : List Instance) : T
   put : (n : ℕ) (i x : Instance) → instance h n ≡ Some i → x.number ≡ n → RowPut h m c n i.row x.row → xs ≡ put_over x (instances h) → ListPut h m c xs
   each : c ≡ commands.Boot → (gs : Groups) → xs ≡ put_each (booted gs) (instances h) (instances h) → ListPut h m c xs
 
--- what it leaves of the list: owners may be written behind, into rows with number 0
+-- the list that it leaves: owners may be written afterwards, into rows with number 0
 pub data ListLeft (h : Holdings) (m : ℕ) (c : Command) (xs : List Instance) : Type 0 where
   as_put : ListPut h m c xs → ListLeft h m c xs
   written : (ys : List Instance) → ListPut h m c ys → (gs : Groups) (js : List Instance) → (IsNumbered h → AreHeldAtZero ys js) → xs ≡ put_each (current gs) js ys → ListLeft h m c xs
 
--- the instance n before a command and behind it
+-- the instance n before a command and after it
 pub data RowMoves (h : Holdings) (m : ℕ) (c : Command) (n : ℕ) (o p : Option Instance) : Type 0 where
   absent : o ≡ None → p ≡ None → RowMoves h m c n o p
   goes : (i j : Instance) → o ≡ Some i → p ≡ Some j → RowPut h m c n i.row j.row → RowMoves h m c n o p
@@ -97,7 +97,7 @@ pub data RowMoves (h : Holdings) (m : ℕ) (c : Command) (n : ℕ) (o p : Option
   leaves : (i : Instance) → o ≡ Some i → p ≡ None → c ≡ commands.Edit (edits.DeleteInstance n) → IsAtRest i.row → RowMoves h m c n o p
   boots : (i j : Instance) (owner : List ℕ) → o ≡ Some i → p ≡ Some j → c ≡ commands.Boot → j.row ≡ booted_row i.row owner → RowMoves h m c n o p
 
--- what a command that makes a revision makes of a value
+-- the value that a command makes, if it makes a revision
 pub record Moves (h : Holdings) (c : Command) (k : Holdings) : Type 0 where
   pub rows : (n : ℕ) → RowMoves h k.next_snapshot c n (instance h n) (instance k n)
   pub revision : k.revision ≡ h.revision + 1
@@ -117,7 +117,7 @@ Refuses h p whys.Snapshot (Some r) = (r.owner ≡ p.proposer) × (is_other_snaps
 Refuses h p (whys.Step fault) (Some r) = (r.owner ≡ p.proposer) × (refusal r p.step ≡ Some fault)
 Refuses h p why r = ⊥
 
--- the row of n as it is read, where it is there
+-- the row of n as it is read, if it is there
 abbrev pub IsRowRead : Holdings → ℕ → Option Row → Type 0
 IsRowRead h n None = instance h n ≡ None
 IsRowRead h n (Some r) = (i : Instance) × (instance h n ≡ Some i) × IsRead i.row r

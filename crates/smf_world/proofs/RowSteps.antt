@@ -1,4 +1,4 @@
--- What a step that fits makes of a row: its shape, its runs, and what it leaves.
+-- The row after a step that fits: its shape, its runs, and the fields that stay.
 use Rattle.std.proofs.Common.{◌≡◌, ℕ, ◌+◌, ◌≤◌, ◌==◌, ◌&&◌, not, is_none, is_some, Bool, true, false, if◌then◌else◌, Option, Some, None, refl, sym, ap, ◌∙◌, arith, eqb-true}
 use Rattle.smf_state.specs.Rows.{allowed, exhausted, is_next_run, is_steady, is_stopped, kept, last_with, may_end, may_move, may_count, not_live, refusal, run_of, same_state, stepped, still_live}
 use Rattle.smf_state.specs.States.{runs}
@@ -29,7 +29,7 @@ not_true : (b : Bool) → not b ≡ true → b ≡ false
 not_true false e = refl
 not_true true e = absurd cc
 
--- what is tested of a step that fits
+-- the tests that a fitting step has passed
 pub record IsTested (r : Row) (s : Step) : Type 0 where
   pub live : still_live r s ≡ false
   pub ending : not_live r s ≡ false

@@ -1,4 +1,5 @@
--- What commands, messages and items keep of all rows, proposals and answers; and that a boot of what was found makes it.
+-- Commands, messages and items keep the clauses on all rows, proposals and answers. A boot of a found value makes them
+-- hold.
 use Rattle.std.proofs.Common.{◌≡◌, inl, inr, ℕ, ◌==◌, Bool, true, false, cond, List, [], ◌∷◌, ◌++◌, reverse, Option, Some, None, option_map, refl, sym, ap, ◌∙◌, subst, arith}
 use Rattle.smf_fmri.specs.ByKey.{lookup}
 use Rattle.smf_state.specs.declared.row.Row.{Row}
@@ -70,7 +71,7 @@ pub rows_noted : (y : History) (h : Holdings) (ms : List Message) (t u : List It
 rows_noted y h ms t u spent r =
     record { numbered = r.numbered; newest = r.newest; fit = r.fit; were = r.were; announced = r.announced; explained = r.explained; said = r.said; spent = spent }
 
--- what begins no run
+-- items that begin no run
 abbrev pub NoneBegun : List Item → Type 0
 NoneBegun [] = Unit {0}
 NoneBegun (Spawned c i run method revision command ∷ xs) = ⊥
@@ -90,7 +91,7 @@ none_behind (Spawned c i r method revision command) xs b = absurd b
 none_behind (Emptied c) xs b = b
 none_behind Boot xs b = b
 
--- behind them the runs are those that were begun before
+-- after them the begun runs are those from before
 pub none_begun : (n run : ℕ) (xs t : List Item) → NoneBegun xs → WasSpawned n run (noted xs t) → WasSpawned n run t
 none_begun n run [] t b w = w
 none_begun n run (x ∷ xs) t b w = spawned_behind n run x xs t b (none_begun n run xs (x ∷ t) (none_behind x xs b) (subst (WasSpawned n run) (noted_more x xs t) w))
@@ -112,7 +113,7 @@ rows_unbegun y h ms t xs none r = rows_noted y h ms t (noted xs t) (λ n run w. 
 
 -- ---- a boot of what was found
 
--- each instance behind a boot is one from before, booted
+-- each instance after a boot is one from before, booted
 booted_found : (h : Holdings) (n : ℕ) (j : Instance) → IsNumbered h → AreMade (asked h commands.Boot).changes → instance (next h commands.Boot).0 n ≡ Some j
     → (i : Instance) × (instance h n ≡ Some i) × (j.row ≡ booted_row i.row (owner_by (setting (lasting h) i)))
 booted_found h n j numbered made there =

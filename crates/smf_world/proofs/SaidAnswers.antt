@@ -1,4 +1,4 @@
--- What a proposal is answered may be said.
+-- The answers to a proposal may be said.
 use Rattle.std.proofs.Common.{◌≡◌, ◌⊎◌, inl, inr, ℕ, ◌≤◌, List, [], Option, Some, None, refl, sym, ap, ◌∙◌, subst, arith}
 use Rattle.smf_state.specs.declared.row.Row.{Row}
 use Rattle.smf_state.specs.declared.step.Proposal.{Proposal}

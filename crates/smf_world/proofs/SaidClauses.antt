@@ -1,4 +1,4 @@
--- What holds of the messages that were said: clauses over what is held now, and over all messages.
+-- Clauses on the messages that were said, over the value that is held now and over all messages.
 use Rattle.std.specs.Prelude.{◌≡◌, ◌+◌, ◌<◌, ◌≤◌, ℕ, List, [], ◌∷◌, Option, Some, None}
 use Rattle.smf_state.specs.declared.row.Row.{Row}
 use Rattle.smf_state.specs.declared.step.Proposal.{Proposal}
@@ -63,13 +63,13 @@ abbrev pub WasRowIf : Holdings → ℕ → Option Row → Type 0
 WasRowIf h n None = Unit {0}
 WasRowIf h n (Some r) = WasRow h n r
 
--- a row is told but where there is none
+-- a refusal tells a row, unless there is none
 abbrev pub HasRowBut : Why → Option Row → Type 0
 HasRowBut whys.NoSuch None = Unit {0}
 HasRowBut why None = ⊥
 HasRowBut why (Some r) = Unit {0}
 
--- what is refused for its number or its step was of an instance of the proposer's
+-- if a refusal is for the number, the snapshot or the step, its row is the proposer's
 abbrev pub IsRowOfBut : Why → List ℕ → Option Row → Type 0
 IsRowOfBut whys.NoSuch name r = Unit {0}
 IsRowOfBut whys.Launch name r = Unit {0}
@@ -85,7 +85,7 @@ pub record IsNack (h : Holdings) (ms : List Message) (name : List ℕ) (launch s
   pub to : Proposal
   pub answers : IsAnswer ms name launch serial n to
 
--- what holds of one message, among all of them
+-- the clauses on one message, among all of them
 abbrev pub IsSaid : Holdings → List Message → Message → Type 0
 IsSaid h ms (messages.Join name launch) = launch ≤ launch_of h name
 IsSaid h ms (messages.Rows name launch rows) = (launch ≤ launch_of h name) × Each (IsRowOf h name) rows
@@ -100,7 +100,7 @@ IsSaid h ms (messages.Order o) = WasRow h o.instance o.row
 
 -- ---- all of them
 
--- a proposal is another, where their restarter, launch and serial are the same
+-- two proposals are the same if their restarter, launch and serial are the same
 abbrev pub IsLike : Proposal → Proposal → Type 0
 IsLike p q = p.proposer ≡ q.proposer → p.launch ≡ q.launch → p.serial ≡ q.serial → p ≡ q
 
@@ -129,7 +129,7 @@ AllMayBeSaid h ms (m ∷ more) = MayBeSaid h ms m × AllMayBeSaid h (m ∷ ms) m
 
 -- ---- the whole
 
--- what holds of a history, of its newest value, of all messages and of the trail
+-- the clauses on a history, its newest value, all messages and the trail hold
 pub record AreRows (y : History) (h : Holdings) (ms : List Message) (t : List Item) : Type 0 where
   pub numbered : IsNumbered h
   pub newest : h ≡ made y.first y.past

@@ -1,4 +1,4 @@
--- Each event keeps what holds of rows, proposals and answers, where its restarters say what may be said.
+-- Each event keeps the clauses on rows, proposals and answers, if its restarters say only messages that may be said.
 use Rattle.std.proofs.Common.{◌≡◌, ◌⊎◌, inl, inr, ℕ, ◌≤◌, ◌==◌, Bool, true, false, cond, List, [], ◌∷◌, ◌++◌, map, filter, Option, Some, None, refl, sym, subst, arith, eqb-true}
 use Rattle.std.specs.List.{cons_option, filter_map}
 use Rattle.smf_fmri.proofs.Matching.{same_text}
@@ -59,7 +59,7 @@ use Rattle.smf_world.proofs.SaidAnswers.{may_answer}
 use Rattle.smf_world.proofs.Questions.{of_answer, of_question}
 use Rattle.smf_world.proofs.SaidClauses.{AllMayBeSaid, AreRows, IsRowOf, MayBeSaid}
 
--- what holds of a world's rows, proposals and answers
+-- the clauses on a world's rows, proposals and answers hold
 abbrev pub AreRowsOf : World → Type 0
 AreRowsOf w = AreRows w.history w.now w.sent w.trail
 
@@ -140,7 +140,7 @@ abbrev OrderWas : Holdings → Option Order → Type 0
 OrderWas h None = Unit {0}
 OrderWas h (Some o) = WasRow h o.instance o.row
 
--- orders may be said where their rows were
+-- orders may be said if their rows were rows of their instances
 orders_of : (h : Holdings) (revision : ℕ) (all is : List ViewItem) (ms : List Message) → ItemsWere h is → AllMayBeSaid h ms (map (λ (o : Order). messages.Order o) (filter_map (order revision all) is))
 orders_of h revision all [] ms a = tt
 orders_of h revision all (i ∷ is) ms a = by (order revision all i) (order_shape revision all i (OrderWas h) tt (λ what. a.0)) (λ ns. orders_of h revision all is ns a.1)
@@ -156,7 +156,7 @@ says_orders w (Some v) were a = orders_of w.now v.revision v.items v.items w.sen
 
 -- ---- what an event says
 
--- the messages of an event may be said behind its command
+-- the messages of an event may be said after its command
 abbrev pub Says : World → Work → Type 0
 Says w k = AllMayBeSaid (installed w.now k.changes) w.sent k.messages
 

@@ -1,4 +1,4 @@
--- What accepted commands and further messages keep of the messages that were said, and of grants.
+-- Accepted commands and further messages keep the clauses on the messages that were said, and on grants.
 use Rattle.std.proofs.Common.{◌≡◌, ◌⊎◌, inl, inr, ℕ, ◌+◌, ◌≤◌, List, [], ◌∷◌, ◌++◌, reverse, Option, Some, None, sym, ap, ◌∙◌, subst, arith}
 use Rattle.std.proofs.lemmas.Grind.{reverse_onto}
 use Rattle.std.proofs.lemmas.List.{append_assoc}
@@ -109,7 +109,7 @@ are_said_later h c k ms fit v a = record { each = each_later (IsSaid h ms) (IsSa
 reverse_more : (x : Message) (xs ys : List Message) → reverse (x ∷ xs) ++ ys ≡ reverse xs ++ (x ∷ ys)
 reverse_more x xs ys = ap (λ (l : List Message). l ++ ys) (reverse_onto xs x []) ∙ append_assoc (reverse xs) (x ∷ []) ys
 
--- what was said before is said still
+-- a message that was said before is said still
 abbrev Within : List Message → List Message → Type 0
 Within ms ns = (m : Message) → WasSaid m ms → WasSaid m ns
 

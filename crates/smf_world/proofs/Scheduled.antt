@@ -1,4 +1,4 @@
--- What a schedule makes of the world, some list of events makes of it.
+-- A list of events makes each world that a schedule makes.
 use Rattle.std.proofs.Common.{◌≡◌, ℕ, Bool, true, false, List, [], ◌∷◌, Option, Some, None, refl}
 use Rattle.std.specs.List.{list_any}
 use Rattle.smf_contract.specs.declared.event.Event.{Event as ContractEvent}

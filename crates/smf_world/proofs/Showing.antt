@@ -1,4 +1,4 @@
--- What a change shows, by the number of the row that was there.
+-- The item that a change shows, by the number of the row that was there.
 use Rattle.std.proofs.Common.{◌≡◌, ℕ, ◌+◌, ◌==◌, true, false, List, [], ◌∷◌, ◌++◌, Option, Some, None, refl, ap, arith}
 use Rattle.std.proofs.lemmas.Bool.Decides.{nat_tests}
 use Rattle.std.specs.List.{cons_option, filter_map}

@@ -1,4 +1,4 @@
--- The changes that the repository gives stand in the order of numbers, each is of its instance, and their bodies are read.
+-- The changes that the repository gives are in number order, each is of its instance, and their bodies are read.
 use Rattle.std.proofs.Common.{◌≡◌, ◌-◌, ℕ, Bool, true, false, cond, if◌then◌else◌, List, [], ◌∷◌, map, take, Option, Some, None, IfSome, refl, subst}
 use Rattle.std.specs.List.{AllByRecursion}
 use Rattle.smf_fmri.specs.ByKey.{Rises, by_number, has_key, lookup}
@@ -53,7 +53,7 @@ inside x y e = cc
 abbrev given : List (List ℕ) → Holdings → ℕ → ℕ × List ChangedItem
 given nss h from = (h.revision, map (as_it_is h) (together (take (h.revision - from) nss)))
 
--- what holds of the items of today of any numbers holds of the changes
+-- a fact of today's items of any numbers holds of the changes
 of_since : (P : List ChangedItem → Type 0) (nss : List (List ℕ)) (h : Holdings) (from : ℕ) (c : ℕ × List ChangedItem) → ((ns : List ℕ) → P (map (as_it_is h) ns)) → changes_since nss h from ≡ Some c → P c.1
 unfolding changes_since
 of_since P nss h from c all e = by (is_beyond nss h from) e

@@ -56,7 +56,7 @@ abbrev IsOwn : Command → Type 0
 IsOwn (commands.Edit e) = ⊥
 IsOwn _ = Unit {0}
 
--- it holds of what may be sent where this is held, and of what is changed but by clients
+-- P holds of the messages that may be sent while this is held, and Q of the changes that no client asks for
 pub record Says (P : Message → Type 0) (Q : Change → Type 0) (h : Holdings) : Type 0 where
   pub own : (m : Message) → IsAsked m → P m
   pub ack : (name : List ℕ) (launch serial n : ℕ) (row : Row) → P (messages.Ack name launch serial n row)
@@ -68,7 +68,7 @@ pub record Says (P : Message → Type 0) (Q : Change → Type 0) (h : Holdings) 
   pub since : (nss : List (List ℕ)) (from : ℕ) → P (changes_or_view h from (changes_since nss h from))
   pub changes : (c : Command) → IsOwn c → AllByRecursion Q (asked h c).changes
 
--- of the changes that a client asks for
+-- Q holds of the changes that a client asks for
 abbrev pub Gives : (Change → Type 0) → Holdings → Event → Type 0
 Gives Q h (events.Client edit) = AllByRecursion Q (asked h (commands.Edit edit)).changes
 Gives Q h _ = Unit {0}

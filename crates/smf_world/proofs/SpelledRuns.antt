@@ -35,7 +35,7 @@ from_each : (P : Message → Type 0) (ms : List Message) → Each P ms → AllBy
 from_each P [] a = tt
 from_each P (m ∷ ms) a = (a.0, from_each P ms a.1)
 
--- what holds of each message that was sent and of those of work holds behind the work
+-- a fact of each message that was sent, and of those of the work, holds after the work
 sent_by : (P : Message → Type 0) (w : World) (k : Work) → AllByRecursion P k.messages → AllByRecursion P w.sent → AllByRecursion P (done w k).sent
 unfolding done
 sent_by P w k a b = from_each P (reverse k.messages ++ w.sent) (each_reversed P k.messages w.sent (to_each P k.messages a) (to_each P w.sent b))
@@ -60,7 +60,7 @@ reached_in_order w r =
     subst AreInOrder r.since.1
     (in_order_run r.since.0 (happens (found w.history.first) events.Boot) (numbered (found w.history.first) events.Boot r.numbered) (in_order_event (found w.history.first) events.Boot r.numbered tt))
 
--- what is in order and has bodies that are read is spelled
+-- a message that is in order, with bodies that are read, is spelled
 pub ordered_spelled : (m : Message) → IsInOrder m → HasBodies m → IsSpelled m
 ordered_spelled (messages.Join name launch) a b = tt
 ordered_spelled (messages.Rows name launch rows) a b = a

@@ -26,7 +26,7 @@ use Rattle.smf_world.proofs.FormedHoldings.{formed_snapshot}
 
 -- ---- the order of numbers
 
--- what is made of each item has its number
+-- the item that is made of each item has its number
 rises_to : {X Y : Type 0} (a : X → ℕ) (b : Y → ℕ) (f : X → Y) → ((x : X) → b (f x) ≡ a x) → (xs : List X) → Rises (by_number a) xs → Rises (by_number b) (map f xs)
 rises_to a b f same [] r = tt
 rises_to a b f same (x ∷ []) r = (tt, tt)

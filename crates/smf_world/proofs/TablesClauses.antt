@@ -21,7 +21,7 @@ use Rattle.smf_world.proofs.LiveClauses.{LiveRun, live_runs}
 
 -- ---- the table and the trail
 
--- what a contract was spawned for since the last boot
+-- the instance, run and method that a contract was spawned for since the last boot
 abbrev pub spawned_for : ℕ → List Item → Option Cookie
 spawned_for c [] = None
 spawned_for c (Spawned d i run method revision command ∷ trail) =
@@ -73,7 +73,7 @@ pub record EmptyIsEmpty (t : Contracts) (e : Event) : Type 0 where
 abbrev pub AreEmpty : Contracts → Type 0
 AreEmpty t = Each (EmptyIsEmpty t) t.events
 
--- what holds of the table and the trail alone
+-- the clauses on the table and the trail alone hold
 pub record IsTable (t : Contracts) (trail : List Item) : Type 0 where
   pub ordered : IsOrdered t
   pub spawned : AreSpawned t trail

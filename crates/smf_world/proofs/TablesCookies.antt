@@ -1,4 +1,4 @@
--- What a cookie says is read back from its 64 bits.
+-- A cookie is read back from its 64 bits.
 use Rattle.std.proofs.Common.{◌≡◌, ℕ, ◌+◌, ◌*◌, ◌/◌, ◌%◌, ◌≤◌, ◌&&◌, nat_le, Bool, true, false, if◌then◌else◌, Some, Ok, Err, refl, ap, ◌∙◌, subst, arith}
 use Rattle.std.proofs.lemmas.Bool.Decides.{nat_tests}
 use Rattle.smf_contract.specs.declared.cookie.Cookie.{Cookie}
@@ -41,7 +41,7 @@ unpacked_bits i run m r =
 fits : (i run : ℕ) → (nat_le i 16777215 && nat_le run 274877906943) ≡ true → run ≤ 274877906943
 fits i run e = grind (arith, nat_tests)
 
--- what was packed is read back
+-- a packed cookie is read back
 pub packed_back : (c : Cookie) (bits : ℕ) → packed c ≡ Ok bits → unpacked bits ≡ Some c
 packed_back c bits e = by (nat_le c.instance 16777215 && nat_le c.run 274877906943) refl e
   where

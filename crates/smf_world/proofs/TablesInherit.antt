@@ -1,5 +1,4 @@
--- Each contract of a world that was reached waits to be adopted where its holder is gone, since no restarter asks for
--- another.
+-- Each contract of a reached world waits to be adopted if its holder is gone, since restarters ask for no others.
 use Rattle.std.proofs.Common.{◌≡◌, ◌&&◌, nat_lt, ℕ, zero, suc, Bool, true, false, if◌then◌else◌, List, [], ◌∷◌, map, position, slice_set, Option, Some, None, Result, Ok, Err, refl, subst}
 use Rattle.std.specs.List.{slice_get}
 use Rattle.std.specs.Option.{option_map_or}
@@ -263,7 +262,7 @@ call_asks w events.Boot = boot_asks w
 
 -- ---- the table
 
--- it waits to be adopted where its holder is gone
+-- it waits to be adopted if its holder is gone
 abbrev pub Inherits : Contract → Type 0
 Inherits c = c.terms.inherit ≡ true
 

@@ -1,4 +1,4 @@
--- What each event keeps of the contract table and of what the trail says of it.
+-- Each event keeps the clauses on the contract table, and on the items of the trail that concern it.
 use Rattle.std.proofs.Common.{◌≡◌, ◌+◌, ◌<◌, ◌≤◌, ◌==◌, ◌&&◌, ◌||◌, not, ℕ, zero, suc, Bool, true, false, cond, if◌then◌else◌, List, [], ◌∷◌, ◌++◌, length, map, filter, position, nat_lt, slice_set, Option, Some, None, IfSome, Ok, Err, inl, inr, refl, sym, ap, ◌∙◌, subst, arith, eqb-true, eq-eqb}
 use Rattle.std.specs.List.{slice_get}
 use Rattle.std.specs.Option.{option_map_or}
@@ -115,7 +115,7 @@ plain_tags t (calls.Fail process f) p = fail_tags t process f (home t.members pr
 
 -- ---- events
 
--- whose contract is given, and has no members where it was found empty
+-- its contract is given, and has no members if the event found it empty
 abbrev IsSound : ℕ → List Member → Event → Type 0
 IsSound last ms e = (e.contract ≤ last) × (e.kind ≡ kinds.Empty → has_members e.contract ms ≡ false)
 
@@ -477,7 +477,7 @@ begun_held u c i run methods.Start ls new a = by (c == 0)
     by true = a
     by false = (new refl, a)
 
--- what a spawn makes
+-- the table that a spawn makes
 abbrev table_made : Contracts → ℕ → ℕ → Terms → ℕ → ℕ → Contracts
 table_made t actor cookie terms c p = made t actor cookie terms c p
 
@@ -571,7 +571,7 @@ no_call : (t : Contracts) → called t calls.Nothing ≡ t
 unfolding called
 no_call t = refl
 
--- the table and the trail behind an event
+-- the table and the trail after an event
 pub table_kept : (ks : List Knowledge) (t : Contracts) (items : List Item) (call : ContractCall) (trail : List Item) → IsTabled ks t items call → IsTable t trail → IsTable (called t call) (put_on items trail)
 table_kept ks t items call trail (passes e a) k =
     subst (λ (x : ContractCall). IsTable (called t x) (put_on items trail)) (sym e) (subst (λ (u : Contracts). IsTable u (put_on items trail)) (sym (no_call t)) (rows_table t items trail a k))

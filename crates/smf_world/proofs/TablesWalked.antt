@@ -1,5 +1,6 @@
--- What the work of an event does to the contract table, and what the trail shows of it: rows alone and no call; a call
--- with at most one method that is begun before it and the contracts that it empties behind it; or a boot.
+-- The work of an event on the contract table, and the items that the trail shows of it. It is of one of three kinds:
+-- rows alone and no call; a call; or a boot. Before a call at most one method is begun; after it come the contracts
+-- that it empties.
 use Rattle.std.proofs.Common.{◌≡◌, ◌⊎◌, ◌==◌, ◌&&◌, nat_lt, ℕ, Bool, true, false, cond, if◌then◌else◌, List, [], ◌∷◌, ◌++◌, Option, Some, None, Result, Ok, Err, inl, inr, refl, sym, ap, ◌∙◌, subst}
 use Rattle.std.specs.Prelude.{find}
 use Rattle.std.specs.List.{cons_option, filter_map}
@@ -95,7 +96,7 @@ pub record IsOwing (ks : List Knowledge) : Type 0 where
 abbrev pub begun_as : ℕ → KnownInstance → Owed → Item
 begun_as c i o = Spawned c i.instance o.run o.method o.revision o.call.command
 
--- what is begun with a call: nothing, a built-in, or a method in a contract of its own
+-- the method that is begun with a call: none, a built-in, or one in a contract of its own
 pub data IsBegun (ks : List Knowledge) (t : Contracts) (call : ContractCall) (items : List Item) : Type 0 where
   nothing : IsPlain call → items ≡ [] → IsBegun ks t call items
   at_once : (s : IsOwing ks) → IsPlain call → items ≡ begun_as 0 s.of s.owed ∷ [] → IsBegun ks t call items
@@ -167,7 +168,7 @@ command_tabled w c a = passes refl (command_items w.now c (asked w.now c).change
 abbrev BegunBy : List Knowledge → Knowledge → List Begun → Type 0
 BegunBy ks k bs = (s : IsOwing ks) × (s.restarter ≡ k) × (bs ≡ begun_of s.of s.owed ∷ [])
 
--- what is begun with what is asked for
+-- the methods that are begun with the call that is asked for
 abbrev IsAsked : List Knowledge → Knowledge → Call → List Begun → Type 0
 IsAsked ks k (asks.Spawn cookie terms) bs =
     (s : IsOwing ks) × (s.restarter ≡ k) × (bs ≡ begun_of s.of s.owed ∷ [])
@@ -272,12 +273,12 @@ own_asks ks k Up = inl refl
 
 -- ---- what comes of it
 
--- what is begun besides a call that is no spawn
+-- the methods that are begun besides a call that is no spawn
 begun_plain : (ks : List Knowledge) (t : Contracts) (k : Knowledge) (call : ContractCall) (bs : List Begun) → IsPlain call → (bs ≡ []) ⊎ BegunBy ks k bs → IsBegun ks t call (begun_items (Some 0) bs)
 begun_plain ks t k call bs p (inl e) = nothing p (ap (begun_items (Some 0)) e)
 begun_plain ks t k call bs p (inr (s, f, e)) = at_once s p (ap (begun_items (Some 0)) e)
 
--- what is begun with a spawn, by its answer
+-- the methods that are begun with a spawn, by its answer
 begun_spawn : (ks : List Knowledge) (t : Contracts) (k : Knowledge) (cookie : ℕ) (terms : Terms) (bs : List Begun) (spawn : SpawnAnswer) (next : Option ℕ) → next_contract t ≡ next → IsAsked ks k (asks.Spawn cookie terms) bs
     → IsBegun ks t (call_of k.actor (asks.Spawn cookie terms) (spawn_answer spawn next)) (begun_items (begun_in (asks.Spawn cookie terms) (spawn_answer spawn next)) bs)
 unfolding call_of

@@ -187,7 +187,7 @@ sent_told t ms n a = at_place t (reverse ms) n (subst (MessagesTold t) (append-n
 
 -- ---- what the repository tells
 
--- what was committed last of an instance was committed
+-- the last commit of an instance was committed
 pub last_was : (i : ℕ) (t : List Item) (l : Last) → last_of i t ≡ Some l → WasCommitted i l.number l.state t
 last_was i [] l e = absurd cc
 last_was i (Committed j n s next ∷ t) l e = by (j == i) refl e (last_was i t l)

@@ -1,4 +1,4 @@
--- What was committed last of an instance is its row, and each row follows the one before it.
+-- The last commit of an instance is its row, and each row follows the one before it.
 use Rattle.std.proofs.Common.{◌≡◌, ◌⊎◌, ◌<◌, ◌≤◌, ℕ, ◌+◌, nat_lt, Bool, true, false, List, [], ◌∷◌, map, filter, Option, Some, None, option_map, refl, sym, ap, ◌∙◌, subst, inl, inr, arith}
 use Rattle.std.proofs.lemmas.Bool.Decides.{nat_tests}
 use Rattle.smf_state.specs.declared.row.Row.{Row}

@@ -1,4 +1,4 @@
--- What the work of an event is: that of a command, or nothing that the repository sees.
+-- The work of an event is that of a command, or nothing that the repository sees.
 use Rattle.std.proofs.Common.{◌≡◌, ◌==◌, ℕ, Bool, true, false, List, [], ◌∷◌, ◌++◌, map, Option, Some, None, refl}
 use Rattle.smf_contract.specs.declared.call.ContractCall.{ContractCall}
 use Rattle.smf_contract.specs.declared.contract.Report.{Report}

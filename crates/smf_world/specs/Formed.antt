@@ -1,4 +1,4 @@
--- What the types of the program let be held and asked: groups that a body may hold, and names.
+-- The values that the types of the program allow: groups that a body may hold, and names.
 use Rattle.std.specs.List.{AllByRecursion}
 use Rattle.smf_value.specs.Body.{AreGroups}
 use Rattle.smf_value.specs.Names.{IsName}

@@ -1,4 +1,4 @@
--- What each event makes of the world: its work is done.
+-- The world after each event: its work is done.
 use Rattle.std.specs.Prelude.{not, List, [], ◌∷◌, ◌++◌, map, filter, reverse, Bool, true, false, if◌then◌else◌, Option, None}
 use Rattle.smf_contract.specs.Called.{called}
 use Rattle.smf_state.specs.declared.view.View.{View}
@@ -14,7 +14,7 @@ use Rattle.smf_world.specs.declared.work.Work.{Work}
 use Rattle.smf_world.specs.Worked.{is_named, worked}
 use Rattle.smf_world.specs.World.{World}
 
--- what becomes of the restarters
+-- the launched restarters after a change of them
 abbrev pub becoming : Becomes → List Knowledge → List Knowledge
 becoming (becomes.Knows name c) ks = map (λ k. if is_named name k then changed k c else k) ks
 becoming (becomes.Launched name actor launch) ks = ks ++ at_first name actor launch ∷ []

@@ -1,4 +1,4 @@
--- What the trail shows of the changes that a command makes.
+-- The items that the trail shows of the changes of a command.
 use Rattle.std.specs.Prelude.{◌==◌, List, [], ◌∷◌, ◌++◌, Bool, true, false, Option, Some, None}
 use Rattle.std.specs.List.{filter_map}
 use Rattle.smf_model.specs.declared.change.Change.{Change}
@@ -18,7 +18,7 @@ abbrev pub row_if : Bool → Instance → Option Item
 row_if true i = None
 row_if false i = Some (row_item i)
 
--- a row in place of another is shown where its number is another
+-- a row in place of another is shown if its number is another
 abbrev pub row_over : Option Instance → Instance → Option Item
 row_over None i = Some (row_item i)
 row_over (Some before) i = row_if (i.row.number == before.row.number) i

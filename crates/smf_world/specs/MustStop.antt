@@ -1,4 +1,4 @@
--- What stops a running instance, told by the history in place of the rows.
+-- The events that stop a running instance, told by the history in place of the rows.
 use Rattle.std.specs.Prelude.{◌≡◌, ◌≤◌, ℕ, nat_eq, List, Bool, true, false, Some, is_some}
 use Rattle.std.specs.Cmp.Lexicographic.{pointwise}
 use Rattle.std.specs.List.{Any}
@@ -22,7 +22,7 @@ use Rattle.smf_dep.specs.Verdicts.{must_stop}
 
 -- ---- which events count
 
--- of what is asked for: stops and refreshes, by restart_on
+-- the events that count for a required or optional dependency: stops and refreshes, by restart_on
 abbrev pub counts_where_asked : RestartOn → EventKind → Bool
 counts_where_asked restarts.Error ErrorStop = true
 counts_where_asked restarts.Restart ErrorStop = true
@@ -32,7 +32,7 @@ counts_where_asked restarts.Refresh OtherStop = true
 counts_where_asked restarts.Refresh Refreshed = true
 counts_where_asked _ _ = false
 
--- of what is excluded: a start, unless restart_on is nothing
+-- the events that count for an excluded dependency: a start, unless restart_on is nothing
 abbrev pub counts_where_excluded : RestartOn → EventKind → Bool
 counts_where_excluded restarts.Nothing kind = false
 counts_where_excluded _ Started = true
@@ -62,8 +62,8 @@ IsCitedBy d name = Any (λ entity. stands_for entity name ≡ true) d.entities
 
 -- ---- what stops
 
--- in the history since the value h some revision after the base is that of an event that counts, of an instance that is
--- there now and that the dependency cites
+-- since the value h the history has an event that counts, at a revision after the base. The event is of an instance
+-- that is there now and that the dependency cites
 pub record MustStop (d : Dependency) (base : ℕ) (h : Holdings) (cs : List Command) : Type 0 where
   pub number : ℕ
   pub held : Instance

@@ -15,8 +15,8 @@ use Rattle.smf_world.specs.World.{World, found}
 abbrev pub IsLater : World → World → Type 0
 IsLater w v = (es : List Event) × (run es w ≡ v)
 
--- it holds of each world that a list of events makes behind an accepted boot of what was found, numbers having been
--- given once
+-- it holds of each world that a list of events makes after an accepted boot of a found value, if numbers were given
+-- once
 abbrev pub IsAlways : (World → Type 0) → Type 0
 IsAlways P =
     (h : Holdings) (es : List Event)
@@ -24,11 +24,11 @@ IsAlways P =
     → (next h commands.Boot).1 ≡ answers.Done
     → P (run es (happens (found h) events.Boot))
 
--- behind a boot that may have been refused there is a world of which it does not hold
+-- after a boot that may have been refused there is a world of which it does not hold
 abbrev pub CanFail : (World → Type 0) → Type 0
 CanFail P = (h : Holdings) × (es : List Event) × IsNumbered h × (P (run es (happens (found h) events.Boot)) → ⊥)
 
--- numbers were given once in what was found, a boot of it was accepted, and a list of events behind it makes this world
+-- numbers were given once in the found value, a boot of it was accepted, and a list of events after it makes this world
 pub record IsReached (w : World) : Type 0 where
   pub numbered : IsNumbered w.history.first
   pub accepted : (next w.history.first commands.Boot).1 ≡ answers.Done

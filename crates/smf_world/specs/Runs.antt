@@ -1,4 +1,4 @@
--- What a list of events makes of the world.
+-- The world after a list of events.
 use Rattle.std.specs.Prelude.{List, [], ◌∷◌}
 use Rattle.smf_world.specs.declared.event.Event.{Event}
 use Rattle.smf_world.specs.Happens.{happens}

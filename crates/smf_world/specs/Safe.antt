@@ -1,4 +1,4 @@
--- What is safe to read off a trail.
+-- The facts that are safe to read off a trail.
 use Rattle.std.specs.Prelude.{◌≡◌, ◌⊎◌, ◌<◌, ℕ, ◌+◌, ◌==◌, not, List, [], ◌∷◌, ◌++◌, map, filter, reverse, Bool, true, false, if◌then◌else◌, Option, Some, None, option_map, Ok, find}
 use Rattle.smf_contract.specs.declared.cookie.Method.{Method}
 use Rattle.smf_contract.specs.declared.cookie.Method.TheVariants as methods
@@ -38,7 +38,7 @@ abbrev pub is_other_number : Option Instance → Instance → Bool
 is_other_number None i = true
 is_other_number (Some before) i = not (i.row.number == before.row.number)
 
--- whether a row is new, or has another number than it had
+-- a row is new, or has another number than it had
 abbrev pub is_committed : Holdings → Instance → Bool
 is_committed before i = is_other_number (instance before i.number) i
 
@@ -46,7 +46,7 @@ abbrev pub boot_alone : Command → List Item
 boot_alone commands.Boot = Boot ∷ []
 boot_alone _ = []
 
--- what leads from one value to the next: a boot, and the rows that are new or have another number, in number order
+-- the items from one value to the next: a boot, and the rows that are new or have another number, in number order
 abbrev pub made_items : Command → Holdings → Holdings → List Item
 made_items c before after = boot_alone c ++ map row_item (filter (is_committed before) (instances after))
 
@@ -55,14 +55,14 @@ abbrev pub commits_of : Holdings → List Command → List Item
 commits_of h [] = []
 commits_of h (c ∷ cs) = reverse (made_items c (made h cs) (made h (c ∷ cs))) ++ commits_of h cs
 
--- what the trail shows as committed is what the history of the repository is
+-- the commits that the trail shows are the history of the repository
 pub record CommitsFollowHistory (w : World) : Type 0 where
   pub newest : w.now ≡ made w.history.first w.history.past
   pub commits : commits w.trail ≡ commits_of w.history.first w.history.past
 
 -- ---- along the diagram
 
--- what was committed last of an instance, and whether a boot came after it
+-- the last commit of an instance, and the mark of a boot after it
 pub record Last : Type 0 where
   pub number : ℕ
   pub state : State
@@ -78,7 +78,7 @@ last_of i (Committed j n state next ∷ trail) =
 last_of i (Boot ∷ trail) = option_map behind_boot (last_of i trail)
 last_of i (item ∷ trail) = last_of i trail
 
--- a state after another: behind a boot it is uninitialized, and else it is the same or one edge away
+-- a state after another: after a boot it is uninitialized, and else it is the same or one edge away
 abbrev pub StateFollows : Bool → State → State → Type 0
 StateFollows true before after = after ≡ Uninitialized
 StateFollows false before after = (after ≡ before) ⊎ (edge before after ≡ true)
@@ -95,7 +95,7 @@ AlongTheDiagram (item ∷ trail) = AlongTheDiagram trail
 
 -- ---- committed once
 
--- whether a row of an instance was committed with this number
+-- a row of an instance was committed with this number
 abbrev pub WasNumbered : ℕ → ℕ → List Item → Type 0
 WasNumbered i number [] = ⊥
 WasNumbered i number (Committed j n s next ∷ trail) = ((j ≡ i) × (n ≡ number)) ⊎ WasNumbered i number trail
@@ -109,7 +109,7 @@ CommittedOnce (item ∷ trail) = CommittedOnce trail
 
 -- ---- held was committed
 
--- whether a row of an instance was committed with this number in this state
+-- a row of an instance was committed with this number in this state
 abbrev pub WasCommitted : ℕ → ℕ → State → List Item → Type 0
 WasCommitted i number state [] = ⊥
 WasCommitted i number state (Committed j n s next ∷ trail) =
@@ -139,7 +139,7 @@ abbrev pub begun_start : Bool → ℕ → ℕ → List LiveStart → List LiveSt
 begun_start true c i ls = if c == 0 then ls else record { contract = c; instance = i } ∷ ls
 begun_start false c i ls = ls
 
--- those that live behind a trail; a built-in has no contract, and never lives
+-- those that live after a trail; a built-in has no contract, and never lives
 abbrev pub live_starts : List Item → List LiveStart
 live_starts [] = []
 live_starts (Spawned c i run method revision command ∷ trail) = begun_start (is_start method) c i (live_starts trail)
@@ -162,7 +162,7 @@ OneLive (item ∷ trail) = OneEach (live_starts (item ∷ trail)) × OneLive tra
 
 -- ---- starts are well decided
 
--- an instance as a value shows it: offline with nothing under way, enabled, without a fault, each group met, and this
+-- an instance as a value shows it: offline with nothing under way, enabled, without a fault, each group met. This is
 -- the command of its running snapshot's start method
 pub record IsReady (v : Holdings) (i : ℕ) (row : Row) (command : List ℕ) : Type 0 where
   pub item : ViewItem
@@ -186,7 +186,7 @@ pub record IsAnnounced (before after : Row) (run revision : ℕ) : Type 0 where
   pub base : after.base ≡ revision
   pub snapshot : after.running ≡ before.running
 
--- what was committed last of an instance
+-- the last commit of an instance
 abbrev pub last_committed : ℕ → List Item → Option Item
 last_committed i [] = None
 last_committed i (Committed j n state next ∷ trail) =
@@ -198,8 +198,8 @@ WasSpawned i run [] = ⊥
 WasSpawned i run (Spawned c j r method revision command ∷ trail) = ((j ≡ i) × (r ≡ run)) ⊎ WasSpawned i run trail
 WasSpawned i run (item ∷ trail) = WasSpawned i run trail
 
--- the start of a run was decided on a value of the history, and announced by a later one, which is what was committed
--- last; and no run of the instance was begun twice
+-- the start of a run was decided on a value of the history, and a later value announced it. The announced row is the
+-- last commit, and the run was not begun before
 pub record IsWellDecided (y : History) (trail : List Item) (i run revision : ℕ) (command : List ℕ) : Type 0 where
   pub decided_on : Holdings
   pub announced_by : Holdings
@@ -227,8 +227,8 @@ StartsDecided y (item ∷ trail) = StartsDecided y trail
 
 -- ---- the whole
 
--- the trail shows what the history is, changes states only along the diagram, shows no number of an instance committed
--- twice, and no row held that was not committed
+-- the trail shows the history, changes states only along the diagram, and commits no number of an instance twice. It
+-- shows no row as held that was not committed
 pub record IsRecorded (w : World) : Type 0 where
   pub history : CommitsFollowHistory w
   pub diagram : AlongTheDiagram w.trail

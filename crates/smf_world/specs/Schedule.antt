@@ -1,5 +1,5 @@
--- The schedule: in which order events happen until nothing is left to do. What comes of the turns of restarters for their
--- instances depends on who runs their methods, and is not said here.
+-- The schedule: the order in which events happen until nothing is left to do. The results of the turns of restarters
+-- for their instances depend on who runs their methods, and are not said here.
 use Rattle.std.specs.Prelude.{ℕ, zero, suc, ◌+◌, ◌-◌, ◌==◌, ◌&&◌, ◌||◌, not, nat_eq, nat_lt, List, [], ◌∷◌, ◌++◌, length, map, drop, filter, replicate, Bool, true, false, if◌then◌else◌, Option, Some, None, is_some, option_to_list}
 use Rattle.std.specs.Cmp.Lexicographic.{pointwise}
 use Rattle.std.specs.List.{list_all, list_any}
@@ -26,10 +26,11 @@ use Rattle.smf_world.specs.Happens.{happens}
 use Rattle.smf_world.specs.Worked.{holder, is_launched, restarter, sent_at}
 use Rattle.smf_world.specs.World.{World}
 
--- a world with the marks and counts of its schedule: the places of the messages that were delivered, newest first; those
--- that were delivered before their turn; the place of the next message in the order of sending; the places of those that
--- are lost; how many spawns are still to be refused; how many events of the table were looked at, those of them that no
--- holder has heard, and events that a holder heard before they were looked at
+-- a world with the marks and counts of its schedule. `delivered` are the places of the messages that were delivered,
+-- newest first; `early` those that were delivered before their turn. `next` is the place of the next message in the
+-- order of sending, and `lost` are the places of those that are lost. `refuse` counts the spawns that are still to be
+-- refused, and `looked` the events of the table that were looked at. `unheard` are those of them that no holder has
+-- heard, and `heard` are events that a holder heard before they were looked at
 pub record Progress : Type 0 where
   pub world : World
   pub delivered : List ℕ
@@ -69,8 +70,8 @@ abbrev pub mark_heard : Bool → EventKey → Progress → Progress
 mark_heard true key p = record p { unheard = filter (has_other_key key) p.unheard }
 mark_heard false key p = record p { heard = p.heard ++ key ∷ [] }
 
--- an event is marked: a report where a holder heard it, a boot where it made a revision. At a boot the contracts are gone,
--- and with them what happened to them
+-- an event is marked: a report if a holder heard it, a boot if it made a revision. At a boot the contracts are gone,
+-- and with them their events
 abbrev pub marked : Event → Bool → Bool → Progress → Progress
 marked (events.Deliver place) heard new p = record p { delivered = place ∷ p.delivered; early = early_with (nat_lt place p.next) place p.early }
 marked (events.Report c n) true new p = mark_heard (list_any (has_key (event_key c n)) p.unheard) (event_key c n) p
@@ -85,7 +86,7 @@ abbrev pub is_heard_by : World → Option Report → Bool
 is_heard_by w None = false
 is_heard_by w (Some r) = is_some (holder w r.contract.holder)
 
--- whether an event of a contract is there, and the contract's holder is launched
+-- an event of a contract is there, and the contract's holder is launched
 unfoldable pub is_heard : World → ℕ → ℕ → Bool
 is_heard w c n = is_heard_by w (reported w.table c n)
 
@@ -136,7 +137,7 @@ abbrev pub is_spawn : Call → Bool
 is_spawn (asks.Spawn cookie terms) = true
 is_spawn _ = false
 
--- whether the turn of a restarter for an instance asks for a spawn
+-- the turn of a restarter for an instance asks for a spawn
 abbrev pub asks_spawn : Option Knowledge → ℕ → Bool
 asks_spawn None n = false
 asks_spawn (Some k) n = is_spawn (ticked k n).call
@@ -170,7 +171,7 @@ waiting_count p = length p.world.sent - p.next
 abbrev pub was_heard : List EventKey → ContractEvent → Bool
 was_heard keys e = list_any (λ key. has_key key e) keys
 
--- what happened since events were looked at, and was not heard early
+-- the events that happened since the last look at events, and were not heard early
 abbrev pub unlooked : Progress → List ContractEvent
 unlooked p = filter (λ e. not (was_heard p.heard e)) (drop p.looked p.world.table.events)
 
@@ -199,8 +200,8 @@ turn_of_messages p = deliver_count (waiting_count p) p
 
 -- ---- a round
 
--- what waits, what is sent on it, and what is sent on that: an order brings a proposal, which brings an answer, which
--- brings nothing
+-- the messages that wait, those that are sent on them, and those that are sent on these. An order brings a proposal,
+-- which brings an answer, which brings nothing
 abbrev pub deliveries : List Turn
 deliveries = turns.Messages ∷ turns.Messages ∷ turns.Messages ∷ []
 
@@ -233,7 +234,7 @@ is_quiet w = has_no_orders (view w.now) && list_all at_rest w.restarters
 unfoldable pub refusing : ℕ → Progress → Progress
 refusing k p = record p { refuse = k }
 
--- of those that are sent from now on; a place past the greatest is never reached
+-- the place of the k-th message that is sent from now on; a place past the greatest is never reached
 abbrev pub lost_place : ℕ → ℕ → Option ℕ
 lost_place sent k = if nat_lt 0 k && nat_lt (sent + k) 0x8000_0000_0000_0000 then Some (sent + k - 1) else None
 

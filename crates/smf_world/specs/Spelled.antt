@@ -39,7 +39,7 @@ HasBodies (messages.View v) = AllByRecursion HasBody v.items
 HasBodies (messages.Changes c) = AllByRecursion HasChangedBody c.items
 HasBodies _ = Unit {0}
 
--- what a client asks is what the types of the program let be asked
+-- a client asks only for edits that the types of the program allow
 abbrev pub IsFormedEvent : Event → Type 0
 IsFormedEvent (events.Client edit) = IsFormedEdit edit
 IsFormedEvent _ = Unit {0}

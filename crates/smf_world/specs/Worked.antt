@@ -1,4 +1,4 @@
--- What each event makes, worked out before anything changes.
+-- The work of each event, found before anything changes.
 use Rattle.std.specs.Prelude.{ℕ, ◌+◌, ◌==◌, nat_eq, List, [], ◌∷◌, ◌++◌, map, find, reverse, slice_get, Bool, true, false, if◌then◌else◌, Option, Some, None, is_some, Result, Ok, Err}
 use Rattle.std.specs.Cmp.Lexicographic.{pointwise}
 use Rattle.smf_contract.specs.declared.call.ContractCall.{ContractCall}
@@ -100,7 +100,7 @@ sent_at w place = slice_get (reverse w.sent) place
 abbrev pub known_of : Instance → Known
 known_of i = record { instance = i.number; name = i.name; row = i.row }
 
--- the rows of a restarter, where the launch is its last one
+-- the rows of a restarter, if the launch is its last one
 abbrev pub joined : World → List ℕ → ℕ → Bool → Work
 joined w name launch true = saying (messages.Rows name launch (map known_of (rows_of w.now name)) ∷ [])
 joined w name launch false = no_work
@@ -142,7 +142,7 @@ held_item k x = HeldRow k.name k.launch x.instance x.row.number x.row.state
 abbrev pub held_items : Knowledge → List Known → List Item
 held_items k xs = map (held_item k) xs
 
--- what a restarter makes of a message
+-- the work of a restarter on a message
 unfoldable pub heard_by : Knowledge → Reply → Work
 heard_by k r = record no_work { items = held_items k r.taken; messages = r.messages; becomes = knows k r.change }
 
@@ -183,14 +183,14 @@ abbrev pub adopt_answer : ℕ → Result Contracts ContractFault → Answer
 adopt_answer c (Ok t) = answers.Adopted c
 adopt_answer c (Err e) = answers.Nothing
 
--- a spawn is made where the children make it and the table has a number for it
+-- a spawn is made if the children make it and the table has a number for it
 abbrev pub spawn_answer : SpawnAnswer → Option ℕ → Answer
 spawn_answer spawns.Made (Some c) = answers.Spawned c
 spawn_answer spawns.Made None = answers.Refused
 spawn_answer spawns.Refused next = answers.Refused
 spawn_answer spawns.NotFollowed next = answers.NotFollowed
 
--- what becomes of what a restarter asks for
+-- the answer to the call that a restarter asks for
 unfoldable pub answer_of : Contracts → ℕ → SpawnAnswer → Call → Answer
 answer_of t actor spawn asks.Nothing = answers.Nothing
 answer_of t actor spawn asks.List = answers.Nothing
@@ -211,7 +211,7 @@ call_of actor (asks.Spawn cookie terms) answer =
     if is_spawned answer then calls.Spawn actor cookie terms else calls.Nothing
 call_of actor (asks.Kill c) answer = calls.Kill actor c
 
--- what a restarter knows behind its call
+-- the change of a restarter's knowledge after its call
 abbrev pub change_after : World → Knowledge → ℕ → Reply → Call → Answer → KnowledgeChange
 change_after w k n r asks.Nothing a = r.change
 change_after w k n r asks.List a = listed k (statuses w.table)
@@ -253,7 +253,7 @@ acted_with w k n r a call =
 abbrev pub acted_by : World → Knowledge → ℕ → Reply → Answer → Work
 acted_by w k n r a = acted_with w k n r a (call_of k.actor r.call a)
 
--- what a restarter makes of its turn, for itself (0) or for an instance
+-- the work of a restarter in its turn, for itself (0) or for an instance
 unfoldable pub acted : World → Knowledge → ℕ → SpawnAnswer → Reply → Work
 acted w k n spawn r = acted_by w k n r (answer_of w.table k.actor spawn r.call)
 

@@ -10,7 +10,7 @@ use Rattle.smf_wire.specs.declared.message.Message.{Message}
 use Rattle.smf_world.specs.declared.item.Item.{Item}
 
 -- the history and its newest value; the launched restarters, in the order of their launches; the view that the graph
--- holds; all messages ever sent and the trail, both newest first; the contract table
+-- holds. Then all messages ever sent and the trail, both newest first; and the contract table
 pub record World : Type 0 where
   pub history : History
   pub now : Holdings

@@ -2,7 +2,7 @@ use smf_contract::{Exit, Failure};
 use smf_fmri::{InstanceFmri, Number};
 use smf_model::Edit;
 
-/// What becomes of a spawn that a tick asks for.
+/// The answer to a spawn that a tick asks for.
 #[derive(Clone, Copy, PartialEq, Eq)]
 pub enum SpawnAnswer {
     Made,
@@ -11,7 +11,7 @@ pub enum SpawnAnswer {
     NotFollowed,
 }
 
-/// What happens to a process, as in process(4).
+/// An event of a process, as in process(4).
 #[derive(Clone, Copy, PartialEq, Eq)]
 pub enum ProcessEvent {
     Fork,
@@ -19,8 +19,8 @@ pub enum ProcessEvent {
     Fail(Failure),
 }
 
-/// What can happen to the world. A launch of what is launched, an event of a restarter that is not, of a process that
-/// is in no contract, and of a contract that nobody holds do nothing.
+/// An event of the world. A launch of a launched restarter does nothing. Nor does an event of a restarter that is not
+/// launched, of a process in no contract, or of a contract that nobody holds.
 #[derive(Drop)]
 pub enum Event {
     /// The message at a place of all that were ever sent is delivered, for the first time or again.

@@ -3,7 +3,7 @@ use smf_fmri::InstanceFmri;
 use smf_method::Command;
 use smf_state::State;
 
-/// What the trail shows, in the order in which it happened.
+/// An item of the trail, which shows things in the order in which they happened.
 #[derive(Drop)]
 pub enum Item {
     /// A row that the repository committed: an instance was added, a proposal granted, or a boot or a move reset it.

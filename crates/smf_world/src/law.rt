@@ -26,48 +26,50 @@ ghost use Rattle.smf_world.specs.Spelled.{AreFormedEvents, AreInOrder, AreSpelle
 ghost use Rattle.smf_world.specs.Worked.{sent_at, worked};
 ghost use Rattle.smf_world.specs.World.{World, found};
 
-/// By the revisions in the rows of a view a dependency stops an instance exactly where, after the base, an event that
-/// counts happened to an instance that is there and that the dependency cites.
+/// The revisions in the rows of a view tell which dependencies stop an instance. A dependency stops it exactly if an
+/// event that counts happened after the base. This event happened to an instance that is there and that the dependency
+/// cites.
 pub fn rows_tell_what_stops()
     ensures told { (h : Holdings) (cs : List AnyCommand) (d : AnyDependency) (base : ℕ) → IsTold d base h cs }
     ensures happened { (h : Holdings) (cs : List AnyCommand) (d : AnyDependency) (base : ℕ) → IsShown d base h cs }
 {}
 
-/// What the trail shows as committed is the history of the repository, whatever happens: the boots, and the rows that
-/// are new or have another number, in number order.
+/// The commits that the trail shows are the history of the repository, whatever happens. They are the boots, and the
+/// rows that are new or have another number, in number order.
 pub fn commits_follow_history()
     ensures numbered { (w : World) (e : AnyEvent) → IsNumbered w.now → IsNumbered (happens w e).now }
     ensures kept { (w : World) (e : AnyEvent) → IsNumbered w.now → FollowsHistory w → FollowsHistory (happens w e) }
     ensures always { (h : Holdings) (es : List AnyEvent) → IsNumbered h → FollowsHistory (run es (found h)) }
 {}
 
-/// Behind a boot of what was found, whatever happens: an instance is first uninitialized, and then goes along the
-/// diagram, one number at a time. A boot that is refused at a limit leaves the rows as they were found, so that the
-/// trail does not show where they began.
+/// After a boot of the value that was found, whatever happens, an instance is first uninitialized. Then it goes along
+/// the diagram, one number at a time. A boot that is refused at a limit leaves the rows as they were found. The trail
+/// then does not show how they began.
 pub fn states_go_along_the_diagram()
     ensures along { IsAlways (λ w. AlongTheDiagram w.trail) }
     ensures once { IsAlways (λ w. CommittedOnce w.trail) }
     ensures boot_needed { CanFail (λ w. AlongTheDiagram w.trail) }
 {}
 
-/// Behind a boot of what was found, whatever happens, crashes and messages that come late or twice among it: a
-/// restarter takes no row that the repository did not commit before.
+/// After a boot of the value that was found, a restarter takes only rows that the repository committed before. This
+/// holds whatever happens, even if restarters crash and messages come late or twice.
 pub fn held_rows_were_committed()
     ensures { IsAlways (λ w. HeldWereCommitted w.trail) }
 {}
 
-/// Behind a boot of what was found, whatever happens: a start is begun only as one revision showed its instance,
-/// offline and at rest, enabled, without a fault and with each dependency group met, by the start method of its running
-/// snapshot; a later revision announced it, which is what was committed last; and no run of an instance begins twice.
+/// A start is begun only if one revision showed its instance offline and at rest, enabled, without a fault and with
+/// each dependency group met. It runs the start method of the running snapshot. A later revision announced it, and this
+/// is the last commit. No run of an instance begins twice. All this holds after a boot of the value that was found,
+/// whatever happens.
 pub fn starts_are_well_decided()
     ensures { IsAlways (λ w. StartsDecided w.history w.trail) }
 {}
 
-/// Behind a boot of what was found, whatever happens, crashes of restarters, spawns that are refused and messages that
-/// come late or twice among it: at no place of the trail does an instance have two starts that live. A start lives from
-/// the spawn of its contract until the contract has no process left, or the machine boots anew; so no start method is
-/// spawned while a process of an earlier start of the instance is left. A built-in method has no contract and does not
-/// count, nor do the methods that stop and refresh.
+/// At no place of the trail does an instance have two starts that live. This holds after a boot of the value that was
+/// found, through crashes, refused spawns, and messages that come late or twice. A start lives from the spawn of its
+/// contract until the contract has no process left, or the machine boots anew. So no start method is spawned while a
+/// process of an earlier start of the instance is left. A built-in method has no contract and does not count, nor do
+/// the methods that stop and refresh.
 pub fn at_most_one_start_lives()
     ensures { IsAlways (λ w. OneLive w.trail) }
 {}
@@ -79,15 +81,16 @@ pub fn whatever_happens_is_safe()
     ensures later { (w v : World) → IsReached w → IsLater w v → IsReached v }
 {}
 
-/// What an event makes of the repository are the changes of its work, and these leave what is held numbered.
+/// An event changes the repository by the changes of its work, and these leave the repository numbered.
 pub fn changes_keep_numbers()
     ensures kept { (w : World) (e : AnyEvent) → IsNumbered w.now → IsNumbered (installed w.now (worked w e).changes) }
     ensures made { (w : World) (e : AnyEvent) → (happens w e).now ≡ installed w.now (worked w e).changes }
 {}
 
-/// Each message that is ever sent has a line that is read again as that message, whatever happens, crashes and messages
-/// that come late or twice among it: where what was found and what clients ask are what the types of the program let be
-/// held and asked. Of each world that is reached the same holds but for the bodies of a view.
+/// Each message that is ever sent has a line that is read again as that message. This holds whatever happens, even if
+/// restarters crash and messages come late or twice. The types of the program must allow the value that was found and
+/// the edits that clients ask for. Without this condition the same holds of each reached world, but for the bodies of a
+/// view and of changes.
 pub fn messages_are_spelled()
     ensures always { (h : Holdings) (es : List AnyEvent) → IsNumbered h → IsFormed h → AreFormedEvents es → AreSpelled (run es (found h)) }
     ensures kept { (w : World) (e : AnyEvent) → IsNumbered w.now → IsFormed w.now → IsFormedEvent e → AreSpelled w → AreSpelled (happens w e) }
@@ -97,15 +100,15 @@ pub fn messages_are_spelled()
     ensures place { (w : World) (place : ℕ) → IsReached w → IfSome (sent_at w place) (λ m. HasBodies m → IsSpelled m) }
 {}
 
-/// What the types of the program let commands ask leaves groups that a body may hold, in an empty repository and behind
-/// each command and each event.
+/// Commands that the types of the program allow leave groups that a body may hold. This holds of an empty repository,
+/// and after each command and each event.
 pub fn held_groups_are_formed()
     ensures first { IsFormed empty }
     ensures commands { (h : Holdings) (c : AnyCommand) → IsFormed h → IsFormedCommand c → IsFormed (next h c).0 }
     ensures events { (w : World) (e : AnyEvent) → IsNumbered w.now → IsFormed w.now → IsFormedEvent e → IsFormed (happens w e).now }
 {}
 
-/// What a schedule makes of the world apart from the turns of restarters for instances, some list of events makes of it.
+/// A list of events makes each world that a schedule makes, apart from the turns of restarters for instances.
 pub fn a_schedule_is_a_run()
     ensures event { (p : Progress) (e : AnyEvent) → IsLater p.world (on p e).world }
     ensures delivery { (p : Progress) → IsLater p.world (deliver_next p).world }
@@ -113,8 +116,8 @@ pub fn a_schedule_is_a_run()
     ensures again { (places : List ℕ) (p : Progress) → IsLater p.world (delivered_again places p).world }
 {}
 
-/// After three turns of deliveries no message waits, whatever was sent before them: an order brings a proposal, which brings
-/// an answer, which brings nothing.
+/// After three turns of deliveries no message waits, whatever was sent before them: an order brings a proposal, which
+/// brings an answer, which brings nothing.
 pub fn no_message_waits_after_deliveries()
     ensures { (p : Progress) → waiting_count (turn_of_messages (turn_of_messages (turn_of_messages p))) ≡ 0 }
 {}

@@ -1,7 +1,7 @@
 use smf_contract::Event as ContractEvent;
 use smf_fmri::{InstanceFmri, Number};
 
-/// How a number of rounds ended.
+/// The end of a number of rounds.
 #[derive(Clone, Copy, PartialEq, Eq)]
 pub enum Settled {
     /// Nothing is left to do.

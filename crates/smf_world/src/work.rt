@@ -5,7 +5,7 @@ use smf_model::{Command, Reply};
 use smf_state::View;
 use smf_wire::{Message, ViewChanges};
 
-/// What becomes of the restarters.
+/// A change of the launched restarters.
 #[derive(Drop)]
 pub enum Becomes {
     /// A launched one knows more.
@@ -15,7 +15,7 @@ pub enum Becomes {
     },
     Launched {
         name: InstanceFmri,
-        /// What its contracts name as their holder.
+        /// The holder that its contracts name.
         actor: u64,
         launch: u64,
     },
@@ -23,26 +23,26 @@ pub enum Becomes {
     NoneLeft,
 }
 
-/// What an event makes, worked out before anything changes.
+/// The work of an event, found before anything changes.
 #[derive(Drop)]
 pub struct Work {
-    /// Of what the repository holds.
+    /// The changes of the repository.
     pub changes: Items<smf_model::Change>,
     /// The command that was accepted, if one was.
     pub command: Items<Command>,
     /// The reply to the command, if one was given.
     pub reply: Items<Reply>,
-    /// What the trail shows, in order.
+    /// The items of the trail, in order.
     pub items: Items<Item>,
-    /// What is said, in order.
+    /// The messages that are sent, in order.
     pub messages: Items<Message>,
     pub becomes: Items<Becomes>,
     /// The views that are shown to the graph.
     pub seen: Items<View>,
-    /// What changed of the view that the graph holds.
+    /// The changes of the view that the graph holds.
     pub patches: Items<ViewChanges>,
-    /// Whether the graph lets go of the view that it holds.
+    /// True if the graph drops the view that it holds.
     pub forgets: bool,
-    /// What is asked of the contracts.
+    /// The call on the contracts.
     pub call: ContractCall,
 }

@@ -101,13 +101,13 @@ fn event_with(contract: Number, kind: EventKind, left: bool) -> Event {
     }
 }
 
-/// Of `CONTRACT EVENT [left]`, what the event is.
+/// The kind of the event in `CONTRACT EVENT [left]`.
 pub(crate) fn reported_kind(text: &str) -> Option<EventKind> {
     let (word, _) = split_word(after_contract(text));
     kind_of(word)
 }
 
-/// Of `CONTRACT EVENT [left]`, whether members are left.
+/// True if `CONTRACT EVENT [left]` says that members are left.
 fn is_left(text: &str) -> bool {
     let (_, left) = split_word(after_contract(text));
     left == "left"

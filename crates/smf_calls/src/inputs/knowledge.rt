@@ -1,4 +1,4 @@
-//! What a restarter knows, a line for each part.
+//! The knowledge of a restarter, a line for each part.
 
 use crate::inputs::page::Page;
 use smf_contract::Method;

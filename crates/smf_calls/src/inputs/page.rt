@@ -43,14 +43,14 @@ impl Page {
         }
     }
 
-    /// What `write!` calls.
+    /// The method that `write!` calls.
     pub(crate) fn write_fmt<D: fmt::Display + Drop>(&mut self, value: D) {
         if self.text.write_fmt(value).is_err() {
             self.lacks_memory = true;
         }
     }
 
-    /// What a library makes of memory.
+    /// The value that a library made, unless memory was wanting.
     pub(crate) fn made<T: Drop>(&mut self, made: Result<T, AllocError>) -> Option<T> {
         match made {
             Ok(value) => Some(value),

@@ -49,7 +49,7 @@ fn put_cookie(page: &mut Page, bits: u64) {
     }
 }
 
-/// What is asked of the contracts.
+/// Puts the call that the restarter makes to the contracts.
 fn put_call(page: &mut Page, call: Call) {
     match call {
         Call::Nothing => {}

@@ -5,7 +5,7 @@ use Rattle.smf_contract.specs.Trail.{AreTraced, Happenings, until}
 use Rattle.smf_contract.proofs.Trails.{traced_begun}
 use Rattle.smf_contract.proofs.past.Past.begin.Goals as goal
 
--- what is kept of the contract stays
+-- the last event that is kept of the contract stays
 pub invariant_of-self : goal.invariant_of-self
 invariant_of-self c =
     let was = c.self.inside in
