@@ -5,15 +5,15 @@
 //! (processes of the system), `server` (a service manager that stays).
 #![tactic(auto)]
 
+mod contracts;
 mod files;
-mod following;
-mod running;
-mod serving;
+mod processes;
+mod server;
 
+use crate::contracts::follow_over;
 use crate::files::{Hold, cfg_over, check_over, sim_over, take_alone, why_over};
-use crate::following::follow_over;
-use crate::running::run_over;
-use crate::serving::{serve_over, tick_into};
+use crate::processes::run_over;
+use crate::server::{serve_over, tick_into};
 use smf_edge::TableKids;
 use smf_lines::NotedReader;
 use smf_program::{Task, read_task, refusal_of_words, refuse, tell_no_memory};

@@ -1,5 +1,5 @@
 pub mod Order
-pub mod Picking
+pub mod Matches
 pub mod Among
 pub mod Named
 pub mod Rows

@@ -19,7 +19,8 @@ row_by : (b : Bool) (e : Entry) (rest : Option Row) (found : Option Entry) → r
 row_by true e rest found h = refl
 row_by false e rest found h = h
 
-row_found : (es : List Entry) (id : List ℕ) → find (λ r. bytes_eq r.id id) (map row_of es) ≡ option_map row_of (find (λ e. bytes_eq e.0.now id) es)
+row_found : (es : List Entry) (id : List ℕ)
+    → find (λ r. bytes_eq r.id id) (map row_of es) ≡ option_map row_of (find (λ e. bytes_eq e.0.now id) es)
 row_found [] id = refl
 row_found (e ∷ es) id = row_by (bytes_eq e.0.now id) e _ _ (row_found es id)
 
@@ -32,22 +33,28 @@ first_text : (f : Found) (id : List ℕ) → first_value f id ≡ first_of id (r
 first_text f id = sym (first_in (find (λ e. bytes_eq e.0.now id) f.entries.items))
     ∙ ap (option_and_then (λ (r : Row). slice_get r.values 0)) (sym (row_found f.entries.items id))
 
-all_in : (found : Option Entry) → option_map (λ r. r.values) (option_map row_of found) ≡ option_map raw_values (option_map (λ e. e.1) found)
+all_in : (found : Option Entry) → option_map (λ r. r.values) (option_map row_of found)
+    ≡ option_map raw_values (option_map (λ e. e.1) found)
 all_in None = refl
 all_in (Some e) = refl
 
 all_texts : (f : Found) (id : List ℕ) → option_map raw_values (matched_of f id) ≡ all_of id (rows_of f)
-all_texts f id = sym (all_in (find (λ e. bytes_eq e.0.now id) f.entries.items)) ∙ ap (option_map (λ (r : Row). r.values)) (sym (row_found f.entries.items id))
+all_texts f id = sym (all_in (find (λ e. bytes_eq e.0.now id) f.entries.items))
+    ∙ ap (option_map (λ (r : Row). r.values)) (sym (row_found f.entries.items id))
 
 -- ---- flags and operands
 
-pub set_is : (f : Found) (id text : List ℕ) → Some text ≡ first_value f id → bytes_eq text (codes "true") ≡ is_set id (rows_of f)
-set_is f id text e = ap (λ (o : Option (List ℕ)). option_map_or (λ t. bytes_eq t (codes "true")) o false) (e ∙ first_text f id)
+pub set_is : (f : Found) (id text : List ℕ) → Some text ≡ first_value f id
+    → bytes_eq text (codes "true") ≡ is_set id (rows_of f)
+set_is f id text e =
+    ap (λ (o : Option (List ℕ)). option_map_or (λ t. bytes_eq t (codes "true")) o false) (e ∙ first_text f id)
 
 pub unset_is : (f : Found) (id : List ℕ) → None ≡ first_value f id → false ≡ is_set id (rows_of f)
-unset_is f id e = ap (λ (o : Option (List ℕ)). option_map_or (λ t. bytes_eq t (codes "true")) o false) (e ∙ first_text f id)
+unset_is f id e =
+    ap (λ (o : Option (List ℕ)). option_map_or (λ t. bytes_eq t (codes "true")) o false) (e ∙ first_text f id)
 
-pub operands_are : (f : Found) (given : Option (List (List ℕ))) → given ≡ option_map raw_values (matched_of f (codes "operand")) → unwrap_or given [] ≡ operands_of (rows_of f)
+pub operands_are : (f : Found) (given : Option (List (List ℕ)))
+    → given ≡ option_map raw_values (matched_of f (codes "operand")) → unwrap_or given [] ≡ operands_of (rows_of f)
 operands_are f given e = ap (λ (o : Option (List (List ℕ))). unwrap_or o []) (e ∙ all_texts f (codes "operand"))
 
 -- ---- what clap's contract asks of a command

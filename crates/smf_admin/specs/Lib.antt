@@ -1,8 +1,8 @@
-pub mod Asking
-pub mod Choosing
+pub mod Requests
+pub mod ListOptions
 pub mod Examples
-pub mod Finding
-pub mod Listing
-pub mod Relating
-pub mod Telling
+pub mod Instances
+pub mod Output
+pub mod Relations
+pub mod Messages
 pub mod Words

@@ -46,8 +46,8 @@ abbrev pub rows_if : Option ArgMatches → Option (List Row)
 rows_if m = option_map rows_in m
 
 -- the rows that it finds, if it takes the words; it takes none that ask for help
-abbrev pub parsed : App → List (List ℕ) → Option (List Row)
-parsed app words = if length (fault_of app words) == 0 then Some (matches_of app words) else None
+abbrev pub clap_matches : App → List (List ℕ) → Option (List Row)
+clap_matches app words = if length (fault_of app words) == 0 then Some (matches_of app words) else None
 
 abbrev pub is_set : List ℕ → List Row → Bool
 is_set id rows = option_map_or (λ text. bytes_eq text (codes "true")) (first_of id rows) false

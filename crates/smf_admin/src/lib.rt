@@ -4,18 +4,18 @@
 //! The other modules are `messages` (messages) and `law` (laws of the definitions).
 #![tactic(auto)]
 
-mod asking;
-mod choosing;
-mod finding;
+mod instances;
 mod law;
-mod listing;
-mod relating;
-mod telling;
+mod list_options;
+mod messages;
+mod output;
+mod relations;
+mod requests;
 mod words;
 
-pub use asking::{AdminCommand, AdminWords, Asked, commands_of, read_words};
-pub use choosing::{Chosen, Options, Relation, options_of};
-pub use finding::{Found, found_of};
+pub use instances::{Found, found_of};
 pub use law::{answers_are_of_what_matches, listings_are_in_order, words_are_read_so};
-pub use listing::{Listing, svcs_text};
-pub use telling::{no_match_text, several_text, svcadm_usage, svcs_usage};
+pub use list_options::{Chosen, Options, Relation, options_of};
+pub use messages::{no_match_text, several_text, svcadm_usage, svcs_usage};
+pub use output::{Listing, svcs_text};
+pub use requests::{AdminCommand, AdminWords, Asked, commands_of, read_words};

@@ -1,6 +1,6 @@
 ghost use Rattle.std.specs.Prelude.{◌≡◌, IfOk, IsTrue, false, map};
 ghost use Rattle.clap.specs.Words.{app_of, is_simple, is_simple_and_free, rule_of};
-ghost use Rattle.smf_admin.specs.Words.{flag, is_set, no_flags, operands, operands_of, parsed, rows_if, rows_in, svcadm_app, svcs_app};
+ghost use Rattle.smf_admin.specs.Words.{flag, is_set, no_flags, operands, operands_of, clap_matches, rows_if, rows_in, svcadm_app, svcs_app};
 
 use clap::error::ErrorKind;
 use clap::{Arg, ArgAction, ArgMatches, Command, Error};
@@ -53,13 +53,13 @@ fn svcs_command<'a>(alloc: Global) -> Result<Command<'a>, AllocError>
 }
 
 /// The matches that clap reads, or none if the command doesn't take the words. It takes none that ask for help.
-fn parsed<'a>(
+fn clap_matches<'a>(
     command: Command<'a>,
     words: &'a [&'a str],
 ) -> Result<Option<ArgMatches<'a>>, AllocError>
     requires simple { IsTrue (is_simple (app_of command)) }
     requires free { IsTrue (is_simple_and_free (app_of command)) }
-    ensures { IfOk result (λ m. rows_if m ≡ parsed (app_of command.entry) (map (λ w. w.now) words.entry.now)) }
+    ensures { IfOk result (λ m. rows_if m ≡ clap_matches (app_of command.entry) (map (λ w. w.now) words.entry.now)) }
 {
     match command.try_get_matches_from(words) {
         Ok(matches) => Ok(Some(matches)),
@@ -73,10 +73,10 @@ pub(crate) fn svcadm_matches<'a>(
     alloc: Global,
     words: &'a [&'a str],
 ) -> Result<Option<ArgMatches<'a>>, AllocError>
-    ensures { IfOk result (λ m. rows_if m ≡ parsed svcadm_app (map (λ w. w.now) words.entry.now)) }
+    ensures { IfOk result (λ m. rows_if m ≡ clap_matches svcadm_app (map (λ w. w.now) words.entry.now)) }
 {
     let command = svcadm_command(alloc)?;
-    parsed(command, words)
+    clap_matches(command, words)
 }
 
 /// Reads the words after svcs.
@@ -84,10 +84,10 @@ pub(crate) fn svcs_matches<'a>(
     alloc: Global,
     words: &'a [&'a str],
 ) -> Result<Option<ArgMatches<'a>>, AllocError>
-    ensures { IfOk result (λ m. rows_if m ≡ parsed svcs_app (map (λ w. w.now) words.entry.now)) }
+    ensures { IfOk result (λ m. rows_if m ≡ clap_matches svcs_app (map (λ w. w.now) words.entry.now)) }
 {
     let command = svcs_command(alloc)?;
-    parsed(command, words)
+    clap_matches(command, words)
 }
 
 /// True if a flag stands among the words.
@@ -101,7 +101,7 @@ pub(crate) fn is_set(matches: &ArgMatches<'_>, id: &str) -> bool
 }
 
 /// The words as clap takes them.
-pub(crate) fn borrowed<'a>(alloc: Global, words: &'a [Text]) -> Result<Vec<&'a str>, AllocError>
+pub(crate) fn words_as_str<'a>(alloc: Global, words: &'a [Text]) -> Result<Vec<&'a str>, AllocError>
     ensures { IfOk result (λ all. map (λ w. w.now) all.items ≡ words.entry.now) }
 {
     let mut all = Vec::new(alloc);
@@ -112,7 +112,7 @@ pub(crate) fn borrowed<'a>(alloc: Global, words: &'a [Text]) -> Result<Vec<&'a s
 }
 
 /// The words with memory of their own.
-fn owned(alloc: Global, words: &[&str]) -> Result<Items<Text>, AllocError>
+fn word_copies(alloc: Global, words: &[&str]) -> Result<Items<Text>, AllocError>
     ensures { IfOk result (λ all. all ≡ map (λ w. w.now) words.now) }
 {
     let mut all = Items::new(alloc);
@@ -131,6 +131,6 @@ pub(crate) fn operands_of(
 {
     match matches.get_strs("operand") {
         None => Ok(Items::new(alloc)),
-        Some(words) => owned(alloc, words),
+        Some(words) => word_copies(alloc, words),
     }
 }

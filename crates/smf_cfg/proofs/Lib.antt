@@ -1,3 +1,3 @@
-pub mod Keeping
-pub mod Going
+pub mod Refusals
+pub mod Progress
 pub mod Why

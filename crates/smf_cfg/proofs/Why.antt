@@ -7,7 +7,8 @@ use Rattle.smf_cfg.specs.declared.fault.RunFault.TheVariants.{Lines, Repo, Outpu
 use Rattle.smf_cfg.specs.Runs.{IsWhy}
 
 -- no line is ended by the reader
-pub why_undone : (reads : Error → Type 0) (stores : RepoFault → Type 0) (writes tells : Error → Type 0) (fault : RunFault) → IsWhy (λ _. ⊥) stores writes tells fault → IsWhy reads stores writes tells fault
+pub why_undone : (reads : Error → Type 0) (stores : RepoFault → Type 0) (writes tells : Error → Type 0)
+    (fault : RunFault) → IsWhy (λ _. ⊥) stores writes tells fault → IsWhy reads stores writes tells fault
 why_undone reads stores writes tells (Lines f) why = unread_by_none reads f why
 why_undone reads stores writes tells (Repo f) why = why
 why_undone reads stores writes tells (Output e) why = why

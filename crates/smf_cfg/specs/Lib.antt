@@ -1,3 +1,3 @@
 pub mod Sessions
 pub mod Runs
-pub mod Serving
+pub mod Outcomes

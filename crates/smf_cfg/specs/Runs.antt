@@ -2,12 +2,13 @@
 use Rattle.std.specs.Prelude.{◌≡◌, ◌⊎◌, ◌≤◌, ℕ, ◌+◌, List, [], ◌∷◌, ◌++◌, ◌&&◌, take, codes, Bool, true, false, if◌then◌else◌, Option, Some, None, Result, Ok, Err}
 use Rattle.std.specs.Io.KnownBytes.{Appends}
 use Rattle.std_io.specs.declared.io.error.Error.{Error}
-use Rattle.smf_lines.specs.Faults.{counted}
+use Rattle.smf_lines.specs.declared.limits.TheConstants.{MAX_LINES}
+use Rattle.smf_lines.specs.Faults.{count_after}
 use Rattle.smf_lines.specs.Faults as reads
-use Rattle.smf_lines.specs.Reading.{counts_of, text_in}
+use Rattle.smf_lines.specs.Lines.{counts_of, text_in}
 use Rattle.smf_model.specs.declared.journal.RepoFault.{RepoFault}
 use Rattle.smf_model.specs.declared.journal.RepoFault.TheVariants.{Memory}
-use Rattle.smf_model.specs.Holdings.{Holdings}
+use Rattle.smf_model.specs.Contents.{Holdings}
 use Rattle.smf_repo.specs.Refusals.{refusal}
 use Rattle.smf_svccfg.specs.declared.selection.Selection.{Selection}
 use Rattle.smf_svccfg.specs.declared.selection.Selection.TheVariants.{Nothing}
@@ -32,11 +33,11 @@ pub record Effect : Type 0 where
 abbrev pub fine : LineEnd
 fine = record { is_fine = true; has_ended = false }
 
-abbrev pub failed : LineEnd
-failed = record { is_fine = false; has_ended = false }
+abbrev pub failure_end : LineEnd
+failure_end = record { is_fine = false; has_ended = false }
 
-abbrev pub printed : AnyOutput → LineEnd
-printed output = record { is_fine = true; has_ended = output.has_ended }
+abbrev pub end_after_output : AnyOutput → LineEnd
+end_after_output output = record { is_fine = true; has_ended = output.has_ended }
 
 -- the name of a program, words, and the end of a line
 abbrev pub line_of : List ℕ → List ℕ → List ℕ
@@ -49,28 +50,28 @@ abbrev pub bad_line : List ℕ
 bad_line = line_of (codes "smf: ") (codes "bad line")
 
 abbrev pub fails_with : Place → List ℕ → Effect
-fails_with p text = record { left = p; out = []; errors = text; end = failed }
+fails_with p text = record { left = p; out = []; errors = text; end = failure_end }
 
-abbrev pub told : Option (List ℕ) → List ℕ
-told None = []
-told (Some words) = line_of svccfg_name words
+abbrev pub refusal_line : Option (List ℕ) → List ℕ
+refusal_line None = []
+refusal_line (Some words) = line_of svccfg_name words
 
 -- the message about a line that failed
-abbrev pub blamed : SessionFault → List ℕ
-blamed (line_faults.Line fault) = line_of svccfg_name (fault_text fault)
-blamed (line_faults.Refused reply) = told (refusal reply)
-blamed (line_faults.Repo fault) = []
+abbrev pub failure_text : SessionFault → List ℕ
+failure_text (line_faults.Line fault) = line_of svccfg_name (fault_text fault)
+failure_text (line_faults.Refused reply) = refusal_line (refusal reply)
+failure_text (line_faults.Repo fault) = []
 
 abbrev pub shown_by : Place → Result AnyOutput SessionFault → Effect
 shown_by p (Ok output) =
-    record { left = p; out = output.text; errors = []; end = printed output }
-shown_by p (Err fault) = fails_with p (blamed fault)
+    record { left = p; out = output.text; errors = []; end = end_after_output output }
+shown_by p (Err fault) = fails_with p (failure_text fault)
 
-abbrev pub shown : Done → Effect
-shown d = shown_by d.left d.given
+abbrev pub effect_of_result : Done → Effect
+effect_of_result d = shown_by d.left d.given
 
 abbrev pub effect_of_text : Place → List ℕ → Effect
-effect_of_text p text = shown (ran p text)
+effect_of_text p text = effect_of_result (ran p text)
 
 -- a line that is too long or no text is a bad one
 abbrev pub effect_of : Place → Option (List ℕ) → Effect
@@ -91,13 +92,13 @@ abbrev pub end_behind : LineEnd → LineEnd → LineEnd
 end_behind before after = record { is_fine = before.is_fine && after.is_fine; has_ended = after.has_ended }
 
 -- one effect, and another on what it left
-abbrev pub joined : Effect → Effect → Effect
-joined e f =
+abbrev pub effect_sequence : Effect → Effect → Effect
+effect_sequence e f =
     record { left = f.left; out = e.out ++ f.out; errors = e.errors ++ f.errors; end = end_behind e.end f.end }
 
 -- the effect of a line after that of those before it; a line after the end of the session does nothing
 abbrev pub line_on : Effect → List ℕ → Effect
-line_on e l = if e.end.has_ended then e else joined e (effect e.left l)
+line_on e l = if e.end.has_ended then e else effect_sequence e (effect e.left l)
 
 -- the effect of more lines after that of others, each on what those before it left
 unfoldable pub lines_on : Effect → List (List ℕ) → Effect
@@ -108,8 +109,8 @@ unfoldable pub run : Place → List (List ℕ) → Effect
 run p lines = lines_on (silent p) lines
 
 -- a run begins with nothing selected
-abbrev pub begun : Holdings → Place
-begun h = at h Nothing
+abbrev pub start_place : Holdings → Place
+start_place h = at h Nothing
 
 -- the status of a run: 1 if a line failed
 abbrev pub status_of : Bool → ℕ
@@ -118,11 +119,12 @@ status_of false = 1
 
 -- the most lines of a run
 abbrev pub max_lines : ℕ
-max_lines = 1000000
+max_lines = MAX_LINES
 
 -- a run came to its end: what is held and the status are what its lines give, and their texts and nothing else were
 -- written
-pub record Ends (e : Effect) (after : Holdings) (out_old out_new errors_old errors_new : Option (List ℕ)) (status : ℕ) : Type 0 where
+pub record Ends (e : Effect) (after : Holdings) (out_old out_new errors_old errors_new : Option (List ℕ))
+    (status : ℕ) : Type 0 where
   pub held : after ≡ e.left.held
   pub out : Appends out_old out_new e.out
   pub errors : Appends errors_old errors_new e.errors
@@ -135,17 +137,17 @@ pub record IsWithin (start : Place) (lines : List (List ℕ)) (before after : �
   pub whole : lines ≡ first ++ behind
   pub all : (behind ≡ []) ⊎ ((run start first).end.has_ended ≡ true)
   pub interrupted : ℕ
-  pub heard : after ≡ counted before interrupted
+  pub heard : after ≡ count_after before interrupted
   pub within : counts_of first + interrupted ≤ max_lines
 
 -- ---- faults
 
 -- too many lines are more than there may be
 abbrev pub IsPast : RunFault → ℕ → ℕ → Type 0
-IsPast (Lines fault) most counted = reads.IsPast fault most counted
-IsPast (Repo fault) most counted = Unit {0}
-IsPast (Output fault) most counted = Unit {0}
-IsPast (Errors fault) most counted = Unit {0}
+IsPast (Lines fault) most count_after = reads.IsPast fault most count_after
+IsPast (Repo fault) most count_after = Unit {0}
+IsPast (Output fault) most count_after = Unit {0}
+IsPast (Errors fault) most count_after = Unit {0}
 
 -- nothing is said of what a writer that failed has taken
 abbrev pub WroteOut : RunFault → Effect → Option (List ℕ) → Option (List ℕ) → Type 0
@@ -161,7 +163,8 @@ WroteErrors (Output fault) e old new = Appends old new e.errors
 WroteErrors (Errors fault) e old new = Unit {0}
 
 -- a run was ended by a fault: some of its lines were done, and their texts were written
-pub record Stops (fault : RunFault) (start : Place) (lines : List (List ℕ)) (after : Holdings) (out_old out_new errors_old errors_new : Option (List ℕ)) : Type 0 where
+pub record Stops (fault : RunFault) (start : Place) (lines : List (List ℕ)) (after : Holdings)
+    (out_old out_new errors_old errors_new : Option (List ℕ)) : Type 0 where
   pub first : List (List ℕ)
   pub behind : List (List ℕ)
   pub whole : lines ≡ first ++ behind
@@ -211,14 +214,16 @@ IsUnsaid fails (Lines fault) old new = ⊥
 IsUnsaid fails (Output e) old new = ⊥
 
 -- a line was done, and its texts were written
-pub record IsWritten (e : Effect) (after : Holdings) (selection : Selection) (out_old out_new errors_old errors_new : Option (List ℕ)) (end : LineEnd) : Type 0 where
+pub record IsWritten (e : Effect) (after : Holdings) (selection : Selection)
+    (out_old out_new errors_old errors_new : Option (List ℕ)) (end : LineEnd) : Type 0 where
   pub left : e.left ≡ at after selection
   pub out : Appends out_old out_new e.out
   pub errors : Appends errors_old errors_new e.errors
   pub flag : end ≡ e.end
 
 -- a line was ended by a fault of the repository or of a writer
-abbrev pub IsCut : RunFault → Effect → Holdings → Holdings → Option (List ℕ) → Option (List ℕ) → Option (List ℕ) → Option (List ℕ) → Type 0
+abbrev pub IsCut : RunFault → Effect → Holdings → Holdings → Option (List ℕ) → Option (List ℕ) → Option (List ℕ)
+    → Option (List ℕ) → Type 0
 IsCut (Repo fault) e before after out_old out_new errors_old errors_new =
     (after ≡ before) × (out_new ≡ out_old) × (errors_new ≡ errors_old)
 IsCut (Output fault) e before after out_old out_new errors_old errors_new =

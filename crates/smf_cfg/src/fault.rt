@@ -4,7 +4,7 @@ ghost use Rattle.smf_cfg.specs.declared.fault.RunFault.TheVariants as run_faults
 ghost use Rattle.smf_model.specs.declared.journal.RepoFault.TheVariants.{Memory};
 
 use smf_lines::ReadFault;
-use smf_model::{Reply, RepoFault};
+use smf_model::{CommandReply, RepoFault};
 use smf_svccfg::CfgFault;
 use std::alloc::AllocError;
 use std::io;
@@ -15,7 +15,7 @@ pub enum SessionFault {
     /// It is no line, or it is one that cannot be done with this selection.
     Line(CfgFault),
     /// The repository refused the edit.
-    Refused(Reply),
+    Refused(CommandReply),
     /// There was no reply.
     Repo(RepoFault),
 }

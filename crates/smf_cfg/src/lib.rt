@@ -4,13 +4,13 @@
 #![tactic(auto)]
 
 mod fault;
+mod outcomes;
 mod output;
 mod run;
-mod serving;
 mod session;
 
 pub use fault::{RunFault, SessionFault};
+pub use outcomes::{read_text, serve_cfg, tell};
 pub use output::{LineEnd, Output};
 pub use run::run_cfg;
-pub use serving::{read_text, serve_cfg, tell};
 pub use session::Session;

@@ -1,23 +1,23 @@
-ghost use Rattle.std.specs.Prelude.{◌≡◌, ◌≤◌, ◌++◌, IfErr, IfOk, IfSome, OnOk, string_bytes};
+ghost use Rattle.std.specs.Prelude.{◌≡◌, ◌≤◌, IfErr, IfOk, IfSome, OnOk, string_bytes};
 ghost use Rattle.std.specs.Io.KnownBytes.{Appends};
-ghost use Rattle.smf_cfg.specs.Runs.{Ends, IsCut, IsUnprinted, IsUnsaid, IsWhy, IsWithin, IsWritten, Stops, Tells, begun, blamed, effect, effect_of_text, failed, failed_in, line_of, printed, run, status_of};
+ghost use Rattle.smf_cfg.specs.Runs.{Ends, IsCut, IsUnprinted, IsUnsaid, IsWhy, IsWithin, IsWritten, Stops, Tells, start_place, failure_text, effect, effect_of_text, failure_end, failed_in, line_of, end_after_output, run, status_of};
 ghost use Rattle.smf_cfg.specs.Sessions.{at};
 ghost use Rattle.smf_cfg.specs.declared.fault.SessionFault.TheVariants as line_faults;
-ghost use Rattle.smf_lines.specs.Reading.{lines_of};
+ghost use Rattle.smf_lines.specs.Lines.{lines_of};
 ghost use Rattle.smf_repo.specs.Clients.{IsEditedAlone};
 
 use crate::fault::{RunFault, SessionFault};
 use crate::output::{LineEnd, Output};
 use crate::session::Session;
 use smf_lines::{LineReader, TextWriter, Turns, read_line, text_in};
-use smf_model::Reply;
+use smf_model::CommandReply;
 use smf_repo::{Client, refusal_text};
 use smf_svccfg::{CfgFault, fault_text};
 use std::alloc::{AllocError, Global};
 
 /// How a line ends that failed.
-fn failed() -> LineEnd
-    ensures { result ≡ failed }
+fn failure_end() -> LineEnd
+    ensures { result ≡ failure_end }
 {
     LineEnd {
         is_fine: false,
@@ -28,7 +28,7 @@ fn failed() -> LineEnd
 /// Writes what a line gave.
 fn print<W: TextWriter>(out: &mut W, output: &Output) -> Result<LineEnd, RunFault>
     ensures ok { OnOk result (Appends (W.contents out.old) (W.contents out.new) output.now.text) }
-    ensures end { IfOk result (λ end. end ≡ printed output.now) }
+    ensures end { IfOk result (λ end. end ≡ end_after_output output.now) }
     ensures fault { IfErr result (λ e. IsUnprinted W.write_fails e) }
 {
     match out.write_text(output.text.as_str().as_bytes()) {
@@ -58,12 +58,12 @@ fn complain<E: TextWriter>(
     words: &str,
 ) -> Result<LineEnd, RunFault>
     ensures ok { OnOk result (Appends (E.contents errors.old) (E.contents errors.new) (line_of program.now words.now)) }
-    ensures end { IfOk result (λ end. end ≡ failed) }
+    ensures end { IfOk result (λ end. end ≡ failure_end) }
     ensures err { IfErr result (λ e. IsUnsaid E.write_fails e (E.contents errors.old) (E.contents errors.new)) }
 {
     let line = line_of(alloc, program, words)?;
     match errors.write_text(line.as_bytes()) {
-        Ok(()) => Ok(failed()),
+        Ok(()) => Ok(failure_end()),
         Err(e) => Err(RunFault::Errors(e)),
     }
 }
@@ -74,8 +74,9 @@ fn blame_line<E: TextWriter>(
     errors: &mut E,
     fault: CfgFault,
 ) -> Result<LineEnd, RunFault>
-    ensures ok { OnOk result (Appends (E.contents errors.old) (E.contents errors.new) (blamed (line_faults.Line fault))) }
-    ensures end { IfOk result (λ end. end ≡ failed) }
+    ensures ok { OnOk result
+        (Appends (E.contents errors.old) (E.contents errors.new) (failure_text (line_faults.Line fault))) }
+    ensures end { IfOk result (λ end. end ≡ failure_end) }
     ensures err { IfErr result (λ e. IsUnsaid E.write_fails e (E.contents errors.old) (E.contents errors.new)) }
 {
     let words = fault_text(alloc, fault)?;
@@ -86,15 +87,16 @@ fn blame_line<E: TextWriter>(
 fn blame_refusal<E: TextWriter>(
     alloc: Global,
     errors: &mut E,
-    reply: &Reply,
+    reply: &CommandReply,
 ) -> Result<LineEnd, RunFault>
-    ensures ok { OnOk result (Appends (E.contents errors.old) (E.contents errors.new) (blamed (line_faults.Refused reply.now))) }
-    ensures end { IfOk result (λ end. end ≡ failed) }
+    ensures ok { OnOk result
+        (Appends (E.contents errors.old) (E.contents errors.new) (failure_text (line_faults.Refused reply.now))) }
+    ensures end { IfOk result (λ end. end ≡ failure_end) }
     ensures err { IfErr result (λ e. IsUnsaid E.write_fails e (E.contents errors.old) (E.contents errors.new)) }
 {
     match refusal_text(alloc, reply)? {
         Some(words) => complain(alloc, errors, "svccfg: ", words.as_str()),
-        None => Ok(failed()),
+        None => Ok(failure_end()),
     }
 }
 
@@ -108,8 +110,13 @@ fn do_text<C: Client, W: TextWriter, E: TextWriter>(
     errors: &mut E,
     text: &str,
 ) -> Result<LineEnd, RunFault>
-    ensures ok { IfOk result (λ end. IsWritten (effect_of_text (at (C.held client.old) session.old) text.now) (C.held client.new) session.new (W.contents out.old) (W.contents out.new) (E.contents errors.old) (E.contents errors.new) end) }
-    ensures err { IfErr result (λ e. IsCut e (effect_of_text (at (C.held client.old) session.old) text.now) (C.held client.old) (C.held client.new) (W.contents out.old) (W.contents out.new) (E.contents errors.old) (E.contents errors.new)) }
+    ensures ok { IfOk result
+        (λ end. IsWritten (effect_of_text (at (C.held client.old) session.old) text.now)
+        (C.held client.new) session.new (W.contents out.old) (W.contents out.new) (E.contents errors.old)
+        (E.contents errors.new) end) }
+    ensures err { IfErr result
+        (λ e. IsCut e (effect_of_text (at (C.held client.old) session.old) text.now) (C.held client.old)
+        (C.held client.new) (W.contents out.old) (W.contents out.new) (E.contents errors.old) (E.contents errors.new)) }
     ensures edits { IsEditedAlone C.held C.follows client.old client.new }
     ensures fault { IfErr result (λ e. IsWhy (λ _. ⊥) C.edit_fails W.write_fails E.write_fails e) }
 {
@@ -131,8 +138,12 @@ fn do_line<C: Client, W: TextWriter, E: TextWriter>(
     errors: &mut E,
     line: &[u8],
 ) -> Result<LineEnd, RunFault>
-    ensures ok { IfOk result (λ end. IsWritten (effect (at (C.held client.old) session.old) line.now) (C.held client.new) session.new (W.contents out.old) (W.contents out.new) (E.contents errors.old) (E.contents errors.new) end) }
-    ensures err { IfErr result (λ e. IsCut e (effect (at (C.held client.old) session.old) line.now) (C.held client.old) (C.held client.new) (W.contents out.old) (W.contents out.new) (E.contents errors.old) (E.contents errors.new)) }
+    ensures ok { IfOk result
+        (λ end. IsWritten (effect (at (C.held client.old) session.old) line.now) (C.held client.new) session.new
+        (W.contents out.old) (W.contents out.new) (E.contents errors.old) (E.contents errors.new) end) }
+    ensures err { IfErr result
+        (λ e. IsCut e (effect (at (C.held client.old) session.old) line.now) (C.held client.old) (C.held client.new)
+        (W.contents out.old) (W.contents out.new) (E.contents errors.old) (E.contents errors.new)) }
     ensures edits { IsEditedAlone C.held C.follows client.old client.new }
     ensures fault { IfErr result (λ e. IsWhy (λ _. ⊥) C.edit_fails W.write_fails E.write_fails e) }
 {
@@ -159,13 +170,13 @@ pub fn run_cfg<R: LineReader, W: TextWriter, E: TextWriter, C: Client>(
 ) -> Result<u8, RunFault>
     // If the bytes are known, the holdings, the written texts and the status are those of all lines.
     ensures ok { IfOk result (λ status. IfSome (R.remaining reader.old) (λ input.
-        Ends (run (begun (C.held client.old)) (lines_of input)) (C.held client.new) (W.contents out.old) (W.contents out.new) (E.contents errors.old) (E.contents errors.new) status)) }
+        Ends (run (start_place (C.held client.old)) (lines_of input)) (C.held client.new) (W.contents out.old) (W.contents out.new) (E.contents errors.old) (E.contents errors.new) status)) }
     ensures exit { IfOk result (λ status. status ≤ 1) }
     ensures few { IfOk result (λ status. IfSome (R.remaining reader.old) (λ input.
-        IsWithin (begun (C.held client.old)) (lines_of input) (R.interrupted reader.old) (R.interrupted reader.new))) }
+        IsWithin (start_place (C.held client.old)) (lines_of input) (R.interrupted reader.old) (R.interrupted reader.new))) }
     // If they are known, some of the lines were done, and their texts were written.
     ensures err { IfErr result (λ fault. IfSome (R.remaining reader.old) (λ input.
-        Stops fault (begun (C.held client.old)) (lines_of input) (C.held client.new) (W.contents out.old) (W.contents out.new) (E.contents errors.old) (E.contents errors.new))) }
+        Stops fault (start_place (C.held client.old)) (lines_of input) (C.held client.new) (W.contents out.old) (W.contents out.new) (E.contents errors.old) (E.contents errors.new))) }
     // Edits were given to the client, and nothing else was done to it.
     ensures edits { IsEditedAlone C.held C.follows client.old client.new }
     ensures fault { IfErr result (λ e. IsWhy R.read_fails C.edit_fails W.write_fails E.write_fails e) }

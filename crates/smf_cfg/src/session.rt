@@ -1,17 +1,17 @@
 ghost use Rattle.std.specs.Prelude.{◌≡◌, ◌⊎◌, [], IfErr, IfOk, OnErr, Ok};
-ghost use Rattle.smf_cfg.specs.Sessions.{IsDone, HasFollowed, IsFault, IsGivenOr, IsGivenTo, IsUndone, at, carried, edited, ended, ran, said};
+ghost use Rattle.smf_cfg.specs.Sessions.{IsDone, HasFollowed, IsFault, IsGivenOr, IsGivenTo, IsUndone, at, result_of_judgement, result_of_edit, output_at_end, ran, output_of_text};
 ghost use Rattle.smf_model.specs.declared.command.Command.TheVariants as commands;
 ghost use Rattle.smf_model.specs.declared.journal.RepoFault.TheVariants.{Memory};
 ghost use Rattle.smf_model.specs.Laws.{is_refusal};
 ghost use Rattle.smf_model.specs.Next.{next};
 ghost use Rattle.smf_repo.specs.Clients.{IsEditedAlone};
-ghost use Rattle.smf_svccfg.specs.Judged.{judged};
+ghost use Rattle.smf_svccfg.specs.Judged.{judgement_of};
 ghost use Rattle.smf_svccfg.specs.declared.selection.Selection.TheVariants as selected;
 
 use crate::fault::SessionFault;
 use crate::output::Output;
 use smf_fmri::Text;
-use smf_model::{Edit, Reply, RepoFault};
+use smf_model::{CommandReply, Edit, RepoFault};
 use smf_repo::Client;
 use smf_svccfg::{CfgFault, Judged, Selection, judge};
 use std::alloc::Global;
@@ -31,20 +31,20 @@ impl Model for Session {
     ghost view = { λ s. s.selection };
 }
 
-fn is_refusal(reply: &Reply) -> bool
+fn is_refusal(reply: &CommandReply) -> bool
     ensures { result ≡ is_refusal reply.now }
 {
     match reply {
-        Reply::Made(_) => false,
-        Reply::Granted(_) => false,
-        Reply::Done => false,
+        CommandReply::Made(_) => false,
+        CommandReply::Granted(_) => false,
+        CommandReply::Done => false,
         _ => true,
     }
 }
 
 /// A line that printed this, and after which the session goes on.
-fn said(text: Text) -> Output
-    ensures { result ≡ said text }
+fn output_of_text(text: Text) -> Output
+    ensures { result ≡ output_of_text text }
 {
     Output {
         text,
@@ -53,9 +53,9 @@ fn said(text: Text) -> Output
 }
 
 /// The end of the session.
-fn ended(text: Text) -> Output
+fn output_at_end(text: Text) -> Output
     requires { text ≡ [] }
-    ensures { result ≡ ended }
+    ensures { result ≡ output_at_end }
 {
     Output {
         text,
@@ -64,7 +64,7 @@ fn ended(text: Text) -> Output
 }
 
 /// Gives an edit to the client.
-fn apply<C: Client>(client: &mut C, edit: Edit) -> Result<Reply, RepoFault>
+fn apply<C: Client>(client: &mut C, edit: Edit) -> Result<CommandReply, RepoFault>
     ensures exact { IfOk result (λ reply. next (C.held client.old) (commands.Edit edit) ≡ (C.held client.new, reply)) }
     ensures err { OnErr result (C.held client.new ≡ C.held client.old) }
     ensures follows { C.follows client.old edit result client.new }
@@ -75,7 +75,7 @@ fn apply<C: Client>(client: &mut C, edit: Edit) -> Result<Reply, RepoFault>
 }
 
 /// Gives an edit to the client. If the edit is accepted, `after` becomes the selection.
-#[tactic(auto, unfolding(crate::specs::Sessions::edited))]
+#[tactic(auto, unfolding(crate::specs::Sessions::result_of_edit))]
 fn give<C: Client>(
     alloc: Global,
     client: &mut C,
@@ -83,8 +83,12 @@ fn give<C: Client>(
     edit: Edit,
     after: Selection,
 ) -> Result<Output, SessionFault>
-    ensures ok { IfOk result (λ output. IsDone (edited (at (C.held client.old) selection.old) edit after) (C.held client.new) selection.new (Ok output)) }
-    ensures err { IfErr result (λ e. IsUndone (edited (at (C.held client.old) selection.old) edit after) (C.held client.new) selection.new e) }
+    ensures ok { IfOk result
+        (λ output. IsDone (result_of_edit (at (C.held client.old) selection.old) edit after)
+        (C.held client.new) selection.new (Ok output)) }
+    ensures err { IfErr result
+        (λ e. IsUndone (result_of_edit (at (C.held client.old) selection.old) edit after)
+        (C.held client.new) selection.new e) }
     ensures kept { OnErr result (C.held client.new ≡ C.held client.old) }
     ensures unselected { OnErr result (selection.new ≡ selection.old) }
     ensures given { HasFollowed C.follows client.old edit client.new result }
@@ -96,19 +100,23 @@ fn give<C: Client>(
         return Err(SessionFault::Refused(reply));
     }
     *selection = after;
-    Ok(said(Text::from_string(String::new(alloc))))
+    Ok(output_of_text(Text::from_string(String::new(alloc))))
 }
 
 /// Carries out what a line was judged to be.
-#[tactic(auto, unfolding(crate::specs::Sessions::carried))]
+#[tactic(auto, unfolding(crate::specs::Sessions::result_of_judgement))]
 fn carry_out<C: Client>(
     alloc: Global,
     client: &mut C,
     selection: &mut Selection,
     judged: Judged,
 ) -> Result<Output, SessionFault>
-    ensures ok { IfOk result (λ output. IsDone (carried (at (C.held client.old) selection.old) (Ok judged)) (C.held client.new) selection.new (Ok output)) }
-    ensures err { IfErr result (λ e. IsUndone (carried (at (C.held client.old) selection.old) (Ok judged)) (C.held client.new) selection.new e) }
+    ensures ok { IfOk result
+        (λ output. IsDone (result_of_judgement (at (C.held client.old) selection.old) (Ok judged))
+        (C.held client.new) selection.new (Ok output)) }
+    ensures err { IfErr result
+        (λ e. IsUndone (result_of_judgement (at (C.held client.old) selection.old) (Ok judged))
+        (C.held client.new) selection.new e) }
     ensures kept { OnErr result (C.held client.new ≡ C.held client.old) }
     ensures unselected { OnErr result (selection.new ≡ selection.old) }
     ensures given { IsGivenTo C.follows (Ok judged) client.old client.new result }
@@ -116,16 +124,16 @@ fn carry_out<C: Client>(
     ensures fault { IfErr result (λ e. IsFault C.edit_fails e) }
 {
     match judged {
-        Judged::Nothing => Ok(said(Text::from_string(String::new(alloc)))),
+        Judged::Nothing => Ok(output_of_text(Text::from_string(String::new(alloc)))),
         Judged::Select(found) => {
             *selection = found;
-            Ok(said(Text::from_string(String::new(alloc))))
+            Ok(output_of_text(Text::from_string(String::new(alloc))))
         }
         Judged::Edit(edit, after) => give(alloc, client, selection, edit, after),
-        Judged::Print(text) => Ok(said(text)),
+        Judged::Print(text) => Ok(output_of_text(text)),
         Judged::End => {
             *selection = Selection::Nothing;
-            Ok(ended(Text::from_string(String::new(alloc))))
+            Ok(output_at_end(Text::from_string(String::new(alloc))))
         }
     }
 }
@@ -141,7 +149,7 @@ impl Session {
     }
 
     /// Does a line, which stands without its end.
-    #[tactic(auto, unfolding(crate::specs::Sessions::ran, crate::specs::Sessions::carried))]
+    #[tactic(auto, unfolding(crate::specs::Sessions::ran, crate::specs::Sessions::result_of_judgement))]
     pub fn run_line<C: Client>(
         &mut self,
         alloc: Global,
@@ -149,13 +157,17 @@ impl Session {
         line: &str,
     ) -> Result<Output, SessionFault>
         // The holdings and the selection after the line, and its output.
-        ensures ok { IfOk result (λ output. IsDone (ran (at (C.held client.old) self.old) line.now) (C.held client.new) self.new (Ok output)) }
+        ensures ok { IfOk result
+            (λ output. IsDone (ran (at (C.held client.old) self.old) line.now) (C.held client.new) self.new
+            (Ok output)) }
         // A line that failed did so for its reason, unless it had no reply, and changed nothing.
-        ensures err { IfErr result (λ e. IsUndone (ran (at (C.held client.old) self.old) line.now) (C.held client.new) self.new e) }
+        ensures err { IfErr result
+            (λ e. IsUndone (ran (at (C.held client.old) self.old) line.now) (C.held client.new) self.new e) }
         ensures kept { OnErr result (C.held client.new ≡ C.held client.old) }
         ensures unselected { OnErr result (self.new ≡ self.old) }
         // The client was given the edit that the line is judged to be, unless memory ran out, and nothing else.
-        ensures given { IsGivenOr C.follows (judged (C.held client.old) self.old line.now) client.old client.new result }
+        ensures given { IsGivenOr C.follows (judgement_of (C.held client.old) self.old line.now) client.old client.new
+            result }
         ensures edits { IsEditedAlone C.held C.follows client.old client.new }
         ensures fault { IfErr result (λ e. IsFault C.edit_fails e) }
     {

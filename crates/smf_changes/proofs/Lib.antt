@@ -1,8 +1,8 @@
 pub mod Sameness
-pub mod Merging
-pub mod Patching
-pub mod Touching
-pub mod Entering
-pub mod Waiting
+pub mod Merges
+pub mod Patches
+pub mod Touches
+pub mod Numbers
+pub mod SnapshotBounds
 pub mod Owned
-pub mod Recording
+pub mod Records

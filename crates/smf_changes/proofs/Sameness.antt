@@ -4,7 +4,7 @@ use Rattle.std.specs.Bool.{Decides}
 use Rattle.std.specs.Cmp.{booleans_Decides}
 use Rattle.std.specs.Option.{option_eq}
 use Rattle.std.proofs.lemmas.Bool.Decides.{Decides-and, Decides-eqb, Decides-like}
-use Rattle.smf_fmri.proofs.Matching.{same_text as text_is}
+use Rattle.smf_fmri.proofs.Patterns.{same_text as text_is}
 use Rattle.smf_state.specs.declared.row.Row.{Row}
 use Rattle.smf_state.specs.declared.state.Cause.{Cause}
 use Rattle.smf_state.specs.declared.state.Cause.TheVariants.{Error, NonError, Admin, Config}
@@ -21,7 +21,8 @@ use Rattle.smf_changes.specs.Same.{same_cause, same_duration, same_item, same_ma
 inside : {X : Type 0} (x y : X) → Some x ≡ Some y → x ≡ y
 inside x y e = cc
 
-pub option_is : {X : Type 0} (same : X → X → Bool) → ((x y : X) → Decides (same x y) (x ≡ y)) → (o p : Option X) → Decides (option_eq same o p) (o ≡ p)
+pub option_is : {X : Type 0} (same : X → X → Bool) → ((x y : X) → Decides (same x y) (x ≡ y)) → (o p : Option X)
+    → Decides (option_eq same o p) (o ≡ p)
 option_is same decides None None = (λ e. refl, λ e. refl)
 option_is same decides None (Some y) = (λ e. absurd cc, λ e. absurd cc)
 option_is same decides (Some x) None = (λ e. absurd cc, λ e. absurd cc)
@@ -96,24 +97,51 @@ duration_is Child Child = (λ e. refl, λ e. refl)
 
 -- both rows have the same owner, number, state, next state and asks
 abbrev IsSameStanding : Row → Row → Type 0
-IsSameStanding a b = ((((a.owner ≡ b.owner) × (a.number ≡ b.number)) × (a.state ≡ b.state)) × (a.next ≡ b.next)) × (a.asks.0 ≡ b.asks.0)
+IsSameStanding a b = ((((a.owner ≡ b.owner) × (a.number ≡ b.number)) × (a.state ≡ b.state)) × (a.next ≡ b.next))
+    × (a.asks.0 ≡ b.asks.0)
 
 standing_is : (a b : Row) → Decides (same_standing a b) (IsSameStanding a b)
-standing_is a b = Decides-and _ _ (Decides-and _ _ (Decides-and _ _ (Decides-and _ _ (text_is a.owner b.owner) (Decides-eqb a.number b.number)) (state_is a.state b.state)) (option_is same_state state_is a.next b.next)) (Decides-eqb a.asks.0 b.asks.0)
+standing_is a b =
+    Decides-and _ _
+    (Decides-and _ _
+    (Decides-and _ _ (Decides-and _ _ (text_is a.owner b.owner) (Decides-eqb a.number b.number))
+    (state_is a.state b.state)) (option_is same_state state_is a.next b.next)) (Decides-eqb a.asks.0 b.asks.0)
 
 -- its runs
 abbrev AreSameRuns : Row → Row → Type 0
-AreSameRuns a b = ((((((a.live ≡ b.live) × (a.side ≡ b.side)) × (a.last ≡ b.last)) × (a.failed ≡ b.failed)) × (a.cause ≡ b.cause)) × (a.duration ≡ b.duration)) × (a.ignore ≡ b.ignore)
+AreSameRuns a b =
+    ((((((a.live ≡ b.live) × (a.side ≡ b.side)) × (a.last ≡ b.last)) × (a.failed ≡ b.failed)) × (a.cause ≡ b.cause))
+    × (a.duration ≡ b.duration)) × (a.ignore ≡ b.ignore)
 
 runs_are : (a b : Row) → Decides (same_runs a b) (AreSameRuns a b)
-runs_are a b = Decides-and _ _ (Decides-and _ _ (Decides-and _ _ (Decides-and _ _ (Decides-and _ _ (Decides-and _ _ (option_is nat_eq Decides-eqb a.live b.live) (option_is nat_eq Decides-eqb a.side b.side)) (Decides-eqb a.last b.last)) (Decides-eqb a.failed b.failed)) (option_is same_cause cause_is a.cause b.cause)) (duration_is a.duration b.duration)) (Decides-eqb a.ignore b.ignore)
+runs_are a b =
+    Decides-and _ _
+    (Decides-and _ _
+    (Decides-and _ _
+    (Decides-and _ _
+    (Decides-and _ _
+    (Decides-and _ _ (option_is nat_eq Decides-eqb a.live b.live) (option_is nat_eq Decides-eqb a.side b.side))
+    (Decides-eqb a.last b.last)) (Decides-eqb a.failed b.failed)) (option_is same_cause cause_is a.cause b.cause))
+    (duration_is a.duration b.duration)) (Decides-eqb a.ignore b.ignore)
 
 -- the revisions and numbers that it keeps
 abbrev AreSameMarks : Row → Row → Type 0
-AreSameMarks a b = ((((((((a.base ≡ b.base) × (a.err ≡ b.err)) × (a.stop ≡ b.stop)) × (a.refresh ≡ b.refresh)) × (a.start ≡ b.start)) × (a.running ≡ b.running)) × (a.begun ≡ b.begun)) × (a.launch ≡ b.launch)) × (a.serial ≡ b.serial)
+AreSameMarks a b =
+    ((((((((a.base ≡ b.base) × (a.err ≡ b.err)) × (a.stop ≡ b.stop)) × (a.refresh ≡ b.refresh)) × (a.start ≡ b.start))
+    × (a.running ≡ b.running)) × (a.begun ≡ b.begun)) × (a.launch ≡ b.launch)) × (a.serial ≡ b.serial)
 
 marks_are : (a b : Row) → Decides (same_marks a b) (AreSameMarks a b)
-marks_are a b = Decides-and _ _ (Decides-and _ _ (Decides-and _ _ (Decides-and _ _ (Decides-and _ _ (Decides-and _ _ (Decides-and _ _ (Decides-and _ _ (Decides-eqb a.base b.base) (Decides-eqb a.err b.err)) (Decides-eqb a.stop b.stop)) (Decides-eqb a.refresh b.refresh)) (Decides-eqb a.start b.start)) (option_is nat_eq Decides-eqb a.running b.running)) (option_is nat_eq Decides-eqb a.begun b.begun)) (Decides-eqb a.launch b.launch)) (Decides-eqb a.serial b.serial)
+marks_are a b =
+    Decides-and _ _
+    (Decides-and _ _
+    (Decides-and _ _
+    (Decides-and _ _
+    (Decides-and _ _
+    (Decides-and _ _
+    (Decides-and _ _ (Decides-and _ _ (Decides-eqb a.base b.base) (Decides-eqb a.err b.err))
+    (Decides-eqb a.stop b.stop)) (Decides-eqb a.refresh b.refresh)) (Decides-eqb a.start b.start))
+    (option_is nat_eq Decides-eqb a.running b.running)) (option_is nat_eq Decides-eqb a.begun b.begun))
+    (Decides-eqb a.launch b.launch)) (Decides-eqb a.serial b.serial)
 
 abbrev AreSameRows : Row → Row → Type 0
 AreSameRows a b = (IsSameStanding a b × AreSameRuns a b) × AreSameMarks a b
@@ -146,29 +174,92 @@ row_from a b t = λ j. record {
 row_to : (a b : Row) → a ≡ b → AreSameRows a b
 row_to a b e = (
   (
-    ((((ap (λ (r : Row). r.owner) e, ap (λ (r : Row). r.number) e), ap (λ (r : Row). r.state) e), ap (λ (r : Row). r.next) e), ap (λ (r : Row). r.asks.0) e),
-    ((((((ap (λ (r : Row). r.live) e, ap (λ (r : Row). r.side) e), ap (λ (r : Row). r.last) e), ap (λ (r : Row). r.failed) e), ap (λ (r : Row). r.cause) e), ap (λ (r : Row). r.duration) e), ap (λ (r : Row). r.ignore) e),
+    (
+      (
+        ((ap (λ (r : Row). r.owner) e, ap (λ (r : Row). r.number) e), ap (λ (r : Row). r.state) e),
+        ap (λ (r : Row). r.next) e,
+      ),
+      ap (λ (r : Row). r.asks.0) e,
+    ),
+    (
+      (
+        (
+          (
+            ((ap (λ (r : Row). r.live) e, ap (λ (r : Row). r.side) e), ap (λ (r : Row). r.last) e),
+            ap (λ (r : Row). r.failed) e,
+          ),
+          ap (λ (r : Row). r.cause) e,
+        ),
+        ap (λ (r : Row). r.duration) e,
+      ),
+      ap (λ (r : Row). r.ignore) e,
+    ),
   ),
-  ((((((((ap (λ (r : Row). r.base) e, ap (λ (r : Row). r.err) e), ap (λ (r : Row). r.stop) e), ap (λ (r : Row). r.refresh) e), ap (λ (r : Row). r.start) e), ap (λ (r : Row). r.running) e), ap (λ (r : Row). r.begun) e), ap (λ (r : Row). r.launch) e), ap (λ (r : Row). r.serial) e),
+  (
+    (
+      (
+        (
+          (
+            (
+              ((ap (λ (r : Row). r.base) e, ap (λ (r : Row). r.err) e), ap (λ (r : Row). r.stop) e),
+              ap (λ (r : Row). r.refresh) e,
+            ),
+            ap (λ (r : Row). r.start) e,
+          ),
+          ap (λ (r : Row). r.running) e,
+        ),
+        ap (λ (r : Row). r.begun) e,
+      ),
+      ap (λ (r : Row). r.launch) e,
+    ),
+    ap (λ (r : Row). r.serial) e,
+  ),
 )
 
 pub row_is : (a b : Row) → Decides (same_row a b) (a ≡ b)
-row_is a b = Decides-like _ (row_from a b) (row_to a b) (Decides-and _ _ (Decides-and _ _ (standing_is a b) (runs_are a b)) (marks_are a b))
+row_is a b = Decides-like _ (row_from a b) (row_to a b)
+    (Decides-and _ _ (Decides-and _ _ (standing_is a b) (runs_are a b)) (marks_are a b))
 
 -- ---- the whole
 
 abbrev AreSameItems : ViewItem → ViewItem → Type 0
-AreSameItems a b = (((((a.instance ≡ b.instance) × (a.name ≡ b.name)) × (a.enabled ≡ b.enabled)) × (a.readable ≡ b.readable)) × (a.row ≡ b.row)) × (a.body ≡ b.body)
+AreSameItems a b =
+    (((((a.instance ≡ b.instance) × (a.name ≡ b.name)) × (a.enabled ≡ b.enabled)) × (a.readable ≡ b.readable))
+    × (a.row ≡ b.row)) × (a.body ≡ b.body)
 
 item_from : (a b : ViewItem) → AreSameItems a b → a ≡ b
-item_from a b t = λ j. record { instance = t.0.0.0.0.0 j; name = t.0.0.0.0.1 j; enabled = t.0.0.0.1 j; readable = t.0.0.1 j; row = t.0.1 j; body = t.1 j }
+item_from a b t =
+    λ j. record {
+      instance = t.0.0.0.0.0 j;
+      name = t.0.0.0.0.1 j;
+      enabled = t.0.0.0.1 j;
+      readable = t.0.0.1 j;
+      row = t.0.1 j;
+      body = t.1 j;
+    }
 
 item_to : (a b : ViewItem) → a ≡ b → AreSameItems a b
-item_to a b e = (((((ap (λ (x : ViewItem). x.instance) e, ap (λ (x : ViewItem). x.name) e), ap (λ (x : ViewItem). x.enabled) e), ap (λ (x : ViewItem). x.readable) e), ap (λ (x : ViewItem). x.row) e), ap (λ (x : ViewItem). x.body) e)
+item_to a b e = (
+  (
+    (
+      ((ap (λ (x : ViewItem). x.instance) e, ap (λ (x : ViewItem). x.name) e), ap (λ (x : ViewItem). x.enabled) e),
+      ap (λ (x : ViewItem). x.readable) e,
+    ),
+    ap (λ (x : ViewItem). x.row) e,
+  ),
+  ap (λ (x : ViewItem). x.body) e,
+)
 
 pub item_is : (a b : ViewItem) → Decides (same_item a b) (a ≡ b)
 unfolding same_item
-item_is a b = Decides-like _ (item_from a b) (item_to a b) (Decides-and _ _ (Decides-and _ _ (Decides-and _ _ (Decides-and _ _ (Decides-and _ _ (Decides-eqb a.instance b.instance) (text_is a.name b.name)) (booleans_Decides a.enabled b.enabled)) (booleans_Decides a.readable b.readable)) (row_is a.row b.row)) (option_is same_text text_is a.body b.body))
+item_is a b =
+    Decides-like _ (item_from a b) (item_to a b)
+    (Decides-and _ _
+    (Decides-and _ _
+    (Decides-and _ _
+    (Decides-and _ _ (Decides-and _ _ (Decides-eqb a.instance b.instance) (text_is a.name b.name))
+    (booleans_Decides a.enabled b.enabled)) (booleans_Decides a.readable b.readable)) (row_is a.row b.row))
+    (option_is same_text text_is a.body b.body))
 
 pub items_are : (o p : Option ViewItem) → Decides (option_eq same_item o p) (o ≡ p)
 items_are o p = option_is same_item item_is o p

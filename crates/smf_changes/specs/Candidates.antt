@@ -8,10 +8,10 @@ use Rattle.smf_model.specs.declared.held.Instance.{Instance}
 use Rattle.smf_model.specs.declared.held.Owner.{Owner}
 use Rattle.smf_model.specs.declared.held.Owner.TheVariants as owners
 use Rattle.smf_model.specs.declared.held.Snapshot.{Snapshot}
-use Rattle.smf_model.specs.Holdings.{Holdings}
+use Rattle.smf_model.specs.Contents.{Holdings}
 use Rattle.smf_model.specs.Look.{group_in, groups_of, instance, instances, is_snapshot_of, snapshot}
 use Rattle.smf_model.specs.Next.{is_instance_of, named_snapshot}
-use Rattle.smf_model.specs.Setting.{general}
+use Rattle.smf_model.specs.GeneralGroup.{general}
 use Rattle.smf_value.specs.Groups.{GroupRecord}
 use Rattle.smf_changes.specs.Changes.{by_itself, has_changed}
 use Rattle.smf_laws.specs.Consistent.{IsOwn}

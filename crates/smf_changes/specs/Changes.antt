@@ -2,13 +2,14 @@
 use Rattle.std.specs.Prelude.{◌≡◌, ◌⊎◌, ℕ, ◌+◌, ◌-◌, ◌<◌, ◌||◌, not, nat_lt, List, [], ◌∷◌, length, map, filter, take}
 use Rattle.std.specs.Prelude.{Bool, true, false, if◌then◌else◌, Option, Some, None}
 use Rattle.std.specs.Option.{option_eq}
+use Rattle.smf_fmri.specs.declared.limits.TheConstants.{MOST_RECENT}
 use Rattle.smf_fmri.specs.ByKey.{By, by_number, lookup, put_all}
 use Rattle.smf_state.specs.declared.view.ChangedItem.{ChangedItem}
 use Rattle.smf_state.specs.declared.view.ViewItem.{ViewItem}
-use Rattle.smf_state.specs.Patched.{by_item, patched}
+use Rattle.smf_state.specs.Patched.{by_item, view_after_changes}
 use Rattle.smf_model.specs.declared.command.Command.{Command}
-use Rattle.smf_model.specs.History.{is_revised, made}
-use Rattle.smf_model.specs.Holdings.{Holdings}
+use Rattle.smf_model.specs.History.{is_revised, holdings_after_commands}
+use Rattle.smf_model.specs.Contents.{Holdings}
 use Rattle.smf_model.specs.Look.{instances}
 use Rattle.smf_model.specs.Shown.{view, view_item}
 use Rattle.smf_changes.specs.Same.{same_item}
@@ -34,12 +35,12 @@ abbrev pub has_changed : Holdings → Holdings → ℕ → Bool
 has_changed h k n = not (option_eq same_item (item h n) (item k n))
 
 -- the numbers, rising, whose view items differ: made, changed or gone
-unfoldable pub touched : Holdings → Holdings → List ℕ
-touched h k = filter (has_changed h k) (put_all by_itself (numbers h) (numbers k))
+unfoldable pub touched_numbers : Holdings → Holdings → List ℕ
+touched_numbers h k = filter (has_changed h k) (put_all by_itself (numbers h) (numbers k))
 
 -- the newest lists alone are kept
 abbrev pub most_recent : ℕ
-most_recent = 256
+most_recent = MOST_RECENT
 
 abbrev pub with_newest : Bool → List ℕ → List (List ℕ) → List (List ℕ)
 with_newest true ns nss = take most_recent (ns ∷ nss)
@@ -49,7 +50,8 @@ with_newest false ns nss = nss
 unfoldable pub recent : Holdings → List Command → List (List ℕ)
 recent h [] = []
 recent h (c ∷ cs) =
-    with_newest (is_revised (made h cs) (made h (c ∷ cs))) (touched (made h cs) (made h (c ∷ cs))) (recent h cs)
+    with_newest (is_revised (holdings_after_commands h cs) (holdings_after_commands h (c ∷ cs)))
+    (touched_numbers (holdings_after_commands h cs) (holdings_after_commands h (c ∷ cs))) (recent h cs)
 
 -- ---- the changes since a revision
 
@@ -76,7 +78,7 @@ changes_since nss h from =
 -- with the changes since its revision, the view of one value is that of a newer one
 abbrev pub IsPatched : List (List ℕ) → Holdings → Holdings → ℕ → List ChangedItem → Type 0
 IsPatched nss v u to cs =
-    changes_since nss u v.revision ≡ Some (to, cs) → (to ≡ u.revision) × (patched (view v) to cs ≡ view u)
+    changes_since nss u v.revision ≡ Some (to, cs) → (to ≡ u.revision) × (view_after_changes (view v) to cs ≡ view u)
 
 -- a revision is to come, or too old, or before the first value
 abbrev pub IsBeyond : Holdings → Holdings → ℕ → Type 0

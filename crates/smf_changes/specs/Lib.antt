@@ -3,4 +3,4 @@ pub mod Changes
 pub mod Candidates
 pub mod Recorded
 pub mod Owned
-pub mod Keeping
+pub mod ChangeRecord

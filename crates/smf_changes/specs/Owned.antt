@@ -6,10 +6,10 @@ use Rattle.smf_state.specs.declared.row.Row.{Row}
 use Rattle.smf_model.specs.declared.change.Change.{Change}
 use Rattle.smf_model.specs.declared.change.Change.TheVariants.{AddInstance, PutInstance}
 use Rattle.smf_model.specs.declared.held.InstanceEntry.{InstanceEntry}
-use Rattle.smf_model.specs.Holdings.{Holdings}
+use Rattle.smf_model.specs.Contents.{Holdings}
 use Rattle.smf_model.specs.Look.{groups_of}
-use Rattle.smf_model.specs.Setting.{current}
-use Rattle.smf_changes.specs.declared.owning.Owners.{Owners}
+use Rattle.smf_model.specs.GeneralGroup.{current}
+use Rattle.smf_changes.specs.declared.row_owners.Owners.{Owners}
 
 -- a name is among names
 abbrev pub is_among : List (List ℕ) → List ℕ → Bool
@@ -76,4 +76,5 @@ puts_numbered_all all (c ∷ cs) = puts_numbered_all (puts_numbered all (put_row
 
 -- the owner of each instance that is held, as it is read, is among names
 abbrev pub HasOwnersAmong : List (List ℕ) → Holdings → Type 0
-HasOwnersAmong names h = AllByRecursion (λ e. is_among names (current (groups_of h) e.instance).row.owner ≡ true) h.instances
+HasOwnersAmong names h =
+    AllByRecursion (λ e. is_among names (current (groups_of h) e.instance).row.owner ≡ true) h.instances

@@ -4,13 +4,13 @@ use Rattle.std.specs.Option.{option_eq}
 use Rattle.smf_fmri.specs.ByKey.{put_all}
 use Rattle.smf_state.specs.declared.view.ChangedItem.{ChangedItem}
 use Rattle.smf_state.specs.declared.view.View.{View}
-use Rattle.smf_state.specs.Patched.{patched}
+use Rattle.smf_state.specs.Patched.{view_after_changes}
 use Rattle.smf_model.specs.declared.change.Change.{Change}
-use Rattle.smf_model.specs.Holdings.{Holdings}
-use Rattle.smf_model.specs.Look.{installed}
+use Rattle.smf_model.specs.Contents.{Holdings}
+use Rattle.smf_model.specs.Look.{holdings_after_changes}
 use Rattle.smf_model.specs.Shown.{view}
 use Rattle.smf_changes.specs.Candidates.{candidates}
-use Rattle.smf_changes.specs.Changes.{as_it_is, by_itself, item, most_recent, touched}
+use Rattle.smf_changes.specs.Changes.{as_it_is, by_itself, item, most_recent, touched_numbers}
 use Rattle.smf_changes.specs.Same.{same_item}
 
 -- the holdings, their journal, and the numbers that each of the newest commits touched, newest first
@@ -22,7 +22,7 @@ pub record Recorded (J : Type 0) : Type 0 where
 -- the lists after changes: if there are none nothing is recorded
 abbrev pub next_lists : Holdings → List Change → List (List ℕ) → List (List ℕ)
 next_lists h [] nss = nss
-next_lists h (c ∷ cs) nss = take most_recent (touched h (installed h (c ∷ cs)) ∷ nss)
+next_lists h (c ∷ cs) nss = take most_recent (touched_numbers h (holdings_after_changes h (c ∷ cs)) ∷ nss)
 
 -- ---- what is kept
 
@@ -50,7 +50,7 @@ newest h stale = option_map (touched_by h) stale
 abbrev pub IsShown : Option View → Option (List ℕ) → Holdings → Type 0
 IsShown None ns h = Unit {0}
 IsShown (Some v) None h = v ≡ view h
-IsShown (Some v) (Some ns) h = patched v h.revision (map (as_it_is h) ns) ≡ view h
+IsShown (Some v) (Some ns) h = view_after_changes v h.revision (map (as_it_is h) ns) ≡ view h
 
 -- the view that is kept, if nothing is still to be worked out
 abbrev pub settled_view : Option (List ChangedItem) → Option View → Option View

@@ -7,7 +7,7 @@ ghost use Rattle.smf_changes.specs.Candidates.{candidates, has_general, is_numbe
 ghost use Rattle.smf_changes.specs.Candidates.{of_general, of_owner, of_service};
 ghost use Rattle.smf_changes.specs.Candidates.{running_by, runs_of, waits_for};
 ghost use Rattle.smf_changes.specs.Changes.{by_itself};
-ghost use Rattle.smf_changes.specs.Keeping.{AreUpTo};
+ghost use Rattle.smf_changes.specs.ChangeRecord.{AreUpTo};
 
 use crate::lists::put_numbers;
 use smf_fmri::{Number, Ordered, ServiceFmri};
@@ -187,7 +187,9 @@ fn of_general<J: Journal>(
     service: &ServiceFmri,
     groups: &Ordered<Group>,
 ) -> Result<Vec<u64>, AllocError>
-    ensures { IfOk result (λ all. all.items ≡ of_general (lacks_general plain.now.held service.now groups.now) plain.now.held service.now) }
+    ensures { IfOk result
+        (λ all. all.items
+        ≡ of_general (lacks_general plain.now.held service.now groups.now) plain.now.held service.now) }
 {
     if lacks_general(plain, service, groups)? {
         return Ok(Vec::new(alloc));
@@ -215,7 +217,8 @@ fn of_dropped<J: Journal>(
     plain: &Plain<J>,
     service: &ServiceFmri,
 ) -> Result<Vec<u64>, AllocError>
-    ensures { IfOk result (λ all. all.items ≡ of_general (lacks_general plain.now.held service.now []) plain.now.held service.now) }
+    ensures { IfOk result
+        (λ all. all.items ≡ of_general (lacks_general plain.now.held service.now []) plain.now.held service.now) }
 {
     let none = Ordered::new(alloc);
     of_general(alloc, plain, service, &none)

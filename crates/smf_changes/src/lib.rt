@@ -7,13 +7,13 @@
 #![tactic(auto)]
 
 mod candidates;
+mod change_record;
 mod changes;
-mod keeping;
 mod lists;
-mod owning;
 mod repository;
-mod running;
+mod row_owners;
 mod same;
+mod snapshot_bounds;
 
 pub use changes::{
     a_view_is_patched, changes_are_exact, refusals_leave_no_list, touched_are_candidates,

@@ -20,7 +20,7 @@ pub(crate) fn put_numbers(all: &mut Ordered<u64>, numbers: &[u64]) -> Result<(),
 }
 
 /// The item of today of an instance.
-#[tactic(auto, using(crate::proofs::Merging::item_at))]
+#[tactic(auto, using(crate::proofs::Merges::item_at))]
 fn item_of<J: Journal>(plain: &Plain<J>, number: u64) -> Result<Option<ViewItem>, AllocError>
     ensures { IfOk result (λ i. i ≡ item plain.now.held number) }
 {

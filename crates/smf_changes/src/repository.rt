@@ -1,16 +1,16 @@
 ghost use Rattle.std.specs.Option.{option_copied};
-ghost use Rattle.std.specs.Prelude.{◌≡◌, ◌⊎◌, ◌<◌, [], length, IfErr, IfOk, IfSome, OnErr, OnOk};
+ghost use Rattle.std.specs.Prelude.{◌≡◌, ◌<◌, [], length, IfErr, IfOk, IfSome, OnErr, OnOk};
 ghost use Rattle.smf_model.specs.Journals.{IsUnwritten, LeavesOldOr, LeavesOnly};
 ghost use Rattle.smf_model.specs.Laws.{IsNumbered};
-ghost use Rattle.smf_model.specs.Look.{installed};
+ghost use Rattle.smf_model.specs.Look.{holdings_after_changes};
 ghost use Rattle.smf_model.specs.Shown.{view};
 ghost use Rattle.smf_changes.specs.Changes.{changes_since};
-ghost use Rattle.smf_changes.specs.Keeping.{IsKept, lists_of};
+ghost use Rattle.smf_changes.specs.ChangeRecord.{IsKept, lists_of};
 ghost use Rattle.smf_changes.specs.Owned.{HasOwnersAmong};
 ghost use Rattle.smf_changes.specs.Recorded.{next_lists};
 
-use crate::keeping::Kept;
-use crate::running::put_by_all;
+use crate::change_record::Kept;
+use crate::snapshot_bounds::put_by_all;
 use smf_fmri::{InstanceFmri, Items};
 use smf_model::{Change, Journal, Plain, RepoFault};
 use smf_state::{ChangedItem, HeldView};
@@ -26,7 +26,7 @@ pub struct Repository<J: Journal> {
 }
 
 impl<J: Journal> Model for Repository<J> {
-    ghost use Rattle.smf_changes.specs.Keeping.{IsKept, lists_of};
+    ghost use Rattle.smf_changes.specs.ChangeRecord.{IsKept, lists_of};
     ghost use Rattle.smf_changes.specs.Recorded.{Recorded};
 
     ghost Value = { Recorded J };
@@ -66,15 +66,16 @@ impl<J: Journal> Repository<J> {
     /// Makes changes and records which instances they touch. The journal is written first, and an error leaves the
     /// repository and its record. If there are no changes the journal is not called.
     pub fn commit(&mut self, changes: Items<Change>) -> Result<(), RepoFault>
-        requires { IsNumbered (installed self.old.held changes) }
-        ensures ok { OnOk result (self.new.held ≡ installed self.old.held changes) }
+        requires { IsNumbered (holdings_after_changes self.old.held changes) }
+        ensures ok { OnOk result (self.new.held ≡ holdings_after_changes self.old.held changes) }
         ensures err { OnErr result (self.new.held ≡ self.old.held) }
         ensures recent { OnOk result (self.new.recent ≡ next_lists self.old.held changes self.old.recent) }
         ensures lists { OnErr result (self.new.recent ≡ self.old.recent) }
         ensures trusted { J.is_clean self.new.journal → J.is_clean self.old.journal }
         ensures sound { OnOk result (0 < length changes → J.is_clean self.new.journal → J.is_sound self.new.journal) }
         ensures stands { J.stands self.new.journal self.new.held }
-        ensures crash { LeavesOldOr J.could self.old.journal self.new.journal (installed self.old.held changes) }
+        ensures crash { LeavesOldOr J.could self.old.journal self.new.journal
+            (holdings_after_changes self.old.held changes) }
         ensures settled { J.is_sound self.new.journal → LeavesOnly J.could self.new.journal self.new.held }
         ensures fault { IfErr result (IsUnwritten J.write_fails changes) }
     {
@@ -97,7 +98,7 @@ impl<J: Journal> Repository<J> {
     }
 
     /// The view that is kept. There is none between a commit and the next call that keeps it.
-    pub fn shown(&self) -> Option<&HeldView>
+    pub fn current_view(&self) -> Option<&HeldView>
         ensures { IfSome (option_copied result) (λ v. v ≡ view self.now.held) }
     {
         self.kept.up_to_date()
@@ -108,7 +109,7 @@ impl<J: Journal> Repository<J> {
     pub fn owners(&self) -> Option<&[InstanceFmri]>
         ensures { IfSome (option_copied result) (λ names. HasOwnersAmong names self.now.held) }
     {
-        self.kept.owners.known()
+        self.kept.owners.owner_names()
     }
 }
 
@@ -119,17 +120,19 @@ fn commit<J: Journal>(
     kept: &mut Kept,
     changes: Items<Change>,
 ) -> Result<(), RepoFault>
-    requires numbered { IsNumbered (installed plain.old.held changes) }
+    requires numbered { IsNumbered (holdings_after_changes plain.old.held changes) }
     requires kept { IsKept kept.old plain.old.held }
     ensures kept { IsKept kept.new plain.new.held }
-    ensures ok { OnOk result (plain.new.held ≡ installed plain.old.held changes) }
+    ensures ok { OnOk result (plain.new.held ≡ holdings_after_changes plain.old.held changes) }
     ensures err { OnErr result (plain.new.held ≡ plain.old.held) }
-    ensures recent { OnOk result (lists_of kept.new plain.new.held ≡ next_lists plain.old.held changes (lists_of kept.old plain.old.held)) }
+    ensures recent { OnOk result
+        (lists_of kept.new plain.new.held ≡ next_lists plain.old.held changes (lists_of kept.old plain.old.held)) }
     ensures lists { OnErr result (lists_of kept.new plain.new.held ≡ lists_of kept.old plain.old.held) }
     ensures trusted { J.is_clean plain.new.journal → J.is_clean plain.old.journal }
     ensures sound { OnOk result (0 < length changes → J.is_clean plain.new.journal → J.is_sound plain.new.journal) }
     ensures stands { J.stands plain.new.journal plain.new.held }
-    ensures crash { LeavesOldOr J.could plain.old.journal plain.new.journal (installed plain.old.held changes) }
+    ensures crash { LeavesOldOr J.could plain.old.journal plain.new.journal
+        (holdings_after_changes plain.old.held changes) }
     ensures settled { J.is_sound plain.new.journal → LeavesOnly J.could plain.new.journal plain.new.held }
     ensures fault { IfErr result (IsUnwritten J.write_fails changes) }
 {

@@ -32,15 +32,19 @@ pub ascends_more : (low : ℕ) (ns : List ℕ) (last n : ℕ) → last < n → A
 ascends_more low [] last n h a = (omega arith, omega arith)
 ascends_more low (m ∷ ms) last n h a = (a.0, ascends_more m ms last n h a.1)
 
-ascends_kept : (b : Bool) (low last : ℕ) (m : Member) (ms : List Member) → low < m.process → Ascends m.process (map (λ x. x.process) ms) last → Ascends low (map (λ x. x.process) (cond b (m ∷ ms) ms)) last
+ascends_kept : (b : Bool) (low last : ℕ) (m : Member) (ms : List Member) → low < m.process
+    → Ascends m.process (map (λ x. x.process) ms) last → Ascends low (map (λ x. x.process) (cond b (m ∷ ms) ms)) last
 ascends_kept true low last m ms h a = (h, a)
 ascends_kept false low last m ms h a = ascends_lower low m.process (map (λ x. x.process) ms) last (omega arith) a
 
-pub ascends_filter : (p : Member → Bool) (low last : ℕ) (ms : List Member) → Ascends low (map (λ x. x.process) ms) last → Ascends low (map (λ x. x.process) (filter p ms)) last
+pub ascends_filter : (p : Member → Bool) (low last : ℕ) (ms : List Member)
+    → Ascends low (map (λ x. x.process) ms) last → Ascends low (map (λ x. x.process) (filter p ms)) last
 ascends_filter p low last [] a = a
-ascends_filter p low last (m ∷ ms) a = ascends_kept (p m) low last m (filter p ms) a.0 (ascends_filter p m.process last ms a.1)
+ascends_filter p low last (m ∷ ms) a =
+    ascends_kept (p m) low last m (filter p ms) a.0 (ascends_filter p m.process last ms a.1)
 
-homed_kept : (b : Bool) (ns : List ℕ) (m : Member) (ms : List Member) → is_among m.contract ns ≡ true → Homed ns ms → Homed ns (cond b (m ∷ ms) ms)
+homed_kept : (b : Bool) (ns : List ℕ) (m : Member) (ms : List Member) → is_among m.contract ns ≡ true → Homed ns ms
+    → Homed ns (cond b (m ∷ ms) ms)
 homed_kept true ns m ms h k = (h, k)
 homed_kept false ns m ms h k = k
 
@@ -49,7 +53,8 @@ homed_filter p ns [] h = tt
 homed_filter p ns (m ∷ ms) h = homed_kept (p m) ns m (filter p ms) h.0 (homed_filter p ns ms h.1)
 
 -- a member more
-pub homed_more : (ns : List ℕ) (ms : List Member) (m : Member) → Homed ns ms → is_among m.contract ns ≡ true → Homed ns (ms ++ m ∷ [])
+pub homed_more : (ns : List ℕ) (ms : List Member) (m : Member) → Homed ns ms → is_among m.contract ns ≡ true
+    → Homed ns (ms ++ m ∷ [])
 homed_more ns [] m h k = (k, tt)
 homed_more ns (x ∷ xs) m h k = (h.0, homed_more ns xs m h.1 k)
 
@@ -66,16 +71,20 @@ among_last [] n = rw (eq-eqb n n refl) refl
 among_last (m ∷ ms) n = or_true (m == n) _ (among_last ms n)
 
 -- a filter makes no member of a contract that has none
-any_kept : (b : Bool) (id : ℕ) (m : Member) (ms : List Member) → (is_in id m || has_members id ms) ≡ false → has_members id (cond b (m ∷ ms) ms) ≡ false
+any_kept : (b : Bool) (id : ℕ) (m : Member) (ms : List Member) → (is_in id m || has_members id ms) ≡ false
+    → has_members id (cond b (m ∷ ms) ms) ≡ false
 any_kept true id m ms h = h
 any_kept false id m ms h = or_right (is_in id m) (has_members id ms) h
 
-pub none_filter : (p : Member → Bool) (id : ℕ) (ms : List Member) → has_members id ms ≡ false → has_members id (filter p ms) ≡ false
+pub none_filter : (p : Member → Bool) (id : ℕ) (ms : List Member) → has_members id ms ≡ false
+    → has_members id (filter p ms) ≡ false
 none_filter p id [] h = h
 none_filter p id (m ∷ ms) h =
-    any_kept (p m) id m (filter p ms) (or_both (is_in id m) _ (or_left (is_in id m) _ h) (none_filter p id ms (or_right (is_in id m) _ h)))
+    any_kept (p m) id m (filter p ms)
+    (or_both (is_in id m) _ (or_left (is_in id m) _ h) (none_filter p id ms (or_right (is_in id m) _ h)))
 
-pub none_more : (id : ℕ) (ms : List Member) (m : Member) → has_members id ms ≡ false → is_in id m ≡ false → has_members id (ms ++ m ∷ []) ≡ false
+pub none_more : (id : ℕ) (ms : List Member) (m : Member) → has_members id ms ≡ false → is_in id m ≡ false
+    → has_members id (ms ++ m ∷ []) ≡ false
 none_more id ms m h k = rw (list_any-append (is_in id) ms (m ∷ []), h, k) refl
 
 -- a number is given only if it is the next
@@ -86,26 +95,31 @@ next_by false n = tt
 pub next_is : (n : ℕ) → IfSome (next_number n) (λ m. m ≡ n + 1)
 next_is n = next_by _ n
 
-widen : (o : Option ℕ) (m : Member) (ms : List Member) → IfSome o (λ c. has_members c ms ≡ true) → IfSome o (λ c. has_members c (m ∷ ms) ≡ true)
+widen : (o : Option ℕ) (m : Member) (ms : List Member) → IfSome o (λ c. has_members c ms ≡ true)
+    → IfSome o (λ c. has_members c (m ∷ ms) ≡ true)
 widen None m ms h = tt
 widen (Some c) m ms h = or_true (is_in c m) (has_members c ms) h
 
-has_at : (ms : List Member) (k : ℕ) → IfSome (option_map (λ m. m.contract) (slice_get ms k)) (λ c. has_members c ms ≡ true)
+has_at : (ms : List Member) (k : ℕ)
+    → IfSome (option_map (λ m. m.contract) (slice_get ms k)) (λ c. has_members c ms ≡ true)
 has_at [] k = tt
 has_at (m ∷ ms) zero = rw (eq-eqb m.contract m.contract refl) refl
 has_at (m ∷ ms) (suc k) = widen (option_map (λ m. m.contract) (slice_get ms k)) m ms (has_at ms k)
 
 -- a contract that a process is found in has a member
-pub home_has : (ms : List Member) (o : Option ℕ) → IfSome (option_map (λ m. m.contract) (found_at ms o)) (λ c. has_members c ms ≡ true)
+pub home_has : (ms : List Member) (o : Option ℕ)
+    → IfSome (option_map (λ m. m.contract) (found_at ms o)) (λ c. has_members c ms ≡ true)
 home_has ms None = tt
 home_has ms (Some k) = has_at ms k
 
-among_at : (ns : List ℕ) (ms : List Member) (k : ℕ) → Homed ns ms → IfSome (option_map (λ m. m.contract) (slice_get ms k)) (λ c. is_among c ns ≡ true)
+among_at : (ns : List ℕ) (ms : List Member) (k : ℕ) → Homed ns ms
+    → IfSome (option_map (λ m. m.contract) (slice_get ms k)) (λ c. is_among c ns ≡ true)
 among_at ns [] k h = tt
 among_at ns (m ∷ ms) zero h = h.0
 among_at ns (m ∷ ms) (suc k) h = among_at ns ms k h.1
 
 -- and it is in the table
-pub home_among : (ns : List ℕ) (ms : List Member) (o : Option ℕ) → Homed ns ms → IfSome (option_map (λ m. m.contract) (found_at ms o)) (λ c. is_among c ns ≡ true)
+pub home_among : (ns : List ℕ) (ms : List Member) (o : Option ℕ) → Homed ns ms
+    → IfSome (option_map (λ m. m.contract) (found_at ms o)) (λ c. is_among c ns ≡ true)
 home_among ns ms None h = tt
 home_among ns ms (Some k) h = among_at ns ms k h

@@ -6,7 +6,7 @@ use Rattle.smf_contract.specs.declared.contract.Contract.{Contract}
 use Rattle.smf_contract.specs.declared.contract.Member.{Member}
 use Rattle.smf_contract.specs.declared.fault.ContractFault.{ContractFault}
 use Rattle.smf_contract.specs.Entries.{Contracts, has_members}
-use Rattle.smf_contract.specs.Calls.{spawned, forked, exited, failed, gone, adopted, killed, rebooted}
+use Rattle.smf_contract.specs.Calls.{result_of_spawn, result_of_fork, result_of_exit, result_of_failure, table_without_actor, result_of_adoption, result_of_kill, table_after_reboot}
 
 -- a refusal changes nothing
 abbrev pub left_by : Contracts → Result Contracts ContractFault → Contracts
@@ -18,16 +18,16 @@ left_by_making t (Ok r) = r.0
 left_by_making t (Err e) = t
 
 -- the table after a call
-unfoldable pub called : Contracts → ContractCall → Contracts
-called t calls.Nothing = t
-called t (calls.Spawn actor cookie terms) = left_by_making t (spawned t actor cookie terms)
-called t (calls.Adopt actor contract) = left_by t (adopted t actor contract)
-called t (calls.Kill actor contract) = left_by t (killed t actor contract)
-called t (calls.Gone actor) = gone t actor
-called t calls.Reboot = rebooted t
-called t (calls.Fork process) = left_by_making t (forked t process)
-called t (calls.Exit process exit) = left_by t (exited t process exit)
-called t (calls.Fail process failure) = left_by t (failed failure t process)
+unfoldable pub table_after_contract_call : Contracts → ContractCall → Contracts
+table_after_contract_call t calls.Nothing = t
+table_after_contract_call t (calls.Spawn actor cookie terms) = left_by_making t (result_of_spawn t actor cookie terms)
+table_after_contract_call t (calls.Adopt actor contract) = left_by t (result_of_adoption t actor contract)
+table_after_contract_call t (calls.Kill actor contract) = left_by t (result_of_kill t actor contract)
+table_after_contract_call t (calls.Gone actor) = table_without_actor t actor
+table_after_contract_call t calls.Reboot = table_after_reboot t
+table_after_contract_call t (calls.Fork process) = left_by_making t (result_of_fork t process)
+table_after_contract_call t (calls.Exit process exit) = left_by t (result_of_exit t process exit)
+table_after_contract_call t (calls.Fail process failure) = left_by t (result_of_failure failure t process)
 
 -- its contract had members, and has none left
 abbrev pub is_emptied : List Member → List Member → Contract → Bool
@@ -46,4 +46,4 @@ emptied_between before after = ids_by (is_emptied before.members after.members) 
 
 -- the contracts that a call empties
 unfoldable pub emptied_by : Contracts → ContractCall → List ℕ
-emptied_by t call = emptied_between t (called t call)
+emptied_by t call = emptied_between t (table_after_contract_call t call)

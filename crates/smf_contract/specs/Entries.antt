@@ -5,21 +5,21 @@ use Rattle.smf_contract.specs.declared.contract.Contract.{Contract}
 use Rattle.smf_contract.specs.declared.contract.Member.{Member}
 use Rattle.smf_contract.specs.declared.contract.Report.{Report}
 use Rattle.smf_contract.specs.declared.contract.Status.{Status}
-use Rattle.smf_contract.specs.declared.event.Event.{Event}
+use Rattle.smf_contract.specs.declared.event.ContractEvent.{ContractEvent}
 
 -- contracts by id, members by number, all events in the order of time; the last id and the last process number that
 -- were given
 pub record Contracts : Type 0 where
   pub contracts : List Contract
   pub members : List Member
-  pub events : List Event
+  pub events : List ContractEvent
   pub last_contract : ℕ
   pub last_process : ℕ
 
 -- who is a member of which contract, and what happened
 pub record Activity : Type 0 where
   pub members : List Member
-  pub events : List Event
+  pub events : List ContractEvent
 
 -- the table, and whether it has room for any call
 pub record Kept : Type 0 where
@@ -43,7 +43,7 @@ is_process p m = m.process == p
 abbrev pub is_in : ℕ → Member → Bool
 is_in id m = m.contract == id
 
-abbrev pub is_event_of : ℕ → Event → Bool
+abbrev pub is_event_of : ℕ → ContractEvent → Bool
 is_event_of id e = e.contract == id
 
 abbrev pub found_at : {X : Type 0} → List X → Option ℕ → Option X
@@ -77,27 +77,27 @@ abbrev pub outside : ℕ → List Member → List Member
 outside id ms = filter (λ m. not (is_in id m)) ms
 
 -- the number of the last event of a contract
-abbrev pub last_event : ℕ → List Event → ℕ
+abbrev pub last_event : ℕ → List ContractEvent → ℕ
 last_event id es = count_by (is_event_of id) es
 
 -- the lowest process of a contract
 abbrev pub first_member : ℕ → List Member → Option ℕ
 first_member id ms = option_map (λ m. m.process) (found_at ms (position (is_in id) ms))
 
-abbrev pub is_event : ℕ → ℕ → Event → Bool
+abbrev pub is_event : ℕ → ℕ → ContractEvent → Bool
 is_event id number e = e.contract == id && e.number == number
 
-abbrev pub event_in : List Event → ℕ → ℕ → Option Event
+abbrev pub event_in : List ContractEvent → ℕ → ℕ → Option ContractEvent
 event_in es id number = found_at es (position (is_event id number) es)
 
-abbrev pub report_of : Option Contract → Option Event → Option Report
+abbrev pub report_of : Option Contract → Option ContractEvent → Option Report
 report_of None e = None
 report_of (Some c) None = None
 report_of (Some c) (Some e) = Some (record { contract = c; event = e })
 
 -- an event of a contract by its number, with the contract as it is now
-unfoldable pub reported : Contracts → ℕ → ℕ → Option Report
-reported t id number = report_of (contract t id) (event_in t.events id number)
+unfoldable pub report_of_event : Contracts → ℕ → ℕ → Option Report
+report_of_event t id number = report_of (contract t id) (event_in t.events id number)
 
 -- a contract with its members and all its events
 abbrev pub status_of : Contracts → Contract → Status
@@ -114,8 +114,8 @@ acknowledged_at None = 0
 acknowledged_at (Some c) = c.acknowledged
 
 -- an event of the contract, of this number or later, and not acknowledged
-unfoldable pub is_given : ℕ → ℕ → ℕ → Event → Bool
+unfoldable pub is_given : ℕ → ℕ → ℕ → ContractEvent → Bool
 is_given id number acknowledged e = is_event_of id e && nat_le number e.number && nat_lt acknowledged e.number
 
-abbrev pub events_from : Contracts → ℕ → ℕ → List Event
+abbrev pub events_from : Contracts → ℕ → ℕ → List ContractEvent
 events_from t id number = filter (is_given id number (acknowledged_at (contract t id))) t.events

@@ -1,5 +1,5 @@
 -- The terms of a contract, as they are stated, and the sets that hold events alone.
-use Rattle.std.specs.Prelude.{ℕ, ◌≤◌, Bool}
+use Rattle.std.specs.Prelude.{◌≤◌, Bool}
 use Rattle.smf_contract.specs.declared.terms.EventSet.{EventSet}
 
 -- the kinds that are told, those that have to be acknowledged, and the failures that end all members. With `inherit`

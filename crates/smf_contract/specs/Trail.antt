@@ -2,13 +2,13 @@
 use Rattle.std.specs.Prelude.{◌≡◌, ℕ, zero, suc, ◌+◌, ◌<◌, List, [], ◌∷◌, length, get_or, take, Bool, true, false, Option, Some, None}
 use Rattle.smf_fmri.specs.ByKey.{By, Rises, by_number, lookup}
 use Rattle.smf_contract.specs.declared.contract.Contract.{Contract}
-use Rattle.smf_contract.specs.declared.event.Event.{Event}
+use Rattle.smf_contract.specs.declared.event.ContractEvent.{ContractEvent}
 use Rattle.smf_contract.specs.declared.past.Last.{Last}
 use Rattle.smf_contract.specs.Entries.{is_event_of, last_event}
 
 -- the events, and how many fit
 pub record Happenings : Type 0 where
-  pub events : List Event
+  pub events : List ContractEvent
   pub fit : ℕ
 
 -- the contracts, the last id that was given, and how many contracts fit
@@ -29,7 +29,7 @@ until_by zero false = zero
 until_by (suc n) is_of = suc (suc n)
 
 -- how many events stand up to and with the last one of a contract; 0 if it has none
-abbrev pub until : ℕ → List Event → ℕ
+abbrev pub until : ℕ → List ContractEvent → ℕ
 until id [] = zero
 until id (e ∷ es) = until_by (until id es) (is_event_of id e)
 
@@ -42,17 +42,19 @@ until_of None = 0
 until_of (Some l) = l.until
 
 -- the number of an event is the count of its contract's events up to it
-abbrev pub AreNumbered : List Event → Type 0
-AreNumbered es = (k : ℕ) (d : Event) → k < length es → (get_or es k d).number ≡ last_event (get_or es k d).contract (take k es) + 1
+abbrev pub AreNumbered : List ContractEvent → Type 0
+AreNumbered es = (k : ℕ) (d : ContractEvent) → k < length es
+    → (get_or es k d).number ≡ last_event (get_or es k d).contract (take k es) + 1
 
 -- each event is tied to the one before it of its contract
-pub record AreTied (es : List Event) (before : List ℕ) : Type 0 where
+pub record AreTied (es : List ContractEvent) (before : List ℕ) : Type 0 where
   pub sized : length before ≡ length es
-  pub tied : (k : ℕ) (d : Event) → k < length es → get_or before k 0 ≡ until (get_or es k d).contract (take k es)
+  pub tied : (k : ℕ) (d : ContractEvent) → k < length es
+      → get_or before k 0 ≡ until (get_or es k d).contract (take k es)
   pub numbered : AreNumbered es
 
 -- the last number of each contract, and the place of its last event, are kept
-pub record AreTraced (es : List Event) (before : List ℕ) (lasts : List Last) : Type 0 where
+pub record AreTraced (es : List ContractEvent) (before : List ℕ) (lasts : List Last) : Type 0 where
   pub rises : Rises by_contract lasts
   pub events : AreTied es before
   pub counts : (id : ℕ) → count_of (lookup by_contract lasts id) ≡ last_event id es

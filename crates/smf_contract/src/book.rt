@@ -127,7 +127,8 @@ impl Book {
 
     /// Gives the contract of an id another holder.
     pub(crate) fn set_holder(&mut self, id: Number, holder: Holder)
-        ensures contracts { self.new.contracts ≡ changed_at self.old.contracts (λ c. record c { holder = holder }) (position (has_id id) self.old.contracts) }
+        ensures contracts { self.new.contracts ≡ changed_at self.old.contracts (λ c. record c { holder = holder })
+            (position (has_id id) self.old.contracts) }
         ensures last { self.new.last ≡ self.old.last }
         ensures fit { self.new.fit ≡ self.old.fit }
         ensures len { length self.new.contracts ≡ length self.old.contracts }
@@ -140,7 +141,8 @@ impl Book {
 
     /// Acknowledges the events of the contract of an id up to a number, if they were not before.
     pub(crate) fn acknowledge(&mut self, id: Number, number: Number)
-        ensures contracts { self.new.contracts ≡ changed_at self.old.contracts (λ c. record c { acknowledged = later c.acknowledged number }) (position (has_id id) self.old.contracts) }
+        ensures contracts { self.new.contracts ≡ changed_at self.old.contracts
+            (λ c. record c { acknowledged = later c.acknowledged number }) (position (has_id id) self.old.contracts) }
         ensures last { self.new.last ≡ self.old.last }
         ensures fit { self.new.fit ≡ self.old.fit }
         ensures len { length self.new.contracts ≡ length self.old.contracts }

@@ -1,7 +1,7 @@
 // Changes of a table's lists, for which room was made before.
 ghost use Rattle.std.specs.Prelude.{◌≡◌, ◌+◌, ◌*◌, ◌<◌, ◌≤◌, OnOk, OnErr, true, false, length, map, vec_len, vec_capacity};
 ghost use Rattle.smf_contract.specs.Entries.{has_room, has_members, processes, without, outside};
-ghost use Rattle.smf_contract.specs.Calls.{exits, emptied, emptied_by_force, one_exit, all_exit, failure_kind, ended, ended_one_with, ended_with, ends_with, given_up, earlier, later};
+ghost use Rattle.smf_contract.specs.Calls.{exits, emptied_by_force, one_exit, all_exit, failure_kind, activity_after_end, ended_one_with, ended_with, ends_with, given_up, earlier, later};
 
 use crate::book::Book;
 use crate::contract::{Contract, Holder, Member};
@@ -24,7 +24,9 @@ pub(crate) fn make_room(
     ensures one_contract { OnOk result (length book.new.contracts < book.new.fit) }
     ensures one_member { OnOk result (vec_len members.new < vec_capacity members.new) }
     ensures all_events { OnOk result (length events.new.events + (2 * vec_len members.new + 3) ≤ events.new.fit) }
-    ensures err { OnErr result (has_room (length book.old.contracts) book.old.fit (vec_len members.old) (vec_capacity members.old) (length events.old.events) events.old.fit ≡ false) }
+    ensures err { OnErr result
+        (has_room (length book.old.contracts) book.old.fit (vec_len members.old) (vec_capacity members.old)
+        (length events.old.events) events.old.fit ≡ false) }
 {
     book.reserve()?;
     members.reserve(1)?;
@@ -80,8 +82,10 @@ pub(crate) fn kind_of(failure: Failure, process: Number) -> EventKind
 #[tactic(auto, using(crate::proofs::Parts::parts, crate::proofs::Parts::some))]
 pub(crate) fn empty_by_force(members: &mut Vec<Member>, events: &mut Past, contract: Number)
     requires { length events.old.events + vec_len members.old < events.old.fit }
-    ensures emptied { emptied_by_force contract (record { members = members.old.items; events = events.old.events }) ≡ record { members = members.new.items; events = events.new.events } }
-    ensures size { has_members contract members.old.items ≡ true → length events.new.events + 2 * vec_len members.new ≤ length events.old.events + 2 * vec_len members.old }
+    ensures emptied { emptied_by_force contract (record { members = members.old.items; events = events.old.events })
+        ≡ record { members = members.new.items; events = events.new.events } }
+    ensures size { has_members contract members.old.items ≡ true
+        → length events.new.events + 2 * vec_len members.new ≤ length events.old.events + 2 * vec_len members.old }
     ensures capacity { events.old.fit ≤ events.new.fit }
 {
     note_exits(members, events, contract);
@@ -98,7 +102,8 @@ pub(crate) fn exit_one(
     exit: Exit,
 )
     requires { length events.old.events + 2 ≤ events.old.fit }
-    ensures { one_exit contract process exit (record { members = members.old.items; events = events.old.events }) ≡ record { members = members.new.items; events = events.new.events } }
+    ensures { one_exit contract process exit (record { members = members.old.items; events = events.old.events })
+        ≡ record { members = members.new.items; events = events.new.events } }
 {
     remove(members, process);
     let left = has_members(members, contract);
@@ -116,7 +121,8 @@ pub(crate) fn exit_all(
     process: Number,
 )
     requires { length events.old.events + vec_len members.old + 2 ≤ events.old.fit }
-    ensures { all_exit contract process (record { members = members.old.items; events = events.old.events }) ≡ record { members = members.new.items; events = events.new.events } }
+    ensures { all_exit contract process (record { members = members.old.items; events = events.old.events })
+        ≡ record { members = members.new.items; events = events.new.events } }
 {
     remove(members, process);
     let left = has_members(members, contract);
@@ -135,8 +141,10 @@ pub(crate) fn ends_with(contract: &Contract, actor: u64) -> bool
 /// Ends the members of a contract, if it has any.
 pub(crate) fn end_members(members: &mut Vec<Member>, events: &mut Past, contract: Number)
     requires { length events.old.events + 2 * vec_len members.old < events.old.fit }
-    ensures ended { ended contract (record { members = members.old.items; events = events.old.events }) ≡ record { members = members.new.items; events = events.new.events } }
-    ensures size { length events.new.events + 2 * vec_len members.new ≤ length events.old.events + 2 * vec_len members.old }
+    ensures ended { activity_after_end contract (record { members = members.old.items; events = events.old.events })
+        ≡ record { members = members.new.items; events = events.new.events } }
+    ensures size { length events.new.events + 2 * vec_len members.new ≤ length events.old.events
+        + 2 * vec_len members.old }
     ensures capacity { events.old.fit ≤ events.new.fit }
 {
     if has_members(members, contract) {
@@ -152,8 +160,11 @@ pub(crate) fn end_one_with(
     actor: u64,
 )
     requires { length events.old.events + 2 * vec_len members.old < events.old.fit }
-    ensures ended { ended_one_with actor contract.now (record { members = members.old.items; events = events.old.events }) ≡ record { members = members.new.items; events = events.new.events } }
-    ensures size { length events.new.events + 2 * vec_len members.new ≤ length events.old.events + 2 * vec_len members.old }
+    ensures ended { ended_one_with actor contract.now
+        (record { members = members.old.items; events = events.old.events })
+        ≡ record { members = members.new.items; events = events.new.events } }
+    ensures size { length events.new.events + 2 * vec_len members.new ≤ length events.old.events
+        + 2 * vec_len members.old }
     ensures capacity { events.old.fit ≤ events.new.fit }
 {
     if ends_with(contract, actor) {
@@ -169,7 +180,8 @@ pub(crate) fn end_with(
     actor: u64,
 )
     requires { length events.old.events + 2 * vec_len members.old < events.old.fit }
-    ensures { ended_with actor contracts.now (record { members = members.old.items; events = events.old.events }) ≡ record { members = members.new.items; events = events.new.events } }
+    ensures { ended_with actor contracts.now (record { members = members.old.items; events = events.old.events })
+        ≡ record { members = members.new.items; events = events.new.events } }
 {
     for c in contracts {
         end_one_with(c, members, events, actor);

@@ -1,4 +1,4 @@
-use crate::event::Event;
+use crate::event::ContractEvent;
 use crate::terms::Terms;
 use smf_fmri::{Items, Number};
 
@@ -39,7 +39,7 @@ pub struct Member {
 #[derive(Clone, Copy, PartialEq, Eq)]
 pub struct Report {
     pub contract: Contract,
-    pub event: Event,
+    pub event: ContractEvent,
 }
 
 /// A contract with its members, by their numbers, and all its events, the newest last.
@@ -47,5 +47,5 @@ pub struct Report {
 pub struct Status {
     pub contract: Contract,
     pub members: Items<Number>,
-    pub events: Items<Event>,
+    pub events: Items<ContractEvent>,
 }

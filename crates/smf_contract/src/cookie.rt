@@ -1,13 +1,8 @@
 ghost use Rattle.std.specs.Prelude.{◌≡◌, IfOk, IfSome, Some, None, Ok};
-ghost use Rattle.smf_contract.specs.Cookies.{packed, unpacked};
+ghost use Rattle.smf_contract.specs.Cookies.{bits_of_cookie, cookie_of_bits};
 
+use smf_fmri::limits::{MAX_INSTANCE, MAX_RUN};
 use thiserror::Error;
-
-/// The greatest number of an instance that a cookie holds, 2^24 - 1.
-const MAX_INSTANCE: u64 = 16_777_215;
-
-/// The greatest run that a cookie holds, 2^38 - 1.
-const MAX_RUN: u64 = 274_877_906_943;
 
 /// The kind of a method: start, stop or refresh.
 #[derive(Clone, Copy, PartialEq, Eq)]
@@ -37,8 +32,8 @@ pub enum CookieFault {
 impl Cookie {
     /// The cookie's 64 bits: the instance in bits 63 to 40, the run in 39 to 2, the method in 1 and 0.
     pub fn pack(self) -> Result<u64, CookieFault>
-        ensures exact { result ≡ packed self }
-        ensures back { IfOk result (λ bits. unpacked bits ≡ Some self) }
+        ensures exact { result ≡ bits_of_cookie self }
+        ensures back { IfOk result (λ bits. cookie_of_bits bits ≡ Some self) }
     {
         if self.instance > MAX_INSTANCE || self.run > MAX_RUN {
             return Err(CookieFault::Range);
@@ -53,8 +48,8 @@ impl Cookie {
 
     /// Reads a cookie from its 64 bits. There is none if the last two bits name no method.
     pub fn unpack(bits: u64) -> Option<Cookie>
-        ensures exact { result ≡ unpacked bits }
-        ensures back { IfSome result (λ cookie. packed cookie ≡ Ok bits) }
+        ensures exact { result ≡ cookie_of_bits bits }
+        ensures back { IfSome result (λ cookie. bits_of_cookie cookie ≡ Ok bits) }
     {
         let method = match bits % 4 {
             0 => Method::Start,

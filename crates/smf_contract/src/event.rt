@@ -59,7 +59,7 @@ impl EventKind {
 
 /// An event of a contract. Each contract numbers its own from 1.
 #[derive(Clone, Copy, PartialEq, Eq)]
-pub struct Event {
+pub struct ContractEvent {
     pub contract: Number,
     pub number: Number,
     pub kind: EventKind,

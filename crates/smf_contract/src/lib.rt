@@ -9,7 +9,7 @@ mod call;
 mod change;
 mod contract;
 mod cookie;
-mod emptying;
+mod ends;
 mod event;
 mod fault;
 mod law;
@@ -21,10 +21,10 @@ mod terms;
 pub use call::ContractCall;
 pub use contract::{Contract, Holder, Member, Report, Status};
 pub use cookie::{Cookie, CookieFault, Method};
-pub use event::{Event, EventKind, Exit, Failure};
+pub use event::{ContractEvent, EventKind, Exit, Failure};
 pub use fault::ContractFault;
 pub use law::{
     an_emptied_contract_had_members, an_empty_contract_stays_empty, numbers_stay_in_order,
 };
-pub use table::{Made, Table};
+pub use table::{ContractTable, Made};
 pub use terms::{EventSet, Terms};

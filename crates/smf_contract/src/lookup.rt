@@ -5,7 +5,7 @@ ghost use Rattle.smf_contract.specs.Calls.{is_held_by, held_by, is_fatal};
 
 use crate::book::Book;
 use crate::contract::{Contract, Holder, Member, Report};
-use crate::event::{Event, Failure};
+use crate::event::{ContractEvent, Failure};
 use crate::past::Past;
 use crate::terms::EventSet;
 use bitflags::Flags;
@@ -64,7 +64,8 @@ fn count_in(members: &[Member], contract: Number) -> usize
 
 /// An event of a contract, and the contract.
 pub(crate) fn report(book: &Book, events: &Past, contract: u64, number: u64) -> Option<Report>
-    ensures { result ≡ report_of (contract_in book.now.contracts contract) (event_in events.now.events contract number) }
+    ensures { result ≡ report_of (contract_in book.now.contracts contract)
+        (event_in events.now.events contract number) }
 {
     let contract_found = book.find(contract)?;
     let event = events.event(contract, number)?;
@@ -84,7 +85,7 @@ pub(crate) fn is_held_by(holder: Holder, actor: u64) -> bool
 }
 
 /// The contract of an id, if an actor holds it.
-pub(crate) fn held(book: &Book, actor: u64, id: Number) -> Option<Contract>
+pub(crate) fn contract_held_by(book: &Book, actor: u64, id: Number) -> Option<Contract>
     ensures { result ≡ held_by actor (contract_in book.now.contracts id) }
 {
     let contract = book.get(id)?;
@@ -146,7 +147,12 @@ pub(crate) fn acknowledged_at(book: &Book, id: Number) -> Number
 }
 
 #[tactic(auto, unfolding(crate::specs::Entries::is_given))]
-pub(crate) fn is_given(event: &Event, id: Number, number: Number, acknowledged: Number) -> bool
+pub(crate) fn is_given(
+    event: &ContractEvent,
+    id: Number,
+    number: Number,
+    acknowledged: Number,
+) -> bool
     ensures { result ≡ is_given id number acknowledged event.now }
 {
     event.contract == id

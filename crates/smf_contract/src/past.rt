@@ -1,12 +1,12 @@
 // The events of all contracts, in which those of one are found without the others.
-ghost use Rattle.std.specs.Prelude.{◌≡◌, ◌+◌, ◌<◌, ◌≤◌, ◌⊎◌, IfOk, OnOk, OnErr, [], ◌∷◌, ◌++◌, length, filter, position, reverse, vec_len, vec_capacity};
+ghost use Rattle.std.specs.Prelude.{◌≡◌, ◌+◌, ◌<◌, ◌≤◌, ◌⊎◌, IfOk, OnOk, OnErr, [], length, filter, position, reverse, vec_len, vec_capacity};
 ghost use Rattle.std.specs.Ordering.{nat_cmp};
 ghost use Rattle.smf_contract.specs.Entries.{event_in, is_event, is_event_of, is_given, last_event};
-ghost use Rattle.smf_contract.specs.Calls.{noted};
+ghost use Rattle.smf_contract.specs.Calls.{with_next_event};
 ghost use Rattle.smf_contract.specs.Trail.{by_contract, until, AreTied};
-ghost use Rattle.smf_fmri.specs.ByKey.{IsPlaced, Rises, lookup, put};
+ghost use Rattle.smf_fmri.specs.ByKey.{IsPlaced, Rises, lookup, list_with_item};
 
-use crate::event::{Event, EventKind};
+use crate::event::{ContractEvent, EventKind};
 use crate::lookup::is_given;
 use smf_fmri::Number;
 use std::alloc::{AllocError, Global};
@@ -27,7 +27,7 @@ pub(crate) struct Last {
 /// many fit.
 #[derive(Drop)]
 pub(crate) struct Past {
-    events: Vec<Event>,
+    events: Vec<ContractEvent>,
     /// For each event, how many stand up to and with the one before it of its contract; 0 if it is
     /// the first.
     before: Vec<usize>,
@@ -74,7 +74,7 @@ fn last_of(lasts: &[Last], contract: u64) -> Option<Last>
 fn put_last(lasts: &mut Vec<Last>, last: Last)
     requires rises { Rises by_contract lasts.old.items }
     requires room { vec_len lasts.old < vec_capacity lasts.old }
-    ensures put { lasts.new.items ≡ put by_contract last lasts.old.items }
+    ensures put { lasts.new.items ≡ list_with_item by_contract last lasts.old.items }
     ensures len { vec_len lasts.new ≤ vec_len lasts.old + 1 }
     ensures capacity { vec_capacity lasts.old ≤ vec_capacity lasts.new }
 {
@@ -85,7 +85,7 @@ fn put_last(lasts: &mut Vec<Last>, last: Last)
 }
 
 fn make_room(
-    events: &mut Vec<Event>,
+    events: &mut Vec<ContractEvent>,
     before: &mut Vec<usize>,
     lasts: &mut Vec<Last>,
     more: usize,
@@ -96,7 +96,9 @@ fn make_room(
     ensures all_events { OnOk result (vec_len events.new + more ≤ vec_capacity events.new) }
     ensures all_before { OnOk result (vec_len before.new + more ≤ vec_capacity before.new) }
     ensures all_lasts { OnOk result (vec_len lasts.new + more ≤ vec_capacity lasts.new) }
-    ensures err { OnErr result ((vec_capacity events.old < vec_len events.old + more) ⊎ ((vec_capacity before.old < vec_len before.old + more) ⊎ (vec_capacity lasts.old < vec_len lasts.old + more))) }
+    ensures err { OnErr result ((vec_capacity events.old < vec_len events.old + more)
+        ⊎ ((vec_capacity before.old < vec_len before.old + more)
+        ⊎ (vec_capacity lasts.old < vec_len lasts.old + more))) }
 {
     events.reserve(more)?;
     before.reserve(more)?;
@@ -105,7 +107,7 @@ fn make_room(
 
 /// The place of the event of a number. The search goes back from the last event of its contract.
 fn place_back(
-    events: &[Event],
+    events: &[ContractEvent],
     before: &[usize],
     last: usize,
     contract: u64,
@@ -131,13 +133,13 @@ fn place_back(
 /// The events of a contract from a number on and after another, the newest first.
 fn given_back(
     alloc: Global,
-    events: &[Event],
+    events: &[ContractEvent],
     before: &[usize],
     last: usize,
     id: Number,
     number: Number,
     acknowledged: Number,
-) -> Result<Vec<Event>, AllocError>
+) -> Result<Vec<ContractEvent>, AllocError>
     requires tied { AreTied events.now before.now }
     requires last { last ≡ until id events.now }
     ensures { IfOk result (λ found. reverse found.items ≡ filter (is_given id number acknowledged) events.now) }
@@ -157,7 +159,7 @@ fn given_back(
 }
 
 /// How many events there are.
-fn count(events: &[Event]) -> usize
+fn count(events: &[ContractEvent]) -> usize
     ensures exact { result ≡ length events.now }
     ensures bound { result < 0x7fff_ffff_ffff_ffff }
 {
@@ -184,7 +186,7 @@ impl Past {
         make_room(&mut self.events, &mut self.before, &mut self.lasts, more)
     }
 
-    pub(crate) fn as_slice(&self) -> &[Event]
+    pub(crate) fn as_slice(&self) -> &[ContractEvent]
         ensures { result.now ≡ self.now.events }
     {
         &self.events
@@ -238,7 +240,7 @@ impl Past {
     /// Notes an event of a contract after the others. There is room for it.
     pub(crate) fn note(&mut self, contract: Number, kind: EventKind, left: bool)
         requires { length self.old.events < self.old.fit }
-        ensures noted { self.new.events ≡ noted self.old.events contract kind left }
+        ensures noted { self.new.events ≡ with_next_event self.old.events contract kind left }
         ensures len { length self.new.events ≡ length self.old.events + 1 }
         ensures fit { self.old.fit ≤ self.new.fit }
     {
@@ -246,7 +248,7 @@ impl Past {
         let last = self.last(id);
         let count = self.last_event(contract) + 1;
         let number = Number::new(count).unwrap();
-        let event = Event {
+        let event = ContractEvent {
             contract,
             number,
             kind,
@@ -289,7 +291,7 @@ impl Past {
     }
 
     /// The event of a number of a contract.
-    pub(crate) fn event(&self, contract: u64, number: u64) -> Option<Event>
+    pub(crate) fn event(&self, contract: u64, number: u64) -> Option<ContractEvent>
         ensures { result ≡ event_in self.now.events contract number }
     {
         match self.place_of(contract, number) {
@@ -305,7 +307,7 @@ impl Past {
         id: Number,
         number: Number,
         acknowledged: Number,
-    ) -> Result<Vec<Event>, AllocError>
+    ) -> Result<Vec<ContractEvent>, AllocError>
         ensures { IfOk result (λ found. found.items ≡ filter (is_given id number acknowledged) self.now.events) }
     {
         let last = self.last(id.get());
@@ -323,7 +325,11 @@ impl Past {
     }
 
     /// All events of a contract.
-    pub(crate) fn events_of(&self, alloc: Global, id: Number) -> Result<Vec<Event>, AllocError>
+    pub(crate) fn events_of(
+        &self,
+        alloc: Global,
+        id: Number,
+    ) -> Result<Vec<ContractEvent>, AllocError>
         ensures { IfOk result (λ found. found.items ≡ filter (is_event_of id) self.now.events) }
     {
         let _events = &self.events;

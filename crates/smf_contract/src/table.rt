@@ -1,18 +1,19 @@
 ghost use Rattle.std.specs.Prelude.{◌≡◌, IfOk, MatchResult, OnOk, OnErr, true, false};
-ghost use Rattle.smf_contract.specs.Entries.{contract, empty, first_member, has_members, home, reported, status, status_of, statuses, events_from};
-ghost use Rattle.smf_contract.specs.Calls.{Leaves, Makes, spawned, forked, exited, failed, cored, signalled, failed_by_hardware, gone, adopted, abandoned, killed, acknowledged, next_contract, rebooted};
-ghost use Rattle.smf_contract.specs.Called.{called, emptied_by};
+ghost use Rattle.smf_contract.specs.Entries.{contract, empty, first_member, has_members, home, report_of_event, status, status_of, statuses, events_from};
+ghost use Rattle.smf_contract.specs.Calls.{Leaves, Makes, result_of_spawn, result_of_fork, result_of_exit, result_of_failure, result_of_core, result_of_signal, failed_by_hardware, table_without_actor, result_of_adoption, result_of_abandonment, result_of_kill, result_of_acknowledgement, next_contract, table_after_reboot};
+ghost use Rattle.smf_contract.specs.Called.{table_after_contract_call, emptied_by};
 ghost use Rattle.smf_contract.specs.declared.call.ContractCall.TheVariants as calls;
 
 use crate::book::Book;
 use crate::call::ContractCall;
 use crate::change::{earlier, end_members, end_with, exit_all, exit_one, kind_of, make_room};
 use crate::contract::{Contract, Holder, Member, Report, Status};
-use crate::emptying::{ended_ids, failed_ids, ids_left, killed_ids};
-use crate::event::{Event, EventKind, Exit, Failure};
+use crate::ends::{ended_ids, failed_ids, ids_left, killed_ids};
+use crate::event::{ContractEvent, EventKind, Exit, Failure};
 use crate::fault::ContractFault;
 use crate::lookup::{
-    acknowledged_at, first_member, has_members, held, home, is_fatal, is_held, processes, report,
+    acknowledged_at, contract_held_by, first_member, has_members, home, is_fatal, is_held,
+    processes, report,
 };
 use crate::past::Past;
 use crate::terms::Terms;
@@ -29,7 +30,7 @@ pub struct Made {
 
 /// The contracts of all actors, as contract(4) and process(4) have them.
 #[derive(Drop)]
-pub struct Table {
+pub struct ContractTable {
     alloc: Global,
     book: Book,
     members: Vec<Member>,
@@ -37,7 +38,7 @@ pub struct Table {
     last_process: Number,
 }
 
-impl Model for Table {
+impl Model for ContractTable {
     ghost use Rattle.std.specs.Prelude.{length, vec_len, vec_capacity};
     ghost use Rattle.smf_contract.specs.Entries.{Kept, has_room};
 
@@ -46,11 +47,11 @@ impl Model for Table {
     ghost view = { λ t. record { table = record { contracts = t.book.contracts; members = t.members.items; events = t.past.events; last_contract = t.book.last; last_process = t.last_process }; room = has_room (length t.book.contracts) t.book.fit (vec_len t.members) (vec_capacity t.members) (length t.past.events) t.past.fit } };
 }
 
-impl Table {
-    pub fn new(alloc: Global) -> Table
+impl ContractTable {
+    pub fn new(alloc: Global) -> ContractTable
         ensures { result.table ≡ empty }
     {
-        Table {
+        ContractTable {
             alloc,
             book: Book::new(alloc),
             members: Vec::new(alloc),
@@ -69,9 +70,9 @@ impl Table {
     }
 
     /// Makes a contract that an actor holds, with one process. `Full` comes if no id or no number is left.
-    #[tactic(auto, unfolding(crate::specs::Calls::spawned))]
+    #[tactic(auto, unfolding(crate::specs::Calls::result_of_spawn))]
     pub fn spawn(&mut self, actor: u64, cookie: u64, terms: Terms) -> Result<Made, ContractFault>
-        ensures exact { Makes result (spawned self.old.table actor cookie terms) self.new.table }
+        ensures exact { Makes result (result_of_spawn self.old.table actor cookie terms) self.new.table }
         ensures err { OnErr result (self.new.table ≡ self.old.table) }
         ensures memory { result ≡ Err ContractFault.Memory → self.old.room ≡ false }
     {
@@ -97,9 +98,9 @@ impl Table {
     }
 
     /// A member forks. The answer is the number of the new process, which is a member too.
-    #[tactic(auto, unfolding(crate::specs::Calls::forked))]
+    #[tactic(auto, unfolding(crate::specs::Calls::result_of_fork))]
     pub fn fork(&mut self, process: Number) -> Result<Number, ContractFault>
-        ensures exact { Makes result (forked self.old.table process) self.new.table }
+        ensures exact { Makes result (result_of_fork self.old.table process) self.new.table }
         ensures err { OnErr result (self.new.table ≡ self.old.table) }
         ensures memory { result ≡ Err ContractFault.Memory → self.old.room ≡ false }
     {
@@ -121,9 +122,9 @@ impl Table {
     }
 
     /// A member exits.
-    #[tactic(auto, unfolding(crate::specs::Calls::exited))]
+    #[tactic(auto, unfolding(crate::specs::Calls::result_of_exit))]
     pub fn exit(&mut self, process: Number, exit: Exit) -> Result<(), ContractFault>
-        ensures exact { Leaves result (exited self.old.table process exit) self.new.table }
+        ensures exact { Leaves result (result_of_exit self.old.table process exit) self.new.table }
         ensures err { OnErr result (self.new.table ≡ self.old.table) }
         ensures memory { result ≡ Err ContractFault.Memory → self.old.room ≡ false }
     {
@@ -137,7 +138,7 @@ impl Table {
 
     /// A member dumps core, which ends it, and all others if that is fatal.
     pub fn core(&mut self, process: Number) -> Result<(), ContractFault>
-        ensures exact { Leaves result (cored self.old.table process) self.new.table }
+        ensures exact { Leaves result (result_of_core self.old.table process) self.new.table }
         ensures err { OnErr result (self.new.table ≡ self.old.table) }
         ensures memory { result ≡ Err ContractFault.Memory → self.old.room ≡ false }
     {
@@ -146,7 +147,7 @@ impl Table {
 
     /// A signal ends a member, and all others if that is fatal.
     pub fn signal(&mut self, process: Number) -> Result<(), ContractFault>
-        ensures exact { Leaves result (signalled self.old.table process) self.new.table }
+        ensures exact { Leaves result (result_of_signal self.old.table process) self.new.table }
         ensures err { OnErr result (self.new.table ≡ self.old.table) }
         ensures memory { result ≡ Err ContractFault.Memory → self.old.room ≡ false }
     {
@@ -163,9 +164,9 @@ impl Table {
     }
 
     /// A failure ends a member, and all others if it is fatal.
-    #[tactic(auto, unfolding(crate::specs::Calls::failed))]
+    #[tactic(auto, unfolding(crate::specs::Calls::result_of_failure))]
     pub fn fail(&mut self, process: Number, failure: Failure) -> Result<(), ContractFault>
-        ensures exact { Leaves result (failed failure self.old.table process) self.new.table }
+        ensures exact { Leaves result (result_of_failure failure self.old.table process) self.new.table }
         ensures err { OnErr result (self.new.table ≡ self.old.table) }
         ensures memory { result ≡ Err ContractFault.Memory → self.old.room ≡ false }
     {
@@ -189,9 +190,9 @@ impl Table {
     }
 
     /// An actor is gone. Its contracts can be adopted if their terms say `inherit`; the others are abandoned.
-    #[tactic(auto, unfolding(crate::specs::Calls::gone))]
+    #[tactic(auto, unfolding(crate::specs::Calls::table_without_actor))]
     pub fn holder_gone(&mut self, actor: u64) -> Result<(), AllocError>
-        ensures exact { OnOk result (self.new.table ≡ gone self.old.table actor) }
+        ensures exact { OnOk result (self.new.table ≡ table_without_actor self.old.table actor) }
         ensures err { OnErr result (self.new.table ≡ self.old.table) }
         ensures memory { OnErr result (self.old.room ≡ false) }
     {
@@ -207,9 +208,10 @@ impl Table {
     }
 
     /// Takes over a contract that is inherited; of any other it is `NotInherited`.
-    #[tactic(auto, unfolding(crate::specs::Calls::adopted))]
+    #[tactic(auto, unfolding(crate::specs::Calls::result_of_adoption))]
     pub fn adopt(&mut self, actor: u64, id: Number) -> Result<(), ContractFault>
-        ensures exact { MatchResult result (λ _. adopted self.old.table actor id ≡ Ok self.new.table) (λ e. adopted self.old.table actor id ≡ Err e) }
+        ensures exact { MatchResult result (λ _. result_of_adoption self.old.table actor id ≡ Ok self.new.table)
+            (λ e. result_of_adoption self.old.table actor id ≡ Err e) }
         ensures room { self.new.room ≡ self.old.room }
         ensures err { OnErr result (self.new ≡ self.old) }
     {
@@ -226,13 +228,13 @@ impl Table {
     }
 
     /// Gives a contract up for good. Its members end if the terms say `noorphan`.
-    #[tactic(auto, unfolding(crate::specs::Calls::abandoned))]
+    #[tactic(auto, unfolding(crate::specs::Calls::result_of_abandonment))]
     pub fn abandon(&mut self, actor: u64, id: Number) -> Result<(), ContractFault>
-        ensures exact { Leaves result (abandoned self.old.table actor id) self.new.table }
+        ensures exact { Leaves result (result_of_abandonment self.old.table actor id) self.new.table }
         ensures err { OnErr result (self.new.table ≡ self.old.table) }
         ensures memory { result ≡ Err ContractFault.Memory → self.old.room ≡ false }
     {
-        let Some(contract) = held(&self.book, actor, id) else {
+        let Some(contract) = contract_held_by(&self.book, actor, id) else {
             return Err(ContractFault::NotHeld);
         };
         make_room(&mut self.book, &mut self.members, &mut self.past)?;
@@ -244,13 +246,13 @@ impl Table {
     }
 
     /// Kills the members of a contract, if it has any.
-    #[tactic(auto, unfolding(crate::specs::Calls::killed))]
+    #[tactic(auto, unfolding(crate::specs::Calls::result_of_kill))]
     pub fn kill(&mut self, actor: u64, id: Number) -> Result<(), ContractFault>
-        ensures exact { Leaves result (killed self.old.table actor id) self.new.table }
+        ensures exact { Leaves result (result_of_kill self.old.table actor id) self.new.table }
         ensures err { OnErr result (self.new.table ≡ self.old.table) }
         ensures memory { result ≡ Err ContractFault.Memory → self.old.room ≡ false }
     {
-        if held(&self.book, actor, id).is_none() {
+        if contract_held_by(&self.book, actor, id).is_none() {
             return Err(ContractFault::NotHeld);
         }
         make_room(&mut self.book, &mut self.members, &mut self.past)?;
@@ -260,13 +262,15 @@ impl Table {
 
     /// Acknowledges the events of a contract up to a number, as far as they have happened:
     /// `events_from` gives them no more.
-    #[tactic(auto, unfolding(crate::specs::Calls::acknowledged))]
+    #[tactic(auto, unfolding(crate::specs::Calls::result_of_acknowledgement))]
     pub fn ack(&mut self, actor: u64, id: Number, number: Number) -> Result<(), ContractFault>
-        ensures exact { MatchResult result (λ _. acknowledged self.old.table actor id number ≡ Ok self.new.table) (λ e. acknowledged self.old.table actor id number ≡ Err e) }
+        ensures exact { MatchResult result
+            (λ _. result_of_acknowledgement self.old.table actor id number ≡ Ok self.new.table)
+            (λ e. result_of_acknowledgement self.old.table actor id number ≡ Err e) }
         ensures room { self.new.room ≡ self.old.room }
         ensures err { OnErr result (self.new ≡ self.old) }
     {
-        let Some(_) = held(&self.book, actor, id) else {
+        let Some(_) = contract_held_by(&self.book, actor, id) else {
             return Err(ContractFault::NotHeld);
         };
         let happened = Number::new(self.past.last_event(id)).unwrap();
@@ -277,7 +281,7 @@ impl Table {
     /// The machine begins anew: no contract, member or event is left. The numbers that were given
     /// are not given again.
     pub fn reboot(&mut self)
-        ensures exact { self.new.table ≡ rebooted self.old.table }
+        ensures exact { self.new.table ≡ table_after_reboot self.old.table }
         ensures room { self.old.room ≡ true → self.new.room ≡ true }
     {
         self.book.clear();
@@ -286,10 +290,10 @@ impl Table {
     }
 
     /// Does a call, for which `reserve` made room. A call that the table refuses leaves the table as it was.
-    #[tactic(auto, unfolding(crate::specs::Called::called))]
+    #[tactic(auto, unfolding(crate::specs::Called::table_after_contract_call))]
     pub fn call(&mut self, call: ContractCall)
         requires { self.old.room ≡ true }
-        ensures { self.new.table ≡ called self.old.table call }
+        ensures { self.new.table ≡ table_after_contract_call self.old.table call }
     {
         match call {
             ContractCall::Nothing => {}
@@ -428,7 +432,11 @@ impl Table {
 
     /// The events of a contract from a number on that were not acknowledged; none of a contract
     /// that is not there.
-    pub fn events_from(&self, id: Number, number: Number) -> Result<Items<Event>, AllocError>
+    pub fn events_from(
+        &self,
+        id: Number,
+        number: Number,
+    ) -> Result<Items<ContractEvent>, AllocError>
         ensures { IfOk result (λ given. given ≡ events_from self.now.table id number) }
     {
         let acknowledged = acknowledged_at(&self.book, id);
@@ -439,9 +447,9 @@ impl Table {
     }
 
     /// The event of a number of a contract, for a report to its holder; none if there is no such event.
-    #[tactic(auto, unfolding(crate::specs::Entries::reported))]
+    #[tactic(auto, unfolding(crate::specs::Entries::report_of_event))]
     pub fn report(&self, contract: u64, number: u64) -> Option<Report>
-        ensures { result ≡ reported self.now.table contract number }
+        ensures { result ≡ report_of_event self.now.table contract number }
     {
         report(&self.book, &self.past, contract, number)
     }
@@ -499,7 +507,7 @@ impl Table {
     }
 
     /// The events of all contracts, in the order in which they happened.
-    pub fn events(&self) -> &[Event]
+    pub fn events(&self) -> &[ContractEvent]
         ensures { result.now ≡ self.now.table.events }
     {
         self.past.as_slice()

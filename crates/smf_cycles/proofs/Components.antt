@@ -27,11 +27,13 @@ comes_on edges a b c p q =
     let P : ℕ → Type 0 = λ n. Comes edges a n in
     elim q [
       | inl e ↦ subst P e p
-      | inr k ↦ let Q : ℕ → Type 0 = λ n. Comes edges n c in elim p [ inl e ↦ subst Q (sym e) (inr k) | inr l ↦ inr (leads_on edges a b c l k) ]
+      | inr k ↦ let Q : ℕ → Type 0 = λ n. Comes edges n c in
+          elim p [ inl e ↦ subst Q (sym e) (inr k) | inr l ↦ inr (leads_on edges a b c l k) ]
     ]
 
 way_comes : (edges : List (List ℕ)) (flags : List Bool) (targets : List ℕ) (target q : ℕ)
-    → FlagsSay (λ a. Comes edges a (slice_index targets a)) flags → is_way flags targets target q ≡ true → Comes edges q target
+    → FlagsSay (λ a. Comes edges a (slice_index targets a)) flags → is_way flags targets target q ≡ true
+    → Comes edges q target
 unfolding is_way
 way_comes edges flags targets target q f h =
     let P : ℕ → Type 0 = λ n. Comes edges q n in
@@ -67,7 +69,8 @@ way_back_comes edges is_led flags roots root a target led f h =
 pub spread_none : (roots : List ℕ) (root : ℕ) (flags : List Bool) → IsSpread roots root [] flags flags
 spread_none roots root flags = record { only = λ a h. inl h }
 
-pub spread_more : (roots : List ℕ) (root p : ℕ) (places : List ℕ) (before after : List Bool) → slice_index roots p ≡ root
+pub spread_more : (roots : List ℕ) (root p : ℕ) (places : List ℕ) (before after : List Bool)
+    → slice_index roots p ≡ root
     → IsSpread roots root places before after → IsSpread roots root (places ++ p ∷ []) before (set after p true)
 spread_more roots root p places before after same s =
     let P : ℕ → Type 0 = λ n. (is_among (places ++ p ∷ []) n ≡ true) × (slice_index roots n ≡ root) in
@@ -84,7 +87,8 @@ spread_same roots root p places before after s = record {
   only = λ a h. elim (s.only a h) [ inl j ↦ inl j | inr j ↦ inr (among_left places (p ∷ []) a j.0, j.1) ];
 }
 
-pub says_alone : (edges : List (List ℕ)) (roots : List ℕ) (flags : List Bool) → FlagsSay (λ a. slice_index roots a ≡ a) flags
+pub says_alone : (edges : List (List ℕ)) (roots : List ℕ) (flags : List Bool)
+    → FlagsSay (λ a. slice_index roots a ≡ a) flags
     → FlagsSay (λ a. Comes edges (slice_index roots a) a) flags
 says_alone edges roots flags f = record { says = λ a h. inl (f.says a h) }
 
@@ -106,5 +110,8 @@ says_spread edges roots p before after f h s = record {
 pub round : (edges : List (List ℕ)) (a root : ℕ) → Leads edges a root → Comes edges root a → IsOnCycle edges a
 round edges a root there back =
     let P : ℕ → Type 0 = λ n. Leads edges a n in
-    let way = elim back as (λ _. Leads edges a a) [ inl e ↦ subst P e there | inr k ↦ leads_on edges a root a there k ] in
+    let way = elim back as (λ _. Leads edges a a) [
+      | inl e ↦ subst P e there
+      | inr k ↦ leads_on edges a root a there k
+    ] in
     (way.between, way.path)

@@ -26,11 +26,15 @@ none_among b e = cc
 none_cited : (edges : List (List ℕ)) → list_all leads_nowhere edges ≡ true → (a b : ℕ) → cites edges a b ≡ true → ⊥
 none_cited edges h a b e = none_among b (subst (λ places. is_among places b ≡ true) (none_at edges h a) e)
 
-no_path : (edges : List (List ℕ)) → list_all leads_nowhere edges ≡ true → (a : ℕ) (between : List ℕ) (b : ℕ) → IsPath edges a between b → ⊥
+no_path : (edges : List (List ℕ)) → list_all leads_nowhere edges ≡ true → (a : ℕ) (between : List ℕ) (b : ℕ)
+    → IsPath edges a between b → ⊥
 no_path edges h a [] b e = none_cited edges h a b e
 no_path edges h a (c ∷ between) b e = none_cited edges h a c e.0
 
-pub none_on_cycle : (edges : List (List ℕ)) (flags : List Bool) (n : ℕ) → list_all leads_nowhere edges ≡ true → flags ≡ replicate n false
+pub none_on_cycle : (edges : List (List ℕ)) (flags : List Bool) (n : ℕ) → list_all leads_nowhere edges ≡ true
+    → flags ≡ replicate n false
     → (a : ℕ) → IsTrue (flag_at flags a) ↔ IsOnCycle edges a
-none_on_cycle edges flags n h e a =
-    ((λ t. absurd (none_flagged n a (subst (λ fs. flag_at fs a ≡ true) e t))), (λ way. absurd (no_path edges h a way.0 a way.1)))
+none_on_cycle edges flags n h e a = (
+  (λ t. absurd (none_flagged n a (subst (λ fs. flag_at fs a ≡ true) e t))),
+  (λ way. absurd (no_path edges h a way.0 a way.1)),
+)

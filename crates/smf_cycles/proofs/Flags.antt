@@ -1,7 +1,7 @@
 -- A flag is set.
 use Rattle.std.proofs.Common.{◌≡◌, ◌⊎◌, inl, inr, ℕ, zero, suc, ◌+◌, ◌<◌, Bool, true, false, List, [], ◌∷◌, length, set, refl, ap, arith, replicate, ◌++◌, ◌↔◌, IsTrue, below_more}
 use Rattle.smf_cycles.specs.Paths.{flag_at}
-use Rattle.smf_cycles.specs.Searches.{unseen}
+use Rattle.smf_cycles.specs.Searches.{unseen_count}
 
 pub set_cases : (flags : List Bool) (p a : ℕ) → flag_at (set flags p true) a ≡ true → (flag_at flags a ≡ true) ⊎ (p ≡ a)
 unfolding flag_at
@@ -39,8 +39,8 @@ none_flagged (suc n) zero h = cc
 none_flagged (suc n) (suc a) h = none_flagged n a h
 
 pub unseen-set : (seen : List Bool) (p : ℕ) → flag_at seen p ≡ false → p < length seen
-    → unseen (set seen p true) + 1 ≡ unseen seen
-unfolding flag_at unseen
+    → unseen_count (set seen p true) + 1 ≡ unseen_count seen
+unfolding flag_at unseen_count
 unseen-set [] p h k = absurd (omega arith)
 unseen-set (true ∷ seen) zero h k = absurd cc
 unseen-set (false ∷ seen) zero h k = refl
@@ -49,7 +49,8 @@ unseen-set (false ∷ seen) (suc p) h k = let e = unseen-set seen p h (omega ari
 
 -- ---- one more flag
 
-pub flag_before : (flags : List Bool) (f : Bool) (a : ℕ) → a < length flags → flag_at (flags ++ f ∷ []) a ≡ flag_at flags a
+pub flag_before : (flags : List Bool) (f : Bool) (a : ℕ) → a < length flags
+    → flag_at (flags ++ f ∷ []) a ≡ flag_at flags a
 unfolding flag_at
 flag_before [] f a h = absurd (omega arith)
 flag_before (g ∷ flags) f zero h = refl

@@ -1,6 +1,6 @@
 pub mod Edgeless
 pub mod Membership
 pub mod Flags
-pub mod Falling
-pub mod Searching
+pub mod Descents
+pub mod Searches
 pub mod Components

@@ -48,7 +48,8 @@ among_cons x b xs h =
 pub among_only : (x b : ℕ) → is_among (x ∷ []) b ≡ true → x ≡ b
 among_only x b h = elim (among_cons x b [] h) [ inl e ↦ e | inr k ↦ absurd (among_none b k) ]
 
-pub among_either : (xs ys : List ℕ) (b : ℕ) → is_among (xs ++ ys) b ≡ true → (is_among xs b ≡ true) ⊎ (is_among ys b ≡ true)
+pub among_either : (xs ys : List ℕ) (b : ℕ) → is_among (xs ++ ys) b ≡ true
+    → (is_among xs b ≡ true) ⊎ (is_among ys b ≡ true)
 unfolding is_among
 among_either xs ys b h =
     or_either (list_any (λ q. q == b) xs) (list_any (λ q. q == b) ys) (sym (list_any-append (λ q. q == b) xs ys) ∙ h)
@@ -83,7 +84,8 @@ pub cites_within : (edges : List (List ℕ)) (a b : ℕ) → cites edges a b ≡
 cites_within edges a b h =
     elim (cases_lt a (length edges)) [
       | inl low ↦ low
-      | inr past ↦ let P : List ℕ → Type 0 = λ l. is_among l b ≡ true in absurd (among_none b (subst P (edges_past edges a past) h))
+      | inr past ↦ let P : List ℕ → Type 0 = λ l. is_among l b ≡ true in
+          absurd (among_none b (subst P (edges_past edges a past) h))
     ]
 
 pub path_within : (edges : List (List ℕ)) (a b : ℕ) (between : List ℕ) → IsPath edges a between b → a < length edges

@@ -18,4 +18,5 @@ is_way_back is_led flags roots root a target = (a == root) || (is_led && is_way 
 
 -- only those of the places that have the root got a flag
 pub record IsSpread (roots : List ℕ) (root : ℕ) (places : List ℕ) (before after : List Bool) : Type 0 where
-  pub only : (a : ℕ) → flag_at after a ≡ true → (flag_at before a ≡ true) ⊎ ((is_among places a ≡ true) × (slice_index roots a ≡ root))
+  pub only : (a : ℕ) → flag_at after a ≡ true → (flag_at before a ≡ true)
+      ⊎ ((is_among places a ≡ true) × (slice_index roots a ≡ root))

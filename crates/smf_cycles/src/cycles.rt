@@ -7,7 +7,7 @@ ghost use Rattle.smf_cycles.specs.Ranks.{NeverRises};
 use crate::graph::{edges_of, is_flagged, number_at};
 use crate::members::members_of;
 use crate::places::Places;
-use crate::ranks::{all_below, checked};
+use crate::ranks::{all_below, ranks_or_none};
 use crate::search::is_on_cycle;
 use crate::walk::Walk;
 use std::alloc::{AllocError, Global};
@@ -58,7 +58,8 @@ fn settle(
 /// has no edges.
 pub fn places_on_cycles(alloc: Global, edges: &[Places]) -> Result<Vec<bool>, AllocError>
     ensures length { IfOk result (λ flags. length flags.items ≡ length edges.now) }
-    ensures exact { IfOk result (λ flags. (a : ℕ) → a < length edges.now → IsTrue (flag_at flags.items a) ↔ IsOnCycle edges.now a) }
+    ensures exact { IfOk result (λ flags. (a : ℕ) → a < length edges.now
+        → IsTrue (flag_at flags.items a) ↔ IsOnCycle edges.now a) }
 {
     if all_lead_nowhere(edges) {
         let none = no_flags(alloc, edges.len())?;
@@ -67,7 +68,7 @@ pub fn places_on_cycles(alloc: Global, edges: &[Places]) -> Result<Vec<bool>, Al
     let mut walk = Walk::new(alloc, edges.len())?;
     walk.run(edges)?;
     let known = members_of(alloc, edges, &walk)?;
-    let ranks = checked(alloc, edges, walk.into_ranks());
+    let ranks = ranks_or_none(alloc, edges, walk.into_ranks());
     let mut flags = Vec::new(alloc);
     for place in 0..edges.len() {
         let flag = settle(alloc, edges, ranks.as_slice(), known.as_slice(), place)?;

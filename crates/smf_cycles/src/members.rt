@@ -139,7 +139,7 @@ fn led_from(
 }
 
 /// Flags places to which their roots lead and that have an edge to a place which leads to the same root.
-fn closed(
+fn cycle_flags(
     alloc: Global,
     edges: &[Places],
     back: &[bool],
@@ -169,8 +169,15 @@ pub(crate) fn members_of(
 {
     let roots = walk.roots();
     let targets = walk.targets();
-    let led = led_to(alloc, edges, walk.done(), targets)?;
-    let back = led_back(alloc, edges, walk.begun(), led.as_slice(), targets, roots)?;
-    let from = led_from(alloc, edges, walk.begun(), roots)?;
-    closed(alloc, edges, back.as_slice(), from.as_slice(), roots)
+    let led = led_to(alloc, edges, walk.exit_order(), targets)?;
+    let back = led_back(
+        alloc,
+        edges,
+        walk.entry_order(),
+        led.as_slice(),
+        targets,
+        roots,
+    )?;
+    let from = led_from(alloc, edges, walk.entry_order(), roots)?;
+    cycle_flags(alloc, edges, back.as_slice(), from.as_slice(), roots)
 }

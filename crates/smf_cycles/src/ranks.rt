@@ -44,7 +44,7 @@ fn never_rises(edges: &[Places], ranks: &[usize]) -> bool
 }
 
 /// The ranks, or none at all if they rise along some edge.
-pub(crate) fn checked(alloc: Global, edges: &[Places], ranks: Vec<usize>) -> Vec<usize>
+pub(crate) fn ranks_or_none(alloc: Global, edges: &[Places], ranks: Vec<usize>) -> Vec<usize>
     ensures { NeverRises edges.now result.items }
 {
     if never_rises(edges, ranks.as_slice()) {

@@ -1,6 +1,6 @@
 //! Finds if one place is on a cycle, by a search for all places that can be reached from it.
 
-ghost use Rattle.std.specs.Prelude.{◌≡◌, ◌∷◌, ◌↔◌, [], IfOk, IsTrue, OnOk};
+ghost use Rattle.std.specs.Prelude.{◌∷◌, ◌↔◌, [], IfOk, IsTrue, OnOk};
 ghost use Rattle.smf_cycles.specs.Paths.{IsOnCycle};
 ghost use Rattle.smf_cycles.specs.Searches.{IsGrown, IsSearch};
 

@@ -50,11 +50,11 @@ impl Walk {
         })
     }
 
-    pub(crate) fn begun(&self) -> &[usize] {
+    pub(crate) fn entry_order(&self) -> &[usize] {
         self.begun.as_slice()
     }
 
-    pub(crate) fn done(&self) -> &[usize] {
+    pub(crate) fn exit_order(&self) -> &[usize] {
         self.done.as_slice()
     }
 

@@ -28,12 +28,14 @@ behind_all : {X : Type 0} (xs : List X) → behind xs (Ok []) ≡ Ok xs
 behind_all [] = refl
 behind_all (x ∷ xs) = ap (with_first x) (behind_all xs)
 
-fails_by : {X : Type 0} (e : DependencyFault) (xs : List X) (r : Result X DependencyFault) (s : Result (List X) DependencyFault)
+fails_by : {X : Type 0} (e : DependencyFault) (xs : List X) (r : Result X DependencyFault)
+    (s : Result (List X) DependencyFault)
     → r ≡ Err e → behind xs (before r s) ≡ Err e
 fails_by e xs r s h = ap (λ q. behind xs (before q s)) h ∙ behind_fault xs e
 
 -- a fault of the next is the fault of all
-fails_behind : {X : Type 0} (e : DependencyFault) (xs : List X) (r : Result X DependencyFault) (s : Result (List X) DependencyFault)
+fails_behind : {X : Type 0} (e : DependencyFault) (xs : List X) (r : Result X DependencyFault)
+    (s : Result (List X) DependencyFault)
     → Fails e r → Fails e (behind xs (before r s))
 fails_behind faults.Memory xs r s h = tt
 fails_behind faults.BadGrouping xs r s h = fails_by faults.BadGrouping xs r s h
@@ -47,53 +49,67 @@ more_by xs r x s h = ap (λ q. behind xs (before q s)) h ∙ sym (behind_more xs
 
 -- ---- entities
 
-pub entity_more : (vs : List Value) (i : ℕ) (v : Value) (xs : List (List ℕ)) (x : List ℕ) → i < length vs → v ≡ get_or vs i v → entity_of v ≡ Ok x
-    → behind xs (entities_of (drop i vs)) ≡ entities_of vs → behind (xs ++ x ∷ []) (entities_of (drop (i + 1) vs)) ≡ entities_of vs
+pub entity_more : (vs : List Value) (i : ℕ) (v : Value) (xs : List (List ℕ)) (x : List ℕ) → i < length vs
+    → v ≡ get_or vs i v → entity_of v ≡ Ok x
+    → behind xs (entities_of (drop i vs)) ≡ entities_of vs
+    → behind (xs ++ x ∷ []) (entities_of (drop (i + 1) vs)) ≡ entities_of vs
 unfolding entities_of
 entity_more vs i v xs x lt at h so_far =
-    sym (more_by xs (entity_of v) x (entities_of (drop (i + 1) vs)) h) ∙ ap (λ l. behind xs (entities_of l)) (sym (left_at vs i v lt at)) ∙ so_far
+    sym (more_by xs (entity_of v) x (entities_of (drop (i + 1) vs)) h)
+    ∙ ap (λ l. behind xs (entities_of l)) (sym (left_at vs i v lt at)) ∙ so_far
 
-pub entity_fails : (e : DependencyFault) (vs : List Value) (i : ℕ) (v : Value) (xs : List (List ℕ)) → i < length vs → v ≡ get_or vs i v → Fails e (entity_of v)
+pub entity_fails : (e : DependencyFault) (vs : List Value) (i : ℕ) (v : Value) (xs : List (List ℕ)) → i < length vs
+    → v ≡ get_or vs i v → Fails e (entity_of v)
     → behind xs (entities_of (drop i vs)) ≡ entities_of vs → Fails e (entities_of vs)
 unfolding entities_of
 entity_fails e vs i v xs lt at h so_far =
-    subst (Fails e) (ap (λ l. behind xs (entities_of l)) (sym (left_at vs i v lt at)) ∙ so_far) (fails_behind e xs (entity_of v) (entities_of (drop (i + 1) vs)) h)
+    subst (Fails e) (ap (λ l. behind xs (entities_of l)) (sym (left_at vs i v lt at)) ∙ so_far)
+    (fails_behind e xs (entity_of v) (entities_of (drop (i + 1) vs)) h)
 
-pub entities_done : (vs : List Value) (i : ℕ) (xs : List (List ℕ)) → length vs ≤ i → behind xs (entities_of (drop i vs)) ≡ entities_of vs → entities_of vs ≡ Ok xs
+pub entities_done : (vs : List Value) (i : ℕ) (xs : List (List ℕ)) → length vs ≤ i
+    → behind xs (entities_of (drop i vs)) ≡ entities_of vs → entities_of vs ≡ Ok xs
 unfolding entities_of
 entities_done vs i xs le so_far = sym so_far ∙ ap (λ l. behind xs (entities_of l)) (drop_all vs i le) ∙ behind_all xs
 
 -- ---- groups
 
-with_it : (b : Bool) (g : GroupRecord) (s : Result (List Dependency) DependencyFault) → b ≡ true → with_group b g s ≡ before (dependency_of g) s
+with_it : (b : Bool) (g : GroupRecord) (s : Result (List Dependency) DependencyFault) → b ≡ true
+    → with_group b g s ≡ before (dependency_of g) s
 with_it b g s e = ap (λ c. with_group c g s) e
 
-without_it : (b : Bool) (g : GroupRecord) (s : Result (List Dependency) DependencyFault) → b ≡ false → with_group b g s ≡ s
+without_it : (b : Bool) (g : GroupRecord) (s : Result (List Dependency) DependencyFault) → b ≡ false
+    → with_group b g s ≡ s
 without_it b g s e = ap (λ c. with_group c g s) e
 
-pub group_more : (gs : List GroupRecord) (i : ℕ) (g : GroupRecord) (xs : List Dependency) (x : Dependency) → i < length gs → g ≡ get_or gs i g → is_dependency g ≡ true → dependency_of g ≡ Ok x
-    → behind xs (read_groups (drop i gs)) ≡ read_groups gs → behind (xs ++ x ∷ []) (read_groups (drop (i + 1) gs)) ≡ read_groups gs
+pub group_more : (gs : List GroupRecord) (i : ℕ) (g : GroupRecord) (xs : List Dependency) (x : Dependency)
+    → i < length gs → g ≡ get_or gs i g → is_dependency g ≡ true → dependency_of g ≡ Ok x
+    → behind xs (read_groups (drop i gs)) ≡ read_groups gs
+    → behind (xs ++ x ∷ []) (read_groups (drop (i + 1) gs)) ≡ read_groups gs
 unfolding read_groups
 group_more gs i g xs x lt at is h so_far =
     sym (more_by xs (dependency_of g) x (read_groups (drop (i + 1) gs)) h)
     ∙ ap (behind xs) (sym (with_it (is_dependency g) g (read_groups (drop (i + 1) gs)) is))
     ∙ ap (λ l. behind xs (read_groups l)) (sym (left_at gs i g lt at)) ∙ so_far
 
-pub group_passed : (gs : List GroupRecord) (i : ℕ) (g : GroupRecord) (xs : List Dependency) → i < length gs → g ≡ get_or gs i g → is_dependency g ≡ false
+pub group_passed : (gs : List GroupRecord) (i : ℕ) (g : GroupRecord) (xs : List Dependency) → i < length gs
+    → g ≡ get_or gs i g → is_dependency g ≡ false
     → behind xs (read_groups (drop i gs)) ≡ read_groups gs → behind xs (read_groups (drop (i + 1) gs)) ≡ read_groups gs
 unfolding read_groups
 group_passed gs i g xs lt at is so_far =
     ap (behind xs) (sym (without_it (is_dependency g) g (read_groups (drop (i + 1) gs)) is))
     ∙ ap (λ l. behind xs (read_groups l)) (sym (left_at gs i g lt at)) ∙ so_far
 
-pub group_fails : (e : DependencyFault) (gs : List GroupRecord) (i : ℕ) (g : GroupRecord) (xs : List Dependency) → i < length gs → g ≡ get_or gs i g → is_dependency g ≡ true → Fails e (dependency_of g)
+pub group_fails : (e : DependencyFault) (gs : List GroupRecord) (i : ℕ) (g : GroupRecord) (xs : List Dependency)
+    → i < length gs → g ≡ get_or gs i g → is_dependency g ≡ true → Fails e (dependency_of g)
     → behind xs (read_groups (drop i gs)) ≡ read_groups gs → Fails e (read_groups gs)
 unfolding read_groups
 group_fails e gs i g xs lt at is h so_far =
     subst (Fails e)
-    (ap (behind xs) (sym (with_it (is_dependency g) g (read_groups (drop (i + 1) gs)) is)) ∙ ap (λ l. behind xs (read_groups l)) (sym (left_at gs i g lt at)) ∙ so_far)
+    (ap (behind xs) (sym (with_it (is_dependency g) g (read_groups (drop (i + 1) gs)) is))
+    ∙ ap (λ l. behind xs (read_groups l)) (sym (left_at gs i g lt at)) ∙ so_far)
     (fails_behind e xs (dependency_of g) (read_groups (drop (i + 1) gs)) h)
 
-pub groups_done : (gs : List GroupRecord) (i : ℕ) (xs : List Dependency) → length gs ≤ i → behind xs (read_groups (drop i gs)) ≡ read_groups gs → read_groups gs ≡ Ok xs
+pub groups_done : (gs : List GroupRecord) (i : ℕ) (xs : List Dependency) → length gs ≤ i
+    → behind xs (read_groups (drop i gs)) ≡ read_groups gs → read_groups gs ≡ Ok xs
 unfolding read_groups
 groups_done gs i xs le so_far = sym so_far ∙ ap (λ l. behind xs (read_groups l)) (drop_all gs i le) ∙ behind_all xs

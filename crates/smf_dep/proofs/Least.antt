@@ -3,10 +3,10 @@ use Rattle.std.proofs.Common.{◌≡◌, ℕ, zero, suc, ◌+◌, ◌-◌, ◌<�
 use Rattle.std.specs.Prelude.{nat_lt, slice_index}
 use Rattle.std.proofs.Math.Path.{fun_ext}
 use Rattle.std.proofs.lemmas.Bool.{and_parts, both_ways, ltb-true, lt-ltb, cases_lt}
-use Rattle.smf_dep.specs.declared.link.Node.{Node}
-use Rattle.smf_dep.specs.Parking.{is_parked, off_at, parked_in, parks, parks_by, runs_at}
-use Rattle.smf_dep.specs.Stamps.{IsComplete, IsSound, before, stamped}
-use Rattle.smf_dep.proofs.Growing.{Below, idle_parks, none_past, parks_up}
+use Rattle.smf_dep.specs.declared.link.GraphNode.{GraphNode}
+use Rattle.smf_dep.specs.Blockage.{is_parked, off_at, parked_in, parks, parks_by, runs_at}
+use Rattle.smf_dep.specs.Stamps.{IsComplete, IsSound, before, has_stamp}
+use Rattle.smf_dep.proofs.Growth.{Below, idle_parks, none_past, parks_up}
 
 pub bool_both : (a b : Bool) → (a ≡ true → b ≡ true) → (b ≡ true → a ≡ true) → a ≡ b
 bool_both true b f g = sym (f refl)
@@ -19,22 +19,25 @@ not_unstamped : (b : Bool) (c : Bool) → (b ≡ false → c ≡ false) → c �
 not_unstamped true c f e = refl
 not_unstamped false c f e = absurd (both_ways c (f refl) e)
 
-rounds_stamped : (ns : List Node) (ss : List ℕ) → ((a : ℕ) → IsComplete ns ss a) → (k : ℕ) → Below (parked_in k ns) (stamped ss)
+rounds_stamped : (ns : List GraphNode) (ss : List ℕ) → ((a : ℕ) → IsComplete ns ss a) → (k : ℕ)
+    → Below (parked_in k ns) (has_stamp ss)
 unfolding parked_in
-rounds_stamped ns ss complete zero p h = not_unstamped (stamped ss p) (parks ns (stamped ss) p) (complete p) (idle_parks ns (stamped ss) p h)
+rounds_stamped ns ss complete zero p h =
+    not_unstamped (has_stamp ss p) (parks ns (has_stamp ss) p) (complete p) (idle_parks ns (has_stamp ss) p h)
 rounds_stamped ns ss complete (suc k) p h =
-    not_unstamped (stamped ss p) (parks ns (stamped ss) p) (complete p)
-    (parks_up ns (parked_in k ns) (stamped ss) (rounds_stamped ns ss complete k) p h)
+    not_unstamped (has_stamp ss p) (parks ns (has_stamp ss) p) (complete p)
+    (parks_up ns (parked_in k ns) (has_stamp ss) (rounds_stamped ns ss complete k) p h)
 
 -- ---- an instance with a stamp is parked in as many rounds as the stamp says
 
-stamped_rounds : (ns : List Node) (ss : List ℕ) → ((a : ℕ) → IsSound ns ss a) → (s p : ℕ) → slice_index ss p < s → stamped ss p ≡ true → parked_in s ns p ≡ true
+stamped_rounds : (ns : List GraphNode) (ss : List ℕ) → ((a : ℕ) → IsSound ns ss a) → (s p : ℕ) → slice_index ss p < s
+    → has_stamp ss p ≡ true → parked_in s ns p ≡ true
 unfolding parked_in
 stamped_rounds ns ss sound zero p lt h = absurd (omega arith)
 stamped_rounds ns ss sound (suc s) p lt h =
     parks_up ns (before ss (slice_index ss p)) (parked_in s ns)
     (λ q e.
-    let two = and_parts (stamped ss q) (nat_lt (slice_index ss q) (slice_index ss p)) e in
+    let two = and_parts (has_stamp ss q) (nat_lt (slice_index ss q) (slice_index ss p)) e in
     let less : slice_index ss q < slice_index ss p = ltb-true (slice_index ss q) (slice_index ss p) two.1 in
     let low : slice_index ss q < s = omega arith in
     stamped_rounds ns ss sound s q low two.0)
@@ -66,43 +69,52 @@ same_more P Q n same e p lt =
     ]
 
 -- either nothing is added below a place, or the count grows
-count_grows : (P Q : ℕ → Bool) → Below P Q → (n : ℕ) → (Same P Q n × (count_in P n ≤ count_in Q n)) ⊎ (count_in P n < count_in Q n)
+count_grows : (P Q : ℕ → Bool) → Below P Q → (n : ℕ) → (Same P Q n × (count_in P n ≤ count_in Q n))
+    ⊎ (count_in P n < count_in Q n)
 unfolding count_in
 count_grows P Q up zero = inl ((λ p lt. absurd (omega arith)), omega arith)
 count_grows P Q up (suc n) = by (P n) (Q n) refl refl (up n) (count_grows P Q up n)
   where
-    by : (b c : Bool) → P n ≡ b → Q n ≡ c → (P n ≡ true → Q n ≡ true) → (Same P Q n × (count_in P n ≤ count_in Q n)) ⊎ (count_in P n < count_in Q n)
+    by : (b c : Bool) → P n ≡ b → Q n ≡ c → (P n ≡ true → Q n ≡ true)
+        → (Same P Q n × (count_in P n ≤ count_in Q n)) ⊎ (count_in P n < count_in Q n)
         → (Same P Q (suc n) × ((if b then 1 else 0) + count_in P n ≤ (if c then 1 else 0) + count_in Q n))
         ⊎ ((if b then 1 else 0) + count_in P n < (if c then 1 else 0) + count_in Q n)
-    by true true e f u (inl h) = let le : count_in P n ≤ count_in Q n = h.1 in inl (same_more P Q n h.0 (e ∙ sym f), omega arith)
+    by true true e f u (inl h) = let le : count_in P n ≤ count_in Q n = h.1 in
+        inl (same_more P Q n h.0 (e ∙ sym f), omega arith)
     by true true e f u (inr h) = inr (omega arith)
     by true false e f u h = absurd (both_ways (Q n) f (u e))
     by false true e f u (inl h) = let le : count_in P n ≤ count_in Q n = h.1 in inr (omega arith)
     by false true e f u (inr h) = inr (omega arith)
-    by false false e f u (inl h) = let le : count_in P n ≤ count_in Q n = h.1 in inl (same_more P Q n h.0 (e ∙ sym f), omega arith)
+    by false false e f u (inl h) = let le : count_in P n ≤ count_in Q n = h.1 in
+        inl (same_more P Q n h.0 (e ∙ sym f), omega arith)
     by false false e f u (inr h) = inr (omega arith)
 
-pub past_rounds : (ns : List Node) (k p : ℕ) → length ns ≤ p → parked_in k ns p ≡ false
+pub past_rounds : (ns : List GraphNode) (k p : ℕ) → length ns ≤ p → parked_in k ns p ≡ false
 unfolding parked_in
-past_rounds ns zero p le = none_past (λ (n : Node). n.flags.idle) ns p le
+past_rounds ns zero p le = none_past (λ (n : GraphNode). n.flags.idle) ns p le
 past_rounds ns (suc k) p le = none_past (parks_by (runs_at ns) (off_at ns) (parked_in k ns)) ns p le
 
-same_rounds : (ns : List Node) (j k : ℕ) → Same (parked_in j ns) (parked_in k ns) (length ns) → parked_in j ns ≡ parked_in k ns
+same_rounds : (ns : List GraphNode) (j k : ℕ) → Same (parked_in j ns) (parked_in k ns) (length ns)
+    → parked_in j ns ≡ parked_in k ns
 same_rounds ns j k same =
-    fun_ext (λ p. elim (cases_lt p (length ns)) [ inl lt ↦ same p lt | inr le ↦ past_rounds ns j p le ∙ sym (past_rounds ns k p le) ])
+    fun_ext (λ p. elim (cases_lt p (length ns)) [
+      | inl lt ↦ same p lt
+      | inr le ↦ past_rounds ns j p le ∙ sym (past_rounds ns k p le)
+    ])
 
-rise : (ns : List Node) (k : ℕ) → Below (parked_in k ns) (parked_in (suc k) ns)
+rise : (ns : List GraphNode) (k : ℕ) → Below (parked_in k ns) (parked_in (suc k) ns)
 unfolding parked_in
 rise ns zero p h = idle_parks ns (parked_in zero ns) p h
 rise ns (suc k) p h = parks_up ns (parked_in k ns) (parked_in (suc k) ns) (rise ns k) p h
 
-rises : (ns : List Node) (k d : ℕ) → Below (parked_in k ns) (parked_in (d + k) ns)
-rises ns k zero p h = let e : k ≡ zero + k = omega arith in let F : ℕ → Type 0 = λ j. parked_in j ns p ≡ true in subst F e h
+rises : (ns : List GraphNode) (k d : ℕ) → Below (parked_in k ns) (parked_in (d + k) ns)
+rises ns k zero p h = let e : k ≡ zero + k = omega arith in let F : ℕ → Type 0 = λ j. parked_in j ns p ≡ true in
+    subst F e h
 rises ns k (suc d) p h =
     let e : suc (d + k) ≡ suc d + k = omega arith in let F : ℕ → Type 0 = λ j. parked_in j ns p ≡ true in
     subst F e (rise ns (d + k) p (rises ns k d p h))
 
-steady : (ns : List Node) (j d : ℕ) → parked_in j ns ≡ parked_in (suc j) ns → parked_in (d + j) ns ≡ parked_in j ns
+steady : (ns : List GraphNode) (j d : ℕ) → parked_in j ns ≡ parked_in (suc j) ns → parked_in (d + j) ns ≡ parked_in j ns
 unfolding parked_in
 steady ns j zero same = let e : zero + j ≡ j = omega arith in ap (λ k. parked_in k ns) e
 steady ns j (suc d) same =
@@ -110,7 +122,8 @@ steady ns j (suc d) same =
     ap (λ k. parked_in k ns) e ∙ ap (λ (P : ℕ → Bool). λ p. parks ns P p) (steady ns j d same) ∙ sym same
 
 -- before each round either an earlier one changed nothing, or as many are parked as rounds were taken
-pigeons : (ns : List Node) (k : ℕ) → ((j : ℕ) × (j < k) × (parked_in j ns ≡ parked_in (suc j) ns)) ⊎ (k ≤ count_in (parked_in k ns) (length ns))
+pigeons : (ns : List GraphNode) (k : ℕ) → ((j : ℕ) × (j < k) × (parked_in j ns ≡ parked_in (suc j) ns))
+    ⊎ (k ≤ count_in (parked_in k ns) (length ns))
 pigeons ns zero = inr (omega arith)
 pigeons ns (suc k) =
     elim (pigeons ns k) [
@@ -122,18 +135,20 @@ pigeons ns (suc k) =
           ]
     ]
 
-ends : (ns : List Node) → (j : ℕ) × (j ≤ length ns) × (parked_in j ns ≡ parked_in (suc j) ns)
+ends : (ns : List GraphNode) → (j : ℕ) × (j ≤ length ns) × (parked_in j ns ≡ parked_in (suc j) ns)
 ends ns =
     elim (pigeons ns (suc (length ns))) [
       | inl h ↦ let lt : h.0 < suc (length ns) = h.1 in (h.0, omega arith, h.2)
       | inr le ↦ let most = count_most (parked_in (suc (length ns)) ns) (length ns) in absurd (omega arith)
     ]
 
-steady_at : (ns : List Node) (j k : ℕ) → j ≤ k → parked_in j ns ≡ parked_in (suc j) ns → parked_in k ns ≡ parked_in j ns
-steady_at ns j k le same = let e : k ≡ (k - j) + j = omega arith in ap (λ i. parked_in i ns) e ∙ steady ns j (k - j) same
+steady_at : (ns : List GraphNode) (j k : ℕ) → j ≤ k → parked_in j ns ≡ parked_in (suc j) ns
+    → parked_in k ns ≡ parked_in j ns
+steady_at ns j k le same = let e : k ≡ (k - j) + j = omega arith in
+    ap (λ i. parked_in i ns) e ∙ steady ns j (k - j) same
 
 -- an instance that any number of rounds parks is parked
-pub all_in : (ns : List Node) (k p : ℕ) → parked_in k ns p ≡ true → is_parked ns p ≡ true
+pub all_in : (ns : List GraphNode) (k p : ℕ) → parked_in k ns p ≡ true → is_parked ns p ≡ true
 all_in ns k p h =
     let end = ends ns in let low : end.0 ≤ length ns = end.1 in let lower : end.0 ≤ length ns + k = omega arith in
     let same : parked_in (length ns + k) ns ≡ parked_in (length ns) ns =
@@ -141,20 +156,23 @@ all_in ns k p h =
     ap (λ (P : ℕ → Bool). P p) (sym same) ∙ rises ns k (length ns) p h
 
 -- Lemma 1
-pub least : (ns : List Node) (ss : List ℕ) → ((a : ℕ) → IsSound ns ss a) → ((a : ℕ) → IsComplete ns ss a) → stamped ss ≡ is_parked ns
+pub least : (ns : List GraphNode) (ss : List ℕ) → ((a : ℕ) → IsSound ns ss a) → ((a : ℕ) → IsComplete ns ss a)
+    → has_stamp ss ≡ is_parked ns
 least ns ss sound complete =
-    fun_ext (λ p. bool_both (stamped ss p) (is_parked ns p)
+    fun_ext (λ p. bool_both (has_stamp ss p) (is_parked ns p)
     (λ h. all_in ns (suc (slice_index ss p)) p (stamped_rounds ns ss sound (suc (slice_index ss p)) p (omega arith) h))
     (rounds_stamped ns ss complete (length ns) p))
 
 -- if all stamps are below a limit, a place with a stamp has one below it
-pub before_all : (ss : List ℕ) (limit : ℕ) → ((a : ℕ) → slice_index ss a < limit) → before ss limit ≡ stamped ss
-before_all ss limit low = fun_ext (λ p. by (stamped ss p) (nat_lt (slice_index ss p) limit) (lt-ltb (slice_index ss p) limit (low p)))
+pub before_all : (ss : List ℕ) (limit : ℕ) → ((a : ℕ) → slice_index ss a < limit) → before ss limit ≡ has_stamp ss
+before_all ss limit low =
+    fun_ext (λ p. by (has_stamp ss p) (nat_lt (slice_index ss p) limit) (lt-ltb (slice_index ss p) limit (low p)))
   where
     by : (b c : Bool) → c ≡ true → (b && c) ≡ b
     by true c e = e
     by false c e = refl
 
-pub limit_least : (ns : List Node) (ss : List ℕ) (limit : ℕ) → ((a : ℕ) → slice_index ss a < limit) → ((a : ℕ) → IsSound ns ss a) → ((a : ℕ) → IsComplete ns ss a)
+pub limit_least : (ns : List GraphNode) (ss : List ℕ) (limit : ℕ) → ((a : ℕ) → slice_index ss a < limit)
+    → ((a : ℕ) → IsSound ns ss a) → ((a : ℕ) → IsComplete ns ss a)
     → before ss limit ≡ is_parked ns
 limit_least ns ss limit low sound complete = before_all ss limit low ∙ least ns ss sound complete

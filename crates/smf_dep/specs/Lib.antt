@@ -5,7 +5,7 @@ pub mod Verdicts
 pub mod Cycles
 pub mod Places
 pub mod Names
-pub mod Parking
+pub mod Blockage
 pub mod Stamps
 pub mod Updates
 pub mod Tallies

@@ -2,27 +2,29 @@
 use Rattle.std.specs.Prelude.{◌≡◌, ℕ, ◌+◌, List, [], ◌∷◌, if◌then◌else◌, Vec}
 use Rattle.std.specs.Option.{option_map_or}
 use Rattle.std.specs.Str.{bytes_eq}
-use Rattle.smf_fmri.specs.Matching.{service_of}
+use Rattle.smf_fmri.specs.Patterns.{service_of}
 use Rattle.std.specs.Borrow.{Bor}
 use Rattle.std.specs.HashMap as hash
 use Rattle.std.specs.HashMap.{HashMap}
-use Rattle.smf_dep.specs.declared.member.Member.{Member}
+use Rattle.smf_dep.specs.declared.member.GraphMember.{GraphMember}
 
 -- the places that a name has in a map
 abbrev pub found_at : {Y S : Type 0} → HashMap (Bor (List ℕ)) (Vec ℕ Y) S → List ℕ → List ℕ
 found_at m q = option_map_or (λ v. v.items) (hash.get_by (λ k. bytes_eq q k.now) m) []
 
-abbrev pub instance_name : Member → List ℕ
+abbrev pub instance_name : GraphMember → List ℕ
 instance_name m = m.name
 
-abbrev pub service_name : Member → List ℕ
+abbrev pub service_name : GraphMember → List ℕ
 service_name m = service_of m.name
 
 -- the places, counted from at, of the instances that have the name
-abbrev pub named_from : (Member → List ℕ) → ℕ → List ℕ → List Member → List ℕ
+abbrev pub named_from : (GraphMember → List ℕ) → ℕ → List ℕ → List GraphMember → List ℕ
 named_from name at q [] = []
-named_from name at q (m ∷ ms) = if bytes_eq q (name m) then at ∷ named_from name (at + 1) q ms else named_from name (at + 1) q ms
+named_from name at q (m ∷ ms) = if bytes_eq q (name m) then at ∷ named_from name (at + 1) q ms
+    else named_from name (at + 1) q ms
 
 -- a map has at each name the places of the instances with that name
-abbrev pub AreAt : {Y S : Type 0} → (Member → List ℕ) → HashMap (Bor (List ℕ)) (Vec ℕ Y) S → List Member → Type 0
+abbrev pub AreAt : {Y S : Type 0} → (GraphMember → List ℕ) → HashMap (Bor (List ℕ)) (Vec ℕ Y) S → List GraphMember
+    → Type 0
 AreAt name m ms = (q : List ℕ) → found_at m q ≡ named_from name 0 q ms

@@ -2,7 +2,7 @@
 use Rattle.std.specs.Prelude.{◌≡◌, ℕ, nat_eq, List, [], ◌∷◌, Bool, true, false, if◌then◌else◌, codes, Option, Some, None, Result, Ok, Err}
 use Rattle.std.specs.Cmp.Lexicographic.{pointwise}
 use Rattle.smf_fmri.specs.declared.fault.FmriFault.{FmriFault}
-use Rattle.smf_fmri.specs.Name.{read}
+use Rattle.smf_fmri.specs.Name.{name_of_text}
 use Rattle.smf_value.specs.declared.kind.Kind.{Kind}
 use Rattle.smf_value.specs.declared.kind.Kind.TheVariants as kinds
 use Rattle.smf_value.specs.declared.value.Value.{Value}
@@ -65,30 +65,31 @@ abbrev pub is_of_services : Option PropertyRecord → Bool
 is_of_services None = true
 is_of_services (Some p) = is_service_text (text_of p.values)
 
-abbrev pub found : {X : Type 0} → DependencyFault → Option X → Result X DependencyFault
-found fault None = Err fault
-found fault (Some x) = Ok x
+abbrev pub value_or_fault : {X : Type 0} → DependencyFault → Option X → Result X DependencyFault
+value_or_fault fault None = Err fault
+value_or_fault fault (Some x) = Ok x
 
 abbrev pub of_services : Bool → Result Bool DependencyFault
 of_services b = if b then Ok b else Err PathType
 
 -- ---- entities
 
-abbrev pub named : Result (List ℕ) FmriFault → Result (List ℕ) DependencyFault
-named (Ok name) = Ok name
-named (Err e) = Err BadEntity
+abbrev pub name_or_bad_entity : Result (List ℕ) FmriFault → Result (List ℕ) DependencyFault
+name_or_bad_entity (Ok name) = Ok name
+name_or_bad_entity (Err e) = Err BadEntity
 
 -- the name that a value gives, in its short form
 abbrev pub entity_of : Value → Result (List ℕ) DependencyFault
 entity_of (Fmri name) = Ok name
-entity_of (Astring text) = named (read text)
+entity_of (Astring text) = name_or_bad_entity (name_of_text text)
 entity_of _ = Err BadEntity
 
 abbrev pub with_first : {X : Type 0} → X → Result (List X) DependencyFault → Result (List X) DependencyFault
 with_first x (Ok xs) = Ok (x ∷ xs)
 with_first x (Err e) = Err e
 
-abbrev pub before : {X : Type 0} → Result X DependencyFault → Result (List X) DependencyFault → Result (List X) DependencyFault
+abbrev pub before : {X : Type 0} → Result X DependencyFault → Result (List X) DependencyFault
+    → Result (List X) DependencyFault
 before (Ok x) others = with_first x others
 before (Err e) others = Err e
 
@@ -115,8 +116,8 @@ entities_in (Some p) = entities_by (is_of_names p.kind) p.values
 -- the first fault is that of `grouping`, `restart_on`, `type` and then `entities`
 unfoldable pub dependency_of : GroupRecord → Result Dependency DependencyFault
 dependency_of g = do
-  grouping ← found BadGrouping (grouping_in (text_in (property_of (codes "grouping") g)))
-  restart_on ← found BadRestartOn (restart_in (text_in (property_of (codes "restart_on") g)))
+  grouping ← value_or_fault BadGrouping (grouping_in (text_in (property_of (codes "grouping") g)))
+  restart_on ← value_or_fault BadRestartOn (restart_in (text_in (property_of (codes "restart_on") g)))
   services ← of_services (is_of_services (property_of (codes "type") g))
   entities ← entities_in (property_of (codes "entities") g)
   Ok (record { grouping = grouping; restart_on = restart_on; entities = entities })
@@ -124,7 +125,8 @@ dependency_of g = do
 abbrev pub is_dependency : GroupRecord → Bool
 is_dependency g = pointwise nat_eq g.group_type (codes "dependency")
 
-abbrev pub with_group : Bool → GroupRecord → Result (List Dependency) DependencyFault → Result (List Dependency) DependencyFault
+abbrev pub with_group : Bool → GroupRecord → Result (List Dependency) DependencyFault
+    → Result (List Dependency) DependencyFault
 with_group true g others = before (dependency_of g) others
 with_group false g others = others
 

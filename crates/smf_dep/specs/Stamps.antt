@@ -2,12 +2,12 @@
 use Rattle.std.specs.Prelude.{◌≡◌, ◌⊎◌, ℕ, ◌+◌, ◌*◌, ◌≤◌, ◌<◌, nat_lt, List, [], ◌∷◌, ◌++◌, length, drop, slice_get, slice_index, slice_set, Bool, true, false, not, ◌&&◌, if◌then◌else◌, Some}
 use Rattle.std.specs.Option.{unwrap_or}
 use Rattle.smf_dep.specs.declared.link.Link.{Link}
-use Rattle.smf_dep.specs.declared.link.Node.{Node}
-use Rattle.smf_dep.specs.Parking.{IsOut, met_at, parks}
+use Rattle.smf_dep.specs.declared.link.GraphNode.{GraphNode}
+use Rattle.smf_dep.specs.Blockage.{IsOut, met_at, parks}
 
 -- a place has a stamp, or it has one below a limit
-abbrev pub stamped : List ℕ → ℕ → Bool
-stamped ss p = nat_lt 0 (slice_index ss p)
+abbrev pub has_stamp : List ℕ → ℕ → Bool
+has_stamp ss p = nat_lt 0 (slice_index ss p)
 
 abbrev pub before : List ℕ → ℕ → ℕ → Bool
 before ss limit p = nat_lt 0 (slice_index ss p) && nat_lt (slice_index ss p) limit
@@ -15,12 +15,12 @@ before ss limit p = nat_lt 0 (slice_index ss p) && nat_lt (slice_index ss p) lim
 -- ---- conditions on each place
 
 -- a place with a stamp is parked by those with smaller stamps
-abbrev pub IsSound : List Node → List ℕ → ℕ → Type 0
-IsSound ns ss a = stamped ss a ≡ true → parks ns (before ss (slice_index ss a)) a ≡ true
+abbrev pub IsSound : List GraphNode → List ℕ → ℕ → Type 0
+IsSound ns ss a = has_stamp ss a ≡ true → parks ns (before ss (slice_index ss a)) a ≡ true
 
 -- a place without a stamp is not parked by all that have one
-abbrev pub IsComplete : List Node → List ℕ → ℕ → Type 0
-IsComplete ns ss a = stamped ss a ≡ false → parks ns (stamped ss) a ≡ false
+abbrev pub IsComplete : List GraphNode → List ℕ → ℕ → Type 0
+IsComplete ns ss a = has_stamp ss a ≡ false → parks ns (has_stamp ss) a ≡ false
 
 -- ---- which places cite a place
 
@@ -37,14 +37,15 @@ abbrev pub citing_at : List (List ℕ) → ℕ → List ℕ
 citing_at cs p = unwrap_or (slice_get cs p) []
 
 -- an instance that is not among those that cite a place does not cite it
-pub record IsIndex (ns : List Node) (cs : List (List ℕ)) : Type 0 where
+pub record IsIndex (ns : List GraphNode) (cs : List (List ℕ)) : Type 0 where
   pub size : length cs ≡ length ns
-  pub cites : (p a : ℕ) (n : Node) → p < length ns → slice_get ns a ≡ Some n → IsOut a (citing_at cs p) → Avoid p n.links
+  pub cites : (p a : ℕ) (n : GraphNode) → p < length ns → slice_get ns a ≡ Some n → IsOut a (citing_at cs p)
+      → Avoid p n.links
 
 -- ---- the index, place by place
 
-abbrev pub noted : List (List ℕ) → ℕ → ℕ → List (List ℕ)
-noted cs at p = slice_set cs p (citing_at cs p ++ at ∷ [])
+abbrev pub with_citation : List (List ℕ) → ℕ → ℕ → List (List ℕ)
+with_citation cs at p = slice_set cs p (citing_at cs p ++ at ∷ [])
 
 -- the index keeps its entries, and has an entry for each place that P does not leave out
 pub record Notes (P : ℕ → Type 0) (at : ℕ) (cs cs' : List (List ℕ)) : Type 0 where
@@ -67,12 +68,12 @@ weight (s ∷ ss) (c ∷ cs) = (if nat_lt 0 s then length c else 0) + weight ss 
 -- ---- one step
 
 -- a place loses its stamp if those with smaller stamps do not park it
-unfoldable pub drops : List Node → List ℕ → ℕ → Bool
-drops ns ss x = stamped ss x && not (parks ns (before ss (slice_index ss x)) x)
+unfoldable pub drops : List GraphNode → List ℕ → ℕ → Bool
+drops ns ss x = has_stamp ss x && not (parks ns (before ss (slice_index ss x)) x)
 
 -- a place gets a stamp if those with a stamp below the limit park it
-unfoldable pub gains : List Node → List ℕ → ℕ → ℕ → Bool
-gains ns ss limit x = not (stamped ss x) && parks ns (before ss limit) x
+unfoldable pub gains : List GraphNode → List ℕ → ℕ → ℕ → Bool
+gains ns ss limit x = not (has_stamp ss x) && parks ns (before ss limit) x
 
 abbrev pub stamps_by : Bool → List ℕ → ℕ → ℕ → List ℕ
 stamps_by true ss x s = slice_set ss x s
@@ -91,7 +92,8 @@ AddsBy false next places work work' = work' ≡ work
 
 -- ---- conditions while stamps are taken away, and while they are given
 
-pub record IsLoosening (ns : List Node) (cs : List (List ℕ)) (limit capacity : ℕ) (ss work : List ℕ) (at : ℕ) : Type 0 where
+pub record IsLoosening (ns : List GraphNode) (cs : List (List ℕ)) (limit capacity : ℕ) (ss work : List ℕ)
+    (at : ℕ) : Type 0 where
   pub index : IsIndex ns cs
   pub size : length ss ≡ length ns
   pub low : (a : ℕ) → slice_index ss a < limit
@@ -99,7 +101,8 @@ pub record IsLoosening (ns : List Node) (cs : List (List ℕ)) (limit capacity :
   pub complete : (a : ℕ) → IsOut a work → IsComplete ns ss a
   pub space : length work + weight ss cs + total cs ≤ capacity
 
-pub record IsSpreading (ns : List Node) (cs : List (List ℕ)) (limit capacity : ℕ) (ss work : List ℕ) (at : ℕ) : Type 0 where
+pub record IsSpreading (ns : List GraphNode) (cs : List (List ℕ)) (limit capacity : ℕ) (ss work : List ℕ)
+    (at : ℕ) : Type 0 where
   pub index : IsIndex ns cs
   pub size : length ss ≡ length ns
   pub low : (a : ℕ) → slice_index ss a < limit
@@ -108,7 +111,7 @@ pub record IsSpreading (ns : List Node) (cs : List (List ℕ)) (limit capacity :
   pub space : length work + total cs ≤ capacity + weight ss cs
 
 -- the data kept beside the instances
-pub record IsKept (ns : List Node) (ss : List ℕ) (cs : List (List ℕ)) (next capacity : ℕ) : Type 0 where
+pub record IsKept (ns : List GraphNode) (ss : List ℕ) (cs : List (List ℕ)) (next capacity : ℕ) : Type 0 where
   pub index : IsIndex ns cs
   pub size : length ss ≡ length ns
   pub low : (a : ℕ) → slice_index ss a < next
@@ -117,7 +120,7 @@ pub record IsKept (ns : List Node) (ss : List ℕ) (cs : List (List ℕ)) (next 
   pub space : length ns + 1 + 3 * total cs ≤ capacity
 
 -- the same if the flags of one instance changed
-pub record IsTouched (ns : List Node) (ss : List ℕ) (cs : List (List ℕ)) (next capacity place : ℕ) : Type 0 where
+pub record IsTouched (ns : List GraphNode) (ss : List ℕ) (cs : List (List ℕ)) (next capacity place : ℕ) : Type 0 where
   pub index : IsIndex ns cs
   pub size : length ss ≡ length ns
   pub low : (a : ℕ) → slice_index ss a < next
@@ -128,24 +131,26 @@ pub record IsTouched (ns : List Node) (ss : List ℕ) (cs : List (List ℕ)) (ne
 -- ---- the reach of a change
 
 -- a place out of the work has its stamp as before, and so has all that it cites
-pub record Spreads (ns : List Node) (cs : List (List ℕ)) (ss work ss' work' : List ℕ) : Type 0 where
+pub record Spreads (ns : List GraphNode) (cs : List (List ℕ)) (ss work ss' work' : List ℕ) : Type 0 where
   pub grown : (a : ℕ) → IsOut a work' → IsOut a work
-  pub same : (a : ℕ) → IsOut a work' → stamped ss' a ≡ stamped ss a
-  pub reached : (x : ℕ) → (stamped ss' x ≡ stamped ss x) ⊎ ((a : ℕ) → IsOut a work' → IsOut a (citing_at cs x))
+  pub same : (a : ℕ) → IsOut a work' → has_stamp ss' a ≡ has_stamp ss a
+  pub reached : (x : ℕ) → (has_stamp ss' x ≡ has_stamp ss x) ⊎ ((a : ℕ) → IsOut a work' → IsOut a (citing_at cs x))
 
 -- the same of instances that are there, if the flags of a place changed
-pub record Touches (ns : List Node) (cs : List (List ℕ)) (ss ss' work : List ℕ) (place : ℕ) : Type 0 where
+pub record Touches (ns : List GraphNode) (cs : List (List ℕ)) (ss ss' work : List ℕ) (place : ℕ) : Type 0 where
   pub begun : (a : ℕ) → IsOut a work → a < length ns → (place ≡ a → ⊥) × IsOut a (citing_at cs place)
-  pub same : (a : ℕ) → IsOut a work → a < length ns → stamped ss' a ≡ stamped ss a
-  pub reached : (x : ℕ) → (stamped ss' x ≡ stamped ss x) ⊎ ((a : ℕ) → IsOut a work → a < length ns → IsOut a (citing_at cs x))
+  pub same : (a : ℕ) → IsOut a work → a < length ns → has_stamp ss' a ≡ has_stamp ss a
+  pub reached : (x : ℕ) → (has_stamp ss' x ≡ has_stamp ss x)
+      ⊎ ((a : ℕ) → IsOut a work → a < length ns → IsOut a (citing_at cs x))
 
 -- the work begins with what the change of a place touches, or with all places
-pub record Begins (ns : List Node) (cs : List (List ℕ)) (ss ss' work : List ℕ) (place : ℕ) : Type 0 where
+pub record Begins (ns : List GraphNode) (cs : List (List ℕ)) (ss ss' work : List ℕ) (place : ℕ) : Type 0 where
   pub begins : ((ss' ≡ ss) × (work ≡ place ∷ citing_at cs place)) ⊎ ((a : ℕ) → IsOut a work → length ns ≤ a)
 
 -- The flags of a place changed. If an instance's own place is not touched, it does not cite that place, and its links
 -- are met as before.
-pub record Reaches (before after : List Node) (place : ℕ) (was touched : List ℕ) : Type 0 where
+pub record Reaches (before after : List GraphNode) (place : ℕ) (was touched : List ℕ) : Type 0 where
   pub grown : (a : ℕ) → IsOut a touched → a < length before → IsOut a was
-  pub apart : (a : ℕ) (n : Node) → IsOut a touched → slice_get before a ≡ Some n → (place ≡ a → ⊥) × Avoid place n.links
+  pub apart : (a : ℕ) (n : GraphNode) → IsOut a touched → slice_get before a ≡ Some n
+      → (place ≡ a → ⊥) × Avoid place n.links
   pub met : (a : ℕ) → IsOut a touched → a < length before → met_at after a ≡ met_at before a

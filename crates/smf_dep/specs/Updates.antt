@@ -1,67 +1,69 @@
 -- Members that are brought up to date by items that changed, and the findings that stay.
 use Rattle.std.specs.Prelude.{◌≡◌, ℕ, ◌<◌, List, [], ◌∷◌, map, length, Option, Some, None, slice_get}
-use Rattle.smf_fmri.specs.ByKey.{lookup, put, without}
+use Rattle.smf_fmri.specs.ByKey.{lookup, list_with_item, without}
 use Rattle.smf_state.specs.declared.view.ChangedItem.{ChangedItem}
 use Rattle.smf_state.specs.declared.view.ViewItem.{ViewItem}
-use Rattle.smf_dep.specs.declared.member.Member.{Member}
+use Rattle.smf_dep.specs.declared.member.GraphMember.{GraphMember}
 use Rattle.smf_dep.specs.Members.{IsOfItem, by_member, member_of, wires}
-use Rattle.smf_dep.specs.Parking.{IsOut}
+use Rattle.smf_dep.specs.Blockage.{IsOut}
 use Rattle.smf_dep.specs.Places.{finding_of}
 
 -- an instance whose number is not touched is as before, and so is its finding
-pub record OthersStay (before after : List Member) (touched : List ℕ) : Type 0 where
+pub record OthersStay (before after : List GraphMember) (touched : List ℕ) : Type 0 where
   pub member : (n : ℕ) → IsOut n touched → lookup by_member after n ≡ lookup by_member before n
-  pub finding : (n : ℕ) (m : Member) → IsOut n touched → lookup by_member after n ≡ Some m → finding_of after m ≡ finding_of before m
+  pub finding : (n : ℕ) (m : GraphMember) → IsOut n touched → lookup by_member after n ≡ Some m
+      → finding_of after m ≡ finding_of before m
 
 -- ---- the members of items that changed
 
 -- a member in its place, or taken out
-abbrev pub with_member : ℕ → Option ViewItem → List Member → List Member
+abbrev pub with_member : ℕ → Option ViewItem → List GraphMember → List GraphMember
 with_member n None ms = without by_member n ms
-with_member n (Some x) ms = put by_member (member_of x) ms
+with_member n (Some x) ms = list_with_item by_member (member_of x) ms
 
 -- one after another
-abbrev pub with_members : List ChangedItem → List Member → List Member
+abbrev pub with_members : List ChangedItem → List GraphMember → List GraphMember
 with_members [] ms = ms
 with_members (c ∷ cs) ms = with_members cs (with_member c.instance c.item ms)
 
 -- ---- items of which a state alone may have changed
 
 -- the instance at the place has the number of the item, and its groups are read from the same
-pub record IsAlikeAt (i : ViewItem) (ms : List Member) (place : ℕ) : Type 0 where
-  pub member : Member
+pub record IsAlikeAt (i : ViewItem) (ms : List GraphMember) (place : ℕ) : Type 0 where
+  pub member : GraphMember
   pub at : slice_get ms place ≡ Some member
   pub numbered : member.instance ≡ i.instance
   pub of_item : IsOfItem i member
 
-abbrev pub IsAlike : ViewItem → List Member → Type 0
+abbrev pub IsAlike : ViewItem → List GraphMember → Type 0
 IsAlike i ms = (place : ℕ) × IsAlikeAt i ms place
 
-abbrev pub IsAlikeChange : Option ViewItem → List Member → Type 0
+abbrev pub IsAlikeChange : Option ViewItem → List GraphMember → Type 0
 IsAlikeChange None ms = ⊥
 IsAlikeChange (Some i) ms = IsAlike i ms
 
-abbrev pub AreAlike : List ChangedItem → List Member → Type 0
+abbrev pub AreAlike : List ChangedItem → List GraphMember → Type 0
 AreAlike [] ms = Unit
 AreAlike (c ∷ cs) ms = IsAlikeChange c.item ms × AreAlike cs ms
 
 -- ---- instances that such a change leaves alone
 
-abbrev pub number : Member → ℕ
+abbrev pub number : GraphMember → ℕ
 number m = m.instance
 
 -- the number of the instance at a place
-abbrev pub number_in : Option Member → ℕ
+abbrev pub number_in : Option GraphMember → ℕ
 number_in None = 0
 number_in (Some m) = m.instance
 
-abbrev pub number_at : List Member → ℕ → ℕ
+abbrev pub number_at : List GraphMember → ℕ → ℕ
 number_at ms place = number_in (slice_get ms place)
 
 -- the instances and what they depend on are as before, and so is all that is found at a place that is not touched
-pub record Stays (before after : List Member) (was touched : List ℕ) : Type 0 where
+pub record Stays (before after : List GraphMember) (was touched : List ℕ) : Type 0 where
   pub numbers : map number after ≡ map number before
   pub wired : map wires after ≡ map wires before
   pub grown : (a : ℕ) → IsOut a touched → a < length before → IsOut a was
-  pub member : (a : ℕ) (m : Member) → IsOut a touched → slice_get before a ≡ Some m → slice_get after a ≡ Some m
-  pub finding : (a : ℕ) (m : Member) → IsOut a touched → slice_get before a ≡ Some m → finding_of after m ≡ finding_of before m
+  pub member : (a : ℕ) (m : GraphMember) → IsOut a touched → slice_get before a ≡ Some m → slice_get after a ≡ Some m
+  pub finding : (a : ℕ) (m : GraphMember) → IsOut a touched → slice_get before a ≡ Some m
+      → finding_of after m ≡ finding_of before m

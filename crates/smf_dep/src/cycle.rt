@@ -1,15 +1,15 @@
 ghost use Rattle.std.specs.Prelude.{◌≡◌, ◌++◌, IfOk};
-ghost use Rattle.smf_dep.specs.Places.{AreCyclesOf, edges_in, edges_of, joined};
+ghost use Rattle.smf_dep.specs.Places.{AreCyclesOf, edges_in, edges_of, places_in_lists};
 
 use crate::dependency::Grouping;
-use crate::link::{Link, Node};
+use crate::link::{GraphNode, Link};
 use smf_cycles::{Places, places_on_cycles};
 use smf_fmri::Items;
 use std::alloc::{AllocError, Global};
 
 /// Puts places after others.
 fn join(edges: Vec<usize>, cited: &[Items<usize>]) -> Result<Vec<usize>, AllocError>
-    ensures { IfOk result (λ all. all.items ≡ edges.items ++ joined cited.now) }
+    ensures { IfOk result (λ all. all.items ≡ edges.items ++ places_in_lists cited.now) }
 {
     let mut edges = edges;
     for places in cited {
@@ -33,7 +33,7 @@ fn edges_in(alloc: Global, links: &[Link]) -> Result<Vec<usize>, AllocError>
 }
 
 /// The places that the edges of each instance lead to.
-fn edges_of(alloc: Global, nodes: &[Node]) -> Result<Vec<Places>, AllocError>
+fn edges_of(alloc: Global, nodes: &[GraphNode]) -> Result<Vec<Places>, AllocError>
     ensures { IfOk result (λ all. all.items ≡ edges_of nodes.now) }
 {
     let mut all = Vec::new(alloc);
@@ -45,7 +45,7 @@ fn edges_of(alloc: Global, nodes: &[Node]) -> Result<Vec<Places>, AllocError>
 }
 
 /// Which instances depend on themselves.
-pub(crate) fn on_cycles(alloc: Global, nodes: &[Node]) -> Result<Vec<bool>, AllocError>
+pub(crate) fn on_cycles(alloc: Global, nodes: &[GraphNode]) -> Result<Vec<bool>, AllocError>
     ensures { IfOk result (λ flags. AreCyclesOf nodes.now flags.items) }
 {
     let edges = edges_of(alloc, nodes)?;

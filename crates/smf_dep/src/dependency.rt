@@ -74,7 +74,7 @@ impl RestartOn {
     }
 }
 
-#[tactic(auto, using(crate::proofs::Copies::same_items))]
+#[tactic(auto, using(smf_state::proofs::Copies::same_items))]
 fn copy_of(entities: &Items<Fmri>) -> Result<Items<Fmri>, AllocError>
     ensures { IfOk result (λ copy. copy ≡ entities.now) }
 {

@@ -11,9 +11,11 @@ ghost use Rattle.smf_dep.specs.Updates.{AreAlike, OthersStay, with_members};
 
 use crate::cycle::on_cycles;
 use crate::dependency::{Dependency, Grouping, RestartOn};
-use crate::kept::Kept;
-use crate::link::{Link, Node, link_of, nodes_of};
-use crate::member::{Member, ReadMember, Standing, members_again, renewed_members, standing_of};
+use crate::kept::KeptVerdicts;
+use crate::link::{GraphNode, Link, link_of, nodes_of};
+use crate::member::{
+    GraphMember, ReadMember, Standing, members_again, renewed_members, standing_of,
+};
 use crate::names::Names;
 use crate::update::{are_alike, changed_members, numbers_of, place_in, put_touched, take_changes};
 use smf_fmri::Items;
@@ -47,16 +49,16 @@ pub struct Finding {
 #[derive(Drop)]
 pub struct Graph {
     members: Vec<ReadMember>,
-    kept: Kept,
+    kept: KeptVerdicts,
     cycles: Vec<bool>,
 }
 
 impl Model for Graph {
     ghost use Rattle.smf_dep.specs.Places.{IsGraph};
-    ghost use Rattle.smf_dep.specs.declared.member.Member.{Member};
+    ghost use Rattle.smf_dep.specs.declared.member.GraphMember.{GraphMember};
     ghost use Rattle.std.specs.Prelude.{List};
 
-    ghost Value = { List Member };
+    ghost Value = { List GraphMember };
 
     ghost view = { λ g. g.members.items };
 
@@ -64,7 +66,7 @@ impl Model for Graph {
 }
 
 /// True if the events of a cited instance after a revision stop the one that cites it.
-fn is_event(member: &Member, link: &Link, base: u64) -> bool
+fn is_event(member: &GraphMember, link: &Link, base: u64) -> bool
     ensures { result ≡ stops_by link.now.grouping link.now.restart_on base member.now }
 {
     if link.grouping == Grouping::ExcludeAll {
@@ -88,7 +90,8 @@ fn event_at(members: &[ReadMember], link: &Link, base: u64, place: usize) -> boo
 }
 
 fn any_event(members: &[ReadMember], link: &Link, base: u64, places: &[usize]) -> bool
-    ensures { result ≡ list_any (event_at (stops_by link.now.grouping link.now.restart_on base) members.now) places.now }
+    ensures { result ≡ list_any (event_at (stops_by link.now.grouping link.now.restart_on base) members.now)
+        places.now }
 {
     places
         .iter()
@@ -110,7 +113,7 @@ fn any_stops(members: &[ReadMember], links: &[Link], base: u64) -> bool
     links.iter().any(|link| link_stops(members, link, base))
 }
 
-fn node_stops(members: &[ReadMember], node: Option<&Node>, base: u64) -> bool
+fn node_stops(members: &[ReadMember], node: Option<&GraphNode>, base: u64) -> bool
     ensures { result ≡ node_stops members.now base (option_copied node.entry) }
 {
     match node {
@@ -130,9 +133,9 @@ fn flag_at(flags: &[bool], place: usize) -> bool
 
 fn finding_at(
     members: &[ReadMember],
-    kept: &Kept,
+    kept: &KeptVerdicts,
     cycles: &[bool],
-    member: &Member,
+    member: &GraphMember,
     place: usize,
 ) -> Finding
     ensures { result ≡ finding_at members.now kept.now cycles.now member.now place }
@@ -164,11 +167,11 @@ impl Graph {
         ensures { IfOk result (λ g. g ≡ members items.now) }
     {
         let all = renewed_members(alloc, Items::new(alloc), items)?;
-        Graph::linked(alloc, all.into_vec())
+        Graph::of_members(alloc, all.into_vec())
     }
 
     /// The graph of the items of another view. It does not read or look for again what this one read and found.
-    pub fn renewed(self, alloc: Global, items: &[ViewItem]) -> Result<Graph, AllocError>
+    pub fn successor(self, alloc: Global, items: &[ViewItem]) -> Result<Graph, AllocError>
         requires { Rises by_item items.now }
         ensures { IfOk result (λ g. g ≡ members items.now) }
     {
@@ -178,7 +181,7 @@ impl Graph {
             Standing::Other => {
                 let kept = Items::from_vec(self.members);
                 let all = renewed_members(alloc, kept, items)?;
-                Graph::linked(alloc, all.into_vec())
+                Graph::of_members(alloc, all.into_vec())
             }
         }
     }
@@ -196,24 +199,24 @@ impl Graph {
         } = self;
         let all = members_again(alloc, Items::from_vec(members), items)?;
         let nodes = nodes_of(alloc, all.as_slice(), Items::from_vec(kept.into_nodes()))?;
-        Graph::found(alloc, all.into_vec(), nodes, cycles)
+        Graph::of_nodes(alloc, all.into_vec(), nodes, cycles)
     }
 
     /// The graph of instances whose dependencies have to be looked for.
-    fn linked(alloc: Global, members: Vec<ReadMember>) -> Result<Graph, AllocError>
+    fn of_members(alloc: Global, members: Vec<ReadMember>) -> Result<Graph, AllocError>
         requires { Rises by_member members.items }
         ensures { IfOk result (λ g. g ≡ members.items) }
     {
         let nodes = nodes_of(alloc, members.as_slice(), Items::new(alloc))?;
         let cycles = on_cycles(alloc, nodes.as_slice())?;
-        Graph::found(alloc, members, nodes, cycles)
+        Graph::of_nodes(alloc, members, nodes, cycles)
     }
 
     /// The graph of instances whose dependencies by places are known, and which of them depend on themselves.
-    fn found(
+    fn of_nodes(
         alloc: Global,
         members: Vec<ReadMember>,
-        nodes: Items<Node>,
+        nodes: Items<GraphNode>,
         cycles: Vec<bool>,
     ) -> Result<Graph, AllocError>
         requires nodes { nodes ≡ nodes_of members.items }
@@ -221,7 +224,7 @@ impl Graph {
         requires rises { Rises by_member members.items }
         ensures { IfOk result (λ g. g ≡ members.items) }
     {
-        let kept = Kept::of(alloc, nodes.into_vec())?;
+        let kept = KeptVerdicts::of(alloc, nodes.into_vec())?;
         Ok(Graph {
             members,
             kept,
@@ -236,7 +239,8 @@ impl Graph {
         alloc: Global,
         changes: &[ChangedItem],
     ) -> Result<Items<u64>, AllocError>
-        ensures shown { OnOk result ((items : List AnyItem) → self.old ≡ members items → self.new ≡ members (with_items changes.now items)) }
+        ensures shown { OnOk result ((items : List AnyItem) → self.old ≡ members items
+            → self.new ≡ members (with_items changes.now items)) }
         ensures others { IfOk result (λ touched. OthersStay self.old self.new touched) }
         ensures err { OnErr result (self.new ≡ self.old) }
     {
@@ -278,7 +282,7 @@ impl Graph {
     {
         let members = changed_members(alloc, self.members.as_slice(), changes)?;
         let numbers = numbers_of(alloc, self.members.as_slice(), members.as_slice())?;
-        *self = Graph::linked(alloc, members)?;
+        *self = Graph::of_members(alloc, members)?;
         Ok(numbers)
     }
 

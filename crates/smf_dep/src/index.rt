@@ -1,10 +1,10 @@
 //! Which instances cite each place.
 
 ghost use Rattle.std.specs.Prelude.{◌≡◌, IfOk, OnOk, length};
-ghost use Rattle.smf_dep.specs.Parking.{IsOut};
-ghost use Rattle.smf_dep.specs.Stamps.{AreOut, Avoid, IsIndex, Notes, citing_at, noted, total};
+ghost use Rattle.smf_dep.specs.Blockage.{IsOut};
+ghost use Rattle.smf_dep.specs.Stamps.{AreOut, Avoid, IsIndex, Notes, citing_at, with_citation, total};
 
-use crate::link::{Link, Node};
+use crate::link::{GraphNode, Link};
 use smf_fmri::Items;
 use std::alloc::{AllocError, Global};
 
@@ -18,7 +18,7 @@ pub(crate) fn citing_of(citing: &[Items<usize>], place: usize) -> &[usize]
 }
 
 fn note(citing: &mut Vec<Items<usize>>, at: usize, place: usize) -> Result<(), AllocError>
-    ensures { OnOk result (citing.new.items ≡ noted citing.old.items at place) }
+    ensures { OnOk result (citing.new.items ≡ with_citation citing.old.items at place) }
 {
     if place < citing.len() {
         let places = &mut citing[place];
@@ -76,7 +76,7 @@ pub(crate) fn empty(alloc: Global, count: usize) -> Result<Vec<Items<usize>>, Al
     Ok(citing)
 }
 
-pub(crate) fn index_of(alloc: Global, nodes: &[Node]) -> Result<Vec<Items<usize>>, AllocError>
+pub(crate) fn index_of(alloc: Global, nodes: &[GraphNode]) -> Result<Vec<Items<usize>>, AllocError>
     ensures { IfOk result (λ cs. IsIndex nodes.now cs.items) }
 {
     let mut citing = empty(alloc, nodes.len())?;

@@ -1,14 +1,14 @@
 ghost use Rattle.std.specs.List.{list_all};
 ghost use Rattle.std.specs.Option.{option_copied};
-ghost use Rattle.std.specs.Prelude.{◌≡◌, ◌<◌, ◌≤◌, ◌+◌, ◌*◌, ◌^◌, IfOk, OnOk, [], ◌∷◌, ◌++◌, length, slice_get, slice_index, vec_capacity, ℕ};
-ghost use Rattle.smf_dep.specs.declared.link.Node.{Node};
-ghost use Rattle.smf_dep.specs.Parking.{IsOut, met_at, blocked_by, is_parked, met_by, node_is, off_at, runs_at, with_flags};
+ghost use Rattle.std.specs.Prelude.{◌≡◌, ◌<◌, ◌≤◌, ◌+◌, ◌*◌, ◌^◌, IfOk, [], ◌∷◌, length, slice_get, slice_index, vec_capacity, ℕ};
+ghost use Rattle.smf_dep.specs.declared.link.GraphNode.{GraphNode};
+ghost use Rattle.smf_dep.specs.Blockage.{IsOut, met_at, blocked_by, is_parked, met_by, node_is, off_at, runs_at, with_flags};
 ghost use Rattle.smf_dep.specs.Stamps.{Begins, IsKept, IsLoosening, IsTouched, Reaches, Touches, before, citing_at, total};
 ghost use Rattle.smf_dep.specs.Wires.{IsTallied};
 
+use crate::blockage::{each_met, is_blocked, is_met, stamp_at};
 use crate::index::{citing_of, index_of, total_of};
-use crate::link::{Flags, Link, Node};
-use crate::parking::{each_met, is_blocked, is_met, stamp_at};
+use crate::link::{Flags, GraphNode, Link};
 use crate::stamps::{add, add_one, settle};
 use crate::tallies::{put_stamp, retally, tallies_of};
 use crate::tally::Tally;
@@ -22,8 +22,8 @@ const LAST: usize = 1 << 62;
 
 /// Instances, and which of them are parked.
 #[derive(Drop)]
-pub struct Kept {
-    nodes: Vec<Node>,
+pub struct KeptVerdicts {
+    nodes: Vec<GraphNode>,
     stamps: Vec<usize>,
     citing: Vec<Items<usize>>,
     next: usize,
@@ -34,20 +34,20 @@ pub struct Kept {
     tallies: Vec<Tally>,
 }
 
-impl Model for Kept {
+impl Model for KeptVerdicts {
     ghost use Rattle.std.specs.Prelude.{List, vec_capacity, ◌≡◌, ◌<◌};
-    ghost use Rattle.smf_dep.specs.declared.link.Node.{Node};
+    ghost use Rattle.smf_dep.specs.declared.link.GraphNode.{GraphNode};
     ghost use Rattle.smf_dep.specs.Stamps.{IsKept};
     ghost use Rattle.smf_dep.specs.Wires.{IsTallied};
 
-    ghost Value = { List Node };
+    ghost Value = { List GraphNode };
 
     ghost view = { λ k. k.nodes.items };
 
     ghost invariant = { λ k. IsKept k.nodes.items k.stamps.items k.citing.items k.next (vec_capacity k.work) × (0 < k.next) × IsTallied k.nodes.items k.stamps.items k.wires k.tallies.items };
 }
 
-fn set_flags(nodes: &mut Vec<Node>, place: usize, flags: Flags)
+fn set_flags(nodes: &mut Vec<GraphNode>, place: usize, flags: Flags)
     ensures { nodes.new.items ≡ with_flags nodes.old.items place flags }
 {
     if place < nodes.len() {
@@ -57,7 +57,7 @@ fn set_flags(nodes: &mut Vec<Node>, place: usize, flags: Flags)
 
 /// Gives an instance other flags.
 fn change_flags(
-    nodes: &mut Vec<Node>,
+    nodes: &mut Vec<GraphNode>,
     stamps: &[usize],
     wires: &Wires,
     tallies: &mut [Tally],
@@ -74,7 +74,7 @@ fn change_flags(
 }
 
 /// Takes all stamps away.
-fn clear(nodes: &[Node], wires: &Wires, tallies: &mut [Tally], stamps: &mut [usize])
+fn clear(nodes: &[GraphNode], wires: &Wires, tallies: &mut [Tally], stamps: &mut [usize])
     requires { IsTallied nodes.now stamps.old wires.now tallies.old }
     ensures size { length stamps.new ≡ length stamps.old }
     ensures none { (a : ℕ) → slice_index stamps.new a ≡ 0 }
@@ -144,7 +144,7 @@ fn room_for(count: usize, total: usize) -> Result<usize, AllocError>
 /// Puts what may be wrong into the work: what the change of a place touches, or all if the numbers run out. Gives
 /// the number from which on stamps are free.
 fn begin(
-    nodes: &[Node],
+    nodes: &[GraphNode],
     citing: &[Items<usize>],
     wires: &Wires,
     tallies: &mut [Tally],
@@ -174,7 +174,7 @@ fn begin(
 
 /// Makes the stamps right after the flags of one place changed. Gives the number from which on stamps are free.
 fn settle_touched(
-    nodes: &[Node],
+    nodes: &[GraphNode],
     citing: &[Items<usize>],
     wires: &Wires,
     tallies: &mut [Tally],
@@ -198,7 +198,7 @@ fn settle_touched(
 }
 
 fn all_met_at(
-    nodes: &[Node],
+    nodes: &[GraphNode],
     stamps: &[usize],
     wires: &Wires,
     tallies: &[Tally],
@@ -207,7 +207,9 @@ fn all_met_at(
 ) -> bool
     requires tallied { IsTallied nodes.now stamps.now wires.now tallies.now }
     requires low { (a : ℕ) → slice_index stamps.now a < limit }
-    ensures { result ≡ node_is (λ (n : Node). list_all (met_by (runs_at nodes.now) (off_at nodes.now) (before stamps.now limit)) n.links) nodes.now place }
+    ensures { result
+        ≡ node_is (λ (n : GraphNode). list_all
+        (met_by (runs_at nodes.now) (off_at nodes.now) (before stamps.now limit)) n.links) nodes.now place }
 {
     let numbers = citing_of(wires.numbers.as_slice(), place);
     match nodes.get(place) {
@@ -223,9 +225,9 @@ fn all_met_at(
     }
 }
 
-impl Kept {
+impl KeptVerdicts {
     /// Works out which of the instances are parked.
-    pub fn of(alloc: Global, nodes: Vec<Node>) -> Result<Kept, AllocError>
+    pub fn of(alloc: Global, nodes: Vec<GraphNode>) -> Result<KeptVerdicts, AllocError>
         ensures { IfOk result (λ k. k ≡ nodes.items) }
     {
         let citing = index_of(alloc, nodes.as_slice())?;
@@ -248,7 +250,7 @@ impl Kept {
             1,
         );
         let next = 1 + work.len();
-        Ok(Kept {
+        Ok(KeptVerdicts {
             nodes,
             stamps,
             citing,
@@ -292,13 +294,13 @@ impl Kept {
     }
 
     /// The instances alone.
-    pub fn into_nodes(self) -> Vec<Node>
+    pub fn into_nodes(self) -> Vec<GraphNode>
         ensures { result.items ≡ self }
     {
         self.nodes
     }
 
-    pub fn node(&self, place: usize) -> Option<&Node>
+    pub fn node(&self, place: usize) -> Option<&GraphNode>
         ensures { option_copied result ≡ slice_get self.now place }
     {
         self.nodes.as_slice().get(place)

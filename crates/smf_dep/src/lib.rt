@@ -10,6 +10,7 @@
 //! of the definitions, `room` lists whose room is made beforehand, `shared` values that copies share.
 #![tactic(auto)]
 
+mod blockage;
 mod cycle;
 mod dependency;
 mod fault;
@@ -21,8 +22,7 @@ mod link;
 mod member;
 mod methods;
 mod names;
-mod parking;
-mod reading;
+mod requirements;
 mod room;
 mod shared;
 mod stamps;
@@ -35,6 +35,6 @@ pub use dependency::{Dependency, Grouping, RestartOn};
 pub use fault::DependencyFault;
 pub use graph::{Finding, Graph, Verdict};
 pub use law::cycles_are_lists;
-pub use member::{Member, ReadMember, members};
-pub use reading::read_groups;
+pub use member::{GraphMember, ReadMember, members};
+pub use requirements::read_groups;
 pub use shared::Shared;

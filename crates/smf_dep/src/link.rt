@@ -1,9 +1,9 @@
 ghost use Rattle.std.specs.Prelude.{◌≡◌, IfOk, IfSome, List, map};
 ghost use Rattle.smf_dep.specs.Places.{IsBeginning, all_links, flags_of, link_of, links_among, links_of, node_of, nodes_of, places};
-ghost use Rattle.smf_dep.specs.declared.member.Member.{Member as AnyMember};
+ghost use Rattle.smf_dep.specs.declared.member.GraphMember.{GraphMember as AnyMember};
 
 use crate::dependency::{Dependency, Grouping, RestartOn};
-use crate::member::{Member, ReadMember};
+use crate::member::{GraphMember, ReadMember};
 use crate::names::Names;
 use crate::room::with_room;
 use crate::shared::Shared;
@@ -32,12 +32,12 @@ pub struct Flags {
 
 /// An instance, with what it depends on: nothing if a group can't be read.
 #[derive(Drop)]
-pub struct Node {
+pub struct GraphNode {
     pub flags: Flags,
     pub links: Items<Link>,
 }
 
-fn cited(
+fn places_by_entity(
     alloc: Global,
     names: &Names<'_>,
     entities: &[Fmri],
@@ -59,7 +59,7 @@ pub(crate) fn link_of(
 ) -> Result<Link, AllocError>
     ensures { IfOk result (λ l. l ≡ link_of names.now dependency.now) }
 {
-    let cited = cited(alloc, names, dependency.entities.as_slice())?;
+    let cited = places_by_entity(alloc, names, dependency.entities.as_slice())?;
     Ok(Link {
         grouping: dependency.grouping,
         restart_on: dependency.restart_on,
@@ -95,7 +95,7 @@ fn links_of(
 }
 
 /// The flags of an instance, by its state.
-pub(crate) fn flags_of(member: &Member) -> Flags
+pub(crate) fn flags_of(member: &GraphMember) -> Flags
     ensures { result ≡ flags_of member.now }
 {
     Flags {
@@ -107,10 +107,10 @@ pub(crate) fn flags_of(member: &Member) -> Flags
 }
 
 /// An instance, with its dependencies by places.
-fn node_with(member: &Member, links: Items<Link>) -> Node
+fn node_with(member: &GraphMember, links: Items<Link>) -> GraphNode
     ensures { (ms : List AnyMember) → links ≡ links_of ms member.now.dependencies → result ≡ node_of ms member.now }
 {
-    Node {
+    GraphNode {
         flags: flags_of(member),
         links,
     }
@@ -120,9 +120,9 @@ fn node_with(member: &Member, links: Items<Link>) -> Node
 fn node_of(
     alloc: Global,
     names: &Names<'_>,
-    member: &Member,
-    kept: Option<Node>,
-) -> Result<Node, AllocError>
+    member: &GraphMember,
+    kept: Option<GraphNode>,
+) -> Result<GraphNode, AllocError>
     requires { IfSome kept (λ n. n.links ≡ links_of names.now member.now.dependencies) }
     ensures { IfOk result (λ n. n ≡ node_of names.now member.now) }
 {
@@ -139,8 +139,8 @@ fn node_of(
 pub(crate) fn nodes_of(
     alloc: Global,
     members: &[ReadMember],
-    kept: Items<Node>,
-) -> Result<Items<Node>, AllocError>
+    kept: Items<GraphNode>,
+) -> Result<Items<GraphNode>, AllocError>
     requires { IsBeginning (all_links kept) (links_among members.now members.now) }
     ensures { IfOk result (λ ns. ns ≡ nodes_of members.now) }
 {

@@ -1,19 +1,19 @@
 ghost use Rattle.std.specs.List.{AllZip};
 ghost use Rattle.std.specs.Prelude.{◌≡◌, true, IfOk, refl};
-ghost use Rattle.smf_value.specs.Reading.{Gives};
+ghost use Rattle.smf_value.specs.Decoder.{Gives};
 ghost use Rattle.smf_dep.specs.Requirements.{read_groups};
-ghost use Rattle.smf_dep.specs.Members.{HasNumbersOf, HasStateOf, IsOfItem, by_member, composed, implicit, member_of, member_with, members, snapshot_in, when_there, with_implicit};
+ghost use Rattle.smf_dep.specs.Members.{HasNumbersOf, HasStateOf, IsOfItem, by_member, groups_of_snapshot, implicit, member_of, member_with, members, snapshot_in, when_there, with_implicit};
 ghost use Rattle.smf_dep.specs.Methods.{has_unfit_methods};
 ghost use Rattle.smf_dep.specs.Verdicts.{cites_by, is_cited, is_idle, is_off, is_running, is_waiting};
 
 use crate::dependency::{Dependency, Grouping, RestartOn};
 use crate::fault::DependencyFault;
 use crate::methods::has_unfit_methods;
-use crate::reading::read_groups;
+use crate::requirements::read_groups;
 use crate::room::with_room;
 use crate::shared::Shared;
 use smf_fmri::{Bytes, ExactClone, Fmri, InstanceFmri, Items, Keyed, Ordered};
-use smf_snap::{Snapshot, decode_snapshot};
+use smf_snap::{SnapshotBody, decode_snapshot};
 use smf_state::{Row, State, ViewItem, is_startd};
 use smf_value::{BodyFault, Group};
 use std::alloc::{AllocError, Global};
@@ -21,7 +21,7 @@ use std::marker::Model;
 
 /// An instance, as verdicts look at it.
 #[derive(Drop)]
-pub struct Member {
+pub struct GraphMember {
     pub instance: u64,
     pub name: InstanceFmri,
     pub enabled: bool,
@@ -44,7 +44,7 @@ pub struct Member {
 /// need not be read again. Contracts see the member.
 #[derive(Drop)]
 pub struct ReadMember {
-    member: Member,
+    member: GraphMember,
     owner: InstanceFmri,
     body: Option<Bytes>,
     has_unfit_methods: bool,
@@ -52,7 +52,7 @@ pub struct ReadMember {
 
 impl Model for ReadMember {
     ghost use Rattle.smf_dep.specs.Members.{IsReadFrom};
-    ghost use Rattle.smf_dep.specs.declared.member.Member.{Member as AnyMember};
+    ghost use Rattle.smf_dep.specs.declared.member.GraphMember.{GraphMember as AnyMember};
 
     ghost Value = { AnyMember };
 
@@ -93,12 +93,12 @@ impl ExactClone for ReadMember {
     ghost exact = { λ member copy same. same };
 }
 
-fn snapshot_in(alloc: Global, item: &ViewItem) -> Result<Snapshot, BodyFault>
+fn snapshot_in(alloc: Global, item: &ViewItem) -> Result<SnapshotBody, BodyFault>
     ensures { Gives (λ x. x) result (snapshot_in item.now.body) }
 {
     match &item.body {
         Some(body) => decode_snapshot(alloc, body.as_slice()),
-        None => Ok(Snapshot {
+        None => Ok(SnapshotBody {
             service: Ordered::new(alloc),
             instance: Ordered::new(alloc),
         }),
@@ -106,8 +106,8 @@ fn snapshot_in(alloc: Global, item: &ViewItem) -> Result<Snapshot, BodyFault>
 }
 
 /// The groups of a snapshot: by name the instance's own, else the service's, each as a whole.
-fn compose(snapshot: Snapshot) -> Result<Ordered<Group>, AllocError>
-    ensures { IfOk result (λ gs. gs ≡ composed snapshot) }
+fn compose(snapshot: SnapshotBody) -> Result<Ordered<Group>, AllocError>
+    ensures { IfOk result (λ gs. gs ≡ groups_of_snapshot snapshot) }
 {
     let mut groups = snapshot.service;
     for group in snapshot.instance.into_vec() {
@@ -155,10 +155,10 @@ fn member_named(
     name: InstanceFmri,
     composed: Shared<Ordered<Group>>,
     dependencies: Option<Shared<Items<Dependency>>>,
-) -> Member
+) -> GraphMember
     ensures { name ≡ item.now.name → result ≡ member_with item.now composed dependencies }
 {
-    Member {
+    GraphMember {
         instance: item.instance,
         name,
         enabled: item.enabled,
@@ -191,7 +191,7 @@ fn member_with(
     item: &ViewItem,
     composed: Ordered<Group>,
     dependencies: Option<Items<Dependency>>,
-) -> Result<Member, AllocError>
+) -> Result<GraphMember, AllocError>
     ensures { IfOk result (λ m. m ≡ member_with item.now composed dependencies) }
 {
     let name = item.name.clone()?;
@@ -201,11 +201,11 @@ fn member_with(
 }
 
 /// The same instance in a later view, whose name and groups are what they were.
-fn member_again(item: &ViewItem, kept: Member) -> Member
+fn member_again(item: &ViewItem, kept: GraphMember) -> GraphMember
     requires { IsOfItem item.now kept }
     ensures { result ≡ member_of item.now }
 {
-    let Member {
+    let GraphMember {
         name,
         composed,
         dependencies,
@@ -215,7 +215,7 @@ fn member_again(item: &ViewItem, kept: Member) -> Member
 }
 
 #[tactic(auto, unfolding(crate::specs::Members::member_of))]
-fn member_of(alloc: Global, item: &ViewItem) -> Result<Member, AllocError>
+fn member_of(alloc: Global, item: &ViewItem) -> Result<GraphMember, AllocError>
     ensures { IfOk result (λ m. m ≡ member_of item.now) }
 {
     let snapshot = match snapshot_in(alloc, item) {
@@ -229,7 +229,7 @@ fn member_of(alloc: Global, item: &ViewItem) -> Result<Member, AllocError>
 }
 
 /// True if the number and the states of an instance are those of an item, and it is enabled if the item is.
-fn has_state_of(member: &Member, item: &ViewItem) -> bool
+fn has_state_of(member: &GraphMember, item: &ViewItem) -> bool
     ensures { result ≡ true → HasStateOf item.now member.now }
 {
     member.instance == item.instance
@@ -239,7 +239,7 @@ fn has_state_of(member: &Member, item: &ViewItem) -> bool
 }
 
 /// True if the revisions of what happened to an instance are those of a row.
-fn has_numbers_of(member: &Member, row: &Row) -> bool
+fn has_numbers_of(member: &GraphMember, row: &Row) -> bool
     ensures { result ≡ true → HasNumbersOf row.now member.now }
 {
     member.base == row.base
@@ -282,13 +282,13 @@ fn copy_of_dependencies(
 }
 
 /// A copy, which shares what was read.
-fn copy_of_member(member: &Member) -> Result<Member, AllocError>
+fn copy_of_member(member: &GraphMember) -> Result<GraphMember, AllocError>
     ensures { IfOk result (λ copy. copy ≡ member.now) }
 {
     let name = member.name.clone()?;
     let composed = member.composed.clone()?;
     let dependencies = copy_of_dependencies(&member.dependencies)?;
-    Ok(Member {
+    Ok(GraphMember {
         instance: member.instance,
         name,
         enabled: member.enabled,
@@ -305,7 +305,7 @@ fn copy_of_member(member: &Member) -> Result<Member, AllocError>
 }
 
 /// Gives a member the state of an item from which its groups would be read the same.
-fn take_state(member: &mut Member, item: &ViewItem, row: &Row)
+fn take_state(member: &mut GraphMember, item: &ViewItem, row: &Row)
     requires alike { IsOfItem item.now member.old }
     requires row { row.now ≡ item.now.row }
     ensures { member.new ≡ member_of item.now }
@@ -323,7 +323,7 @@ fn take_state(member: &mut Member, item: &ViewItem, row: &Row)
 
 impl ReadMember {
     /// The instance, as verdicts look at it.
-    pub fn member(&self) -> &Member
+    pub fn member(&self) -> &GraphMember
         ensures { result.now ≡ self.now }
     {
         &self.member
@@ -493,7 +493,7 @@ pub(crate) fn renewed_members(
 }
 
 /// The member of each item of a view.
-pub fn members(alloc: Global, items: &[ViewItem]) -> Result<Items<Member>, AllocError>
+pub fn members(alloc: Global, items: &[ViewItem]) -> Result<Items<GraphMember>, AllocError>
     ensures { IfOk result (λ ms. ms ≡ members items.now) }
 {
     let mut all = Items::new(alloc);
@@ -503,7 +503,7 @@ pub fn members(alloc: Global, items: &[ViewItem]) -> Result<Items<Member>, Alloc
     Ok(all)
 }
 
-impl Member {
+impl GraphMember {
     /// True if a name, which is that of an instance or that of a service, stands for it.
     pub(crate) fn is_cited_by(&self, is_instance: bool, entity: &Fmri) -> bool
         ensures { result ≡ cites_by is_instance entity.now self.now }

@@ -3,7 +3,7 @@
 
 ghost use Rattle.std.specs.Prelude.{◌≡◌, ◌∷◌, ◌++◌, IfOk, OnOk, List, ℕ, [], if◌then◌else◌};
 ghost use Rattle.std.specs.Str.{bytes_eq};
-ghost use Rattle.smf_dep.specs.Names.{AreAt, found_at, instance_name, named_from, service_name};
+ghost use Rattle.smf_dep.specs.Names.{AreAt, found_at, instance_name, service_name};
 ghost use Rattle.smf_dep.specs.Places.{places};
 
 use crate::member::ReadMember;
@@ -21,11 +21,11 @@ pub(crate) struct Names<'a> {
 }
 
 impl<'a> Model for Names<'a> {
-    ghost use Rattle.smf_dep.specs.declared.member.Member.{Member};
+    ghost use Rattle.smf_dep.specs.declared.member.GraphMember.{GraphMember};
     ghost use Rattle.smf_dep.specs.Names.{AreAt, instance_name, service_name};
     ghost use Rattle.std.specs.Prelude.{List};
 
-    ghost Value = { List Member };
+    ghost Value = { List GraphMember };
 
     ghost view = { λ n. n.members.now };
 
@@ -39,7 +39,9 @@ fn note<'a>(
     name: &'a str,
     place: usize,
 ) -> Result<(), AllocError>
-    ensures { OnOk result ((q : List ℕ) → found_at found.new q ≡ (if bytes_eq q name.entry.now then found_at found.old q ++ place ∷ [] else found_at found.old q)) }
+    ensures { OnOk result
+        ((q : List ℕ) → found_at found.new q
+        ≡ (if bytes_eq q name.entry.now then found_at found.old q ++ place ∷ [] else found_at found.old q)) }
 {
     found.entry(name)?.or_insert(Vec::new(alloc)).push(place)?;
     Ok(())
@@ -114,7 +116,7 @@ impl<'a> Names<'a> {
     }
 
     /// The places of the instances that an entity stands for.
-    #[tactic(auto, using(crate::proofs::Naming::of_instance, crate::proofs::Naming::of_service))]
+    #[tactic(auto, using(crate::proofs::PlacesByName::of_instance, crate::proofs::PlacesByName::of_service))]
     pub(crate) fn places(&self, alloc: Global, entity: &Fmri) -> Result<Items<usize>, AllocError>
         ensures { IfOk result (λ ps. ps ≡ places self.now entity.now) }
     {

@@ -1,20 +1,26 @@
 //! Takes stamps away if their support is gone, and gives them to parked instances.
 
 ghost use Rattle.std.specs.Prelude.{◌≡◌, [], ◌∷◌, ◌++◌, ◌+◌, ◌^◌, ◌≤◌, ◌<◌, ℕ, true, drop, length, slice_index, slice_set, vec_capacity};
-ghost use Rattle.smf_dep.specs.Parking.{IsOut};
+ghost use Rattle.smf_dep.specs.Blockage.{IsOut};
 ghost use Rattle.smf_dep.specs.Stamps.{Adds, AddsBy, IsComplete, IsLoosening, IsSound, Spreads, citing_at, drops, gains, stamps_by};
 ghost use Rattle.smf_dep.specs.Wires.{IsTallied};
 
+use crate::blockage::{parks, stamp_at};
 use crate::index::citing_of;
-use crate::link::Node;
-use crate::parking::{parks, stamp_at};
+use crate::link::GraphNode;
 use crate::tallies::put_stamp;
 use crate::tally::Tally;
 use crate::wires::Wires;
 use smf_fmri::Items;
 
 #[tactic(auto, unfolding(crate::specs::Stamps::drops))]
-fn drops(nodes: &[Node], stamps: &[usize], wires: &Wires, tallies: &[Tally], place: usize) -> bool
+fn drops(
+    nodes: &[GraphNode],
+    stamps: &[usize],
+    wires: &Wires,
+    tallies: &[Tally],
+    place: usize,
+) -> bool
     requires { IsTallied nodes.now stamps.now wires.now tallies.now }
     ensures { result ≡ drops nodes.now stamps.now place }
 {
@@ -24,7 +30,7 @@ fn drops(nodes: &[Node], stamps: &[usize], wires: &Wires, tallies: &[Tally], pla
 
 #[tactic(auto, unfolding(crate::specs::Stamps::gains))]
 fn gains(
-    nodes: &[Node],
+    nodes: &[GraphNode],
     stamps: &[usize],
     wires: &Wires,
     tallies: &[Tally],
@@ -102,7 +108,7 @@ fn add_each(work: &mut Vec<usize>, slots: &mut [usize], next: usize, places: &[u
 
 /// Takes the stamp of a place if those with smaller stamps do not park it.
 fn loosen(
-    nodes: &[Node],
+    nodes: &[GraphNode],
     citing: &[Items<usize>],
     wires: &Wires,
     tallies: &mut [Tally],
@@ -113,10 +119,14 @@ fn loosen(
 )
     requires tallied { IsTallied nodes.now stamps.old wires.now tallies.old }
     requires at { at < length work.old.items }
-    requires room { drops nodes.now stamps.old (slice_index work.old.items at) ≡ true → length work.old.items + length (citing_at citing.now (slice_index work.old.items at)) ≤ vec_capacity work.old }
-    ensures stamps { stamps.new ≡ stamps_by (drops nodes.now stamps.old (slice_index work.old.items at)) stamps.old (slice_index work.old.items at) 0 }
+    requires room { drops nodes.now stamps.old (slice_index work.old.items at) ≡ true
+        → length work.old.items + length (citing_at citing.now (slice_index work.old.items at)) ≤ vec_capacity
+        work.old }
+    ensures stamps { stamps.new ≡ stamps_by (drops nodes.now stamps.old (slice_index work.old.items at)) stamps.old
+        (slice_index work.old.items at) 0 }
     ensures tallied { IsTallied nodes.now stamps.new wires.now tallies.new }
-    ensures work { AddsBy (drops nodes.now stamps.old (slice_index work.old.items at)) (at + 1) (citing_at citing.now (slice_index work.old.items at)) work.old.items work.new.items }
+    ensures work { AddsBy (drops nodes.now stamps.old (slice_index work.old.items at)) (at + 1)
+        (citing_at citing.now (slice_index work.old.items at)) work.old.items work.new.items }
     ensures capacity { vec_capacity work.old ≤ vec_capacity work.new }
 {
     let place = work[at];
@@ -128,7 +138,7 @@ fn loosen(
 
 /// Gives a stamp to a place if those with a stamp park it.
 fn spread(
-    nodes: &[Node],
+    nodes: &[GraphNode],
     citing: &[Items<usize>],
     wires: &Wires,
     tallies: &mut [Tally],
@@ -140,10 +150,15 @@ fn spread(
 )
     requires tallied { IsTallied nodes.now stamps.old wires.now tallies.old }
     requires at { at < length work.old.items }
-    requires room { gains nodes.now stamps.old stamp (slice_index work.old.items at) ≡ true → length work.old.items + length (citing_at citing.now (slice_index work.old.items at)) ≤ vec_capacity work.old }
-    ensures stamps { stamps.new ≡ stamps_by (gains nodes.now stamps.old stamp (slice_index work.old.items at)) stamps.old (slice_index work.old.items at) stamp }
+    requires room { gains nodes.now stamps.old stamp (slice_index work.old.items at) ≡ true
+        → length work.old.items + length (citing_at citing.now (slice_index work.old.items at)) ≤ vec_capacity
+        work.old }
+    ensures stamps { stamps.new
+        ≡ stamps_by (gains nodes.now stamps.old stamp (slice_index work.old.items at)) stamps.old
+        (slice_index work.old.items at) stamp }
     ensures tallied { IsTallied nodes.now stamps.new wires.now tallies.new }
-    ensures work { AddsBy (gains nodes.now stamps.old stamp (slice_index work.old.items at)) (at + 1) (citing_at citing.now (slice_index work.old.items at)) work.old.items work.new.items }
+    ensures work { AddsBy (gains nodes.now stamps.old stamp (slice_index work.old.items at)) (at + 1)
+        (citing_at citing.now (slice_index work.old.items at)) work.old.items work.new.items }
     ensures capacity { vec_capacity work.old ≤ vec_capacity work.new }
 {
     let place = work[at];
@@ -155,7 +170,7 @@ fn spread(
 
 /// Makes the stamps right again. Each that may be wrong has to be among the work. New ones begin at the base.
 pub(crate) fn settle(
-    nodes: &[Node],
+    nodes: &[GraphNode],
     citing: &[Items<usize>],
     wires: &Wires,
     tallies: &mut [Tally],

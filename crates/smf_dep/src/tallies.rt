@@ -2,47 +2,47 @@
 
 ghost use Rattle.std.specs.List.{list_all};
 ghost use Rattle.std.specs.Prelude.{◌≡◌, ◌<◌, ◌||◌, IfOk, [], length, map, slice_set};
-ghost use Rattle.smf_dep.specs.Parking.{off_at, runs_at};
-ghost use Rattle.smf_dep.specs.Stamps.{citing_at, stamped};
+ghost use Rattle.smf_dep.specs.Blockage.{off_at, runs_at};
+ghost use Rattle.smf_dep.specs.Stamps.{citing_at, has_stamp};
 ghost use Rattle.smf_dep.specs.Tallies.{entity_of};
-ghost use Rattle.smf_dep.specs.Wires.{AreTalliedBut, IsTallied, IsTalliedBut, IsWired, links_at, put_at, put_number, put_spot, tally_of};
+ghost use Rattle.smf_dep.specs.Wires.{IsTallied, IsTalliedBut, IsWired, links_at, put_at, put_number, put_spot, tally_of};
 
+use crate::blockage::{all_off, any_runs, runs_at, stamp_at};
 use crate::index::citing_of;
-use crate::link::Node;
-use crate::parking::{all_off, any_runs, runs_at, stamp_at};
+use crate::link::GraphNode;
 use crate::tally::{Entity, Tally};
-use crate::wires::{Owner, Spot, Wires, cited_at, cited_by};
+use crate::wires::{LinkOwner, Spot, Wires, cited_at, cited_by};
 use smf_fmri::Items;
 use std::alloc::{AllocError, Global};
 
 fn is_stamped(stamps: &[usize], place: usize) -> bool
-    ensures { result ≡ stamped stamps.now place }
+    ensures { result ≡ has_stamp stamps.now place }
 {
     0 < stamp_at(stamps, place)
 }
 
-fn runs_or_stamped(nodes: &[Node], stamps: &[usize], place: usize) -> bool
-    ensures { result ≡ (runs_at nodes.now place || stamped stamps.now place) }
+fn runs_or_stamped(nodes: &[GraphNode], stamps: &[usize], place: usize) -> bool
+    ensures { result ≡ (runs_at nodes.now place || has_stamp stamps.now place) }
 {
     runs_at(nodes, place) || is_stamped(stamps, place)
 }
 
 fn all_stamped(stamps: &[usize], places: &[usize]) -> bool
-    ensures { result ≡ list_all (stamped stamps.now) places.now }
+    ensures { result ≡ list_all (has_stamp stamps.now) places.now }
 {
     places.iter().all(|place| is_stamped(stamps, *place))
 }
 
-fn all_settled(nodes: &[Node], stamps: &[usize], places: &[usize]) -> bool
-    ensures { result ≡ list_all (λ p. runs_at nodes.now p || stamped stamps.now p) places.now }
+fn all_settled(nodes: &[GraphNode], stamps: &[usize], places: &[usize]) -> bool
+    ensures { result ≡ list_all (λ p. runs_at nodes.now p || has_stamp stamps.now p) places.now }
 {
     places
         .iter()
         .all(|place| runs_or_stamped(nodes, stamps, *place))
 }
 
-fn entity_of(nodes: &[Node], stamps: &[usize], places: &[usize]) -> Entity
-    ensures { result ≡ entity_of (runs_at nodes.now) (off_at nodes.now) (stamped stamps.now) places.now }
+fn entity_of(nodes: &[GraphNode], stamps: &[usize], places: &[usize]) -> Entity
+    ensures { result ≡ entity_of (runs_at nodes.now) (off_at nodes.now) (has_stamp stamps.now) places.now }
 {
     Entity {
         runs: any_runs(nodes, places),
@@ -54,11 +54,12 @@ fn entity_of(nodes: &[Node], stamps: &[usize], places: &[usize]) -> Entity
 
 fn entities_of(
     alloc: Global,
-    nodes: &[Node],
+    nodes: &[GraphNode],
     stamps: &[usize],
     cited: &[Items<usize>],
 ) -> Result<Vec<Entity>, AllocError>
-    ensures { IfOk result (λ es. es.items ≡ map (entity_of (runs_at nodes.now) (off_at nodes.now) (stamped stamps.now)) cited.now) }
+    ensures { IfOk result
+        (λ es. es.items ≡ map (entity_of (runs_at nodes.now) (off_at nodes.now) (has_stamp stamps.now)) cited.now) }
 {
     let mut entities = Vec::new(alloc);
     for places in cited {
@@ -69,11 +70,13 @@ fn entities_of(
 
 fn tally_of(
     alloc: Global,
-    nodes: &[Node],
+    nodes: &[GraphNode],
     stamps: &[usize],
-    owner: &Owner,
+    owner: &LinkOwner,
 ) -> Result<Tally, AllocError>
-    ensures { IfOk result (λ t. t ≡ tally_of (links_at nodes.now) (runs_at nodes.now) (off_at nodes.now) (stamped stamps.now) owner.now) }
+    ensures { IfOk result
+        (λ t. t ≡ tally_of (links_at nodes.now) (runs_at nodes.now) (off_at nodes.now)
+        (has_stamp stamps.now) owner.now) }
 {
     let cited = cited_at(nodes, owner.node, owner.link);
     let entities = entities_of(alloc, nodes, stamps, cited)?;
@@ -82,11 +85,14 @@ fn tally_of(
 
 fn all_tallies(
     alloc: Global,
-    nodes: &[Node],
+    nodes: &[GraphNode],
     stamps: &[usize],
-    owners: &[Owner],
+    owners: &[LinkOwner],
 ) -> Result<Vec<Tally>, AllocError>
-    ensures { IfOk result (λ ts. ts.items ≡ map (tally_of (links_at nodes.now) (runs_at nodes.now) (off_at nodes.now) (stamped stamps.now)) owners.now) }
+    ensures { IfOk result
+        (λ ts. ts.items
+        ≡ map (tally_of (links_at nodes.now) (runs_at nodes.now) (off_at nodes.now) (has_stamp stamps.now))
+        owners.now) }
 {
     let mut tallies = Vec::new(alloc);
     for owner in owners {
@@ -98,7 +104,7 @@ fn all_tallies(
 /// A tally for each link.
 pub(crate) fn tallies_of(
     alloc: Global,
-    nodes: &[Node],
+    nodes: &[GraphNode],
     stamps: &[usize],
     wires: &Wires,
 ) -> Result<Vec<Tally>, AllocError>
@@ -118,8 +124,15 @@ fn put(tallies: &mut [Tally], tally: usize, entity: usize, is: Entity)
     }
 }
 
-fn put_spot(nodes: &[Node], stamps: &[usize], owners: &[Owner], tallies: &mut [Tally], spot: &Spot)
-    ensures { tallies.new ≡ put_spot (links_at nodes.now) (runs_at nodes.now) (off_at nodes.now) (stamped stamps.now) owners.now tallies.old spot.now }
+fn put_spot(
+    nodes: &[GraphNode],
+    stamps: &[usize],
+    owners: &[LinkOwner],
+    tallies: &mut [Tally],
+    spot: &Spot,
+)
+    ensures { tallies.new ≡ put_spot (links_at nodes.now) (runs_at nodes.now) (off_at nodes.now)
+        (has_stamp stamps.now) owners.now tallies.old spot.now }
 {
     if let Some(places) = cited_by(nodes, owners, spot.tally, spot.entity) {
         let entity = entity_of(nodes, stamps, places.as_slice());
@@ -127,8 +140,15 @@ fn put_spot(nodes: &[Node], stamps: &[usize], owners: &[Owner], tallies: &mut [T
     }
 }
 
-fn put_number(nodes: &[Node], stamps: &[usize], wires: &Wires, tallies: &mut [Tally], number: usize)
-    ensures { tallies.new ≡ put_number (links_at nodes.now) (runs_at nodes.now) (off_at nodes.now) (stamped stamps.now) wires.now tallies.old number }
+fn put_number(
+    nodes: &[GraphNode],
+    stamps: &[usize],
+    wires: &Wires,
+    tallies: &mut [Tally],
+    number: usize,
+)
+    ensures { tallies.new ≡ put_number (links_at nodes.now) (runs_at nodes.now) (off_at nodes.now)
+        (has_stamp stamps.now) wires.now tallies.old number }
 {
     if let Some(spot) = wires.spots.as_slice().get(number) {
         put_spot(nodes, stamps, wires.owners.as_slice(), tallies, spot);
@@ -137,7 +157,7 @@ fn put_number(nodes: &[Node], stamps: &[usize], wires: &Wires, tallies: &mut [Ta
 
 /// Makes the tallies right after the instance at one place changed: its flags, or its stamp.
 pub(crate) fn retally(
-    nodes: &[Node],
+    nodes: &[GraphNode],
     stamps: &[usize],
     wires: &Wires,
     tallies: &mut [Tally],
@@ -155,7 +175,7 @@ pub(crate) fn retally(
 
 /// Gives a place another stamp.
 pub(crate) fn put_stamp(
-    nodes: &[Node],
+    nodes: &[GraphNode],
     stamps: &mut [usize],
     wires: &Wires,
     tallies: &mut [Tally],

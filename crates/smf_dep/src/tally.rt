@@ -2,7 +2,7 @@
 
 ghost use Rattle.std.specs.List.{list_all, list_any};
 ghost use Rattle.std.specs.Prelude.{◌≡◌, ◌+◌, ◌<◌, ◌^◌, if◌then◌else◌, slice_set, count_by};
-ghost use Rattle.smf_dep.specs.Tallies.{entities_block, entities_meet, off, parked, runs, settled};
+ghost use Rattle.smf_dep.specs.Tallies.{entities_block, entities_meet, off, is_parked_entity, runs, is_settled_entity};
 
 use crate::dependency::Grouping;
 use std::marker::Model;
@@ -39,7 +39,7 @@ impl Model for Tally {
 }
 
 /// A count, after one of those that are counted changed.
-fn recounted(count: usize, was: bool, is: bool) -> usize
+fn count_after_change(count: usize, was: bool, is: bool) -> usize
     requires some { (if was then 1 else 0) < count + 1 }
     requires small { count < 2 ^ 63 }
     ensures { result + (if was then 1 else 0) ≡ count + (if is then 1 else 0) }
@@ -57,7 +57,7 @@ fn count_running(entities: &[Entity]) -> usize
 }
 
 fn count_parked(entities: &[Entity]) -> usize
-    ensures { result ≡ count_by parked entities.now }
+    ensures { result ≡ count_by is_parked_entity entities.now }
 {
     entities.iter().filter(|e| e.parked).count()
 }
@@ -69,7 +69,7 @@ fn count_off(entities: &[Entity]) -> usize
 }
 
 fn count_settled(entities: &[Entity]) -> usize
-    ensures { result ≡ count_by settled entities.now }
+    ensures { result ≡ count_by is_settled_entity entities.now }
 {
     entities.iter().filter(|e| e.settled).count()
 }
@@ -97,10 +97,10 @@ impl Tally {
     {
         if place < self.entities.len() {
             let was = self.entities[place];
-            self.run = recounted(self.run, was.runs, entity.runs);
-            self.park = recounted(self.park, was.parked, entity.parked);
-            self.off = recounted(self.off, was.off, entity.off);
-            self.settle = recounted(self.settle, was.settled, entity.settled);
+            self.run = count_after_change(self.run, was.runs, entity.runs);
+            self.park = count_after_change(self.park, was.parked, entity.parked);
+            self.off = count_after_change(self.off, was.off, entity.off);
+            self.settle = count_after_change(self.settle, was.settled, entity.settled);
             self.entities[place] = entity;
         }
     }
@@ -118,13 +118,13 @@ impl Tally {
     }
 
     fn any_parked(&self) -> bool
-        ensures { result ≡ list_any parked self.now }
+        ensures { result ≡ list_any is_parked_entity self.now }
     {
         self.park != 0
     }
 
     fn all_parked(&self) -> bool
-        ensures { result ≡ list_all parked self.now }
+        ensures { result ≡ list_all is_parked_entity self.now }
     {
         self.park == self.entities.len()
     }
@@ -136,7 +136,7 @@ impl Tally {
     }
 
     fn all_settled(&self) -> bool
-        ensures { result ≡ list_all settled self.now }
+        ensures { result ≡ list_all is_settled_entity self.now }
     {
         self.settle == self.entities.len()
     }

@@ -4,13 +4,13 @@ ghost use Rattle.std.specs.List.{position};
 ghost use Rattle.std.specs.Ordering.{nat_cmp};
 ghost use Rattle.std.specs.Prelude.{◌≡◌, ◌<◌, ◌≤◌, ◌++◌, ◌∷◌, ℕ, [], Some, IfOk, OnOk, length, map, slice_get, slice_set, true, vec_capacity};
 ghost use Rattle.smf_fmri.specs.ByKey.{IsPlaced, Rises, has_key};
-ghost use Rattle.smf_dep.specs.declared.member.Member.{Member as AnyMember};
+ghost use Rattle.smf_dep.specs.declared.member.GraphMember.{GraphMember as AnyMember};
 ghost use Rattle.smf_dep.specs.Members.{by_member, member_of};
-ghost use Rattle.smf_dep.specs.Parking.{IsOut};
+ghost use Rattle.smf_dep.specs.Blockage.{IsOut};
 ghost use Rattle.smf_dep.specs.Places.{flags_of, nodes_of};
 ghost use Rattle.smf_dep.specs.Updates.{AreAlike, IsAlike, IsAlikeAt, IsAlikeChange, Stays, number, number_at, with_member, with_members};
 
-use crate::kept::Kept;
+use crate::kept::KeptVerdicts;
 use crate::link::{Flags, flags_of};
 use crate::member::ReadMember;
 use crate::room::with_room;
@@ -105,7 +105,7 @@ fn set_member(members: &mut Vec<ReadMember>, place: usize, item: &ViewItem) -> F
 /// Gives an instance the state of an item.
 fn take_item(
     members: &mut Vec<ReadMember>,
-    kept: &mut Kept,
+    kept: &mut KeptVerdicts,
     item: &ViewItem,
     touched: &mut Vec<usize>,
 )
@@ -125,7 +125,7 @@ fn take_item(
 
 fn take_change(
     members: &mut Vec<ReadMember>,
-    kept: &mut Kept,
+    kept: &mut KeptVerdicts,
     change: &ChangedItem,
     touched: &mut Vec<usize>,
 )
@@ -148,7 +148,7 @@ fn take_change(
 /// that are touched.
 pub(crate) fn take_changes(
     members: &mut Vec<ReadMember>,
-    kept: &mut Kept,
+    kept: &mut KeptVerdicts,
     changes: &[ChangedItem],
     touched: &mut Vec<usize>,
 )
@@ -208,7 +208,8 @@ fn put_all_numbers(numbers: &mut Vec<u64>, members: &[ReadMember])
 pub(crate) fn put_touched(numbers: &mut Vec<u64>, members: &[ReadMember], places: &[usize])
     requires empty { numbers.old.items ≡ [] }
     requires room { length members.now ≤ vec_capacity numbers.old }
-    ensures { (a : ℕ) (m : AnyMember) → slice_get members.now a ≡ Some m → IsOut m.instance numbers.new.items → IsOut a places.now }
+    ensures { (a : ℕ) (m : AnyMember) → slice_get members.now a ≡ Some m → IsOut m.instance numbers.new.items
+        → IsOut a places.now }
 {
     if places.len() > numbers.capacity() {
         put_all_numbers(numbers, members);

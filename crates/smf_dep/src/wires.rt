@@ -2,16 +2,16 @@
 
 ghost use Rattle.std.specs.Option.{option_copied};
 ghost use Rattle.std.specs.Prelude.{◌≡◌, ◌<◌, ℕ, IfOk, OnOk, Some, length, slice_get, slice_index};
-ghost use Rattle.smf_dep.specs.Wires.{AreEntered, AreNumbered, AreSpotted, HasSpot, IsWired, cited_at, cited_of, links_at, owner_of, places_of, spot_of};
+ghost use Rattle.smf_dep.specs.Wires.{AreEntered, AreNumbered, AreSpotted, HasSpot, IsWired, cited_at, cited_of, links_at, owner_of, places_of};
 
 use crate::index::{empty, note_places};
-use crate::link::{Link, Node};
+use crate::link::{GraphNode, Link};
 use smf_fmri::Items;
 use std::alloc::{AllocError, Global};
 
 /// The instance and the link that a tally is of.
 #[derive(Clone, Copy)]
-pub struct Owner {
+pub struct LinkOwner {
     pub node: usize,
     pub link: usize,
 }
@@ -27,7 +27,7 @@ pub struct Spot {
 #[derive(Drop)]
 pub struct Wires {
     /// For each tally whose it is.
-    pub owners: Items<Owner>,
+    pub owners: Items<LinkOwner>,
     /// For each instance the tallies of its links.
     pub numbers: Items<Items<usize>>,
     /// Each entity of each tally.
@@ -36,7 +36,7 @@ pub struct Wires {
     pub entries: Items<Items<usize>>,
 }
 
-fn links_of(nodes: &[Node], node: usize) -> &[Link]
+fn links_of(nodes: &[GraphNode], node: usize) -> &[Link]
     ensures { result.now ≡ links_at nodes.now node }
 {
     match nodes.get(node) {
@@ -45,7 +45,7 @@ fn links_of(nodes: &[Node], node: usize) -> &[Link]
     }
 }
 
-pub(crate) fn cited_at(nodes: &[Node], node: usize, link: usize) -> &[Items<usize>]
+pub(crate) fn cited_at(nodes: &[GraphNode], node: usize, link: usize) -> &[Items<usize>]
     ensures { result.now ≡ cited_at (links_at nodes.now) node link }
 {
     match links_of(nodes, node).get(link) {
@@ -54,7 +54,7 @@ pub(crate) fn cited_at(nodes: &[Node], node: usize, link: usize) -> &[Items<usiz
     }
 }
 
-fn cited_of<'a>(nodes: &'a [Node], owners: &[Owner], tally: usize) -> &'a [Items<usize>]
+fn cited_of<'a>(nodes: &'a [GraphNode], owners: &[LinkOwner], tally: usize) -> &'a [Items<usize>]
     ensures { result.now ≡ cited_of (links_at nodes.now) owners.now tally }
 {
     match owners.get(tally) {
@@ -65,8 +65,8 @@ fn cited_of<'a>(nodes: &'a [Node], owners: &[Owner], tally: usize) -> &'a [Items
 
 /// The places that an entity stands for.
 pub(crate) fn cited_by<'a>(
-    nodes: &'a [Node],
-    owners: &[Owner],
+    nodes: &'a [GraphNode],
+    owners: &[LinkOwner],
     tally: usize,
     entity: usize,
 ) -> Option<&'a Items<usize>>
@@ -75,7 +75,7 @@ pub(crate) fn cited_by<'a>(
     cited_of(nodes, owners, tally).get(entity)
 }
 
-fn places_of<'a>(nodes: &'a [Node], owners: &[Owner], spot: &Spot) -> &'a [usize]
+fn places_of<'a>(nodes: &'a [GraphNode], owners: &[LinkOwner], spot: &Spot) -> &'a [usize]
     ensures { result.now ≡ places_of (links_at nodes.now) owners.now spot.now }
 {
     match cited_by(nodes, owners, spot.tally, spot.entity) {
@@ -87,17 +87,19 @@ fn places_of<'a>(nodes: &'a [Node], owners: &[Owner], spot: &Spot) -> &'a [usize
 /// Numbers the links of an instance after others.
 fn number_links(
     alloc: Global,
-    owners: &mut Vec<Owner>,
+    owners: &mut Vec<LinkOwner>,
     node: usize,
     count: usize,
 ) -> Result<Items<usize>, AllocError>
-    ensures kept { OnOk result ((k : ℕ) (o : Owner) → slice_get owners.old.items k ≡ Some o → slice_get owners.new.items k ≡ Some o) }
-    ensures numbered { IfOk result (λ own. (j : ℕ) → j < count → slice_get owners.new.items (slice_index own j) ≡ Some (owner_of node j)) }
+    ensures kept { OnOk result ((k : ℕ) (o : LinkOwner) → slice_get owners.old.items k ≡ Some o
+        → slice_get owners.new.items k ≡ Some o) }
+    ensures numbered { IfOk result (λ own. (j : ℕ) → j < count
+        → slice_get owners.new.items (slice_index own j) ≡ Some (owner_of node j)) }
 {
     let mut own = Items::new(alloc);
     for link in 0..count {
         own.push(owners.len())?;
-        owners.push(Owner { node, link })?;
+        owners.push(LinkOwner { node, link })?;
     }
     Ok(own)
 }
@@ -105,8 +107,8 @@ fn number_links(
 /// Numbers the links of all instances.
 fn number_all(
     alloc: Global,
-    nodes: &[Node],
-    owners: &mut Vec<Owner>,
+    nodes: &[GraphNode],
+    owners: &mut Vec<LinkOwner>,
 ) -> Result<Vec<Items<usize>>, AllocError>
     ensures { IfOk result (λ numbers. AreNumbered (links_at nodes.now) owners.new.items numbers.items) }
 {
@@ -120,7 +122,8 @@ fn number_all(
 
 /// Puts each entity of a tally after others.
 fn spot_each(spots: &mut Vec<Spot>, tally: usize, count: usize) -> Result<(), AllocError>
-    ensures kept { OnOk result ((k : ℕ) (s : Spot) → slice_get spots.old.items k ≡ Some s → slice_get spots.new.items k ≡ Some s) }
+    ensures kept { OnOk result ((k : ℕ) (s : Spot) → slice_get spots.old.items k ≡ Some s
+        → slice_get spots.new.items k ≡ Some s) }
     ensures each { OnOk result ((e : ℕ) → e < count → HasSpot spots.new.items tally e) }
 {
     for entity in 0..count {
@@ -129,7 +132,11 @@ fn spot_each(spots: &mut Vec<Spot>, tally: usize, count: usize) -> Result<(), Al
     Ok(())
 }
 
-fn spot_all(alloc: Global, nodes: &[Node], owners: &[Owner]) -> Result<Vec<Spot>, AllocError>
+fn spot_all(
+    alloc: Global,
+    nodes: &[GraphNode],
+    owners: &[LinkOwner],
+) -> Result<Vec<Spot>, AllocError>
     ensures { IfOk result (λ spots. AreSpotted (links_at nodes.now) owners.now spots.items) }
 {
     let mut spots = Vec::new(alloc);
@@ -145,11 +152,12 @@ fn spot_all(alloc: Global, nodes: &[Node], owners: &[Owner]) -> Result<Vec<Spot>
 
 fn enter_all(
     alloc: Global,
-    nodes: &[Node],
-    owners: &[Owner],
+    nodes: &[GraphNode],
+    owners: &[LinkOwner],
     spots: &[Spot],
 ) -> Result<Vec<Items<usize>>, AllocError>
-    ensures { IfOk result (λ entries. AreEntered (links_at nodes.now) (length nodes.now) owners.now spots.now entries.items) }
+    ensures { IfOk result
+        (λ entries. AreEntered (links_at nodes.now) (length nodes.now) owners.now spots.now entries.items) }
 {
     let mut entries = empty(alloc, nodes.len())?;
     for (at, spot) in spots.iter().enumerate() {
@@ -159,7 +167,7 @@ fn enter_all(
 }
 
 /// Numbers all links and entities.
-pub(crate) fn wires_of(alloc: Global, nodes: &[Node]) -> Result<Wires, AllocError>
+pub(crate) fn wires_of(alloc: Global, nodes: &[GraphNode]) -> Result<Wires, AllocError>
     ensures { IfOk result (λ w. IsWired (links_at nodes.now) (length nodes.now) w) }
 {
     let mut owners = Vec::new(alloc);

@@ -1,9 +1,9 @@
 -- A turn for an instance: its request to children, beside the call of its restarter.
-use Rattle.std.proofs.Common.{◌≡◌, ℕ, ◌&&◌, Bool, true, false, List, [], ◌∷◌, Option, Some, None, refl, sym, subst}
+use Rattle.std.proofs.Common.{◌≡◌, ℕ, ◌&&◌, Bool, true, false, List, Option, Some, None, refl, sym, subst}
 use Rattle.smf_contract.specs.Entries.{Contracts}
 use Rattle.smf_contract.specs.declared.terms.Terms.{Terms}
 use Rattle.smf_restarter.specs.Knowledge.{Knowledge}
-use Rattle.smf_restarter.specs.Ticks.{ticked}
+use Rattle.smf_restarter.specs.Ticks.{reply_to_tick}
 use Rattle.smf_restarter.specs.declared.known.KnownInstance.{KnownInstance}
 use Rattle.smf_restarter.specs.declared.reply.Begun.{Begun}
 use Rattle.smf_restarter.specs.declared.reply.Call.{Call}
@@ -12,9 +12,9 @@ use Rattle.smf_world.specs.declared.event.SpawnAnswer.TheVariants as spawns
 use Rattle.smf_world.specs.Schedule.{Progress, asks_spawn, is_spawn, refuses}
 use Rattle.smf_world.specs.Worked.{restarter}
 use Rattle.smf_world.specs.World.{World}
-use Rattle.smf_machine.specs.declared.requests.Ask.{Ask}
-use Rattle.smf_machine.specs.declared.requests.Ask.TheVariants.{Nothing, Unnumbered, Spawn, Kill}
-use Rattle.smf_machine.specs.Requests.{asked, asked_by, asked_of, kill_if, wanted, wanted_in}
+use Rattle.smf_machine.specs.declared.requests.MethodRequest.{MethodRequest}
+use Rattle.smf_machine.specs.declared.requests.MethodRequest.TheVariants.{Nothing, Unnumbered, Spawn, Kill}
+use Rattle.smf_machine.specs.Requests.{request_of_turn, asked_by, asked_of, kill_if, spawn_request, wanted_in}
 use Rattle.smf_drive.specs.Moves.{IsUnmade}
 
 -- ---- what is asked
@@ -26,21 +26,23 @@ is_kill _ = false
 -- the turn of a restarter for an instance asks for a kill
 abbrev asks_kill : Option Knowledge → ℕ → Bool
 asks_kill None n = false
-asks_kill (Some k) n = is_kill (ticked k n).call
+asks_kill (Some k) n = is_kill (reply_to_tick k n).call
 
-abbrev AsksSpawn : Ask → Call → Type 0
+abbrev AsksSpawn : MethodRequest → Call → Type 0
 AsksSpawn Nothing c = Unit {0}
 AsksSpawn Unnumbered c = is_spawn c ≡ true
-AsksSpawn (Spawn wanted) c = is_spawn c ≡ true
+AsksSpawn (Spawn spawn_request) c = is_spawn c ≡ true
 AsksSpawn (Kill id) c = is_kill c ≡ true
 
-want_is : (c cookie : ℕ) (terms : Terms) (i : Option KnownInstance) (b : Option Begun) (call : Call) → is_spawn call ≡ true → AsksSpawn (wanted c cookie terms i b) call
+want_is : (c cookie : ℕ) (terms : Terms) (i : Option KnownInstance) (b : Option Begun) (call : Call)
+    → is_spawn call ≡ true → AsksSpawn (spawn_request c cookie terms i b) call
 want_is c cookie terms (Some i) (Some b) call e = e
 want_is c cookie terms None (Some b) call e = e
 want_is c cookie terms None None call e = e
 want_is c cookie terms (Some i) None call e = e
 
-want_in_is : (c : Option ℕ) (cookie : ℕ) (terms : Terms) (i : Option KnownInstance) (b : Option Begun) (call : Call) → is_spawn call ≡ true → AsksSpawn (wanted_in c cookie terms i b) call
+want_in_is : (c : Option ℕ) (cookie : ℕ) (terms : Terms) (i : Option KnownInstance) (b : Option Begun) (call : Call)
+    → is_spawn call ≡ true → AsksSpawn (wanted_in c cookie terms i b) call
 want_in_is (Some c) cookie terms i b call e = want_is c cookie terms i b call e
 want_in_is None cookie terms i b call e = e
 
@@ -56,46 +58,51 @@ asks_by t k n b calls.List = tt
 asks_by t k n b (calls.Adopt c) = tt
 
 -- a process is asked for if the turn asks for a spawn, and an end if it asks for a kill
-abbrev pub IsAskedFor : Ask → Option Knowledge → ℕ → Type 0
+abbrev pub IsAskedFor : MethodRequest → Option Knowledge → ℕ → Type 0
 IsAskedFor Nothing k n = Unit {0}
 IsAskedFor Unnumbered k n = asks_spawn k n ≡ true
-IsAskedFor (Spawn wanted) k n = asks_spawn k n ≡ true
+IsAskedFor (Spawn spawn_request) k n = asks_spawn k n ≡ true
 IsAskedFor (Kill id) k n = asks_kill k n ≡ true
 
-turned_for : (a : Ask) (k : Knowledge) (n : ℕ) → AsksSpawn a (ticked k n).call → IsAskedFor a (Some k) n
+turned_for : (a : MethodRequest) (k : Knowledge) (n : ℕ) → AsksSpawn a (reply_to_tick k n).call
+    → IsAskedFor a (Some k) n
 turned_for Nothing k n h = tt
 turned_for Unnumbered k n h = h
-turned_for (Spawn wanted) k n h = h
+turned_for (Spawn spawn_request) k n h = h
 turned_for (Kill id) k n h = h
 
 asked_for_of : (t : Contracts) (k : Option Knowledge) (n : ℕ) → IsAskedFor (asked_of t k n) k n
 asked_for_of t None n = tt
-asked_for_of t (Some k) n = turned_for _ k n (asks_by t k n _ (ticked k n).call)
+asked_for_of t (Some k) n = turned_for _ k n (asks_by t k n _ (reply_to_tick k n).call)
 
-pub asked_for : (w : World) (name : List ℕ) (n : ℕ) (a : Ask) → a ≡ asked w name n → IsAskedFor a (restarter w name) n
-unfolding asked
-asked_for w name n a e = let P : Ask → Type 0 = λ x. IsAskedFor x (restarter w name) n in subst P (sym e) (asked_for_of w.table (restarter w name) n)
+pub asked_for : (w : World) (name : List ℕ) (n : ℕ) (a : MethodRequest) → a ≡ request_of_turn w name n
+    → IsAskedFor a (restarter w name) n
+unfolding request_of_turn
+asked_for w name n a e = let P : MethodRequest → Type 0 = λ x. IsAskedFor x (restarter w name) n in
+    subst P (sym e) (asked_for_of w.table (restarter w name) n)
 
 -- if the turn asks for a spawn, it asks for nothing else
-abbrev AsksAlike : Ask → Option Knowledge → ℕ → Type 0
+abbrev AsksAlike : MethodRequest → Option Knowledge → ℕ → Type 0
 AsksAlike Nothing k n = asks_spawn k n ≡ true → ⊥
 AsksAlike Unnumbered k n = Unit {0}
-AsksAlike (Spawn wanted) k n = Unit {0}
+AsksAlike (Spawn spawn_request) k n = Unit {0}
 AsksAlike (Kill id) k n = asks_spawn k n ≡ true → ⊥
 
-abbrev IsOther : Ask → Call → Type 0
+abbrev IsOther : MethodRequest → Call → Type 0
 IsOther Nothing c = is_spawn c ≡ true → ⊥
 IsOther Unnumbered c = Unit {0}
-IsOther (Spawn wanted) c = Unit {0}
+IsOther (Spawn spawn_request) c = Unit {0}
 IsOther (Kill id) c = is_spawn c ≡ true → ⊥
 
-want_other : (c cookie : ℕ) (terms : Terms) (i : Option KnownInstance) (b : Option Begun) (call : Call) → IsOther (wanted c cookie terms i b) call
+want_other : (c cookie : ℕ) (terms : Terms) (i : Option KnownInstance) (b : Option Begun) (call : Call)
+    → IsOther (spawn_request c cookie terms i b) call
 want_other c cookie terms (Some i) (Some b) call = tt
 want_other c cookie terms None (Some b) call = tt
 want_other c cookie terms None None call = tt
 want_other c cookie terms (Some i) None call = tt
 
-want_in_other : (c : Option ℕ) (cookie : ℕ) (terms : Terms) (i : Option KnownInstance) (b : Option Begun) (call : Call) → IsOther (wanted_in c cookie terms i b) call
+want_in_other : (c : Option ℕ) (cookie : ℕ) (terms : Terms) (i : Option KnownInstance) (b : Option Begun)
+    (call : Call) → IsOther (wanted_in c cookie terms i b) call
 want_in_other (Some c) cookie terms i b call = want_other c cookie terms i b call
 want_in_other None cookie terms i b call = tt
 
@@ -110,29 +117,32 @@ others t k n b calls.Nothing = λ e. absurd cc
 others t k n b calls.List = λ e. absurd cc
 others t k n b (calls.Adopt c) = λ e. absurd cc
 
-alike : (a : Ask) (k : Knowledge) (n : ℕ) → IsOther a (ticked k n).call → AsksAlike a (Some k) n
+alike : (a : MethodRequest) (k : Knowledge) (n : ℕ) → IsOther a (reply_to_tick k n).call → AsksAlike a (Some k) n
 alike Nothing k n h = h
 alike Unnumbered k n h = tt
-alike (Spawn wanted) k n h = tt
+alike (Spawn spawn_request) k n h = tt
 alike (Kill id) k n h = h
 
 asks_alike : (t : Contracts) (k : Option Knowledge) (n : ℕ) → AsksAlike (asked_of t k n) k n
 asks_alike t None n = λ e. absurd cc
-asks_alike t (Some k) n = alike _ k n (others t k n _ (ticked k n).call)
+asks_alike t (Some k) n = alike _ k n (others t k n _ (reply_to_tick k n).call)
 
 and_right : (a b : Bool) → (a && b) ≡ true → b ≡ true
 and_right true b e = e
 and_right false b e = absurd cc
 
 -- if the schedule refuses a spawn, the turn may go on without it
-unmade_by : (k : Option Knowledge) (n : ℕ) (a : Ask) → IsAskedFor a k n → AsksAlike a k n → asks_spawn k n ≡ true → IsUnmade a spawns.Refused
+unmade_by : (k : Option Knowledge) (n : ℕ) (a : MethodRequest) → IsAskedFor a k n → AsksAlike a k n
+    → asks_spawn k n ≡ true → IsUnmade a spawns.Refused
 unmade_by k n Nothing h alike e = absurd (alike e)
 unmade_by k n Unnumbered h alike e = tt
-unmade_by k n (Spawn wanted) h alike e = tt
+unmade_by k n (Spawn spawn_request) h alike e = tt
 unmade_by k n (Kill id) h alike e = absurd (alike e)
 
-pub unmade_refused : (p : Progress) (name : List ℕ) (n : ℕ) → refuses p name n ≡ true → IsUnmade (asked p.world name n) spawns.Refused
-unfolding asked
+pub unmade_refused : (p : Progress) (name : List ℕ) (n : ℕ) → refuses p name n ≡ true
+    → IsUnmade (request_of_turn p.world name n) spawns.Refused
+unfolding request_of_turn
 unmade_refused p name n e =
     let k : Option Knowledge = restarter p.world name in
-    unmade_by k n (asked_of p.world.table k n) (asked_for_of p.world.table k n) (asks_alike p.world.table k n) (and_right _ _ e)
+    unmade_by k n (asked_of p.world.table k n) (asked_for_of p.world.table k n) (asks_alike p.world.table k n)
+    (and_right _ _ e)

@@ -1,10 +1,10 @@
 pub mod Events
 pub mod Asks
-pub mod Moving
+pub mod Moves
 pub mod Moved
 pub mod Alikeness
-pub mod Passing
-pub mod Bonding
-pub mod Starting
-pub mod Agreeing
-pub mod Keeping
+pub mod Passages
+pub mod Bonds
+pub mod Starts
+pub mod Agreement
+pub mod Preservation

@@ -3,15 +3,15 @@ use Rattle.std.specs.Prelude.{◌≡◌, ◌≤◌, ◌==◌, ◌+◌, ℕ, List
 use Rattle.smf_contract.specs.declared.contract.Contract.{Contract}
 use Rattle.smf_contract.specs.declared.contract.Holder.TheVariants.{Inherited}
 use Rattle.smf_contract.specs.declared.cookie.CookieFault.{CookieFault}
-use Rattle.smf_contract.specs.declared.event.Event.{Event}
+use Rattle.smf_contract.specs.declared.event.ContractEvent.{ContractEvent}
 use Rattle.smf_contract.specs.declared.event.EventKind.{EventKind}
 use Rattle.smf_contract.specs.declared.event.EventKind.TheVariants as kinds
 use Rattle.smf_contract.specs.declared.event.Exit.TheVariants.{Killed}
 use Rattle.smf_contract.specs.declared.terms.Terms.{Terms}
-use Rattle.smf_contract.specs.Cookies.{packed}
+use Rattle.smf_contract.specs.Cookies.{bits_of_cookie}
 use Rattle.smf_contract.specs.Entries.{Contracts, home}
 use Rattle.smf_contract.specs.Laws.{IsOrdered}
-use Rattle.smf_method.specs.declared.command.Command.{Command}
+use Rattle.smf_method.specs.declared.command.CommandText.{CommandText}
 use Rattle.smf_edge.specs.declared.note.Note.{Note}
 use Rattle.smf_edge.specs.declared.note.Note.TheVariants as notes
 use Rattle.smf_edge.specs.declared.note.Run.{Run}
@@ -26,7 +26,7 @@ use Rattle.smf_world.specs.World.{World}
 pub record Start : Type 0 where
   pub contract : ℕ
   pub cookie : Result ℕ CookieFault
-  pub command : Command
+  pub command : CommandText
 
 abbrev pub start_if : Bool → Start → List Start
 start_if true s = []
@@ -36,7 +36,11 @@ start_if false s = s ∷ []
 abbrev pub starts_of : Item → List Start
 starts_of (Spawned c n run method revision command) =
     start_if (c == 0)
-    (record { contract = c; cookie = packed (record { instance = n; run = run; method = method }); command = command })
+    (record {
+      contract = c;
+      cookie = bits_of_cookie (record { instance = n; run = run; method = method });
+      command = command;
+    })
 starts_of _ = []
 
 abbrev pub start_by : Run → Start
@@ -44,12 +48,12 @@ start_by run = record { contract = run.contract; cookie = Ok run.cookie; command
 
 -- ---- contracts
 
-abbrev pub unheld : Contract → Contract
-unheld c = record c { holder = Inherited; acknowledged = 0 }
+abbrev pub contract_without_holder : Contract → Contract
+contract_without_holder c = record c { holder = Inherited; acknowledged = 0 }
 
 -- two tables are the same, but for who holds their contracts and what he acknowledged
 pub record AreAlike (t u : Contracts) : Type 0 where
-  pub contracts : map unheld t.contracts ≡ map unheld u.contracts
+  pub contracts : map contract_without_holder t.contracts ≡ map contract_without_holder u.contracts
   pub members : t.members ≡ u.members
   pub events : t.events ≡ u.events
   pub last_contract : t.last_contract ≡ u.last_contract
@@ -87,7 +91,7 @@ passages_by id (kinds.Core p) = []
 passages_by id (kinds.Signal p) = []
 passages_by id (kinds.Hwerr p) = []
 
-abbrev pub passages_in : Event → List Passage
+abbrev pub passages_in : ContractEvent → List Passage
 passages_in e = passages_by e.contract e.kind
 
 abbrev pub ended_in : ℕ → ℕ → Passage
@@ -101,7 +105,7 @@ passages_of (notes.Killed kill) = map (ended_in kill.contract) kill.ends
 
 -- the forks and ends that children noted last are those of the table's events; earlier ones are of a table before a
 -- boot
-abbrev pub IsNoted : List Note → List Event → Type 0
+abbrev pub IsNoted : List Note → List ContractEvent → Type 0
 IsNoted ns es = (earlier : List Passage) × (flat_map passages_of ns ≡ earlier ++ flat_map passages_in es)
 
 -- it says nothing, or of a process that has ended
@@ -110,7 +114,7 @@ IsPast t kinds.Empty = Unit {0}
 IsPast t (kinds.Exit p exit) = (p ≤ t.last_process) × (home t.members p ≡ None)
 IsPast t _ = ⊥
 
-abbrev pub ArePast : Contracts → List Event → Type 0
+abbrev pub ArePast : Contracts → List ContractEvent → Type 0
 ArePast t [] = Unit {0}
 ArePast t (e ∷ es) = IsPast t e.kind × ArePast t es
 

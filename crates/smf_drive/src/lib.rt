@@ -2,6 +2,6 @@
 //! Modules: `rounds`.
 #![tactic(auto)]
 
-mod driving;
+mod rounds;
 
-pub use driving::drive;
+pub use rounds::drive;

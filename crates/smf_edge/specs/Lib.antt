@@ -6,5 +6,5 @@ pub mod Books
 pub mod Shell
 pub mod Facts
 pub mod Ends
-pub mod Running
+pub mod Processes
 pub mod Manned

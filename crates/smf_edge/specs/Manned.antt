@@ -1,7 +1,7 @@
 -- Each contract with members has one process, in the order of their starts.
 use Rattle.std.specs.Prelude.{◌≡◌, ℕ, List, [], ◌∷◌, map}
 use Rattle.smf_contract.specs.Laws.{Ascends}
-use Rattle.smf_edge.specs.declared.deed.Deed.{Deed}
+use Rattle.smf_edge.specs.declared.deed.MemberEvent.{MemberEvent}
 use Rattle.smf_edge.specs.declared.deed.Happening.{Happening}
 use Rattle.smf_edge.specs.declared.deed.Happening.TheVariants.{Fork, Exit, Fail}
 use Rattle.smf_edge.specs.Ledgers.{Ledger}
@@ -12,7 +12,7 @@ IsExit (Exit exit) = Unit {0}
 IsExit Fork = ⊥
 IsExit (Fail failure) = ⊥
 
-abbrev pub AreExits : List Deed → Type 0
+abbrev pub AreExits : List MemberEvent → Type 0
 AreExits [] = Unit {0}
 AreExits (d ∷ ds) = IsExit d.happening × AreExits ds
 

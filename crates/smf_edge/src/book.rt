@@ -1,19 +1,19 @@
-ghost use Rattle.std.specs.Prelude.{◌≡◌, ◌≢◌, ◌<◌, ◌⊎◌, [], ◌∷◌, Some, None, true, IfErr, IfOk, IfSome, IfNone, OnErr, OnOk, filter, length, option_to_list, vec_len, vec_capacity};
+ghost use Rattle.std.specs.Prelude.{◌≡◌, ◌≢◌, ◌<◌, ◌⊎◌, [], Some, None, true, IfErr, IfOk, IfSome, IfNone, OnErr, OnOk, filter, length, option_to_list, vec_len, vec_capacity};
 ghost use Rattle.smf_contract.specs.Calls.{next_contract};
 ghost use Rattle.smf_contract.specs.Entries.{empty, first_member, home, processes};
 ghost use Rattle.smf_edge.specs.Books.{IsTold, ledger_of};
-ghost use Rattle.smf_edge.specs.Ledgers.{contracts_of, left, lives};
-ghost use Rattle.smf_edge.specs.Running.{HasTold};
+ghost use Rattle.smf_edge.specs.Ledgers.{contracts_of, members_left, lives};
+ghost use Rattle.smf_edge.specs.Processes.{HasTold};
 ghost use Rattle.smf_edge.specs.Sound.{IsSound};
-ghost use Rattle.smf_edge.specs.Steps.{IsFound, IsGiven, IsKilled, IsPolled, IsSpawned, happened, listed, restarted};
+ghost use Rattle.smf_edge.specs.Steps.{IsGiven, IsKilled, IsPolled, IsSpawned, ledger_with_member_event, live_contracts, ledger_after_boot};
 ghost use Rattle.smf_edge.specs.declared.fault.KidsFault.TheVariants.{Memory, NoChild, Refused};
 
-use crate::counting::{count_left, processes_of};
-use crate::deed::{Deed, Happening};
+use crate::counts::{count_left, processes_of};
+use crate::deed::{Happening, MemberEvent};
 use crate::edits::{behind, drop_deeds, drop_events, first_deed, note_all, take_deed, take_first};
 use crate::fault::KidsFault;
 use crate::note::{Kill, Note, Run};
-use smf_contract::{Event, Table};
+use smf_contract::{ContractEvent, ContractTable};
 use smf_fmri::{Items, Number};
 use std::alloc::{AllocError, Global};
 
@@ -24,10 +24,10 @@ const HOLDER: u64 = 0;
 #[derive(Drop)]
 pub(crate) struct Book {
     alloc: Global,
-    table: Table,
+    table: ContractTable,
     notes: Vec<Note>,
-    due: Vec<Event>,
-    pending: Vec<Deed>,
+    due: Vec<ContractEvent>,
+    pending: Vec<MemberEvent>,
 }
 
 impl Book {
@@ -36,7 +36,7 @@ impl Book {
     {
         Book {
             alloc,
-            table: Table::new(alloc),
+            table: ContractTable::new(alloc),
             notes: Vec::new(alloc),
             due: Vec::new(alloc),
             pending: Vec::new(alloc),
@@ -50,8 +50,8 @@ impl Book {
     }
 
     /// How many members a contract has once all that happened is told.
-    pub(crate) fn left(&self, id: Number) -> usize
-        ensures { result ≡ left (ledger_of self.now) id }
+    pub(crate) fn members_left(&self, id: Number) -> usize
+        ensures { result ≡ members_left (ledger_of self.now) id }
     {
         let contract = self.table.contract(id);
         count_left(&contract, self.table.members(), &self.pending, id)
@@ -63,7 +63,8 @@ impl Book {
         ensures next { OnOk result (next_contract self.new.table.table ≡ Some id) }
         ensures table { OnOk result (self.new.table.room ≡ true) }
         ensures note { OnOk result (vec_len self.new.notes < vec_capacity self.new.notes) }
-        ensures fault { IfErr result (λ e. (e ≡ Memory) ⊎ ((e ≡ Refused) × (next_contract self.old.table.table ≢ Some id))) }
+        ensures fault { IfErr result
+            (λ e. (e ≡ Memory) ⊎ ((e ≡ Refused) × (next_contract self.old.table.table ≢ Some id))) }
     {
         if self.table.next_contract() != Some(id) {
             return Err(KidsFault::Refused);
@@ -87,7 +88,7 @@ impl Book {
     }
 
     /// The next event that is due.
-    pub(crate) fn give(&mut self) -> Option<Event>
+    pub(crate) fn give(&mut self) -> Option<ContractEvent>
         requires { IsSound (ledger_of self.old) }
         ensures given { IfSome result (λ e. IsGiven e (ledger_of self.old) (ledger_of self.new)) }
         ensures none { IfNone result ((ledger_of self.new ≡ ledger_of self.old) × (self.old.due.items ≡ [])) }
@@ -105,7 +106,7 @@ impl Book {
         id: Number,
         process: Number,
         happening: Happening,
-    ) -> Result<Event, AllocError>
+    ) -> Result<ContractEvent, AllocError>
         requires sound { IsSound (ledger_of self.old) }
         requires member { home self.old.table.table.members process ≡ Some id }
         requires none_due { self.old.due.items ≡ [] }
@@ -127,7 +128,11 @@ impl Book {
 
     /// Finds that something happens to the lowest member of a contract, if nothing is pending: the first event that it
     /// brings.
-    pub(crate) fn find(&mut self, id: Number, happening: Happening) -> Result<Event, AllocError>
+    pub(crate) fn find(
+        &mut self,
+        id: Number,
+        happening: Happening,
+    ) -> Result<ContractEvent, AllocError>
         requires sound { IsSound (ledger_of self.old) }
         requires member { first_member id self.old.table.table.members ≢ None }
         requires none_due { self.old.due.items ≡ [] }
@@ -143,7 +148,7 @@ impl Book {
     }
 
     /// Takes what is pending: the first event that it brings, and none if nothing is pending.
-    pub(crate) fn take(&mut self) -> Result<Option<Event>, AllocError>
+    pub(crate) fn take(&mut self) -> Result<Option<ContractEvent>, AllocError>
         requires sound { IsSound (ledger_of self.old) }
         requires none_due { self.old.due.items ≡ [] }
         ensures taken { IfOk result (λ event. IsPolled event (ledger_of self.old) (ledger_of self.new)) }
@@ -164,15 +169,17 @@ impl Book {
     /// Lets something happen to the lowest member of a contract, if one is left.
     pub(crate) fn happen(&mut self, id: Number, happening: Happening) -> Result<(), KidsFault>
         requires { IsSound (ledger_of self.old) }
-        ensures happened { OnOk result (ledger_of self.new ≡ happened (ledger_of self.old) id happening) }
+        ensures happened { OnOk result
+            (ledger_of self.new ≡ ledger_with_member_event (ledger_of self.old) id happening) }
         ensures sound { IsSound (ledger_of self.new) }
         ensures err { OnErr result (ledger_of self.new ≡ ledger_of self.old) }
-        ensures fault { IfErr result (λ e. (e ≡ Memory) ⊎ ((e ≡ NoChild) × (left (ledger_of self.old) id ≡ 0))) }
+        ensures fault { IfErr result
+            (λ e. (e ≡ Memory) ⊎ ((e ≡ NoChild) × (members_left (ledger_of self.old) id ≡ 0))) }
     {
-        if self.left(id) == 0 {
+        if self.members_left(id) == 0 {
             return Err(KidsFault::NoChild);
         }
-        self.pending.push(Deed {
+        self.pending.push(MemberEvent {
             contract: id,
             happening,
         })?;
@@ -182,13 +189,15 @@ impl Book {
     /// Makes room for a kill, with the processes that it ends.
     pub(crate) fn prepare_kill(&mut self, id: Number) -> Result<Kill, KidsFault>
         ensures same { ledger_of self.new ≡ ledger_of self.old }
-        ensures kill { IfOk result (λ kill. (kill.contract ≡ id) × (kill.ends ≡ processes id self.old.table.table.members)) }
-        ensures some { OnOk result (0 < left (ledger_of self.new) id) }
+        ensures kill { IfOk result (λ kill. (kill.contract ≡ id)
+            × (kill.ends ≡ processes id self.old.table.table.members)) }
+        ensures some { OnOk result (0 < members_left (ledger_of self.new) id) }
         ensures table { OnOk result (self.new.table.room ≡ true) }
         ensures note { OnOk result (vec_len self.new.notes < vec_capacity self.new.notes) }
-        ensures fault { IfErr result (λ e. (e ≡ Memory) ⊎ ((e ≡ NoChild) × (left (ledger_of self.old) id ≡ 0))) }
+        ensures fault { IfErr result
+            (λ e. (e ≡ Memory) ⊎ ((e ≡ NoChild) × (members_left (ledger_of self.old) id ≡ 0))) }
     {
-        if self.left(id) == 0 {
+        if self.members_left(id) == 0 {
             return Err(KidsFault::NoChild);
         }
         let ends = processes_of(self.alloc, self.table.members(), id)?;
@@ -203,7 +212,7 @@ impl Book {
     /// Kills the members of a contract, for which room was made.
     pub(crate) fn kill(&mut self, kill: Kill)
         requires sound { IsSound (ledger_of self.old) }
-        requires some { 0 < left (ledger_of self.old) kill.contract }
+        requires some { 0 < members_left (ledger_of self.old) kill.contract }
         requires ends { kill.ends ≡ processes kill.contract self.old.table.table.members }
         requires table { self.old.table.room ≡ true }
         requires note { vec_len self.old.notes < vec_capacity self.old.notes }
@@ -220,7 +229,7 @@ impl Book {
     /// Drops all members and contracts.
     pub(crate) fn restart(&mut self)
         requires { IsSound (ledger_of self.old) }
-        ensures restarted { ledger_of self.new ≡ restarted (ledger_of self.old) }
+        ensures restarted { ledger_of self.new ≡ ledger_after_boot (ledger_of self.old) }
         ensures sound { IsSound (ledger_of self.new) }
     {
         self.table.reboot();
@@ -229,12 +238,12 @@ impl Book {
     }
 
     /// The contract of a run that was made, if it has members.
-    fn living(&self, note: &Note) -> Option<Number>
+    fn live_contract(&self, note: &Note) -> Option<Number>
         ensures { option_to_list result ≡ filter (lives (ledger_of self.now)) (contracts_of note.now) }
     {
         match note {
             Note::Made(run) => {
-                if self.left(run.contract) > 0 {
+                if self.members_left(run.contract) > 0 {
                     return Some(run.contract);
                 }
                 None
@@ -246,11 +255,11 @@ impl Book {
 
     /// The runs that were made and have members.
     pub(crate) fn list(&self) -> Result<Items<Number>, AllocError>
-        ensures { IfOk result (λ ids. ids ≡ listed (ledger_of self.now)) }
+        ensures { IfOk result (λ ids. ids ≡ live_contracts (ledger_of self.now)) }
     {
         let mut ids = Items::new(self.alloc);
         for note in &self.notes {
-            if let Some(id) = self.living(note) {
+            if let Some(id) = self.live_contract(note) {
                 ids.push(id)?;
             }
         }

@@ -2,7 +2,7 @@
 ghost use Rattle.std.specs.Prelude.{◌≡◌, ◌⊎◌, IfErr, IfNone, IfOk, IfSome, OnErr, false, true, filter, position};
 ghost use Rattle.smf_edge.specs.Ends.{StartLacksMemory, StartRefused};
 ghost use Rattle.smf_edge.specs.Facts.{HasNotRun, HasRun};
-ghost use Rattle.smf_edge.specs.Running.{AreSeen, HasExit, HasNoExit, IsCleared, IsEnded, IsNotCleared, IsNotEnded, IsSeen, NoneOrSome, SomeKid, is_kid_of, is_other_kid, role_of, roles};
+ghost use Rattle.smf_edge.specs.Processes.{AreSeen, HasExit, HasNoExit, IsCleared, IsEnded, IsNotCleared, IsNotEnded, IsSeen, NoneOrSome, SomeKid, is_kid_of, is_other_kid, role_of, roles};
 ghost use Rattle.smf_edge.specs.Shell.{is_child};
 ghost use Rattle.smf_edge.specs.declared.fault.KidsFault.TheVariants.{Memory, Refused};
 

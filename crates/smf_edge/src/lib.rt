@@ -5,7 +5,7 @@
 
 mod book;
 mod child;
-mod counting;
+mod counts;
 mod deed;
 mod edits;
 mod fault;
@@ -16,7 +16,7 @@ mod shell;
 mod system;
 mod table_kids;
 
-pub use deed::{Deed, Happening};
+pub use deed::{Happening, MemberEvent};
 pub use fault::KidsFault;
 pub use kids::Kids;
 pub use note::{Kill, Note, Run};

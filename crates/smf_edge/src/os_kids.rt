@@ -8,9 +8,9 @@ use crate::kids::Kids;
 use crate::note::{Note, Run};
 use crate::shell::{follows, shell};
 use crate::system::System;
-use smf_contract::{Event, Method, Terms};
+use smf_contract::{ContractEvent, Method, Terms};
 use smf_fmri::{InstanceFmri, Items, Number};
-use smf_method::Command;
+use smf_method::CommandText;
 use smf_state::Duration;
 use std::alloc::Global;
 use std::io::Stderr;
@@ -46,7 +46,7 @@ impl<R: System> Model for OsKids<R> {
 
     ghost use Rattle.smf_edge.specs.Books.{ledger_of};
     ghost use Rattle.smf_edge.specs.Manned.{IsKept};
-    ghost use Rattle.smf_edge.specs.Running.{contracts};
+    ghost use Rattle.smf_edge.specs.Processes.{contracts};
 
     ghost view = { λ s. (ledger_of s.book, s.faults, s.children.items) };
 
@@ -77,9 +77,9 @@ impl<R: System> Kids for OsKids<R> {
     ghost use Rattle.smf_method.specs.Tokens.{method_text};
     ghost use Rattle.smf_edge.specs.Answers.{MayNotAnswer, MayNotDo, MayNotSpawn};
     ghost use Rattle.smf_edge.specs.Ends.{MayRefuse, os_skills};
-    ghost use Rattle.smf_edge.specs.Ledgers.{left};
+    ghost use Rattle.smf_edge.specs.Ledgers.{members_left};
     ghost use Rattle.smf_edge.specs.Manned.{IsManned};
-    ghost use Rattle.smf_edge.specs.Running.{HasNoExit, IsEnded, IsJoinedEnd, IsNotEnded, IsStarted, OneFails, PollsKids, SomeKid, contracts, is_other_role, roles, run_of};
+    ghost use Rattle.smf_edge.specs.Processes.{HasNoExit, IsEnded, IsJoinedEnd, IsNotEnded, IsStarted, OneFails, PollsKids, SomeKid, contracts, is_other_role, roles, run_of};
     ghost use Rattle.smf_edge.specs.Shell.{IsRun, follows};
     ghost use Rattle.smf_edge.specs.Steps.{IsJoined, IsKilled, IsPolled, IsSpawned};
     ghost use Rattle.smf_edge.specs.declared.fault.KidsFault.TheVariants.{Device, NotFollowed, NotHere};
@@ -96,7 +96,7 @@ impl<R: System> Kids for OsKids<R> {
         cookie: u64,
         style: Duration,
         terms: Terms,
-        command: &Command,
+        command: &CommandText,
         restarter: &InstanceFmri,
         method: Method,
         instance: &InstanceFmri,
@@ -142,7 +142,7 @@ impl<R: System> Kids for OsKids<R> {
     /// The clause `seen` says that the end of a process is told only after the system told it. For a child service it
     /// is told only after the killer of its group ran. The end of a joined process was told in `join`, which says the
     /// same.
-    fn poll(&mut self) -> Result<Option<Event>, KidsFault>
+    fn poll(&mut self) -> Result<Option<ContractEvent>, KidsFault>
         ensures polled { IfOk result (λ event. IsPolled event self.old.0 self.new.0) }
         ensures refused { OnErr result (self.new.0 ≡ self.old.0) }
         ensures fault { IfErr result (MayNotAnswer (os_skills R.facts.start_fails) true self.old.1 self.new.1) }
@@ -177,12 +177,12 @@ impl<R: System> Kids for OsKids<R> {
         ensures refused { OnErr result (self.new.0 ≡ self.old.0) }
         ensures not_here { true ≡ false → result ≡ Err NotHere }
         ensures fault { IfErr result
-            (MayNotDo (os_skills R.facts.start_fails) true (left self.old.0 id) self.old.1 self.new.1) }
+            (MayNotDo (os_skills R.facts.start_fails) true (members_left self.old.0 id) self.old.1 self.new.1) }
         ensures ended { OnOk result (IsJoinedEnd R.facts id self.old.2 self.old.0 self.new.0) }
         ensures failed { IfErr result (λ e. e ≡ Device → SomeKid id self.old.2 (HasNoExit R.facts)) }
         ensures same { roles self.new.2 ≡ roles self.old.2 }
     {
-        if self.book.left(id) == 0 {
+        if self.book.members_left(id) == 0 {
             return Err(KidsFault::NoChild);
         }
         let told = wait_for(self.alloc, &self.system, &mut self.children, id)?;
@@ -199,7 +199,7 @@ impl<R: System> Kids for OsKids<R> {
         ensures killed { OnOk result (IsKilled id self.old.0 self.new.0) }
         ensures refused { OnErr result (self.new.0 ≡ self.old.0) }
         ensures fault { IfErr result
-            (MayNotDo (os_skills R.facts.start_fails) true (left self.old.0 id) self.old.1 self.new.1) }
+            (MayNotDo (os_skills R.facts.start_fails) true (members_left self.old.0 id) self.old.1 self.new.1) }
         ensures ended { OnOk result (SomeKid id self.old.2 (IsEnded R.facts)) }
         ensures failed { IfErr result (λ e. e ≡ Device → SomeKid id self.old.2 (IsNotEnded R.facts)) }
         ensures forgotten { OnOk result (roles self.new.2 ≡ filter (is_other_role id) (roles self.old.2)) }

@@ -1,5 +1,5 @@
 // How a command is run.
-ghost use Rattle.std.specs.Prelude.{◌≡◌, ◌≢◌, IfOk, OnOk, ℕ, List, Some, None, false, true, codes, [], ◌∷◌};
+ghost use Rattle.std.specs.Prelude.{◌≡◌, ◌≢◌, IfOk, OnOk, ℕ, List, Some, None, false, true, codes};
 ghost use Rattle.std.specs.Process.{SameEnv, SameOtherVars, SameProgramAndArgs, clears_env, command_args, command_program, command_var};
 ghost use Rattle.std.specs.IoError.{error_kind};
 ghost use Rattle.std_io.specs.declared.io.kind.ErrorKind.TheVariants.{OutOfMemory};
@@ -11,7 +11,7 @@ ghost use Rattle.smf_edge.specs.Shell.{IsOther, by_shell, follows, is_child};
 use crate::fault::KidsFault;
 use smf_contract::{Exit, Method};
 use smf_fmri::InstanceFmri;
-use smf_method::{Command, method_text};
+use smf_method::{CommandText, method_text};
 use smf_state::Duration;
 use std::alloc::{AllocError, Global};
 use std::io;
@@ -20,7 +20,7 @@ use std::process::{Command as Program, ExitStatus, Stdio};
 
 /// A command by the shell, in a session and so in a process group of its own, with no variables. `setsid` becomes the
 /// shell, so the shell's number is that of the group.
-fn bare(alloc: Global, command: &Command) -> Result<Program, AllocError>
+fn bare(alloc: Global, command: &CommandText) -> Result<Program, AllocError>
     ensures clears { IfOk result (λ c. clears_env c ≡ true) }
     ensures program { IfOk result (λ c. command_program c ≡ codes "/usr/bin/setsid") }
     ensures args { IfOk result (λ c. command_args c ≡ by_shell command.now) }
@@ -58,7 +58,7 @@ fn wire(program: &mut Program, output: Stderr)
 /// output goes to one stream.
 pub(crate) fn shell(
     alloc: Global,
-    command: &Command,
+    command: &CommandText,
     restarter: &InstanceFmri,
     method: Method,
     instance: &InstanceFmri,
@@ -67,7 +67,8 @@ pub(crate) fn shell(
     ensures clears { IfOk result (λ c. clears_env c ≡ true) }
     ensures program { IfOk result (λ c. command_program c ≡ codes "/usr/bin/setsid") }
     ensures args { IfOk result (λ c. command_args c ≡ by_shell command.now) }
-    ensures path { IfOk result (λ c. command_var c (codes "PATH") ≡ Some (Some (codes "/usr/sbin:/usr/bin:/sbin:/bin"))) }
+    ensures path { IfOk result
+        (λ c. command_var c (codes "PATH") ≡ Some (Some (codes "/usr/sbin:/usr/bin:/sbin:/bin"))) }
     ensures fmri { IfOk result (λ c. command_var c (codes "SMF_FMRI") ≡ Some (Some instance.now)) }
     ensures method { IfOk result (λ c. command_var c (codes "SMF_METHOD") ≡ Some (Some (method_text method))) }
     ensures restarter { IfOk result (λ c. command_var c (codes "SMF_RESTARTER") ≡ Some (Some restarter.now)) }

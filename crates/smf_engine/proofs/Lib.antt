@@ -1,3 +1,3 @@
 pub mod Placed
 pub mod Shape
-pub mod Covering
+pub mod Coverage

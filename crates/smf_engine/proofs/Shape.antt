@@ -5,7 +5,7 @@ use Rattle.smf_state.specs.declared.view.ViewItem.{ViewItem}
 use Rattle.smf_wire.specs.declared.order.Order.{Order}
 use Rattle.smf_wire.specs.declared.order.What.{What}
 use Rattle.smf_dep.specs.declared.graph.Finding.{Finding}
-use Rattle.smf_dep.specs.declared.member.Member.{Member}
+use Rattle.smf_dep.specs.declared.member.GraphMember.{GraphMember}
 use Rattle.smf_dep.specs.Members.{member_of, members}
 use Rattle.smf_dep.specs.Places.{finding_of}
 use Rattle.smf_engine.specs.Orders.{decision, order, order_to, order_under, what_by}
@@ -20,6 +20,6 @@ order_shape revision items i P none some = under (member_of i) (finding_of (memb
     by None = none
     by (Some what) = some what
 
-    under : (m : Member) (f : Finding) (o : Option State) → P (order_under revision i m f o)
+    under : (m : GraphMember) (f : Finding) (o : Option State) → P (order_under revision i m f o)
     under m f None = by (what_by i m (decision i m f))
     under m f (Some next) = none

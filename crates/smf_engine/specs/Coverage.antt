@@ -1,14 +1,14 @@
 -- A view that was looked at, and the instances for which something may be ordered.
-use Rattle.std.specs.Prelude.{◌≡◌, ℕ, List, [], ◌∷◌, ◌++◌, map, Option, Some, None}
+use Rattle.std.specs.Prelude.{◌≡◌, ℕ, List, ◌++◌, Option, Some, None}
 use Rattle.std.specs.Option.{option_map_or}
 use Rattle.smf_fmri.specs.ByKey.{By, by_number, lookup}
 use Rattle.smf_state.specs.declared.view.ChangedItem.{ChangedItem}
 use Rattle.smf_state.specs.declared.view.View.{View}
 use Rattle.smf_state.specs.declared.view.ViewItem.{ViewItem}
 use Rattle.smf_state.specs.Patched.{by_item}
-use Rattle.smf_dep.specs.declared.member.Member.{Member}
+use Rattle.smf_dep.specs.declared.member.GraphMember.{GraphMember}
 use Rattle.smf_dep.specs.Members.{members}
-use Rattle.smf_dep.specs.Parking.{IsOut}
+use Rattle.smf_dep.specs.Blockage.{IsOut}
 use Rattle.smf_wire.specs.declared.order.Order.{Order}
 use Rattle.smf_engine.specs.Orders.{order, order_in}
 
@@ -19,15 +19,18 @@ by_itself = by_number (λ n. n)
 
 -- nothing is ordered for an instance that is not among these, whatever the revision
 abbrev pub Covers : List ViewItem → List ℕ → Type 0
-Covers items ns = (n : ℕ) (i : ViewItem) → lookup by_item items n ≡ Some i → lookup by_itself ns n ≡ None → (revision : ℕ) → order revision items i ≡ None
+Covers items ns = (n : ℕ) (i : ViewItem) → lookup by_item items n ≡ Some i → lookup by_itself ns n ≡ None
+    → (revision : ℕ) → order revision items i ≡ None
 
 -- the same of the instances that need not be judged any more
 abbrev pub CoversBut : List ℕ → List ViewItem → List ℕ → Type 0
-CoversBut left items ns = (n : ℕ) (i : ViewItem) → IsOut n left → lookup by_item items n ≡ Some i → lookup by_itself ns n ≡ None → (revision : ℕ) → order revision items i ≡ None
+CoversBut left items ns = (n : ℕ) (i : ViewItem) → IsOut n left → lookup by_item items n ≡ Some i
+    → lookup by_itself ns n ≡ None → (revision : ℕ) → order revision items i ≡ None
 
 -- it is known of one instance if something may be ordered; the others stay
 pub record IsJudged (items : List ViewItem) (n : ℕ) (before after : List ℕ) : Type 0 where
-  pub here : (i : ViewItem) → lookup by_item items n ≡ Some i → lookup by_itself after n ≡ None → (revision : ℕ) → order revision items i ≡ None
+  pub here : (i : ViewItem) → lookup by_item items n ≡ Some i → lookup by_itself after n ≡ None → (revision : ℕ)
+      → order revision items i ≡ None
   pub others : (m : ℕ) → (n ≡ m → ⊥) → lookup by_itself after m ≡ lookup by_itself before m
 
 -- the order for the instance of a number
@@ -35,7 +38,7 @@ abbrev pub order_for : ℕ → List ViewItem → ℕ → Option Order
 order_for revision items n = order_in revision items (lookup by_item items n)
 
 -- the data kept of a view that was looked at
-pub record IsLooked (v : View) (ms : List Member) (ns : List ℕ) : Type 0 where
+pub record IsLooked (v : View) (ms : List GraphMember) (ns : List ℕ) : Type 0 where
   pub shown : ms ≡ members v.items
   pub covered : Covers v.items ns
 

@@ -1,11 +1,11 @@
 ghost use Rattle.std.specs.Prelude.{◌≡◌, IfOk, None, OnErr, OnOk, Some, [], find, map, option_map};
 ghost use Rattle.smf_engine.specs.Coverage.{IsBeside, IsNoted, number_put};
-ghost use Rattle.smf_engine.specs.Orders.{decided, has_no_orders, is_about, is_none_left, newer, order_in, orders, orders_seen, question, with_changes};
+ghost use Rattle.smf_engine.specs.Orders.{order_by_view, has_no_orders, is_about, is_none_left, newer, order_in, orders, orders_seen, question, with_changes};
 ghost use Rattle.smf_state.specs.declared.view.View.{View as AnyView};
-ghost use Rattle.smf_state.specs.Patched.{patched};
+ghost use Rattle.smf_state.specs.Patched.{view_after_changes};
 
 use crate::looked::{Looked, graph_of};
-use crate::ordering::{has_no_orders_by, order_of, orders};
+use crate::view_orders::{has_no_orders_by, order_of, orders};
 use smf_dep::Graph;
 use smf_fmri::Items;
 use smf_state::{ChangedItem, HeldView, View};
@@ -63,7 +63,7 @@ fn take_in(
     changes: &ViewChanges,
 ) -> Result<(), AllocError>
     requires { IsBeside (Some held.old) looked.old }
-    ensures ok { OnOk result (held.new ≡ patched held.old changes.now.to changes.now.items) }
+    ensures ok { OnOk result (held.new ≡ view_after_changes held.old changes.now.to changes.now.items) }
     ensures err { OnErr result (held.new ≡ held.old) }
     ensures beside { IsBeside (Some held.new) looked.new }
 {
@@ -113,7 +113,8 @@ fn order_of_seen(
     instance: u64,
 ) -> Result<Option<Order>, AllocError>
     requires { IsBeside (Some seen.now) looked.now }
-    ensures { IfOk result (λ o. o ≡ order_in seen.now.revision seen.now.items (find (is_about instance) seen.now.items)) }
+    ensures { IfOk result
+        (λ o. o ≡ order_in seen.now.revision seen.now.items (find (is_about instance) seen.now.items)) }
 {
     let items = seen.items();
     match looked {
@@ -203,7 +204,7 @@ impl Engine {
 
     /// The order for one instance, by the view that is held. It takes the whole view into account.
     pub fn decide(&self, alloc: Global, instance: u64) -> Result<Option<Order>, AllocError>
-        ensures { IfOk result (λ o. o ≡ decided self.now instance) }
+        ensures { IfOk result (λ o. o ≡ order_by_view self.now instance) }
     {
         match &self.seen {
             None => Ok(None),
@@ -251,7 +252,8 @@ impl Engine {
         changes: &[ChangedItem],
     ) -> Result<bool, AllocError>
         ensures same { self.new ≡ self.old }
-        ensures nothing { IfOk result (λ b. (v : AnyView) → self.old ≡ Some v → b ≡ has_no_orders (patched v to changes.now)) }
+        ensures nothing { IfOk result (λ b. (v : AnyView) → self.old ≡ Some v
+            → b ≡ has_no_orders (view_after_changes v to changes.now)) }
     {
         let Some(seen) = &self.seen else {
             return Ok(true);

@@ -3,10 +3,10 @@
 //! was looked at, and `engine` is the graph.
 #![tactic(auto)]
 
-mod deciding;
+mod decisions;
 mod engine;
 mod looked;
-mod ordering;
+mod view_orders;
 
 pub use engine::Engine;
-pub use ordering::orders;
+pub use view_orders::orders;

@@ -6,7 +6,7 @@ ghost use Rattle.smf_fmri.specs.ByKey.{Rises, lookup};
 ghost use Rattle.smf_state.specs.declared.view.ViewItem.{ViewItem as AnyItem};
 ghost use Rattle.smf_state.specs.Patched.{by_item, with_items};
 
-use crate::ordering::{has_decision, order_with};
+use crate::view_orders::{has_decision, order_with};
 use smf_dep::Graph;
 use smf_fmri::{Items, Ordered, SharedOrdered};
 use smf_state::{ChangedItem, HeldView, View, ViewItem};
@@ -42,7 +42,8 @@ fn may_order(
     instance: u64,
 ) -> Result<bool, AllocError>
     requires { graph.now ≡ members view.now.items }
-    ensures { IfOk result (λ b. b ≡ false → (i : AnyItem) → lookup by_item view.now.items instance ≡ Some i → (revision : ℕ) → order revision view.now.items i ≡ None) }
+    ensures { IfOk result (λ b. b ≡ false → (i : AnyItem) → lookup by_item view.now.items instance ≡ Some i
+        → (revision : ℕ) → order revision view.now.items i ≡ None) }
 {
     let Some(item) = view.item(instance) else {
         return Ok(false);
@@ -183,7 +184,7 @@ pub(crate) fn graph_of(
 {
     match last {
         None => Graph::of(alloc, view.items()),
-        Some(last) => last.renewed(alloc, view.items()),
+        Some(last) => last.successor(alloc, view.items()),
     }
 }
 

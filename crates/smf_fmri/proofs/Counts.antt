@@ -20,15 +20,22 @@ record IsCount (text : List ℕ) : Type 0 where
   filled : 0 < length text
   lead : get_or text 0 0 ≡ 48 → length text ≡ 1
 
-long_count : (d e : ℕ) (ds : List ℕ) → (not (d == 48) ≡ true) × (list_all is_ascii_digit (d ∷ e ∷ ds) ≡ true) → IsCount (d ∷ e ∷ ds)
-long_count d e ds h = record { digits = h.1; filled = omega arith; lead = λ same. absurd (let t : (d == 48) ≡ true = eq-eqb d 48 same in let u = rw t at h.0 in cc) }
+long_count : (d e : ℕ) (ds : List ℕ) → (not (d == 48) ≡ true) × (list_all is_ascii_digit (d ∷ e ∷ ds) ≡ true)
+    → IsCount (d ∷ e ∷ ds)
+long_count d e ds h =
+    record {
+      digits = h.1;
+      filled = omega arith;
+      lead = λ same. absurd (let t : (d == 48) ≡ true = eq-eqb d 48 same in let u = rw t at h.0 in cc);
+    }
 
 is_count : (text : List ℕ) → is_decimal text ≡ true → IsCount text
 is_count [] h = cc
 is_count (d ∷ []) h = record { digits = rw h refl; filled = omega arith; lead = λ e. refl }
 is_count (d ∷ e ∷ ds) h = long_count d e ds (and_parts (not (d == 48)) _ h)
 
-count_is : (text : List ℕ) → AllDigit text → 0 < length text → (2 ≤ length text → 48 < get_or text 0 0) → is_decimal text ≡ true
+count_is : (text : List ℕ) → AllDigit text → 0 < length text → (2 ≤ length text → 48 < get_or text 0 0)
+    → is_decimal text ≡ true
 count_is [] all filled lead = absurd (omega arith)
 count_is (d ∷ []) all filled lead = (and_parts (is_ascii_digit d) _ all).0
 count_is (d ∷ e ∷ ds) all filled lead =
@@ -37,13 +44,15 @@ count_is (d ∷ e ∷ ds) all filled lead =
     rw (other, all) refl
 
 lead_of : (n : ℕ) → n < 2 ^ 64 → 2 ≤ length (decimal n) → 48 < get_or (decimal n) 0 0
-lead_of zero small long = let one : length (decimal 0) ≡ 1 = ap length (decimal_digit 0 (omega arith)) in absurd (omega arith)
+lead_of zero small long = let one : length (decimal 0) ≡ 1 = ap length (decimal_digit 0 (omega arith)) in
+    absurd (omega arith)
 lead_of (suc n) small long = first_decimal (suc n) (omega arith) small
 
 decimal_is : (n : ℕ) → n < 2 ^ 64 → is_decimal (decimal n) ≡ true
 decimal_is n small = count_is (decimal n) (digits_decimal own n small) (decimal_nonempty n small) (lead_of n small)
 
-read_by : (v w : Bool) (text : List ℕ) (n : ℕ) → is_decimal text ≡ v → nat_lt (digits_value 10 text) (2 ^ 64) ≡ w → cond (v && w) (Some (digits_value 10 text)) None ≡ Some n → text ≡ decimal n
+read_by : (v w : Bool) (text : List ℕ) (n : ℕ) → is_decimal text ≡ v → nat_lt (digits_value 10 text) (2 ^ 64) ≡ w
+    → cond (v && w) (Some (digits_value 10 text)) None ≡ Some n → text ≡ decimal n
 read_by true true text n e small h =
     let is : digits_value 10 text ≡ n = cc in
     let count = is_count text e in
@@ -65,7 +74,8 @@ printed_is_read n small =
     rw (decimal_is n small, value, fits) refl
 
 -- a count is below 2^64
-pub count_is_small : (v w : Bool) (text : List ℕ) (n : ℕ) → nat_lt (digits_value 10 text) (2 ^ 64) ≡ w → cond (v && w) (Some (digits_value 10 text)) None ≡ Some n → n < 2 ^ 64
+pub count_is_small : (v w : Bool) (text : List ℕ) (n : ℕ) → nat_lt (digits_value 10 text) (2 ^ 64) ≡ w
+    → cond (v && w) (Some (digits_value 10 text)) None ≡ Some n → n < 2 ^ 64
 count_is_small true true text n e h = let is : digits_value 10 text ≡ n = cc in rw (← is) (ltb-true _ _ e)
 count_is_small true false text n e h = cc
 count_is_small false w text n e h = cc
@@ -79,12 +89,14 @@ too_large true v e h = absurd (h (ltb-true v (2 ^ 64) e))
 too_large false v e h = refl
 
 -- digits that no u64 holds
-pub parse_refused : {E : Type 0} (text : List ℕ) (e : E) → is_decimal text ≡ true → ParsesUnsigned 64 10 text (Err e) → read_count text ≡ None
+pub parse_refused : {E : Type 0} (text : List ℕ) (e : E) → is_decimal text ≡ true → ParsesUnsigned 64 10 text (Err e)
+    → read_count text ≡ None
 unfolding read_count
 parse_refused text e h refused =
     let count = is_count text h in
     let none = parse_digits own 64 text (Err e) refused count.digits in
-    let large : nat_lt (digits_value 10 text) (2 ^ 64) ≡ false = too_large _ (digits_value 10 text) refl (λ small. none (count.filled, small)) in
+    let large : nat_lt (digits_value 10 text) (2 ^ 64) ≡ false =
+    too_large _ (digits_value 10 text) refl (λ small. none (count.filled, small)) in
     rw (h, large) refl
 
 digit_no_space : (v : Bool) (b : ℕ) → (b == 32) ≡ v → is_ascii_digit b ≡ true → not v ≡ true

@@ -5,7 +5,7 @@ use Rattle.std.specs.Prelude.{find, option_map}
 use Rattle.std.specs.Ordering.{is_eq, ordering_reverse}
 use Rattle.std.specs.declared.cmp.Ordering.{Ordering}
 use Rattle.std.specs.declared.cmp.Ordering.TheVariants.{Less, Equal, Greater}
-use Rattle.smf_fmri.specs.ByKey.{By, KeepsKeys, amend, has_key, lookup, without, put_by, put, with_answer}
+use Rattle.smf_fmri.specs.ByKey.{By, KeepsKeys, amend, has_key, lookup, without, put_by, list_with_item, with_answer}
 
 pub equal_from_test : (r : Ordering) → is_eq r ≡ true → r ≡ Equal
 equal_from_test Less h = cc
@@ -51,23 +51,26 @@ cond_swap false w a b c h = refl
 
 lookup_put_by : {X K : Type 0} (o : By X K) (x y : X) (ys : List X) (k : K) (r : Ordering)
     → o.cmp (o.key y) (o.key x) ≡ r
-    → lookup o (put o x ys) k ≡ cond (has_key o k x) (Some x) (lookup o ys k)
-    → lookup o (put_by r x y ys (put o x ys)) k ≡ cond (has_key o k x) (Some x) (lookup o (y ∷ ys) k)
+    → lookup o (list_with_item o x ys) k ≡ cond (has_key o k x) (Some x) (lookup o ys k)
+    → lookup o (put_by r x y ys (list_with_item o x ys)) k ≡ cond (has_key o k x) (Some x) (lookup o (y ∷ ys) k)
 lookup_put_by {X = X} o x y ys k Less h behind =
     let apart : has_key o k x ≡ true → has_key o k y ≡ true → ⊥ = λ p q.
-    let e : o.cmp (o.key y) (o.key x) ≡ Equal = equal_to_one o (o.key y) (o.key x) k (equal_from_test _ q) (equal_from_test _ p) in cc in
-    ap (λ (l : Option X). cond (has_key o k y) (Some y) l) behind ∙ cond_swap (has_key o k x) (has_key o k y) (Some x) (Some y) (lookup o ys k) apart
+    let e : o.cmp (o.key y) (o.key x) ≡ Equal =
+    equal_to_one o (o.key y) (o.key x) k (equal_from_test _ q) (equal_from_test _ p) in cc in
+    ap (λ (l : Option X). cond (has_key o k y) (Some y) l) behind
+    ∙ cond_swap (has_key o k x) (has_key o k y) (Some x) (Some y) (lookup o ys k) apart
 lookup_put_by {X = X} o x y ys k Equal h behind =
-    sym (cond_over (has_key o k x) (has_key o k y) (Some x) (Some y) (lookup o ys k) (sym (ap is_eq (o.total.congr (o.key y) (o.key x) k h))))
+    sym (cond_over (has_key o k x) (has_key o k y) (Some x) (Some y) (lookup o ys k)
+    (sym (ap is_eq (o.total.congr (o.key y) (o.key x) k h))))
 lookup_put_by {X = X} o x y ys k Greater h behind = refl
 
 pub lookup_put : {X K : Type 0} (o : By X K) (x : X) (xs : List X) (k : K)
-    → lookup o (put o x xs) k ≡ with_answer o (lookup o xs) (o.key x) (Some x) k
+    → lookup o (list_with_item o x xs) k ≡ with_answer o (lookup o xs) (o.key x) (Some x) k
 lookup_put o x [] k = refl
 lookup_put o x (y ∷ ys) k = lookup_put_by o x y ys k (o.cmp (o.key y) (o.key x)) refl (lookup_put o x ys k)
 
 pub lookups_put : {X K : Type 0} (o : By X K) (x : X) (xs : List X)
-    → lookup o (put o x xs) ≡ with_answer o (lookup o xs) (o.key x) (Some x)
+    → lookup o (list_with_item o x xs) ≡ with_answer o (lookup o xs) (o.key x) (Some x)
 lookups_put o x xs = fun_ext (λ k. lookup_put o x xs k)
 
 -- ---- without
@@ -108,7 +111,9 @@ lookups_without o j xs = fun_ext (λ k. lookup_without o j xs k)
 amend_by : {X K : Type 0} (o : By X K) (f : X → X) (x : X) (xs rest : List X) (k : K) (s t e : Bool)
     → has_key o k x ≡ t → o.key (f x) ≡ o.key x → (s ≡ true → t ≡ e) → (t ≡ true → s ≡ e)
     → find (has_key o k) rest ≡ (if e then option_map f (find (has_key o k) xs) else find (has_key o k) xs)
-    → find (has_key o k) ((if s then f x else x) ∷ rest) ≡ (if e then option_map f (cond t (Some x) (find (has_key o k) xs)) else cond t (Some x) (find (has_key o k) xs))
+    → find (has_key o k) ((if s then f x else x) ∷ rest)
+    ≡ (if e then option_map f (cond t (Some x) (find (has_key o k) xs))
+    else cond t (Some x) (find (has_key o k) xs))
 amend_by o f x xs rest k true true true h same p q behind = rw (same, h) refl
 amend_by o f x xs rest k true true false h same p q behind = let z : true ≡ false = p refl in cc
 amend_by o f x xs rest k true false true h same p q behind = let z : false ≡ true = p refl in cc

@@ -7,9 +7,9 @@ use Rattle.std.specs.List.Sorted.{IsSearchInRange, IsBinarySearchResult, IsNonDe
 use Rattle.std.specs.Ordering.{is_eq, is_lt, ordering_index}
 use Rattle.std.specs.declared.cmp.Ordering.TheVariants.{Less, Equal, Greater}
 use Rattle.std.proofs.lemmas.List.Sorted.{searchable_from_sorted}
-use Rattle.smf_fmri.specs.ByKey.{By, BelongsAt, IsBelowFirst, IsPlaced, Rises, StandsAt, amend, has_key, lookup, put, put_by, without}
+use Rattle.smf_fmri.specs.ByKey.{By, BelongsAt, IsBelowFirst, IsPlaced, Rises, StandsAt, amend, has_key, lookup, list_with_item, put_by, without}
 use Rattle.smf_fmri.proofs.Lookups.{cmp_reversed}
-use Rattle.smf_fmri.proofs.Rising.{first_below}
+use Rattle.smf_fmri.proofs.KeyOrder.{first_below}
 
 -- ---- the search
 
@@ -45,8 +45,11 @@ belongs_from : {X K : Type 0} (o : By X K) (k : K) (i : ℕ) (xs : List X) → i
 belongs_from o k zero [] h before after = tt
 belongs_from o k (suc i) [] h before after = absurd (omega arith)
 belongs_from o k zero (y ∷ ys) h before after = after 0 y (omega arith) (omega arith)
-belongs_from o k (suc i) (y ∷ ys) h before after =
-    (before 0 y (omega arith) (omega arith), belongs_from o k i ys (omega arith) (λ j d low high. before (suc j) d (omega arith) (omega arith)) (λ j d low high. after (suc j) d (omega arith) (omega arith)))
+belongs_from o k (suc i) (y ∷ ys) h before after = (
+  before 0 y (omega arith) (omega arith),
+  belongs_from o k i ys (omega arith) (λ j d low high. before (suc j) d (omega arith) (omega arith))
+      (λ j d low high. after (suc j) d (omega arith) (omega arith)),
+)
 
 pub search_is_placed : {X K : Type 0} (o : By X K) (k : K) (xs : List X) → Rises o xs → (r : Result ℕ ℕ)
     → IsSearchInRange r (length xs) → IsBinarySearchResult (λ y. o.cmp (o.key y) k) xs r → IsPlaced o k xs r
@@ -62,7 +65,7 @@ stands_within o k zero (y ∷ ys) s = omega arith
 stands_within o k (suc i) (y ∷ ys) s = let h = stands_within o k i ys s.1 in omega arith
 
 pub put_at : {X K : Type 0} (o : By X K) (x : X) (i : ℕ) (xs : List X) → StandsAt o (o.key x) i xs
-    → put o x xs ≡ set xs i x
+    → list_with_item o x xs ≡ set xs i x
 put_at o x i [] s = absurd s
 put_at o x zero (y ∷ ys) s = rw s refl
 put_at {X = X} o x (suc i) (y ∷ ys) s = rw s.0 (ap (λ (l : List X). y ∷ l) (put_at o x i ys s.1))
@@ -84,13 +87,15 @@ pub all_above : {X K : Type 0} (o : By X K) (k : K) (xs : List X) → IsBelowFir
     → without o k xs ≡ xs
 all_above o k [] b r = refl
 all_above {X = X} o k (x ∷ xs) b r =
-    rw (cmp_reversed o k (o.key x) Less b) (ap (λ (l : List X). x ∷ l) (all_above o k xs (first_below o k (o.key x) xs b r.0) r.1))
+    rw (cmp_reversed o k (o.key x) Less b)
+    (ap (λ (l : List X). x ∷ l) (all_above o k xs (first_below o k (o.key x) xs b r.0) r.1))
 
 pub amend_above : {X K : Type 0} (o : By X K) (k : K) (f : X → X) (xs : List X) → IsBelowFirst o k xs → Rises o xs
     → amend o k f xs ≡ xs
 amend_above o k f [] b r = refl
 amend_above {X = X} o k f (x ∷ xs) b r =
-    rw (cmp_reversed o k (o.key x) Less b) (ap (λ (l : List X). x ∷ l) (amend_above o k f xs (first_below o k (o.key x) xs b r.0) r.1))
+    rw (cmp_reversed o k (o.key x) Less b)
+    (ap (λ (l : List X). x ∷ l) (amend_above o k f xs (first_below o k (o.key x) xs b r.0) r.1))
 
 pub equal_first : {X K : Type 0} (o : By X K) (a b : K) (xs : List X) → o.cmp a b ≡ Equal → IsBelowFirst o a xs
     → IsBelowFirst o b xs
@@ -119,7 +124,7 @@ belongs_within o k zero (y ∷ ys) s = omega arith
 belongs_within o k (suc i) (y ∷ ys) s = let h = belongs_within o k i ys s.1 in omega arith
 
 pub put_before : {X K : Type 0} (o : By X K) (x : X) (i : ℕ) (xs : List X) → BelongsAt o (o.key x) i xs
-    → put o x xs ≡ insert xs i x
+    → list_with_item o x xs ≡ insert xs i x
 put_before o x zero [] s = refl
 put_before o x (suc i) [] s = absurd s
 put_before o x zero (y ∷ ys) s = rw s refl
@@ -152,25 +157,25 @@ amend_before {X = X} o k f (suc i) (y ∷ ys) r s =
 
 length_new_by : {X K : Type 0} (o : By X K) (x y : X) (ys : List X) (r : Ordering)
     → cond (is_eq r) (Some y) (lookup o ys (o.key x)) ≡ None
-    → (lookup o ys (o.key x) ≡ None → length (put o x ys) ≡ length ys + 1)
-    → length (put_by r x y ys (put o x ys)) ≡ length (y ∷ ys) + 1
-length_new_by o x y ys Less e behind = let k : length (put o x ys) ≡ length ys + 1 = behind e in omega arith
+    → (lookup o ys (o.key x) ≡ None → length (list_with_item o x ys) ≡ length ys + 1)
+    → length (put_by r x y ys (list_with_item o x ys)) ≡ length (y ∷ ys) + 1
+length_new_by o x y ys Less e behind = let k : length (list_with_item o x ys) ≡ length ys + 1 = behind e in omega arith
 length_new_by o x y ys Equal e behind = absurd cc
 length_new_by o x y ys Greater e behind = omega arith
 
 -- a new key makes it longer by one
 pub length_put_new : {X K : Type 0} (o : By X K) (x : X) (xs : List X) → lookup o xs (o.key x) ≡ None
-    → length (put o x xs) ≡ length xs + 1
+    → length (list_with_item o x xs) ≡ length xs + 1
 length_put_new o x [] e = omega arith
 length_put_new o x (y ∷ ys) e = length_new_by o x y ys (o.cmp (o.key y) (o.key x)) e (length_put_new o x ys)
 
 length_over_by : {X K : Type 0} (o : By X K) (x y z : X) (ys : List X) (r : Ordering)
     → o.cmp (o.key y) (o.key x) ≡ r → Rises o (y ∷ ys)
     → cond (is_eq r) (Some y) (lookup o ys (o.key x)) ≡ Some z
-    → (lookup o ys (o.key x) ≡ Some z → length (put o x ys) ≡ length ys)
-    → length (put_by r x y ys (put o x ys)) ≡ length (y ∷ ys)
+    → (lookup o ys (o.key x) ≡ Some z → length (list_with_item o x ys) ≡ length ys)
+    → length (put_by r x y ys (list_with_item o x ys)) ≡ length (y ∷ ys)
 length_over_by o x y z ys Less h rises e behind =
-    let k : length (put o x ys) ≡ length ys = behind e in omega arith
+    let k : length (list_with_item o x ys) ≡ length ys = behind e in omega arith
 length_over_by o x y z ys Equal h rises e behind = omega arith
 length_over_by o x y z ys Greater h rises e behind =
     let above = first_below o (o.key x) (o.key y) ys (cmp_reversed o (o.key y) (o.key x) Greater h) rises.0 in
@@ -178,7 +183,7 @@ length_over_by o x y z ys Greater h rises e behind =
 
 -- a key that is there leaves it as long as it was
 pub length_put_over : {X K : Type 0} (o : By X K) (x z : X) (xs : List X) → Rises o xs
-    → lookup o xs (o.key x) ≡ Some z → length (put o x xs) ≡ length xs
+    → lookup o xs (o.key x) ≡ Some z → length (list_with_item o x xs) ≡ length xs
 length_put_over o x z [] r e = absurd cc
 length_put_over o x z (y ∷ ys) r e =
     length_over_by o x y z ys (o.cmp (o.key y) (o.key x)) refl r e (length_put_over o x z ys r.1)

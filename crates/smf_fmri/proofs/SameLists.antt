@@ -7,7 +7,7 @@ use Rattle.std.specs.declared.cmp.Ordering.TheVariants.{Less, Equal, Greater}
 use Rattle.std.proofs.lemmas.Map.Entries.{option_filter}
 use Rattle.smf_fmri.specs.ByKey.{By, Rises, has_key, lookup}
 use Rattle.smf_fmri.proofs.Lookups.{equal_from_test, same_key, cmp_reversed}
-use Rattle.smf_fmri.proofs.Rising.{below_filter, rises_filter}
+use Rattle.smf_fmri.proofs.KeyOrder.{below_filter, rises_filter}
 use Rattle.smf_fmri.proofs.Places.{equal_first, none_above}
 
 -- ---- what is found
@@ -50,7 +50,8 @@ pub lookup_filter : {X K : Type 0} (o : By X K) (p : X → Bool) (xs : List X) (
 lookup_filter o p [] k r = refl
 lookup_filter o p (x ∷ xs) k r =
     lookup_filter_by o p k x xs (p x) (has_key o k x) refl refl
-    (λ h. none_above o k (filter p xs) (below_filter o p k xs (equal_first o (o.key x) k xs (equal_from_test _ h) r.0) r.1) (rises_filter o p xs r.1))
+    (λ h. none_above o k (filter p xs)
+    (below_filter o p k xs (equal_first o (o.key x) k xs (equal_from_test _ h) r.0) r.1) (rises_filter o p xs r.1))
     (lookup_filter o p xs k r.1)
 
 -- ---- one look-up, one list
@@ -63,7 +64,8 @@ tails_by : {X K : Type 0} (o : By X K) (x : X) (xs ys : List X) (k : K) (b : Boo
     → cond b (Some x) (lookup o xs k) ≡ cond b (Some x) (lookup o ys k) → lookup o xs k ≡ lookup o ys k
 tails_by o x xs ys k true h r s e =
     let same = equal_from_test _ h in
-    none_above o k xs (equal_first o (o.key x) k xs same r.0) r.1 ∙ sym (none_above o k ys (equal_first o (o.key x) k ys same s.0) s.1)
+    none_above o k xs (equal_first o (o.key x) k xs same r.0) r.1
+    ∙ sym (none_above o k ys (equal_first o (o.key x) k ys same s.0) s.1)
 tails_by o x xs ys k false h r s e = e
 
 same_by : {X K : Type 0} (o : By X K) (x y : X) (xs ys : List X) (r : Ordering) → o.cmp (o.key x) (o.key y) ≡ r
@@ -78,7 +80,8 @@ same_by {X = X} o x y xs ys Equal h r s e =
     let here : lookup o (x ∷ xs) (o.key x) ≡ Some x = first_found o x xs in
     let z : Some x ≡ Some y = sym here ∙ e (o.key x) ∙ there in cc
 same_by {X = X} o x y xs ys Greater h r s e =
-    let none : lookup o (x ∷ xs) (o.key y) ≡ None = none_above o (o.key y) (x ∷ xs) (cmp_reversed o (o.key x) (o.key y) Greater h) r in
+    let none : lookup o (x ∷ xs) (o.key y) ≡ None =
+    none_above o (o.key y) (x ∷ xs) (cmp_reversed o (o.key x) (o.key y) Greater h) r in
     let some : lookup o (y ∷ ys) (o.key y) ≡ Some y = first_found o y ys in
     let z : None ≡ Some y = sym none ∙ e (o.key y) ∙ some in absurd cc
 

@@ -54,14 +54,14 @@ put_by Equal x y ys behind = x ∷ ys
 put_by Greater x y ys behind = x ∷ y ∷ ys
 
 -- the item in its place, over the one that has its key
-abbrev pub put : {X K : Type 0} → By X K → X → List X → List X
-put o x [] = x ∷ []
-put o x (y ∷ ys) = put_by (o.cmp (o.key y) (o.key x)) x y ys (put o x ys)
+abbrev pub list_with_item : {X K : Type 0} → By X K → X → List X → List X
+list_with_item o x [] = x ∷ []
+list_with_item o x (y ∷ ys) = put_by (o.cmp (o.key y) (o.key x)) x y ys (list_with_item o x ys)
 
 -- one after another put in its place
 abbrev pub put_all : {X K : Type 0} → By X K → List X → List X → List X
 put_all o [] xs = xs
-put_all o (y ∷ ys) xs = put_all o ys (put o y xs)
+put_all o (y ∷ ys) xs = put_all o ys (list_with_item o y xs)
 
 abbrev pub IsBelowFirst : {X K : Type 0} → By X K → K → List X → Type 0
 IsBelowFirst o k [] = Unit {0}

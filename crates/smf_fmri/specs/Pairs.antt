@@ -50,7 +50,8 @@ module _ {A B : Type 0} (P : A → A → Ordering) (Q : B → B → Ordering) (p
   pub pairs_total : IsTotalOrder (λ (x y : A × B). ordering_then (P x.0 y.0) (Q x.1 y.1))
   pairs_total = record {
     antisymm =
-        λ x y. (λ i. ordering_then (p.antisymm x.0 y.0 i) (q.antisymm x.1 y.1 i)) ∙ sym (reverse_then (P y.0 x.0) (Q y.1 x.1));
+        λ x y. (λ i. ordering_then (p.antisymm x.0 y.0 i) (q.antisymm x.1 y.1 i))
+        ∙ sym (reverse_then (P y.0 x.0) (Q y.1 x.1));
     trans = λ x y z h k. below x y z (P x.0 y.0) (P y.0 z.0) refl refl h k;
     congr = λ x y z h. alike x y z (both_equal (P x.0 y.0) (Q x.1 y.1) h);
   }

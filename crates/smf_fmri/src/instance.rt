@@ -2,7 +2,7 @@ ghost use Rattle.std.specs.Cmp;
 ghost use Rattle.std.specs.Cmp.Lexicographic.{pointwise, slice_cmp, nat_list_eq_equiv, nat_list_cmp_total, texts_ties, texts_po};
 ghost use Rattle.std.specs.Ordering.{nat_cmp};
 ghost use Rattle.std.specs.Prelude.{◌≡◌, refl, Some, IfOk, nat_eq};
-ghost use Rattle.smf_fmri.specs.Matching.{IsInstanceName, named_instance, read_short};
+ghost use Rattle.smf_fmri.specs.Patterns.{IsInstanceName, named_instance, read_short};
 
 use crate::fault::FmriFault;
 use crate::fmri::Fmri;
@@ -23,7 +23,7 @@ impl Model for InstanceFmri {
 
     ghost Value = { List ℕ };
 
-    ghost use Rattle.smf_fmri.specs.Matching.{IsInstanceName};
+    ghost use Rattle.smf_fmri.specs.Patterns.{IsInstanceName};
 
     ghost view = { λ i. i.name };
 
@@ -42,7 +42,7 @@ impl InstanceFmri {
     }
 
     /// The instance that a text names in the short form, or none if it does not.
-    #[tactic(auto, unfolding(crate::specs::Matching::read_short))]
+    #[tactic(auto, unfolding(crate::specs::Patterns::read_short))]
     pub fn read_short(alloc: Global, text: &str) -> Result<Option<InstanceFmri>, AllocError>
         ensures { IfOk result (λ i. i ≡ read_short text.now) }
     {
@@ -59,11 +59,11 @@ impl InstanceFmri {
     }
 
     /// The name of an instance whose short text is known to be one.
-    pub fn known(alloc: Global, text: &str) -> Result<InstanceFmri, AllocError>
+    pub fn from_valid_text(alloc: Global, text: &str) -> Result<InstanceFmri, AllocError>
         requires { IsInstanceName text.now }
         ensures { IfOk result (λ i. i ≡ text.now) }
     {
-        let name = Fmri::known(alloc, text)?;
+        let name = Fmri::from_valid_text(alloc, text)?;
         Ok(InstanceFmri { name })
     }
 

@@ -1,6 +1,6 @@
 //! Names of services and instances, and the small types that every crate shares.
 //! Modules: `fmri`, `instance` and `service` (names), `pattern` (abbreviations), `count` (numbers as texts), `reader`,
-//! `items`, `text`, `bytes`, `number`, `fault`.
+//! `limits` (the greatest sizes), `items`, `text`, `bytes`, `number`, `fault`.
 //! Lists in the order of a key: `keyed` (things with a key), `sorted` (changes of a vector in that order), `ordered`
 //! (such a list); `table` (the same, with room that is made beforehand), `shared` (the same, not changed any more).
 #![tactic(auto)]
@@ -12,6 +12,7 @@ mod fmri;
 mod instance;
 mod items;
 mod keyed;
+pub mod limits;
 mod number;
 mod ordered;
 mod pattern;

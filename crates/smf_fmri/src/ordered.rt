@@ -2,7 +2,7 @@ ghost use Rattle.std.specs.Fn.{CalledAt};
 ghost use Rattle.std.specs.List.Retain.{IsFiltered};
 ghost use Rattle.std.specs.Option.{option_copied};
 ghost use Rattle.std.specs.Prelude.{◌≡◌, ◌↔◌, [], length, IsTrue, IfOk, OnOk, OnErr};
-ghost use Rattle.smf_fmri.specs.ByKey.{Rises, amend, by_text, lookup, put, without};
+ghost use Rattle.smf_fmri.specs.ByKey.{Rises, amend, by_text, lookup, list_with_item, without};
 
 use crate::keyed::{ExactClone, HasPart, Keyed, TextKeyed};
 use crate::sorted::{amend_in, find_in, find_text_in, put_in, take_from};
@@ -89,11 +89,11 @@ impl<T: Keyed> Ordered<T> {
     }
 
     /// Puts an item in its place, over the one that has its key. If memory runs out, the list is as it was.
-    #[tactic(auto, using(crate::proofs::Rising::rises_put))]
+    #[tactic(auto, using(crate::proofs::KeyOrder::rises_put))]
     pub fn put(&mut self, item: T) -> Result<(), AllocError>
     where
         T: Drop,
-        ensures ok { OnOk result (self.new ≡ put T.by item self.old) }
+        ensures ok { OnOk result (self.new ≡ list_with_item T.by item self.old) }
         ensures err { OnErr result (self.new ≡ self.old) }
     {
         self.items.reserve(1)?;
@@ -102,7 +102,7 @@ impl<T: Keyed> Ordered<T> {
     }
 
     /// Takes out the item that has the key, if there is one.
-    #[tactic(auto, using(crate::proofs::Rising::rises_without))]
+    #[tactic(auto, using(crate::proofs::KeyOrder::rises_without))]
     pub fn remove(&mut self, key: &T::Key)
     where
         T: Drop,
@@ -135,13 +135,13 @@ impl<T: Keyed + ExactClone> Clone for Ordered<T> {
     ghost is_clone = { λ s copy. copy ≡ s };
 
     fn clone(&self) -> Result<Ordered<T>, AllocError> {
-        let items = copied(&self.items)?;
+        let items = copy_of_items(&self.items)?;
         Ok(Ordered { items })
     }
 }
 
 #[tactic(auto, using(crate::proofs::Copies::same_items))]
-pub(crate) fn copied<T: ExactClone>(items: &Vec<T>) -> Result<Vec<T>, AllocError>
+pub(crate) fn copy_of_items<T: ExactClone>(items: &Vec<T>) -> Result<Vec<T>, AllocError>
     ensures { IfOk result (λ copy. copy.items ≡ items.now.items) }
 {
     items.clone()

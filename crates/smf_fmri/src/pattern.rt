@@ -1,12 +1,13 @@
 ghost use Rattle.std.specs.Prelude.{◌≡◌, ◌↔◌, ◌≤◌, ◌∷◌, List, ℕ, nat_eq, IsTrue, IfOk, Ok, option_map, length, string_bytes, count_by, position};
-ghost use Rattle.smf_fmri.specs.Matching.{ends_service, is_of, abbreviates, matches, Matches, picked, is_instance, parts_of_name};
+ghost use Rattle.smf_fmri.specs.Patterns.{ends_service, is_of, abbreviates, matches, Matches, only_match, is_instance};
 ghost use Rattle.std.specs.List.{ends_with};
 ghost use Rattle.smf_fmri.specs.Name.{Gives, read_pattern, read_abbreviation, wrong_at};
-ghost use Rattle.smf_fmri.specs.Spelling.{SpellsPattern};
+ghost use Rattle.smf_fmri.specs.Grammar.{SpellsPattern};
 
 use crate::fault::{FmriFault, PickFault};
 use crate::fmri::Fmri;
-use crate::reader::{MAX, Place, parts_of, split_scheme, strip, wrong_at};
+use crate::limits::MAX_NAME;
+use crate::reader::{Place, parts_of, split_scheme, strip, wrong_at};
 use std::alloc::Global;
 use std::marker::Model;
 
@@ -39,17 +40,17 @@ impl Pattern {
         // Which refusal it is, the first one that applies.
         ensures exact { Gives result (read_pattern text.now) }
     {
-        Pattern::parsed(alloc, text)
+        Pattern::pattern_of_text(alloc, text)
     }
 
     #[tactic(auto, unfolding(crate::specs::Name::read_pattern))]
-    fn parsed(alloc: Global, text: &str) -> Result<Pattern, FmriFault>
+    fn pattern_of_text(alloc: Global, text: &str) -> Result<Pattern, FmriFault>
         ensures { Gives result (read_pattern text.now) }
     {
         if text.is_empty() {
             return Err(FmriFault::Empty);
         }
-        if text.len() > MAX {
+        if text.len() > MAX_NAME {
             return Err(FmriFault::TooLong);
         }
         let Some((scheme, rest)) = split_scheme(text) else {
@@ -99,7 +100,8 @@ impl Pattern {
 
 /// True if a full name, by its parts, is this name or the service that this is of.
 fn is_of(parts: (&str, Option<&str>), name: (&str, Option<&str>)) -> bool
-    ensures { result ≡ is_of (parts.entry.0.now, option_map (λ x. x.now) parts.entry.1) (name.entry.0.now, option_map (λ x. x.now) name.entry.1) }
+    ensures { result ≡ is_of (parts.entry.0.now, option_map (λ x. x.now) parts.entry.1)
+        (name.entry.0.now, option_map (λ x. x.now) name.entry.1) }
 {
     let same_service = name.0 == parts.0;
     match parts.1 {
@@ -110,7 +112,8 @@ fn is_of(parts: (&str, Option<&str>), name: (&str, Option<&str>)) -> bool
 
 /// True if an abbreviation, by its parts, stands for this name.
 fn abbreviates(parts: (&str, Option<&str>), name: (&str, Option<&str>)) -> bool
-    ensures { result ≡ abbreviates (parts.entry.0.now, option_map (λ x. x.now) parts.entry.1) (name.entry.0.now, option_map (λ x. x.now) name.entry.1) }
+    ensures { result ≡ abbreviates (parts.entry.0.now, option_map (λ x. x.now) parts.entry.1)
+        (name.entry.0.now, option_map (λ x. x.now) name.entry.1) }
 {
     let (service, instance) = name;
     let suffix = parts.0;
@@ -149,7 +152,7 @@ fn ends_behind_slash(suffix: &[u8], service: &[u8]) -> bool
 
 /// The place of the only name that a pattern matches. Takes no memory.
 pub fn pick(pattern: &Pattern, names: &[Fmri]) -> Result<usize, PickFault>
-    ensures { result ≡ picked pattern.now names.now }
+    ensures { result ≡ only_match pattern.now names.now }
 {
     let count = match_count(pattern, names);
     match first_match(pattern, names) {

@@ -1,12 +1,8 @@
-ghost use Rattle.std.specs.Prelude.{◌≡◌, ◌+◌, ◌<◌, ◌≤◌, length, Some, None, IfSome, option_map, List, ℕ};
+ghost use Rattle.std.specs.Prelude.{◌≡◌, ◌+◌, ◌<◌, ◌≤◌, length, Some, None, IfSome, option_map};
 ghost use Rattle.smf_fmri.specs.Name.{is_word_byte, strip, split_scheme, next, wrong_at};
-ghost use Rattle.smf_fmri.specs.Matching.{parts_of};
+ghost use Rattle.smf_fmri.specs.Patterns.{parts_of};
 
-/// The most bytes that a name or a pattern has.
-pub const MAX: usize = 512;
-
-/// The most bytes that the name of an instance has in its service.
-const MAX_INSTANCE: usize = 255;
+use crate::limits::MAX_INSTANCE_NAME;
 
 /// A reader's place in a name.
 #[derive(Clone, Copy)]
@@ -38,7 +34,9 @@ fn next(place: Place, b: u8) -> Option<Place>
         Place::Service if is_word_byte(b) => Some(Place::Service),
         Place::Service if b == b'/' => Some(Place::Begin),
         Place::Service if b == b':' => Some(Place::BeginInstance),
-        Place::Instance(n) if is_word_byte(b) && n < MAX_INSTANCE => Some(Place::Instance(n + 1)),
+        Place::Instance(n) if is_word_byte(b) && n < MAX_INSTANCE_NAME => Some(Place::Instance(
+            n + 1,
+        )),
         _ => None,
     }
 }

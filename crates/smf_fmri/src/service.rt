@@ -2,7 +2,7 @@ ghost use Rattle.std.specs.Cmp;
 ghost use Rattle.std.specs.Cmp.Lexicographic.{pointwise, slice_cmp, nat_list_eq_equiv, nat_list_cmp_total, texts_ties, texts_po};
 ghost use Rattle.std.specs.Ordering.{nat_cmp};
 ghost use Rattle.std.specs.Prelude.{◌≡◌, refl, Some, nat_eq};
-ghost use Rattle.smf_fmri.specs.Matching.{IsServiceName, named_service};
+ghost use Rattle.smf_fmri.specs.Patterns.{IsServiceName, named_service};
 
 use crate::fmri::Fmri;
 use std::alloc::AllocError;
@@ -21,7 +21,7 @@ impl Model for ServiceFmri {
 
     ghost Value = { List ℕ };
 
-    ghost use Rattle.smf_fmri.specs.Matching.{IsServiceName};
+    ghost use Rattle.smf_fmri.specs.Patterns.{IsServiceName};
 
     ghost view = { λ s. s.name };
 
@@ -40,7 +40,7 @@ impl ServiceFmri {
     }
 
     /// The name of a service that is known to be one.
-    pub(crate) fn known(name: Fmri) -> ServiceFmri
+    pub(crate) fn from_service_name(name: Fmri) -> ServiceFmri
         requires { IsServiceName name }
         ensures { result ≡ name }
     {

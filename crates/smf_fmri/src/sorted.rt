@@ -4,7 +4,7 @@ ghost use Rattle.std.specs.Cmp.Lexicographic.{slice_cmp};
 ghost use Rattle.std.specs.Option.{option_copied};
 ghost use Rattle.std.specs.Ordering.{nat_cmp};
 ghost use Rattle.std.specs.Prelude.{◌≡◌, ◌+◌, ◌<◌, ◌≤◌, vec_len, vec_capacity};
-ghost use Rattle.smf_fmri.specs.ByKey.{IsPlaced, Rises, amend, by_text, has_key, lookup, put, without};
+ghost use Rattle.smf_fmri.specs.ByKey.{IsPlaced, Rises, amend, by_text, has_key, lookup, list_with_item, without};
 
 use crate::keyed::{HasPart, Keyed, TextKeyed};
 use std::cmp::Ordering;
@@ -87,7 +87,7 @@ fn find_by_halves<'a, T: TextKeyed>(items: &'a [T], text: &str) -> Option<&'a T>
 pub(crate) fn put_in<T: Keyed + Drop>(items: &mut Vec<T>, item: T)
     requires rises { Rises T.by items.old.items }
     requires room { vec_len items.old < vec_capacity items.old }
-    ensures put { items.new.items ≡ put T.by item items.old.items }
+    ensures put { items.new.items ≡ list_with_item T.by item items.old.items }
     ensures len { vec_len items.new ≤ vec_len items.old + 1 }
     ensures capacity { vec_capacity items.old ≤ vec_capacity items.new }
 {

@@ -1,11 +1,11 @@
 ghost use Rattle.std.specs.Fn.{CalledAt};
 ghost use Rattle.std.specs.List.Retain.{IsFiltered};
 ghost use Rattle.std.specs.Option.{option_copied};
-ghost use Rattle.std.specs.Prelude.{◌≡◌, ◌↔◌, ◌+◌, ◌++◌, ◌<◌, ◌≤◌, ◌∷◌, [], length, IsTrue, OnOk};
-ghost use Rattle.smf_fmri.specs.ByKey.{IsAbove, Rises, amend, by_text, lookup, put, without};
+ghost use Rattle.std.specs.Prelude.{◌≡◌, ◌↔◌, ◌+◌, ◌<◌, ◌≤◌, [], length, IsTrue, OnOk};
+ghost use Rattle.smf_fmri.specs.ByKey.{Rises, amend, by_text, lookup, list_with_item, without};
 
 use crate::keyed::{ExactClone, HasPart, Keyed, TextKeyed};
-use crate::ordered::{Ordered, copied};
+use crate::ordered::{Ordered, copy_of_items};
 use crate::sorted::{amend_in, find_in, find_text_in, put_in, take_from};
 use std::alloc::{AllocError, Global};
 use std::marker::Model;
@@ -93,32 +93,19 @@ impl<T: Keyed> Table<T> {
     }
 
     /// Puts an item in its place, over the one that has its key. There is room for it.
-    #[tactic(auto, using(crate::proofs::Rising::rises_put))]
+    #[tactic(auto, using(crate::proofs::KeyOrder::rises_put))]
     pub fn put(&mut self, item: T)
     where
         T: Drop,
         requires { 0 < self.old.room }
-        ensures put { self.new.items ≡ put T.by item self.old.items }
+        ensures put { self.new.items ≡ list_with_item T.by item self.old.items }
         ensures room { self.old.room ≤ self.new.room + 1 }
     {
         put_in(&mut self.items, item);
     }
 
-    /// Puts an item after the others, whose keys are below its own. There is room for it.
-    #[tactic(auto, using(crate::proofs::Rising::put_last))]
-    pub fn push_last(&mut self, item: T)
-    where
-        T: Drop,
-        requires above { IsAbove T.by (T.by.key item) self.old.items }
-        requires room { 0 < self.old.room }
-        ensures pushed { self.new.items ≡ self.old.items ++ item ∷ [] }
-        ensures room { self.old.room ≤ self.new.room + 1 }
-    {
-        self.put(item);
-    }
-
     /// Takes out the item that has the key, if there is one.
-    #[tactic(auto, using(crate::proofs::Rising::rises_without))]
+    #[tactic(auto, using(crate::proofs::KeyOrder::rises_without))]
     pub fn remove(&mut self, key: &T::Key)
     where
         T: Drop,
@@ -154,7 +141,7 @@ impl<T: Keyed + ExactClone> Clone for Table<T> {
     ghost is_clone = { λ s copy. copy.items ≡ s.items };
 
     fn clone(&self) -> Result<Table<T>, AllocError> {
-        let items = copied(&self.items)?;
+        let items = copy_of_items(&self.items)?;
         Ok(Table { items })
     }
 }

@@ -1,5 +1,5 @@
 mod Sizes
-mod Following
+mod Preservation
 mod Places
-mod Polling
-mod Starting
+mod Polls
+mod Starts

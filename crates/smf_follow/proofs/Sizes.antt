@@ -20,9 +20,11 @@ size_here id p of = rw (eq-eqb p.contract id of) refl
 size_apart : (id : ℕ) (p : Post) → (p.contract == id) ≡ false → size_in id p ≡ 0
 size_apart id p apart = rw apart refl
 
-above : (low last k : ℕ) (ps : List Post) (p : Post) → Ascends low (ids_of ps) last → slice_get ps k ≡ Some p → low < p.contract
+above : (low last k : ℕ) (ps : List Post) (p : Post) → Ascends low (ids_of ps) last → slice_get ps k ≡ Some p
+    → low < p.contract
 above low last k [] p a there = absurd cc
-above low last zero (q ∷ qs) p a there = let is : q ≡ p = cc in let same : q.contract ≡ p.contract = ap (λ x. x.contract) is in omega (arith, same, a.0)
+above low last zero (q ∷ qs) p a there = let is : q ≡ p = cc in let same : q.contract ≡ p.contract =
+    ap (λ x. x.contract) is in omega (arith, same, a.0)
 above low last (suc k) (q ∷ qs) p a there = omega (arith, a.0, above q.contract last k qs p a.1 there)
 
 none_above : (id low last : ℕ) (ps : List Post) → id ≤ low → Ascends low (ids_of ps) last → size_of id ps ≡ 0
@@ -32,7 +34,8 @@ none_above id low last (p ∷ ps) le a =
     omega (arith, here, none_above id p.contract last ps (omega (arith, le, a.0)) a.1)
 
 -- a contract stands once, so it has as many members as it gives itself
-pub size_at : (id low last k : ℕ) (ps : List Post) (p : Post) → Ascends low (ids_of ps) last → slice_get ps k ≡ Some p → p.contract ≡ id → size_of id ps ≡ size p.phase
+pub size_at : (id low last k : ℕ) (ps : List Post) (p : Post) → Ascends low (ids_of ps) last → slice_get ps k ≡ Some p
+    → p.contract ≡ id → size_of id ps ≡ size p.phase
 size_at id low last k [] p a there of = absurd cc
 size_at id low last zero (q ∷ qs) p a there of =
     let is : q ≡ p = cc in
@@ -47,7 +50,8 @@ size_at id low last (suc k) (q ∷ qs) p a there of =
 
 -- ---- one is put in place of another
 
-pub size_set : (id k : ℕ) (ps : List Post) (p q : Post) → slice_get ps k ≡ Some p → size_of id (slice_set ps k q) + size_in id p ≡ size_of id ps + size_in id q
+pub size_set : (id k : ℕ) (ps : List Post) (p q : Post) → slice_get ps k ≡ Some p
+    → size_of id (slice_set ps k q) + size_in id p ≡ size_of id ps + size_in id q
 size_set id k [] p q there = absurd cc
 size_set id zero (x ∷ xs) p q there =
     let is : x ≡ p = cc in
@@ -55,7 +59,8 @@ size_set id zero (x ∷ xs) p q there =
     omega (arith, same)
 size_set id (suc k) (x ∷ xs) p q there = omega (arith, size_set id k xs p q there)
 
-pub ids_set : (k : ℕ) (ps : List Post) (p q : Post) → slice_get ps k ≡ Some p → p.contract ≡ q.contract → ids_of (slice_set ps k q) ≡ ids_of ps
+pub ids_set : (k : ℕ) (ps : List Post) (p q : Post) → slice_get ps k ≡ Some p → p.contract ≡ q.contract
+    → ids_of (slice_set ps k q) ≡ ids_of ps
 ids_set k [] p q there of = absurd cc
 ids_set zero (x ∷ xs) p q there of =
     let is : x ≡ p = cc in
@@ -69,7 +74,8 @@ pub size_more : (id : ℕ) (ps : List Post) (p : Post) → size_of id (ps ++ p �
 size_more id [] p = omega arith
 size_more id (q ∷ qs) p = omega (arith, size_more id qs p)
 
-pub ascends_more : (low last k : ℕ) (ps : List Post) (p : Post) → p.contract ≡ k → Ascends low (ids_of ps) last → last < k → Ascends low (ids_of (ps ++ p ∷ [])) k
+pub ascends_more : (low last k : ℕ) (ps : List Post) (p : Post) → p.contract ≡ k → Ascends low (ids_of ps) last
+    → last < k → Ascends low (ids_of (ps ++ p ∷ [])) k
 ascends_more low last k [] p of a less = (omega (arith, of, a, less), omega (arith, of))
 ascends_more low last k (q ∷ qs) p of a less = (a.0, ascends_more q.contract last k qs p of a.1 less)
 
@@ -79,58 +85,71 @@ pub size_forgotten : (id : ℕ) (ps : List Post) → size_of id (filter (is_othe
 size_forgotten id [] = refl
 size_forgotten id (p ∷ ps) = by (p.contract == id) refl (size_forgotten id ps)
   where
-    by : (b : Bool) → (p.contract == id) ≡ b → size_of id (filter (is_other_post id) ps) ≡ 0 → size_of id (cond (not b) (p ∷ filter (is_other_post id) ps) (filter (is_other_post id) ps)) ≡ 0
+    by : (b : Bool) → (p.contract == id) ≡ b → size_of id (filter (is_other_post id) ps) ≡ 0
+        → size_of id (cond (not b) (p ∷ filter (is_other_post id) ps) (filter (is_other_post id) ps)) ≡ 0
     by true e deeper = deeper
     by false e deeper = omega (arith, size_apart id p e, deeper)
 
-pub size_kept : (id at : ℕ) (ps : List Post) → (id == at) ≡ false → size_of at (filter (is_other_post id) ps) ≡ size_of at ps
+pub size_kept : (id at : ℕ) (ps : List Post) → (id == at) ≡ false
+    → size_of at (filter (is_other_post id) ps) ≡ size_of at ps
 size_kept id at [] apart = refl
 size_kept id at (p ∷ ps) apart = by (p.contract == id) refl (size_kept id at ps apart)
   where
-    by : (b : Bool) → (p.contract == id) ≡ b → size_of at (filter (is_other_post id) ps) ≡ size_of at ps → size_of at (cond (not b) (p ∷ filter (is_other_post id) ps) (filter (is_other_post id) ps)) ≡ size_of at (p ∷ ps)
+    by : (b : Bool) → (p.contract == id) ≡ b → size_of at (filter (is_other_post id) ps) ≡ size_of at ps
+        → size_of at (cond (not b) (p ∷ filter (is_other_post id) ps) (filter (is_other_post id) ps))
+        ≡ size_of at (p ∷ ps)
     by true e deeper =
         let of : p.contract ≡ id = eqb-true p.contract id e in
         let other : (p.contract == at) ≡ false = ap (λ n. n == at) of ∙ apart in
         omega (arith, size_apart at p other, deeper)
     by false e deeper = omega (arith, deeper)
 
-ascends_from : (low high last : ℕ) (ps : List Post) → low ≤ high → Ascends high (ids_of ps) last → Ascends low (ids_of ps) last
+ascends_from : (low high last : ℕ) (ps : List Post) → low ≤ high → Ascends high (ids_of ps) last
+    → Ascends low (ids_of ps) last
 ascends_from low high last [] le a = omega (arith, le, a)
 ascends_from low high last (p ∷ ps) le a = (omega (arith, le, a.0), a.1)
 
-pub ascends_others : (id low last : ℕ) (ps : List Post) → Ascends low (ids_of ps) last → Ascends low (ids_of (filter (is_other_post id) ps)) last
+pub ascends_others : (id low last : ℕ) (ps : List Post) → Ascends low (ids_of ps) last
+    → Ascends low (ids_of (filter (is_other_post id) ps)) last
 ascends_others id low last [] a = a
 ascends_others id low last (p ∷ ps) a = by (not (p.contract == id)) (ascends_others id p.contract last ps a.1)
   where
-    by : (b : Bool) → Ascends p.contract (ids_of (filter (is_other_post id) ps)) last → Ascends low (ids_of (cond b (p ∷ filter (is_other_post id) ps) (filter (is_other_post id) ps))) last
+    by : (b : Bool) → Ascends p.contract (ids_of (filter (is_other_post id) ps)) last
+        → Ascends low (ids_of (cond b (p ∷ filter (is_other_post id) ps) (filter (is_other_post id) ps))) last
     by true deeper = (a.0, deeper)
     by false deeper = ascends_from low p.contract last (filter (is_other_post id) ps) (omega (arith, a.0)) deeper
 
-pub posts_of_others : {H : Type 0} (id : ℕ) (kids : List (Kid H)) → posts (filter (is_other_kid id) kids) ≡ filter (is_other_post id) (posts kids)
+pub posts_of_others : {H : Type 0} (id : ℕ) (kids : List (Kid H))
+    → posts (filter (is_other_kid id) kids) ≡ filter (is_other_post id) (posts kids)
 posts_of_others id [] = refl
 posts_of_others {H} id (kid ∷ kids) = by (is_other_kid id kid) (posts_of_others id kids)
   where
     by : (b : Bool) → posts (filter (is_other_kid id) kids) ≡ filter (is_other_post id) (posts kids)
-        → posts (cond b (kid ∷ filter (is_other_kid id) kids) (filter (is_other_kid id) kids)) ≡ cond b (post_of kid ∷ filter (is_other_post id) (posts kids)) (filter (is_other_post id) (posts kids))
+        → posts (cond b (kid ∷ filter (is_other_kid id) kids) (filter (is_other_kid id) kids))
+        ≡ cond b (post_of kid ∷ filter (is_other_post id) (posts kids)) (filter (is_other_post id) (posts kids))
     by true h = ap (λ l. post_of kid ∷ l) h
     by false h = h
 
 -- ---- one is put, by contracts
 
-pub put_same : (id at : ℕ) (phase : Phase) (ps qs : List Post) → IsPut id phase ps qs → (id == at) ≡ false → size_of at qs ≡ size_of at ps
+pub put_same : (id at : ℕ) (phase : Phase) (ps qs : List Post) → IsPut id phase ps qs → (id == at) ≡ false
+    → size_of at qs ≡ size_of at ps
 put_same id at phase ps qs put apart =
     let p = put.1 in
     let other : (p.contract == at) ≡ false = ap (λ n. n == at) put.3 ∙ apart in
     let set = size_set at put.0 ps p (record { contract = id; phase = phase }) put.2 in
-    let now : size_of at qs ≡ size_of at (slice_set ps put.0 (record { contract = id; phase = phase })) = ap (size_of at) put.4 in
+    let now : size_of at qs ≡ size_of at (slice_set ps put.0 (record { contract = id; phase = phase })) =
+    ap (size_of at) put.4 in
     omega (arith, set, now, size_apart at p other, size_apart at (record { contract = id; phase = phase }) apart)
 
-pub put_ascends : (id low last : ℕ) (phase : Phase) (ps qs : List Post) → IsPut id phase ps qs → Ascends low (ids_of ps) last → Ascends low (ids_of qs) last
+pub put_ascends : (id low last : ℕ) (phase : Phase) (ps qs : List Post) → IsPut id phase ps qs
+    → Ascends low (ids_of ps) last → Ascends low (ids_of qs) last
 put_ascends id low last phase ps qs put a =
     let same = ap ids_of put.4 ∙ ids_set put.0 ps put.1 (record { contract = id; phase = phase }) put.2 put.3 in
     let P : List ℕ → Type 0 = λ ns. Ascends low ns last in subst P (sym same) a
 
-pub put_here : (id low last : ℕ) (phase : Phase) (ps qs : List Post) → IsPut id phase ps qs → Ascends low (ids_of ps) last → size_of id qs ≡ size phase
+pub put_here : (id low last : ℕ) (phase : Phase) (ps qs : List Post) → IsPut id phase ps qs
+    → Ascends low (ids_of ps) last → size_of id qs ≡ size phase
 put_here id low last phase ps qs put a =
     let new : Post = record { contract = id; phase = phase } in
     let set = size_set id put.0 ps put.1 new put.2 in

@@ -69,7 +69,8 @@ IsAbsent id ps = (k : ℕ) (p : Post) → slice_get ps k ≡ Some p → p.contra
 -- a contract is told of as far as this phase
 abbrev pub IsPut : ℕ → Phase → List Post → List Post → Type 0
 IsPut id phase old new =
-    (k : ℕ) × (p : Post) × (slice_get old k ≡ Some p) × (p.contract ≡ id) × (new ≡ slice_set old k (record { contract = id; phase = phase }))
+    (k : ℕ) × (p : Post) × (slice_get old k ≡ Some p) × (p.contract ≡ id)
+    × (new ≡ slice_set old k (record { contract = id; phase = phase }))
 
 -- a process of the system, in a contract, of which this holds
 abbrev pub SomeKid : {H : Type 0} → ℕ → List (Kid H) → (Kid H → Type 0) → Type 0

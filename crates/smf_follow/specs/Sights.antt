@@ -1,19 +1,19 @@
 -- The sights of contracts of the system, and the events that are told of them.
 use Rattle.std.specs.Prelude.{◌≡◌, ℕ, ◌<◌, List, ◌⊎◌, ◌++◌, [], ◌∷◌, true, false, Option, Some, None, filter, slice_get}
 use Rattle.smf_contract.specs.declared.contract.Contract.{Contract}
-use Rattle.smf_contract.specs.declared.event.Event.{Event}
+use Rattle.smf_contract.specs.declared.event.ContractEvent.{ContractEvent}
 use Rattle.smf_contract.specs.Entries.{Contracts, contract}
 use Rattle.smf_edge.specs.declared.deed.Happening.TheVariants.{Fork}
 use Rattle.smf_edge.specs.Ends.{MayRefuse}
 use Rattle.smf_edge.specs.Answers.{Skills}
-use Rattle.smf_edge.specs.Ledgers.{Ledger, left}
-use Rattle.smf_edge.specs.Running.{HasTold}
+use Rattle.smf_edge.specs.Ledgers.{Ledger, members_left}
+use Rattle.smf_edge.specs.Processes.{HasTold}
 use Rattle.smf_edge.specs.Steps.{IsGiven}
 use Rattle.smf_follow.specs.declared.kid.Kid.{Kid}
 use Rattle.smf_follow.specs.declared.kid.Phase.{Phase}
 use Rattle.smf_follow.specs.declared.kid.Phase.TheVariants.{First, Forked, Others}
-use Rattle.smf_follow.specs.declared.seeing.Sight.{Sight}
-use Rattle.smf_follow.specs.declared.seeing.Sight.TheVariants as sights
+use Rattle.smf_follow.specs.declared.sights.Sight.{Sight}
+use Rattle.smf_follow.specs.declared.sights.Sight.TheVariants as sights
 use Rattle.smf_follow.specs.declared.stand.FirstEnd.{FirstEnd}
 use Rattle.smf_follow.specs.declared.stand.FirstEnd.TheVariants.{Code}
 use Rattle.smf_follow.specs.declared.stand.Stand.TheVariants.{Runs, Left, Gone}
@@ -94,7 +94,8 @@ AreSeen facts t sights.Failed kids = OneFails facts kids
 -- ---- what is told
 
 -- the first process ended, and others live: a fork is told first
-pub record TellsFork {H : Type 0} (facts : ContractFacts H) (e : Event) (l m : Ledger) (old new : List (Kid H)) : Type 0 where
+pub record TellsFork {H : Type 0} (facts : ContractFacts H) (e : ContractEvent) (l m : Ledger)
+    (old new : List (Kid H)) : Type 0 where
   pub id : ℕ
   pub end : FirstEnd
   pub kid : SomeKid id old (λ kid. (kid.phase ≡ First) × facts.stands kid.held (Left end))
@@ -102,7 +103,7 @@ pub record TellsFork {H : Type 0} (facts : ContractFacts H) (e : Event) (l m : L
   pub posts : IsPut id (Forked end) (posts old) (posts new)
 
 -- then the end of the first process, which is not fatal
-pub record TellsEnd {H : Type 0} (e : Event) (l m : Ledger) (old new : List (Kid H)) : Type 0 where
+pub record TellsEnd {H : Type 0} (e : ContractEvent) (l m : Ledger) (old new : List (Kid H)) : Type 0 where
   pub id : ℕ
   pub end : FirstEnd
   pub kid : SomeKid id old (λ kid. kid.phase ≡ Forked end)
@@ -111,7 +112,8 @@ pub record TellsEnd {H : Type 0} (e : Event) (l m : Ledger) (old new : List (Kid
   pub posts : IsPut id Others (posts old) (posts new)
 
 -- nothing is left: the last end is told, and the contract is forgotten
-pub record TellsLast {H : Type 0} (facts : ContractFacts H) (e : Event) (l m : Ledger) (old new : List (Kid H)) : Type 0 where
+pub record TellsLast {H : Type 0} (facts : ContractFacts H) (e : ContractEvent) (l m : Ledger)
+    (old new : List (Kid H)) : Type 0 where
   pub id : ℕ
   pub end : FirstEnd
   pub kid : SomeKid id old (λ kid. IsEmptied facts (contract l.table id) end kid.phase kid.held)
@@ -119,13 +121,15 @@ pub record TellsLast {H : Type 0} (facts : ContractFacts H) (e : Event) (l m : L
   pub posts : posts new ≡ filter (is_other_post id) (posts old)
 
 -- an event that was due tells of no contract of the system anew
-abbrev pub PollsEvent : {H : Type 0} → ContractFacts H → Event → Ledger → Ledger → List (Kid H) → List (Kid H) → Type 0
+abbrev pub PollsEvent : {H : Type 0} → ContractFacts H → ContractEvent → Ledger → Ledger → List (Kid H) → List (Kid H)
+    → Type 0
 PollsEvent facts e l m old new =
     (IsGiven e l m × (new ≡ old))
     ⊎ ((l.due ≡ []) × (TellsFork facts e l m old new ⊎ (TellsEnd e l m old new ⊎ TellsLast facts e l m old new)))
 
 -- no event is given only if there is nothing to tell of any
-abbrev pub PollsKids : {H : Type 0} → ContractFacts H → Option Event → Ledger → Ledger → List (Kid H) → List (Kid H) → Type 0
+abbrev pub PollsKids : {H : Type 0} → ContractFacts H → Option ContractEvent → Ledger → Ledger → List (Kid H)
+    → List (Kid H) → Type 0
 PollsKids facts None l m old new = (posts new ≡ posts old) × AllStill facts old
 PollsKids facts (Some e) l m old new = PollsEvent facts e l m old new
 
@@ -135,7 +139,8 @@ IsEmpty facts held = ((end : FirstEnd) × facts.stands held (Gone end)) ⊎ fact
 
 -- a contract loses its last member only if the system said that nothing is left of it
 abbrev pub EmptiesOnly : {H : Type 0} → ContractFacts H → List (Kid H) → Ledger → Ledger → Type 0
-EmptiesOnly facts old l m = (id : ℕ) → 0 < left l id → left m id ≡ 0 → SomeKid id old (λ kid. IsEmpty facts kid.held)
+EmptiesOnly facts old l m = (id : ℕ) → 0 < members_left l id → members_left m id ≡ 0
+    → SomeKid id old (λ kid. IsEmpty facts kid.held)
 
 -- the last contract is of this method
 pub record IsStarted {H : Type 0} (facts : ContractFacts H) (launch : Launch) (old new : List (Kid H)) : Type 0 where

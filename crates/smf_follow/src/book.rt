@@ -1,12 +1,12 @@
 // The notes of runs, and the contract table that follows from them.
-ghost use Rattle.std.specs.Prelude.{◌≡◌, ◌≢◌, ◌<◌, ◌≤◌, ◌⊎◌, ◌∷◌, [], Some, None, true, IfErr, IfOk, IfSome, IfNone, OnErr, OnOk, count_by, filter, length, option_to_list, vec_len, vec_capacity};
+ghost use Rattle.std.specs.Prelude.{◌≡◌, ◌≢◌, ◌<◌, ◌⊎◌, [], Some, None, true, IfErr, IfOk, IfSome, IfNone, OnErr, OnOk, count_by, filter, length, option_to_list, vec_len, vec_capacity};
 ghost use Rattle.smf_contract.specs.Calls.{is_fatal, next_contract};
 ghost use Rattle.smf_contract.specs.Entries.{contract, empty, first_member, home, is_in, processes};
 ghost use Rattle.smf_edge.specs.Books.{IsTold};
-ghost use Rattle.smf_edge.specs.Ledgers.{call_of, contracts_of, left, lives};
-ghost use Rattle.smf_edge.specs.Running.{HasTold};
+ghost use Rattle.smf_edge.specs.Ledgers.{call_of, contracts_of, members_left, lives};
+ghost use Rattle.smf_edge.specs.Processes.{HasTold};
 ghost use Rattle.smf_edge.specs.Sound.{IsSound};
-ghost use Rattle.smf_edge.specs.Steps.{IsGiven, IsKilled, IsPolled, IsSpawned, listed};
+ghost use Rattle.smf_edge.specs.Steps.{IsGiven, IsKilled, IsPolled, IsSpawned, live_contracts};
 ghost use Rattle.smf_edge.specs.declared.fault.KidsFault.TheVariants.{Memory, NoChild, Refused};
 ghost use Rattle.smf_follow.specs.Books.{ledger_of};
 ghost use Rattle.smf_follow.specs.Phases.{is_fatal_end};
@@ -14,7 +14,9 @@ ghost use Rattle.smf_follow.specs.Phases.{is_fatal_end};
 use crate::edits::{after, drop_events, note_all, take_first};
 use crate::stand::FirstEnd;
 use bitflags::Flags;
-use smf_contract::{Contract, ContractCall, Event, EventSet, Failure, Member, Table};
+use smf_contract::{
+    Contract, ContractCall, ContractEvent, ContractTable, EventSet, Failure, Member,
+};
 use smf_edge::{Happening, KidsFault, Kill, Note, Run};
 use smf_fmri::{Items, Number};
 use std::alloc::{AllocError, Global};
@@ -26,9 +28,9 @@ const HOLDER: u64 = 0;
 #[derive(Drop)]
 pub(crate) struct Book {
     alloc: Global,
-    table: Table,
+    table: ContractTable,
     notes: Vec<Note>,
-    due: Vec<Event>,
+    due: Vec<ContractEvent>,
 }
 
 /// A happening as a call of the contract table.
@@ -90,7 +92,7 @@ impl Book {
     {
         Book {
             alloc,
-            table: Table::new(alloc),
+            table: ContractTable::new(alloc),
             notes: Vec::new(alloc),
             due: Vec::new(alloc),
         }
@@ -103,8 +105,8 @@ impl Book {
     }
 
     /// How many members a contract has.
-    fn left(&self, id: Number) -> usize
-        ensures { result ≡ left (ledger_of self.now) id }
+    fn members_left(&self, id: Number) -> usize
+        ensures { result ≡ members_left (ledger_of self.now) id }
     {
         count_members(self.table.members(), id)
     }
@@ -126,7 +128,8 @@ impl Book {
         ensures next { OnOk result (next_contract self.new.table.table ≡ Some id) }
         ensures table { OnOk result (self.new.table.room ≡ true) }
         ensures note { OnOk result (vec_len self.new.notes < vec_capacity self.new.notes) }
-        ensures fault { IfErr result (λ e. (e ≡ Memory) ⊎ ((e ≡ Refused) × (next_contract self.old.table.table ≢ Some id))) }
+        ensures fault { IfErr result
+            (λ e. (e ≡ Memory) ⊎ ((e ≡ Refused) × (next_contract self.old.table.table ≢ Some id))) }
     {
         if self.table.next_contract() != Some(id) {
             return Err(KidsFault::Refused);
@@ -150,7 +153,7 @@ impl Book {
     }
 
     /// The next event that is due.
-    pub(crate) fn give(&mut self) -> Option<Event>
+    pub(crate) fn give(&mut self) -> Option<ContractEvent>
         requires { IsSound (ledger_of self.old) }
         ensures given { IfSome result (λ e. IsGiven e (ledger_of self.old) (ledger_of self.new)) }
         ensures none { IfNone result ((ledger_of self.new ≡ ledger_of self.old) × (self.old.due.items ≡ [])) }
@@ -168,7 +171,7 @@ impl Book {
         id: Number,
         process: Number,
         happening: Happening,
-    ) -> Result<Event, AllocError>
+    ) -> Result<ContractEvent, AllocError>
         requires sound { IsSound (ledger_of self.old) }
         requires member { home self.old.table.table.members process ≡ Some id }
         requires none_due { self.old.due.items ≡ [] }
@@ -189,7 +192,11 @@ impl Book {
     }
 
     /// Finds that something happens to the lowest member of a contract: the first event that it brings.
-    pub(crate) fn find(&mut self, id: Number, happening: Happening) -> Result<Event, AllocError>
+    pub(crate) fn find(
+        &mut self,
+        id: Number,
+        happening: Happening,
+    ) -> Result<ContractEvent, AllocError>
         requires sound { IsSound (ledger_of self.old) }
         requires member { first_member id self.old.table.table.members ≢ None }
         requires none_due { self.old.due.items ≡ [] }
@@ -207,13 +214,15 @@ impl Book {
     /// Makes room for a kill, with the processes that it ends.
     pub(crate) fn prepare_kill(&mut self, id: Number) -> Result<Kill, KidsFault>
         ensures same { ledger_of self.new ≡ ledger_of self.old }
-        ensures kill { IfOk result (λ kill. (kill.contract ≡ id) × (kill.ends ≡ processes id self.old.table.table.members)) }
-        ensures some { OnOk result (0 < left (ledger_of self.new) id) }
+        ensures kill { IfOk result (λ kill. (kill.contract ≡ id)
+            × (kill.ends ≡ processes id self.old.table.table.members)) }
+        ensures some { OnOk result (0 < members_left (ledger_of self.new) id) }
         ensures table { OnOk result (self.new.table.room ≡ true) }
         ensures note { OnOk result (vec_len self.new.notes < vec_capacity self.new.notes) }
-        ensures fault { IfErr result (λ e. (e ≡ Memory) ⊎ ((e ≡ NoChild) × (left (ledger_of self.old) id ≡ 0))) }
+        ensures fault { IfErr result
+            (λ e. (e ≡ Memory) ⊎ ((e ≡ NoChild) × (members_left (ledger_of self.old) id ≡ 0))) }
     {
-        if self.left(id) == 0 {
+        if self.members_left(id) == 0 {
             return Err(KidsFault::NoChild);
         }
         let ends = processes_of(self.alloc, self.table.members(), id)?;
@@ -228,7 +237,7 @@ impl Book {
     /// Kills the members of a contract, for which room was made.
     pub(crate) fn kill(&mut self, kill: Kill)
         requires sound { IsSound (ledger_of self.old) }
-        requires some { 0 < left (ledger_of self.old) kill.contract }
+        requires some { 0 < members_left (ledger_of self.old) kill.contract }
         requires ends { kill.ends ≡ processes kill.contract self.old.table.table.members }
         requires table { self.old.table.room ≡ true }
         requires note { vec_len self.old.notes < vec_capacity self.old.notes }
@@ -242,12 +251,12 @@ impl Book {
     }
 
     /// The contract of a run that was made, if it has members.
-    fn living(&self, note: &Note) -> Option<Number>
+    fn live_contract(&self, note: &Note) -> Option<Number>
         ensures { option_to_list result ≡ filter (lives (ledger_of self.now)) (contracts_of note.now) }
     {
         match note {
             Note::Made(run) => {
-                if self.left(run.contract) > 0 {
+                if self.members_left(run.contract) > 0 {
                     return Some(run.contract);
                 }
                 None
@@ -259,11 +268,11 @@ impl Book {
 
     /// The runs that were made and have members.
     pub(crate) fn list(&self) -> Result<Items<Number>, AllocError>
-        ensures { IfOk result (λ ids. ids ≡ listed (ledger_of self.now)) }
+        ensures { IfOk result (λ ids. ids ≡ live_contracts (ledger_of self.now)) }
     {
         let mut ids = Items::new(self.alloc);
         for note in &self.notes {
-            if let Some(id) = self.living(note) {
+            if let Some(id) = self.live_contract(note) {
                 ids.push(id)?;
             }
         }

@@ -6,7 +6,7 @@ ghost use Rattle.smf_method.specs.Tokens.{method_text};
 use crate::stand::Stand;
 use smf_contract::Method;
 use smf_fmri::{InstanceFmri, Number};
-use smf_method::Command;
+use smf_method::CommandText;
 use std::io;
 
 /// A system that keeps contracts: all that comes of one process, wherever it forks. Two questions are asked of it: how
@@ -20,12 +20,13 @@ pub trait Contracts {
     fn start(
         &self,
         id: Number,
-        command: &Command,
+        command: &CommandText,
         restarter: &InstanceFmri,
         method: Method,
         instance: &InstanceFmri,
     ) -> io::Result<Self::Held>
-        ensures started { IfOk result (λ held. facts.is_of (launch_of id command.now restarter.now (method_text method) instance.now) held) }
+        ensures started { IfOk result
+            (λ held. facts.is_of (launch_of id command.now restarter.now (method_text method) instance.now) held) }
         ensures failed { IfErr result facts.start_fails };
 
     /// How the contract stands. It does not wait.

@@ -3,12 +3,12 @@ ghost use Rattle.std.specs.Prelude.{◌≡◌, ◌+◌, ◌≤◌, ◌<◌, ◌�
 ghost use Rattle.smf_edge.specs.Ledgers.{is_other_event};
 ghost use Rattle.smf_edge.specs.declared.note.Note.TheVariants.{Found};
 
-use smf_contract::Event;
+use smf_contract::ContractEvent;
 use smf_edge::Note;
 use smf_fmri::Number;
 
 /// Notes events, for which there is room.
-pub(crate) fn note_all(events: &[Event], notes: &mut Vec<Note>)
+pub(crate) fn note_all(events: &[ContractEvent], notes: &mut Vec<Note>)
     requires { vec_len notes.old + length events.now ≤ vec_capacity notes.old }
     ensures { notes.new.items ≡ notes.old.items ++ map Found events.now }
 {
@@ -18,14 +18,14 @@ pub(crate) fn note_all(events: &[Event], notes: &mut Vec<Note>)
 }
 
 /// Drops the events of a contract.
-pub(crate) fn drop_events(due: &mut Vec<Event>, id: Number)
+pub(crate) fn drop_events(due: &mut Vec<ContractEvent>, id: Number)
     ensures { due.new.items ≡ filter (is_other_event id) due.old.items }
 {
     due.retain(|e| e.contract != id);
 }
 
 /// The events after so many.
-pub(crate) fn after(events: &[Event], count: usize) -> &[Event]
+pub(crate) fn after(events: &[ContractEvent], count: usize) -> &[ContractEvent]
     requires { count ≤ length events.now }
     ensures { result.now ≡ drop count events.now }
 {
@@ -33,7 +33,7 @@ pub(crate) fn after(events: &[Event], count: usize) -> &[Event]
 }
 
 /// Takes the first event out.
-pub(crate) fn take_first(due: &mut Vec<Event>) -> Event
+pub(crate) fn take_first(due: &mut Vec<ContractEvent>) -> ContractEvent
     requires { 0 < vec_len due.old }
     ensures { due.old.items ≡ result ∷ due.new.items }
 {

@@ -11,11 +11,11 @@ ghost use Rattle.smf_method.specs.Tokens.{method_text};
 use crate::book::Book;
 use crate::contracts::Contracts;
 use crate::kid::{Kid, Phase, end_one, forget, put};
-use crate::seeing::{Sight, see_all};
-use smf_contract::{Event, Method, Terms};
+use crate::sights::{Sight, see_all};
+use smf_contract::{ContractEvent, Method, Terms};
 use smf_edge::{Happening, Kids, KidsFault, Note, Run};
 use smf_fmri::{InstanceFmri, Items, Number};
-use smf_method::Command;
+use smf_method::CommandText;
 use smf_state::Duration;
 use std::alloc::Global;
 use std::io;
@@ -44,14 +44,15 @@ fn start_fault(error: &io::Error) -> KidsFault
 fn start<C: Contracts>(
     contracts: &C,
     id: Number,
-    command: &Command,
+    command: &CommandText,
     restarter: &InstanceFmri,
     method: Method,
     instance: &InstanceFmri,
 ) -> Result<Kid<C::Held>, KidsFault>
     ensures contract { IfOk result (λ kid. kid.contract ≡ id) }
     ensures phase { IfOk result (λ kid. kid.phase ≡ First) }
-    ensures of { IfOk result (λ kid. C.facts.is_of (launch_of id command.now restarter.now (method_text method) instance.now) kid.held) }
+    ensures of { IfOk result
+        (λ kid. C.facts.is_of (launch_of id command.now restarter.now (method_text method) instance.now) kid.held) }
     ensures fault { IfErr result (λ e. (e ≡ Memory) ⊎ ((e ≡ Refused) × StartRefused C.facts.start_fails)) }
 {
     match contracts.start(id, command, restarter, method, instance) {
@@ -111,12 +112,12 @@ impl<C: Contracts> FollowedKids<C> {
 }
 
 impl<C: Contracts> Kids for FollowedKids<C> {
-    ghost use Rattle.std.specs.Prelude.{◌≡◌, IfErr, IfOk, IfSome, OnErr, OnOk, Err, filter, false, true};
+    ghost use Rattle.std.specs.Prelude.{◌≡◌, IfErr, IfOk, OnErr, OnOk, Err, filter, false, true};
     ghost use Rattle.smf_method.specs.Tokens.{method_text};
     ghost use Rattle.smf_edge.specs.Answers.{MayNotAnswer, MayNotDo, MayNotSpawn};
     ghost use Rattle.smf_edge.specs.Ends.{MayRefuse};
-    ghost use Rattle.smf_edge.specs.Ledgers.{left};
-    ghost use Rattle.smf_edge.specs.Running.{run_of};
+    ghost use Rattle.smf_edge.specs.Ledgers.{members_left};
+    ghost use Rattle.smf_edge.specs.Processes.{run_of};
     ghost use Rattle.smf_edge.specs.Steps.{IsKilled, IsPolled, IsSpawned};
     ghost use Rattle.smf_edge.specs.declared.fault.KidsFault.TheVariants.{Device, NotFollowed};
     ghost use Rattle.smf_follow.specs.Facts.{launch_of};
@@ -136,7 +137,7 @@ impl<C: Contracts> Kids for FollowedKids<C> {
         cookie: u64,
         _style: Duration,
         terms: Terms,
-        command: &Command,
+        command: &CommandText,
         restarter: &InstanceFmri,
         method: Method,
         instance: &InstanceFmri,
@@ -170,7 +171,7 @@ impl<C: Contracts> Kids for FollowedKids<C> {
     /// The clause `seen` says what is told of contracts: a fork and then the end of the first process, if others live.
     /// The last end is told only after the system said that nothing is left. The clause `empties` says that of all
     /// contracts.
-    fn poll(&mut self) -> Result<Option<Event>, KidsFault>
+    fn poll(&mut self) -> Result<Option<ContractEvent>, KidsFault>
         ensures polled { IfOk result (λ event. IsPolled event self.old.0 self.new.0) }
         ensures refused { OnErr result (self.new.0 ≡ self.old.0) }
         ensures fault { IfErr result (MayNotAnswer (follow_skills C.facts.start_fails) true self.old.1 self.new.1) }
@@ -195,12 +196,12 @@ impl<C: Contracts> Kids for FollowedKids<C> {
                 Ok(Some(event))
             }
             Sight::Over(id, end) => {
-                let event = self.book.find(id, end.happening())?;
+                let event = self.book.find(id, end.end_event())?;
                 put(&mut self.kids, id, Phase::Others);
                 Ok(Some(event))
             }
             Sight::Gone(id, end) => {
-                let event = self.book.find(id, end.happening())?;
+                let event = self.book.find(id, end.end_event())?;
                 forget(&mut self.kids, id);
                 Ok(Some(event))
             }
@@ -215,7 +216,7 @@ impl<C: Contracts> Kids for FollowedKids<C> {
         ensures killed { OnOk result (IsKilled id self.old.0 self.new.0) }
         ensures refused { OnErr result (self.new.0 ≡ self.old.0) }
         ensures fault { IfErr result
-            (MayNotDo (follow_skills C.facts.start_fails) true (left self.old.0 id) self.old.1 self.new.1) }
+            (MayNotDo (follow_skills C.facts.start_fails) true (members_left self.old.0 id) self.old.1 self.new.1) }
         ensures ended { OnOk result (SomeKid id self.old.2 (λ kid. C.facts.is_ended kid.held)) }
         ensures failed { IfErr result (λ e. e ≡ Device → SomeKid id self.old.2 (λ kid. C.facts.may_live kid.held)) }
         ensures forgotten { OnOk result (posts self.new.2 ≡ filter (is_other_post id) (posts self.old.2)) }

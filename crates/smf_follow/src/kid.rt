@@ -69,7 +69,8 @@ pub(crate) fn end_one<C: Contracts>(
 ) -> bool
     ensures same { posts kids.new ≡ posts kids.old }
     ensures ended { result ≡ true → SomeKid contract kids.old (λ kid. C.facts.is_ended kid.held) }
-    ensures living { result ≡ false → IsAbsent contract (posts kids.old) ⊎ SomeKid contract kids.old (λ kid. C.facts.may_live kid.held) }
+    ensures living { result ≡ false → IsAbsent contract (posts kids.old)
+        ⊎ SomeKid contract kids.old (λ kid. C.facts.may_live kid.held) }
 {
     match place_of(kids, contract) {
         Some(place) => end(contracts, &mut kids[place]),

@@ -7,7 +7,7 @@ mod contracts;
 mod edits;
 mod followed;
 mod kid;
-mod seeing;
+mod sights;
 mod stand;
 
 pub use contracts::Contracts;

@@ -27,7 +27,7 @@ pub enum Stand {
 
 impl FirstEnd {
     /// The same as what happens to a member.
-    pub(crate) fn happening(self) -> Happening
+    pub(crate) fn end_event(self) -> Happening
         ensures { result ≡ happening_of self }
     {
         match self {

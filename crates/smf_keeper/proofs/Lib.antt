@@ -1,4 +1,4 @@
 pub mod Later
-pub mod Failing
-pub mod Grouping
-pub mod Keeping
+pub mod Failures
+pub mod GroupFacts
+pub mod KeeperFacts

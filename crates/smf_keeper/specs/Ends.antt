@@ -35,6 +35,6 @@ read_end text =
     else if pointwise nat_eq text (codes "core") then Some Core
     else code_below (read_count text)
 
-abbrev pub said : Option (List ℕ) → Option FirstEnd
-said None = None
-said (Some text) = read_end text
+abbrev pub end_in_text : Option (List ℕ) → Option FirstEnd
+end_in_text None = None
+end_in_text (Some text) = read_end text

@@ -2,7 +2,7 @@
 use Rattle.std.specs.Prelude.{◌≡◌, Some, None, IfSome}
 use Rattle.std.specs.Process.{child_status}
 use Rattle.std.specs.declared.process.Child.{Child}
-use Rattle.smf_keeper.specs.Tellings.{Telling, Asked, Closed, FileRead, FileWritten, FolderRemoved, ProgramRun, NoAnswer}
+use Rattle.smf_keeper.specs.Replies.{Telling, Asked, Closed, FileRead, FileWritten, FolderRemoved, ProgramRun, NoAnswer}
 
 -- a status that was told is kept and told again, and an input that was closed is closed; the rest is not said
 abbrev pub child_tells : {P I O E : Type 0} → Child P I O E → Telling → Child P I O E → Type 0

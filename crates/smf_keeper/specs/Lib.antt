@@ -1,6 +1,6 @@
 pub mod Words
-pub mod Tellings
+pub mod Replies
 pub mod Kit
 pub mod Ends
-pub mod Grouping
-pub mod Keeping
+pub mod Groups
+pub mod Keepers

@@ -1,5 +1,5 @@
 ghost use Rattle.std.specs.Prelude.{string_bytes};
-ghost use Rattle.smf_keeper.specs.Grouping.{IsAskedIf};
+ghost use Rattle.smf_keeper.specs.Groups.{IsAskedIf};
 
 use crate::host::Host;
 

@@ -1,16 +1,16 @@
 ghost use Rattle.std.specs.Prelude.{◌≡◌, IfOk, OnErr, true, false, option_map, string_bytes};
-ghost use Rattle.smf_keeper.specs.Grouping.{Empties, HasLeft, Holds, IsEndedIn, IsUnclear, MayLiveIn, SaysNeither, TellsGroup};
-ghost use Rattle.smf_keeper.specs.Tellings.{IsLater};
+ghost use Rattle.smf_keeper.specs.Groups.{Empties, HasLeft, Holds, IsEndedIn, IsUnclear, MayLiveIn, SaysNeither, TellsGroup};
+ghost use Rattle.smf_keeper.specs.Replies.{IsLater};
 
 use crate::grouped::Grouped;
 use crate::host::Host;
-use crate::program::{grouped, path_in};
-use crate::reading::{end_of, has_process, mount_in, own_group_in};
+use crate::program::{group_program, path_in};
+use crate::reports::{end_of, has_process, mount_in, own_group_in};
 use crate::room::Room;
 use smf_contract::Method;
 use smf_fmri::{InstanceFmri, Number};
 use smf_follow::{Contracts, Stand};
-use smf_method::Command;
+use smf_method::CommandText;
 use std::alloc::Global;
 use std::fs::File;
 use std::io::{Read, Stderr};
@@ -120,7 +120,7 @@ fn is_held(text: &Option<String>) -> io::Result<bool>
 }
 
 /// Asks whether a group has a process. One that is not there has none.
-#[tactic(auto, using(crate::proofs::Later::one_later, crate::proofs::Grouping::tells_group, crate::proofs::Grouping::unclear_text, crate::proofs::Grouping::unclear_lost))]
+#[tactic(auto, using(crate::proofs::Later::one_later, crate::proofs::GroupFacts::tells_group, crate::proofs::GroupFacts::unclear_text, crate::proofs::GroupFacts::unclear_lost))]
 fn is_populated<H: Host>(
     alloc: Global,
     host: &H,
@@ -136,7 +136,7 @@ fn is_populated<H: Host>(
 }
 
 /// Asks whether the first process has ended, and whether its group had no process after that.
-#[tactic(auto, using(crate::proofs::Later::one_later, crate::proofs::Later::then_later, crate::proofs::Grouping::left_none))]
+#[tactic(auto, using(crate::proofs::Later::one_later, crate::proofs::Later::then_later, crate::proofs::GroupFacts::left_none))]
 fn is_empty<H: Host>(
     alloc: Global,
     host: &H,
@@ -178,14 +178,15 @@ fn tell_end<H: Host>(
 }
 
 /// Has a group told to end gently. That it is empty is found later.
-#[tactic(auto, using(crate::proofs::Grouping::may_live_run, crate::proofs::Grouping::may_live_lost, crate::proofs::Grouping::asked_noted))]
+#[tactic(auto, using(crate::proofs::GroupFacts::may_live_run, crate::proofs::GroupFacts::may_live_lost, crate::proofs::GroupFacts::asked_noted))]
 fn ask_end<H: Host>(
     alloc: Global,
     host: &H,
     keeper: &str,
     grouped: &mut Grouped<H>,
 ) -> io::Result<bool>
-    ensures living { IfOk result (λ done. (done ≡ false) × MayLiveIn H.facts (string_bytes grouped.old.group) grouped.old.process) }
+    ensures living { IfOk result (λ done. (done ≡ false)
+        × MayLiveIn H.facts (string_bytes grouped.old.group) grouped.old.process) }
     ensures lost { OnErr result (MayLiveIn H.facts (string_bytes grouped.old.group) grouped.old.process) }
 {
     let asked = host.run(
@@ -200,14 +201,15 @@ fn ask_end<H: Host>(
 }
 
 /// Removes a group that was told to end, once it is empty, and says whether it is. It does not wait.
-#[tactic(auto, using(crate::proofs::Grouping::left_none))]
+#[tactic(auto, using(crate::proofs::GroupFacts::left_none))]
 fn see_end<H: Host>(
     alloc: Global,
     host: &H,
     keeper: &str,
     grouped: &mut Grouped<H>,
 ) -> io::Result<bool>
-    ensures empty { IfOk result (λ empty. empty ≡ true → HasLeft H.facts (string_bytes grouped.old.group) false (λ _. Unit {0}) grouped.old.process) }
+    ensures empty { IfOk result (λ empty. empty ≡ true
+        → HasLeft H.facts (string_bytes grouped.old.group) false (λ _. Unit {0}) grouped.old.process) }
 {
     let Some(status) = host.look(&mut grouped.process)? else {
         return Ok(false);
@@ -221,15 +223,17 @@ fn see_end<H: Host>(
 }
 
 /// Ends a group gently: it is told once, and then looked at. It does not wait.
-#[tactic(auto, using(crate::proofs::Grouping::was_asked, crate::proofs::Grouping::ended_asked, crate::proofs::Grouping::may_live_asked))]
+#[tactic(auto, using(crate::proofs::GroupFacts::was_asked, crate::proofs::GroupFacts::ended_asked, crate::proofs::GroupFacts::may_live_asked))]
 fn end_gently<H: Host>(
     alloc: Global,
     host: &H,
     keeper: &str,
     grouped: &mut Grouped<H>,
 ) -> io::Result<bool>
-    ensures ended { IfOk result (λ done. done ≡ true → IsEndedIn H.facts (string_bytes grouped.old.group) grouped.old.process) }
-    ensures living { IfOk result (λ done. done ≡ false → MayLiveIn H.facts (string_bytes grouped.old.group) grouped.old.process) }
+    ensures ended { IfOk result (λ done. done ≡ true
+        → IsEndedIn H.facts (string_bytes grouped.old.group) grouped.old.process) }
+    ensures living { IfOk result (λ done. done ≡ false
+        → MayLiveIn H.facts (string_bytes grouped.old.group) grouped.old.process) }
     ensures lost { OnErr result (MayLiveIn H.facts (string_bytes grouped.old.group) grouped.old.process) }
 {
     if !grouped.asked {
@@ -240,7 +244,7 @@ fn end_gently<H: Host>(
 }
 
 /// Waits for a while until a group is empty, and says whether it is.
-#[tactic(auto, using(crate::proofs::Later::not_later, crate::proofs::Later::later_on, crate::proofs::Grouping::empties_now))]
+#[tactic(auto, using(crate::proofs::Later::not_later, crate::proofs::Later::later_on, crate::proofs::GroupFacts::empties_now))]
 fn wait_empty<H: Host>(
     alloc: Global,
     host: &H,
@@ -260,10 +264,12 @@ fn wait_empty<H: Host>(
 }
 
 /// Ends a group at once, and waits for that for a while. A group that is empty is removed, if that can be done.
-#[tactic(auto, using(crate::proofs::Grouping::ended_in, crate::proofs::Grouping::may_live_told, crate::proofs::Grouping::may_live_lost))]
+#[tactic(auto, using(crate::proofs::GroupFacts::ended_in, crate::proofs::GroupFacts::may_live_told, crate::proofs::GroupFacts::may_live_lost))]
 fn end_now<H: Host>(alloc: Global, host: &H, grouped: &mut Grouped<H>) -> io::Result<bool>
-    ensures ended { IfOk result (λ done. done ≡ true → IsEndedIn H.facts (string_bytes grouped.old.group) grouped.old.process) }
-    ensures living { IfOk result (λ done. done ≡ false → MayLiveIn H.facts (string_bytes grouped.old.group) grouped.old.process) }
+    ensures ended { IfOk result (λ done. done ≡ true
+        → IsEndedIn H.facts (string_bytes grouped.old.group) grouped.old.process) }
+    ensures living { IfOk result (λ done. done ≡ false
+        → MayLiveIn H.facts (string_bytes grouped.old.group) grouped.old.process) }
     ensures lost { OnErr result (MayLiveIn H.facts (string_bytes grouped.old.group) grouped.old.process) }
 {
     host.write(
@@ -282,7 +288,7 @@ fn end_now<H: Host>(alloc: Global, host: &H, grouped: &mut Grouped<H>) -> io::Re
 
 impl<H: Host> Contracts for Groups<H> {
     ghost use Rattle.std.specs.Prelude.{string_bytes};
-    ghost use Rattle.smf_keeper.specs.Grouping.{IsEndedIn, IsGroupOf, IsLostIn, MayLiveIn, MayNotStart, StandsIn};
+    ghost use Rattle.smf_keeper.specs.Groups.{IsEndedIn, IsGroupOf, IsLostIn, MayLiveIn, MayNotStart, StandsIn};
 
     type Held = Grouped<H>;
 
@@ -295,11 +301,11 @@ impl<H: Host> Contracts for Groups<H> {
       may_live = λ held. MayLiveIn H.facts (string_bytes held.group) held.process;
     } };
 
-    #[tactic(auto, using(crate::proofs::Grouping::has_variables, crate::proofs::Grouping::group_of, crate::proofs::Grouping::refused, crate::proofs::Grouping::short))]
+    #[tactic(auto, using(crate::proofs::GroupFacts::has_variables, crate::proofs::GroupFacts::group_of, crate::proofs::GroupFacts::refused, crate::proofs::GroupFacts::short))]
     fn start(
         &self,
         id: Number,
-        command: &Command,
+        command: &CommandText,
         restarter: &InstanceFmri,
         method: Method,
         instance: &InstanceFmri,
@@ -308,7 +314,7 @@ impl<H: Host> Contracts for Groups<H> {
         let group = path_in(self.alloc, self.group.as_str(), id)?;
         let mark = path_in(self.alloc, room, id)?;
         self.host.make_folder(group.as_str())?;
-        let program = grouped(
+        let program = group_program(
             self.alloc,
             self.room.keeper(),
             room,
@@ -330,7 +336,7 @@ impl<H: Host> Contracts for Groups<H> {
     }
 
     /// A group that is empty is removed.
-    #[tactic(auto, using(crate::proofs::Grouping::stands_runs, crate::proofs::Grouping::stands_left, crate::proofs::Grouping::stands_gone, crate::proofs::Grouping::lost_now, crate::proofs::Grouping::lost_then, crate::proofs::Grouping::lost_after))]
+    #[tactic(auto, using(crate::proofs::GroupFacts::stands_runs, crate::proofs::GroupFacts::stands_left, crate::proofs::GroupFacts::stands_gone, crate::proofs::GroupFacts::lost_now, crate::proofs::GroupFacts::lost_then, crate::proofs::GroupFacts::lost_after))]
     fn stand(&self, grouped: &mut Grouped<H>) -> io::Result<Stand> {
         let Some(status) = self.host.look(&mut grouped.process)? else {
             return Ok(Stand::Runs);

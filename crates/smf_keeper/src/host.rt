@@ -1,7 +1,7 @@
 // The questions that the system is asked for a contract.
-ghost use Rattle.std.specs.Prelude.{◌≡◌, IfErr, IfOk, OnErr, OnOk, option_map, string_bytes, true, false};
+ghost use Rattle.std.specs.Prelude.{IfErr, IfOk, OnErr, OnOk, option_map, string_bytes};
 ghost use Rattle.smf_keeper.specs.Kit.{child_tells};
-ghost use Rattle.smf_keeper.specs.Tellings.{HostFacts, Asked, Closed, FileRead, FileWritten, FolderRemoved, ProgramRun, NoAnswer};
+ghost use Rattle.smf_keeper.specs.Replies.{HostFacts, Asked, Closed, FileRead, FileWritten, FolderRemoved, ProgramRun, NoAnswer};
 
 use crate::program::helper;
 use std::alloc::Global;
@@ -46,7 +46,8 @@ pub trait Host {
         path: &str,
         name: &str,
     ) -> io::Result<Option<String>>
-        ensures told { IfOk result (λ text. facts.tells process.old (FileRead path.now name.now (option_map string_bytes text)) process.new) }
+        ensures told { IfOk result
+            (λ text. facts.tells process.old (FileRead path.now name.now (option_map string_bytes text)) process.new) }
         ensures lost { OnErr result (facts.tells process.old NoAnswer process.new) };
 
     /// Writes a text into a file that is there, and says whether it is.
@@ -58,7 +59,8 @@ pub trait Host {
         name: &str,
         text: &str,
     ) -> io::Result<bool>
-        ensures told { IfOk result (λ there. facts.tells process.old (FileWritten path.now name.now text.now there) process.new) }
+        ensures told { IfOk result
+            (λ there. facts.tells process.old (FileWritten path.now name.now text.now there) process.new) }
         ensures lost { OnErr result (facts.tells process.old NoAnswer process.new) };
 
     /// Removes an empty folder, if it is there.
@@ -75,7 +77,8 @@ pub trait Host {
         what: &str,
         whose: &str,
     ) -> io::Result<bool>
-        ensures told { IfOk result (λ done. facts.tells process.old (ProgramRun program.now what.now whose.now done) process.new) }
+        ensures told { IfOk result
+            (λ done. facts.tells process.old (ProgramRun program.now what.now whose.now done) process.new) }
         ensures lost { OnErr result (facts.tells process.old NoAnswer process.new) };
 
     /// Removes a file, if that can be done.

@@ -1,16 +1,16 @@
 ghost use Rattle.std.specs.Prelude.{◌≡◌, IfOk, IfSome, OnErr, None, true, false, string_bytes};
-ghost use Rattle.smf_keeper.specs.Keeping.{EndsLater, HasEnded, HasSaid, IsLeft, IsOver, IsSilent};
-ghost use Rattle.smf_keeper.specs.Tellings.{IsLater, NoAnswer};
+ghost use Rattle.smf_keeper.specs.Keepers.{EndsLater, HasEnded, HasSaid, IsLeft, IsOver, IsSilent};
+ghost use Rattle.smf_keeper.specs.Replies.{IsLater, NoAnswer};
 
 use crate::host::Host;
-use crate::kept::Kept;
+use crate::kept::KeptContract;
 use crate::program::{keeper, name_of, path_in};
-use crate::reading::{left_nothing, read_end, untold};
+use crate::reports::{left_nothing, read_end, untold};
 use crate::room::Room;
 use smf_contract::Method;
 use smf_fmri::{InstanceFmri, Number};
 use smf_follow::{Contracts, FirstEnd, Stand};
-use smf_method::Command;
+use smf_method::CommandText;
 use std::alloc::Global;
 use std::io;
 use std::io::Stderr;
@@ -29,8 +29,8 @@ pub struct Keepers<H: Host> {
 }
 
 /// The end of the first process, as the keeper's file tells it. None if the file is not there, or tells no end.
-#[tactic(auto, using(crate::proofs::Later::one_later, crate::proofs::Keeping::has_said, crate::proofs::Keeping::is_silent))]
-fn told<H: Host>(
+#[tactic(auto, using(crate::proofs::Later::one_later, crate::proofs::KeeperFacts::has_said, crate::proofs::KeeperFacts::is_silent))]
+fn end_in_file<H: Host>(
     alloc: Global,
     host: &H,
     keeper: &mut H::Process,
@@ -49,7 +49,7 @@ fn told<H: Host>(
 
 /// Says whether nothing is left of a contract whose keeper ended so. If something else ended the keeper, the ender
 /// finds the rest by its mark and ends it.
-#[tactic(auto, using(crate::proofs::Later::not_later, crate::proofs::Later::one_later, crate::proofs::Keeping::over_itself, crate::proofs::Keeping::over_by_ender, crate::proofs::Keeping::is_left))]
+#[tactic(auto, using(crate::proofs::Later::not_later, crate::proofs::Later::one_later, crate::proofs::KeeperFacts::over_itself, crate::proofs::KeeperFacts::over_by_ender, crate::proofs::KeeperFacts::is_left))]
 fn is_over<H: Host>(
     alloc: Global,
     host: &H,
@@ -71,7 +71,7 @@ fn is_over<H: Host>(
 }
 
 /// Asks whether a keeper has ended, and nothing is left of its contract.
-#[tactic(auto, using(crate::proofs::Later::one_later, crate::proofs::Later::then_later, crate::proofs::Keeping::has_ended))]
+#[tactic(auto, using(crate::proofs::Later::one_later, crate::proofs::Later::then_later, crate::proofs::KeeperFacts::has_ended))]
 fn has_ended<H: Host>(
     alloc: Global,
     host: &H,
@@ -90,7 +90,7 @@ fn has_ended<H: Host>(
 }
 
 /// Waits for at most so many milliseconds until a keeper has ended and nothing is left, and says whether that is so.
-#[tactic(auto, using(crate::proofs::Later::not_later, crate::proofs::Later::later_on, crate::proofs::Keeping::ends_later))]
+#[tactic(auto, using(crate::proofs::Later::not_later, crate::proofs::Later::later_on, crate::proofs::KeeperFacts::ends_later))]
 fn wait_ended<H: Host>(
     alloc: Global,
     host: &H,
@@ -113,8 +113,12 @@ fn wait_ended<H: Host>(
 }
 
 /// How the first process ended, if its keeper told that. The file is read until then, and is removed.
-#[tactic(auto, using(crate::proofs::Keeping::noted_said, crate::proofs::Keeping::said_here, crate::proofs::Keeping::said_noted))]
-fn first_end<H: Host>(alloc: Global, host: &H, kept: &mut Kept<H>) -> io::Result<Option<FirstEnd>>
+#[tactic(auto, using(crate::proofs::KeeperFacts::noted_said, crate::proofs::KeeperFacts::said_here, crate::proofs::KeeperFacts::said_noted))]
+fn first_end<H: Host>(
+    alloc: Global,
+    host: &H,
+    kept: &mut KeptContract<H>,
+) -> io::Result<Option<FirstEnd>>
     ensures said { IfOk result (λ end. IfSome end (λ end. ∥ HasSaid H.facts (string_bytes kept.old.mark) end ∥₁)) }
     ensures silent { IfOk result (λ end. end ≡ None → IsSilent H.facts (string_bytes kept.old.mark) kept.old.keeper) }
     ensures lost { OnErr result (H.facts.tells kept.old.keeper NoAnswer kept.new.keeper) }
@@ -122,7 +126,7 @@ fn first_end<H: Host>(alloc: Global, host: &H, kept: &mut Kept<H>) -> io::Result
     if kept.first.is_some() {
         return Ok(kept.first);
     }
-    let end = told(alloc, host, &mut kept.keeper, kept.mark.as_str())?;
+    let end = end_in_file(alloc, host, &mut kept.keeper, kept.mark.as_str())?;
     kept.first = end;
     if end.is_some() {
         host.forget(kept.mark.as_str());
@@ -143,10 +147,10 @@ impl<H: Host> Keepers<H> {
 
 impl<H: Host> Contracts for Keepers<H> {
     ghost use Rattle.std.specs.Prelude.{string_bytes};
-    ghost use Rattle.smf_keeper.specs.Grouping.{MayNotStart};
-    ghost use Rattle.smf_keeper.specs.Keeping.{IsEndedWith, IsKeeperOf, IsLostWith, MayLiveWith, StandsWith};
+    ghost use Rattle.smf_keeper.specs.Groups.{MayNotStart};
+    ghost use Rattle.smf_keeper.specs.Keepers.{IsEndedWith, IsKeeperOf, IsLostWith, MayLiveWith, StandsWith};
 
-    type Held = Kept<H>;
+    type Held = KeptContract<H>;
 
     ghost facts = { record {
       is_of = λ launch held. IsKeeperOf H.facts launch (string_bytes held.mark) held.keeper;
@@ -157,15 +161,15 @@ impl<H: Host> Contracts for Keepers<H> {
       may_live = λ held. MayLiveWith H.facts held.keeper;
     } };
 
-    #[tactic(auto, using(crate::proofs::Grouping::has_variables, crate::proofs::Keeping::keeper_of, crate::proofs::Grouping::refused, crate::proofs::Grouping::short))]
+    #[tactic(auto, using(crate::proofs::GroupFacts::has_variables, crate::proofs::KeeperFacts::keeper_of, crate::proofs::GroupFacts::refused, crate::proofs::GroupFacts::short))]
     fn start(
         &self,
         id: Number,
-        command: &Command,
+        command: &CommandText,
         restarter: &InstanceFmri,
         method: Method,
         instance: &InstanceFmri,
-    ) -> io::Result<Kept<H>> {
+    ) -> io::Result<KeptContract<H>> {
         let room = self.room.path();
         let name = name_of(self.alloc, id)?;
         let mark = path_in(self.alloc, room, id)?;
@@ -181,15 +185,15 @@ impl<H: Host> Contracts for Keepers<H> {
             self.output,
         )?;
         let keeper = self.host.start(program)?;
-        Ok(Kept {
+        Ok(KeptContract {
             keeper,
             mark,
             first: None,
         })
     }
 
-    #[tactic(auto, using(crate::proofs::Keeping::stands_runs, crate::proofs::Keeping::stands_left, crate::proofs::Keeping::gone_said, crate::proofs::Keeping::gone_untold, crate::proofs::Keeping::lost_now, crate::proofs::Keeping::lost_then, crate::proofs::Keeping::lost_left, crate::proofs::Keeping::lost_after))]
-    fn stand(&self, kept: &mut Kept<H>) -> io::Result<Stand> {
+    #[tactic(auto, using(crate::proofs::KeeperFacts::stands_runs, crate::proofs::KeeperFacts::stands_left, crate::proofs::KeeperFacts::gone_said, crate::proofs::KeeperFacts::gone_untold, crate::proofs::KeeperFacts::lost_now, crate::proofs::KeeperFacts::lost_then, crate::proofs::KeeperFacts::lost_left, crate::proofs::KeeperFacts::lost_after))]
+    fn stand(&self, kept: &mut KeptContract<H>) -> io::Result<Stand> {
         let Some(status) = self.host.look(&mut kept.keeper)? else {
             return match first_end(self.alloc, &self.host, kept)? {
                 Some(end) => Ok(Stand::Left(end)),
@@ -215,8 +219,8 @@ impl<H: Host> Contracts for Keepers<H> {
 
     /// It closes the keeper's standard input, and waits for its end for a while; if the room is gentle, it does not
     /// wait.
-    #[tactic(auto, using(crate::proofs::Keeping::ended_with, crate::proofs::Keeping::may_live))]
-    fn end(&self, kept: &mut Kept<H>) -> io::Result<bool> {
+    #[tactic(auto, using(crate::proofs::KeeperFacts::ended_with, crate::proofs::KeeperFacts::may_live))]
+    fn end(&self, kept: &mut KeptContract<H>) -> io::Result<bool> {
         let patience = if self.room.is_gentle() { 0 } else { PATIENCE };
         self.host.close(&mut kept.keeper);
         let ended = wait_ended(

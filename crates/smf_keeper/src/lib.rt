@@ -10,12 +10,12 @@ mod host;
 mod keepers;
 mod kept;
 mod program;
-mod reading;
+mod reports;
 mod room;
 
 pub use grouped::Grouped;
 pub use groups::Groups;
 pub use host::Host;
 pub use keepers::Keepers;
-pub use kept::Kept;
+pub use kept::KeptContract;
 pub use room::{Room, RoomFault};

@@ -7,7 +7,7 @@ ghost use Rattle.smf_method.specs.Tokens.{method_text};
 
 use smf_contract::Method;
 use smf_fmri::{InstanceFmri, Number};
-use smf_method::{Command, method_text};
+use smf_method::{CommandText, method_text};
 use std::alloc::{AllocError, Global};
 use std::io;
 use std::io::Stderr;
@@ -45,7 +45,7 @@ fn bare(
     keeper: &str,
     room: &str,
     name: &str,
-    command: &Command,
+    command: &CommandText,
 ) -> Result<Program, AllocError>
     ensures clears { IfOk result (λ c. clears_env c ≡ true) }
     ensures program { IfOk result (λ c. command_program c ≡ codes "/usr/bin/perl") }
@@ -79,7 +79,7 @@ pub(crate) fn keeper(
     keeper: &str,
     room: &str,
     name: &str,
-    command: &Command,
+    command: &CommandText,
     restarter: &InstanceFmri,
     method: Method,
     instance: &InstanceFmri,
@@ -88,7 +88,8 @@ pub(crate) fn keeper(
     ensures clears { IfOk result (λ c. clears_env c ≡ true) }
     ensures program { IfOk result (λ c. command_program c ≡ codes "/usr/bin/perl") }
     ensures args { IfOk result (λ c. command_args c ≡ keeper.now ∷ room.now ∷ name.now ∷ by_shell command.now) }
-    ensures path { IfOk result (λ c. command_var c (codes "PATH") ≡ Some (Some (codes "/usr/sbin:/usr/bin:/sbin:/bin"))) }
+    ensures path { IfOk result
+        (λ c. command_var c (codes "PATH") ≡ Some (Some (codes "/usr/sbin:/usr/bin:/sbin:/bin"))) }
     ensures fmri { IfOk result (λ c. command_var c (codes "SMF_FMRI") ≡ Some (Some instance.now)) }
     ensures method { IfOk result (λ c. command_var c (codes "SMF_METHOD") ≡ Some (Some (method_text method))) }
     ensures restarter { IfOk result (λ c. command_var c (codes "SMF_RESTARTER") ≡ Some (Some restarter.now)) }
@@ -115,12 +116,12 @@ fn wire_empty(program: &mut Program, output: Stderr)
 
 /// A program that goes into a group and becomes a command by the shell, with these variables alone. Its output goes to
 /// one stream.
-pub(crate) fn grouped(
+pub(crate) fn group_program(
     alloc: Global,
     keeper: &str,
     room: &str,
     group: &str,
-    command: &Command,
+    command: &CommandText,
     restarter: &InstanceFmri,
     method: Method,
     instance: &InstanceFmri,
@@ -129,7 +130,8 @@ pub(crate) fn grouped(
     ensures clears { IfOk result (λ c. clears_env c ≡ true) }
     ensures program { IfOk result (λ c. command_program c ≡ codes "/usr/bin/perl") }
     ensures args { IfOk result (λ c. command_args c ≡ keeper.now ∷ room.now ∷ group.now ∷ by_shell command.now) }
-    ensures path { IfOk result (λ c. command_var c (codes "PATH") ≡ Some (Some (codes "/usr/sbin:/usr/bin:/sbin:/bin"))) }
+    ensures path { IfOk result
+        (λ c. command_var c (codes "PATH") ≡ Some (Some (codes "/usr/sbin:/usr/bin:/sbin:/bin"))) }
     ensures fmri { IfOk result (λ c. command_var c (codes "SMF_FMRI") ≡ Some (Some instance.now)) }
     ensures method { IfOk result (λ c. command_var c (codes "SMF_METHOD") ≡ Some (Some (method_text method))) }
     ensures restarter { IfOk result (λ c. command_var c (codes "SMF_RESTARTER") ≡ Some (Some restarter.now)) }

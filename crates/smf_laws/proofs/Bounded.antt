@@ -8,7 +8,7 @@ use Rattle.smf_state.specs.declared.state.State.TheVariants.{Offline}
 use Rattle.smf_state.specs.declared.step.Proposal.{Proposal}
 use Rattle.smf_state.specs.declared.step.Step.{Step}
 use Rattle.smf_state.specs.declared.step.Step.TheVariants.{Move, Start, Stop, Refresh, End, Note}
-use Rattle.smf_state.specs.Rows.{allowed, applied, applied_unless, greatest_number, greatest_run, is_next_run, is_past_last, is_steady, is_stopped, kept, last_with, numbered, refusal, run_of, same_state, stepped}
+use Rattle.smf_state.specs.Rows.{is_allowed, result_of_proposal, applied_unless, greatest_number, greatest_run, is_next_run, is_past_last, is_steady, is_stopped, run_if_kept, last_with, row_with_numbers, refusal, run_of, same_state, row_after_step}
 use Rattle.smf_model.specs.Next.{greatest, is_other_snapshot, is_running}
 use Rattle.smf_laws.specs.Consistent.{IsBounded, IsUpTo}
 
@@ -25,7 +25,7 @@ up_to : (a b : ℕ) (o : Option ℕ) → a ≤ b → IsUpTo a o → IsUpTo b o
 up_to a b None low h = tt
 up_to a b (Some run) low h = omega arith
 
-up_to_kept : (last : ℕ) (keep : Bool) (o : Option ℕ) → IsUpTo last o → IsUpTo last (kept keep o)
+up_to_kept : (last : ℕ) (keep : Bool) (o : Option ℕ) → IsUpTo last o → IsUpTo last (run_if_kept keep o)
 up_to_kept last true o h = h
 up_to_kept last false o h = tt
 
@@ -35,7 +35,9 @@ accepted : (o : Option StepFault) (r after : Row) → applied_unless o r ≡ Ok 
 accepted None r after h = (refl, cc)
 accepted (Some f) r after h = absurd cc
 
-all_reasons : (a b c d : Bool) → cond a (Some Exhausted) (cond b (Some StillLive) (cond c (Some NotLive) (cond d None (Some NoEdge)))) ≡ None → (a ≡ false) × (d ≡ true)
+all_reasons : (a b c d : Bool)
+    → cond a (Some Exhausted) (cond b (Some StillLive) (cond c (Some NotLive) (cond d None (Some NoEdge)))) ≡ None
+    → (a ≡ false) × (d ≡ true)
 all_reasons true b c d h = absurd cc
 all_reasons false true c d h = absurd cc
 all_reasons false false true d h = absurd cc
@@ -51,7 +53,8 @@ run_rises : (r : Row) (run : Option ℕ) → is_next_run r run ≡ true → r.la
 run_rises r None h = omega arith
 run_rises r (Some run) h = let is : run ≡ r.last + 1 = eqb-true run (r.last + 1) h in omega arith
 
-run_within : (last : ℕ) (run : Option ℕ) → last ≤ greatest_run → is_past_last run ≡ false → last_with last run ≤ greatest_run
+run_within : (last : ℕ) (run : Option ℕ) → last ≤ greatest_run → is_past_last run ≡ false
+    → last_with last run ≤ greatest_run
 run_within last None low h = low
 run_within last (Some run) low h = ltb-false greatest_run run h
 
@@ -69,14 +72,29 @@ runs_on snapshot (Some n) h = by (n == snapshot) refl h
 
 -- ---- each step
 
-steps : (r : Row) (s : Step) (p : Proposal) (revision : ℕ) → IsBounded r → r.number < greatest_number → is_past_last (run_of s) ≡ false → allowed r s ≡ true → p.serial ≤ greatest → is_other_snapshot r s ≡ false
-    → IsStepped r (numbered (stepped r s revision) (r.number + 1) p) p
+steps : (r : Row) (s : Step) (p : Proposal) (revision : ℕ) → IsBounded r → r.number < greatest_number
+    → is_past_last (run_of s) ≡ false → is_allowed r s ≡ true → p.serial ≤ greatest → is_other_snapshot r s ≡ false
+    → IsStepped r (row_with_numbers (row_after_step r s revision) (r.number + 1) p) p
 steps r (Move to) p revision b low run h serial own =
-    record { bounded = record { live = b.live; side = b.side; last = b.last; number = omega arith; serial = serial }; owner = refl; number = refl; launch = refl; running = refl; begun = inl refl }
-steps r (Start run snapshot d i base) p revision b low past h serial own =
-    let next : run ≡ r.last + 1 = eqb-true run (r.last + 1) (and_parts (same_state r.state Offline && is_none r.next) _ h).1 in
     record {
-      bounded = record { live = omega arith; side = up_to r.last run r.side (omega arith) b.side; last = ltb-false greatest_run run past; number = omega arith; serial = serial };
+      bounded = record { live = b.live; side = b.side; last = b.last; number = omega arith; serial = serial };
+      owner = refl;
+      number = refl;
+      launch = refl;
+      running = refl;
+      begun = inl refl;
+    }
+steps r (Start run snapshot d i base) p revision b low past h serial own =
+    let next : run ≡ r.last + 1 =
+    eqb-true run (r.last + 1) (and_parts (same_state r.state Offline && is_none r.next) _ h).1 in
+    record {
+      bounded = record {
+        live = omega arith;
+        side = up_to r.last run r.side (omega arith) b.side;
+        last = ltb-false greatest_run run past;
+        number = omega arith;
+        serial = serial;
+      };
       owner = refl;
       number = refl;
       launch = refl;
@@ -86,7 +104,14 @@ steps r (Start run snapshot d i base) p revision b low past h serial own =
 steps r (Stop to c run) p revision b low past h serial own =
     let next : is_next_run r run ≡ true = (and_parts (is_steady r && is_stopped to) _ h).1 in
     record {
-      bounded = record { live = up_to r.last (last_with r.last run) r.live (run_rises r run next) b.live; side = run_itself r.last run; last = run_within r.last run b.last past; number = omega arith; serial = serial };
+      bounded = record {
+        live = up_to r.last (last_with r.last run) r.live (run_rises r run next) b.live;
+        side = run_itself r.last run;
+        last = run_within r.last run b.last past;
+        number = omega arith;
+        serial =
+            serial;
+      };
       owner = refl;
       number = refl;
       launch = refl;
@@ -96,7 +121,14 @@ steps r (Stop to c run) p revision b low past h serial own =
 steps r (Refresh run) p revision b low past h serial own =
     let next : is_next_run r run ≡ true = (and_parts (is_steady r) _ h).1 in
     record {
-      bounded = record { live = up_to r.last (last_with r.last run) r.live (run_rises r run next) b.live; side = run_itself r.last run; last = run_within r.last run b.last past; number = omega arith; serial = serial };
+      bounded = record {
+        live = up_to r.last (last_with r.last run) r.live (run_rises r run next) b.live;
+        side = run_itself r.last run;
+        last = run_within r.last run b.last past;
+        number = omega arith;
+        serial =
+            serial;
+      };
       owner = refl;
       number = refl;
       launch = refl;
@@ -104,19 +136,49 @@ steps r (Refresh run) p revision b low past h serial own =
       begun = inl refl;
     }
 steps r (End to keep failed c) p revision b low past h serial own =
-    record { bounded = record { live = up_to_kept r.last keep r.live b.live; side = tt; last = b.last; number = omega arith; serial = serial }; owner = refl; number = refl; launch = refl; running = refl; begun = inl refl }
+    record {
+      bounded = record {
+        live = up_to_kept r.last keep r.live b.live;
+        side = tt;
+        last = b.last;
+        number = omega arith;
+        serial = serial;
+      };
+      owner = refl;
+      number = refl;
+      launch = refl;
+      running = refl;
+      begun = inl refl;
+    }
 steps r (Note bits keep) p revision b low past h serial own =
-    record { bounded = record { live = up_to_kept r.last keep r.live b.live; side = b.side; last = b.last; number = omega arith; serial = serial }; owner = refl; number = refl; launch = refl; running = refl; begun = inl refl }
+    record {
+      bounded = record {
+        live = up_to_kept r.last keep r.live b.live;
+        side = b.side;
+        last = b.last;
+        number = omega arith;
+        serial = serial;
+      };
+      owner = refl;
+      number = refl;
+      launch = refl;
+      running = refl;
+      begun = inl refl;
+    }
 
-serial_kept : (r after : Row) (number : ℕ) (p : Proposal) → numbered r number p ≡ after → after.serial ≤ greatest → p.serial ≤ greatest
+serial_kept : (r after : Row) (number : ℕ) (p : Proposal) → row_with_numbers r number p ≡ after
+    → after.serial ≤ greatest → p.serial ≤ greatest
 serial_kept r after number p e low = let same : p.serial ≡ after.serial = ap (λ (x : Row). x.serial) e in omega arith
 
-pub step_kept : (r after : Row) (p : Proposal) (revision : ℕ) → IsBounded r → is_other_snapshot r p.step ≡ false → applied r p revision ≡ Ok after → after.serial ≤ greatest → IsStepped r after p
-unfolding applied
+pub step_kept : (r after : Row) (p : Proposal) (revision : ℕ) → IsBounded r → is_other_snapshot r p.step ≡ false
+    → result_of_proposal r p revision ≡ Ok after → after.serial ≤ greatest → IsStepped r after p
+unfolding result_of_proposal
 step_kept r after p revision b own h serial =
-    let taken = accepted (refusal r p.step) (numbered (stepped r p.step revision) (r.number + 1) p) after h in
+    let taken = accepted (refusal r p.step) (row_with_numbers (row_after_step r p.step revision) (r.number + 1) p)
+    after h in
     let reasons = all_reasons _ _ _ _ taken.0 in
     let left = not_exhausted (nat_lt r.number greatest_number) (is_past_last (run_of p.step)) reasons.0 in
     let number : r.number < greatest_number = ltb-true r.number greatest_number left.0 in
-    let low : p.serial ≤ greatest = serial_kept (stepped r p.step revision) after (r.number + 1) p taken.1 serial in
+    let low : p.serial ≤ greatest =
+    serial_kept (row_after_step r p.step revision) after (r.number + 1) p taken.1 serial in
     subst (λ (x : Row). IsStepped r x p) taken.1 (steps r p.step p revision b number left.1 reasons.1 low own)

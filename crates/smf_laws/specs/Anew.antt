@@ -10,16 +10,16 @@ use Rattle.smf_value.specs.Groups.{GroupRecord}
 use Rattle.smf_model.specs.declared.command.Command.{Command}
 use Rattle.smf_model.specs.declared.command.Command.TheVariants as commands
 use Rattle.smf_model.specs.declared.command.Edit.TheVariants as asked_for
-use Rattle.smf_model.specs.declared.command.Reply.{Reply}
-use Rattle.smf_model.specs.declared.command.Reply.TheVariants.{Done, Limit}
+use Rattle.smf_model.specs.declared.command.CommandReply.{CommandReply}
+use Rattle.smf_model.specs.declared.command.CommandReply.TheVariants.{Done, Limit}
 use Rattle.smf_model.specs.declared.held.Instance.{Instance}
 use Rattle.smf_model.specs.declared.held.Launch.{Launch}
 use Rattle.smf_model.specs.declared.held.Owner.{Owner}
-use Rattle.smf_model.specs.Holdings.{Holdings}
+use Rattle.smf_model.specs.Contents.{Holdings}
 use Rattle.smf_model.specs.Laws.{BeginsAnew}
-use Rattle.smf_model.specs.Look.{by_launch, groups_of, instance, owned}
+use Rattle.smf_model.specs.Look.{by_launch, groups_of, instance, groups_if_there}
 use Rattle.smf_model.specs.Next.{greatest, next}
-use Rattle.smf_model.specs.Setting.{is_readable, owner_by, setting}
+use Rattle.smf_model.specs.GeneralGroup.{is_readable, owner_by, setting}
 use Rattle.smf_laws.specs.Effects.{IsSnapped}
 
 -- a row begins anew, with nothing asked and no failure counted
@@ -41,8 +41,8 @@ BeginsOrStays h c n i j =
 
 -- ---- refresh
 
-abbrev pub refreshing : ℕ → Command
-refreshing n = commands.Edit (asked_for.Refresh n)
+abbrev pub refresh_command : ℕ → Command
+refresh_command n = commands.Edit (asked_for.Refresh n)
 
 -- `general/restarter` can be read, and means another than the owner
 pub record IsToMove (i : Instance) (h : Holdings) : Type 0 where
@@ -97,7 +97,7 @@ pub record IsAfterRefresh (i : Instance) (h k : Holdings) : Type 0 where
   pub stays : (IsToMove i h → ⊥) → IsRefreshed i h after
   pub snapped : IsSnapped i h k
   pub others : (m : ℕ) → (m ≡ i.number → ⊥) → instance k m ≡ instance h m
-  pub groups : (owner : Owner) → owned k owner ≡ owned h owner
+  pub groups : (owner : Owner) → groups_if_there k owner ≡ groups_if_there h owner
   pub names : k.names ≡ h.names
   pub launches : k.launches ≡ h.launches
   pub next_instance : k.next_instance ≡ h.next_instance
@@ -112,14 +112,14 @@ pub record MayBoot (h : Holdings) : Type 0 where
   pub revision : h.revision < greatest
 
 -- a boot is done if it may be, and is past a limit if not
-abbrev pub IsBootAnswer : Holdings → Reply → Type 0
+abbrev pub IsBootAnswer : Holdings → CommandReply → Type 0
 IsBootAnswer h r = ((r ≡ Done) × MayBoot h) ⊎ ((r ≡ Limit) × (MayBoot h → ⊥))
 
 abbrev pub once_more : Launch → Launch
 once_more l = record { restarter = l.restarter; count = l.count + 1 }
 
-abbrev pub outlasting : List GroupRecord → List GroupRecord
-outlasting gs = filter (λ g. not g.non_persistent) gs
+abbrev pub persistent_groups : List GroupRecord → List GroupRecord
+persistent_groups gs = filter (λ g. not g.non_persistent) gs
 
 -- i begins anew as j under the restarter that is set then
 pub record BeginsAgain (i : Instance) (k : Holdings) (j : Instance) : Type 0 where
@@ -148,7 +148,7 @@ pub record IsBooted (h k : Holdings) : Type 0 where
   pub anew : (n : ℕ) (i : Instance) → instance h n ≡ Some i
       → (j : Instance) × (instance k n ≡ Some j) × BeginsAgain i k j
   pub no_more : (n : ℕ) → instance h n ≡ None → instance k n ≡ None
-  pub groups : (owner : Owner) → owned k owner ≡ option_map outlasting (owned h owner)
+  pub groups : (owner : Owner) → groups_if_there k owner ≡ option_map persistent_groups (groups_if_there h owner)
   pub names : k.names ≡ h.names
   pub snapshots : k.snapshots ≡ h.snapshots
   pub next_instance : k.next_instance ≡ h.next_instance

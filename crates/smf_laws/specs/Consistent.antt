@@ -1,7 +1,7 @@
 -- The rules that every value keeps which commands make of the empty one, besides those of its numbers.
 use Rattle.std.specs.Prelude.{◌≡◌, ◌≤◌, ◌<◌, ◌+◌, ℕ, List, length, Option, Some, None, IsSome}
 use Rattle.smf_fmri.specs.ByKey.{Rises, lookup}
-use Rattle.smf_fmri.specs.Matching.{IsInstanceName, IsServiceName}
+use Rattle.smf_fmri.specs.Patterns.{IsInstanceName, IsServiceName}
 use Rattle.smf_state.specs.declared.row.Row.{Row}
 use Rattle.smf_state.specs.Rows.{greatest_number, greatest_run}
 use Rattle.smf_value.specs.Groups.{GroupRecord, by_group}
@@ -14,10 +14,10 @@ use Rattle.smf_model.specs.declared.held.InstanceEntry.{InstanceEntry}
 use Rattle.smf_model.specs.declared.held.Launch.{Launch}
 use Rattle.smf_model.specs.declared.held.Service.{Service}
 use Rattle.smf_model.specs.declared.held.Snapshot.{Snapshot}
-use Rattle.smf_model.specs.Holdings.{Holdings}
+use Rattle.smf_model.specs.Contents.{Holdings}
 use Rattle.smf_model.specs.Look.{by_entry, by_launch, instance, launch_of, service, snapshot}
 use Rattle.smf_model.specs.Next.{greatest, greatest_instance, most_groups}
-use Rattle.smf_model.specs.Setting.{service_fmri}
+use Rattle.smf_model.specs.GeneralGroup.{service_fmri}
 
 -- an owner has its groups in the order of their names, and no more than it may have
 pub record AreOwned (gs : List GroupRecord) : Type 0 where

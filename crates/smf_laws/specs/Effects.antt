@@ -4,32 +4,33 @@ use Rattle.smf_value.specs.declared.value.Value.TheVariants.{Boolean}
 use Rattle.smf_value.specs.declared.kind.Kind.TheVariants as kinds
 use Rattle.smf_snap.specs.declared.name.SnapshotName.{SnapshotName}
 use Rattle.smf_snap.specs.declared.name.SnapshotName.TheVariants as snapshots
-use Rattle.smf_snap.specs.Taking.{restored, taken}
+use Rattle.smf_snap.specs.Snapshots.{groups_of_revert, snapshot_groups}
 use Rattle.smf_value.specs.Groups.{GroupRecord, PropertyRecord, property_of}
 use Rattle.smf_model.specs.declared.command.Command.{Command}
 use Rattle.smf_model.specs.declared.command.Command.TheVariants as commands
 use Rattle.smf_model.specs.declared.command.Edit.TheVariants as asked_for
-use Rattle.smf_model.specs.declared.command.Reply.{Reply}
-use Rattle.smf_model.specs.declared.command.Reply.TheVariants.{NoSuch}
+use Rattle.smf_model.specs.declared.command.CommandReply.{CommandReply}
+use Rattle.smf_model.specs.declared.command.CommandReply.TheVariants.{NoSuch}
 use Rattle.smf_model.specs.declared.held.Instance.{Instance}
 use Rattle.smf_model.specs.declared.held.Owner.{Owner}
 use Rattle.smf_model.specs.declared.held.Owner.TheVariants as owners
 use Rattle.smf_model.specs.declared.held.Snapshot.{Snapshot}
-use Rattle.smf_model.specs.Holdings.{Holdings}
-use Rattle.smf_model.specs.Look.{group, groups_of, instance, instances, owned, snapshot}
-use Rattle.smf_model.specs.Setting.{current, enabled, enabled_name, framework, general, general_ovr, property_in, service_owner}
+use Rattle.smf_model.specs.Contents.{Holdings}
+use Rattle.smf_model.specs.Look.{group, groups_of, instance, instances, groups_if_there, snapshot}
+use Rattle.smf_model.specs.GeneralGroup.{current, is_instance_enabled, enabled_name, framework, general, general_ovr, property_in, service_owner}
 
 -- ---- enable and disable
 
-abbrev pub enabling : ℕ → Bool → Bool → Command
-enabling n b temporary = commands.Edit (asked_for.Enable n b temporary)
+abbrev pub enable_command : ℕ → Bool → Bool → Command
+enable_command n b temporary = commands.Edit (asked_for.Enable n b temporary)
 
--- `enabled`, as one boolean
+-- `is_instance_enabled`, as one boolean
 abbrev pub enabled_as : Bool → PropertyRecord
 enabled_as b = record { name = enabled_name; kind = kinds.Boolean; values = Boolean b ∷ [] }
 
 -- a group that was there, or a new one, says so, and has no other property than before
-pub record SaysEnabled (name : List ℕ) (non_persistent b : Bool) (before : Option GroupRecord) (g : GroupRecord) : Type 0 where
+pub record SaysEnabled (name : List ℕ) (non_persistent b : Bool) (before : Option GroupRecord)
+    (g : GroupRecord) : Type 0 where
   pub named : g.name ≡ name
   pub says : property_of enabled_name g ≡ Some (enabled_as b)
   pub others : (p : List ℕ) → (p ≡ enabled_name → ⊥) → property_of p g ≡ property_in before p
@@ -41,11 +42,11 @@ pub record SaysEnabled (name : List ℕ) (non_persistent b : Bool) (before : Opt
 pub record ChangesGroupsOf (n : ℕ) (h k : Holdings) : Type 0 where
   pub is_there : (i : Instance) × (instance h n ≡ Some i)
   pub rows : instances k ≡ instances h
-  pub groups : (owner : Owner) → (owner ≡ owners.Instance n → ⊥) → owned k owner ≡ owned h owner
+  pub groups : (owner : Owner) → (owner ≡ owners.Instance n → ⊥) → groups_if_there k owner ≡ groups_if_there h owner
   pub rest : k ≡ record h { instances = k.instances; revision = h.revision + 1 }
 
 abbrev pub IsEnabledAs : Bool → ℕ → Holdings → Type 0
-IsEnabledAs b n k = (i : Instance) → instance k n ≡ Some i → enabled (groups_of k) i ≡ b
+IsEnabledAs b n k = (i : Instance) → instance k n ≡ Some i → is_instance_enabled (groups_of k) i ≡ b
 
 -- `general` of the instance says so, and no `general_ovr` says otherwise
 pub record IsEnabledForGood (h k : Holdings) (n : ℕ) (b : Bool) : Type 0 where
@@ -75,20 +76,20 @@ pub record IsSnapped (i : Instance) (h k : Holdings) : Type 0 where
       (record {
         number = h.next_snapshot;
         instance = i.number;
-        service_groups = taken (groups_of h (service_owner i));
-        instance_groups = taken (groups_of h (owners.Instance i.number));
+        service_groups = snapshot_groups (groups_of h (service_owner i));
+        instance_groups = snapshot_groups (groups_of h (owners.Instance i.number));
       })
   pub others : (m : ℕ) → (m ≡ h.next_snapshot → ⊥) → snapshot k m ≡ snapshot h m
   pub counted : k.next_snapshot ≡ h.next_snapshot + 1
 
 -- ---- revert
 
-abbrev pub reverting : ℕ → SnapshotName → Command
-reverting n name = commands.Edit (asked_for.Revert n name)
+abbrev pub revert_command : ℕ → SnapshotName → Command
+revert_command n name = commands.Edit (asked_for.Revert n name)
 
 -- the instance of a number, as it is read
-abbrev pub seen : Holdings → ℕ → Option Instance
-seen h n = option_map (current (groups_of h)) (instance h n)
+abbrev pub instance_as_read : Holdings → ℕ → Option Instance
+instance_as_read h n = option_map (current (groups_of h)) (instance h n)
 
 -- the number that a name of a snapshot stands for
 abbrev pub stands_for : SnapshotName → Instance → Option ℕ
@@ -105,8 +106,8 @@ meant_by h name None = None
 meant_by h name (Some i) = snapshot_at h (stands_for name i)
 
 -- the snapshot that a name means, if the instance is there and has it
-abbrev pub meant : Holdings → ℕ → SnapshotName → Option Snapshot
-meant h n name = meant_by h name (seen h n)
+abbrev pub snapshot_of_name : Holdings → ℕ → SnapshotName → Option Snapshot
+snapshot_of_name h n name = meant_by h name (instance_as_read h n)
 
 -- an instance is what it was, or its row has number 0 and shows the owner that is read now
 abbrev pub IsAsRead : Holdings → Option Instance → Option Instance → Type 0
@@ -117,11 +118,11 @@ IsAsRead k before after =
 -- both owners have the groups of the snapshot again, and `previous` is what they had before
 pub record IsReverted (i : Instance) (s : Snapshot) (h k : Holdings) : Type 0 where
   pub own : groups_of k (owners.Instance i.number)
-      ≡ restored (groups_of h (owners.Instance i.number)) s.instance_groups
-  pub services_own : owned k (service_owner i)
-      ≡ option_map (λ gs. restored gs s.service_groups) (owned h (service_owner i))
+      ≡ groups_of_revert (groups_of h (owners.Instance i.number)) s.instance_groups
+  pub services_own : groups_if_there k (service_owner i)
+      ≡ option_map (λ gs. groups_of_revert gs s.service_groups) (groups_if_there h (service_owner i))
   pub other_groups : (owner : Owner) → (owner ≡ owners.Instance i.number → ⊥) → (owner ≡ service_owner i → ⊥)
-      → owned k owner ≡ owned h owner
+      → groups_if_there k owner ≡ groups_if_there h owner
   pub previous : instance k i.number ≡ Some (current (groups_of k) (record i { previous = Some h.next_snapshot }))
   pub snapped : IsSnapped i h k
   pub others : (m : ℕ) → (m ≡ i.number → ⊥) → IsAsRead k (instance h m) (instance k m)
@@ -131,9 +132,9 @@ pub record IsReverted (i : Instance) (s : Snapshot) (h k : Holdings) : Type 0 wh
   pub revision : k.revision ≡ h.revision + 1
 
 -- the revert is refused as one of nothing exactly if the instance or its snapshot is not there
-pub record IsOfNothing (n : ℕ) (name : SnapshotName) (h : Holdings) (r : Reply) : Type 0 where
-  pub told : r ≡ NoSuch → meant h n name ≡ None
-  pub only : meant h n name ≡ None → r ≡ NoSuch
+pub record IsOfNothing (n : ℕ) (name : SnapshotName) (h : Holdings) (r : CommandReply) : Type 0 where
+  pub told : r ≡ NoSuch → snapshot_of_name h n name ≡ None
+  pub only : snapshot_of_name h n name ≡ None → r ≡ NoSuch
 
 -- ---- owners
 

@@ -1,6 +1,6 @@
 pub mod Consistent
 pub mod Effects
 pub mod Anew
-pub mod Adding
-pub mod Refusing
-pub mod Noting
+pub mod Additions
+pub mod Refusals
+pub mod SingleChanges

@@ -1,23 +1,23 @@
 ghost use Rattle.std.specs.Prelude.{◌≡◌, ℕ, Bool, List, true, false, None, Some};
-ghost use Rattle.smf_laws.specs.Adding.{IsInstanceAdded, IsInstanceDeleted, IsOfService, IsServiceAdded, IsServiceDeleted};
-ghost use Rattle.smf_laws.specs.Adding.{adding_instance, adding_service, deleting_instance, deleting_service, full_name};
-ghost use Rattle.smf_laws.specs.Anew.{BeginsOrStays, IsAfterRefresh, IsBootAnswer, IsBooted, IsIdle, IsToMove, refreshing};
+ghost use Rattle.smf_laws.specs.Additions.{IsInstanceAdded, IsInstanceDeleted, IsOfService, IsServiceAdded, IsServiceDeleted};
+ghost use Rattle.smf_laws.specs.Additions.{adding_instance, adding_service, deleting_instance, deleting_service, full_name};
+ghost use Rattle.smf_laws.specs.Anew.{BeginsOrStays, IsAfterRefresh, IsBootAnswer, IsBooted, IsIdle, IsToMove, refresh_command};
 ghost use Rattle.smf_laws.specs.Effects.{IsEnabledForGood, IsEnabledForNow, IsOfNothing, IsReverted};
-ghost use Rattle.smf_laws.specs.Effects.{AreWritten, enabling, meant, reverting, seen};
-ghost use Rattle.smf_laws.specs.Noting.{IsGroupAdded, IsGroupChanged, IsGroupDeleted, IsLaunchAnswer, IsLaunched, IsNoted};
-ghost use Rattle.smf_laws.specs.Noting.{adding_group, changing_group, clear_bit, clearing, deleting_group, has_effect};
-ghost use Rattle.smf_laws.specs.Noting.{mark_bit, marking, restart_bit, restarting, without_properties};
-ghost use Rattle.smf_laws.specs.Refusing.{IsAnswered, IsJudged};
+ghost use Rattle.smf_laws.specs.Effects.{AreWritten, enable_command, snapshot_of_name, revert_command, instance_as_read};
+ghost use Rattle.smf_laws.specs.SingleChanges.{IsGroupAdded, IsGroupChanged, IsGroupDeleted, IsLaunchAnswer, IsLaunched, IsNoted};
+ghost use Rattle.smf_laws.specs.SingleChanges.{adding_group, changing_group, clear_bit, clear_command, deleting_group, has_effect};
+ghost use Rattle.smf_laws.specs.SingleChanges.{mark_bit, mark_command, restart_bit, restart_command, without_properties};
+ghost use Rattle.smf_laws.specs.Refusals.{IsAnswered, IsJudged};
 ghost use Rattle.smf_model.specs.declared.command.Command.{Command};
 ghost use Rattle.smf_model.specs.declared.command.Command.TheVariants as commands;
 ghost use Rattle.smf_model.specs.declared.command.Edit.{Edit};
 ghost use Rattle.smf_model.specs.declared.command.Mark.{Mark};
 ghost use Rattle.smf_model.specs.declared.command.PropertyChange.{PropertyChange};
-ghost use Rattle.smf_model.specs.declared.command.Reply.TheVariants.{Done, InUse, Made, Stale};
+ghost use Rattle.smf_model.specs.declared.command.CommandReply.TheVariants.{Done, InUse, Made, Stale};
 ghost use Rattle.smf_model.specs.declared.held.Instance.{Instance};
 ghost use Rattle.smf_model.specs.declared.held.Owner.{Owner};
 ghost use Rattle.smf_model.specs.declared.held.Snapshot.{Snapshot};
-ghost use Rattle.smf_model.specs.Holdings.{Holdings};
+ghost use Rattle.smf_model.specs.Contents.{Holdings};
 ghost use Rattle.smf_model.specs.Laws.{IsNumbered};
 ghost use Rattle.smf_model.specs.Look.{empty};
 ghost use Rattle.smf_model.specs.Next.{next};
@@ -28,31 +28,34 @@ ghost use Rattle.smf_snap.specs.declared.name.SnapshotName.{SnapshotName};
 
 /// An instance that was enabled or disabled is so, for good or until the next boot, and nothing else is changed.
 pub fn enabling_is_exact()
-    ensures for_good { (h : Holdings) (n : ℕ) (b : Bool) → (next h (enabling n b false)).1 ≡ Done
-        → IsEnabledForGood h (next h (enabling n b false)).0 n b }
-    ensures for_now { (h : Holdings) (n : ℕ) (b : Bool) → (next h (enabling n b true)).1 ≡ Done
-        → IsEnabledForNow h (next h (enabling n b true)).0 n b }
+    ensures for_good { (h : Holdings) (n : ℕ) (b : Bool) → (next h (enable_command n b false)).1 ≡ Done
+        → IsEnabledForGood h (next h (enable_command n b false)).0 n b }
+    ensures for_now { (h : Holdings) (n : ℕ) (b : Bool) → (next h (enable_command n b true)).1 ≡ Done
+        → IsEnabledForNow h (next h (enable_command n b true)).0 n b }
 {}
 
 /// A revert gives both owners the groups of the snapshot, and `previous` is what they had before.
 pub fn reverting_brings_back()
     ensures back { (h : Holdings) (n : ℕ) (name : SnapshotName) (i : Instance) (s : Snapshot)
-        → IsNumbered h → seen h n ≡ Some i → meant h n name ≡ Some s → (next h (reverting n name)).1 ≡ Done
-        → IsReverted i s h (next h (reverting n name)).0 }
-    ensures nothing { (h : Holdings) (n : ℕ) (name : SnapshotName) → IsOfNothing n name h (next h (reverting n name)).1 }
+        → IsNumbered h → instance_as_read h n ≡ Some i → snapshot_of_name h n name ≡ Some s → (next h (revert_command n name)).1 ≡ Done
+        → IsReverted i s h (next h (revert_command n name)).0 }
+    ensures nothing { (h : Holdings) (n : ℕ) (name : SnapshotName)
+        → IsOfNothing n name h (next h (revert_command n name)).1 }
 {}
 
 /// A refresh takes the snapshot `running`. It moves an instance for which another restarter is set, if it is idle.
 pub fn refreshing_moves_what_is_idle()
-    ensures done { (h : Holdings) (n : ℕ) (i : Instance) → IsNumbered h → seen h n ≡ Some i
-        → (next h (refreshing n)).1 ≡ Done → IsAfterRefresh i h (next h (refreshing n)).0 }
-    ensures in_use { (h : Holdings) (n : ℕ) (i : Instance) → seen h n ≡ Some i → IsToMove i h → (IsIdle i.row → ⊥)
-        → (next h (refreshing n)).1 ≡ InUse }
+    ensures done { (h : Holdings) (n : ℕ) (i : Instance) → IsNumbered h → instance_as_read h n ≡ Some i
+        → (next h (refresh_command n)).1 ≡ Done → IsAfterRefresh i h (next h (refresh_command n)).0 }
+    ensures in_use { (h : Holdings) (n : ℕ) (i : Instance) → instance_as_read h n ≡ Some i → IsToMove i h
+        → (IsIdle i.row → ⊥)
+        → (next h (refresh_command n)).1 ≡ InUse }
 {}
 
 /// A boot launches each restarter once more and lets each instance begin anew. Groups that do not outlast it are gone.
 pub fn booting_begins_anew()
-    ensures done { (h : Holdings) → IsNumbered h → (next h commands.Boot).1 ≡ Done → IsBooted h (next h commands.Boot).0 }
+    ensures done { (h : Holdings) → IsNumbered h → (next h commands.Boot).1 ≡ Done
+        → IsBooted h (next h commands.Boot).0 }
     ensures answer { (h : Holdings) → IsNumbered h → IsBootAnswer h (next h commands.Boot).1 }
 {}
 
@@ -65,7 +68,8 @@ pub fn rows_count_or_begin_anew()
 pub fn what_is_added_is_found()
     ensures service { (h : Holdings) (name : List ℕ) → (next h (adding_service name)).1 ≡ Done
         → IsServiceAdded name h (next h (adding_service name)).0 }
-    ensures instance { (h : Holdings) (service name : List ℕ) (n : ℕ) → (next h (adding_instance service name)).1 ≡ Made n
+    ensures instance { (h : Holdings) (service name : List ℕ) (n : ℕ)
+        → (next h (adding_instance service name)).1 ≡ Made n
         → IsOfService h service × IsInstanceAdded (full_name service name) n h (next h (adding_instance service name)).0 }
 {}
 
@@ -73,19 +77,22 @@ pub fn what_is_added_is_found()
 pub fn what_is_deleted_is_gone()
     ensures service { (h : Holdings) (name : List ℕ) → (next h (deleting_service name)).1 ≡ Done
         → IsServiceDeleted name h (next h (deleting_service name)).0 }
-    ensures instance { (h : Holdings) (n : ℕ) (i : Instance) → seen h n ≡ Some i → (next h (deleting_instance n)).1 ≡ Done
+    ensures instance { (h : Holdings) (n : ℕ) (i : Instance) → instance_as_read h n ≡ Some i
+        → (next h (deleting_instance n)).1 ≡ Done
         → IsInstanceDeleted n i h (next h (deleting_instance n)).0 }
 {}
 
 /// A restart, a clear and a mark are noted among the asks of the instance, if they have an effect, and change no more.
 pub fn asks_are_noted()
-    ensures restart { (h : Holdings) (n : ℕ) (i : Instance) → seen h n ≡ Some i → (next h (restarting n)).1 ≡ Done
-        → IsNoted (runs i.row.state) restart_bit i h (next h (restarting n)).0 }
-    ensures clear { (h : Holdings) (n : ℕ) (i : Instance) → seen h n ≡ Some i → (next h (clearing n)).1 ≡ Done
-        → IsNoted true clear_bit i h (next h (clearing n)).0 }
-    ensures mark { (h : Holdings) (n : ℕ) (mark : Mark) (i : Instance) → seen h n ≡ Some i
-        → (next h (marking n mark)).1 ≡ Done
-        → IsNoted (has_effect mark i.row) (mark_bit mark) i h (next h (marking n mark)).0 }
+    ensures restart { (h : Holdings) (n : ℕ) (i : Instance) → instance_as_read h n ≡ Some i
+        → (next h (restart_command n)).1 ≡ Done
+        → IsNoted (runs i.row.state) restart_bit i h (next h (restart_command n)).0 }
+    ensures clear { (h : Holdings) (n : ℕ) (i : Instance) → instance_as_read h n ≡ Some i
+        → (next h (clear_command n)).1 ≡ Done
+        → IsNoted true clear_bit i h (next h (clear_command n)).0 }
+    ensures mark { (h : Holdings) (n : ℕ) (mark : Mark) (i : Instance) → instance_as_read h n ≡ Some i
+        → (next h (mark_command n mark)).1 ≡ Done
+        → IsNoted (has_effect mark i.row) (mark_bit mark) i h (next h (mark_command n mark)).0 }
 {}
 
 /// A launch gets the number after the last one of its restarter, and changes no other.
@@ -109,9 +116,9 @@ pub fn groups_are_edited_alone()
 
 /// A proposal is refused for the first reason that holds, and granted if none does.
 pub fn proposals_are_judged_in_order()
-    ensures no_such { (h : Holdings) (p : Proposal) → seen h p.instance ≡ None
+    ensures no_such { (h : Holdings) (p : Proposal) → instance_as_read h p.instance ≡ None
         → (next h (commands.Propose p)).1 ≡ Stale whys.NoSuch None }
-    ensures order { (h : Holdings) (p : Proposal) (i : Instance) → seen h p.instance ≡ Some i
+    ensures order { (h : Holdings) (p : Proposal) (i : Instance) → instance_as_read h p.instance ≡ Some i
         → IsJudged h p i.row (next h (commands.Propose p)).1 }
 {}
 

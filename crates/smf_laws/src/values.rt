@@ -1,8 +1,8 @@
 ghost use Rattle.std.specs.List.{AllByRecursion};
 ghost use Rattle.std.specs.Prelude.{List};
 ghost use Rattle.smf_model.specs.declared.command.Command.{Command as AnyCommand};
-ghost use Rattle.smf_model.specs.History.{made};
-ghost use Rattle.smf_model.specs.Holdings.{Holdings};
+ghost use Rattle.smf_model.specs.History.{holdings_after_commands};
+ghost use Rattle.smf_model.specs.Contents.{Holdings};
 ghost use Rattle.smf_model.specs.Laws.{IsNumbered};
 ghost use Rattle.smf_model.specs.Look.{empty};
 ghost use Rattle.smf_model.specs.Next.{next};
@@ -13,5 +13,6 @@ pub fn values_stay_consistent()
     ensures first { IsConsistent empty }
     ensures kept { (h : Holdings) (c : AnyCommand) → IsNumbered h → IsConsistent h → IsNamedCommand c
         → IsConsistent (next h c).0 }
-    ensures made { (cs : List AnyCommand) → AllByRecursion IsNamedCommand cs → IsConsistent (made empty cs) }
+    ensures made { (cs : List AnyCommand) → AllByRecursion IsNamedCommand cs
+        → IsConsistent (holdings_after_commands empty cs) }
 {}

@@ -2,7 +2,7 @@
 use Rattle.std.proofs.Common.{◌≡◌, ◌≤◌, ◌<◌, ℕ, zero, suc, ◌+◌, List, [], ◌∷◌, ◌++◌, length, take, refl, sym, ap, ◌∙◌, arith, ne_eqb, min}
 use Rattle.std.proofs.Math.Seq.{take-append-add}
 use Rattle.std.proofs.lemmas.List.{take_min}
-use Rattle.smf_lines.specs.Reading.{IsPlain, add_front, kept, lines_of}
+use Rattle.smf_lines.specs.Lines.{IsPlain, add_front, front_of_line, lines_of}
 
 -- a line and its end
 pub line_first : (bs rest : List ℕ) → IsPlain bs → lines_of (bs ++ 10 ∷ rest) ≡ bs ∷ lines_of rest
@@ -15,7 +15,8 @@ pub line_last : (bs : List ℕ) → IsPlain bs → 0 < length bs → lines_of bs
 unfolding lines_of
 line_last [] p some = absurd (omega arith)
 line_last (b ∷ []) p some = rw (ne_eqb b 10 p.0) refl
-line_last (b ∷ c ∷ cs) p some = let more : lines_of (c ∷ cs) ≡ (c ∷ cs) ∷ [] = line_last (c ∷ cs) p.1 (omega arith) in rw (ne_eqb b 10 p.0, more) refl
+line_last (b ∷ c ∷ cs) p some = let more : lines_of (c ∷ cs) ≡ (c ∷ cs) ∷ [] = line_last (c ∷ cs) p.1 (omega arith) in
+    rw (ne_eqb b 10 p.0, more) refl
 
 pub plain_both : (xs ys : List ℕ) → IsPlain xs → IsPlain ys → IsPlain (xs ++ ys)
 plain_both [] ys p q = q
@@ -34,7 +35,8 @@ added b (l ∷ ls) = refl
 pub first_long : (bs rest : List ℕ) → IsPlain bs → length bs ≤ first_length (lines_of (bs ++ rest))
 unfolding lines_of
 first_long [] rest p = omega arith
-first_long (b ∷ bs) rest p = let more : length bs ≤ first_length (lines_of (bs ++ rest)) = first_long bs rest p.1 in rw (ne_eqb b 10 p.0, added) (omega arith)
+first_long (b ∷ bs) rest p = let more : length bs ≤ first_length (lines_of (bs ++ rest)) = first_long bs rest p.1 in
+    rw (ne_eqb b 10 p.0, added) (omega arith)
 
 take_again : (n : ℕ) (xs ys : List ℕ) → take n (take n xs ++ ys) ≡ take n (xs ++ ys)
 take_again zero xs ys = refl
@@ -42,11 +44,13 @@ take_again (suc n) [] ys = refl
 take_again (suc n) (x ∷ xs) ys = ap (λ l. x ∷ l) (take_again n xs ys)
 
 -- the kept part of a line goes on as the line does
-pub kept_more : (xs ys : List ℕ) → kept (kept xs ++ ys) ≡ kept (xs ++ ys)
+pub kept_more : (xs ys : List ℕ) → front_of_line (front_of_line xs ++ ys) ≡ front_of_line (xs ++ ys)
 kept_more xs ys = take_again 65537 xs ys
 
 -- the bytes that there is room for are kept
-pub kept_front : (old bytes : List ℕ) (n room : ℕ) → length old + room ≡ 65537 → n ≡ min (length bytes) room → old ++ take n bytes ≡ kept (old ++ bytes)
+pub kept_front : (old bytes : List ℕ) (n room : ℕ) → length old + room ≡ 65537 → n ≡ min (length bytes) room
+    → old ++ take n bytes ≡ front_of_line (old ++ bytes)
 kept_front old bytes n room whole is =
     let most : n ≡ min room (length bytes) = omega arith in
-    ap (λ k. old ++ take k bytes) most ∙ ap (λ l. old ++ l) (take_min room bytes) ∙ sym (take-append-add old bytes room) ∙ ap (λ k. take k (old ++ bytes)) whole
+    ap (λ k. old ++ take k bytes) most ∙ ap (λ l. old ++ l) (take_min room bytes)
+    ∙ sym (take-append-add old bytes room) ∙ ap (λ k. take k (old ++ bytes)) whole

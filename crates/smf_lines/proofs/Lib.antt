@@ -1,6 +1,6 @@
 pub mod Ended
-pub mod Counting
-pub mod Looking
+pub mod Counts
+pub mod Parts
 pub mod Partly
 pub mod Heard
 pub mod Texts

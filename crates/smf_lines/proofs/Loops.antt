@@ -10,12 +10,14 @@ pub at_known : (known : Option (List ℕ)) (xs : List ℕ) (P : List ℕ → Typ
 at_known None xs P e h = cc
 at_known (Some ys) xs P e h = let same : ys ≡ xs = cc in subst P same h
 
-pub of_known : (known : Option (List ℕ)) (P : List ℕ → Type 0) → ((xs : List ℕ) → known ≡ Some xs → P xs) → IfSome known P
+pub of_known : (known : Option (List ℕ)) (P : List ℕ → Type 0) → ((xs : List ℕ) → known ≡ Some xs → P xs)
+    → IfSome known P
 of_known None P f = tt
 of_known (Some xs) P f = f xs refl
 
 -- after some lines were read, too many are still more than there were at first
-pub past_behind : (fault : ReadFault) (most turns before next all : ℕ) → most ≡ turns + before → all ≡ before + next → IsPast fault turns next → IsPast fault most all
+pub past_behind : (fault : ReadFault) (most turns before next all : ℕ) → most ≡ turns + before → all ≡ before + next
+    → IsPast fault turns next → IsPast fault most all
 past_behind Memory most turns before next all e a p = tt
 past_behind (Input f) most turns before next all e a p = tt
 past_behind (TooManyLines n) most turns before next all e a p = omega arith

@@ -1,7 +1,7 @@
 -- The lines that are texts.
 use Rattle.std.proofs.Common.{◌≡◌, ◌≤◌, ◌<◌, false, true, refl, List, ℕ, length, le-ltb, lt-ltb, nat_lt, Some, None}
 use Rattle.std.specs.Str.{is_utf8}
-use Rattle.smf_lines.specs.Reading.{is_too_long, text_in}
+use Rattle.smf_lines.specs.Lines.{is_too_long, text_in}
 
 pub text_short : (line : List ℕ) → length line ≤ 65536 → is_utf8 line ≡ true → Some line ≡ text_in line
 unfolding text_in

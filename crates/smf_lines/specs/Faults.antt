@@ -5,16 +5,16 @@ use Rattle.std_io.specs.declared.io.error.Error.{Error}
 use Rattle.std_io.specs.declared.io.kind.ErrorKind.TheVariants as kinds
 use Rattle.smf_lines.specs.declared.fault.ReadFault.{ReadFault}
 use Rattle.smf_lines.specs.declared.fault.ReadFault.TheVariants.{Memory, Input, TooManyLines}
-use Rattle.smf_lines.specs.declared.reading.Part.{Part}
-use Rattle.smf_lines.specs.declared.reading.Part.TheVariants.{Interrupted, End, Line, Bytes}
+use Rattle.smf_lines.specs.declared.lines.Part.{Part}
+use Rattle.smf_lines.specs.declared.lines.Part.TheVariants.{Interrupted, End, Line, Bytes}
 
 -- ---- too many lines
 
 -- too many is more than there may be: lines and interrupted reads together
 abbrev pub IsPast : ReadFault → ℕ → ℕ → Type 0
-IsPast (TooManyLines interrupted) most counted = most < counted + interrupted
-IsPast Memory most counted = Unit {0}
-IsPast (Input fault) most counted = Unit {0}
+IsPast (TooManyLines interrupted) most count_after = most < count_after + interrupted
+IsPast Memory most count_after = Unit {0}
+IsPast (Input fault) most count_after = Unit {0}
 
 -- a fault of another kind
 abbrev pub IsOther : ReadFault → Type 0
@@ -25,8 +25,8 @@ IsOther (Input fault) = Unit {0}
 -- ---- interrupted reads
 
 -- so many more; a count stays at 2^64 - 1
-abbrev pub counted : ℕ → ℕ → ℕ
-counted before n = max before (min (before + n) (2 ^ 64 - 1))
+abbrev pub count_after : ℕ → ℕ → ℕ
+count_after before n = max before (min (before + n) (2 ^ 64 - 1))
 
 -- how many reads of a look were interrupted
 abbrev pub interrupted_by : Part → ℕ
@@ -41,7 +41,7 @@ interrupted_in (Err e) = 0
 
 -- as many as the fault says were interrupted, if it is of too many lines
 abbrev pub Tells : ReadFault → ℕ → ℕ → Type 0
-Tells (TooManyLines interrupted) before after = after ≡ counted before interrupted
+Tells (TooManyLines interrupted) before after = after ≡ count_after before interrupted
 Tells Memory before after = Unit {0}
 Tells (Input fault) before after = Unit {0}
 

@@ -1,10 +1,10 @@
-ghost use Rattle.std.specs.Prelude.{◌≡◌, ℕ, List, Option, Some, None, Bool, false, ◌≤◌, drop, length, IfErr, IfOk};
+ghost use Rattle.std.specs.Prelude.{◌≡◌, ℕ, List, Option, Some, Bool, false, ◌≤◌, drop, length, IfErr, IfOk};
 ghost use Rattle.std_io.specs.declared.io.error.Error.{Error};
-ghost use Rattle.smf_lines.specs.Faults.{IsOther, IsUnread, counted, failed_in, interrupted_in};
-ghost use Rattle.smf_lines.specs.Reading.{IsTaken, held_by};
+ghost use Rattle.smf_lines.specs.Faults.{IsOther, IsUnread, count_after, failed_in, interrupted_in};
+ghost use Rattle.smf_lines.specs.Lines.{IsTaken, held_by};
 
 use crate::fault::ReadFault;
-use crate::reading::{Part, keep, part_of};
+use crate::lines::{Part, keep, part_of};
 use std::io::{BufRead, ErrorKind};
 
 /// A source of lines, and the known facts of its reads.
@@ -27,8 +27,9 @@ pub trait LineReader {
         requires { length line.old.items ≤ 65537 }
         ensures short { length line.new.items ≤ 65537 }
         ensures within { IfOk result (λ part. held_by part ≤ room) }
-        ensures exact { IfOk result (λ part. IsTaken part room (remaining self.old) (remaining self.new) line.old.items line.new.items) }
-        ensures interrupted { interrupted self.new ≡ counted (interrupted self.old) (interrupted_in result) }
+        ensures exact { IfOk result
+            (λ part. IsTaken part room (remaining self.old) (remaining self.new) line.old.items line.new.items) }
+        ensures interrupted { interrupted self.new ≡ count_after (interrupted self.old) (interrupted_in result) }
         ensures failed { has_failed self.new ≡ failed_in result (has_failed self.old) }
         ensures err { IfErr result (λ e. IsOther e) }
         ensures fault { IfErr result (λ e. IsUnread read_fails e) };
@@ -55,8 +56,8 @@ impl LineReader for &[u8] {
     fn take_part(&mut self, room: usize, line: &mut Vec<u8>) -> Result<Part, ReadFault> {
         let shown: &[u8] = *self;
         let part = part_of(shown, room);
-        keep(line, &shown[..part.held()])?;
-        *self = behind(shown, part.taken());
+        keep(line, &shown[..part.bytes_of_line()])?;
+        *self = behind(shown, part.bytes_with_end());
         Ok(part)
     }
 }
@@ -66,7 +67,8 @@ fn take_from<R: BufRead>(reader: &mut R, room: usize, line: &mut Vec<u8>) -> Res
     requires { length line.old.items ≤ 65537 }
     ensures short { length line.new.items ≤ 65537 }
     ensures within { IfOk result (λ part. held_by part ≤ room) }
-    ensures exact { IfOk result (λ part. IsTaken part room (R.remaining reader.old) (R.remaining reader.new) line.old.items line.new.items) }
+    ensures exact { IfOk result
+        (λ part. IsTaken part room (R.remaining reader.old) (R.remaining reader.new) line.old.items line.new.items) }
     ensures err { IfErr result (λ e. IsOther e) }
     ensures fault { IfErr result (λ e. IsUnread (λ _. Unit {0}) e) }
 {
@@ -81,8 +83,8 @@ fn take_from<R: BufRead>(reader: &mut R, room: usize, line: &mut Vec<u8>) -> Res
         }
     };
     let part = part_of(shown, room);
-    keep(line, &shown[..part.held()])?;
-    reader.consume(part.taken());
+    keep(line, &shown[..part.bytes_of_line()])?;
+    reader.consume(part.bytes_with_end());
     Ok(part)
 }
 

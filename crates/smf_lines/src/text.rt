@@ -1,10 +1,8 @@
 ghost use Rattle.std.specs.Prelude.{◌≡◌, option_map};
-ghost use Rattle.smf_lines.specs.Reading.{text_in};
+ghost use Rattle.smf_lines.specs.Lines.{text_in};
 
+use crate::limits::MAX_LINE;
 use std::str;
-
-/// The most bytes of a line.
-pub(crate) const MAX_LINE: usize = 65_536;
 
 /// The text of a line, which stands without its end; none if it is too long or is no UTF-8.
 pub fn text_in(line: &[u8]) -> Option<&str>

@@ -1,13 +1,10 @@
 ghost use Rattle.std.specs.Prelude.{◌≡◌, ◌+◌, ◌*◌, ◌≤◌, IfErr, OnOk};
 ghost use Rattle.smf_lines.specs.declared.fault.ReadFault.TheVariants.{TooManyLines};
-ghost use Rattle.smf_lines.specs.Reading.{count_if_begun, count_of_length};
+ghost use Rattle.smf_lines.specs.Lines.{count_if_begun, count_of_length};
 ghost use Rattle.smf_lines.specs.Faults.{IsPast};
 
 use crate::fault::ReadFault;
-use crate::text::MAX_LINE;
-
-/// The most lines that are read.
-const MAX_LINES: u32 = 1_000_000;
+use crate::limits::{MAX_LINE, MAX_LINES};
 
 /// How many lines may still be read, and how many reads were interrupted.
 #[derive(Drop)]

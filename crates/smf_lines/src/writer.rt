@@ -1,4 +1,4 @@
-ghost use Rattle.std.specs.Prelude.{◌≡◌, ℕ, List, Option, IfErr, OnOk};
+ghost use Rattle.std.specs.Prelude.{ℕ, List, Option, IfErr, OnOk};
 ghost use Rattle.std.specs.Io.KnownBytes.{Appends};
 ghost use Rattle.std_io.specs.declared.io.error.Error.{Error};
 

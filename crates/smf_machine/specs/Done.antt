@@ -1,6 +1,6 @@
 -- That an event happened.
 use Rattle.std.specs.Prelude.{◌≡◌, ℕ, List, Bool, false, not, Option, Some, None}
-use Rattle.smf_model.specs.declared.command.Reply.{Reply}
+use Rattle.smf_model.specs.declared.command.CommandReply.{CommandReply}
 use Rattle.smf_restarter.specs.Knowledge.{Knowledge}
 use Rattle.smf_restarter.specs.Ticks.{is_up}
 use Rattle.smf_wire.specs.declared.message.Message.{Message}
@@ -9,13 +9,13 @@ use Rattle.smf_wire.specs.declared.message.ViewChanges.{ViewChanges}
 use Rattle.smf_world.specs.declared.event.Event.{Event}
 use Rattle.smf_world.specs.declared.event.Event.TheVariants as events
 use Rattle.smf_world.specs.Happens.{happens}
-use Rattle.smf_world.specs.Worked.{sent_at, worked}
+use Rattle.smf_world.specs.Worked.{sent_at, work_of_event}
 use Rattle.smf_world.specs.World.{World}
 
 -- an event happened; if it is a command, it had this reply
-pub record IsDone (before : World) (event : Event) (after : World) (reply : List Reply) : Type 0 where
+pub record IsDone (before : World) (event : Event) (after : World) (reply : List CommandReply) : Type 0 where
   pub made : after ≡ happens before event
-  pub said : reply ≡ (worked before event).reply
+  pub said : reply ≡ (work_of_event before event).reply
 
 -- the changes that a message is
 abbrev pub changes_in : Option Message → Option ViewChanges

@@ -1,12 +1,12 @@
 -- With which faults an event may end.
 use Rattle.std.specs.Prelude.{◌≡◌, ◌⊎◌, ◌<◌, List, length}
 use Rattle.smf_model.specs.declared.change.Change.{Change}
-use Rattle.smf_model.specs.declared.command.Reply.TheVariants as replies
+use Rattle.smf_model.specs.declared.command.CommandReply.TheVariants as replies
 use Rattle.smf_model.specs.declared.command.Command.TheVariants as commands
 use Rattle.smf_model.specs.declared.journal.RepoFault.{RepoFault}
 use Rattle.smf_model.specs.declared.journal.RepoFault.TheVariants as journals
-use Rattle.smf_model.specs.Holdings.{Holdings}
-use Rattle.smf_model.specs.Next.{asked}
+use Rattle.smf_model.specs.Contents.{Holdings}
+use Rattle.smf_model.specs.Next.{outcome_of_command}
 use Rattle.smf_machine.specs.declared.fault.MachineFault.{MachineFault}
 use Rattle.smf_machine.specs.declared.fault.MachineFault.TheVariants.{Memory, Database, Limit}
 
@@ -22,4 +22,5 @@ IsUndone fails changes e = (e ≡ Memory) ⊎ ((e ≡ Database) × fails journal
 -- a boot ended so, or was refused at a limit
 abbrev pub IsUnbooted : (RepoFault → Type 0) → Holdings → MachineFault → Type 0
 IsUnbooted fails h e =
-    IsUndone fails (asked h commands.Boot).changes e ⊎ ((e ≡ Limit) × ((asked h commands.Boot).reply ≡ replies.Limit))
+    IsUndone fails (outcome_of_command h commands.Boot).changes e
+    ⊎ ((e ≡ Limit) × ((outcome_of_command h commands.Boot).reply ≡ replies.Limit))

@@ -1,13 +1,13 @@
 -- Room for what an event makes, and what is made of it.
-use Rattle.std.specs.Prelude.{◌≡◌, ℕ, ◌+◌, ◌<◌, ◌≤◌, List, [], ◌∷◌, ◌++◌, length, map, position, reverse, slice_get, vec_capacity, vec_len, Bool, true, false, Option, Some}
-use Rattle.smf_contract.specs.Called.{called}
+use Rattle.std.specs.Prelude.{◌≡◌, ℕ, ◌+◌, ◌<◌, ◌≤◌, List, [], ◌∷◌, ◌++◌, length, map, position, slice_get, vec_capacity, vec_len, Bool, true, false, Option, Some}
+use Rattle.smf_contract.specs.Called.{table_after_contract_call}
 use Rattle.smf_model.specs.declared.change.Change.{Change}
 use Rattle.smf_model.specs.declared.command.Command.{Command}
-use Rattle.smf_model.specs.Holdings.{Holdings}
+use Rattle.smf_model.specs.Contents.{Holdings}
 use Rattle.smf_model.specs.Laws.{IsNumbered}
-use Rattle.smf_model.specs.Look.{installed}
+use Rattle.smf_model.specs.Look.{holdings_after_changes}
 use Rattle.smf_model.specs.Next.{next}
-use Rattle.smf_restarter.specs.declared.reply.Change.{Change as KnowledgeChange}
+use Rattle.smf_restarter.specs.declared.reply.KnowledgeChange.{KnowledgeChange}
 use Rattle.smf_restarter.specs.Knowledge.{Kept, Knowledge}
 use Rattle.smf_state.specs.declared.view.View.{View}
 use Rattle.smf_engine.specs.Orders.{with_changes}
@@ -21,10 +21,10 @@ use Rattle.smf_world.specs.declared.work.Becomes.TheVariants.{Knows, Launched, G
 use Rattle.smf_world.specs.declared.work.Work.{Work}
 use Rattle.smf_world.specs.Happens.{all_becoming, seen_after}
 use Rattle.smf_world.specs.Worked.{is_named}
-use Rattle.smf_machine.specs.declared.installing.Rest.{Rest}
+use Rattle.smf_machine.specs.declared.installation.Rest.{Rest}
 use Rattle.smf_machine.specs.declared.parts.Parts.{Parts}
-use Rattle.smf_machine.specs.declared.turning.SpawnRests.{SpawnRests}
-use Rattle.smf_machine.specs.declared.turning.SpawnWorks.{SpawnWorks}
+use Rattle.smf_machine.specs.declared.turns.SpawnRests.{SpawnRests}
+use Rattle.smf_machine.specs.declared.turns.SpawnWorks.{SpawnWorks}
 use Rattle.smf_machine.specs.Lists.{AtMostOne, NoTwins}
 use Rattle.smf_machine.specs.Parts.{knowledge}
 
@@ -37,7 +37,8 @@ pub record FitsIn (c : KnowledgeChange) (r : Kept) : Type 0 where
 
 -- the restarter of a name has
 abbrev pub RoomOf : List ℕ → KnowledgeChange → List Kept → Type 0
-RoomOf name c rs = (k : ℕ) (r : Kept) → position (is_named name) (map knowledge rs) ≡ Some k → slice_get rs k ≡ Some r → FitsIn c r
+RoomOf name c rs = (k : ℕ) (r : Kept) → position (is_named name) (map knowledge rs) ≡ Some k → slice_get rs k ≡ Some r
+    → FitsIn c r
 
 abbrev pub RoomFor : Becomes → List Kept → Type 0
 RoomFor (Knows name c) rs = RoomOf name c rs
@@ -124,13 +125,14 @@ pub record IsSingle (ks : List Knowledge) (k : Rest) : Type 0 where
 abbrev pub AreOf : Holdings → List Command → List Change → Type 0
 AreOf h [] xs = xs ≡ []
 AreOf h (c ∷ []) [] = ⊥
-AreOf h (c ∷ []) (x ∷ xs) = (installed h (x ∷ xs) ≡ (next h c).0) × ((next h c).0.revision ≡ h.revision + 1)
+AreOf h (c ∷ []) (x ∷ xs) = (holdings_after_changes h (x ∷ xs) ≡ (next h c).0)
+    × ((next h c).0.revision ≡ h.revision + 1)
 AreOf h (c ∷ d ∷ cs) xs = ⊥
 
 -- numbers stay given once, and names are apart. One command at most made the changes, and one thing at most becomes of
 -- the restarters. The graph's view is not patched
 pub record CanInstall (h : Holdings) (ks : List Knowledge) (k : Work) : Type 0 where
-  pub numbered : IsNumbered (installed h k.changes)
+  pub numbered : IsNumbered (holdings_after_changes h k.changes)
   pub apart : NoTwins ks
   pub command : AtMostOne k.command
   pub of_command : AreOf h k.command k.changes
@@ -155,7 +157,7 @@ pub record IsInstalled (p q : Parts) (k : Rest) : Type 0 where
   pub seen : q.engine ≡ seen_after k.forgets p.engine k.seen
   pub messages : q.messages.items ≡ p.messages.items ++ k.messages
   pub trail : q.trail.items ≡ p.trail.items ++ k.items
-  pub table : q.table.table ≡ called p.table.table k.call
+  pub table : q.table.table ≡ table_after_contract_call p.table.table k.call
 
 -- it was made, or nothing was
 abbrev pub IsInstalledIf : Bool → Parts → Parts → Rest → Type 0

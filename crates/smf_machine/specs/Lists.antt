@@ -1,5 +1,5 @@
 -- Lists of one item at most, and restarters with names of their own.
-use Rattle.std.specs.Prelude.{◌≡◌, ℕ, List, [], ◌∷◌, Bool, false, find, is_some}
+use Rattle.std.specs.Prelude.{◌≡◌, ℕ, List, [], ◌∷◌, false, find, is_some}
 use Rattle.smf_restarter.specs.Knowledge.{Knowledge}
 use Rattle.smf_world.specs.declared.work.Becomes.{Becomes}
 use Rattle.smf_world.specs.declared.work.Becomes.TheVariants.{Knows, Launched, Gone, NoneLeft}

@@ -1,7 +1,7 @@
 -- The machine's lists, seen as the world.
 use Rattle.std.specs.Prelude.{◌≡◌, ℕ, List, map, reverse}
-use Rattle.smf_model.specs.History.{History, made}
-use Rattle.smf_model.specs.Holdings.{Holdings}
+use Rattle.smf_model.specs.History.{History, holdings_after_commands}
+use Rattle.smf_model.specs.Contents.{Holdings}
 use Rattle.smf_changes.specs.Changes.{recent}
 use Rattle.smf_restarter.specs.Knowledge.{Kept, Knowledge}
 use Rattle.smf_world.specs.World.{World}
@@ -16,7 +16,7 @@ history_of p = record { first = p.first; past = reverse p.commands.items }
 
 -- the repository holds the newest value of a history, and its record is of the history's commands
 pub record IsLinked (h : Holdings) (nss : List (List ℕ)) (y : History) : Type 0 where
-  pub newest : h ≡ made y.first y.past
+  pub newest : h ≡ holdings_after_commands y.first y.past
   pub lists : nss ≡ recent y.first y.past
 
 -- the world of what the repository holds and of the other parts

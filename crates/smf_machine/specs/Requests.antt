@@ -11,15 +11,15 @@ use Rattle.smf_restarter.specs.declared.reply.Begun.{Begun}
 use Rattle.smf_restarter.specs.declared.reply.Call.{Call}
 use Rattle.smf_restarter.specs.declared.reply.Call.TheVariants as calls
 use Rattle.smf_restarter.specs.Knowledge.{Knowledge}
-use Rattle.smf_restarter.specs.Ticks.{ticked}
+use Rattle.smf_restarter.specs.Ticks.{reply_to_tick}
 use Rattle.smf_world.specs.Worked.{restarter}
 use Rattle.smf_world.specs.World.{World}
-use Rattle.smf_machine.specs.declared.requests.Ask.{Ask}
-use Rattle.smf_machine.specs.declared.requests.Ask.TheVariants.{Nothing, Unnumbered, Spawn, Kill}
+use Rattle.smf_machine.specs.declared.requests.MethodRequest.{MethodRequest}
+use Rattle.smf_machine.specs.declared.requests.MethodRequest.TheVariants.{Nothing, Unnumbered, Spawn, Kill}
 
 -- a process for a method that is begun, of an instance that is known, in the next contract
-abbrev pub wanted : ℕ → ℕ → Terms → Option KnownInstance → Option Begun → Ask
-wanted c cookie terms (Some i) (Some b) =
+abbrev pub spawn_request : ℕ → ℕ → Terms → Option KnownInstance → Option Begun → MethodRequest
+spawn_request c cookie terms (Some i) (Some b) =
     Spawn (record {
       contract = c;
       cookie = cookie;
@@ -29,10 +29,10 @@ wanted c cookie terms (Some i) (Some b) =
       method = b.method;
       instance = i.name;
     })
-wanted c cookie terms _ _ = Unnumbered
+spawn_request c cookie terms _ _ = Unnumbered
 
-abbrev pub wanted_in : Option ℕ → ℕ → Terms → Option KnownInstance → Option Begun → Ask
-wanted_in (Some c) cookie terms i b = wanted c cookie terms i b
+abbrev pub wanted_in : Option ℕ → ℕ → Terms → Option KnownInstance → Option Begun → MethodRequest
+wanted_in (Some c) cookie terms i b = spawn_request c cookie terms i b
 wanted_in None cookie terms i b = Unnumbered
 
 abbrev pub is_holder : ℕ → Holder → Bool
@@ -46,7 +46,7 @@ is_held_by actor (Some c) = is_holder actor c.holder
 is_held_by actor None = false
 
 -- members of a contract that another holds are not ended
-abbrev pub kill_if : Bool → ℕ → Ask
+abbrev pub kill_if : Bool → ℕ → MethodRequest
 kill_if true c = Kill c
 kill_if false c = Nothing
 
@@ -57,16 +57,17 @@ first_of (b ∷ bs) = Some b
 abbrev pub is_instance : ℕ → KnownInstance → Bool
 is_instance n i = i.instance == n
 
-abbrev pub asked_by : Contracts → Knowledge → ℕ → Option Begun → Call → Ask
-asked_by t k n b (calls.Spawn cookie terms) = wanted_in (next_contract t) cookie terms (find (is_instance n) k.instances) b
+abbrev pub asked_by : Contracts → Knowledge → ℕ → Option Begun → Call → MethodRequest
+asked_by t k n b (calls.Spawn cookie terms) =
+    wanted_in (next_contract t) cookie terms (find (is_instance n) k.instances) b
 asked_by t k n b (calls.Kill c) = kill_if (is_held_by k.actor (contract t c)) c
 asked_by t k n b calls.Nothing = Nothing
 asked_by t k n b calls.List = Nothing
 asked_by t k n b (calls.Adopt c) = Nothing
 
-abbrev pub asked_of : Contracts → Option Knowledge → ℕ → Ask
+abbrev pub asked_of : Contracts → Option Knowledge → ℕ → MethodRequest
 asked_of t None n = Nothing
-asked_of t (Some k) n = asked_by t k n (first_of (ticked k n).begun) (ticked k n).call
+asked_of t (Some k) n = asked_by t k n (first_of (reply_to_tick k n).begun) (reply_to_tick k n).call
 
-unfoldable pub asked : World → List ℕ → ℕ → Ask
-asked w name n = asked_of w.table (restarter w name) n
+unfoldable pub request_of_turn : World → List ℕ → ℕ → MethodRequest
+request_of_turn w name n = asked_of w.table (restarter w name) n

@@ -1,10 +1,10 @@
 -- Who runs the methods that restarters begin: children, which answer what is asked of them, or nobody, and then the contract
 -- table alone answers.
 use Rattle.std.specs.Prelude.{◌≡◌, ◌⊎◌, ℕ, List, [], Bool, true, false, Option, Some, None}
-use Rattle.smf_contract.specs.declared.event.Event.{Event}
+use Rattle.smf_contract.specs.declared.event.ContractEvent.{ContractEvent}
 use Rattle.smf_contract.specs.Entries.{empty}
 use Rattle.smf_edge.specs.Answers.{MayFail, Seen, Skills}
-use Rattle.smf_edge.specs.Ledgers.{Ledger, left}
+use Rattle.smf_edge.specs.Ledgers.{Ledger, members_left}
 use Rattle.smf_edge.specs.Steps.{IsKilled, IsPolled, IsSpawned}
 use Rattle.smf_world.specs.declared.event.Event.TheVariants as events
 use Rattle.smf_world.specs.declared.event.SpawnAnswer.{SpawnAnswer}
@@ -12,16 +12,16 @@ use Rattle.smf_world.specs.declared.event.SpawnAnswer.TheVariants as spawns
 use Rattle.smf_world.specs.Happens.{happens}
 use Rattle.smf_world.specs.World.{World}
 use Rattle.smf_machine.specs.declared.children.Wanted.{Wanted}
-use Rattle.smf_machine.specs.declared.requests.Ask.{Ask}
-use Rattle.smf_machine.specs.declared.requests.Ask.TheVariants.{Nothing, Unnumbered, Spawn, Kill}
+use Rattle.smf_machine.specs.declared.requests.MethodRequest.{MethodRequest}
+use Rattle.smf_machine.specs.declared.requests.MethodRequest.TheVariants.{Nothing, Unnumbered, Spawn, Kill}
 use Rattle.smf_machine.specs.Children.{happens_if, run_for}
-use Rattle.smf_machine.specs.Requests.{asked}
+use Rattle.smf_machine.specs.Requests.{request_of_turn}
 
 -- the rules for the answers to a spawn, to a kill and to a question for an event, by what was seen before and after
 pub record Rules : Type 1 where
   pub spawns : Wanted → SpawnAnswer → Seen → Seen → Type 0
   pub kills : ℕ → Bool → Seen → Seen → Type 0
-  pub polls : Option Event → Seen → Seen → Type 0
+  pub polls : Option ContractEvent → Seen → Seen → Type 0
 
 -- ---- children
 
@@ -34,10 +34,10 @@ HasSpawned k w spawns.NotFollowed l m = (k.follows w.style ≡ false) × (m ≡ 
 -- a kill is done, or else no member was left or a device failed
 abbrev pub HasKilled : Skills → ℕ → Bool → Seen → Seen → Type 0
 HasKilled k id true s t = IsKilled id s.ledger t.ledger
-HasKilled k id false s t = ((left s.ledger id ≡ 0) ⊎ MayFail k s.failures t.failures) × (t.ledger ≡ s.ledger)
+HasKilled k id false s t = ((members_left s.ledger id ≡ 0) ⊎ MayFail k s.failures t.failures) × (t.ledger ≡ s.ledger)
 
 -- an event is given, or else all is told or a device failed
-abbrev pub HasGiven : Skills → Option Event → Seen → Seen → Type 0
+abbrev pub HasGiven : Skills → Option ContractEvent → Seen → Seen → Type 0
 HasGiven k (Some e) s t = IsPolled (Some e) s.ledger t.ledger
 HasGiven k None s t = IsPolled None s.ledger t.ledger ⊎ (MayFail k s.failures t.failures × (t.ledger ≡ s.ledger))
 
@@ -47,8 +47,8 @@ rules_of k = record { spawns = λ w a s t. HasSpawned k w a s.ledger t.ledger; k
 -- ---- nobody
 
 -- nobody keeps anything, and no device failed
-abbrev pub unseen : Seen
-unseen = record { ledger = record { notes = []; table = empty; due = []; pending = [] }; failures = 0 }
+abbrev pub seen_of_nobody : Seen
+seen_of_nobody = record { ledger = record { notes = []; table = empty; due = []; pending = [] }; failures = 0 }
 
 -- each spawn and each kill is made, and there is no event
 abbrev pub table_rules : Rules
@@ -62,11 +62,13 @@ table_rules =
 -- ---- a turn of a restarter for an instance
 
 -- it is taken with the answer to what it asks for; a kill that is not done is owed again
-abbrev pub TickedBy : Rules → Ask → List ℕ → ℕ → World → Seen → World → Seen → Type 0
+abbrev pub TickedBy : Rules → MethodRequest → List ℕ → ℕ → World → Seen → World → Seen → Type 0
 TickedBy r Nothing name n w s v t = (v ≡ happens w (events.Tick name n spawns.Made)) × (t ≡ s)
 TickedBy r Unnumbered name n w s v t = (v ≡ happens w (events.Tick name n spawns.Refused)) × (t ≡ s)
-TickedBy r (Spawn wanted) name n w s v t = (a : SpawnAnswer) × r.spawns wanted a s t × (v ≡ happens w (events.Tick name n a))
-TickedBy r (Kill id) name n w s v t = (did : Bool) × r.kills id did s t × (v ≡ happens_if did w (events.Tick name n spawns.Made))
+TickedBy r (Spawn wanted) name n w s v t = (a : SpawnAnswer) × r.spawns wanted a s t
+    × (v ≡ happens w (events.Tick name n a))
+TickedBy r (Kill id) name n w s v t = (did : Bool) × r.kills id did s t
+    × (v ≡ happens_if did w (events.Tick name n spawns.Made))
 
 abbrev pub HasTicked : Rules → List ℕ → ℕ → World → Seen → World → Seen → Type 0
-HasTicked r name n w s v t = TickedBy r (asked w name n) name n w s v t
+HasTicked r name n w s v t = TickedBy r (request_of_turn w name n) name n w s v t

@@ -1,6 +1,6 @@
 use smf_contract::{Method, Terms};
 use smf_fmri::{InstanceFmri, Number};
-use smf_method::Command;
+use smf_method::CommandText;
 use smf_state::Duration;
 
 /// A process that a restarter asks for.
@@ -10,7 +10,7 @@ pub struct Wanted {
     pub cookie: u64,
     pub style: Duration,
     pub terms: Terms,
-    pub command: Command,
+    pub command: CommandText,
     pub method: Method,
     pub instance: InstanceFmri,
 }

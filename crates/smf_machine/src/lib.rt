@@ -9,26 +9,26 @@
 #![tactic(auto)]
 
 mod children;
-mod commanding;
-mod delivering;
+mod command_work;
+mod deliveries;
+mod event_work;
 mod fault;
-mod hearing;
-mod installing;
+mod installation;
 mod machine;
 mod parts;
-mod patching;
+mod patches;
+mod polls;
 mod received;
-mod replying;
+mod reply_work;
 mod requests;
 mod room;
 mod runner;
-mod seeing;
-mod turning;
-mod working;
+mod turns;
+mod type_facts;
 
 pub use children::Wanted;
 pub use fault::MachineFault;
-pub use hearing::News;
 pub use machine::Machine;
-pub use requests::Ask;
+pub use polls::News;
+pub use requests::MethodRequest;
 pub use runner::{NoChildren, Runner};

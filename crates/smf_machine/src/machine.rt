@@ -3,7 +3,7 @@ ghost use Rattle.std.specs.Option.{option_copied};
 ghost use Rattle.smf_changes.specs.Owned.{HasOwnersAmong};
 ghost use Rattle.smf_engine.specs.Orders.{has_no_orders};
 ghost use Rattle.smf_model.specs.Shown.{view};
-ghost use Rattle.smf_machine.specs.Children.{heard};
+ghost use Rattle.smf_machine.specs.Children.{world_after_poll};
 ghost use Rattle.smf_machine.specs.declared.fault.MachineFault.TheVariants.{Memory};
 ghost use Rattle.smf_machine.specs.Faults.{IsUnbooted, IsUndone};
 ghost use Rattle.smf_machine.specs.Done.{IsDone, changes_of, is_beginning};
@@ -11,7 +11,7 @@ ghost use Rattle.smf_machine.specs.Lists.{NoTwins};
 ghost use Rattle.smf_machine.specs.Parts.{knowledge};
 ghost use Rattle.smf_machine.specs.Runners.{HasTicked};
 ghost use Rattle.smf_model.specs.declared.command.Command.TheVariants as commands;
-ghost use Rattle.smf_model.specs.declared.command.Reply.TheVariants.{Done};
+ghost use Rattle.smf_model.specs.declared.command.CommandReply.TheVariants.{Done};
 ghost use Rattle.smf_model.specs.Laws.{IsNumbered};
 ghost use Rattle.smf_model.specs.Next.{next};
 ghost use Rattle.smf_world.specs.declared.event.Event.TheVariants as events;
@@ -19,19 +19,19 @@ ghost use Rattle.smf_world.specs.Happens.{happens};
 ghost use Rattle.smf_world.specs.Reached.{IsReached};
 ghost use Rattle.smf_world.specs.Safe.{IsSafe};
 ghost use Rattle.smf_world.specs.Spelled.{AreSpelled};
-ghost use Rattle.smf_world.specs.Worked.{restarter, worked};
-ghost use Rattle.smf_world.specs.World.{found};
+ghost use Rattle.smf_world.specs.Worked.{restarter, work_of_event};
+ghost use Rattle.smf_world.specs.World.{initial_world};
 
-use crate::commanding::is_done;
+use crate::command_work::is_done;
 use crate::fault::MachineFault;
 use crate::parts::{System, parts_of};
-use crate::patching::{delivered_place, take_changes_at};
+use crate::patches::{delivered_place, take_changes_at};
 use crate::runner::Runner;
-use crate::seeing::{see_event, stored_in};
+use crate::type_facts::{see_event, stored_in};
 use smf_changes::Repository;
-use smf_contract::{Event as ContractEvent, Table};
+use smf_contract::{ContractEvent, ContractTable};
 use smf_fmri::{InstanceFmri, Items};
-use smf_model::{Journal, Plain, Reply};
+use smf_model::{CommandReply, Journal, Plain};
 use smf_restarter::{Restarter, Stage};
 use smf_wire::Message;
 use smf_world::{Event, Item};
@@ -67,7 +67,7 @@ impl<J: Journal> System<J> {
         ensures err { OnErr result (self.new ≡ self.old) }
         ensures fault { IfErr result (λ e. IsUnbooted J.write_fails self.old.now e) }
     {
-        let work = self.booting()?;
+        let work = self.work_of_boot()?;
         if !is_done(work.reply.as_slice()) {
             return Err(MachineFault::Limit);
         }
@@ -125,26 +125,26 @@ impl<J: Journal> System<J> {
 
     /// Makes what an event makes, which delivers no changes.
     #[tactic(auto, unfolding(smf_world::specs::Happens::happens))]
-    fn make(&mut self, event: &Event) -> Result<Items<Reply>, MachineFault>
+    fn make(&mut self, event: &Event) -> Result<Items<CommandReply>, MachineFault>
         requires reached { IsReached self.old }
         requires spelled { AreSpelled self.old }
         requires none { changes_of self.old event.now ≡ None }
         ensures ok { IfOk result (λ r. IsDone self.old event.now self.new r) }
         ensures err { OnErr result (self.new ≡ self.old) }
-        ensures fault { IfErr result (λ e. IsUndone J.write_fails (worked self.old event.now).changes e) }
+        ensures fault { IfErr result (λ e. IsUndone J.write_fails (work_of_event self.old event.now).changes e) }
     {
-        let work = self.worked(event)?;
+        let work = self.work_of_event(event)?;
         self.take(work)
     }
 
     /// An event happens.
     #[tactic(auto, unfolding(smf_world::specs::Happens::happens))]
-    pub(crate) fn happen(&mut self, event: &Event) -> Result<Items<Reply>, MachineFault>
+    pub(crate) fn happen(&mut self, event: &Event) -> Result<Items<CommandReply>, MachineFault>
         requires reached { IsReached self.old }
         requires spelled { AreSpelled self.old }
         ensures ok { IfOk result (λ r. IsDone self.old event.now self.new r) }
         ensures err { OnErr result (self.new ≡ self.old) }
-        ensures fault { IfErr result (λ e. IsUndone J.write_fails (worked self.old event.now).changes e) }
+        ensures fault { IfErr result (λ e. IsUndone J.write_fails (work_of_event self.old event.now).changes e) }
     {
         if self.is_let_go(event) {
             return Ok(Items::new(self.alloc));
@@ -161,7 +161,7 @@ impl<J: Journal> Machine<J> {
     /// Boots what was found. A fault hands the repository back, as it was. `Limit` if a row or a launch has no next
     /// number. `Memory` also if an owner has 2^32 groups, which no body may hold.
     pub fn new(alloc: Global, repository: Plain<J>) -> Result<Machine<J>, (MachineFault, Plain<J>)>
-        ensures ok { IfOk result (λ m. m ≡ happens (found repository.held) events.Boot) }
+        ensures ok { IfOk result (λ m. m ≡ happens (initial_world repository.held) events.Boot) }
         ensures safe { IfOk result (λ m. IsSafe m) }
         ensures err { IfErr result (λ e. e.1.held ≡ repository.held) }
         ensures fault { IfErr result (λ e. IsUnbooted J.write_fails repository.held e.0) }
@@ -182,11 +182,11 @@ impl<J: Journal> Machine<J> {
     }
 
     /// An event happens: all that it makes is made, or nothing. If the event is a command, its reply is given back.
-    pub fn happen(&mut self, event: &Event) -> Result<Items<Reply>, MachineFault>
+    pub fn happen(&mut self, event: &Event) -> Result<Items<CommandReply>, MachineFault>
         ensures ok { IfOk result (λ r. IsDone self.old event.now self.new r) }
         ensures err { OnErr result (self.new ≡ self.old) }
         ensures safe { IsSafe self.new }
-        ensures fault { IfErr result (λ e. IsUndone J.write_fails (worked self.old event.now).changes e) }
+        ensures fault { IfErr result (λ e. IsUndone J.write_fails (work_of_event self.old event.now).changes e) }
     {
         see_event(event);
         self.system.happen(event)
@@ -200,7 +200,8 @@ impl<J: Journal> Machine<J> {
         name: &InstanceFmri,
         instance: u64,
     ) -> Result<(), MachineFault>
-        ensures ok { OnOk result (HasTicked R.rules name.now instance self.old (R.seen runner.old) self.new (R.seen runner.new)) }
+        ensures ok { OnOk result
+            (HasTicked R.rules name.now instance self.old (R.seen runner.old) self.new (R.seen runner.new)) }
         ensures err { OnErr result (self.new ≡ self.old) }
         ensures kept { OnErr result ((R.seen runner.new).ledger ≡ (R.seen runner.old).ledger) }
         ensures fault { IfErr result (λ e. e ≡ Memory) }
@@ -211,7 +212,7 @@ impl<J: Journal> Machine<J> {
     /// The next event is asked for once there is room for it; it happens, and is given back. A fault leaves both as they
     /// were.
     pub fn hear<R: Runner>(&mut self, runner: &mut R) -> Result<Option<ContractEvent>, MachineFault>
-        ensures heard { IfOk result (λ event. self.new ≡ heard event self.old) }
+        ensures heard { IfOk result (λ event. self.new ≡ world_after_poll event self.old) }
         ensures answered { IfOk result (λ event. R.rules.polls event (R.seen runner.old) (R.seen runner.new)) }
         ensures err { OnErr result (self.new ≡ self.old) }
         ensures kept { OnErr result ((R.seen runner.new).ledger ≡ (R.seen runner.old).ledger) }
@@ -269,7 +270,7 @@ impl<J: Journal> Machine<J> {
     }
 
     /// The contracts.
-    pub fn table(&self) -> &Table
+    pub fn table(&self) -> &ContractTable
         ensures { result.now.table ≡ self.now.table }
     {
         self.system.table()

@@ -1,20 +1,20 @@
 ghost use Rattle.std.specs.Option.{option_copied};
-ghost use Rattle.std.specs.Prelude.{◌≡◌, ◌+◌, ◌<◌, find, length, map, option_map, position, IfOk, IfSome};
+ghost use Rattle.std.specs.Prelude.{◌≡◌, ◌+◌, ◌<◌, find, map, option_map, IfOk};
 ghost use Rattle.smf_contract.specs.Entries.{statuses};
 ghost use Rattle.smf_engine.specs.Orders.{has_no_orders, orders_seen, question};
 ghost use Rattle.smf_machine.specs.Given.{is_actor_kept, is_named_kept};
 ghost use Rattle.smf_machine.specs.Parts.{knowledge, world_of};
 ghost use Rattle.smf_model.specs.Look.{instance, launch_of};
-ghost use Rattle.smf_model.specs.Next.{asked};
+ghost use Rattle.smf_model.specs.Next.{outcome_of_command};
 ghost use Rattle.smf_model.specs.Shown.{rows_of, view};
-ghost use Rattle.smf_world.specs.Worked.{is_actor, is_launched, is_named, restarter, sent_at};
+ghost use Rattle.smf_world.specs.Worked.{is_actor, is_named, restarter, sent_at};
 ghost use Rattle.smf_world.specs.Reached.{IsReached};
-ghost use Rattle.smf_world.specs.World.{found};
-ghost use Rattle.smf_model.specs.Holdings.{Holdings as AnyHoldings};
+ghost use Rattle.smf_world.specs.World.{initial_world};
+ghost use Rattle.smf_model.specs.Contents.{Holdings as AnyHoldings};
 ghost use Rattle.smf_changes.specs.Changes.{changes_since, recent};
 
 use smf_changes::Repository;
-use smf_contract::{Status, Table};
+use smf_contract::{ContractTable, Status};
 use smf_engine::Engine;
 use smf_fmri::{InstanceFmri, Items};
 use smf_model::{Command, Instance, Journal, Outcome, Tables};
@@ -37,13 +37,13 @@ pub struct Parts {
     /// All that were ever sent.
     pub(crate) messages: Vec<Message>,
     pub(crate) trail: Vec<Item>,
-    pub(crate) table: Table,
+    pub(crate) table: ContractTable,
 }
 
 /// Nothing was said or seen yet.
 #[tactic(auto, unfolding(crate::specs::Parts::world_of))]
 pub(crate) fn parts_of(alloc: Global, first: Tables) -> Parts
-    ensures { (h : AnyHoldings) → first ≡ h → world_of h result ≡ found h }
+    ensures { (h : AnyHoldings) → first ≡ h → world_of h result ≡ initial_world h }
 {
     Parts {
         first,
@@ -52,7 +52,7 @@ pub(crate) fn parts_of(alloc: Global, first: Tables) -> Parts
         engine: Engine::new(),
         messages: Vec::new(alloc),
         trail: Vec::new(alloc),
-        table: Table::new(alloc),
+        table: ContractTable::new(alloc),
     }
 }
 
@@ -109,10 +109,10 @@ fn actor_in(restarters: &[Restarter], actor: u64) -> Option<&Restarter>
 #[tactic(auto, unfolding(crate::specs::Parts::world_of))]
 impl<J: Journal> System<J> {
     /// The changes that a command asks for, and its reply.
-    pub(crate) fn asked(&self, command: &Command) -> Result<Outcome, AllocError>
-        ensures { IfOk result (λ r. r ≡ asked self.now.now command.now) }
+    pub(crate) fn command_outcome(&self, command: &Command) -> Result<Outcome, AllocError>
+        ensures { IfOk result (λ r. r ≡ outcome_of_command self.now.now command.now) }
     {
-        self.repository.plain().asked(command)
+        self.repository.plain().outcome_of_command(command)
     }
 
     /// The number of the row of an instance, if it is there.
@@ -152,7 +152,8 @@ impl<J: Journal> System<J> {
         &self,
         from: u64,
     ) -> Result<Option<(u64, Items<ChangedItem>)>, AllocError>
-        ensures { IfOk result (λ c. c ≡ changes_since (recent self.now.history.first self.now.history.past) self.now.now from) }
+        ensures { IfOk result
+            (λ c. c ≡ changes_since (recent self.now.history.first self.now.history.past) self.now.now from) }
     {
         self.repository.changes_since(from)
     }
@@ -190,7 +191,7 @@ impl<J: Journal> System<J> {
         ensures same { self.new ≡ self.old }
         ensures nothing { IfOk result (λ b. b ≡ has_no_orders (view self.old.now)) }
     {
-        match self.repository.shown() {
+        match self.repository.current_view() {
             Some(shown) => self.parts.engine.orders_nothing(self.alloc, shown),
             None => {
                 let view = HeldView::of(self.alloc, self.view()?);
@@ -237,7 +238,7 @@ impl<J: Journal> System<J> {
         self.parts.messages.get(place as usize)
     }
 
-    pub(crate) fn table(&self) -> &Table
+    pub(crate) fn table(&self) -> &ContractTable
         ensures { result.now.table ≡ self.now.table }
     {
         &self.parts.table

@@ -1,13 +1,12 @@
 ghost use Rattle.std.specs.Option.{option_copied};
 ghost use Rattle.smf_fmri.specs.ByKey.{IsPlaced, Rises, lookup};
-ghost use Rattle.smf_machine.specs.Parts.{knowledge};
 ghost use Rattle.smf_restarter.specs.Knowledge.{by_instance};
-ghost use Rattle.std.specs.Prelude.{◌≡◌, find, option_map, Some, IfOk};
-ghost use Rattle.smf_machine.specs.Requests.{asked, asked_by, asked_of, first_of, is_held_by, is_holder, is_instance, kill_if, wanted, wanted_in};
+ghost use Rattle.std.specs.Prelude.{◌≡◌, find, Some, IfOk};
+ghost use Rattle.smf_machine.specs.Requests.{request_of_turn, asked_by, asked_of, first_of, is_held_by, is_holder, is_instance, kill_if, spawn_request, wanted_in};
 
 use crate::children::Wanted;
 use crate::parts::System;
-use smf_contract::{Contract, Holder, Table, Terms};
+use smf_contract::{Contract, ContractTable, Holder, Terms};
 use smf_fmri::{InstanceFmri, Number};
 use smf_model::Journal;
 use smf_restarter::{Begun, Call, KnownInstance, Restarter};
@@ -15,7 +14,7 @@ use std::alloc::AllocError;
 
 /// The request of a restarter's turn for an instance to whoever runs methods.
 #[derive(Drop)]
-pub enum Ask {
+pub enum MethodRequest {
     Nothing,
     /// A process for which there is no contract.
     Unnumbered,
@@ -79,10 +78,14 @@ fn is_held_by(actor: u64, contract: &Option<Contract>) -> bool
     }
 }
 
-fn kill_if(is_held: bool, id: Number) -> Ask
+fn kill_if(is_held: bool, id: Number) -> MethodRequest
     ensures { result ≡ kill_if is_held id }
 {
-    if is_held { Ask::Kill(id) } else { Ask::Nothing }
+    if is_held {
+        MethodRequest::Kill(id)
+    } else {
+        MethodRequest::Nothing
+    }
 }
 
 /// A process for a method that is begun, of an instance that is known.
@@ -92,12 +95,12 @@ fn want(
     terms: Terms,
     known: &KnownInstance,
     begun: &Begun,
-) -> Result<Ask, AllocError>
-    ensures { IfOk result (λ ask. ask ≡ wanted contract cookie terms (Some known.now) (Some begun.now)) }
+) -> Result<MethodRequest, AllocError>
+    ensures { IfOk result (λ ask. ask ≡ spawn_request contract cookie terms (Some known.now) (Some begun.now)) }
 {
     let command = begun.command.clone()?;
     let instance = known.name.clone()?;
-    Ok(Ask::Spawn(Wanted {
+    Ok(MethodRequest::Spawn(Wanted {
         contract,
         cookie,
         style: known.row.duration,
@@ -114,15 +117,16 @@ fn want_if(
     terms: Terms,
     known: Option<&KnownInstance>,
     begun: Option<&Begun>,
-) -> Result<Ask, AllocError>
-    ensures { IfOk result (λ ask. ask ≡ wanted contract cookie terms (option_copied known.entry) (option_copied begun.entry)) }
+) -> Result<MethodRequest, AllocError>
+    ensures { IfOk result
+        (λ ask. ask ≡ spawn_request contract cookie terms (option_copied known.entry) (option_copied begun.entry)) }
 {
     let Some(known) = known else {
-        return Ok(Ask::Unnumbered);
+        return Ok(MethodRequest::Unnumbered);
     };
     match begun {
         Some(begun) => want(contract, cookie, terms, known, begun),
-        None => Ok(Ask::Unnumbered),
+        None => Ok(MethodRequest::Unnumbered),
     }
 }
 
@@ -132,24 +136,26 @@ fn want_in(
     terms: Terms,
     known: Option<&KnownInstance>,
     begun: Option<&Begun>,
-) -> Result<Ask, AllocError>
-    ensures { IfOk result (λ ask. ask ≡ wanted_in contract cookie terms (option_copied known.entry) (option_copied begun.entry)) }
+) -> Result<MethodRequest, AllocError>
+    ensures { IfOk result
+        (λ ask. ask ≡ wanted_in contract cookie terms (option_copied known.entry) (option_copied begun.entry)) }
 {
     match contract {
         Some(contract) => want_if(contract, cookie, terms, known, begun),
-        None => Ok(Ask::Unnumbered),
+        None => Ok(MethodRequest::Unnumbered),
     }
 }
 
 /// The request of a restarter's call to whoever runs methods.
 fn asked_by(
-    table: &Table,
+    table: &ContractTable,
     restarter: &Restarter,
     instance: u64,
     begun: Option<&Begun>,
     call: Call,
-) -> Result<Ask, AllocError>
-    ensures { IfOk result (λ ask. ask ≡ asked_by table.now.table restarter.now.known instance (option_copied begun.entry) call) }
+) -> Result<MethodRequest, AllocError>
+    ensures { IfOk result
+        (λ ask. ask ≡ asked_by table.now.table restarter.now.known instance (option_copied begun.entry) call) }
 {
     match call {
         Call::Spawn { cookie, terms } => {
@@ -157,16 +163,20 @@ fn asked_by(
             want_in(table.next_contract(), cookie, terms, known, begun)
         }
         Call::Kill(id) => Ok(kill_if(is_held_by(restarter.actor(), &table.contract(id)), id)),
-        Call::Nothing => Ok(Ask::Nothing),
-        Call::List => Ok(Ask::Nothing),
-        Call::Adopt(_) => Ok(Ask::Nothing),
+        Call::Nothing => Ok(MethodRequest::Nothing),
+        Call::List => Ok(MethodRequest::Nothing),
+        Call::Adopt(_) => Ok(MethodRequest::Nothing),
     }
 }
 
-fn asked_in(table: &Table, restarter: &Restarter, instance: u64) -> Result<Ask, AllocError>
+fn asked_in(
+    table: &ContractTable,
+    restarter: &Restarter,
+    instance: u64,
+) -> Result<MethodRequest, AllocError>
     ensures { IfOk result (λ ask. ask ≡ asked_of table.now.table (Some restarter.now.known) instance) }
 {
-    let reply = restarter.ticked(instance)?;
+    let reply = restarter.reply_to_tick(instance)?;
     asked_by(
         table,
         restarter,
@@ -178,12 +188,16 @@ fn asked_in(table: &Table, restarter: &Restarter, instance: u64) -> Result<Ask, 
 
 impl<J: Journal> System<J> {
     /// The request of a restarter's turn for an instance to whoever runs methods.
-    #[tactic(auto, unfolding(crate::specs::Requests::asked))]
-    pub(crate) fn ask_of(&self, name: &InstanceFmri, instance: u64) -> Result<Ask, AllocError>
-        ensures { IfOk result (λ ask. ask ≡ asked self.now name.now instance) }
+    #[tactic(auto, unfolding(crate::specs::Requests::request_of_turn))]
+    pub(crate) fn ask_of(
+        &self,
+        name: &InstanceFmri,
+        instance: u64,
+    ) -> Result<MethodRequest, AllocError>
+        ensures { IfOk result (λ ask. ask ≡ request_of_turn self.now name.now instance) }
     {
         match self.restarter(name) {
-            None => Ok(Ask::Nothing),
+            None => Ok(MethodRequest::Nothing),
             Some(restarter) => asked_in(self.table(), restarter, instance),
         }
     }

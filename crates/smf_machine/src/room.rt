@@ -6,7 +6,7 @@ ghost use Rattle.smf_world.specs.Worked.{is_named};
 
 use crate::parts::Parts;
 use smf_fmri::InstanceFmri;
-use smf_restarter::{Change, Restarter};
+use smf_restarter::{KnowledgeChange, Restarter};
 use smf_world::{Becomes, Work};
 use std::alloc::AllocError;
 
@@ -30,7 +30,7 @@ pub(crate) fn place_of(restarters: &[Restarter], name: &InstanceFmri) -> Option<
 fn reserve_of(
     restarters: &mut Vec<Restarter>,
     name: &InstanceFmri,
-    change: &Change,
+    change: &KnowledgeChange,
 ) -> Result<(), AllocError>
     ensures same { map knowledge restarters.new.items ≡ map knowledge restarters.old.items }
     ensures capacity { vec_capacity restarters.new ≡ vec_capacity restarters.old }

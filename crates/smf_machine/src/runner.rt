@@ -3,7 +3,7 @@ ghost use Rattle.smf_edge.specs.Answers.{Seen};
 ghost use Rattle.smf_machine.specs.Runners.{Rules};
 
 use crate::children::Wanted;
-use smf_contract::Event;
+use smf_contract::ContractEvent;
 use smf_edge::{Kids, KidsFault};
 use smf_fmri::{InstanceFmri, Number};
 use smf_world::SpawnAnswer;
@@ -31,14 +31,14 @@ pub trait Runner {
         ensures kept { OnErr result ((seen self.new).ledger ≡ (seen self.old).ledger) };
 
     /// The next event is asked for. None is given if a device failed.
-    fn next_event(&mut self) -> Result<Option<Event>, AllocError>
+    fn next_event(&mut self) -> Result<Option<ContractEvent>, AllocError>
         ensures answered { IfOk result (λ event. rules.polls event (seen self.old) (seen self.new)) }
         ensures kept { OnErr result ((seen self.new).ledger ≡ (seen self.old).ledger) };
 }
 
 /// Children run methods, and answer by their own clauses.
 impl<K: Kids> Runner for K {
-    ghost use Rattle.smf_edge.specs.Answers.{seen as seen_of};
+    ghost use Rattle.smf_edge.specs.Answers.{children_state as seen_of};
     ghost use Rattle.smf_machine.specs.Runners.{rules_of};
 
     ghost seen = { λ k. seen_of (K.ledger k) (K.failures k) };
@@ -76,7 +76,7 @@ impl<K: Kids> Runner for K {
         }
     }
 
-    fn next_event(&mut self) -> Result<Option<Event>, AllocError> {
+    fn next_event(&mut self) -> Result<Option<ContractEvent>, AllocError> {
         match self.poll() {
             Ok(event) => Ok(event),
             Err(KidsFault::Memory) => Err(AllocError),
@@ -90,9 +90,9 @@ impl<K: Kids> Runner for K {
 pub struct NoChildren {}
 
 impl Runner for NoChildren {
-    ghost use Rattle.smf_machine.specs.Runners.{table_rules, unseen};
+    ghost use Rattle.smf_machine.specs.Runners.{table_rules, seen_of_nobody};
 
-    ghost seen = { λ _. unseen };
+    ghost seen = { λ _. seen_of_nobody };
 
     ghost rules = { table_rules };
 
@@ -108,7 +108,7 @@ impl Runner for NoChildren {
         Ok(true)
     }
 
-    fn next_event(&mut self) -> Result<Option<Event>, AllocError> {
+    fn next_event(&mut self) -> Result<Option<ContractEvent>, AllocError> {
         Ok(None)
     }
 }

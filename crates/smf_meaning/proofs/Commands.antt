@@ -10,10 +10,10 @@ use Rattle.smf_method.specs.declared.fault.MethodFault.{MethodFault}
 use Rattle.smf_method.specs.declared.fault.MethodFault.TheVariants.{NoExec, BadTimeout, BadToken, BadDuration, BadIgnore}
 use Rattle.smf_method.specs.Faults.{◌>>=◌}
 use Rattle.smf_method.specs.Methods.{Definition, call_with, checked_by, checked_text, command_in, group_of, method_of, read_group, read_if}
-use Rattle.smf_method.specs.Settings.{duration_of, ignore_of, timeout_in}
+use Rattle.smf_method.specs.Properties.{duration_of, ignore_of, timeout_in}
 use Rattle.smf_method.specs.Tokens.{Byte, Names, Replaces, Token, is_token, method_text, wrong_token}
 use Rattle.smf_method.proofs.Replaced.{call_found}
-use Rattle.smf_meaning.specs.Replacing.{BeginsNoToken, IsCommandOf, IsWrongToken}
+use Rattle.smf_meaning.specs.Commands.{BeginsNoToken, IsCommandOf, IsWrongToken}
 
 bind_ok : {A B : Type 0} (r : Result A MethodFault) (f : A → Result B MethodFault) (y : B) → (r >>= f) ≡ Ok y
     → (x : A) × (r ≡ Ok x) × (f x ≡ Ok y)
@@ -29,14 +29,23 @@ checked : (o : Option ℕ) (exec text : List ℕ) → wrong_token 0 exec ≡ o �
 checked None exec text w e = (cc, w)
 checked (Some place) exec text w e = absurd cc
 
-replaced : (names : Names) (text command : List ℕ) → wrong_token 0 text ≡ None → command_in names text ≡ Some command → Replaces names text command
+replaced : (names : Names) (text command : List ℕ) → wrong_token 0 text ≡ None → command_in names text ≡ Some command
+    → Replaces names text command
 replaced names text command w e =
-    let d : Definition = record { method = names.method; exec = text; timeout = None; duration = Rattle.smf_state.specs.declared.state.Duration.TheVariants.Contract; ignore = 0 } in
+    let d : Definition =
+    record {
+      method = names.method;
+      exec = text;
+      timeout = None;
+      duration = Rattle.smf_state.specs.declared.state.Duration.TheVariants.Contract;
+      ignore = 0;
+    } in
     let call : MethodCall = record { timeout = None; command = command } in
     call_found (Ok call) d names.restarter names.instance w (ap (call_with None) e)
 
 read_is : (gs : List GroupRecord) (names : Names) (g : GroupRecord) (startd : Option GroupRecord) (read : ReadMethod)
-    → group_of (method_text names.method) gs ≡ Some g → read_group names g startd ≡ Ok (Some read) → IsCommandOf gs names read.call.command
+    → group_of (method_text names.method) gs ≡ Some g → read_group names g startd ≡ Ok (Some read)
+    → IsCommandOf gs names read.call.command
 unfolding read_group
 read_is gs names g startd read there e =
     let a = bind_ok (ok_or (text_in (property_of (codes "exec") g)) NoExec) _ (Some read) e in
@@ -62,7 +71,8 @@ read_is gs names g startd read there e =
     given : (x y : ReadMethod) → ◌≡◌ {A = Result (Option ReadMethod) MethodFault} (Ok (Some x)) (Ok (Some y)) → x ≡ y
     given x y e = cc
 
-group_is : (o startd : Option GroupRecord) (gs : List GroupRecord) (names : Names) (read : ReadMethod) → group_of (method_text names.method) gs ≡ o
+group_is : (o startd : Option GroupRecord) (gs : List GroupRecord) (names : Names) (read : ReadMethod)
+    → group_of (method_text names.method) gs ≡ o
     → read_if names o startd ≡ Ok (Some read) → IsCommandOf gs names read.call.command
 group_is None startd gs names read there e = absurd cc
 group_is (Some g) startd gs names read there e = read_is gs names g startd read there e
@@ -70,7 +80,8 @@ group_is (Some g) startd gs names read there e = read_is gs names g startd read 
 pub command_is : (gs : List GroupRecord) (names : Names) (read : ReadMethod) → method_of gs names ≡ Ok (Some read)
     → IsCommandOf gs names read.call.command
 unfolding method_of
-command_is gs names read e = group_is (group_of (method_text names.method) gs) (group_of (codes "startd") gs) gs names read refl e
+command_is gs names read e =
+    group_is (group_of (method_text names.method) gs) (group_of (codes "startd") gs) gs names read refl e
 
 -- ---- tokens
 
@@ -79,11 +90,19 @@ record Told (at : ℕ) (text : List ℕ) (place : ℕ) : Type 0 where
   wrong : IsWrongToken text inside
   place_is : place ≡ at + inside
 
-here : (at place : ℕ) (b : ℕ) (rest : List ℕ) → eqb b 37 ≡ true → BeginsNoToken rest → at ≡ place → Told at (b ∷ rest) place
+here : (at place : ℕ) (b : ℕ) (rest : List ℕ) → eqb b 37 ≡ true → BeginsNoToken rest → at ≡ place
+    → Told at (b ∷ rest) place
 here at place b rest e none same =
     record {
       inside = 0;
-      wrong = record { pieces = []; rest = rest; formed = tt; split = ap (λ (c : ℕ). c ∷ rest) (eqb-true b 37 e); none = none; place_is = refl };
+      wrong = record {
+        pieces = [];
+        rest = rest;
+        formed = tt;
+        split = ap (λ (c : ℕ). c ∷ rest) (eqb-true b 37 e);
+        none = none;
+        place_is = refl;
+      };
       place_is = omega arith;
     }
 
@@ -102,7 +121,8 @@ byte_more at b place text e t =
       place_is = let p = t.place_is in omega arith;
     }
 
-token_more : (at b c place : ℕ) (text : List ℕ) → eqb b 37 ≡ true → is_token c ≡ true → Told (at + 2) text place → Told at (b ∷ c ∷ text) place
+token_more : (at b c place : ℕ) (text : List ℕ) → eqb b 37 ≡ true → is_token c ≡ true → Told (at + 2) text place
+    → Told at (b ∷ c ∷ text) place
 token_more at b c place text e k t =
     record {
       inside = suc (suc t.inside);
@@ -117,12 +137,15 @@ token_more at b c place text e k t =
       place_is = let p = t.place_is in omega arith;
     }
 
-last : (v : Bool) (at b place : ℕ) → eqb b 37 ≡ v → cond {A = Option ℕ} v (Some at) None ≡ Some place → Told at (b ∷ []) place
+last : (v : Bool) (at b place : ℕ) → eqb b 37 ≡ v → cond {A = Option ℕ} v (Some at) None ≡ Some place
+    → Told at (b ∷ []) place
 last true at b place e h = here at place b [] e tt cc
 last false at b place e h = absurd cc
 
-two : (v w : Bool) (at b c place : ℕ) (cs : List ℕ) (x y : Option ℕ) → eqb b 37 ≡ v → is_token c ≡ w → cond v (cond w x (Some at)) y ≡ Some place
-    → (x ≡ Some place → Told (at + 2) cs place) → (y ≡ Some place → Told (at + 1) (c ∷ cs) place) → Told at (b ∷ c ∷ cs) place
+two : (v w : Bool) (at b c place : ℕ) (cs : List ℕ) (x y : Option ℕ) → eqb b 37 ≡ v → is_token c ≡ w
+    → cond v (cond w x (Some at)) y ≡ Some place
+    → (x ≡ Some place → Told (at + 2) cs place) → (y ≡ Some place → Told (at + 1) (c ∷ cs) place)
+    → Told at (b ∷ c ∷ cs) place
 two true true at b c place cs x y e k h token byte = token_more at b c place cs e k (token h)
 two true false at b c place cs x y e k h token byte = here at place b (c ∷ cs) e k cc
 two false w at b c place cs x y e k h token byte = byte_more at b place (c ∷ cs) e (byte h)

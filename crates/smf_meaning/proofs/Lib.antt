@@ -1,8 +1,8 @@
 mod Codes
 mod Commands
 mod Composed
-mod Editing
-mod Ignoring
+mod Edits
+mod Failures
 mod Restored
 mod Rounds
 mod RunsTaken

@@ -9,7 +9,7 @@ use Rattle.smf_state.specs.declared.state.State.TheVariants.{Uninitialized, Disa
 use Rattle.smf_state.specs.declared.step.Proposal.{Proposal}
 use Rattle.smf_state.specs.declared.step.Step.{Step}
 use Rattle.smf_state.specs.declared.step.Step.TheVariants.{Move, Start, Stop, Refresh, End, Note}
-use Rattle.smf_state.specs.Rows.{allowed, applied, applied_unless, exhausted, is_next_run, is_steady, is_stopped, last_with, may_count, may_end, may_move, not_live, numbered, refusal, same_state, stepped, still_live}
+use Rattle.smf_state.specs.Rows.{is_allowed, result_of_proposal, applied_unless, is_exhausted, is_next_run, is_steady, is_stopped, last_with, may_count, may_end, may_move, not_live, row_with_numbers, refusal, same_state, row_after_step, still_live}
 use Rattle.smf_state.specs.States.{edge, runs}
 use Rattle.smf_meaning.specs.Runs.{StepsOn, TakesSide}
 
@@ -18,7 +18,8 @@ granted None r after e = (refl, cc)
 granted (Some fault) r after e = absurd cc
 
 -- none of the reasons holds, and the step is allowed
-reasons : (a b c d : Bool) → cond a (Some Exhausted) (cond b (Some StillLive) (cond c (Some NotLive) (cond d None (Some NoEdge)))) ≡ None
+reasons : (a b c d : Bool)
+    → cond a (Some Exhausted) (cond b (Some StillLive) (cond c (Some NotLive) (cond d None (Some NoEdge)))) ≡ None
     → (b ≡ false) × (d ≡ true)
 reasons true b c d e = absurd cc
 reasons false true c d e = absurd cc
@@ -89,7 +90,8 @@ end_not Degraded (Some Online) keep e = cc
 end_not Degraded (Some Degraded) keep e = cc
 end_not Degraded (Some Maintenance) keep e = cc
 
-end_from : (from : State) (next : Option State) (to : State) (keep : Bool) → may_end from next to keep ≡ true → from ≡ Uninitialized → ⊥
+end_from : (from : State) (next : Option State) (to : State) (keep : Bool) → may_end from next to keep ≡ true
+    → from ≡ Uninitialized → ⊥
 end_from Uninitialized None to keep e same = cc
 end_from Uninitialized (Some next) to keep e same = cc
 end_from Disabled next to keep e same = cc
@@ -100,19 +102,24 @@ end_from Maintenance next to keep e same = cc
 
 -- ---- runs
 
-takes_side : (r after : Row) (run : Option ℕ) → is_next_run r run ≡ true → after.last ≡ last_with r.last run → after.side ≡ run → TakesSide r after run
+takes_side : (r after : Row) (run : Option ℕ) → is_next_run r run ≡ true → after.last ≡ last_with r.last run
+    → after.side ≡ run → TakesSide r after run
 takes_side r after None next last side = (last, side)
 takes_side r after (Some run) next last side = ((eqb-true run (r.last + 1) next, last), side)
 
 runs_steady : (r : Row) → is_steady r ≡ true → runs r.state ≡ true
 runs_steady r e = (and_parts (is_none r.next) (runs r.state) e).1
 
-steps : (r : Row) (s : Step) (p : Proposal) (revision : ℕ) → still_live r s ≡ false → allowed r s ≡ true
-    → StepsOn s r (numbered (stepped r s revision) (r.number + 1) p)
+steps : (r : Row) (s : Step) (p : Proposal) (revision : ℕ) → still_live r s ≡ false → is_allowed r s ≡ true
+    → StepsOn s r (row_with_numbers (row_after_step r s revision) (r.number + 1) p)
 steps r (Move to) p revision live may =
     let move : may_move r.state to ≡ true = (and_parts (is_none r.next) _ may).1 in
     let parts = and_parts (edge r.state to && not (same_state to Uninitialized)) _ move in
-    record { runs = refl; began_before = λ e. (to, refl); never_again = not_same to (and_parts (edge r.state to) _ parts.0).1 }
+    record {
+      runs = refl;
+      began_before = λ e. (to, refl);
+      never_again = not_same to (and_parts (edge r.state to) _ parts.0).1;
+    }
 steps r (Start run s d i b) p revision live may =
     let parts = and_parts (same_state r.state Offline && is_none r.next) _ may in
     let offline = is_offline r.state (and_parts (same_state r.state Offline) _ parts.0).0 in
@@ -124,13 +131,30 @@ steps r (Start run s d i b) p revision live may =
 steps r (Stop to c run) p revision live may =
     let parts = and_parts (is_steady r && is_stopped to) _ may in
     let on = runs_not r.state (runs_steady r (and_parts (is_steady r) _ parts.0).0) in
-    record { runs = (takes_side r (numbered (stepped r (Stop to c run) revision) (r.number + 1) p) run parts.1 refl refl, refl); began_before = λ e. absurd (on e); never_again = on }
+    record {
+      runs = (
+        takes_side r (row_with_numbers (row_after_step r (Stop to c run) revision) (r.number + 1) p) run
+            parts.1 refl refl,
+        refl,
+      );
+      began_before = λ e. absurd (on e);
+      never_again = on;
+    }
 steps r (Refresh run) p revision live may =
     let parts = and_parts (is_steady r) _ may in
     let on = runs_not r.state (runs_steady r parts.0) in
-    record { runs = (takes_side r (numbered (stepped r (Refresh run) revision) (r.number + 1) p) run parts.1 refl refl, refl); began_before = λ e. absurd (on e); never_again = on }
+    record {
+      runs = (
+        takes_side r (row_with_numbers (row_after_step r (Refresh run) revision) (r.number + 1) p) run
+            parts.1 refl refl,
+        refl,
+      );
+      began_before = λ e. absurd (on e);
+      never_again = on;
+    }
 steps r (End to keep failed c) p revision live may =
-    let end : may_end r.state r.next to keep ≡ true = (and_parts (may_end r.state r.next to keep) (may_count to failed) may).0 in
+    let end : may_end r.state r.next to keep ≡ true =
+    (and_parts (may_end r.state r.next to keep) (may_count to failed) may).0 in
     record {
       runs = refl;
       began_before = λ e. absurd (end_from r.state r.next to keep end e);
@@ -140,9 +164,11 @@ steps r (Note bits keep) p revision live may =
     let on = runs_not r.state (runs_steady r (and_parts (is_steady r) _ may).0) in
     record { runs = refl; began_before = λ e. absurd (on e); never_again = on }
 
-pub steps_on : (r after : Row) (p : Proposal) (revision : ℕ) → applied r p revision ≡ Ok after → StepsOn p.step r after
-unfolding applied
+pub steps_on : (r after : Row) (p : Proposal) (revision : ℕ) → result_of_proposal r p revision ≡ Ok after
+    → StepsOn p.step r after
+unfolding result_of_proposal
 steps_on r after p revision e =
-    let taken = granted (refusal r p.step) (numbered (stepped r p.step revision) (r.number + 1) p) after e in
-    let may = reasons (exhausted r p.step) (still_live r p.step) (not_live r p.step) (allowed r p.step) taken.0 in
+    let taken = granted (refusal r p.step) (row_with_numbers (row_after_step r p.step revision) (r.number + 1) p)
+    after e in
+    let may = reasons (is_exhausted r p.step) (still_live r p.step) (not_live r p.step) (is_allowed r p.step) taken.0 in
     subst (StepsOn p.step r) taken.1 (steps r p.step p revision may.0 may.1)

@@ -3,9 +3,9 @@ use Rattle.std.proofs.Common.{◌≡◌, ℕ, zero, suc, ◌+◌, ◌-◌, List,
 use Rattle.std.proofs.lemmas.Bool.{and_parts}
 use Rattle.std.proofs.lemmas.List.{length-append}
 use Rattle.smf_fmri.specs.Counts.{no_space}
-use Rattle.smf_state.specs.Fields.{◌>>=◌, field_read, left_of, read_as, split_field, taken}
+use Rattle.smf_state.specs.Fields.{◌>>=◌, field_read, left_of, read_as, split_field, next_field}
 use Rattle.smf_meaning.specs.FirstWrong.{IsFirstWrong, Stops}
-use Rattle.smf_meaning.specs.WrongFields.{AreFieldsOf, AreSpaceless, IsWrongField, line_of, spaced, text_of}
+use Rattle.smf_meaning.specs.WrongFields.{AreFieldsOf, AreSpaceless, IsWrongField, line_of, space_and_rest, text_of}
 
 -- ---- tests of fields
 
@@ -41,7 +41,8 @@ pass_all (t ∷ ts) [] gs p q = absurd q
 pass_all (t ∷ ts) (f ∷ fs) gs p q = pass_all ts fs gs p.1 q.1
 
 -- so much of an example passes after the fields that are there
-pub pass_drop : (ts us : List Test) (example fs : List (List ℕ)) → Pass (ts ++ us) example → Pass ts fs → Pass us (drop (length fs) example)
+pub pass_drop : (ts us : List Test) (example fs : List (List ℕ)) → Pass (ts ++ us) example → Pass ts fs
+    → Pass us (drop (length fs) example)
 pass_drop [] us example [] p q = p
 pass_drop [] us example (f ∷ fs) p q = absurd q
 pass_drop (t ∷ ts) us example [] p q = absurd q
@@ -67,20 +68,21 @@ no_space_test : (v : Bool) (b : ℕ) → (b == 32) ≡ v → not v ≡ true → 
 no_space_test true b e h = absurd cc
 no_space_test false b e h = e
 
-split_is : (f : List ℕ) (rest : Option (List ℕ)) → no_space f ≡ true → split_field (f ++ spaced rest) ≡ (f, rest)
+split_is : (f : List ℕ) (rest : Option (List ℕ)) → no_space f ≡ true
+    → split_field (f ++ space_and_rest rest) ≡ (f, rest)
 split_is [] None h = refl
 split_is [] (Some rest) h = refl
 split_is (b ∷ bs) rest h =
     let parts = and_parts (not (b == 32)) _ h in
     let other : (b == 32) ≡ false = no_space_test _ b refl parts.0 in
-    let more : split_field (bs ++ spaced rest) ≡ (bs, rest) = split_is bs rest parts.1 in
+    let more : split_field (bs ++ space_and_rest rest) ≡ (bs, rest) = split_is bs rest parts.1 in
     rw (other, more) refl
 
 -- a text is the line of its fields
 record HasFields (text : List ℕ) : Type 0 where
   first : List ℕ
   others : List (List ℕ)
-  line : first ++ spaced (line_of others) ≡ text
+  line : first ++ space_and_rest (line_of others) ≡ text
   spaceless : AreSpaceless (first ∷ others)
 
 fields_more : (v : Bool) (b : ℕ) (bs : List ℕ) → (b == 32) ≡ v → HasFields bs → HasFields (b ∷ bs)
@@ -105,7 +107,8 @@ has_fields [] = record { first = []; others = []; line = refl; spaceless = (refl
 has_fields (b ∷ bs) = fields_more (b == 32) b bs refl (has_fields bs)
 
 pub fields_of : (text : List ℕ) → (f : List ℕ) × (fs : List (List ℕ)) × AreFieldsOf text (f ∷ fs)
-fields_of text = let h = has_fields text in (h.first, h.others, record { line = ap Some h.line; spaceless = h.spaceless })
+fields_of text = let h = has_fields text in
+    (h.first, h.others, record { line = ap Some h.line; spaceless = h.spaceless })
 
 -- the text from a field on
 record Ends (text : List ℕ) (after : List (List ℕ)) : Type 0 where
@@ -114,24 +117,31 @@ record Ends (text : List ℕ) (after : List (List ℕ)) : Type 0 where
 
 ends : (before after : List (List ℕ)) (text : List ℕ) → line_of (before ++ after) ≡ Some text → Ends text after
 ends [] [] text e = absurd cc
-ends [] (g ∷ gs) text e = record { front = []; split = let same : g ++ spaced (line_of gs) ≡ text = cc in sym same }
+ends [] (g ∷ gs) text e =
+    record { front = []; split = let same : g ++ space_and_rest (line_of gs) ≡ text = cc in sym same }
 ends (f ∷ fs) after text e = by (line_of (fs ++ after)) refl (ends fs after)
   where
-    by : (o : Option (List ℕ)) → line_of (fs ++ after) ≡ o → ((t : List ℕ) → line_of (fs ++ after) ≡ Some t → Ends t after) → Ends text after
+    by : (o : Option (List ℕ)) → line_of (fs ++ after) ≡ o
+        → ((t : List ℕ) → line_of (fs ++ after) ≡ Some t → Ends t after) → Ends text after
     by None h more =
-        let same : f ++ spaced (line_of (fs ++ after)) ≡ text = cc in
-        record { front = f; split = sym same ∙ ap (λ o. f ++ spaced o) h ∙ ap (λ (l : List ℕ). f ++ l) (sym (none fs after h)) }
+        let same : f ++ space_and_rest (line_of (fs ++ after)) ≡ text = cc in
+        record {
+          front = f;
+          split = sym same ∙ ap (λ o. f ++ space_and_rest o) h
+              ∙ ap (λ (l : List ℕ). f ++ l) (sym (none fs after h));
+        }
       where
         none : (xs ys : List (List ℕ)) → line_of (xs ++ ys) ≡ None → text_of (line_of ys) ≡ []
         none [] [] e = refl
         none [] (y ∷ ys) e = absurd cc
         none (x ∷ xs) ys e = absurd cc
     by (Some t) h more =
-        let same : f ++ spaced (line_of (fs ++ after)) ≡ text = cc in
+        let same : f ++ space_and_rest (line_of (fs ++ after)) ≡ text = cc in
         let m = more t h in
         record {
           front = f ++ 32 ∷ m.front;
-          split = sym same ∙ ap (λ o. f ++ spaced o) h ∙ ap (λ (l : List ℕ). f ++ 32 ∷ l) m.split ∙ sym (append_assoc f (32 ∷ m.front) (text_of (line_of after)));
+          split = sym same ∙ ap (λ o. f ++ space_and_rest o) h ∙ ap (λ (l : List ℕ). f ++ 32 ∷ l) m.split
+              ∙ sym (append_assoc f (32 ∷ m.front) (text_of (line_of after)));
         }
 
 left_is : (o : Option (List ℕ)) → left_of o ≡ length (text_of o)
@@ -170,15 +180,24 @@ abbrev pub Walks : {X : Type 0} → List Test → List (List ℕ) → Result (X 
 Walks tests fields (Ok x) = GoesPast tests fields x.1
 Walks tests fields (Err left) = StopsAt tests fields left
 
-pub walked : {X : Type 0} (x : X) (rest : Option (List ℕ)) (fields : List (List ℕ)) → rest ≡ line_of fields → AreSpaceless fields
+pub walked : {X : Type 0} (x : X) (rest : Option (List ℕ)) (fields : List (List ℕ)) → rest ≡ line_of fields
+    → AreSpaceless fields
     → Walks {X = X} [] fields (Ok (x, rest))
 walked x rest fields e s = record { before = []; after = fields; split = refl; passed = tt; rest_is = e; spaceless = s }
 
 -- one field more in front
-pub fronted : {X : Type 0} (t : Test) (ts : List Test) (f : List ℕ) (fs : List (List ℕ)) (r : Result (X × Option (List ℕ)) ℕ) → t f ≡ true
+pub fronted : {X : Type 0} (t : Test) (ts : List Test) (f : List ℕ) (fs : List (List ℕ))
+    (r : Result (X × Option (List ℕ)) ℕ) → t f ≡ true
     → Walks ts fs r → Walks (t ∷ ts) (f ∷ fs) r
 fronted t ts f fs (Ok x) e w =
-    record { before = f ∷ w.before; after = w.after; split = ap (λ (l : List (List ℕ)). f ∷ l) w.split; passed = (e, w.passed); rest_is = w.rest_is; spaceless = w.spaceless }
+    record {
+      before = f ∷ w.before;
+      after = w.after;
+      split = ap (λ (l : List (List ℕ)). f ∷ l) w.split;
+      passed = (e, w.passed);
+      rest_is = w.rest_is;
+      spaceless = w.spaceless;
+    }
 fronted t ts f fs (Err left) e w =
     record {
       done = t ∷ w.done;
@@ -193,44 +212,75 @@ fronted t ts f fs (Err left) e w =
       left_is = w.left_is;
     }
 
-field_by : {X Y : Type 0} (o : Option X) (read : List ℕ → Option X) (ts : List Test) (f : List ℕ) (fs : List (List ℕ)) (left : ℕ)
-    (k : X × Option (List ℕ) → Result (Y × Option (List ℕ)) ℕ) → read f ≡ o → left ≡ left_of (line_of (f ∷ fs)) → AreSpaceless fs
-    → ((x : X × Option (List ℕ)) (others : List (List ℕ)) → x.1 ≡ line_of others → AreSpaceless others → Walks ts others (k x))
+field_by : {X Y : Type 0} (o : Option X) (read : List ℕ → Option X) (ts : List Test) (f : List ℕ) (fs : List (List ℕ))
+    (left : ℕ)
+    (k : X × Option (List ℕ) → Result (Y × Option (List ℕ)) ℕ) → read f ≡ o → left ≡ left_of (line_of (f ∷ fs))
+    → AreSpaceless fs
+    → ((x : X × Option (List ℕ)) (others : List (List ℕ)) → x.1 ≡ line_of others → AreSpaceless others
+    → Walks ts others (k x))
     → Walks (readable read ∷ ts) (f ∷ fs) (field_read o (line_of fs) left >>= k)
 field_by None read ts f fs left k e l s more =
-    record { done = []; next = readable read; more = ts; tests_are = refl; before = []; after = f ∷ fs; split = refl; passed = tt; fails = ap is_some e; left_is = l }
-field_by (Some x) read ts f fs left k e l s more = fronted (readable read) ts f fs (k (x, line_of fs)) (ap is_some e) (more (x, line_of fs) fs refl s)
+    record {
+      done = [];
+      next = readable read;
+      more = ts;
+      tests_are = refl;
+      before = [];
+      after = f ∷ fs;
+      split = refl;
+      passed = tt;
+      fails = ap is_some e;
+      left_is = l;
+    }
+field_by (Some x) read ts f fs left k e l s more =
+    fronted (readable read) ts f fs (k (x, line_of fs)) (ap is_some e) (more (x, line_of fs) fs refl s)
 
 field_at : {X Y : Type 0} (read : List ℕ → Option X) (ts : List Test) (fields : List (List ℕ))
     (k : X × Option (List ℕ) → Result (Y × Option (List ℕ)) ℕ) → AreSpaceless fields
-    → ((x : X × Option (List ℕ)) (others : List (List ℕ)) → x.1 ≡ line_of others → AreSpaceless others → Walks ts others (k x))
-    → Walks (readable read ∷ ts) fields (taken read (line_of fields) >>= k)
-unfolding taken
+    → ((x : X × Option (List ℕ)) (others : List (List ℕ)) → x.1 ≡ line_of others → AreSpaceless others
+    → Walks ts others (k x))
+    → Walks (readable read ∷ ts) fields (next_field read (line_of fields) >>= k)
+unfolding next_field
 field_at read ts [] k s more =
-    record { done = []; next = readable read; more = ts; tests_are = refl; before = []; after = []; split = refl; passed = tt; fails = tt; left_is = refl }
+    record {
+      done = [];
+      next = readable read;
+      more = ts;
+      tests_are = refl;
+      before = [];
+      after = [];
+      split = refl;
+      passed = tt;
+      fails = tt;
+      left_is = refl;
+    }
 field_at {X = X} read ts (f ∷ fs) k s more =
-    subst (λ (p : List ℕ × Option (List ℕ)). Walks (readable read ∷ ts) (f ∷ fs) (read_as read (left_of (line_of (f ∷ fs))) (Some p) >>= k))
+    subst (λ (p : List ℕ × Option (List ℕ)). Walks (readable read ∷ ts) (f ∷ fs)
+    (read_as read (left_of (line_of (f ∷ fs))) (Some p) >>= k))
     (sym (split_is f (line_of fs) s.0))
     (field_by (read f) read ts f fs (left_of (line_of (f ∷ fs))) k refl refl s.1 more)
 
 -- how the first field is read
 pub taken_first : {X : Type 0} (read : List ℕ → Option X) (f : List ℕ) (fs : List (List ℕ)) → no_space f ≡ true
-    → ((x : X) → read f ≡ Some x → taken read (line_of (f ∷ fs)) ≡ Ok (x, line_of fs))
-    × (read f ≡ None → taken read (line_of (f ∷ fs)) ≡ Err (left_of (line_of (f ∷ fs))))
-unfolding taken
+    → ((x : X) → read f ≡ Some x → next_field read (line_of (f ∷ fs)) ≡ Ok (x, line_of fs))
+    × (read f ≡ None → next_field read (line_of (f ∷ fs)) ≡ Err (left_of (line_of (f ∷ fs))))
+unfolding next_field
 taken_first read f fs s =
     let at = split_is f (line_of fs) s in
     (λ x e. rw (at, e) refl, λ e. rw (at, e) refl)
 
 -- a field, and the rest that is read after it
-pub field_then : {X Y : Type 0} (read : List ℕ → Option X) (ts : List Test) (rest : Option (List ℕ)) (fields : List (List ℕ))
+pub field_then : {X Y : Type 0} (read : List ℕ → Option X) (ts : List Test) (rest : Option (List ℕ))
+    (fields : List (List ℕ))
     (k : X × Option (List ℕ) → Result (Y × Option (List ℕ)) ℕ) → rest ≡ line_of fields → AreSpaceless fields
-    → ((x : X × Option (List ℕ)) (others : List (List ℕ)) → x.1 ≡ line_of others → AreSpaceless others → Walks ts others (k x))
-    → Walks (readable read ∷ ts) fields (taken read rest >>= k)
+    → ((x : X × Option (List ℕ)) (others : List (List ℕ)) → x.1 ≡ line_of others → AreSpaceless others
+    → Walks ts others (k x))
+    → Walks (readable read ∷ ts) fields (next_field read rest >>= k)
 field_then read ts rest fields k e s more =
-    subst (λ r. Walks (readable read ∷ ts) fields (taken read r >>= k)) (sym e) (field_at read ts fields k s more)
+    subst (λ r. Walks (readable read ∷ ts) fields (next_field read r >>= k)) (sym e) (field_at read ts fields k s more)
 
-behind_by : {Y : Type 0} (ts us : List Test) (before after : List (List ℕ)) (r : Result (Y × Option (List ℕ)) ℕ) → Pass ts before
+behind_by : {Y : Type 0} (ts us : List Test) (before after : List (List ℕ)) (r : Result (Y × Option (List ℕ)) ℕ)
+    → Pass ts before
     → Walks us after r → Walks (ts ++ us) (before ++ after) r
 behind_by ts us before after (Ok y) p w =
     record {
@@ -258,7 +308,8 @@ behind_by ts us before after (Err left) p w =
 -- one reader after another
 pub walk_then : {X Y : Type 0} (ts us : List Test) (fields : List (List ℕ)) (m : Result (X × Option (List ℕ)) ℕ)
     (k : X × Option (List ℕ) → Result (Y × Option (List ℕ)) ℕ) → Walks ts fields m
-    → ((x : X × Option (List ℕ)) (others : List (List ℕ)) → x.1 ≡ line_of others → AreSpaceless others → Walks us others (k x))
+    → ((x : X × Option (List ℕ)) (others : List (List ℕ)) → x.1 ≡ line_of others → AreSpaceless others
+    → Walks us others (k x))
     → Walks (ts ++ us) fields (m >>= k)
 walk_then ts us fields (Ok x) k w more =
     subst (λ (l : List (List ℕ)). Walks (ts ++ us) l (k x)) (sym w.split)
@@ -289,24 +340,32 @@ pub record Judges (tests : List Test) (AreGood : List (List ℕ) → Type 0) (ex
 abbrev pub AreTested : List Test → (List (List ℕ) → Type 0) → List (List ℕ) → Type 0
 AreTested tests AreGood before = (rest : List (List ℕ)) → AreGood (before ++ rest) → Pass tests (before ++ rest)
 
-stops_at : (tests : List Test) (AreGood : List (List ℕ) → Type 0) (done : List Test) (next : Test) (more : List Test) (before after : List (List ℕ))
-    → tests ≡ done ++ next ∷ more → Pass done before → Fails next after → AreTested tests AreGood before → Stops AreGood before after
+stops_at : (tests : List Test) (AreGood : List (List ℕ) → Type 0) (done : List Test) (next : Test) (more : List Test)
+    (before after : List (List ℕ))
+    → tests ≡ done ++ next ∷ more → Pass done before → Fails next after → AreTested tests AreGood before
+    → Stops AreGood before after
 stops_at tests AreGood done next more before [] e p f tested =
     λ good.
-    let all : Pass (done ++ next ∷ more) (before ++ []) = subst (λ (ts : List Test). Pass ts (before ++ [])) e (tested [] (subst AreGood (sym (append-nil before)) good)) in
+    let all : Pass (done ++ next ∷ more) (before ++ []) =
+    subst (λ (ts : List Test). Pass ts (before ++ [])) e
+    (tested [] (subst AreGood (sym (append-nil before)) good)) in
     pass_behind done (next ∷ more) before [] all p
 stops_at tests AreGood done next more before (g ∷ gs) e p f tested =
     λ rest good.
-    let all : Pass (done ++ next ∷ more) (before ++ g ∷ rest) = subst (λ (ts : List Test). Pass ts (before ++ g ∷ rest)) e (tested (g ∷ rest) good) in
+    let all : Pass (done ++ next ∷ more) (before ++ g ∷ rest) =
+    subst (λ (ts : List Test). Pass ts (before ++ g ∷ rest)) e (tested (g ∷ rest) good) in
     let here : next g ≡ true = (pass_behind done (next ∷ more) before (g ∷ rest) all p).0 in
     let clash : true ≡ false = sym here ∙ f in
     cc
 
-placed : (AreGood : List (List ℕ) → Type 0) (text : List ℕ) (fields before after : List (List ℕ)) (left : ℕ) → AreFieldsOf text fields
-    → IsFirstWrong AreGood fields before after → left ≡ left_of (line_of after) → IsWrongField AreGood text (length text - left)
+placed : (AreGood : List (List ℕ) → Type 0) (text : List ℕ) (fields before after : List (List ℕ)) (left : ℕ)
+    → AreFieldsOf text fields
+    → IsFirstWrong AreGood fields before after → left ≡ left_of (line_of after)
+    → IsWrongField AreGood text (length text - left)
 placed AreGood text fields before after left are first e =
     let n = ends before after text (ap line_of (sym first.split) ∙ are.line) in
-    let lengths : length text ≡ length n.front + length (text_of (line_of after)) = ap length n.split ∙ length-append n.front (text_of (line_of after)) in
+    let lengths : length text ≡ length n.front + length (text_of (line_of after)) =
+    ap length n.split ∙ length-append n.front (text_of (line_of after)) in
     let rest : left ≡ length (text_of (line_of after)) = e ∙ left_is (line_of after) in
     record {
       fields = fields;
@@ -320,38 +379,48 @@ placed AreGood text fields before after left are first e =
     }
 
 -- the first wrong field is the one at which a reader stops
-pub wrong_stop : (tests : List Test) (AreGood : List (List ℕ) → Type 0) (example : List (List ℕ)) (text : List ℕ) (fields : List (List ℕ)) (left : ℕ)
-    → Judges tests AreGood example → AreFieldsOf text fields → (w : StopsAt tests fields left) → AreTested tests AreGood w.before
+pub wrong_stop : (tests : List Test) (AreGood : List (List ℕ) → Type 0) (example : List (List ℕ)) (text : List ℕ)
+    (fields : List (List ℕ)) (left : ℕ)
+    → Judges tests AreGood example → AreFieldsOf text fields → (w : StopsAt tests fields left)
+    → AreTested tests AreGood w.before
     → IsWrongField AreGood text (length text - left)
 wrong_stop tests AreGood example text fields left j are w tested =
-    let example_passes : Pass (w.done ++ w.next ∷ w.more) example = subst (λ (ts : List Test). Pass ts example) w.tests_are j.example_passes in
+    let example_passes : Pass (w.done ++ w.next ∷ w.more) example =
+    subst (λ (ts : List Test). Pass ts example) w.tests_are j.example_passes in
     let ending : List (List ℕ) = drop (length w.before) example in
     let passes : Pass (w.done ++ w.next ∷ w.more) (w.before ++ ending) =
-    pass_append w.done (w.next ∷ w.more) w.before ending w.passed (pass_drop w.done (w.next ∷ w.more) example w.before example_passes w.passed) in
+    pass_append w.done (w.next ∷ w.more) w.before ending w.passed
+    (pass_drop w.done (w.next ∷ w.more) example w.before example_passes w.passed) in
     let spaceless : AreSpaceless (w.before ++ ending) =
-    spaceless_append w.before ending (spaceless_front w.before w.after (subst AreSpaceless w.split are.spaceless)) (spaceless_drop (length w.before) example j.example_spaceless) in
+    spaceless_append w.before ending (spaceless_front w.before w.after (subst AreSpaceless w.split are.spaceless))
+    (spaceless_drop (length w.before) example j.example_spaceless) in
     placed AreGood text fields w.before w.after left are
     (record {
       split = w.split;
       ending = ending;
-      goes_on = j.good (w.before ++ ending) (subst (λ (ts : List Test). Pass ts (w.before ++ ending)) (sym w.tests_are) passes) spaceless;
+      goes_on = j.good (w.before ++ ending)
+          (subst (λ (ts : List Test). Pass ts (w.before ++ ending)) (sym w.tests_are) passes) spaceless;
       stops = stops_at tests AreGood w.done w.next w.more w.before w.after w.tests_are w.passed w.fails tested;
     })
     w.left_is
 
-too_many : (tests : List Test) (AreGood : List (List ℕ) → Type 0) (before after : List (List ℕ)) → Pass tests before → (after ≡ [] → ⊥)
+too_many : (tests : List Test) (AreGood : List (List ℕ) → Type 0) (before after : List (List ℕ)) → Pass tests before
+    → (after ≡ [] → ⊥)
     → AreTested tests AreGood before → Stops AreGood before after
 too_many tests AreGood before [] p some tested = absurd (some refl)
 too_many tests AreGood before (g ∷ gs) p some tested =
     λ rest good. let none : g ∷ rest ≡ [] = pass_all tests before (g ∷ rest) (tested (g ∷ rest) good) p in cc
 
 -- the first wrong field is the one after all fields that a reader has read
-pub wrong_rest : (tests : List Test) (AreGood : List (List ℕ) → Type 0) (example : List (List ℕ)) (text : List ℕ) (fields : List (List ℕ)) (rest : List ℕ)
-    → Judges tests AreGood example → AreFieldsOf text fields → (w : GoesPast tests fields (Some rest)) → AreTested tests AreGood w.before
+pub wrong_rest : (tests : List Test) (AreGood : List (List ℕ) → Type 0) (example : List (List ℕ)) (text : List ℕ)
+    (fields : List (List ℕ)) (rest : List ℕ)
+    → Judges tests AreGood example → AreFieldsOf text fields → (w : GoesPast tests fields (Some rest))
+    → AreTested tests AreGood w.before
     → IsWrongField AreGood text (length text - length rest)
 wrong_rest tests AreGood example text fields rest j are w tested =
     let some : w.after ≡ [] → ⊥ = λ e. let none : Some rest ≡ None = w.rest_is ∙ ap line_of e in cc in
-    let spaceless : AreSpaceless w.before = spaceless_front w.before w.after (subst AreSpaceless w.split are.spaceless) in
+    let spaceless : AreSpaceless w.before =
+    spaceless_front w.before w.after (subst AreSpaceless w.split are.spaceless) in
     placed AreGood text fields w.before w.after (length rest) are
     (record {
       split = w.split;
@@ -362,7 +431,8 @@ wrong_rest tests AreGood example text fields rest j are w tested =
     (ap left_of w.rest_is)
 
 -- a reader of what passes stops nowhere, and leaves nothing
-pub passes_on : {X : Type 0} (tests : List Test) (fields : List (List ℕ)) (r : Result (X × Option (List ℕ)) ℕ) → Pass tests fields → Walks tests fields r
+pub passes_on : {X : Type 0} (tests : List Test) (fields : List (List ℕ)) (r : Result (X × Option (List ℕ)) ℕ)
+    → Pass tests fields → Walks tests fields r
     → (x : X) × (r ≡ Ok (x, None))
 passes_on tests fields (Err left) p w = absurd (by w.after w.fails behind)
   where
@@ -379,7 +449,8 @@ passes_on {X = X} tests fields (Ok x) p w =
     (x.0, ap (λ (o : Option (List ℕ)). Ok (x.0, o)) (w.rest_is ∙ ap line_of none))
 
 -- fields that a reader reads to the end pass
-pub passed_all : {X : Type 0} (tests : List Test) (fields : List (List ℕ)) (r : Result (X × Option (List ℕ)) ℕ) (x : X) → r ≡ Ok (x, None) → Walks tests fields r
+pub passed_all : {X : Type 0} (tests : List Test) (fields : List (List ℕ)) (r : Result (X × Option (List ℕ)) ℕ)
+    (x : X) → r ≡ Ok (x, None) → Walks tests fields r
     → Pass tests fields
 passed_all {X = X} tests fields r x e w =
     let g : GoesPast tests fields None = subst (Walks {X = X} tests fields) e w in

@@ -60,7 +60,8 @@ told at (b ∷ bs) place e = told_by (is_word_byte b && nat_lt at 255) at b bs p
 abbrev Reads : List ℕ → Type 0
 Reads text = name_wrong text ≡ None
 
-wrong_by : (v : Bool) (b : ℕ) (bs : List ℕ) (place : ℕ) → is_ascii_alphanumeric b ≡ v → cond v (rest_wrong 1 bs) (Some 0) ≡ Some place
+wrong_by : (v : Bool) (b : ℕ) (bs : List ℕ) (place : ℕ) → is_ascii_alphanumeric b ≡ v
+    → cond v (rest_wrong 1 bs) (Some 0) ≡ Some place
     → IsWrongByte IsNameText (b ∷ bs) place
 wrong_by false b bs place h e =
     wrong_byte Reads IsNameText (b ∷ bs) [] (b ∷ bs) place name_is name_reads
@@ -94,9 +95,11 @@ wrong [] place e =
     (let same : 0 ≡ place = cc in sym same)
 wrong (b ∷ bs) place e = wrong_by (is_ascii_alphanumeric b) b bs place refl e
 
-fault_by : (text : List ℕ) (o : Option ℕ) (fault : NameFault) → name_wrong text ≡ o → read_by text o ≡ Err fault → IsWordFault text fault
+fault_by : (text : List ℕ) (o : Option ℕ) (fault : NameFault) → name_wrong text ≡ o → read_by text o ≡ Err fault
+    → IsWordFault text fault
 fault_by text None fault w e = absurd cc
-fault_by text (Some place) fault w e = let same : Component place ≡ fault = cc in subst (IsWordFault text) same (wrong text place w)
+fault_by text (Some place) fault w e = let same : Component place ≡ fault = cc in
+    subst (IsWordFault text) same (wrong text place w)
 
 pub word_fault : (text : List ℕ) (fault : NameFault) → read_name text ≡ Err fault → IsWordFault text fault
 unfolding read_name

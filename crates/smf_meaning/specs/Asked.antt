@@ -1,7 +1,7 @@
 -- Dependency groups ask by the words of their properties.
 use Rattle.std.specs.Prelude.{◌≡◌, ◌⊎◌, ℕ, List, [], ◌∷◌, ◌++◌, codes, Option, Some, None}
 use Rattle.std.specs.List.{AllZip}
-use Rattle.smf_fmri.specs.Spelling.{Spells}
+use Rattle.smf_fmri.specs.Grammar.{Spells}
 use Rattle.smf_value.specs.declared.kind.Kind.{Kind}
 use Rattle.smf_value.specs.declared.kind.Kind.TheVariants as kinds
 use Rattle.smf_value.specs.declared.value.Value.{Value}
@@ -79,8 +79,10 @@ IsDependency g = g.group_type ≡ codes "dependency"
 -- the groups of type dependency ask these, in their order
 pub data AskAll : List GroupRecord → List Dependency → Type 0 where
   None_asks : AskAll [] []
-  Passed_over : {g : GroupRecord} {gs : List GroupRecord} {ds : List Dependency} → (IsDependency g → ⊥) → AskAll gs ds → AskAll (g ∷ gs) ds
-  One_asks : {g : GroupRecord} {gs : List GroupRecord} {d : Dependency} {ds : List Dependency} → IsDependency g → Asks g d → AskAll gs ds → AskAll (g ∷ gs) (d ∷ ds)
+  Passed_over : {g : GroupRecord} {gs : List GroupRecord} {ds : List Dependency} → (IsDependency g → ⊥) → AskAll gs ds
+      → AskAll (g ∷ gs) ds
+  One_asks : {g : GroupRecord} {gs : List GroupRecord} {d : Dependency} {ds : List Dependency} → IsDependency g
+      → Asks g d → AskAll gs ds → AskAll (g ∷ gs) (d ∷ ds)
 
 -- the first group of type dependency that can't be read, after others that can
 pub record IsFirstUnread (gs : List GroupRecord) (fault : DependencyFault) : Type 0 where

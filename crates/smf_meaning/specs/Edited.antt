@@ -1,10 +1,11 @@
 -- An edit of a group leaves the property that an administrator states.
 use Rattle.std.specs.Prelude.{◌≡◌, ℕ, ◌≤◌, List, [], ◌∷◌, ◌++◌, length, Option, Some, None}
 use Rattle.std.specs.List.{AllZip}
+use Rattle.smf_fmri.specs.declared.limits.TheConstants.{MAX_PARTS}
 use Rattle.smf_value.specs.declared.kind.Kind.{Kind}
 use Rattle.smf_value.specs.declared.value.Value.{Value}
 use Rattle.smf_value.specs.Groups.{GroupRecord, PropertyRecord, property_of}
-use Rattle.smf_value.specs.Spellings.{Spells}
+use Rattle.smf_value.specs.ValueTexts.{Spells}
 use Rattle.smf_value.specs.Values.{kind_of}
 
 -- every other property is what it was, and so is all else of the group
@@ -28,13 +29,14 @@ values_before None = []
 values_before (Some p) = p.values
 
 -- the property of the name has these texts' values, and no others
-pub record IsSet (name : List ℕ) (asked : Option Kind) (texts : List (List ℕ)) (before after : GroupRecord) : Type 0 where
+pub record IsSet (name : List ℕ) (asked : Option Kind) (texts : List (List ℕ))
+    (before after : GroupRecord) : Type 0 where
   pub stated : PropertyRecord
   pub is_there : property_of name after ≡ Some stated
   pub named : stated.name ≡ name
   pub kind : HasKind asked (property_of name before) stated.kind
   pub values : AllZip (IsRead stated.kind) texts stated.values
-  pub bounded : length stated.values ≤ 1000
+  pub bounded : length stated.values ≤ MAX_PARTS
   pub rest : LeavesOthers name before after
 
 -- the property of the name has one value more, at the end
@@ -46,7 +48,7 @@ pub record IsAdded (name : List ℕ) (asked : Option Kind) (text : List ℕ) (be
   pub kind : HasKind asked (property_of name before) stated.kind
   pub read : IsRead stated.kind text value
   pub values : stated.values ≡ values_before (property_of name before) ++ value ∷ []
-  pub bounded : length stated.values ≤ 1000
+  pub bounded : length stated.values ≤ MAX_PARTS
   pub rest : LeavesOthers name before after
 
 -- those values that are not this one, in their order

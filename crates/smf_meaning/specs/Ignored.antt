@@ -11,9 +11,9 @@ word Core = codes "core"
 word Signal = codes "signal"
 
 -- words joined by commas: 44 is ','
-abbrev pub joined : Failure → List Failure → List ℕ
-joined f [] = word f
-joined f (g ∷ gs) = word f ++ 44 ∷ joined g gs
+abbrev pub text_of_failures : Failure → List Failure → List ℕ
+text_of_failures f [] = word f
+text_of_failures f (g ∷ gs) = word f ++ 44 ∷ text_of_failures g gs
 
 abbrev pub has_core : List Failure → Bool
 has_core [] = false
@@ -33,7 +33,7 @@ sum_of fs = (if has_core fs then 1 else 0) + (if has_signal fs then 2 else 0)
 pub record AreListed (text : List ℕ) (bits : ℕ) : Type 0 where
   pub first : Failure
   pub others : List Failure
-  pub text_is : text ≡ joined first others
+  pub text_is : text ≡ text_of_failures first others
   pub bits_are : bits ≡ sum_of (first ∷ others)
 
 -- nothing, or words joined by commas

@@ -1,11 +1,11 @@
 pub mod Asked
-pub mod Composing
+pub mod Composition
 pub mod Edited
 pub mod FirstWrong
 pub mod Ignored
 pub mod NameFaults
-pub mod Parking
-pub mod Replacing
+pub mod Waits
+pub mod Commands
 pub mod Runs
 pub mod WrongFields
 pub mod WrongParts

@@ -1,9 +1,10 @@
 -- Why a text is no name, no pattern, and no name of a group or a property.
 use Rattle.std.specs.Prelude.{◌≡◌, ◌⊎◌, ℕ, ◌+◌, ◌<◌, ◌≤◌, List, [], ◌++◌, length}
+use Rattle.smf_fmri.specs.declared.limits.TheConstants.{MAX_NAME}
 use Rattle.smf_fmri.specs.declared.fault.FmriFault.{FmriFault}
 use Rattle.smf_fmri.specs.declared.fault.FmriFault.TheVariants.{Memory, Empty, TooLong, Scheme, Component}
 use Rattle.smf_fmri.specs.Name.{long, short}
-use Rattle.smf_fmri.specs.Spelling.{IsAbbreviation, IsBody}
+use Rattle.smf_fmri.specs.Grammar.{IsAbbreviation, IsBody}
 use Rattle.smf_value.specs.declared.fault.NameFault.{NameFault}
 use Rattle.smf_value.specs.declared.fault.NameFault.TheVariants as name_faults
 use Rattle.smf_value.specs.Names.{IsNameText}
@@ -31,12 +32,12 @@ HasNoScheme text = (BeginsWith long text → ⊥) × (BeginsWith short text → 
 
 -- neither of the faults that are told first
 abbrev pub IsSized : List ℕ → Type 0
-IsSized text = (text ≡ [] → ⊥) × (length text ≤ 512)
+IsSized text = (text ≡ [] → ⊥) × (length text ≤ MAX_NAME)
 
 abbrev pub IsNameFault : List ℕ → FmriFault → Type 0
 IsNameFault text Memory = ⊥
 IsNameFault text Empty = text ≡ []
-IsNameFault text TooLong = 512 < length text
+IsNameFault text TooLong = MAX_NAME < length text
 IsNameFault text Scheme = IsSized text × HasNoScheme text
 IsNameFault text (Component place) = IsSized text × IsWrongName text place
 
@@ -44,7 +45,7 @@ IsNameFault text (Component place) = IsSized text × IsWrongName text place
 abbrev pub IsPatternFault : List ℕ → FmriFault → Type 0
 IsPatternFault text Memory = ⊥
 IsPatternFault text Empty = text ≡ []
-IsPatternFault text TooLong = 512 < length text
+IsPatternFault text TooLong = MAX_NAME < length text
 IsPatternFault text Scheme = ⊥
 IsPatternFault text (Component place) =
     IsSized text × (IsWrongName text place ⊎ (HasNoScheme text × IsWrongByte IsAbbreviation text place))

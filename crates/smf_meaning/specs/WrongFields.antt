@@ -12,14 +12,14 @@ use Rattle.smf_state.specs.Texts.{IsRow, IsStep, row_text, step_text}
 use Rattle.smf_meaning.specs.FirstWrong.{IsFirstWrong}
 
 -- a space and the rest after a field: 32 is ' '
-abbrev pub spaced : Option (List ℕ) → List ℕ
-spaced None = []
-spaced (Some rest) = 32 ∷ rest
+abbrev pub space_and_rest : Option (List ℕ) → List ℕ
+space_and_rest None = []
+space_and_rest (Some rest) = 32 ∷ rest
 
 -- fields with one space between, if there are any
 abbrev pub line_of : List (List ℕ) → Option (List ℕ)
 line_of [] = None
-line_of (f ∷ fs) = Some (f ++ spaced (line_of fs))
+line_of (f ∷ fs) = Some (f ++ space_and_rest (line_of fs))
 
 abbrev pub AreSpaceless : List (List ℕ) → Type 0
 AreSpaceless fs = AllByRecursion (λ f. no_space f ≡ true) fs

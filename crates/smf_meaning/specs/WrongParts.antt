@@ -2,9 +2,10 @@
 use Rattle.std.specs.Prelude.{◌≡◌, ◌⊎◌, ℕ, ◌+◌, ◌<◌, ◌≤◌, ◌^◌, List, [], ◌∷◌, ◌++◌, length, map}
 use Rattle.std.specs.Int.{w16, w32, to_be_bytes}
 use Rattle.std.specs.List.{AllByRecursion}
+use Rattle.smf_fmri.specs.declared.limits.TheConstants.{MAX_PARTS}
 use Rattle.smf_value.specs.declared.fault.BodyFault.{BodyFault}
 use Rattle.smf_value.specs.declared.fault.BodyFault.TheVariants.{Memory, BadBody}
-use Rattle.smf_value.specs.Body.{AreGroups, IsWholeProperty, spelled, spelled_bit, spelled_text, spelled_value}
+use Rattle.smf_value.specs.Body.{AreGroups, IsWholeProperty, bytes_of_groups, spelled_bit, spelled_text, spelled_value}
 use Rattle.smf_value.specs.Groups.{GroupRecord, PropertyRecord}
 use Rattle.smf_value.specs.Kinds.{kind_code}
 use Rattle.smf_value.specs.Names.{IsName}
@@ -36,7 +37,7 @@ body_fields gs = to_be_bytes w32 (length gs) ∷ fields_of_all group_fields gs
 pub record IsFormedGroup (g : GroupRecord) : Type 0 where
   pub named : IsName g.name
   pub typed : IsName g.group_type
-  pub bounded : length g.properties ≤ 1000
+  pub bounded : length g.properties ≤ MAX_PARTS
   pub each : AllByRecursion IsWholeProperty g.properties
 
 abbrev pub AreFormed : List GroupRecord → Type 0
@@ -58,7 +59,8 @@ pub record IsWrongPart (bytes : List ℕ) (place : ℕ) : Type 0 where
   pub place_is : place ≡ length (bytes_of before)
   pub ending : List (List ℕ)
   pub goes_on : AreFormedFields (before ++ ending)
-  pub stops : (f : List ℕ) (rest : List (List ℕ)) (behind : List ℕ) → AreBodyFields (before ++ f ∷ rest) → after ≡ f ++ behind → ⊥
+  pub stops : (f : List ℕ) (rest : List (List ℕ)) (behind : List ℕ) → AreBodyFields (before ++ f ∷ rest)
+      → after ≡ f ++ behind → ⊥
   pub not_whole : AreBodyFields before → after ≡ [] → ⊥
 
 abbrev pub AreBytes : List ℕ → Type 0
@@ -73,10 +75,10 @@ pub record IsWrongSecond (bytes : List ℕ) (place : ℕ) : Type 0 where
   pub service : List GroupRecord
   pub formed : AreGroups service
   pub instance : List ℕ
-  pub split : bytes ≡ spelled service ++ instance
+  pub split : bytes ≡ bytes_of_groups service ++ instance
   pub inside : ℕ
   pub wrong : IsWrongPart instance inside
-  pub place_is : place ≡ length (spelled service) + inside
+  pub place_is : place ≡ length (bytes_of_groups service) + inside
 
 abbrev pub IsSnapshotFault : List ℕ → BodyFault → Type 0
 IsSnapshotFault bytes Memory = ⊥

@@ -6,9 +6,9 @@
 //! name), `methods` (commands), `steps` (runs).
 #![tactic(auto)]
 
-mod asking;
 mod bodies;
-mod composing;
+mod composition;
+mod dependencies;
 mod groups;
 mod lines;
 mod methods;
@@ -17,9 +17,9 @@ mod reverts;
 mod steps;
 mod waits;
 
-pub use asking::groups_ask_what_they_say;
 pub use bodies::{bodies_are_wrong_at_a_field, snapshots_are_wrong_at_a_field};
-pub use composing::groups_are_composed_alike;
+pub use composition::groups_are_composed_alike;
+pub use dependencies::groups_ask_what_they_say;
 pub use groups::edits_make_the_stated_property;
 pub use lines::{rows_are_wrong_at_a_field, steps_are_wrong_at_a_field};
 pub use methods::{

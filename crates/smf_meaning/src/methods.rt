@@ -2,10 +2,10 @@ ghost use Rattle.std.specs.Prelude.{◌≡◌, ℕ, List, Ok, Some};
 ghost use Rattle.smf_value.specs.Groups.{GroupRecord};
 ghost use Rattle.smf_method.specs.declared.call.ReadMethod.{ReadMethod as AnyMethod};
 ghost use Rattle.smf_method.specs.Methods.{method_of};
-ghost use Rattle.smf_method.specs.Settings.{ignore_by};
+ghost use Rattle.smf_method.specs.Properties.{ignore_by};
 ghost use Rattle.smf_method.specs.Tokens.{Names, wrong_token};
 ghost use Rattle.smf_meaning.specs.Ignored.{SaysIgnored};
-ghost use Rattle.smf_meaning.specs.Replacing.{IsCommandOf, IsWrongToken};
+ghost use Rattle.smf_meaning.specs.Commands.{IsCommandOf, IsWrongToken};
 
 /// The command of a method is the text `exec` of its group with each token replaced, and nothing else.
 pub fn commands_are_their_texts()

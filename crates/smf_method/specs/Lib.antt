@@ -2,6 +2,6 @@ pub mod Faults
 pub mod Timeouts
 pub mod Commands
 pub mod Tokens
-pub mod Settings
+pub mod Properties
 pub mod Methods
 pub mod Outcomes

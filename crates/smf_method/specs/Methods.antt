@@ -10,7 +10,7 @@ use Rattle.smf_method.specs.declared.call.ReadMethod.{ReadMethod}
 use Rattle.smf_method.specs.declared.fault.MethodFault.{MethodFault}
 use Rattle.smf_method.specs.declared.fault.MethodFault.TheVariants.{NoExec, BadTimeout, BadToken, BadDuration, BadIgnore}
 use Rattle.smf_method.specs.Faults.{◌>>=◌}
-use Rattle.smf_method.specs.Settings.{timeout_in, duration_of, ignore_of}
+use Rattle.smf_method.specs.Properties.{timeout_in, duration_of, ignore_of}
 use Rattle.smf_method.specs.Tokens.{Names, names_of, method_text, wrong_token, filled_text, is_refused}
 
 -- the definition of a method by groups: its command still has its tokens

@@ -4,7 +4,7 @@ use Rattle.std.specs.Cmp.Lexicographic.{pointwise}
 use Rattle.std.specs.List.{AllByRecursion}
 use Rattle.smf_contract.specs.declared.cookie.Method.{Method}
 use Rattle.smf_contract.specs.declared.cookie.Method.TheVariants.{Start, Stop, Refresh}
-use Rattle.smf_fmri.specs.Matching.{service_of, instance_of}
+use Rattle.smf_fmri.specs.Patterns.{service_of, instance_of}
 use Rattle.smf_method.specs.Commands.{builtin}
 use Rattle.smf_method.specs.declared.command.Builtin.{Builtin}
 use Rattle.smf_method.specs.declared.command.Builtin.TheVariants.{True, Kill}
@@ -24,7 +24,8 @@ method_text Stop = codes "stop"
 method_text Refresh = codes "refresh"
 
 abbrev pub restarter_text : List ℕ → List ℕ
-restarter_text name = if pointwise nat_eq name (codes "svc:/system/svc/restarter:default") then codes "svc.startd" else name
+restarter_text name = if pointwise nat_eq name (codes "svc:/system/svc/restarter:default") then codes "svc.startd"
+    else name
 
 -- the name of an instance in its service
 abbrev pub instance_text : List ℕ → List ℕ
@@ -61,7 +62,8 @@ pub record HasTokens (text : List ℕ) : Type 0 where
 unfoldable pub filled_text : Names → List ℕ → List ℕ
 filled_text names [] = []
 filled_text names (b ∷ []) = if b == 37 then [] else b ∷ []
-filled_text names (b ∷ c ∷ cs) = if b == 37 then token_text names c ++ filled_text names cs else b ∷ filled_text names (c ∷ cs)
+filled_text names (b ∷ c ∷ cs) = if b == 37 then token_text names c ++ filled_text names cs
+    else b ∷ filled_text names (c ∷ cs)
 
 -- ---- the text of a command as pieces
 

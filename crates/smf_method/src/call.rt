@@ -6,10 +6,10 @@ ghost use Rattle.std.specs.List.{list_all};
 ghost use Rattle.std.specs.Option.{option_copied};
 ghost use Rattle.std.specs.Prelude.{◌≡◌, IfOk, IfSome, true};
 
-use crate::command::{Builtin, Command};
+use crate::command::{Builtin, CommandText};
 use crate::fault::MethodFault;
-use crate::naming::method_text;
-use crate::settings::{duration_of, ignore_of, timeout_in};
+use crate::properties::{duration_of, ignore_of, timeout_in};
+use crate::texts::method_text;
 use crate::timeout::Timeout;
 use crate::tokens::{fill, wrong_token};
 use smf_contract::Method;
@@ -22,7 +22,7 @@ use std::alloc::{AllocError, Global};
 #[derive(Drop)]
 pub struct MethodCall {
     pub timeout: Option<Timeout>,
-    pub command: Command,
+    pub command: CommandText,
 }
 
 /// All that an instance's groups say of a method, for one restarter and one instance.
@@ -34,7 +34,7 @@ pub struct ReadMethod {
 }
 
 /// True if a command cannot be a method: a start that kills.
-fn is_refused(method: Method, command: &Command) -> bool
+fn is_refused(method: Method, command: &CommandText) -> bool
     ensures { result ≡ is_refused method command.now }
 {
     match method {
@@ -51,7 +51,7 @@ pub(crate) fn command_in(
     restarter: &InstanceFmri,
     method: Method,
     instance: &InstanceFmri,
-) -> Result<Option<Command>, AllocError>
+) -> Result<Option<CommandText>, AllocError>
     requires { list_all is_plain exec.now ≡ true }
     ensures { IfOk result (λ c. c ≡ command_in (names_of restarter.now method instance.now) exec.now) }
 {
@@ -59,7 +59,7 @@ pub(crate) fn command_in(
     let _restarter = restarter.print();
     let _instance = instance.print();
     let text = fill(alloc, exec.as_bytes(), restarter, method, instance)?;
-    let command = Command::new(text);
+    let command = CommandText::new(text);
     if is_refused(method, &command) {
         return Ok(None);
     }
@@ -75,7 +75,8 @@ fn read_group(
     restarter: &InstanceFmri,
     instance: &InstanceFmri,
 ) -> Result<Option<ReadMethod>, MethodFault>
-    ensures { Gives result (read_group (names_of restarter.now method instance.now) group.now (option_copied startd.entry)) }
+    ensures { Gives result
+        (read_group (names_of restarter.now method instance.now) group.now (option_copied startd.entry)) }
 {
     let Some(exec) = group.text("exec") else {
         return Err(MethodFault::NoExec);
@@ -114,7 +115,8 @@ impl ReadMethod {
         instance: &InstanceFmri,
     ) -> Result<Option<ReadMethod>, MethodFault>
         // It is the groups' definition, as that is called.
-        ensures found { IfOk result (λ read. IfSome read (IsReadBy composed.now (names_of restarter.now method instance.now))) }
+        ensures found { IfOk result
+            (λ read. IfSome read (IsReadBy composed.now (names_of restarter.now method instance.now))) }
         // Which method it is, or why there is none.
         ensures exact { Gives result (method_of composed.now (names_of restarter.now method instance.now)) }
     {

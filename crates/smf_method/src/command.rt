@@ -15,11 +15,11 @@ use std::marker::Model;
 
 /// The command of a method: a text of ASCII without control characters, of any length. Contracts see its bytes.
 #[derive(Drop)]
-pub struct Command {
+pub struct CommandText {
     text: String,
 }
 
-impl Model for Command {
+impl Model for CommandText {
     ghost use Rattle.std.specs.Prelude.{List, ℕ, string_bytes};
 
     ghost Value = { List ℕ };
@@ -86,32 +86,32 @@ fn is_kill(text: &str) -> bool
     is_signal_behind(strip(":kill -", text))
 }
 
-impl Command {
+impl CommandText {
     /// A copy of a text, or none if a byte of it cannot stand in a command.
-    pub fn copy_of(alloc: Global, text: &str) -> Result<Option<Command>, AllocError>
+    pub fn copy_of(alloc: Global, text: &str) -> Result<Option<CommandText>, AllocError>
         ensures { IfOk result (λ c. c ≡ command_of text.now) }
     {
         if !all_plain(text.as_bytes()) {
             return Ok(None);
         }
         let text = String::from_str(alloc, text)?;
-        Ok(Some(Command { text }))
+        Ok(Some(CommandText { text }))
     }
 
     /// A text that is known to be one.
-    pub(crate) fn new(text: String) -> Command
+    pub(crate) fn new(text: String) -> CommandText
         requires { list_all is_plain (string_bytes text) ≡ true }
         ensures { result ≡ string_bytes text }
     {
-        Command { text }
+        CommandText { text }
     }
 
     /// The same text as an astring.
-    pub(crate) fn of_astring(alloc: Global, text: &Astring) -> Result<Command, AllocError>
+    pub(crate) fn of_astring(alloc: Global, text: &Astring) -> Result<CommandText, AllocError>
         ensures { IfOk result (λ c. c ≡ text.now) }
     {
         let text = String::from_str(alloc, text.as_str())?;
-        Ok(Command { text })
+        Ok(CommandText { text })
     }
 
     pub fn as_str(&self) -> &str
@@ -136,30 +136,30 @@ impl Command {
     }
 }
 
-impl Clone for Command {
+impl Clone for CommandText {
     ghost is_clone = { λ s copy. copy ≡ s };
 
-    fn clone(&self) -> Result<Command, AllocError> {
+    fn clone(&self) -> Result<CommandText, AllocError> {
         let text = self.text.clone()?;
-        Ok(Command { text })
+        Ok(CommandText { text })
     }
 }
 
-impl PartialEq for Command {
+impl PartialEq for CommandText {
     ghost eq = { λ x y. pointwise nat_eq x y };
 
     ghost laws = { Cmp.partial_equiv_from_equiv nat_list_eq_equiv };
 
-    fn eq(&self, other: &Command) -> bool {
+    fn eq(&self, other: &CommandText) -> bool {
         self.text == other.text
     }
 }
 
-impl Eq for Command {
+impl Eq for CommandText {
     ghost laws = { nat_list_eq_equiv };
 }
 
-impl fmt::Display for Command {
+impl fmt::Display for CommandText {
     ghost output = { λ s. Some s };
 
     fn fmt<W: fmt::Write>(&self, f: &mut fmt::Formatter<W>) -> fmt::Result {

@@ -5,10 +5,10 @@ ghost use Rattle.std.specs.Option.{option_copied};
 ghost use Rattle.std.specs.Prelude.{◌≡◌, IfOk, None};
 
 use crate::call::{MethodCall, command_in};
-use crate::command::Command;
+use crate::command::CommandText;
 use crate::fault::MethodFault;
-use crate::naming::method_text;
-use crate::settings::{duration_of, ignore_of, timeout_in};
+use crate::properties::{duration_of, ignore_of, timeout_in};
+use crate::texts::method_text;
 use crate::timeout::Timeout;
 use crate::tokens::wrong_token;
 use smf_contract::Method;
@@ -22,7 +22,7 @@ use std::marker::Model;
 #[derive(Drop)]
 pub struct MethodDefinition {
     method: Method,
-    exec: Command,
+    exec: CommandText,
     timeout: Option<Timeout>,
     duration: Duration,
     ignore: Ignore,
@@ -63,7 +63,7 @@ fn define_by(
     let Some(ignore) = ignore_of(startd) else {
         return Err(MethodFault::BadIgnore);
     };
-    let exec = Command::of_astring(alloc, exec)?;
+    let exec = CommandText::of_astring(alloc, exec)?;
     Ok(Some(MethodDefinition {
         method,
         exec,
@@ -97,7 +97,8 @@ impl MethodDefinition {
         instance: &InstanceFmri,
     ) -> Result<MethodCall, MethodFault>
         // The command is the definition's with its tokens replaced, and nothing else.
-        ensures found { IfOk result (λ call. Replaces (names_of restarter.now self.now.method instance.now) self.now.exec call.command) }
+        ensures found { IfOk result
+            (λ call. Replaces (names_of restarter.now self.now.method instance.now) self.now.exec call.command) }
         // Which method it is, or why there is none.
         ensures exact { Gives result (call_of self.now restarter.now instance.now) }
     {
@@ -131,7 +132,7 @@ impl MethodDefinition {
     }
 
     /// The command before its tokens are replaced, each of which is one.
-    pub fn exec(&self) -> &Command
+    pub fn exec(&self) -> &CommandText
         ensures value { result.now ≡ self.now.exec }
         ensures checked { wrong_token 0 self.now.exec ≡ None }
     {

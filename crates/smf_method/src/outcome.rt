@@ -5,7 +5,7 @@ use smf_contract::{Exit, Method};
 
 /// The meaning of the end of a method.
 #[derive(Clone, Copy, PartialEq, Eq)]
-pub enum Outcome {
+pub enum MethodOutcome {
     Good,
     /// It failed, and may be run again.
     Retry,
@@ -25,18 +25,18 @@ fn is_fatal(method: Method, code: u8) -> bool
 }
 
 /// The outcome of a method that ended so.
-pub fn judge(method: Method, exit: Exit) -> Outcome
+pub fn judge(method: Method, exit: Exit) -> MethodOutcome
     ensures { result ≡ outcome_of method exit }
 {
     match exit {
-        Exit::Killed => Outcome::Retry,
+        Exit::Killed => MethodOutcome::Retry,
         Exit::Code(code) => {
             if code == 0 {
-                Outcome::Good
+                MethodOutcome::Good
             } else if is_fatal(method, code) {
-                Outcome::Fatal
+                MethodOutcome::Fatal
             } else {
-                Outcome::Retry
+                MethodOutcome::Retry
             }
         }
     }

@@ -3,7 +3,7 @@ ghost use Rattle.smf_value.specs.Texts.{is_plain};
 ghost use Rattle.std.specs.List.{list_all};
 ghost use Rattle.std.specs.Prelude.{◌≡◌, ◌<◌, IfOk, string_bytes, true};
 
-use crate::naming::token_text;
+use crate::texts::token_text;
 use smf_contract::Method;
 use smf_fmri::InstanceFmri;
 use std::alloc::{AllocError, Global};
@@ -53,7 +53,9 @@ fn put_byte(
     instance: &InstanceFmri,
 ) -> Result<bool, AllocError>
     requires { b < 128 }
-    ensures { IfOk result (PutsByte (names_of restarter.now method instance.now) is_behind_percent b (string_bytes text.old) (string_bytes text.new)) }
+    ensures { IfOk result
+        (PutsByte (names_of restarter.now method instance.now) is_behind_percent b (string_bytes text.old)
+        (string_bytes text.new)) }
 {
     if is_behind_percent {
         text.push_str(token_text(restarter, method, instance, b))?;
@@ -75,7 +77,8 @@ pub(crate) fn fill(
     instance: &InstanceFmri,
 ) -> Result<String, AllocError>
     requires { list_all is_plain bytes.now ≡ true }
-    ensures { IfOk result (λ text. string_bytes text ≡ filled_text (names_of restarter.now method instance.now) bytes.now) }
+    ensures { IfOk result
+        (λ text. string_bytes text ≡ filled_text (names_of restarter.now method instance.now) bytes.now) }
 {
     let mut text = String::new(alloc);
     let mut is_behind_percent = false;

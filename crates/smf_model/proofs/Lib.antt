@@ -17,7 +17,7 @@ pub mod Members
 pub mod Names
 pub mod Order
 pub mod OwnersPut
-pub mod Placing
+pub mod Places
 pub mod Services
 pub mod Sound
 pub mod States

@@ -2,7 +2,7 @@
 use Rattle.std.specs.Prelude.{◌≡◌, ◌≤◌, ℕ, Some}
 use Rattle.smf_state.specs.declared.row.Row.{Row}
 use Rattle.smf_model.specs.declared.held.Instance.{Instance}
-use Rattle.smf_model.specs.Holdings.{Holdings}
+use Rattle.smf_model.specs.Contents.{Holdings}
 use Rattle.smf_model.specs.Look.{instance}
 
 -- a stop by an error, any other stop, a refresh of an instance that runs, and a start that succeeded

@@ -1,5 +1,5 @@
 -- An instance with its groups, given another part.
-use Rattle.std.specs.Prelude.{◌≡◌, ℕ, refl}
+use Rattle.std.specs.Prelude.{◌≡◌, refl}
 use Rattle.smf_model.specs.declared.held.EntryPart.{EntryPart}
 use Rattle.smf_model.specs.declared.held.EntryPart.TheVariants.{Instance, Groups}
 use Rattle.smf_model.specs.declared.held.InstanceEntry.{InstanceEntry}

@@ -10,20 +10,20 @@ use Rattle.smf_state.specs.States.{runs}
 use Rattle.smf_model.specs.declared.command.Command.{Command}
 use Rattle.smf_model.specs.declared.command.Command.TheVariants as commands
 use Rattle.smf_model.specs.declared.command.Edit.TheVariants as asked_for
-use Rattle.smf_model.specs.declared.command.Reply.{Reply}
-use Rattle.smf_model.specs.declared.command.Reply.TheVariants.{Granted, Done}
+use Rattle.smf_model.specs.declared.command.CommandReply.{CommandReply}
+use Rattle.smf_model.specs.declared.command.CommandReply.TheVariants.{Granted, Done}
 use Rattle.smf_model.specs.declared.held.Instance.{Instance}
 use Rattle.smf_model.specs.Dates.{EventKind, ErrorStop, OtherStop, Refreshed, Started, revision_of}
-use Rattle.smf_model.specs.Holdings.{Holdings}
+use Rattle.smf_model.specs.Contents.{Holdings}
 use Rattle.smf_model.specs.Look.{instance}
 use Rattle.smf_model.specs.Next.{next}
-use Rattle.smf_model.specs.History.{made}
+use Rattle.smf_model.specs.History.{holdings_after_commands}
 use Rattle.smf_model.specs.Laws.{IsNumbered}
 
 -- ---- what an event is: a value h, a command c, the value k that it led to, and its reply r
 
 -- a proposal that ends what is under way at the instance n is granted, for the first time, since it makes a revision
-pub record Ends (n : ℕ) (h : Holdings) (c : Command) (k : Holdings) (r : Reply) : Type 0 where
+pub record Ends (n : ℕ) (h : Holdings) (c : Command) (k : Holdings) (r : CommandReply) : Type 0 where
   pub proposal : Proposal
   pub to : State
   pub keep : Bool
@@ -40,21 +40,21 @@ pub record Ends (n : ℕ) (h : Holdings) (c : Command) (k : Holdings) (r : Reply
   pub revised : k.revision ≡ h.revision + 1
 
 -- an instance that ran does not run any more, by an error
-pub record IsErrorStop (n : ℕ) (h : Holdings) (c : Command) (k : Holdings) (r : Reply) : Type 0 where
+pub record IsErrorStop (n : ℕ) (h : Holdings) (c : Command) (k : Holdings) (r : CommandReply) : Type 0 where
   pub end : Ends n h c k r
   pub ran : runs end.before.row.state ≡ true
   pub stopped : runs end.after.row.state ≡ false
   pub by_error : end.cause ≡ causes.Error
 
 -- or by another cause
-pub record IsOtherStop (n : ℕ) (h : Holdings) (c : Command) (k : Holdings) (r : Reply) : Type 0 where
+pub record IsOtherStop (n : ℕ) (h : Holdings) (c : Command) (k : Holdings) (r : CommandReply) : Type 0 where
   pub end : Ends n h c k r
   pub ran : runs end.before.row.state ≡ true
   pub stopped : runs end.after.row.state ≡ false
   pub by_other : end.cause ≡ causes.Error → ⊥
 
 -- a refresh of an instance that runs is accepted
-pub record IsRefresh (n : ℕ) (h : Holdings) (c : Command) (k : Holdings) (r : Reply) : Type 0 where
+pub record IsRefresh (n : ℕ) (h : Holdings) (c : Command) (k : Holdings) (r : CommandReply) : Type 0 where
   pub asked : c ≡ commands.Edit (asked_for.Refresh n)
   pub done : r ≡ Done
   pub before : Instance
@@ -62,12 +62,12 @@ pub record IsRefresh (n : ℕ) (h : Holdings) (c : Command) (k : Holdings) (r : 
   pub ran : runs before.row.state ≡ true
 
 -- an instance that was offline is online
-pub record IsStart (n : ℕ) (h : Holdings) (c : Command) (k : Holdings) (r : Reply) : Type 0 where
+pub record IsStart (n : ℕ) (h : Holdings) (c : Command) (k : Holdings) (r : CommandReply) : Type 0 where
   pub end : Ends n h c k r
   pub from : end.before.row.state ≡ Offline
   pub online : end.after.row.state ≡ Online
 
-abbrev pub IsEventTo : EventKind → ℕ → Holdings → Command → Holdings → Reply → Type 0
+abbrev pub IsEventTo : EventKind → ℕ → Holdings → Command → Holdings → CommandReply → Type 0
 IsEventTo ErrorStop n h c k r = IsErrorStop n h c k r
 IsEventTo OtherStop n h c k r = IsOtherStop n h c k r
 IsEventTo Refreshed n h c k r = IsRefresh n h c k r
@@ -84,14 +84,15 @@ IsEvent kind n h c = IsEventTo kind n h c (next h c).0 (next h c).1
 abbrev pub Happened : EventKind → ℕ → ℕ → Holdings → List Command → Type 0
 Happened kind n base h [] = ⊥
 Happened kind n base h (c ∷ cs) =
-    (IsEvent kind n (made h cs) c × (base < (made h (c ∷ cs)).revision)) ⊎ Happened kind n base h cs
+    (IsEvent kind n (holdings_after_commands h cs) c × (base < (holdings_after_commands h (c ∷ cs)).revision))
+    ⊎ Happened kind n base h cs
 
 -- if a row keeps a revision above the base, such an event happened after the base
 abbrev pub IsTold : Holdings → List Command → EventKind → ℕ → ℕ → Instance → Type 0
 IsTold h cs kind n base i =
     IsNumbered h
     → h.revision ≤ base
-    → instance (made h cs) n ≡ Some i
+    → instance (holdings_after_commands h cs) n ≡ Some i
     → base < revision_of kind i.row
     → Happened kind n base h cs
 
@@ -100,6 +101,6 @@ abbrev pub IsKept : Holdings → List Command → EventKind → ℕ → ℕ → 
 IsKept h cs kind n base i =
     IsNumbered h
     → h.revision ≤ base
-    → instance (made h cs) n ≡ Some i
+    → instance (holdings_after_commands h cs) n ≡ Some i
     → Happened kind n base h cs
     → base < revision_of kind i.row

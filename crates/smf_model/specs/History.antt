@@ -1,7 +1,7 @@
 -- The history of a repository: the commands that made its revisions, newest first, and each value that they made.
 use Rattle.std.specs.Prelude.{◌≡◌, ℕ, ◌+◌, ◌≤◌, ◌==◌, not, List, [], ◌∷◌, Bool, true, false, Option, find, IsSome}
 use Rattle.smf_model.specs.declared.command.Command.{Command}
-use Rattle.smf_model.specs.Holdings.{Holdings}
+use Rattle.smf_model.specs.Contents.{Holdings}
 use Rattle.smf_model.specs.Next.{next}
 
 -- a first value, and the commands that were accepted since, newest first
@@ -10,31 +10,31 @@ pub record History : Type 0 where
   pub past : List Command
 
 -- the value after these commands, one after another, the newest first in the list
-abbrev pub made : Holdings → List Command → Holdings
-made h [] = h
-made h (c ∷ cs) = (next (made h cs) c).0
+abbrev pub holdings_after_commands : Holdings → List Command → Holdings
+holdings_after_commands h [] = h
+holdings_after_commands h (c ∷ cs) = (next (holdings_after_commands h cs) c).0
 
 -- the newest value
 abbrev pub now : History → Holdings
-now y = made y.first y.past
+now y = holdings_after_commands y.first y.past
 
 -- ---- one command more
 
 abbrev pub is_revised : Holdings → Holdings → Bool
 is_revised before after = not (after.revision == before.revision)
 
-abbrev pub noted : History → Command → Bool → History
-noted y c true = record y { past = c ∷ y.past }
-noted y c false = y
+abbrev pub history_if_revised : History → Command → Bool → History
+history_if_revised y c true = record y { past = c ∷ y.past }
+history_if_revised y c false = y
 
 -- a command that makes a revision is noted; any other leaves the history
-unfoldable pub told : History → Command → History
-told y c = noted y c (is_revised (now y) (next (now y) c).0)
+unfoldable pub history_after : History → Command → History
+history_after y c = history_if_revised y c (is_revised (now y) (next (now y) c).0)
 
 -- the history of these commands, accepted or refused, newest first
 abbrev pub history : Holdings → List Command → History
 history h [] = record { first = h; past = [] }
-history h (c ∷ cs) = told (history h cs) c
+history h (c ∷ cs) = history_after (history h cs) c
 
 -- ---- its values
 
@@ -45,7 +45,7 @@ pub record Entry : Type 0 where
 
 abbrev pub entries_of : Holdings → List Command → List Entry
 entries_of h [] = []
-entries_of h (c ∷ cs) = record { command = c; value = made h (c ∷ cs) } ∷ entries_of h cs
+entries_of h (c ∷ cs) = record { command = c; value = holdings_after_commands h (c ∷ cs) } ∷ entries_of h cs
 
 abbrev pub entries : History → List Entry
 entries y = entries_of y.first y.past
@@ -67,7 +67,7 @@ value_at y n = find (has_revision n) (values y)
 
 -- each revision from the first on has its value
 abbrev pub HasValueAt : Holdings → List Command → ℕ → Type 0
-HasValueAt h cs n = h.revision ≤ n → n ≤ (made h cs).revision → IsSome (value_at (history h cs) n)
+HasValueAt h cs n = h.revision ≤ n → n ≤ (holdings_after_commands h cs).revision → IsSome (value_at (history h cs) n)
 
 -- ---- in turn
 

@@ -3,14 +3,15 @@ use Rattle.std.specs.Prelude.{◌≡◌, ◌⊎◌, ◌<◌, List, length, Optio
 use Rattle.smf_model.specs.declared.change.Change.{Change}
 use Rattle.smf_model.specs.declared.journal.RepoFault.{RepoFault}
 use Rattle.smf_model.specs.declared.journal.RepoFault.TheVariants.{Memory}
-use Rattle.smf_model.specs.Holdings.{Holdings}
+use Rattle.smf_model.specs.Contents.{Holdings}
 use Rattle.smf_model.specs.Laws.{IsNumbered}
-use Rattle.smf_model.specs.Look.{installed}
+use Rattle.smf_model.specs.Look.{holdings_after_changes}
 
 -- a value that stood in the journal stands in it with the changes made, if numbers are given once in the result
 abbrev pub IsTold : {J : Type 0} → (J → Holdings → Type 0) → J → J → List Change → Type 0
 IsTold stands old new changes =
-    (h : Holdings) → IsNumbered (installed h changes) → stands old h → stands new (installed h changes)
+    (h : Holdings) → IsNumbered (holdings_after_changes h changes) → stands old h
+    → stands new (holdings_after_changes h changes)
 
 -- each value that stood in the journal stands in it
 abbrev pub IsUntold : {J : Type 0} → (J → Holdings → Type 0) → J → J → Type 0
@@ -24,7 +25,8 @@ LeavesOldOr could old new h = (found : Option Holdings) → could new found → 
 abbrev pub LeavesOldOrTold : {J : Type 0} → (J → Holdings → Type 0) → (J → Option Holdings → Type 0)
     → J → J → List Change → Type 0
 LeavesOldOrTold stands could old new changes =
-    (h : Holdings) → IsNumbered (installed h changes) → stands old h → LeavesOldOr could old new (installed h changes)
+    (h : Holdings) → IsNumbered (holdings_after_changes h changes) → stands old h
+    → LeavesOldOr could old new (holdings_after_changes h changes)
 
 -- a crash leaves this value
 abbrev pub LeavesOnly : {J : Type 0} → (J → Option Holdings → Type 0) → J → Holdings → Type 0

@@ -7,28 +7,28 @@ use Rattle.smf_state.specs.Rows.{GoesOn, fresh}
 use Rattle.smf_model.specs.declared.command.Command.{Command}
 use Rattle.smf_model.specs.declared.command.Command.TheVariants as commands
 use Rattle.smf_model.specs.declared.command.Edit.TheVariants as asked_for
-use Rattle.smf_model.specs.declared.command.Reply.{Reply}
-use Rattle.smf_model.specs.declared.command.Reply.TheVariants.{Made, Granted, Done}
+use Rattle.smf_model.specs.declared.command.CommandReply.{CommandReply}
+use Rattle.smf_model.specs.declared.command.CommandReply.TheVariants.{Made, Granted, Done}
 use Rattle.smf_fmri.specs.ByKey.{Rises, lookup}
 use Rattle.smf_model.specs.declared.held.Instance.{Instance}
 use Rattle.smf_model.specs.declared.held.InstanceName.{InstanceName}
 use Rattle.smf_model.specs.declared.held.Snapshot.{Snapshot}
 use Rattle.smf_model.specs.Dates.{IsDated}
-use Rattle.smf_model.specs.Holdings.{Holdings}
+use Rattle.smf_model.specs.Contents.{Holdings}
 use Rattle.smf_model.specs.Look.{bare, by_entry, by_instance, by_launch, by_name, by_service}
-use Rattle.smf_model.specs.Look.{by_snapshot, has_number, instance, named, snapshot}
-use Rattle.smf_model.specs.Next.{found, is_again, next}
+use Rattle.smf_model.specs.Look.{by_snapshot, has_number, instance, instance_by_name, snapshot}
+use Rattle.smf_model.specs.Next.{current_instance, is_again, next}
 
 -- ---- replies
 
-abbrev pub is_refusal : Reply → Bool
+abbrev pub is_refusal : CommandReply → Bool
 is_refusal (Made n) = false
 is_refusal (Granted row) = false
 is_refusal Done = false
 is_refusal _ = true
 
 -- the answer to an accepted command that is no proposal
-abbrev pub is_accepted : Reply → Bool
+abbrev pub is_accepted : CommandReply → Bool
 is_accepted (Made n) = true
 is_accepted Done = true
 is_accepted _ = false
@@ -36,7 +36,7 @@ is_accepted _ = false
 -- the proposal that was granted last is granted again, and leaves what is held
 abbrev pub IsGrantedAgain : Holdings → Proposal → Instance → Type 0
 IsGrantedAgain h p i =
-    found h p.instance ≡ Some i → is_again i.row p ≡ true → next h (commands.Propose p) ≡ (h, Granted i.row)
+    current_instance h p.instance ≡ Some i → is_again i.row p ≡ true → next h (commands.Propose p) ≡ (h, Granted i.row)
 
 -- a command that is accepted makes one revision
 abbrev pub MakesRevision : Holdings → Command → Type 0
@@ -82,22 +82,22 @@ InstanceStaysGone h c n = n < h.next_instance → instance h n ≡ None → inst
 abbrev pub SnapshotStaysGone : Holdings → Command → ℕ → Type 0
 SnapshotStaysGone h c n = n < h.next_snapshot → snapshot h n ≡ None → snapshot (next h c).0 n ≡ None
 
-abbrev pub adding : List ℕ → List ℕ → Command
-adding service name = commands.Edit (asked_for.AddInstance service name)
+abbrev pub add_instance_command : List ℕ → List ℕ → Command
+add_instance_command service name = commands.Edit (asked_for.AddInstance service name)
 
 -- an instance that is added gets the number that came next
 abbrev pub GetsNextNumber : Holdings → List ℕ → List ℕ → ℕ → Type 0
 GetsNextNumber h service name n =
-    (next h (adding service name)).1 ≡ Made n
-    → (n ≡ h.next_instance) × ((next h (adding service name)).0.next_instance ≡ n + 1)
+    (next h (add_instance_command service name)).1 ≡ Made n
+    → (n ≡ h.next_instance) × ((next h (add_instance_command service name)).0.next_instance ≡ n + 1)
 
 -- ---- names
 
 abbrev pub IsFoundByName : Holdings → ℕ → Instance → Type 0
-IsFoundByName h n i = instance h n ≡ Some i → named h i.name ≡ Some i
+IsFoundByName h n i = instance h n ≡ Some i → instance_by_name h i.name ≡ Some i
 
 abbrev pub HasTheName : Holdings → List ℕ → Instance → Type 0
-HasTheName h name i = named h name ≡ Some i → i.name ≡ name
+HasTheName h name i = instance_by_name h name ≡ Some i → i.name ≡ name
 
 -- ---- snapshots
 

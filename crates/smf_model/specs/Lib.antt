@@ -1,9 +1,9 @@
 pub mod Entry
-pub mod Holdings
+pub mod Contents
 pub mod Look
-pub mod Setting
+pub mod GeneralGroup
 pub mod Next
-pub mod Owning
+pub mod OwnerChanges
 pub mod Tables
 pub mod Dates
 pub mod Laws

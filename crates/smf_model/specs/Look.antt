@@ -3,7 +3,7 @@ use Rattle.std.specs.Prelude.{ℕ, List, [], ◌∷◌, ◌==◌, not, Bool, Opt
 use Rattle.std.specs.List.{list_all}
 use Rattle.std.specs.Prelude.{Some, None, is_some, option_map, unwrap_or, filter, map, if◌then◌else◌}
 use Rattle.std.specs.Option.{option_map_or}
-use Rattle.smf_fmri.specs.ByKey.{By, amend, by_number, by_text, has_key, lookup, put, without}
+use Rattle.smf_fmri.specs.ByKey.{By, amend, by_number, by_text, has_key, lookup, list_with_item, without}
 use Rattle.smf_value.specs.Groups.{GroupRecord, by_group}
 use Rattle.smf_model.specs.declared.held.Instance.{Instance}
 use Rattle.smf_model.specs.declared.held.InstanceEntry.{InstanceEntry}
@@ -18,7 +18,7 @@ use Rattle.smf_model.specs.declared.change.Change.TheVariants.{AddService, DropS
 use Rattle.smf_model.specs.declared.change.Change.TheVariants.{DropInstance, PutName, DropName, PutGroups}
 use Rattle.smf_model.specs.declared.change.Change.TheVariants.{AddSnapshot, DropSnapshots, PutLaunch, NextInstance}
 use Rattle.smf_model.specs.declared.change.Change.TheVariants.{NextSnapshot, SetRevision}
-use Rattle.smf_model.specs.Holdings.{Holdings}
+use Rattle.smf_model.specs.Contents.{Holdings}
 
 abbrev pub empty : Holdings
 empty =
@@ -81,20 +81,20 @@ instance_at h None = None
 instance_at h (Some e) = instance h e.number
 
 -- the instance of a name
-abbrev pub named : Holdings → List ℕ → Option Instance
-named h name = instance_at h (lookup by_name h.names name)
+abbrev pub instance_by_name : Holdings → List ℕ → Option Instance
+instance_by_name h name = instance_at h (lookup by_name h.names name)
 
 abbrev pub service : Holdings → List ℕ → Option Service
 service h name = lookup by_service h.services name
 
 -- an owner's groups by name, if the owner is there
-abbrev pub owned : Holdings → Owner → Option (List GroupRecord)
-owned h (owners.Service name) = option_map (λ s. s.groups) (service h name)
-owned h (owners.Instance n) = option_map (λ e. e.groups) (lookup by_entry h.instances n)
+abbrev pub groups_if_there : Holdings → Owner → Option (List GroupRecord)
+groups_if_there h (owners.Service name) = option_map (λ s. s.groups) (service h name)
+groups_if_there h (owners.Instance n) = option_map (λ e. e.groups) (lookup by_entry h.instances n)
 
 -- an owner's groups by name
 unfoldable pub groups_of : Holdings → Owner → List GroupRecord
-groups_of h owner = unwrap_or (owned h owner) []
+groups_of h owner = unwrap_or (groups_if_there h owner) []
 
 abbrev pub group_in : List GroupRecord → List ℕ → Option GroupRecord
 group_in gs name = lookup by_group gs name
@@ -118,9 +118,9 @@ launch_of h name = option_map_or (λ l. l.count) (lookup by_launch h.launches na
 -- ---- changes
 
 -- the first item that passes a test gives way to this one
-abbrev pub replaced : {X : Type 0} → (X → Bool) → X → List X → List X
-replaced test x [] = []
-replaced test x (y ∷ ys) = if test y then x ∷ ys else y ∷ replaced test x ys
+abbrev pub with_replacement : {X : Type 0} → (X → Bool) → X → List X → List X
+with_replacement test x [] = []
+with_replacement test x (y ∷ ys) = if test y then x ∷ ys else y ∷ with_replacement test x ys
 
 -- an instance in place of another, whose number it takes
 abbrev pub in_place : Instance → Instance → Instance
@@ -136,7 +136,7 @@ with_instance i e = record e { instance = in_place i e.instance }
 -- an item in its place, if no item has its key
 abbrev pub put_by_lookup : {X K : Type 0} → By X K → X → List X → Option X → List X
 put_by_lookup o x xs (Some there) = xs
-put_by_lookup o x xs None = put o x xs
+put_by_lookup o x xs None = list_with_item o x xs
 
 abbrev pub put_new : {X K : Type 0} → By X K → X → List X → List X
 put_new o x xs = put_by_lookup o x xs (lookup o xs (o.key x))
@@ -148,23 +148,23 @@ with_groups h gs (owners.Instance n) =
     record h { instances = amend by_entry n (λ e. record e { groups = gs }) h.instances }
 
 -- one change
-abbrev pub changed : Holdings → Change → Holdings
-changed h (AddService s) = record h { services = put by_service s h.services }
-changed h (DropService name) = record h { services = without by_service name h.services }
-changed h (AddInstance e) = record h { instances = put by_entry e h.instances }
-changed h (PutInstance i) = record h { instances = amend by_entry i.number (with_instance i) h.instances }
-changed h (DropInstance n) = record h { instances = without by_entry n h.instances }
-changed h (PutName e) = record h { names = put by_name e h.names }
-changed h (DropName name) = record h { names = without by_name name h.names }
-changed h (PutGroups owner gs) = with_groups h gs owner
-changed h (AddSnapshot s) = record h { snapshots = put_new by_snapshot s h.snapshots }
-changed h (DropSnapshots n) = record h { snapshots = others_of n h.snapshots }
-changed h (PutLaunch l) = record h { launches = put by_launch l h.launches }
-changed h (NextInstance n) = record h { next_instance = n }
-changed h (NextSnapshot n) = record h { next_snapshot = n }
-changed h (SetRevision n) = record h { revision = n }
+abbrev pub holdings_after_change : Holdings → Change → Holdings
+holdings_after_change h (AddService s) = record h { services = list_with_item by_service s h.services }
+holdings_after_change h (DropService name) = record h { services = without by_service name h.services }
+holdings_after_change h (AddInstance e) = record h { instances = list_with_item by_entry e h.instances }
+holdings_after_change h (PutInstance i) = record h { instances = amend by_entry i.number (with_instance i) h.instances }
+holdings_after_change h (DropInstance n) = record h { instances = without by_entry n h.instances }
+holdings_after_change h (PutName e) = record h { names = list_with_item by_name e h.names }
+holdings_after_change h (DropName name) = record h { names = without by_name name h.names }
+holdings_after_change h (PutGroups owner gs) = with_groups h gs owner
+holdings_after_change h (AddSnapshot s) = record h { snapshots = put_new by_snapshot s h.snapshots }
+holdings_after_change h (DropSnapshots n) = record h { snapshots = others_of n h.snapshots }
+holdings_after_change h (PutLaunch l) = record h { launches = list_with_item by_launch l h.launches }
+holdings_after_change h (NextInstance n) = record h { next_instance = n }
+holdings_after_change h (NextSnapshot n) = record h { next_snapshot = n }
+holdings_after_change h (SetRevision n) = record h { revision = n }
 
 -- the changes, in turn
-unfoldable pub installed : Holdings → List Change → Holdings
-installed h [] = h
-installed h (c ∷ cs) = installed (changed h c) cs
+unfoldable pub holdings_after_changes : Holdings → List Change → Holdings
+holdings_after_changes h [] = h
+holdings_after_changes h (c ∷ cs) = holdings_after_changes (holdings_after_change h c) cs

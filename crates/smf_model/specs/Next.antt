@@ -5,8 +5,9 @@ use Rattle.std.specs.Prelude.{Some, None, is_some, is_none, option_map, unwrap_o
 use Rattle.std.specs.Cmp.Lexicographic.{pointwise}
 use Rattle.std.specs.Int.RustNames.{bit_or}
 use Rattle.std.specs.List.{list_any}
-use Rattle.smf_fmri.specs.ByKey.{put, without}
-use Rattle.smf_fmri.specs.Matching.{read_short}
+use Rattle.smf_fmri.specs.declared.limits.TheConstants.{MAX_COUNT, MAX_GROUPS, MAX_INSTANCE, MAX_SNAPSHOT}
+use Rattle.smf_fmri.specs.ByKey.{list_with_item, without}
+use Rattle.smf_fmri.specs.Patterns.{read_short}
 use Rattle.smf_state.specs.declared.row.Row.{Row}
 use Rattle.smf_state.specs.declared.fault.StepFault.{StepFault}
 use Rattle.smf_state.specs.declared.state.State.TheVariants.{Uninitialized, Disabled, Offline}
@@ -14,7 +15,7 @@ use Rattle.smf_state.specs.declared.state.State.TheVariants.{Online, Degraded, M
 use Rattle.smf_state.specs.declared.step.Proposal.{Proposal}
 use Rattle.smf_state.specs.declared.step.Step.{Step}
 use Rattle.smf_state.specs.declared.step.Step.TheVariants.{Start}
-use Rattle.smf_state.specs.Rows.{applied, fresh, same_state, greatest_number}
+use Rattle.smf_state.specs.Rows.{result_of_proposal, fresh, same_state, greatest_number}
 use Rattle.smf_state.specs.States.{runs}
 use Rattle.smf_value.specs.declared.fault.GroupFault.{GroupFault}
 use Rattle.smf_value.specs.declared.value.Value.TheVariants.{Boolean}
@@ -23,7 +24,7 @@ use Rattle.smf_value.specs.Groups.{PropertyRecord, GroupRecord, by_group}
 use Rattle.smf_value.specs.Edits as edits
 use Rattle.smf_snap.specs.declared.name.SnapshotName.{SnapshotName}
 use Rattle.smf_snap.specs.declared.name.SnapshotName.TheVariants as snapshots
-use Rattle.smf_snap.specs.Taking.{taken, restored}
+use Rattle.smf_snap.specs.Snapshots.{snapshot_groups, groups_of_revert}
 use Rattle.smf_model.specs.declared.change.Change.{Change}
 use Rattle.smf_model.specs.declared.change.Change.TheVariants.{AddService, DropService, AddInstance, PutInstance}
 use Rattle.smf_model.specs.declared.change.Change.TheVariants.{DropInstance, PutName, DropName, PutGroups}
@@ -37,9 +38,9 @@ use Rattle.smf_model.specs.declared.command.Mark.{Mark}
 use Rattle.smf_model.specs.declared.command.Mark.TheVariants as marks
 use Rattle.smf_model.specs.declared.command.PropertyChange.{PropertyChange}
 use Rattle.smf_model.specs.declared.command.PropertyChange.TheVariants as properties
-use Rattle.smf_model.specs.declared.command.Reply.{Reply}
-use Rattle.smf_model.specs.declared.command.Reply.TheVariants.{Made, Granted, Done, NoSuch, InUse}
-use Rattle.smf_model.specs.declared.command.Reply.TheVariants.{NotInState, Exists, Denied, Limit, Stale}
+use Rattle.smf_model.specs.declared.command.CommandReply.{CommandReply}
+use Rattle.smf_model.specs.declared.command.CommandReply.TheVariants.{Made, Granted, Done, NoSuch, InUse}
+use Rattle.smf_model.specs.declared.command.CommandReply.TheVariants.{NotInState, Exists, Denied, Limit, Stale}
 use Rattle.smf_state.specs.declared.refusal.Why.{Why}
 use Rattle.smf_state.specs.declared.refusal.Why.TheVariants as whys
 use Rattle.smf_model.specs.declared.change.Outcome.{Outcome}
@@ -51,12 +52,12 @@ use Rattle.smf_model.specs.declared.held.Owner.{Owner}
 use Rattle.smf_model.specs.declared.held.Owner.TheVariants as owners
 use Rattle.smf_model.specs.declared.held.Service.{Service}
 use Rattle.smf_model.specs.declared.held.Snapshot.{Snapshot}
-use Rattle.smf_model.specs.declared.setting.Setting.{Setting}
-use Rattle.smf_model.specs.declared.setting.Setting.TheVariants.{Unreadable}
-use Rattle.smf_model.specs.Holdings.{Holdings}
-use Rattle.smf_model.specs.Look.{service, instance, instances, named, groups_of, group, snapshot, launch_of, installed}
-use Rattle.smf_model.specs.Setting.{Groups, general, general_ovr, enabled_name, restarter_name, framework}
-use Rattle.smf_model.specs.Setting.{service_fmri, service_owner, current, setting, setting_by, owner_by}
+use Rattle.smf_model.specs.declared.general_group.Setting.{Setting}
+use Rattle.smf_model.specs.declared.general_group.Setting.TheVariants.{Unreadable}
+use Rattle.smf_model.specs.Contents.{Holdings}
+use Rattle.smf_model.specs.Look.{service, instance, instances, instance_by_name, groups_of, group, snapshot, launch_of, holdings_after_changes}
+use Rattle.smf_model.specs.GeneralGroup.{Groups, general, general_ovr, enabled_name, restarter_name, framework}
+use Rattle.smf_model.specs.GeneralGroup.{service_fmri, service_owner, current, setting, setting_by, owner_by}
 
 -- the outcome of a command: its changes, and its reply
 abbrev pub Asked : Type 0
@@ -66,38 +67,38 @@ Asked = Outcome
 
 -- the greatest revision, launch, row number and serial
 abbrev pub greatest : ℕ
-greatest = 0x7fff_ffff_ffff_ffff
+greatest = MAX_COUNT
 
 abbrev pub greatest_instance : ℕ
-greatest_instance = 0xff_ffff
+greatest_instance = MAX_INSTANCE
 
 abbrev pub greatest_snapshot : ℕ
-greatest_snapshot = 0x7fff_ffff_ffff_fffe
+greatest_snapshot = MAX_SNAPSHOT
 
 abbrev pub most_groups : ℕ
-most_groups = 1000
+most_groups = MAX_GROUPS
 
 -- ---- a refusal, and an accepted command
 
-abbrev pub refused : Reply → Asked
-refused reply = record { changes = []; reply = reply }
+abbrev pub refusal_with : CommandReply → Asked
+refusal_with reply = record { changes = []; reply = reply }
 
 -- an accepted command makes one revision, if one is left
-abbrev pub accepted : Holdings → List Change → Reply → Asked
-accepted h changes reply =
+abbrev pub acceptance_with : Holdings → List Change → CommandReply → Asked
+acceptance_with h changes reply =
     if nat_lt h.revision greatest
     then (record { changes = changes ++ SetRevision (h.revision + 1) ∷ []; reply = reply })
-    else refused Limit
+    else refusal_with Limit
 
 -- the instance of a number, as it is read
-abbrev pub found : Holdings → ℕ → Option Instance
-found h n = option_map (current (groups_of h)) (instance h n)
+abbrev pub current_instance : Holdings → ℕ → Option Instance
+current_instance h n = option_map (current (groups_of h)) (instance h n)
 
 -- ---- services and instances
 
 abbrev pub asked_add_service : Holdings → List ℕ → Option Service → Asked
-asked_add_service h name (Some s) = refused Exists
-asked_add_service h name None = accepted h (AddService (record { name = name; groups = [] }) ∷ []) Done
+asked_add_service h name (Some s) = refusal_with Exists
+asked_add_service h name None = acceptance_with h (AddService (record { name = name; groups = [] }) ∷ []) Done
 
 -- the restarter that the service of a new instance names
 abbrev pub new_owner : Holdings → List ℕ → List ℕ
@@ -114,44 +115,47 @@ abbrev pub new_name : Holdings → List ℕ → InstanceName
 new_name h name = record { name = name; number = h.next_instance }
 
 -- the changes that add an instance
-abbrev pub joining : Holdings → List ℕ → List Change
-joining h name = AddInstance (new_entry h name) ∷ PutName (new_name h name) ∷ NextInstance (h.next_instance + 1) ∷ []
+abbrev pub changes_for_addition : Holdings → List ℕ → List Change
+changes_for_addition h name =
+    AddInstance (new_entry h name) ∷ PutName (new_name h name) ∷ NextInstance (h.next_instance + 1) ∷ []
 
 abbrev pub added_at : Holdings → List ℕ → Option Instance → Asked
-added_at h name (Some i) = refused Exists
+added_at h name (Some i) = refusal_with Exists
 added_at h name None =
     if nat_le h.next_instance greatest_instance
-    then accepted h (joining h name) (Made h.next_instance)
-    else refused Limit
+    then acceptance_with h (changes_for_addition h name) (Made h.next_instance)
+    else refusal_with Limit
 
 -- a name of more than 512 bytes is past a limit
 abbrev pub added_named : Holdings → Option (List ℕ) → Asked
-added_named h None = refused Limit
-added_named h (Some name) = added_at h name (named h name)
+added_named h None = refusal_with Limit
+added_named h (Some name) = added_at h name (instance_by_name h name)
 
 abbrev pub asked_add_instance : Holdings → List ℕ → Option Service → Asked
-asked_add_instance h name None = refused NoSuch
+asked_add_instance h name None = refusal_with NoSuch
 asked_add_instance h name (Some s) = added_named h (read_short (s.name ++ 58 ∷ name))
 
 abbrev pub is_instance_of : List ℕ → Instance → Bool
 is_instance_of s i = pointwise nat_eq (service_fmri i.name) s
 
 abbrev pub asked_delete_service : Holdings → Option Service → Asked
-asked_delete_service h None = refused NoSuch
+asked_delete_service h None = refusal_with NoSuch
 asked_delete_service h (Some s) =
-    if list_any (is_instance_of s.name) (instances h) then refused InUse else accepted h (DropService s.name ∷ []) Done
+    if list_any (is_instance_of s.name) (instances h) then refusal_with InUse
+    else acceptance_with h (DropService s.name ∷ []) Done
 
 -- an instance that runs, or whose transition is under way, or that has a run
 abbrev pub is_in_use : Row → Bool
 is_in_use r = runs r.state || is_some r.next || is_some r.live || is_some r.side
 
 -- the changes that drop an instance
-abbrev pub leaving : Instance → List Change
-leaving i = DropSnapshots i.number ∷ DropName i.name ∷ DropInstance i.number ∷ []
+abbrev pub changes_for_deletion : Instance → List Change
+changes_for_deletion i = DropSnapshots i.number ∷ DropName i.name ∷ DropInstance i.number ∷ []
 
 abbrev pub asked_delete_instance : Holdings → Option Instance → Asked
-asked_delete_instance h None = refused NoSuch
-asked_delete_instance h (Some i) = if is_in_use i.row then refused InUse else accepted h (leaving i) Done
+asked_delete_instance h None = refusal_with NoSuch
+asked_delete_instance h (Some i) =
+    if is_in_use i.row then refusal_with InUse else acceptance_with h (changes_for_deletion i) Done
 
 -- ---- groups
 
@@ -173,38 +177,38 @@ has_room h owner first second = nat_lt (count_by (is_other_group first second) (
 
 -- a group put in its place among its owner's
 abbrev pub group_put : Holdings → Owner → GroupRecord → Change
-group_put h owner g = PutGroups owner (put by_group g (groups_of h owner))
+group_put h owner g = PutGroups owner (list_with_item by_group g (groups_of h owner))
 
 -- a group taken out of its owner's
 abbrev pub group_dropped : Holdings → Owner → List ℕ → Change
 group_dropped h owner name = PutGroups owner (without by_group name (groups_of h owner))
 
 -- the owner is there and the group is not a made one
-abbrev pub guarded : Holdings → Owner → List ℕ → Asked → Asked
-guarded h owner name asked =
-    if not (is_there h owner) then refused NoSuch
-    else if is_made owner name then refused InUse
-    else asked
+abbrev pub outcome_if_editable : Holdings → Owner → List ℕ → Asked → Asked
+outcome_if_editable h owner name outcome_of_command =
+    if not (is_there h owner) then refusal_with NoSuch
+    else if is_made owner name then refusal_with InUse
+    else outcome_of_command
 
 abbrev pub new_group : List ℕ → List ℕ → Bool → GroupRecord
 new_group name group_type non_persistent =
     record { name = name; group_type = group_type; non_persistent = non_persistent; properties = [] }
 
 abbrev pub added_group : Holdings → Owner → GroupRecord → Option GroupRecord → Asked
-added_group h owner g (Some there) = refused Exists
+added_group h owner g (Some there) = refusal_with Exists
 added_group h owner g None =
-    if has_room h owner g.name g.name then accepted h (group_put h owner g ∷ []) Done else refused Limit
+    if has_room h owner g.name g.name then acceptance_with h (group_put h owner g ∷ []) Done else refusal_with Limit
 
 abbrev pub deleted_group : Holdings → Owner → List ℕ → Option GroupRecord → Asked
-deleted_group h owner name None = refused NoSuch
-deleted_group h owner name (Some g) = accepted h (group_dropped h owner name ∷ []) Done
+deleted_group h owner name None = refusal_with NoSuch
+deleted_group h owner name (Some g) = acceptance_with h (group_dropped h owner name ∷ []) Done
 
 -- the outcome of an edit of a group, by the owner's group of that name
 abbrev pub asked_add_group : Holdings → Owner → GroupRecord → Asked
-asked_add_group h owner g = guarded h owner g.name (added_group h owner g (group h owner g.name))
+asked_add_group h owner g = outcome_if_editable h owner g.name (added_group h owner g (group h owner g.name))
 
 abbrev pub asked_delete_group : Holdings → Owner → List ℕ → Asked
-asked_delete_group h owner name = guarded h owner name (deleted_group h owner name (group h owner name))
+asked_delete_group h owner name = outcome_if_editable h owner name (deleted_group h owner name (group h owner name))
 
 abbrev pub property_changed : PropertyChange → GroupRecord → Result GroupRecord GroupFault
 property_changed (properties.Set name kind values) g = edits.set name kind values g
@@ -213,15 +217,16 @@ property_changed (properties.DeleteValue name value) g = edits.del_value name va
 property_changed (properties.Delete name) g = edits.del name g
 
 abbrev pub put_or_denied : Holdings → Owner → Result GroupRecord GroupFault → Asked
-put_or_denied h owner (Err fault) = refused (Denied fault)
-put_or_denied h owner (Ok g) = accepted h (group_put h owner g ∷ []) Done
+put_or_denied h owner (Err fault) = refusal_with (Denied fault)
+put_or_denied h owner (Ok g) = acceptance_with h (group_put h owner g ∷ []) Done
 
 abbrev pub changed_group : Holdings → Owner → PropertyChange → Option GroupRecord → Asked
-changed_group h owner change None = refused NoSuch
+changed_group h owner change None = refusal_with NoSuch
 changed_group h owner change (Some g) = put_or_denied h owner (property_changed change g)
 
 abbrev pub asked_property : Holdings → Owner → List ℕ → PropertyChange → Asked
-asked_property h owner name change = guarded h owner name (changed_group h owner change (group h owner name))
+asked_property h owner name change =
+    outcome_if_editable h owner name (changed_group h owner change (group h owner name))
 
 -- ---- enable and disable
 
@@ -230,22 +235,22 @@ enabled_property b = record { name = enabled_name; kind = kinds.Boolean; values 
 
 -- a group that holds the property `enabled` put in its place, and `general_ovr` gone
 abbrev pub enabling_of : Holdings → Owner → GroupRecord → Change
-enabling_of h owner g = PutGroups owner (put by_group g (without by_group general_ovr (groups_of h owner)))
+enabling_of h owner g = PutGroups owner (list_with_item by_group g (without by_group general_ovr (groups_of h owner)))
 
 -- the property `enabled` put into the group `general`, and `general_ovr` gone; or into `general_ovr`
 abbrev pub enabled_for_good : Holdings → ℕ → Result GroupRecord GroupFault → Asked
-enabled_for_good h n (Err fault) = refused (Denied fault)
+enabled_for_good h n (Err fault) = refusal_with (Denied fault)
 enabled_for_good h n (Ok g) =
     if has_room h (owners.Instance n) general general_ovr
-    then accepted h (enabling_of h (owners.Instance n) g ∷ []) Done
-    else refused Limit
+    then acceptance_with h (enabling_of h (owners.Instance n) g ∷ []) Done
+    else refusal_with Limit
 
 abbrev pub enabled_for_now : Holdings → ℕ → Result GroupRecord GroupFault → Asked
-enabled_for_now h n (Err fault) = refused (Denied fault)
+enabled_for_now h n (Err fault) = refusal_with (Denied fault)
 enabled_for_now h n (Ok g) =
     if has_room h (owners.Instance n) general_ovr general_ovr
-    then accepted h (group_put h (owners.Instance n) g ∷ []) Done
-    else refused Limit
+    then acceptance_with h (group_put h (owners.Instance n) g ∷ []) Done
+    else refusal_with Limit
 
 -- the group of a name of an instance, or a new one
 abbrev pub group_or_new : Holdings → ℕ → List ℕ → Bool → GroupRecord
@@ -263,40 +268,40 @@ abbrev pub asked_for_now : Holdings → ℕ → Bool → Asked
 asked_for_now h n b = enabled_for_now h n (group_enabled b (group_or_new h n general_ovr true))
 
 abbrev pub asked_enable : Holdings → Bool → Bool → Option Instance → Asked
-asked_enable h b temporary None = refused NoSuch
+asked_enable h b temporary None = refusal_with NoSuch
 asked_enable h b false (Some i) = asked_for_good h i.number b
 asked_enable h b true (Some i) = asked_for_now h i.number b
 
 -- ---- what is asked of an instance
 
-abbrev pub asking : Instance → ℕ → Instance
-asking i bit = record i { row = record i.row { asks = record { 0 = bit_or i.row.asks.0 bit } } }
+abbrev pub instance_with_ask : Instance → ℕ → Instance
+instance_with_ask i bit = record i { row = record i.row { asks = record { 0 = bit_or i.row.asks.0 bit } } }
 
 -- a command without effect is accepted too
 abbrev pub asked_if : Holdings → Bool → Instance → ℕ → Asked
-asked_if h true i bit = accepted h (PutInstance (asking i bit) ∷ []) Done
-asked_if h false i bit = accepted h [] Done
+asked_if h true i bit = acceptance_with h (PutInstance (instance_with_ask i bit) ∷ []) Done
+asked_if h false i bit = acceptance_with h [] Done
 
 abbrev pub asked_where : Holdings → Bool → Instance → ℕ → Asked
-asked_where h true i bit = accepted h (PutInstance (asking i bit) ∷ []) Done
-asked_where h false i bit = refused NotInState
+asked_where h true i bit = acceptance_with h (PutInstance (instance_with_ask i bit) ∷ []) Done
+asked_where h false i bit = refusal_with NotInState
 
 abbrev pub asked_restart : Holdings → Option Instance → Asked
-asked_restart h None = refused NoSuch
+asked_restart h None = refusal_with NoSuch
 asked_restart h (Some i) = asked_if h (runs i.row.state) i 16
 
 abbrev pub asked_clear : Holdings → Option Instance → Asked
-asked_clear h None = refused NoSuch
+asked_clear h None = refusal_with NoSuch
 asked_clear h (Some i) = asked_where h (same_state i.row.state Maintenance || same_state i.row.state Degraded) i 32
 
-abbrev pub marked : Holdings → Mark → Instance → Asked
-marked h marks.Degraded i = asked_where h (same_state i.row.state Online) i 64
-marked h marks.Maintenance i = asked_if h (not (same_state i.row.state Maintenance)) i 2
-marked h marks.MaintenanceNow i = asked_if h (not (same_state i.row.state Maintenance)) i 1
+abbrev pub outcome_of_mark : Holdings → Mark → Instance → Asked
+outcome_of_mark h marks.Degraded i = asked_where h (same_state i.row.state Online) i 64
+outcome_of_mark h marks.Maintenance i = asked_if h (not (same_state i.row.state Maintenance)) i 2
+outcome_of_mark h marks.MaintenanceNow i = asked_if h (not (same_state i.row.state Maintenance)) i 1
 
 abbrev pub asked_mark : Holdings → Mark → Option Instance → Asked
-asked_mark h mark None = refused NoSuch
-asked_mark h mark (Some i) = marked h mark i
+asked_mark h mark None = refusal_with NoSuch
+asked_mark h mark (Some i) = outcome_of_mark h mark i
 
 -- ---- snapshots
 
@@ -305,8 +310,8 @@ snapshot_of h i =
     record {
       number = h.next_snapshot;
       instance = i.number;
-      service_groups = taken (groups_of h (service_owner i));
-      instance_groups = taken (groups_of h (owners.Instance i.number));
+      service_groups = snapshot_groups (groups_of h (service_owner i));
+      instance_groups = snapshot_groups (groups_of h (owners.Instance i.number));
     }
 
 -- the changes that take a snapshot, and others after them
@@ -314,11 +319,11 @@ abbrev pub behind_snapshot : Holdings → Instance → ℕ → List Change → L
 behind_snapshot h i next_one changes = AddSnapshot (snapshot_of h i) ∷ NextSnapshot next_one ∷ changes
 
 -- a snapshot is taken, if a number is left for it
-abbrev pub with_snapshot : Holdings → Instance → List Change → Reply → Asked
+abbrev pub with_snapshot : Holdings → Instance → List Change → CommandReply → Asked
 with_snapshot h i changes reply =
     if nat_le h.next_snapshot greatest_snapshot
-    then accepted h (behind_snapshot h i (h.next_snapshot + 1) changes) reply
-    else refused Limit
+    then acceptance_with h (behind_snapshot h i (h.next_snapshot + 1) changes) reply
+    else refusal_with Limit
 
 -- the same, and then an instance has a row
 abbrev pub with_row_and_snapshot : Holdings → Instance → Row → Asked
@@ -358,22 +363,22 @@ moved_row r running owner =
 abbrev pub moved_instance : Holdings → Instance → List ℕ → Instance
 moved_instance h i owner = record i { row = moved_row i.row h.next_snapshot owner }
 
-abbrev pub moved : Holdings → Instance → List ℕ → Asked
-moved h i owner =
-    if not (may_be_moved i.row) then refused InUse
-    else if not (nat_lt i.row.number greatest_number) then refused Limit
+abbrev pub outcome_of_move : Holdings → Instance → List ℕ → Asked
+outcome_of_move h i owner =
+    if not (may_be_moved i.row) then refusal_with InUse
+    else if not (nat_lt i.row.number greatest_number) then refusal_with Limit
     else with_snapshot h i (PutInstance (moved_instance h i owner) ∷ []) Done
 
 abbrev pub refreshed_instance : Holdings → Instance → Instance
 refreshed_instance h i = record i { row = refreshed_row i.row h.next_snapshot (h.revision + 1) (runs i.row.state) }
 
-abbrev pub refreshed : Holdings → Instance → Option (List ℕ) → Asked
-refreshed h i None = with_snapshot h i (PutInstance (refreshed_instance h i) ∷ []) Done
-refreshed h i (Some owner) = moved h i owner
+abbrev pub outcome_of_refresh : Holdings → Instance → Option (List ℕ) → Asked
+outcome_of_refresh h i None = with_snapshot h i (PutInstance (refreshed_instance h i) ∷ []) Done
+outcome_of_refresh h i (Some owner) = outcome_of_move h i owner
 
 abbrev pub asked_refresh : Holdings → Option Instance → Asked
-asked_refresh h None = refused NoSuch
-asked_refresh h (Some i) = refreshed h i (target_by (setting (groups_of h) i) i.row.owner)
+asked_refresh h None = refusal_with NoSuch
+asked_refresh h (Some i) = outcome_of_refresh h i (target_by (setting (groups_of h) i) i.row.owner)
 
 -- ---- revert
 
@@ -390,8 +395,8 @@ abbrev pub is_past_most : List GroupRecord → Bool
 is_past_most gs = nat_lt most_groups (length gs)
 
 -- the changes of a revert: what is noted of the instance, and the groups of both owners
-abbrev pub reverting : Holdings → Instance → List GroupRecord → List GroupRecord → List Change
-reverting h i service_groups instance_groups =
+abbrev pub changes_for_revert : Holdings → Instance → List GroupRecord → List GroupRecord → List Change
+changes_for_revert h i service_groups instance_groups =
     PutInstance (record i { previous = Some h.next_snapshot })
     ∷ PutGroups (service_owner i) service_groups
     ∷ PutGroups (owners.Instance i.number) instance_groups
@@ -399,19 +404,19 @@ reverting h i service_groups instance_groups =
 
 abbrev pub reverted_to : Holdings → Instance → List GroupRecord → List GroupRecord → Asked
 reverted_to h i service_groups instance_groups =
-    if is_past_most service_groups || is_past_most instance_groups then refused Limit
-    else with_snapshot h i (reverting h i service_groups instance_groups) Done
+    if is_past_most service_groups || is_past_most instance_groups then refusal_with Limit
+    else with_snapshot h i (changes_for_revert h i service_groups instance_groups) Done
 
-abbrev pub reverted : Holdings → Instance → Option Snapshot → Asked
-reverted h i None = refused NoSuch
-reverted h i (Some s) =
+abbrev pub outcome_of_revert : Holdings → Instance → Option Snapshot → Asked
+outcome_of_revert h i None = refusal_with NoSuch
+outcome_of_revert h i (Some s) =
     reverted_to h i
-    (restored (groups_of h (service_owner i)) s.service_groups)
-    (restored (groups_of h (owners.Instance i.number)) s.instance_groups)
+    (groups_of_revert (groups_of h (service_owner i)) s.service_groups)
+    (groups_of_revert (groups_of h (owners.Instance i.number)) s.instance_groups)
 
 abbrev pub asked_revert : Holdings → SnapshotName → Option Instance → Asked
-asked_revert h name None = refused NoSuch
-asked_revert h name (Some i) = reverted h i (named_snapshot h (number_of i name))
+asked_revert h name None = refusal_with NoSuch
+asked_revert h name (Some i) = outcome_of_revert h i (named_snapshot h (number_of i name))
 
 -- ---- what a client may give
 
@@ -419,16 +424,16 @@ unfoldable pub asked_edit : Holdings → Edit → Asked
 asked_edit h (asked_for.AddService name) = asked_add_service h name (service h name)
 asked_edit h (asked_for.AddInstance s name) = asked_add_instance h name (service h s)
 asked_edit h (asked_for.DeleteService name) = asked_delete_service h (service h name)
-asked_edit h (asked_for.DeleteInstance n) = asked_delete_instance h (found h n)
+asked_edit h (asked_for.DeleteInstance n) = asked_delete_instance h (current_instance h n)
 asked_edit h (asked_for.AddGroup owner name group_type p) = asked_add_group h owner (new_group name group_type p)
 asked_edit h (asked_for.DeleteGroup owner name) = asked_delete_group h owner name
 asked_edit h (asked_for.Property owner name change) = asked_property h owner name change
-asked_edit h (asked_for.Enable n b temporary) = asked_enable h b temporary (found h n)
-asked_edit h (asked_for.Restart n) = asked_restart h (found h n)
-asked_edit h (asked_for.Refresh n) = asked_refresh h (found h n)
-asked_edit h (asked_for.Clear n) = asked_clear h (found h n)
-asked_edit h (asked_for.Mark n mark) = asked_mark h mark (found h n)
-asked_edit h (asked_for.Revert n name) = asked_revert h name (found h n)
+asked_edit h (asked_for.Enable n b temporary) = asked_enable h b temporary (current_instance h n)
+asked_edit h (asked_for.Restart n) = asked_restart h (current_instance h n)
+asked_edit h (asked_for.Refresh n) = asked_refresh h (current_instance h n)
+asked_edit h (asked_for.Clear n) = asked_clear h (current_instance h n)
+asked_edit h (asked_for.Mark n mark) = asked_mark h mark (current_instance h n)
+asked_edit h (asked_for.Revert n name) = asked_revert h name (current_instance h n)
 
 -- ---- the owners that an edit writes
 
@@ -461,8 +466,8 @@ restarters_named h (asked_for.Revert n name) = option_map service_owner (instanc
 restarters_named h _ = None
 
 -- the changes of an edit that is done, and after them the owners that it leaves to write
-abbrev pub and_owners : Holdings → Owner → List Change → Reply → List Change
-and_owners h owner changes Done = changes ++ owners_written (installed h changes) owner
+abbrev pub and_owners : Holdings → Owner → List Change → CommandReply → List Change
+and_owners h owner changes Done = changes ++ owners_written (holdings_after_changes h changes) owner
 and_owners h owner changes _ = changes
 
 unfoldable pub with_owners : Holdings → Option Owner → Asked → Asked
@@ -513,26 +518,26 @@ takes_running before after =
 abbrev pub with_running : Holdings → Row → Row
 with_running h row = record row { running = Some h.next_snapshot }
 
-abbrev pub granted : Holdings → Instance → Row → Bool → Asked
-granted h i row true =
+abbrev pub outcome_of_grant : Holdings → Instance → Row → Bool → Asked
+outcome_of_grant h i row true =
     with_snapshot h i (PutInstance (with_row i (with_running h row)) ∷ []) (Granted (with_running h row))
-granted h i row false = accepted h (PutInstance (with_row i row) ∷ []) (Granted row)
+outcome_of_grant h i row false = acceptance_with h (PutInstance (with_row i row) ∷ []) (Granted row)
 
 abbrev pub step_answer : Holdings → Instance → Result Row StepFault → Asked
-step_answer h i (Err fault) = refused (Stale (whys.Step fault) (Some i.row))
+step_answer h i (Err fault) = refusal_with (Stale (whys.Step fault) (Some i.row))
 step_answer h i (Ok row) =
-    if nat_le row.serial greatest then granted h i row (takes_running i.row row) else refused Limit
+    if nat_le row.serial greatest then outcome_of_grant h i row (takes_running i.row row) else refusal_with Limit
 
 abbrev pub fresh_answer : Holdings → Instance → Proposal → Option Why → Asked
-fresh_answer h i p (Some why) = refused (Stale why (Some i.row))
-fresh_answer h i p None = step_answer h i (applied i.row p (h.revision + 1))
+fresh_answer h i p (Some why) = refusal_with (Stale why (Some i.row))
+fresh_answer h i p None = step_answer h i (result_of_proposal i.row p (h.revision + 1))
 
 abbrev pub answer_at : Holdings → Proposal → Option Instance → Asked
-answer_at h p None = refused (Stale whys.NoSuch None)
-answer_at h p (Some i) = if is_again i.row p then refused (Granted i.row) else fresh_answer h i p (stale h i.row p)
+answer_at h p None = refusal_with (Stale whys.NoSuch None)
+answer_at h p (Some i) = if is_again i.row p then refusal_with (Granted i.row) else fresh_answer h i p (stale h i.row p)
 
 unfoldable pub answer : Holdings → Proposal → Asked
-answer h p = answer_at h p (found h p.instance)
+answer h p = answer_at h p (current_instance h p.instance)
 
 -- ---- launches and boots
 
@@ -542,11 +547,11 @@ next_launch h name = record { restarter = name; count = launch_of h name + 1 }
 unfoldable pub asked_launch : Holdings → List ℕ → Asked
 asked_launch h name =
     if nat_lt (launch_of h name) greatest
-    then accepted h (PutLaunch (next_launch h name) ∷ []) (Made (launch_of h name + 1))
-    else refused Limit
+    then acceptance_with h (PutLaunch (next_launch h name) ∷ []) (Made (launch_of h name + 1))
+    else refusal_with Limit
 
-abbrev pub relaunched : Launch → Change
-relaunched l = PutLaunch (record { restarter = l.restarter; count = l.count + 1 })
+abbrev pub change_of_relaunch : Launch → Change
+change_of_relaunch l = PutLaunch (record { restarter = l.restarter; count = l.count + 1 })
 
 abbrev pub is_persistent : GroupRecord → Bool
 is_persistent g = not g.non_persistent
@@ -583,8 +588,8 @@ booted_row r owner =
       serial = 0;
     }
 
-abbrev pub booted : Groups → Instance → Instance
-booted gs i = record i { row = booted_row i.row (owner_by (setting gs i)) }
+abbrev pub instance_after_boot : Groups → Instance → Instance
+instance_after_boot gs i = record i { row = booted_row i.row (owner_by (setting gs i)) }
 
 abbrev pub is_last_launch : Launch → Bool
 is_last_launch l = not (nat_lt l.count greatest)
@@ -601,29 +606,29 @@ kept_of_instances es = map instance_kept (filter (λ e. has_dropped e.groups) es
 
 -- every instance begins anew
 abbrev pub all_booted : Groups → List Instance → List Change
-all_booted gs is = map (λ i. PutInstance (booted gs i)) is
+all_booted gs is = map (λ i. PutInstance (instance_after_boot gs i)) is
 
 -- the changes of a boot: every restarter is launched again, groups go, every instance begins anew
-abbrev pub booting : Holdings → List Change
-booting h =
-    (map relaunched h.launches ++ (kept_of_services h.services ++ kept_of_instances h.instances))
+abbrev pub changes_for_boot : Holdings → List Change
+changes_for_boot h =
+    (map change_of_relaunch h.launches ++ (kept_of_services h.services ++ kept_of_instances h.instances))
     ++ all_booted (persistent (groups_of h)) (instances h)
 
 abbrev pub may_not_boot : Holdings → Bool
 may_not_boot h = list_any is_last_launch h.launches || list_any is_last_number (instances h)
 
 unfoldable pub asked_boot : Holdings → Asked
-asked_boot h = if may_not_boot h then refused Limit else accepted h (booting h) Done
+asked_boot h = if may_not_boot h then refusal_with Limit else acceptance_with h (changes_for_boot h) Done
 
 -- ---- the whole
 
 -- the changes of a command, and its reply
-unfoldable pub asked : Holdings → Command → Asked
-asked h (commands.Edit edit) = with_owners h (restarters_named h edit) (asked_edit h edit)
-asked h (commands.Propose p) = answer h p
-asked h (commands.Launch name) = asked_launch h name
-asked h commands.Boot = asked_boot h
+unfoldable pub outcome_of_command : Holdings → Command → Asked
+outcome_of_command h (commands.Edit edit) = with_owners h (restarters_named h edit) (asked_edit h edit)
+outcome_of_command h (commands.Propose p) = answer h p
+outcome_of_command h (commands.Launch name) = asked_launch h name
+outcome_of_command h commands.Boot = asked_boot h
 
 -- the value after a command, and its reply
-unfoldable pub next : Holdings → Command → Holdings × Reply
-next h c = (installed h (asked h c).changes, (asked h c).reply)
+unfoldable pub next : Holdings → Command → Holdings × CommandReply
+next h c = (holdings_after_changes h (outcome_of_command h c).changes, (outcome_of_command h c).reply)

@@ -13,16 +13,16 @@ use Rattle.smf_snap.specs.declared.name.SnapshotName.TheVariants as snapshots
 use Rattle.smf_snap.specs.Body.{spelled_both}
 use Rattle.smf_snap.specs.Composed.{composition}
 use Rattle.smf_snap.specs.Names.{names}
-use Rattle.smf_fmri.specs.ByKey.{put}
+use Rattle.smf_fmri.specs.ByKey.{list_with_item}
 use Rattle.smf_model.specs.declared.held.Instance.{Instance}
 use Rattle.smf_model.specs.declared.held.Owner.{Owner}
 use Rattle.smf_model.specs.declared.held.Owner.TheVariants as owners
 use Rattle.smf_model.specs.declared.held.Snapshot.{Snapshot}
 use Rattle.smf_state.specs.declared.view.View.{View}
-use Rattle.smf_model.specs.Holdings.{Holdings}
+use Rattle.smf_model.specs.Contents.{Holdings}
 use Rattle.smf_model.specs.Look.{groups_of, instance, instances}
 use Rattle.smf_model.specs.Next.{is_instance_of, named_snapshot, number_of}
-use Rattle.smf_model.specs.Setting.{current, enabled, framework, is_readable, restarter_name, service_owner, setting}
+use Rattle.smf_model.specs.GeneralGroup.{current, is_instance_enabled, framework, is_readable, restarter_name, service_owner, setting}
 
 abbrev pub is_run_by : List ℕ → Instance → Bool
 is_run_by restarter i = pointwise nat_eq i.row.owner restarter
@@ -61,7 +61,7 @@ made_group r =
 
 abbrev pub shown_with : Option Instance → List GroupRecord → List GroupRecord
 shown_with None gs = gs
-shown_with (Some i) gs = put by_group (made_group i.row) gs
+shown_with (Some i) gs = list_with_item by_group (made_group i.row) gs
 
 -- the groups of an owner in the order of their names, an instance's made one among them
 unfoldable pub shown_groups : Holdings → Owner → List GroupRecord
@@ -104,7 +104,7 @@ view_item h i =
     record {
       instance = i.number;
       name = i.name;
-      enabled = enabled (groups_of h) i;
+      enabled = is_instance_enabled (groups_of h) i;
       readable = is_readable (setting (groups_of h) i);
       row = (current (groups_of h) i).row;
       body = option_map body_of (named_snapshot h i.row.running);

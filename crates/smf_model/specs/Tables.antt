@@ -1,7 +1,7 @@
 -- The lists in memory, seen as what is held, and the room that is left in them.
 use Rattle.std.specs.Prelude.{ℕ, ◌≤◌}
 use Rattle.smf_model.specs.declared.tables.Lists.{Lists}
-use Rattle.smf_model.specs.Holdings.{Holdings}
+use Rattle.smf_model.specs.Contents.{Holdings}
 
 abbrev pub held_in : Lists → Holdings
 held_in t =

@@ -1,6 +1,4 @@
-ghost use Rattle.std.specs.Prelude.{◌≡◌};
-
-use crate::command::Reply;
+use crate::command::CommandReply;
 use crate::held::{Instance, InstanceEntry, InstanceName, Launch, Owner, Service, StoredSnapshot};
 use smf_fmri::{InstanceFmri, Items, Number, Ordered, ServiceFmri};
 use smf_value::Group;
@@ -34,5 +32,5 @@ pub enum Change {
 #[derive(Drop)]
 pub struct Outcome {
     pub changes: Items<Change>,
-    pub reply: Reply,
+    pub reply: CommandReply,
 }

@@ -1,4 +1,4 @@
-ghost use Rattle.smf_model.specs.declared.command.Edit.TheVariants.{AddGroup, Property};
+ghost use Rattle.smf_model.specs.declared.command.Edit.TheVariants.{AddGroup, AddInstance, DeleteGroup, Enable, Mark as MarkEdit, Property};
 ghost use Rattle.std.specs.Prelude.{◌≡◌, IfOk};
 
 use crate::held::Owner;
@@ -98,7 +98,7 @@ pub enum Mark {
 
 /// The answer to a command. All but the first three are refusals, which change nothing.
 #[derive(Drop)]
-pub enum Reply {
+pub enum CommandReply {
     /// The number of an instance that was added, or of a launch.
     Made(u64),
     /// The row that a proposal led to.
@@ -113,7 +113,7 @@ pub enum Reply {
     Stale(Why, Option<SharedRow>),
 }
 
-#[tactic(auto, using(crate::proofs::Lists::same_items))]
+#[tactic(auto, using(smf_state::proofs::Copies::same_items))]
 fn copy_of(values: &Items<Text>) -> Result<Items<Text>, AllocError>
     ensures { IfOk result (λ copy. copy ≡ values.now) }
 {
@@ -154,6 +154,38 @@ impl Clone for PropertyChange {
             }
         }
     }
+}
+
+fn copy_of_add_instance(service: &ServiceFmri, name: &Name) -> Result<Edit, AllocError>
+    ensures { IfOk result (λ copy. copy ≡ AddInstance service.now name.now) }
+{
+    let service = service.clone()?;
+    let name = name.clone()?;
+    Ok(Edit::AddInstance { service, name })
+}
+
+fn copy_of_delete_group(owner: &Owner, name: &Name) -> Result<Edit, AllocError>
+    ensures { IfOk result (λ copy. copy ≡ DeleteGroup owner.now name.now) }
+{
+    let owner = owner.clone()?;
+    let name = name.clone()?;
+    Ok(Edit::DeleteGroup { owner, name })
+}
+
+fn enable_edit(instance: u64, enabled: bool, temporary: bool) -> Edit
+    ensures { result ≡ Enable instance enabled temporary }
+{
+    Edit::Enable {
+        instance,
+        enabled,
+        temporary,
+    }
+}
+
+fn mark_edit(instance: u64, mark: Mark) -> Edit
+    ensures { result ≡ MarkEdit instance mark }
+{
+    Edit::Mark { instance, mark }
 }
 
 fn copy_of_add_group(
@@ -198,11 +230,7 @@ impl Clone for Edit {
     fn clone(&self) -> Result<Edit, AllocError> {
         match self {
             Edit::AddService(name) => Ok(Edit::AddService(name.clone()?)),
-            Edit::AddInstance { service, name } => {
-                let service = service.clone()?;
-                let name = name.clone()?;
-                Ok(Edit::AddInstance { service, name })
-            }
+            Edit::AddInstance { service, name } => copy_of_add_instance(service, name),
             Edit::DeleteService(name) => Ok(Edit::DeleteService(name.clone()?)),
             Edit::DeleteInstance(instance) => Ok(Edit::DeleteInstance(*instance)),
             Edit::AddGroup {
@@ -211,11 +239,7 @@ impl Clone for Edit {
                 group_type,
                 non_persistent,
             } => copy_of_add_group(owner, name, group_type, *non_persistent),
-            Edit::DeleteGroup { owner, name } => {
-                let owner = owner.clone()?;
-                let name = name.clone()?;
-                Ok(Edit::DeleteGroup { owner, name })
-            }
+            Edit::DeleteGroup { owner, name } => copy_of_delete_group(owner, name),
             Edit::Property {
                 owner,
                 group,
@@ -225,18 +249,11 @@ impl Clone for Edit {
                 instance,
                 enabled,
                 temporary,
-            } => Ok(Edit::Enable {
-                instance: *instance,
-                enabled: *enabled,
-                temporary: *temporary,
-            }),
+            } => Ok(enable_edit(*instance, *enabled, *temporary)),
             Edit::Restart(instance) => Ok(Edit::Restart(*instance)),
             Edit::Refresh(instance) => Ok(Edit::Refresh(*instance)),
             Edit::Clear(instance) => Ok(Edit::Clear(*instance)),
-            Edit::Mark { instance, mark } => Ok(Edit::Mark {
-                instance: *instance,
-                mark: *mark,
-            }),
+            Edit::Mark { instance, mark } => Ok(mark_edit(*instance, *mark)),
             Edit::Revert { instance, snapshot } => Ok(Edit::Revert {
                 instance: *instance,
                 snapshot: *snapshot,

@@ -1,5 +1,5 @@
 ghost use Rattle.std.specs.Prelude.{◌≡◌, IfOk};
-ghost use Rattle.smf_model.specs.Next.{asked, asked_edit, restarters_named, with_owners};
+ghost use Rattle.smf_model.specs.Next.{outcome_of_command, asked_edit, restarters_named, with_owners};
 
 use crate::command::{Command, Edit};
 use crate::planner::{Asked, Planner};
@@ -8,7 +8,8 @@ impl Planner<'_> {
     /// The changes of a client's edit, with the owners that it leaves to write, and its reply.
     #[tactic(auto, unfolding(crate::specs::Next::asked_edit, crate::specs::Next::with_owners))]
     fn asked_edit(&self, edit: &Edit) -> Asked
-        ensures { IfOk result (λ r. r ≡ with_owners self.now (restarters_named self.now edit.now) (asked_edit self.now edit.now)) }
+        ensures { IfOk result
+            (λ r. r ≡ with_owners self.now (restarters_named self.now edit.now) (asked_edit self.now edit.now)) }
     {
         match edit {
             Edit::AddService(name) => self.add_service(name),
@@ -44,9 +45,9 @@ impl Planner<'_> {
     }
 
     /// The changes of a command, and its reply.
-    #[tactic(auto, unfolding(crate::specs::Next::asked))]
-    pub(crate) fn asked(&self, command: &Command) -> Asked
-        ensures { IfOk result (λ r. r ≡ asked self.now command.now) }
+    #[tactic(auto, unfolding(crate::specs::Next::outcome_of_command))]
+    pub(crate) fn outcome_of_command(&self, command: &Command) -> Asked
+        ensures { IfOk result (λ r. r ≡ outcome_of_command self.now command.now) }
     {
         match command {
             Command::Edit(edit) => self.asked_edit(edit),

@@ -1,7 +1,7 @@
 ghost use Rattle.std.specs.Prelude.{◌≡◌, ◌<◌, IfErr, OnOk, OnErr, Option, None, length};
 ghost use Rattle.smf_model.specs.declared.journal.RepoFault.{RepoFault as AnyFault};
 ghost use Rattle.smf_model.specs.declared.journal.RepoFault.TheVariants.{Memory};
-ghost use Rattle.smf_model.specs.Holdings.{Holdings};
+ghost use Rattle.smf_model.specs.Contents.{Holdings};
 ghost use Rattle.smf_model.specs.Journals.{IsTold, IsUntold, LeavesOldOrTold, LeavesOnly};
 
 use crate::change::Change;

@@ -4,19 +4,20 @@ ghost use Rattle.smf_model.specs.declared.held.Instance.{Instance as AnyInstance
 ghost use Rattle.smf_model.specs.declared.held.Snapshot.{Snapshot as AnySnapshot};
 ghost use Rattle.smf_model.specs.Dates.{EventKind, IsDated};
 ghost use Rattle.smf_model.specs.Events.{IsKept, IsTold};
-ghost use Rattle.smf_model.specs.History.{AreInTurn, HasValueAt, entries, history, made, now};
-ghost use Rattle.smf_model.specs.Holdings.{Holdings};
+ghost use Rattle.smf_model.specs.History.{AreInTurn, HasValueAt, entries, history, holdings_after_commands, now};
+ghost use Rattle.smf_model.specs.Contents.{Holdings};
 ghost use Rattle.smf_model.specs.Laws.{GetsNextNumber, HasTheName, InstanceStaysGone};
 ghost use Rattle.smf_model.specs.Laws.{IsFoundByName, IsGrantedAgain, IsNumbered, MakesRevision};
 ghost use Rattle.smf_model.specs.Laws.{RowGoesOn, RowRises, SnapshotStays, SnapshotStaysGone, is_refusal};
 ghost use Rattle.smf_model.specs.Look.{empty};
-ghost use Rattle.smf_model.specs.Next.{asked, next};
+ghost use Rattle.smf_model.specs.Next.{outcome_of_command, next};
 ghost use Rattle.smf_state.specs.declared.step.Proposal.{Proposal as AnyProposal};
 
 /// A refusal leaves what is held, and so does a proposal that is granted again.
 pub fn refusals_change_nothing()
     ensures refused { (h : Holdings) (c : AnyCommand) → is_refusal (next h c).1 ≡ true → (next h c).0 ≡ h }
-    ensures changes { (h : Holdings) (c : AnyCommand) → is_refusal (asked h c).reply ≡ true → (asked h c).changes ≡ [] }
+    ensures changes { (h : Holdings) (c : AnyCommand) → is_refusal (outcome_of_command h c).reply ≡ true
+        → (outcome_of_command h c).changes ≡ [] }
     ensures again { (h : Holdings) (p : AnyProposal) (i : AnyInstance) → IsGrantedAgain h p i }
 {}
 
@@ -61,7 +62,7 @@ pub fn changes_follow_the_diagram()
 /// The newest value of a history is what its commands make one after another. Each value is what its command makes of
 /// the one before, under the next revision. Each revision from the first has its value.
 pub fn histories_are_made_in_turn()
-    ensures now { (h : Holdings) (cs : List AnyCommand) → now (history h cs) ≡ made h cs }
+    ensures now { (h : Holdings) (cs : List AnyCommand) → now (history h cs) ≡ holdings_after_commands h cs }
     ensures first { (h : Holdings) (cs : List AnyCommand) → (history h cs).first ≡ h }
     ensures turn { (h : Holdings) (cs : List AnyCommand) → AreInTurn h (entries (history h cs)) }
     ensures found { (h : Holdings) (cs : List AnyCommand) (n : ℕ) → HasValueAt h cs n }
@@ -70,7 +71,7 @@ pub fn histories_are_made_in_turn()
 /// A row keeps the revision of the last event of each kind. This revision is above a base exactly if such an event came
 /// after the base. No row keeps a revision that is still to come.
 pub fn revisions_tell_events()
-    ensures kept { (h : Holdings) (cs : List AnyCommand) → IsNumbered h → IsDated (made h cs) }
+    ensures kept { (h : Holdings) (cs : List AnyCommand) → IsNumbered h → IsDated (holdings_after_commands h cs) }
     ensures told { (h : Holdings) (cs : List AnyCommand) (k : EventKind) (n base : ℕ) (i : AnyInstance)
         → IsTold h cs k n base i }
     ensures happened { (h : Holdings) (cs : List AnyCommand) (k : EventKind) (n base : ℕ) (i : AnyInstance)

@@ -11,28 +11,29 @@
 //! Laws: `law` (the laws that no list of commands breaks).
 #![tactic(auto)]
 
-mod answering;
-mod asking;
-mod booting;
+mod boot_changes;
 mod change;
 mod command;
 mod dispatch;
-mod grouping;
+mod general_group;
+mod group_edits;
 mod held;
+mod instance_edits;
 mod journal;
 mod law;
-mod owning;
+mod owner_changes;
 mod plain;
 mod planner;
-mod reverting;
-mod setting;
-mod showing;
-mod snapping;
+mod proposals;
+mod reads;
+mod refreshes;
+mod reverts;
 mod tables;
-mod viewing;
+mod views;
 
 pub use change::{Change, Outcome};
-pub use command::{Command, Edit, Mark, PropertyChange, Reply};
+pub use command::{Command, CommandReply, Edit, Mark, PropertyChange};
+pub use general_group::Setting;
 pub use held::{
     EntryPart, Instance, InstanceEntry, InstanceName, Launch, Owner, Service, Snapshot,
     StoredSnapshot,
@@ -44,5 +45,4 @@ pub use law::{
     rows_never_fall_back, snapshots_stay,
 };
 pub use plain::Plain;
-pub use setting::Setting;
 pub use tables::Tables;

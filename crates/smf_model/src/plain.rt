@@ -2,17 +2,17 @@ ghost use Rattle.std.specs.Prelude.{◌≡◌, ◌⊎◌, ◌<◌, [], IfOk, IfE
 ghost use Rattle.std.specs.Option.{option_copied};
 ghost use Rattle.smf_model.specs.Journals.{IsRevised, IsTold, IsUntold, IsUnwritten, LeavesOldOr};
 ghost use Rattle.smf_model.specs.Journals.{LeavesOldOrTold, LeavesOnly};
-ghost use Rattle.smf_model.specs.Copied.{copied};
+ghost use Rattle.smf_model.specs.Copied.{holdings_as_read};
 ghost use Rattle.smf_model.specs.Laws.{IsNumbered, is_refusal};
-ghost use Rattle.smf_model.specs.Look.{empty, groups_of, installed, instance, launch_of, named, service, snapshot};
-ghost use Rattle.smf_model.specs.Next.{asked, found, may_not_boot, next};
-ghost use Rattle.smf_model.specs.Setting.{enabled, owner_by, setting};
+ghost use Rattle.smf_model.specs.Look.{empty, groups_of, holdings_after_changes, instance, launch_of, instance_by_name, service, snapshot};
+ghost use Rattle.smf_model.specs.Next.{outcome_of_command, current_instance, may_not_boot, next};
+ghost use Rattle.smf_model.specs.GeneralGroup.{is_instance_enabled, owner_by, setting};
 ghost use Rattle.smf_model.specs.Shown.{all_read, children, composed_groups, rows, rows_of};
 ghost use Rattle.smf_model.specs.Shown.{shown_groups, snapshot_number, snapshots_of, view, view_item};
 ghost use Rattle.smf_model.specs.Tables.{held_in};
 
 use crate::change::{Change, Outcome};
-use crate::command::{Command, Reply};
+use crate::command::{Command, CommandReply};
 use crate::held::{Instance, InstanceEntry, InstanceName, Owner, Service, Snapshot};
 use crate::journal::{Journal, RepoFault};
 use crate::planner::Planner;
@@ -94,26 +94,27 @@ impl<J: Journal> Plain<J> {
     }
 
     /// Plans a command: its changes, and its reply. This changes nothing itself.
-    pub fn asked(&self, command: &Command) -> Result<Outcome, AllocError>
-        ensures exact { IfOk result (λ r. r ≡ asked self.now.held command.now) }
+    pub fn outcome_of_command(&self, command: &Command) -> Result<Outcome, AllocError>
+        ensures exact { IfOk result (λ r. r ≡ outcome_of_command self.now.held command.now) }
         ensures refused { IfOk result (λ r. is_refusal r.reply ≡ true → r.changes ≡ []) }
-        ensures numbered { IfOk result (λ r. IsNumbered (installed self.now.held r.changes)) }
+        ensures numbered { IfOk result (λ r. IsNumbered (holdings_after_changes self.now.held r.changes)) }
         ensures stands { J.stands self.now.journal self.now.held }
     {
-        let outcome = Planner::over(self.alloc, &self.tables).asked(command)?;
+        let outcome = Planner::over(self.alloc, &self.tables).outcome_of_command(command)?;
         Ok(outcome)
     }
 
     /// Makes changes: the journal is written first, and an error leaves what is held. If there are no changes, the
     /// journal is not called.
     pub fn commit(&mut self, changes: Items<Change>) -> Result<(), RepoFault>
-        requires { IsNumbered (installed self.old.held changes) }
-        ensures ok { OnOk result (self.new.held ≡ installed self.old.held changes) }
+        requires { IsNumbered (holdings_after_changes self.old.held changes) }
+        ensures ok { OnOk result (self.new.held ≡ holdings_after_changes self.old.held changes) }
         ensures err { OnErr result (self.new.held ≡ self.old.held) }
         ensures trusted { J.is_clean self.new.journal → J.is_clean self.old.journal }
         ensures sound { OnOk result (0 < length changes → J.is_clean self.new.journal → J.is_sound self.new.journal) }
         ensures stands { J.stands self.new.journal self.new.held }
-        ensures crash { LeavesOldOr J.could self.old.journal self.new.journal (installed self.old.held changes) }
+        ensures crash { LeavesOldOr J.could self.old.journal self.new.journal
+            (holdings_after_changes self.old.held changes) }
         ensures settled { J.is_sound self.new.journal → LeavesOnly J.could self.new.journal self.new.held }
         ensures fault { IfErr result (IsUnwritten J.write_fails changes) }
     {
@@ -123,26 +124,27 @@ impl<J: Journal> Plain<J> {
 
     /// Carries out a command: what it asks for, and then the changes.
     #[tactic(auto, unfolding(crate::specs::Next::next))]
-    pub fn apply(&mut self, command: &Command) -> Result<Reply, RepoFault>
+    pub fn apply(&mut self, command: &Command) -> Result<CommandReply, RepoFault>
         ensures exact { IfOk result (λ reply. next self.old.held command.now ≡ (self.new.held, reply)) }
         ensures err { OnErr result (self.new.held ≡ self.old.held) }
         ensures trusted { J.is_clean self.new.journal → J.is_clean self.old.journal }
-        ensures sound { IsRevised self.old.held self.new.held → J.is_clean self.new.journal → J.is_sound self.new.journal }
+        ensures sound { IsRevised self.old.held self.new.held → J.is_clean self.new.journal
+            → J.is_sound self.new.journal }
         ensures stands { J.stands self.new.journal self.new.held }
         ensures crash { LeavesOldOr J.could self.old.journal self.new.journal (next self.old.held command.now).0 }
         ensures settled { J.is_sound self.new.journal → LeavesOnly J.could self.new.journal self.new.held }
         ensures fault { IfErr result (λ fault. (fault ≡ RepoFault.Memory) ⊎ J.write_fails fault) }
     {
-        let Outcome { changes, reply } = self.asked(command)?;
+        let Outcome { changes, reply } = self.outcome_of_command(command)?;
         self.commit(changes)?;
         Ok(reply)
     }
 
     /// The instance of a number, its owner as it is read now.
     pub fn instance(&self, number: u64) -> Result<Option<Instance>, AllocError>
-        ensures { IfOk result (λ i. i ≡ found self.now.held number) }
+        ensures { IfOk result (λ i. i ≡ current_instance self.now.held number) }
     {
-        self.planner().found(number)
+        self.planner().current_instance(number)
     }
 
     /// The instances as they are stored, with their groups, in number order.
@@ -241,9 +243,9 @@ impl<J: Journal> Plain<J> {
 
     /// The number of the instance of a name.
     pub fn number_of(&self, name: &InstanceFmri) -> Option<Number>
-        ensures { result ≡ option_map (λ i. i.number) (named self.now.held name.now) }
+        ensures { result ≡ option_map (λ i. i.number) (instance_by_name self.now.held name.now) }
     {
-        match self.tables.named(name) {
+        match self.tables.instance_by_name(name) {
             None => None,
             Some(instance) => Some(instance.number),
         }
@@ -296,20 +298,20 @@ impl<J: Journal> Plain<J> {
 
     /// True if an instance that is there is enabled.
     pub fn is_enabled(&self, instance: &Instance) -> Result<bool, AllocError>
-        ensures { IfOk result (λ b. b ≡ enabled (groups_of self.now.held) instance.now) }
+        ensures { IfOk result (λ b. b ≡ is_instance_enabled (groups_of self.now.held) instance.now) }
     {
-        self.planner().enabled(instance)
+        self.planner().is_instance_enabled(instance)
     }
 
     /// All that is held, each instance as it is read.
     pub fn copy(&self) -> Result<Tables, AllocError>
-        ensures { IfOk result (λ t. t ≡ copied self.now.held) }
+        ensures { IfOk result (λ t. t ≡ holdings_as_read self.now.held) }
     {
-        self.planner().copied()
+        self.planner().holdings_as_read()
     }
 
     /// All that is held as it is stored, which a history begins with.
-    pub fn stored(&self) -> Result<Tables, AllocError>
+    pub fn tables_as_stored(&self) -> Result<Tables, AllocError>
         ensures exact { IfOk result (λ t. t ≡ self.now.held) }
         ensures numbered { IsNumbered self.now.held }
     {
@@ -325,13 +327,13 @@ impl<J: Journal> Plain<J> {
 }
 
 /// Writes the changes to the journal, and then makes them.
-#[tactic(auto, unfolding(crate::specs::Look::installed))]
+#[tactic(auto, unfolding(crate::specs::Look::holdings_after_changes))]
 fn commit<J: Journal>(
     journal: &mut J,
     lists: &mut Lists,
     changes: Vec<Change>,
 ) -> Result<(), RepoFault>
-    ensures ok { OnOk result (held_in lists.new ≡ installed (held_in lists.old) changes.items) }
+    ensures ok { OnOk result (held_in lists.new ≡ holdings_after_changes (held_in lists.old) changes.items) }
     ensures err { OnErr result (held_in lists.new ≡ held_in lists.old) }
     ensures trusted { J.is_clean journal.new → J.is_clean journal.old }
     ensures sound { OnOk result (0 < length changes.items → J.is_clean journal.new → J.is_sound journal.new) }

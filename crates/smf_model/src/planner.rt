@@ -1,8 +1,8 @@
 ghost use Rattle.std.specs.Prelude.{◌≡◌, ◌∷◌, ◌++◌, [], IfOk};
-ghost use Rattle.smf_model.specs.Next.{accepted, refused};
+ghost use Rattle.smf_model.specs.Next.{acceptance_with, refusal_with};
 
 use crate::change::{Change, Outcome};
-use crate::command::Reply;
+use crate::command::CommandReply;
 use crate::tables::Tables;
 use smf_fmri::Items;
 use std::alloc::{AllocError, Global};
@@ -19,7 +19,7 @@ pub(crate) struct Planner<'a> {
 }
 
 impl<'a> Model for Planner<'a> {
-    ghost use Rattle.smf_model.specs.Holdings.{Holdings};
+    ghost use Rattle.smf_model.specs.Contents.{Holdings};
 
     ghost Value = { Holdings };
 
@@ -38,7 +38,7 @@ pub(crate) fn with_change(
 }
 
 /// Drops a reply in whose place a refusal or a fault comes. The drop costs one proof here, and none at each exit.
-pub(crate) fn let_go(_reply: Reply) {}
+pub(crate) fn let_go(_reply: CommandReply) {}
 
 impl<'a> Planner<'a> {
     pub(crate) fn over(alloc: Global, tables: &'a Tables) -> Planner<'a>
@@ -48,8 +48,8 @@ impl<'a> Planner<'a> {
     }
 
     /// A refusal changes nothing.
-    pub(crate) fn refused(&self, reply: Reply) -> Asked
-        ensures { IfOk result (λ r. r ≡ refused reply) }
+    pub(crate) fn refusal_with(&self, reply: CommandReply) -> Asked
+        ensures { IfOk result (λ r. r ≡ refusal_with reply) }
     {
         Ok(Outcome {
             changes: Items::new(self.alloc),
@@ -58,13 +58,13 @@ impl<'a> Planner<'a> {
     }
 
     /// An accepted command makes one revision. If none is left, the command is refused.
-    pub(crate) fn accepted(&self, changes: Items<Change>, reply: Reply) -> Asked
-        ensures { IfOk result (λ r. r ≡ accepted self.now changes reply) }
+    pub(crate) fn acceptance_with(&self, changes: Items<Change>, reply: CommandReply) -> Asked
+        ensures { IfOk result (λ r. r ≡ acceptance_with self.now changes reply) }
     {
         match self.tables.revision().next() {
             None => {
                 let_go(reply);
-                self.refused(Reply::Limit)
+                self.refusal_with(CommandReply::Limit)
             }
             Some(next) => match with_change(changes, Change::SetRevision(next)) {
                 Ok(changes) => Ok(Outcome { changes, reply }),
@@ -77,11 +77,11 @@ impl<'a> Planner<'a> {
     }
 
     /// A command with one change.
-    pub(crate) fn one(&self, change: Change, reply: Reply) -> Asked
-        ensures { IfOk result (λ r. r ≡ accepted self.now (change ∷ []) reply) }
+    pub(crate) fn one(&self, change: Change, reply: CommandReply) -> Asked
+        ensures { IfOk result (λ r. r ≡ acceptance_with self.now (change ∷ []) reply) }
     {
         match with_change(Items::new(self.alloc), change) {
-            Ok(changes) => self.accepted(changes, reply),
+            Ok(changes) => self.acceptance_with(changes, reply),
             Err(fault) => {
                 let_go(reply);
                 Err(fault)

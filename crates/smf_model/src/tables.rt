@@ -1,8 +1,8 @@
 ghost use Rattle.std.specs.Option.{option_copied};
 ghost use Rattle.std.specs.Prelude.{◌≡◌, ◌+◌, ◌<◌, ◌≤◌, length, ℕ, IfOk, OnErr, OnOk};
 ghost use Rattle.smf_fmri.specs.ByKey.{Rises, lookup};
-ghost use Rattle.smf_model.specs.Look.{by_entry, by_name, by_snapshot, changed, empty, installed, instance};
-ghost use Rattle.smf_model.specs.Look.{lacks, launch_of, named, no_service_has, others_of, owned, put_new, service, snapshot, with_groups};
+ghost use Rattle.smf_model.specs.Look.{by_entry, by_name, by_snapshot, holdings_after_change, empty, holdings_after_changes, instance};
+ghost use Rattle.smf_model.specs.Look.{lacks, launch_of, instance_by_name, no_service_has, others_of, groups_if_there, put_new, service, snapshot, with_groups};
 ghost use Rattle.smf_model.specs.Tables.{HasRoom, held_in};
 
 use crate::change::Change;
@@ -34,7 +34,7 @@ pub(crate) struct Lists {
 }
 
 impl Model for Tables {
-    ghost use Rattle.smf_model.specs.Holdings.{Holdings};
+    ghost use Rattle.smf_model.specs.Contents.{Holdings};
     ghost use Rattle.smf_model.specs.Tables.{held_in};
 
     ghost Value = { Holdings };
@@ -165,8 +165,8 @@ impl Tables {
     }
 
     /// The instance of a name.
-    pub fn named(&self, name: &InstanceFmri) -> Option<&Instance>
-        ensures { option_copied result ≡ named self.now name.now }
+    pub fn instance_by_name(&self, name: &InstanceFmri) -> Option<&Instance>
+        ensures { option_copied result ≡ instance_by_name self.now name.now }
     {
         match self.number_named(name) {
             None => None,
@@ -191,8 +191,8 @@ impl Tables {
     }
 
     /// The groups of an owner, or none if there is no such owner.
-    pub fn owned(&self, owner: &Owner) -> Option<&Ordered<Group>>
-        ensures { option_copied result ≡ owned self.now owner.now }
+    pub fn groups_if_there(&self, owner: &Owner) -> Option<&Ordered<Group>>
+        ensures { option_copied result ≡ groups_if_there self.now owner.now }
     {
         match owner {
             Owner::Service(name) => self.service(name).map(|service| &service.groups),
@@ -204,7 +204,7 @@ impl Tables {
 impl Tables {
     /// Makes changes, as a store does with what it reads. If memory runs out, what is held is as it was.
     pub fn make(&mut self, changes: Items<Change>) -> Result<(), AllocError>
-        ensures ok { OnOk result (self.new ≡ installed self.old changes) }
+        ensures ok { OnOk result (self.new ≡ holdings_after_changes self.old changes) }
         ensures err { OnErr result (self.new ≡ self.old) }
     {
         reserve(&mut self.lists, changes.len())?;
@@ -245,7 +245,7 @@ fn put_groups(lists: &mut Lists, owner: Owner, groups: Ordered<Group>)
 }
 
 fn put_instance(lists: &mut Lists, instance: Instance)
-    ensures made { held_in lists.new ≡ changed (held_in lists.old) (Change.PutInstance instance) }
+    ensures made { held_in lists.new ≡ holdings_after_change (held_in lists.old) (Change.PutInstance instance) }
     ensures room { (n : ℕ) → HasRoom lists.old (n + 1) → HasRoom lists.new n }
 {
     let number = instance.number;
@@ -257,7 +257,7 @@ fn put_instance(lists: &mut Lists, instance: Instance)
 /// Makes one change, for which there is room.
 fn install_one(lists: &mut Lists, change: Change)
     requires { HasRoom lists.old 1 }
-    ensures made { held_in lists.new ≡ changed (held_in lists.old) change }
+    ensures made { held_in lists.new ≡ holdings_after_change (held_in lists.old) change }
     ensures room { (n : ℕ) → HasRoom lists.old (n + 1) → HasRoom lists.new n }
 {
     match change {
@@ -281,7 +281,7 @@ fn install_one(lists: &mut Lists, change: Change)
 /// Makes the changes, for which there is room.
 pub(crate) fn install(lists: &mut Lists, changes: Vec<Change>)
     requires { HasRoom lists.old (length changes.items) }
-    ensures { held_in lists.new ≡ installed (held_in lists.old) changes.items }
+    ensures { held_in lists.new ≡ holdings_after_changes (held_in lists.old) changes.items }
 {
     for change in changes {
         install_one(lists, change);

@@ -6,13 +6,17 @@ use Rattle.smf_restarter.specs.Knowledge.{Kept, Knowledge}
 use Rattle.smf_restarter.specs.Ticks.{at_rest}
 use Rattle.smf_world.specs.Worked.{is_actor}
 
-found_by : (b c : Bool) (k : Knowledge) (o : Option Knowledge) → c ≡ is_some o → (b || c) ≡ is_some (if b then Some k else o)
+found_by : (b c : Bool) (k : Knowledge) (o : Option Knowledge) → c ≡ is_some o
+    → (b || c) ≡ is_some (if b then Some k else o)
 found_by true c k o e = refl
 found_by false c k o e = e
 
-pub any_found : (actor : ℕ) (ks : List Kept) → list_any (λ k. k.known.actor == actor) ks ≡ is_some (find (is_actor actor) (map (λ k. k.known) ks))
+pub any_found : (actor : ℕ) (ks : List Kept)
+    → list_any (λ k. k.known.actor == actor) ks ≡ is_some (find (is_actor actor) (map (λ k. k.known) ks))
 any_found actor [] = refl
-any_found actor (k ∷ ks) = found_by (k.known.actor == actor) (list_any (λ k. k.known.actor == actor) ks) k.known (find (is_actor actor) (map (λ k. k.known) ks)) (any_found actor ks)
+any_found actor (k ∷ ks) =
+    found_by (k.known.actor == actor) (list_any (λ k. k.known.actor == actor) ks) k.known
+    (find (is_actor actor) (map (λ k. k.known) ks)) (any_found actor ks)
 
 pub all_known : (ks : List Kept) → list_all (λ k. at_rest k.known) ks ≡ list_all at_rest (map (λ k. k.known) ks)
 all_known [] = refl

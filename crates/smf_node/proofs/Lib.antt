@@ -1,15 +1,15 @@
-mod Faulting
+mod FaultExits
 mod Found
-mod Marking
+mod EventMarks
 mod Owners
 mod Places
-mod Running
+mod Runs
 mod Done
-mod Polling
-mod Settling
+mod Polls
+mod QuietRounds
 mod UpTo
-mod Giving
-mod Booting
-pub mod Lining
-pub mod Resting
-mod Skipping
+mod Edits
+mod BootLimits
+pub mod Lines
+pub mod IdleTurns
+mod SkippedTurns

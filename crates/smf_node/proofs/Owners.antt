@@ -3,11 +3,11 @@ use Rattle.std.proofs.Common.{◌≡◌, ℕ, List, [], ◌∷◌, ◌||◌, Boo
 use Rattle.std.specs.Cmp.Lexicographic.{pointwise}
 use Rattle.std.specs.List.{AllByRecursion as Every, list_all, list_any}
 use Rattle.std.specs.Prelude.{◌&&◌, nat_eq, not}
-use Rattle.smf_fmri.proofs.Matching.{same_text}
-use Rattle.smf_fmri.proofs.Rising.{all_put}
-use Rattle.smf_fmri.specs.ByKey.{put, put_all}
+use Rattle.smf_fmri.proofs.Patterns.{same_text}
+use Rattle.smf_fmri.proofs.KeyOrder.{all_put}
+use Rattle.smf_fmri.specs.ByKey.{list_with_item, put_all}
 use Rattle.smf_model.specs.Look.{bare, groups_of}
-use Rattle.smf_model.specs.Setting.{current}
+use Rattle.smf_model.specs.GeneralGroup.{current}
 use Rattle.smf_model.specs.declared.held.InstanceEntry.{InstanceEntry}
 use Rattle.smf_node.specs.Owners.{has_all_owners, has_launched_owner}
 use Rattle.smf_state.specs.OwnName.{startd}
@@ -32,11 +32,13 @@ owners_there w [] e = tt
 owners_there w (x ∷ es) e =
     let two = both (has_launched_owner w x) (list_all (has_launched_owner w) es) e in (two.0, owners_there w es two.1)
 
-all_there : (w : World) (ys xs : List (List ℕ)) → Every (IsThere w) ys → Every (IsThere w) xs → Every (IsThere w) (put_all by_name ys xs)
+all_there : (w : World) (ys xs : List (List ℕ)) → Every (IsThere w) ys → Every (IsThere w) xs
+    → Every (IsThere w) (put_all by_name ys xs)
 all_there w [] xs a b = b
-all_there w (y ∷ ys) xs a b = all_there w ys (put by_name y xs) a.1 (all_put by_name (IsThere w) y xs a.0 b)
+all_there w (y ∷ ys) xs a b = all_there w ys (list_with_item by_name y xs) a.1 (all_put by_name (IsThere w) y xs a.0 b)
 
-filtered_there : (w : World) (p : List ℕ → Bool) (xs : List (List ℕ)) → Every (IsThere w) xs → Every (IsThere w) (filter p xs)
+filtered_there : (w : World) (p : List ℕ → Bool) (xs : List (List ℕ)) → Every (IsThere w) xs
+    → Every (IsThere w) (filter p xs)
 filtered_there w p [] a = tt
 filtered_there w p (x ∷ xs) a = by (p x) (filtered_there w p xs a.1)
   where
@@ -61,29 +63,39 @@ none_to_launch w e =
 
 -- ---- names among which the owners of all instances are
 
-launched_among : (w : World) (names : List (List ℕ)) (owner : List ℕ) → list_any (λ name. pointwise nat_eq name owner) names ≡ true → list_all (is_launched w) names ≡ true → IsThere w owner
+launched_among : (w : World) (names : List (List ℕ)) (owner : List ℕ)
+    → list_any (λ name. pointwise nat_eq name owner) names ≡ true → list_all (is_launched w) names ≡ true
+    → IsThere w owner
 launched_among w [] owner among all = cc
 launched_among w (x ∷ xs) owner among all =
     let two = both (is_launched w x) (list_all (is_launched w) xs) all in
     by (pointwise nat_eq x owner) refl two.0 (λ e. launched_among w xs owner e two.1) among
   where
-    by : (b : Bool) → pointwise nat_eq x owner ≡ b → IsThere w x → (list_any (λ name. pointwise nat_eq name owner) xs ≡ true → IsThere w owner) → (b || list_any (λ name. pointwise nat_eq name owner) xs) ≡ true → IsThere w owner
+    by : (b : Bool) → pointwise nat_eq x owner ≡ b → IsThere w x
+        → (list_any (λ name. pointwise nat_eq name owner) xs ≡ true → IsThere w owner)
+        → (b || list_any (λ name. pointwise nat_eq name owner) xs) ≡ true → IsThere w owner
     by true same first rest e = subst (IsThere w) ((same_text x owner).0 same) first
     by false same first rest e = rest e
 
 all_launched : (w : World) (names : List (List ℕ)) (es : List InstanceEntry)
-    → Every (λ e. list_any (λ name. pointwise nat_eq name (current (groups_of w.now) e.instance).row.owner) names ≡ true) es
+    → Every (λ e. list_any (λ name. pointwise nat_eq name (current (groups_of w.now) e.instance).row.owner) names
+    ≡ true) es
     → list_all (is_launched w) names ≡ true → list_all (has_launched_owner w) es ≡ true
 all_launched w names [] among all = refl
 all_launched w names (e ∷ es) among all =
-    rw (launched_among w names (current (groups_of w.now) e.instance).row.owner among.0 all) (all_launched w names es among.1 all)
+    rw (launched_among w names (current (groups_of w.now) e.instance).row.owner among.0 all)
+    (all_launched w names es among.1 all)
 
 -- the same of a node's parts
 pub owners_launched : (w : World) (m : Marks) (p : Progress) (names : List (List ℕ)) (b : Bool) → progress_of w m ≡ p
-    → Every (λ e. list_any (λ name. pointwise nat_eq name (current (groups_of w.now) e.instance).row.owner) names ≡ true) w.now.instances
-    → b ≡ list_all (is_launched p.world) names → b ≡ true → list_all (has_launched_owner p.world) p.world.now.instances ≡ true
+    → Every (λ e. list_any (λ name. pointwise nat_eq name (current (groups_of w.now) e.instance).row.owner) names
+    ≡ true) w.now.instances
+    → b ≡ list_all (is_launched p.world) names → b ≡ true
+    → list_all (has_launched_owner p.world) p.world.now.instances ≡ true
 unfolding progress_of
 owners_launched w m p names b is among launched so =
     let same : w ≡ p.world = ap (λ (q : Progress). q.world) is in
-    let P : World → Type 0 = λ v. Every (λ e. list_any (λ name. pointwise nat_eq name (current (groups_of v.now) e.instance).row.owner) names ≡ true) v.now.instances in
+    let P : World → Type 0 =
+    λ v. Every (λ e. list_any (λ name. pointwise nat_eq name (current (groups_of v.now) e.instance).row.owner)
+    names ≡ true) v.now.instances in
     all_launched p.world names p.world.now.instances (subst P same among) (sym launched ∙ so)

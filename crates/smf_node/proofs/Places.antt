@@ -15,5 +15,6 @@ last_of xs k =
     sym (drop_at (reverse (drop k (reverse xs))) (reverse (take k (reverse xs))) (length xs - k) (behind xs k))
     ∙ ap (drop (length xs - k)) (sym (parts (reverse xs) k) ∙ reverse-reverse xs)
 
-pub last_is : (xs ys : List ℕ) (k skipped : ℕ) → ys ≡ drop skipped xs → skipped ≡ length xs - k → ys ≡ reverse (take k (reverse xs))
+pub last_is : (xs ys : List ℕ) (k skipped : ℕ) → ys ≡ drop skipped xs → skipped ≡ length xs - k
+    → ys ≡ reverse (take k (reverse xs))
 last_is xs ys k skipped e is = e ∙ ap (λ n. drop n xs) is ∙ sym (last_of xs k)

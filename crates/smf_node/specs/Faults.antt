@@ -5,12 +5,12 @@ use Rattle.smf_machine.specs.declared.fault.MachineFault.TheVariants as machines
 use Rattle.smf_model.specs.declared.change.Change.{Change}
 use Rattle.smf_model.specs.declared.command.Command.{Command}
 use Rattle.smf_model.specs.declared.command.Command.TheVariants as commands
-use Rattle.smf_model.specs.declared.command.Reply.{Reply}
-use Rattle.smf_model.specs.declared.command.Reply.TheVariants as replies
+use Rattle.smf_model.specs.declared.command.CommandReply.{CommandReply}
+use Rattle.smf_model.specs.declared.command.CommandReply.TheVariants as replies
 use Rattle.smf_model.specs.declared.journal.RepoFault.{RepoFault}
 use Rattle.smf_model.specs.declared.journal.RepoFault.TheVariants as journals
-use Rattle.smf_model.specs.Holdings.{Holdings}
-use Rattle.smf_model.specs.Next.{asked}
+use Rattle.smf_model.specs.Contents.{Holdings}
+use Rattle.smf_model.specs.Next.{outcome_of_command}
 use Rattle.smf_node.specs.declared.fault.NodeFault.{NodeFault}
 use Rattle.smf_node.specs.declared.fault.NodeFault.TheVariants.{Memory, Database, Limit, NoSuchMessage, NoSuchActor}
 use Rattle.smf_world.specs.declared.event.Event.{Event}
@@ -19,7 +19,7 @@ use Rattle.smf_world.specs.declared.event.SpawnAnswer.TheVariants as spawns
 use Rattle.smf_world.specs.declared.schedule.Deed.{Deed}
 use Rattle.smf_world.specs.declared.schedule.Deed.TheVariants as deeds
 use Rattle.smf_world.specs.Schedule.{Progress, refuses}
-use Rattle.smf_world.specs.Worked.{is_launched, worked}
+use Rattle.smf_world.specs.Worked.{is_launched, work_of_event}
 use Rattle.smf_world.specs.World.{World}
 
 -- ---- what cannot happen
@@ -38,13 +38,13 @@ is_against_launch w (events.Timeout name n) = not (is_launched w name)
 is_against_launch w (events.Crash name) = not (is_launched w name)
 is_against_launch w e = false
 
-abbrev pub is_limit : Reply → Bool
+abbrev pub is_limit : CommandReply → Bool
 is_limit replies.Limit = true
 is_limit _ = false
 
 -- a command is refused, since a number that it needs has no next one
 abbrev pub is_past_limit : Holdings → Command → Bool
-is_past_limit h c = is_limit (asked h c).reply
+is_past_limit h c = is_limit (outcome_of_command h c).reply
 
 -- a launch or a boot is refused so
 abbrev pub lacks_number : World → Event → Bool
@@ -53,8 +53,8 @@ lacks_number w events.Boot = is_past_limit w.now commands.Boot
 lacks_number w e = false
 
 -- why an event cannot happen, whatever memory and journal are
-abbrev pub refused : World → Event → Option NodeFault
-refused w e =
+abbrev pub event_refusal : World → Event → Option NodeFault
+event_refusal w e =
     if is_unsent w e then Some NoSuchMessage
     else if is_against_launch w e then Some NoSuchActor
     else if lacks_number w e then Some Limit
@@ -74,12 +74,13 @@ IsUnwritten fails changes e = (e ≡ Memory) ⊎ ((e ≡ Database) × fails jour
 
 -- an event that can happen ended so
 abbrev pub IsLack : (RepoFault → Type 0) → World → Event → NodeFault → Type 0
-IsLack fails w event e = IsUnwritten fails (worked w event).changes e
+IsLack fails w event e = IsUnwritten fails (work_of_event w event).changes e
 
 -- a first boot ended so, or is refused, since a row or a launch has no next number
 abbrev pub IsUnbooted : (RepoFault → Type 0) → Holdings → NodeFault → Type 0
 IsUnbooted fails h e =
-    IsUnwritten fails (asked h commands.Boot).changes e ⊎ ((e ≡ Limit) × (is_past_limit h commands.Boot ≡ true))
+    IsUnwritten fails (outcome_of_command h commands.Boot).changes e
+    ⊎ ((e ≡ Limit) × (is_past_limit h commands.Boot ≡ true))
 
 -- with this fault an event that is refused may end: that a number is missing is worked out, which needs memory
 abbrev pub IsRefusal : NodeFault → NodeFault → Type 0
@@ -92,7 +93,7 @@ FaultOf fails w event (Some why) e = IsRefusal why e
 FaultOf fails w event None e = IsLack fails w event e
 
 pub record IsFault (fails : RepoFault → Type 0) (w : World) (event : Event) (e : NodeFault) : Type 0 where
-  pub why : FaultOf fails w event (refused w event) e
+  pub why : FaultOf fails w event (event_refusal w event) e
 
 -- ---- deeds
 

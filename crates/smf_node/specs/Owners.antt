@@ -2,7 +2,7 @@
 use Rattle.std.specs.List.{list_all}
 use Rattle.std.specs.Prelude.{◌&&◌, Bool}
 use Rattle.smf_model.specs.Look.{groups_of}
-use Rattle.smf_model.specs.Setting.{current}
+use Rattle.smf_model.specs.GeneralGroup.{current}
 use Rattle.smf_model.specs.declared.held.InstanceEntry.{InstanceEntry}
 use Rattle.smf_state.specs.OwnName.{startd}
 use Rattle.smf_world.specs.Worked.{is_launched}

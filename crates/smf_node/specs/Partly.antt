@@ -22,7 +22,8 @@ abbrev pub LacksMemory : Course → Course → NodeFault → Type 0
 LacksMemory c d e = (e ≡ Memory) × Stays c d
 
 -- in a list of things to do, those before one that ended with this fault were done
-pub record FailsAt {X : Type 0} (Does : X → Course → Course → Type 0) (Fails : X → Course → Course → NodeFault → Type 0) (all : List X) (c d : Course) (e : NodeFault) : Type 0 where
+pub record FailsAt {X : Type 0} (Does : X → Course → Course → Type 0)
+    (Fails : X → Course → Course → NodeFault → Type 0) (all : List X) (c d : Course) (e : NodeFault) : Type 0 where
   pub first : List X
   pub failed : X
   pub rest : List X
@@ -66,7 +67,8 @@ abbrev pub RoundEnds : Rules → (RepoFault → Type 0) → Course → Course �
 RoundEnds r fails c d e = RoundFails r fails c d e ⊎ ((m : Course) × IsRound r c m × LacksMemory m d e)
 
 -- so many rounds, none of which left the world quiet, were made of those that were allowed, and the next one failed
-pub record SettleFails (r : Rules) (fails : RepoFault → Type 0) (rounds : ℕ) (c d : Course) (e : NodeFault) : Type 0 where
+pub record SettleFails (r : Rules) (fails : RepoFault → Type 0) (rounds : ℕ) (c d : Course)
+    (e : NodeFault) : Type 0 where
   pub full : ℕ
   pub reached : Course
   pub fewer : full < rounds

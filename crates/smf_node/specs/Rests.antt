@@ -1,7 +1,7 @@
 -- The turns of a restarter for its instances that change nothing, and those that are left.
 use Rattle.std.specs.Prelude.{◌≡◌, ℕ, List, [], map, false, Option, Some, None}
-use Rattle.smf_machine.specs.declared.requests.Ask.TheVariants.{Nothing}
-use Rattle.smf_machine.specs.Requests.{asked}
+use Rattle.smf_machine.specs.declared.requests.MethodRequest.TheVariants.{Nothing}
+use Rattle.smf_machine.specs.Requests.{request_of_turn}
 use Rattle.smf_world.specs.declared.event.Event.TheVariants as events
 use Rattle.smf_world.specs.declared.event.SpawnAnswer.TheVariants as spawns
 use Rattle.smf_restarter.specs.Knowledge.{Knowledge}
@@ -17,7 +17,7 @@ use Rattle.smf_world.specs.World.{World}
 
 -- nothing is asked for, and nothing comes of it
 pub record RestsOn (w : World) (name : List ℕ) (n : ℕ) : Type 0 where
-  pub asks : asked w name n ≡ Nothing
+  pub asks : request_of_turn w name n ≡ Nothing
   pub no_spawn : asks_spawn (restarter w name) n ≡ false
   pub same : happens w (events.Tick name n spawns.Made) ≡ w
 

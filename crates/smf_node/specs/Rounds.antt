@@ -1,8 +1,8 @@
 -- The schedule with who runs methods: what deeds, turns and rounds leave.
 use Rattle.std.specs.Prelude.{◌≡◌, ◌⊎◌, ◌≤◌, ◌-◌, ℕ, zero, suc, List, [], ◌∷◌, Bool, true, false, Some, None}
-use Rattle.smf_contract.specs.declared.event.Event.{Event as ContractEvent}
+use Rattle.smf_contract.specs.declared.event.ContractEvent.{ContractEvent}
 use Rattle.smf_edge.specs.Answers.{Seen}
-use Rattle.smf_machine.specs.Children.{heard}
+use Rattle.smf_machine.specs.Children.{world_after_poll}
 use Rattle.smf_machine.specs.Runners.{HasTicked, Rules}
 use Rattle.smf_node.specs.declared.runners.TheConstants.{MAX_POLLS}
 use Rattle.smf_world.specs.declared.event.Event.TheVariants as events
@@ -13,7 +13,7 @@ use Rattle.smf_world.specs.declared.schedule.Settled.{Settled}
 use Rattle.smf_world.specs.declared.schedule.Settled.TheVariants.{Quiet, Busy}
 use Rattle.smf_world.specs.declared.schedule.Turn.{Turn}
 use Rattle.smf_world.specs.declared.schedule.Turn.TheVariants as turns
-use Rattle.smf_world.specs.Schedule.{Progress, deeds_of, deliver_next, entering, first_turns, is_quiet, launched_names, on, refuses, report_one, turns_of_all}
+use Rattle.smf_world.specs.Schedule.{Progress, deeds_of, deliver_next, progress_at_turn, first_turns, is_quiet, launched_names, on, refuses, report_one, turns_of_all}
 use Rattle.smf_world.specs.World.{World}
 
 -- a node's progress, and what is seen of who runs methods
@@ -60,12 +60,13 @@ HasGone r (deeds.Tick name n) c d = TicksIf (refuses c.progress name n) r name n
 -- ---- what children tell
 
 abbrev pub with_event : Progress → ContractEvent → Progress
-with_event p e = with_world p (heard (Some e) p.world)
+with_event p e = with_world p (world_after_poll (Some e) p.world)
 
 -- so many events were given, each of which happened
 abbrev pub AreGiven : Rules → ℕ → Course → Course → Type 0
 AreGiven r zero c d = d ≡ c
-AreGiven r (suc k) c d = (e : ContractEvent) × (s : Seen) × r.polls (Some e) c.seen s × AreGiven r k (course (with_event c.progress e) s) d
+AreGiven r (suc k) c d = (e : ContractEvent) × (s : Seen) × r.polls (Some e) c.seen s
+    × AreGiven r k (course (with_event c.progress e) s) d
 
 -- no more were asked for, or none was given then
 abbrev pub NoMore : Rules → ℕ → Course → Course → Type 0
@@ -83,7 +84,7 @@ pub record HasLearned (r : Rules) (c d : Course) : Type 0 where
 
 -- before contracts are reported, children tell what happened
 abbrev pub IsEntered : Rules → Turn → Course → Course → Type 0
-IsEntered r turns.Reports c d = (m : Course) × HasLearned r c m × (d ≡ at m (entering turns.Reports m.progress))
+IsEntered r turns.Reports c d = (m : Course) × HasLearned r c m × (d ≡ at m (progress_at_turn turns.Reports m.progress))
 IsEntered r _ c d = d ≡ c
 
 abbrev pub AreDone : Rules → List Deed → Course → Course → Type 0
@@ -111,7 +112,8 @@ GoesOn false more c d how = more
 -- at most so many rounds, up to the first that leaves the world quiet
 abbrev pub AreRounds : Rules → ℕ → Course → Course → Settled → Type 0
 AreRounds r zero c d how = (d ≡ c) × (how ≡ Busy)
-AreRounds r (suc n) c d how = (m : Course) × IsRound r c m × GoesOn (is_quiet m.progress.world) (AreRounds r n m d how) m d how
+AreRounds r (suc n) c d how = (m : Course) × IsRound r c m
+    × GoesOn (is_quiet m.progress.world) (AreRounds r n m d how) m d how
 
 -- so many rounds at most were made, with the answers of who runs methods: they left this, and ended so
 pub record HasSettled (r : Rules) (rounds : ℕ) (c d : Course) (how : Settled) : Type 0 where

@@ -12,7 +12,7 @@ use crate::fault::NodeFault;
 use crate::node::Node;
 use smf_fmri::{InstanceFmri, Items, Number, Ordered, ServiceFmri, Table};
 use smf_model::{
-    Edit, Instance, InstanceName, Journal, Owner, Reply, RepoFault, Service, Snapshot,
+    CommandReply, Edit, Instance, InstanceName, Journal, Owner, RepoFault, Service, Snapshot,
 };
 use smf_repo::Client;
 use smf_snap::SnapshotName;
@@ -35,8 +35,9 @@ fn repo_fault(fault: NodeFault) -> RepoFault
 
 impl<J: Journal> Node<J> {
     /// A client gives an edit, and learns no more of a fault than of the repository's own.
-    fn give(&mut self, edit: Edit) -> Result<Reply, RepoFault>
-        ensures exact { IfOk result (λ reply. next (held_by self.old) (commands.Edit edit) ≡ (held_by self.new, reply)) }
+    fn give(&mut self, edit: Edit) -> Result<CommandReply, RepoFault>
+        ensures exact { IfOk result
+            (λ reply. next (held_by self.old) (commands.Edit edit) ≡ (held_by self.new, reply)) }
         ensures err { OnErr result (held_by self.new ≡ held_by self.old) }
         ensures follows { IsEditOf J.write_fails self.old edit result self.new }
         ensures fault { IfErr result (λ e. (e ≡ Memory) ⊎ J.write_fails e) }
@@ -56,7 +57,7 @@ impl<J: Journal> Client for Node<J> {
 
     ghost edit_fails = { J.write_fails };
 
-    fn apply(&mut self, edit: Edit) -> Result<Reply, RepoFault> {
+    fn apply(&mut self, edit: Edit) -> Result<CommandReply, RepoFault> {
         self.give(edit)
     }
 

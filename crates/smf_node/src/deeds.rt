@@ -1,21 +1,21 @@
-ghost use Rattle.smf_node.specs.Faults.{IsDeedFault, IsLack, event_of};
+ghost use Rattle.smf_node.specs.Faults.{IsDeedFault, IsLack};
 ghost use Rattle.smf_node.specs.Marks.{progress_of};
 ghost use Rattle.smf_node.specs.Partly.{DeedFails};
 ghost use Rattle.smf_node.specs.Rests.{RestsOn};
 ghost use Rattle.smf_node.specs.Rounds.{HasGone, course, refusing_tick};
-ghost use Rattle.smf_restarter.specs.Ticks.{ticked};
+ghost use Rattle.smf_restarter.specs.Ticks.{reply_to_tick};
 ghost use Rattle.smf_world.specs.declared.event.Event.TheVariants as events;
 ghost use Rattle.smf_world.specs.declared.schedule.Deed.TheVariants as deeds;
 ghost use Rattle.smf_world.specs.declared.event.SpawnAnswer.TheVariants as spawns;
-ghost use Rattle.smf_world.specs.Schedule.{asks_spawn, deliver_next, has_other_key, is_known_contract, is_next, is_skipped, is_spawn, key_of, on, past_next, refuses, refusing, report_one};
+ghost use Rattle.smf_world.specs.Schedule.{asks_spawn, deliver_next, has_other_key, is_known_contract, is_next, is_skipped, is_spawn, key_of, on, past_next, refuses, progress_with_refusals, report_one};
 ghost use Rattle.smf_world.specs.Worked.{is_actor, restarter, sent_at};
 ghost use Rattle.std.specs.List.{list_any};
-ghost use Rattle.std.specs.Prelude.{◌≡◌, ◌<◌, ◌^◌, ◌==◌, ℕ, filter, find, is_some, true, IfErr, IfOk, OnErr, OnOk};
+ghost use Rattle.std.specs.Prelude.{◌≡◌, ◌<◌, ◌^◌, ◌==◌, filter, find, is_some, true, IfErr, IfOk, OnErr, OnOk};
 
 use crate::fault::NodeFault;
 use crate::marks::take_out;
 use crate::node::Node;
-use smf_contract::Event as ContractEvent;
+use smf_contract::ContractEvent;
 use smf_fmri::{InstanceFmri, Number};
 use smf_machine::Runner;
 use smf_model::Journal;
@@ -31,9 +31,9 @@ fn is_spawn(call: &Call) -> bool
 
 /// True if the turn of a restarter for an instance asks for a spawn.
 fn spawns(restarter: &Restarter, instance: u64) -> Result<bool, AllocError>
-    ensures { IfOk result (λ b. b ≡ is_spawn (ticked restarter.now.known instance).call) }
+    ensures { IfOk result (λ b. b ≡ is_spawn (reply_to_tick restarter.now.known instance).call) }
 {
-    let reply = restarter.ticked(instance)?;
+    let reply = restarter.reply_to_tick(instance)?;
     Ok(is_spawn(&reply.call))
 }
 
@@ -47,9 +47,9 @@ fn has_actor(restarters: &[Restarter], actor: u64) -> bool
 
 impl<J: Journal> Node<J> {
     /// The next so many spawns are refused, in place of what was asked before.
-    #[tactic(auto, unfolding(crate::specs::Marks::progress_of, smf_world::specs::Schedule::refusing))]
+    #[tactic(auto, unfolding(crate::specs::Marks::progress_of, smf_world::specs::Schedule::progress_with_refusals))]
     pub fn refuse(&mut self, spawns: u64)
-        ensures { self.new ≡ refusing spawns self.old }
+        ensures { self.new ≡ progress_with_refusals spawns self.old }
     {
         self.marks.refuse = spawns;
     }
@@ -234,11 +234,12 @@ impl<J: Journal> Node<J> {
     }
 
     /// The turn of a restarter for an instance, whose spawn is refused.
-    #[tactic(auto, unfolding(smf_world::specs::Schedule::refusing))]
+    #[tactic(auto, unfolding(smf_world::specs::Schedule::progress_with_refusals))]
     fn refuse_tick(&mut self, name: &InstanceFmri, instance: u64) -> Result<(), NodeFault>
         ensures ok { OnOk result (self.new ≡ refusing_tick name.now instance self.old) }
         ensures err { OnErr result (self.new ≡ self.old) }
-        ensures fault { IfErr result (λ e. IsLack J.write_fails self.old.world (events.Tick name.now instance spawns.Refused) e) }
+        ensures fault { IfErr result
+            (λ e. IsLack J.write_fails self.old.world (events.Tick name.now instance spawns.Refused) e) }
     {
         let left = self.refused_count().saturating_sub(1);
         self.goes(Event::Tick {
@@ -257,8 +258,12 @@ impl<J: Journal> Node<J> {
         name: &InstanceFmri,
         instance: u64,
     ) -> Result<(), NodeFault>
-        ensures ok { OnOk result (HasGone R.rules (deeds.Tick name.now instance) (course self.old (R.seen runner.old)) (course self.new (R.seen runner.new))) }
-        ensures err { IfErr result (λ e. DeedFails J.write_fails (deeds.Tick name.now instance) (course self.old (R.seen runner.old)) (course self.new (R.seen runner.new)) e) }
+        ensures ok { OnOk result
+            (HasGone R.rules (deeds.Tick name.now instance) (course self.old (R.seen runner.old))
+            (course self.new (R.seen runner.new))) }
+        ensures err { IfErr result
+            (λ e. DeedFails J.write_fails (deeds.Tick name.now instance) (course self.old (R.seen runner.old))
+            (course self.new (R.seen runner.new)) e) }
     {
         if self.rests_on(name, instance) {
             return Ok(());
@@ -272,8 +277,11 @@ impl<J: Journal> Node<J> {
 
     /// A deed is done. `Limit` if a restarter cannot be launched, since a number has no next one.
     pub(crate) fn go<R: Runner>(&mut self, runner: &mut R, deed: &Deed) -> Result<(), NodeFault>
-        ensures ok { OnOk result (HasGone R.rules deed.now (course self.old (R.seen runner.old)) (course self.new (R.seen runner.new))) }
-        ensures err { IfErr result (λ e. DeedFails J.write_fails deed.now (course self.old (R.seen runner.old)) (course self.new (R.seen runner.new)) e) }
+        ensures ok { OnOk result
+            (HasGone R.rules deed.now (course self.old (R.seen runner.old)) (course self.new (R.seen runner.new))) }
+        ensures err { IfErr result
+            (λ e. DeedFails J.write_fails deed.now (course self.old (R.seen runner.old))
+            (course self.new (R.seen runner.new)) e) }
     {
         match deed {
             Deed::Launch(name) => self.launch(name),

@@ -1,13 +1,13 @@
 ghost use Rattle.smf_machine.specs.Done.{IsDone};
 ghost use Rattle.smf_model.specs.declared.command.Command.TheVariants as commands;
-ghost use Rattle.smf_node.specs.declared.fault.NodeFault.TheVariants.{Memory, NoSuchActor, NoSuchMessage};
-ghost use Rattle.smf_node.specs.Faults.{IsFault, IsLack, is_against_launch, is_past_limit, is_unsent, lacks_number, refused};
+ghost use Rattle.smf_node.specs.declared.fault.NodeFault.TheVariants.{NoSuchActor, NoSuchMessage};
+ghost use Rattle.smf_node.specs.Faults.{IsFault, IsLack, is_against_launch, is_past_limit, is_unsent, lacks_number, event_refusal};
 ghost use Rattle.smf_node.specs.Marks.{progress_of};
 ghost use Rattle.smf_node.specs.Runs.{IsStep, RunsAll, RunsUntilFault, reply_of};
 ghost use Rattle.smf_world.specs.declared.event.Event.TheVariants as events;
 ghost use Rattle.smf_world.specs.Safe.{IsSafe};
 ghost use Rattle.smf_world.specs.Schedule.{is_heard, is_heard_in, on};
-ghost use Rattle.smf_world.specs.Worked.{worked};
+ghost use Rattle.smf_world.specs.Worked.{work_of_event};
 ghost use Rattle.std.specs.Prelude.{◌≡◌, ◌∷◌, ◌<◌, ◌^◌, [], length, slice_get, None, IfErr, IfOk, OnErr, OnOk};
 
 use crate::fault::NodeFault;
@@ -15,12 +15,12 @@ use crate::node::{Node, is_past_boot, is_past_limit};
 use smf_contract::Holder;
 use smf_fmri::{InstanceFmri, Items, Number};
 use smf_machine::Machine;
-use smf_model::{Command, Edit, Journal, Reply};
+use smf_model::{Command, CommandReply, Edit, Journal};
 use smf_world::Event;
 use std::alloc::AllocError;
 
 /// The reply to a client's command; nobody asks for another.
-fn reply_of(event: &Event, replies: Items<Reply>) -> Option<Reply>
+fn reply_of(event: &Event, replies: Items<CommandReply>) -> Option<CommandReply>
     ensures { result ≡ reply_of event.now replies }
 {
     match event {
@@ -29,7 +29,7 @@ fn reply_of(event: &Event, replies: Items<Reply>) -> Option<Reply>
     }
 }
 
-fn first(replies: Items<Reply>) -> Option<Reply>
+fn first(replies: Items<CommandReply>) -> Option<CommandReply>
     ensures { result ≡ slice_get replies 0 }
 {
     let mut all = replies.into_vec().into_iter();
@@ -46,7 +46,10 @@ fn revision<J: Journal>(machine: &Machine<J>) -> u64
 }
 
 /// An event happens to the machine.
-fn happen_in<J: Journal>(machine: &mut Machine<J>, event: &Event) -> Result<Items<Reply>, NodeFault>
+fn happen_in<J: Journal>(
+    machine: &mut Machine<J>,
+    event: &Event,
+) -> Result<Items<CommandReply>, NodeFault>
     ensures ok { IfOk result (λ r. IsDone machine.old event.now machine.new r) }
     ensures err { OnErr result (machine.new ≡ machine.old) }
     ensures fault { IfErr result (λ e. IsLack J.write_fails machine.old event.now e) }
@@ -119,7 +122,7 @@ impl<J: Journal> Node<J> {
 
     /// An event can happen, or else the fault says why not.
     fn expect(&self, event: &Event) -> Result<(), NodeFault>
-        ensures ok { OnOk result (refused self.now.world event.now ≡ None) }
+        ensures ok { OnOk result (event_refusal self.now.world event.now ≡ None) }
         ensures err { IfErr result (λ e. IsFault J.write_fails self.now.world event.now e) }
     {
         if self.is_unsent(event) {
@@ -160,9 +163,9 @@ impl<J: Journal> Node<J> {
     }
 
     /// An event happens, and is marked.
-    pub(crate) fn happen(&mut self, event: &Event) -> Result<Items<Reply>, NodeFault>
+    pub(crate) fn happen(&mut self, event: &Event) -> Result<Items<CommandReply>, NodeFault>
         ensures ok { OnOk result (self.new ≡ on self.old event.now) }
-        ensures reply { IfOk result (λ rs. rs ≡ (worked self.old.world event.now).reply) }
+        ensures reply { IfOk result (λ rs. rs ≡ (work_of_event self.old.world event.now).reply) }
         ensures err { OnErr result (self.new ≡ self.old) }
         ensures fault { IfErr result (λ e. IsLack J.write_fails self.old.world event.now e) }
     {
@@ -187,7 +190,7 @@ impl<J: Journal> Node<J> {
         Ok(())
     }
 
-    fn admit(&mut self, event: &Event) -> Result<Option<Reply>, NodeFault>
+    fn admit(&mut self, event: &Event) -> Result<Option<CommandReply>, NodeFault>
         ensures ok { IfOk result (λ reply. IsStep self.old event.now self.new reply) }
         ensures err { OnErr result (self.new ≡ self.old) }
         ensures fault { IfErr result (λ e. IsFault J.write_fails self.old.world event.now e) }
@@ -200,7 +203,7 @@ impl<J: Journal> Node<J> {
     /// An event happens, and gives the reply to a client's command. `NoSuchMessage` if no message was sent with that
     /// number. `NoSuchActor` for an actor to be launched that is, or to act or to crash that is not. `Limit` if a
     /// launch or a boot needs a number that has no next one.
-    pub fn step(&mut self, event: Event) -> Result<Option<Reply>, NodeFault>
+    pub fn step(&mut self, event: Event) -> Result<Option<CommandReply>, NodeFault>
         ensures ok { IfOk result (λ reply. IsStep self.old event self.new reply) }
         ensures safe { IsSafe self.new.world }
         ensures err { OnErr result (self.new ≡ self.old) }
@@ -212,9 +215,9 @@ impl<J: Journal> Node<J> {
         reply
     }
 
-    fn edit(&mut self, edit: Edit) -> Result<Reply, NodeFault>
+    fn edit(&mut self, edit: Edit) -> Result<CommandReply, NodeFault>
         ensures ok { OnOk result (self.new ≡ on self.old (events.Client edit)) }
-        ensures reply { IfOk result (λ r. (worked self.old.world (events.Client edit)).reply ≡ r ∷ []) }
+        ensures reply { IfOk result (λ r. (work_of_event self.old.world (events.Client edit)).reply ≡ r ∷ []) }
         ensures err { OnErr result (self.new ≡ self.old) }
         ensures fault { IfErr result (λ e. IsLack J.write_fails self.old.world (events.Client edit) e) }
     {
@@ -228,9 +231,9 @@ impl<J: Journal> Node<J> {
     }
 
     /// A client gives a command.
-    pub fn apply(&mut self, edit: Edit) -> Result<Reply, NodeFault>
+    pub fn apply(&mut self, edit: Edit) -> Result<CommandReply, NodeFault>
         ensures ok { OnOk result (self.new ≡ on self.old (events.Client edit)) }
-        ensures reply { IfOk result (λ r. (worked self.old.world (events.Client edit)).reply ≡ r ∷ []) }
+        ensures reply { IfOk result (λ r. (work_of_event self.old.world (events.Client edit)).reply ≡ r ∷ []) }
         ensures safe { IsSafe self.new.world }
         ensures err { OnErr result (self.new ≡ self.old) }
         ensures fault { IfErr result (λ e. IsLack J.write_fails self.old.world (events.Client edit) e) }
@@ -241,7 +244,7 @@ impl<J: Journal> Node<J> {
     }
 
     fn take(&mut self, event: Event) -> Result<(), NodeFault>
-        ensures taken { OnOk result (refused self.old.world event ≡ None) }
+        ensures taken { OnOk result (event_refusal self.old.world event ≡ None) }
         ensures ok { OnOk result (self.new ≡ on self.old event) }
         ensures err { OnErr result (self.new ≡ self.old) }
         ensures fault { IfErr result (λ e. IsFault J.write_fails self.old.world event e) }

@@ -6,14 +6,14 @@
 //! (what is asked of a schedule); `client` (a node as a client of the repository).
 #![tactic(auto)]
 
-mod asking;
 mod client;
 mod deeds;
 mod events;
 mod fault;
 mod marks;
-mod naming;
+mod name_order;
 mod node;
+mod requests;
 mod rounds;
 mod runners;
 mod turns;

@@ -1,11 +1,11 @@
 ghost use Rattle.smf_node.specs.Marks.{progress_of};
-ghost use Rattle.smf_world.specs.Schedule.{begun_at, has_key, has_other_key, mark_heard, marked};
+ghost use Rattle.smf_world.specs.Schedule.{begun_at, has_key, has_other_key, mark_heard, progress_with_mark};
 ghost use Rattle.smf_world.specs.declared.event.Event.TheVariants as events;
 ghost use Rattle.smf_world.specs.World.{World as AnyWorld};
 ghost use Rattle.std.specs.List.{list_any};
 ghost use Rattle.std.specs.Prelude.{◌≡◌, ◌<◌, ◌++◌, [], filter, Bool, vec_capacity, vec_len, OnErr, OnOk};
 
-use smf_contract::Event as ContractEvent;
+use smf_contract::ContractEvent;
 use smf_world::{Event, EventKey};
 use std::alloc::{AllocError, Global};
 
@@ -87,7 +87,8 @@ impl Marks {
     fn deliver(&mut self, place: u64)
         requires delivered { vec_len self.old.delivered < vec_capacity self.old.delivered }
         requires early { vec_len self.old.early < vec_capacity self.old.early }
-        ensures { (w : AnyWorld) → (heard new : Bool) → progress_of w self.new ≡ marked (events.Deliver place) heard new (progress_of w self.old) }
+        ensures { (w : AnyWorld) → (heard new : Bool)
+            → progress_of w self.new ≡ progress_with_mark (events.Deliver place) heard new (progress_of w self.old) }
     {
         self.delivered.push(place).unwrap();
         if place >= self.next {
@@ -99,7 +100,8 @@ impl Marks {
     #[tactic(auto, unfolding(crate::specs::Marks::progress_of))]
     fn hear(&mut self, key: EventKey)
         requires { vec_len self.old.heard < vec_capacity self.old.heard }
-        ensures { (w : AnyWorld) → progress_of w self.new ≡ mark_heard (list_any (has_key key) (progress_of w self.old).unheard) key (progress_of w self.old) }
+        ensures { (w : AnyWorld) → progress_of w self.new
+            ≡ mark_heard (list_any (has_key key) (progress_of w self.old).unheard) key (progress_of w self.old) }
     {
         if is_among(&key, &self.unheard) {
             take_out(&key, &mut self.unheard);
@@ -111,7 +113,8 @@ impl Marks {
     /// The contracts are gone.
     #[tactic(auto, unfolding(crate::specs::Marks::progress_of))]
     fn boot(&mut self)
-        ensures { (w : AnyWorld) → progress_of w self.new ≡ record (progress_of w self.old) { looked = 0; unheard = []; heard = [] } }
+        ensures { (w : AnyWorld) → progress_of w self.new
+            ≡ record (progress_of w self.old) { looked = 0; unheard = []; heard = [] } }
     {
         self.looked = 0;
         self.unheard.clear();
@@ -125,7 +128,8 @@ impl Marks {
         requires delivered { vec_len self.old.delivered < vec_capacity self.old.delivered }
         requires early { vec_len self.old.early < vec_capacity self.old.early }
         requires heard { vec_len self.old.heard < vec_capacity self.old.heard }
-        ensures { (w : AnyWorld) → progress_of w self.new ≡ marked event.now is_heard is_new (progress_of w self.old) }
+        ensures { (w : AnyWorld) → progress_of w self.new
+            ≡ progress_with_mark event.now is_heard is_new (progress_of w self.old) }
     {
         match event {
             Event::Deliver(place) => self.deliver(*place),
@@ -161,7 +165,14 @@ impl Marks {
         looked: usize,
         mut news: Vec<ContractEvent>,
     ) -> Result<(), AllocError>
-        ensures ok { (w : AnyWorld) → OnOk result (progress_of w self.new ≡ record (progress_of w self.old) { looked = looked; unheard = (progress_of w self.old).unheard ++ news.items; heard = [] }) }
+        ensures ok { (w : AnyWorld)
+            → OnOk result
+            (progress_of w self.new
+            ≡ record (progress_of w self.old) {
+              looked = looked;
+              unheard = (progress_of w self.old).unheard ++ news.items;
+              heard = [];
+            }) }
         ensures err { (w : AnyWorld) → OnErr result (progress_of w self.new ≡ progress_of w self.old) }
     {
         self.unheard.reserve(news.len())?;

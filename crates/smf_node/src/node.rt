@@ -12,16 +12,16 @@ ghost use Rattle.smf_world.specs.Safe.{IsSafe};
 ghost use Rattle.smf_world.specs.Schedule.{begun_at};
 ghost use Rattle.smf_world.specs.Spelled.{AreSpelled};
 ghost use Rattle.smf_world.specs.Worked.{is_launched, restarter, sent_at};
-ghost use Rattle.smf_world.specs.World.{found};
+ghost use Rattle.smf_world.specs.World.{initial_world};
 ghost use Rattle.std.specs.Option.{option_copied};
 ghost use Rattle.std.specs.Prelude.{◌≡◌, option_map, reverse, false, IfErr, IfOk, IfSome, Ok, OnOk};
 
 use crate::fault::NodeFault;
 use crate::marks::Marks;
-use smf_contract::Table;
+use smf_contract::ContractTable;
 use smf_fmri::{InstanceFmri, Text};
 use smf_machine::Machine;
-use smf_model::{Command, Journal, Plain, Reply};
+use smf_model::{Command, CommandReply, Journal, Plain};
 use smf_restarter::Restarter;
 use smf_wire::{Message, encode};
 use smf_world::Item;
@@ -48,10 +48,10 @@ impl<J: Journal> Model for Node<J> {
 }
 
 /// True if a reply says that a number has no next one.
-pub(crate) fn is_limit(reply: &Reply) -> bool
+pub(crate) fn is_limit(reply: &CommandReply) -> bool
     ensures { result ≡ is_limit reply.now }
 {
-    matches!(reply, Reply::Limit)
+    matches!(reply, CommandReply::Limit)
 }
 
 /// True if a command is refused, since a number that it needs has no next one.
@@ -61,7 +61,7 @@ pub(crate) fn is_past_limit<J: Journal>(
 ) -> Result<bool, AllocError>
     ensures { IfOk result (λ b. b ≡ is_past_limit repository.now.held command.now) }
 {
-    let outcome = repository.asked(command)?;
+    let outcome = repository.outcome_of_command(command)?;
     Ok(is_limit(&outcome.reply))
 }
 
@@ -79,7 +79,7 @@ impl<J: Journal> Node<J> {
     /// Boots what was found. A fault hands the repository back, as it was. `Limit` if a row or a launch has no next
     /// number. `Memory` also if an owner has 2^32 groups, which no body may hold.
     pub fn new(alloc: Global, repository: Plain<J>) -> Result<Node<J>, (NodeFault, Plain<J>)>
-        ensures ok { IfOk result (λ node. node ≡ begun_at (happens (found repository.held) events.Boot)) }
+        ensures ok { IfOk result (λ node. node ≡ begun_at (happens (initial_world repository.held) events.Boot)) }
         ensures safe { IfOk result (λ node. IsSafe node.world) }
         ensures err { IfErr result (λ e. e.1.held ≡ repository.held) }
         ensures accepted { IfOk result (λ node. is_past_limit repository.held commands.Boot ≡ false) }
@@ -145,7 +145,8 @@ impl<J: Journal> Node<J> {
     /// The line of the message at a place, by what the message is.
     fn line_at(&self, place: u64) -> Result<Option<Text>, AllocError>
         ensures line { IfOk result (λ line. line ≡ option_map line_text (sent_at self.now.world place)) }
-        ensures again { OnOk result (IfSome (sent_at self.now.world place) (λ m. IsSpelled m → read_line (line_text m) ≡ Ok m)) }
+        ensures again { OnOk result
+            (IfSome (sent_at self.now.world place) (λ m. IsSpelled m → read_line (line_text m) ≡ Ok m)) }
     {
         match self.message(place) {
             None => Ok(None),
@@ -168,7 +169,7 @@ impl<J: Journal> Node<J> {
 
     /// The contracts.
     #[tactic(auto, unfolding(crate::specs::Marks::progress_of))]
-    pub fn table(&self) -> &Table
+    pub fn table(&self) -> &ContractTable
         ensures { result.now.table ≡ self.now.world.table }
     {
         self.machine.table()

@@ -1,5 +1,5 @@
 ghost use Rattle.smf_engine.specs.Orders.{has_no_orders};
-ghost use Rattle.smf_machine.specs.Runners.{table_rules, unseen};
+ghost use Rattle.smf_machine.specs.Runners.{table_rules, seen_of_nobody};
 ghost use Rattle.smf_model.specs.Shown.{view};
 ghost use Rattle.smf_node.specs.Marks.{progress_of};
 ghost use Rattle.smf_node.specs.Partly.{DeedsFail, RestartersFail, RoundFails, SettleFails, TurnFails, TurnsFail};
@@ -8,7 +8,7 @@ ghost use Rattle.smf_restarter.specs.Ticks.{at_rest};
 ghost use Rattle.smf_world.specs.Safe.{IsSafe};
 ghost use Rattle.smf_world.specs.Schedule.{deliveries, first_turns, is_quiet, launched_names, turns_of, turns_of_all};
 ghost use Rattle.std.specs.List.{list_all};
-ghost use Rattle.std.specs.Prelude.{◌≡◌, ◌++◌, IfErr, IfOk, OnOk, true};
+ghost use Rattle.std.specs.Prelude.{◌≡◌, ◌++◌, IfErr, IfOk, OnOk};
 
 use crate::fault::NodeFault;
 use crate::node::Node;
@@ -72,8 +72,11 @@ fn all_rest(restarters: &[Restarter]) -> bool
 impl<J: Journal> Node<J> {
     /// Deeds are done, up to the first that fails.
     fn go_all<R: Runner>(&mut self, runner: &mut R, deeds: &[Deed]) -> Result<(), NodeFault>
-        ensures ok { OnOk result (AreDone R.rules deeds.now (course self.old (R.seen runner.old)) (course self.new (R.seen runner.new))) }
-        ensures err { IfErr result (λ e. DeedsFail R.rules J.write_fails deeds.now (course self.old (R.seen runner.old)) (course self.new (R.seen runner.new)) e) }
+        ensures ok { OnOk result
+            (AreDone R.rules deeds.now (course self.old (R.seen runner.old)) (course self.new (R.seen runner.new))) }
+        ensures err { IfErr result
+            (λ e. DeedsFail R.rules J.write_fails deeds.now (course self.old (R.seen runner.old))
+            (course self.new (R.seen runner.new)) e) }
     {
         for deed in deeds {
             self.go(runner, deed)?;
@@ -84,8 +87,11 @@ impl<J: Journal> Node<J> {
     /// A turn is taken. A fault leaves what was done before the deed that failed.
     #[tactic(auto, unfolding(crate::specs::Rounds::IsTaken, crate::specs::Partly::TurnFails))]
     fn turn<R: Runner>(&mut self, runner: &mut R, turn: &Turn) -> Result<(), NodeFault>
-        ensures ok { OnOk result (IsTaken R.rules turn.now (course self.old (R.seen runner.old)) (course self.new (R.seen runner.new))) }
-        ensures err { IfErr result (λ e. TurnFails R.rules J.write_fails turn.now (course self.old (R.seen runner.old)) (course self.new (R.seen runner.new)) e) }
+        ensures ok { OnOk result
+            (IsTaken R.rules turn.now (course self.old (R.seen runner.old)) (course self.new (R.seen runner.new))) }
+        ensures err { IfErr result
+            (λ e. TurnFails R.rules J.write_fails turn.now (course self.old (R.seen runner.old))
+            (course self.new (R.seen runner.new)) e) }
     {
         self.enter(runner, turn)?;
         let deeds = self.deeds_of(turn)?;
@@ -94,8 +100,11 @@ impl<J: Journal> Node<J> {
 
     /// Turns are taken, up to the first that fails.
     fn turn_all<R: Runner>(&mut self, runner: &mut R, turns: &[Turn]) -> Result<(), NodeFault>
-        ensures ok { OnOk result (AreTaken R.rules turns.now (course self.old (R.seen runner.old)) (course self.new (R.seen runner.new))) }
-        ensures err { IfErr result (λ e. TurnsFail R.rules J.write_fails turns.now (course self.old (R.seen runner.old)) (course self.new (R.seen runner.new)) e) }
+        ensures ok { OnOk result
+            (AreTaken R.rules turns.now (course self.old (R.seen runner.old)) (course self.new (R.seen runner.new))) }
+        ensures err { IfErr result
+            (λ e. TurnsFail R.rules J.write_fails turns.now (course self.old (R.seen runner.old))
+            (course self.new (R.seen runner.new)) e) }
     {
         for turn in turns {
             self.turn(runner, turn)?;
@@ -105,8 +114,11 @@ impl<J: Journal> Node<J> {
 
     /// The first turns of a round: launches, messages, what the graph asks for and orders, what children tell, and reports.
     fn begin_round<R: Runner>(&mut self, runner: &mut R) -> Result<(), NodeFault>
-        ensures ok { OnOk result (AreTaken R.rules first_turns (course self.old (R.seen runner.old)) (course self.new (R.seen runner.new))) }
-        ensures err { IfErr result (λ e. TurnsFail R.rules J.write_fails first_turns (course self.old (R.seen runner.old)) (course self.new (R.seen runner.new)) e) }
+        ensures ok { OnOk result
+            (AreTaken R.rules first_turns (course self.old (R.seen runner.old)) (course self.new (R.seen runner.new))) }
+        ensures err { IfErr result
+            (λ e. TurnsFail R.rules J.write_fails first_turns (course self.old (R.seen runner.old))
+            (course self.new (R.seen runner.new)) e) }
     {
         let turns = first_turns(self.alloc)?;
         self.turn_all(runner, &turns)
@@ -122,16 +134,23 @@ impl<J: Journal> Node<J> {
     /// The turns of the launched restarters.
     #[tactic(auto, unfolding(crate::specs::Partly::RestartersFail))]
     fn take_restarter_turns<R: Runner>(&mut self, runner: &mut R) -> Result<(), NodeFault>
-        ensures ok { OnOk result (AreTaken R.rules (turns_of_all (launched_names self.old.world)) (course self.old (R.seen runner.old)) (course self.new (R.seen runner.new))) }
-        ensures err { IfErr result (λ e. RestartersFail R.rules J.write_fails (course self.old (R.seen runner.old)) (course self.new (R.seen runner.new)) e) }
+        ensures ok { OnOk result
+            (AreTaken R.rules (turns_of_all (launched_names self.old.world)) (course self.old (R.seen runner.old))
+            (course self.new (R.seen runner.new))) }
+        ensures err { IfErr result
+            (λ e. RestartersFail R.rules J.write_fails (course self.old (R.seen runner.old))
+            (course self.new (R.seen runner.new)) e) }
     {
         let turns = self.restarter_turns()?;
         self.turn_all(runner, &turns)
     }
 
     fn round<R: Runner>(&mut self, runner: &mut R) -> Result<(), NodeFault>
-        ensures ok { OnOk result (IsRound R.rules (course self.old (R.seen runner.old)) (course self.new (R.seen runner.new))) }
-        ensures err { IfErr result (λ e. RoundFails R.rules J.write_fails (course self.old (R.seen runner.old)) (course self.new (R.seen runner.new)) e) }
+        ensures ok { OnOk result
+            (IsRound R.rules (course self.old (R.seen runner.old)) (course self.new (R.seen runner.new))) }
+        ensures err { IfErr result
+            (λ e. RoundFails R.rules J.write_fails (course self.old (R.seen runner.old))
+            (course self.new (R.seen runner.new)) e) }
     {
         self.begin_round(runner)?;
         self.take_restarter_turns(runner)
@@ -184,8 +203,12 @@ impl<J: Journal> Node<J> {
     }
 
     fn drive_rounds<R: Runner>(&mut self, runner: &mut R, rounds: u64) -> Result<Settled, NodeFault>
-        ensures ok { IfOk result (λ how. HasSettled R.rules rounds (course self.old (R.seen runner.old)) (course self.new (R.seen runner.new)) how) }
-        ensures err { IfErr result (λ e. SettleFails R.rules J.write_fails rounds (course self.old (R.seen runner.old)) (course self.new (R.seen runner.new)) e) }
+        ensures ok { IfOk result
+            (λ how. HasSettled R.rules rounds (course self.old (R.seen runner.old))
+            (course self.new (R.seen runner.new)) how) }
+        ensures err { IfErr result
+            (λ e. SettleFails R.rules J.write_fails rounds (course self.old (R.seen runner.old))
+            (course self.new (R.seen runner.new)) e) }
     {
         for _ in 0..rounds {
             self.round(runner)?;
@@ -199,9 +222,13 @@ impl<J: Journal> Node<J> {
     /// Lets at most so many rounds happen with the answers of who runs methods, up to the first that leaves nothing to do.
     /// `Limit` if a restarter has to be launched and cannot be. A fault leaves what was done before the deed that failed.
     pub fn drive<R: Runner>(&mut self, runner: &mut R, rounds: u64) -> Result<Settled, NodeFault>
-        ensures ok { IfOk result (λ how. HasSettled R.rules rounds (course self.old (R.seen runner.old)) (course self.new (R.seen runner.new)) how) }
+        ensures ok { IfOk result
+            (λ how. HasSettled R.rules rounds (course self.old (R.seen runner.old))
+            (course self.new (R.seen runner.new)) how) }
         ensures safe { IsSafe self.new.world }
-        ensures err { IfErr result (λ e. SettleFails R.rules J.write_fails rounds (course self.old (R.seen runner.old)) (course self.new (R.seen runner.new)) e) }
+        ensures err { IfErr result
+            (λ e. SettleFails R.rules J.write_fails rounds (course self.old (R.seen runner.old))
+            (course self.new (R.seen runner.new)) e) }
     {
         let how = self.drive_rounds(runner, rounds);
         let _shown = self.trail();
@@ -210,9 +237,13 @@ impl<J: Journal> Node<J> {
 
     /// The same if nobody runs methods. Each spawn and each kill is made, and nothing is told of processes.
     pub fn settle(&mut self, rounds: u64) -> Result<Settled, NodeFault>
-        ensures ok { IfOk result (λ how. HasSettled table_rules rounds (course self.old unseen) (course self.new unseen) how) }
+        ensures ok { IfOk result
+            (λ how. HasSettled table_rules rounds (course self.old seen_of_nobody)
+            (course self.new seen_of_nobody) how) }
         ensures safe { IsSafe self.new.world }
-        ensures err { IfErr result (λ e. SettleFails table_rules J.write_fails rounds (course self.old unseen) (course self.new unseen) e) }
+        ensures err { IfErr result
+            (λ e. SettleFails table_rules J.write_fails rounds (course self.old seen_of_nobody)
+            (course self.new seen_of_nobody) e) }
     {
         self.drive(&mut NoChildren {}, rounds)
     }

@@ -1,17 +1,16 @@
-ghost use Rattle.smf_contract.specs.declared.event.Event.{Event as AnyContractEvent};
-ghost use Rattle.smf_machine.specs.Children.{heard};
+ghost use Rattle.smf_machine.specs.Children.{world_after_poll};
 ghost use Rattle.smf_machine.specs.Runners.{HasTicked};
 ghost use Rattle.smf_node.specs.declared.fault.NodeFault.TheVariants.{Memory};
 ghost use Rattle.smf_node.specs.Marks.{progress_of};
-ghost use Rattle.smf_node.specs.Partly.{EntryFails, LacksMemory};
+ghost use Rattle.smf_node.specs.Partly.{EntryFails};
 ghost use Rattle.smf_node.specs.Rounds.{HasLearned, IsEntered, course, with_world};
 ghost use Rattle.smf_world.specs.declared.schedule.Turn.TheVariants as turns;
-ghost use Rattle.smf_world.specs.Schedule.{entering};
+ghost use Rattle.smf_world.specs.Schedule.{progress_at_turn};
 ghost use Rattle.std.specs.Prelude.{◌≡◌, IfErr, IfOk, OnErr, OnOk};
 
 use crate::fault::NodeFault;
 use crate::node::Node;
-use smf_contract::Event;
+use smf_contract::ContractEvent;
 use smf_fmri::InstanceFmri;
 use smf_machine::{Machine, Runner};
 use smf_model::Journal;
@@ -27,7 +26,8 @@ fn tick_in<J: Journal, R: Runner>(
     name: &InstanceFmri,
     instance: u64,
 ) -> Result<(), NodeFault>
-    ensures ok { OnOk result (HasTicked R.rules name.now instance machine.old (R.seen runner.old) machine.new (R.seen runner.new)) }
+    ensures ok { OnOk result
+        (HasTicked R.rules name.now instance machine.old (R.seen runner.old) machine.new (R.seen runner.new)) }
     ensures err { OnErr result (machine.new ≡ machine.old) }
     ensures kept { OnErr result ((R.seen runner.new).ledger ≡ (R.seen runner.old).ledger) }
     ensures fault { IfErr result (λ e. e ≡ Memory) }
@@ -41,8 +41,8 @@ fn tick_in<J: Journal, R: Runner>(
 fn hear_in<J: Journal, R: Runner>(
     machine: &mut Machine<J>,
     runner: &mut R,
-) -> Result<Option<Event>, NodeFault>
-    ensures heard { IfOk result (λ event. machine.new ≡ heard event machine.old) }
+) -> Result<Option<ContractEvent>, NodeFault>
+    ensures heard { IfOk result (λ event. machine.new ≡ world_after_poll event machine.old) }
     ensures answered { IfOk result (λ event. R.rules.polls event (R.seen runner.old) (R.seen runner.new)) }
     ensures err { OnErr result (machine.new ≡ machine.old) }
     ensures kept { OnErr result ((R.seen runner.new).ledger ≡ (R.seen runner.old).ledger) }
@@ -63,7 +63,9 @@ impl<J: Journal> Node<J> {
         name: &InstanceFmri,
         instance: u64,
     ) -> Result<(), NodeFault>
-        ensures ok { OnOk result (HasTicked R.rules name.now instance self.old.world (R.seen runner.old) self.new.world (R.seen runner.new)) }
+        ensures ok { OnOk result
+            (HasTicked R.rules name.now instance self.old.world (R.seen runner.old) self.new.world
+            (R.seen runner.new)) }
         ensures marks { OnOk result (self.new ≡ with_world self.old self.new.world) }
         ensures err { OnErr result (self.new ≡ self.old) }
         ensures kept { OnErr result ((R.seen runner.new).ledger ≡ (R.seen runner.old).ledger) }
@@ -75,8 +77,8 @@ impl<J: Journal> Node<J> {
 
     /// The next event is asked for; it happens, and is given back.
     #[tactic(auto, unfolding(crate::specs::Marks::progress_of))]
-    pub fn hear<R: Runner>(&mut self, runner: &mut R) -> Result<Option<Event>, NodeFault>
-        ensures heard { IfOk result (λ event. self.new ≡ with_world self.old (heard event self.old.world)) }
+    pub fn hear<R: Runner>(&mut self, runner: &mut R) -> Result<Option<ContractEvent>, NodeFault>
+        ensures heard { IfOk result (λ event. self.new ≡ with_world self.old (world_after_poll event self.old.world)) }
         ensures answered { IfOk result (λ event. R.rules.polls event (R.seen runner.old) (R.seen runner.new)) }
         ensures err { OnErr result (self.new ≡ self.old) }
         ensures kept { OnErr result ((R.seen runner.new).ledger ≡ (R.seen runner.old).ledger) }
@@ -88,8 +90,11 @@ impl<J: Journal> Node<J> {
 
     /// Children are asked for events until they give none or a device fails; each happens.
     fn learn<R: Runner>(&mut self, runner: &mut R) -> Result<(), NodeFault>
-        ensures ok { OnOk result (HasLearned R.rules (course self.old (R.seen runner.old)) (course self.new (R.seen runner.new))) }
-        ensures err { IfErr result (λ e. EntryFails R.rules turns.Reports (course self.old (R.seen runner.old)) (course self.new (R.seen runner.new)) e) }
+        ensures ok { OnOk result
+            (HasLearned R.rules (course self.old (R.seen runner.old)) (course self.new (R.seen runner.new))) }
+        ensures err { IfErr result
+            (λ e. EntryFails R.rules turns.Reports (course self.old (R.seen runner.old))
+            (course self.new (R.seen runner.new)) e) }
     {
         for _ in 0..MAX_POLLS {
             let event = self.hear(runner)?;
@@ -103,18 +108,22 @@ impl<J: Journal> Node<J> {
     /// All that happened to contracts is looked at.
     #[tactic(auto, unfolding(crate::specs::Marks::progress_of))]
     fn look(&mut self) -> Result<(), AllocError>
-        ensures ok { OnOk result (self.new ≡ entering turns.Reports self.old) }
+        ensures ok { OnOk result (self.new ≡ progress_at_turn turns.Reports self.old) }
         ensures err { OnErr result (self.new ≡ self.old) }
     {
-        let news = self.unlooked()?;
+        let news = self.new_events()?;
         let looked = self.machine.table().events().len();
         self.marks.look(looked, news)
     }
 
     /// Before contracts are reported, children tell what happened.
     fn enter_reports<R: Runner>(&mut self, runner: &mut R) -> Result<(), NodeFault>
-        ensures ok { OnOk result (IsEntered R.rules turns.Reports (course self.old (R.seen runner.old)) (course self.new (R.seen runner.new))) }
-        ensures err { IfErr result (λ e. EntryFails R.rules turns.Reports (course self.old (R.seen runner.old)) (course self.new (R.seen runner.new)) e) }
+        ensures ok { OnOk result
+            (IsEntered R.rules turns.Reports (course self.old (R.seen runner.old))
+            (course self.new (R.seen runner.new))) }
+        ensures err { IfErr result
+            (λ e. EntryFails R.rules turns.Reports (course self.old (R.seen runner.old))
+            (course self.new (R.seen runner.new)) e) }
     {
         self.learn(runner)?;
         self.look()?;
@@ -123,8 +132,11 @@ impl<J: Journal> Node<J> {
 
     /// A turn is entered.
     pub(crate) fn enter<R: Runner>(&mut self, runner: &mut R, turn: &Turn) -> Result<(), NodeFault>
-        ensures ok { OnOk result (IsEntered R.rules turn.now (course self.old (R.seen runner.old)) (course self.new (R.seen runner.new))) }
-        ensures err { IfErr result (λ e. EntryFails R.rules turn.now (course self.old (R.seen runner.old)) (course self.new (R.seen runner.new)) e) }
+        ensures ok { OnOk result
+            (IsEntered R.rules turn.now (course self.old (R.seen runner.old)) (course self.new (R.seen runner.new))) }
+        ensures err { IfErr result
+            (λ e. EntryFails R.rules turn.now (course self.old (R.seen runner.old))
+            (course self.new (R.seen runner.new)) e) }
     {
         match turn {
             Turn::Reports => self.enter_reports(runner),

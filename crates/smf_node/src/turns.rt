@@ -1,18 +1,18 @@
 ghost use Rattle.smf_node.specs.Marks.{progress_of};
 ghost use Rattle.smf_model.specs.Look.{groups_of};
-ghost use Rattle.smf_model.specs.Setting.{owner_by, setting};
+ghost use Rattle.smf_model.specs.GeneralGroup.{owner_by, setting};
 ghost use Rattle.smf_node.specs.Owners.{has_all_owners, has_launched_owner};
 ghost use Rattle.smf_node.specs.Rests.{IsInOrder, IsTurnInOrder, numbers_restless, restless_deeds};
 ghost use Rattle.smf_world.specs.declared.schedule.Deed.TheVariants as deeds;
-ghost use Rattle.smf_world.specs.Schedule.{in_order, launch_deeds, launched_names, owners, unlooked, waiting_count, was_heard};
+ghost use Rattle.smf_world.specs.Schedule.{in_order, launch_deeds, launched_names, owners, new_events, waiting_count, was_heard};
 ghost use Rattle.smf_world.specs.Worked.{is_launched, restarter};
 ghost use Rattle.std.specs.List.{list_all};
 ghost use Rattle.std.specs.Prelude.{◌≡◌, ◌∷◌, ◌++◌, [], drop, filter, map, not, replicate, true, IfOk, OnOk};
 
 use crate::marks::has_key;
-use crate::naming::{names_in_order, owners_in_order};
+use crate::name_order::{names_in_order, owners_in_order};
 use crate::node::Node;
-use smf_contract::Event as ContractEvent;
+use smf_contract::ContractEvent;
 use smf_fmri::InstanceFmri;
 use smf_model::{Instance, InstanceEntry, Journal};
 use smf_state::startd;
@@ -114,7 +114,7 @@ fn ticks(alloc: Global, name: &InstanceFmri, numbers: &[u64]) -> Result<Vec<Deed
 
 impl<J: Journal> Node<J> {
     /// Those of the names whose restarters are launched.
-    fn launched(&self, names: &[InstanceFmri]) -> Result<Vec<InstanceFmri>, AllocError>
+    fn names_of_launched(&self, names: &[InstanceFmri]) -> Result<Vec<InstanceFmri>, AllocError>
         ensures { IfOk result (λ all. all.items ≡ filter (is_launched self.now.world) names.now) }
     {
         let mut all = Vec::new(self.alloc);
@@ -153,7 +153,7 @@ impl<J: Journal> Node<J> {
         ensures { IfOk result (λ all. all.items ≡ launched_names self.now.world) }
     {
         let names = self.names()?;
-        self.launched(&names)
+        self.names_of_launched(&names)
     }
 
     #[tactic(auto, unfolding(crate::specs::Marks::progress_of))]
@@ -171,7 +171,7 @@ impl<J: Journal> Node<J> {
     }
 
     /// True if the owner of an instance, as it is read, is launched.
-    #[tactic(auto, unfolding(smf_model::specs::Setting::current))]
+    #[tactic(auto, unfolding(smf_model::specs::GeneralGroup::current))]
     fn has_launched_owner(&self, entry: &InstanceEntry) -> Result<bool, AllocError>
         ensures { IfOk result (λ b. b ≡ has_launched_owner self.now.world entry.now) }
     {
@@ -268,8 +268,8 @@ impl<J: Journal> Node<J> {
 
     /// The events since the last look, but for those that were heard early.
     #[tactic(auto, unfolding(crate::specs::Marks::progress_of))]
-    pub(crate) fn unlooked(&self) -> Result<Vec<ContractEvent>, AllocError>
-        ensures { IfOk result (λ all. all.items ≡ unlooked self.now) }
+    pub(crate) fn new_events(&self) -> Result<Vec<ContractEvent>, AllocError>
+        ensures { IfOk result (λ all. all.items ≡ new_events self.now) }
     {
         let events = self.machine.table().events();
         not_heard(
@@ -290,7 +290,8 @@ impl<J: Journal> Node<J> {
 
     /// The turns of a restarter for those of its instances that are not at rest.
     fn tick_deeds(&self, name: &InstanceFmri) -> Result<Vec<Deed>, AllocError>
-        ensures deeds { IfOk result (λ ds. ds.items ≡ map (λ n. deeds.Tick name.now n) (numbers_restless (restarter self.now.world name.now))) }
+        ensures deeds { IfOk result
+            (λ ds. ds.items ≡ map (λ n. deeds.Tick name.now n) (numbers_restless (restarter self.now.world name.now))) }
         ensures ordered { IsInOrder (restarter self.now.world name.now) }
     {
         match self.restarter(name) {

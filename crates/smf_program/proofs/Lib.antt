@@ -1,3 +1,3 @@
-pub mod Reading
+pub mod Tasks
 pub mod Apps
 pub mod Told

@@ -20,7 +20,8 @@ TasksAreRead =
 -- before the database or after it, joined or not
 abbrev pub FilesAreRead : Type 0
 FilesAreRead =
-    (task_of (smf (codes "cfg" ∷ codes "-f" ∷ codes "x" ∷ codes "a.db" ∷ [])) ≡ Some (Cfg (Some (codes "x")) (codes "a.db")))
+    (task_of (smf (codes "cfg" ∷ codes "-f" ∷ codes "x" ∷ codes "a.db" ∷ []))
+    ≡ Some (Cfg (Some (codes "x")) (codes "a.db")))
     × (task_of (smf (codes "cfg" ∷ codes "a.db" ∷ codes "-fx" ∷ [])) ≡ Some (Cfg (Some (codes "x")) (codes "a.db")))
 
 -- before the database or after it
@@ -32,12 +33,14 @@ ContractsAreFollowed =
 abbrev pub ServersAreRead : Type 0
 ServersAreRead =
     (task_of (smf (codes "serve" ∷ codes "room" ∷ codes "a.db" ∷ [])) ≡ Some (Serve (codes "room") (codes "a.db")))
-    × (task_of (smf (codes "tick" ∷ codes "room/wake" ∷ codes "100" ∷ [])) ≡ Some (Tick (codes "room/wake") (codes "100")))
+    × (task_of (smf (codes "tick" ∷ codes "room/wake" ∷ codes "100" ∷ []))
+    ≡ Some (Tick (codes "room/wake") (codes "100")))
 
 abbrev pub QuestionsAreRead : Type 0
 QuestionsAreRead =
     (task_of (smf (codes "why" ∷ codes "a.db" ∷ [])) ≡ Some (Why (codes "a.db") []))
-    × (task_of (smf (codes "why" ∷ codes "a.db" ∷ codes "web" ∷ codes "db" ∷ [])) ≡ Some (Why (codes "a.db") (codes "web" ∷ codes "db" ∷ [])))
+    × (task_of (smf (codes "why" ∷ codes "a.db" ∷ codes "web" ∷ codes "db" ∷ []))
+    ≡ Some (Why (codes "a.db") (codes "web" ∷ codes "db" ∷ [])))
     × (task_of (smf (codes "check" ∷ codes "a.db" ∷ [])) ≡ Some (Check (codes "a.db")))
 
 abbrev pub DatabaseIsWanted : Type 0

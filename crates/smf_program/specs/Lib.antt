@@ -1,5 +1,5 @@
 pub mod Words
 pub mod Tasks
 pub mod Refusals
-pub mod Telling
+pub mod Messages
 pub mod Examples

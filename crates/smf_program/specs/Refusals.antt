@@ -8,7 +8,7 @@ use Rattle.std_io.specs.declared.io.kind.ErrorKind.TheVariants as io_kinds
 use Rattle.clap.specs.Words.{IsAmong, fault_of}
 use Rattle.clap.specs.declared.error.kind.ErrorKind.{ErrorKind}
 use Rattle.clap.specs.declared.error.kind.ErrorKind.TheVariants as kinds
-use Rattle.smf_cfg.specs.Serving.{IsTold}
+use Rattle.smf_cfg.specs.Outcomes.{IsTold}
 use Rattle.smf_program.specs.declared.refusal.Refusal.{Refusal}
 use Rattle.smf_program.specs.declared.refusal.Refusal.TheVariants.{Help, BadUsage, NoText, Memory}
 use Rattle.smf_program.specs.Tasks.{task_of}
@@ -53,14 +53,20 @@ abbrev pub IsUsageTold : (Error → Type 0) → Option (List ℕ) → Option (Li
 IsUsageTold tells told_old told_new why = Appends told_old told_new (heading ++ why) ⊎ ((e : Error) × tells e)
 
 -- help was written, and no more; or a write of it failed, and that was told
-abbrev pub IsHelped : (Error → Type 0) → (Error → Type 0) → Option (List ℕ) → Option (List ℕ) → Option (List ℕ) → Option (List ℕ) → List ℕ → ℕ → Type 0
+abbrev pub IsHelped : (Error → Type 0) → (Error → Type 0) → Option (List ℕ) → Option (List ℕ) → Option (List ℕ)
+    → Option (List ℕ) → List ℕ → ℕ → Type 0
 IsHelped writes tells was is told_old told_new text status =
     (Appends was is text × (told_new ≡ told_old) × (status ≡ 0))
     ⊎ (((e : Error) × writes e) × IsTold tells told_old told_new (codes "smf: output failed") × (status ≡ 3))
 
 -- the output is as it was, and this was told
-abbrev pub IsRefused : (Error → Type 0) → (Error → Type 0) → Option (List ℕ) → Option (List ℕ) → Option (List ℕ) → Option (List ℕ) → Refusal → ℕ → Type 0
-IsRefused writes tells was is told_old told_new (Help text) status = IsHelped writes tells was is told_old told_new (string_bytes text) status
-IsRefused writes tells was is told_old told_new (BadUsage why) status = (is ≡ was) × IsUsageTold tells told_old told_new (string_bytes why) × (status ≡ 2)
-IsRefused writes tells was is told_old told_new NoText status = (is ≡ was) × IsUsageTold tells told_old told_new (codes "error: a word is no UTF-8" ++ 10 ∷ []) × (status ≡ 2)
-IsRefused writes tells was is told_old told_new Memory status = (is ≡ was) × IsTold tells told_old told_new (codes "smf: no memory") × (status ≡ 3)
+abbrev pub IsRefused : (Error → Type 0) → (Error → Type 0) → Option (List ℕ) → Option (List ℕ) → Option (List ℕ)
+    → Option (List ℕ) → Refusal → ℕ → Type 0
+IsRefused writes tells was is told_old told_new (Help text) status =
+    IsHelped writes tells was is told_old told_new (string_bytes text) status
+IsRefused writes tells was is told_old told_new (BadUsage why) status =
+    (is ≡ was) × IsUsageTold tells told_old told_new (string_bytes why) × (status ≡ 2)
+IsRefused writes tells was is told_old told_new NoText status =
+    (is ≡ was) × IsUsageTold tells told_old told_new (codes "error: a word is no UTF-8" ++ 10 ∷ []) × (status ≡ 2)
+IsRefused writes tells was is told_old told_new Memory status =
+    (is ≡ was) × IsTold tells told_old told_new (codes "smf: no memory") × (status ≡ 3)

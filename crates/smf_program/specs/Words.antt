@@ -67,7 +67,9 @@ smf_app =
     with_subcommand
     (with_subcommand
     (with_subcommand
-    (with_subcommand (with_subcommand (with_subcommand (with_subcommand bare_app sim_app.top) run_app.top) cfg_app.top) serve_app.top)
+    (with_subcommand
+    (with_subcommand (with_subcommand (with_subcommand bare_app sim_app.top) run_app.top) cfg_app.top)
+    serve_app.top)
     why_app.top)
     check_app.top)
     tick_app.top

@@ -5,12 +5,12 @@
 #![tactic(auto)]
 
 mod law;
+mod messages;
 mod refusal;
 mod task;
-mod telling;
 mod words;
 
 pub use law::words_are_read_so;
+pub use messages::{tell_no_database, tell_no_input, tell_no_memory};
 pub use refusal::{Refusal, refusal_of_words, refuse};
 pub use task::{Task, read_task};
-pub use telling::{tell_no_database, tell_no_input, tell_no_memory};

@@ -104,12 +104,12 @@ fn words_in<'a>(alloc: Global, found: &ArgMatches<'a>) -> Result<Vec<&'a str>, A
 {
     match found.get_strs("FMRI") {
         None => Ok(Vec::new(alloc)),
-        Some(words) => copied(alloc, words),
+        Some(words) => same_words(alloc, words),
     }
 }
 
 /// The same words.
-fn copied<'a>(alloc: Global, words: &[&'a str]) -> Result<Vec<&'a str>, AllocError>
+fn same_words<'a>(alloc: Global, words: &[&'a str]) -> Result<Vec<&'a str>, AllocError>
     ensures { IfOk result (λ all. map (λ w. w.now) all.items ≡ map (λ w. w.now) words.now) }
 {
     let mut all = Vec::new(alloc);

@@ -1,12 +1,12 @@
 mod Nil
 mod Quiet
-mod Starting
+mod Starts
 mod LawSilent
 mod LawHold
 mod Placed
 mod Reasoned
-mod Saying
+mod Verdicts
 mod Pieces
-mod Leading
+mod Ways
 mod Flawed
 mod LawFlaws

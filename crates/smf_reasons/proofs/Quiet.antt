@@ -11,31 +11,32 @@ use Rattle.smf_state.specs.declared.state.State.TheVariants as states
 use Rattle.smf_state.specs.Rows.{same_state}
 use Rattle.smf_value.specs.declared.fault.BodyFault.{BodyFault}
 use Rattle.smf_value.specs.Groups.{GroupRecord}
-use Rattle.smf_snap.specs.declared.body.Snapshot.{Snapshot}
+use Rattle.smf_snap.specs.declared.body.SnapshotBody.{SnapshotBody}
 use Rattle.smf_wire.specs.declared.order.Order.{Order}
 use Rattle.smf_wire.specs.declared.order.What.{What}
 use Rattle.smf_wire.specs.declared.order.What.TheVariants as whats
 use Rattle.smf_dep.specs.declared.dependency.Dependency.{Dependency}
 use Rattle.smf_dep.specs.declared.fault.DependencyFault.{DependencyFault}
-use Rattle.smf_dep.specs.declared.member.Member.{Member}
+use Rattle.smf_dep.specs.declared.member.GraphMember.{GraphMember}
 use Rattle.smf_dep.specs.Cycles.{IsCycle, on_cycle}
-use Rattle.smf_dep.specs.Members.{composed, composed_in, dependencies_in, implicit, with_implicit}
+use Rattle.smf_dep.specs.Members.{groups_of_snapshot, composed_in, dependencies_in, implicit, with_implicit}
 use Rattle.smf_dep.specs.Methods.{MethodRead, has_unfit_methods, is_lacking, is_unreadable, method_by}
 use Rattle.smf_dep.specs.Requirements.{before, dependency_of, is_dependency, read_groups, with_group}
 use Rattle.smf_dep.specs.Verdicts.{all_met_in, is_met}
 use Rattle.smf_reasons.specs.declared.reason.Reason.TheVariants as reasons
-use Rattle.smf_reasons.specs.Holding.{IsStart, IsStartWhat}
-use Rattle.smf_reasons.specs.Reasons.{NamesCycle, on_none, on_one, errand, group_met, group_read, in_maintenance, method_read, methods_read, of_cycle, of_group, ordered, restarter_met, restarter_read, snapshot_read, standings, start_read, under_way}
+use Rattle.smf_reasons.specs.Claims.{IsStart, IsStartWhat}
+use Rattle.smf_reasons.specs.Reasons.{NamesCycle, on_none, on_one, errand, group_met, group_read, in_maintenance, method_read, methods_read, of_cycle, of_group, reasons_of_order, restarter_met, restarter_read, snapshot_read, standings, start_read, under_way}
 use Rattle.smf_reasons.proofs.Nil.{IsNil, nil_if_so, nil_joined, nil_parts, or_none, so_if_nil}
 
 -- ---- groups
 
 -- all can be read, and each is met
-abbrev pub AllOk : List Member → Result (List Dependency) DependencyFault → Type 0
+abbrev pub AllOk : List GraphMember → Result (List Dependency) DependencyFault → Type 0
 AllOk ms (Ok ds) = list_all (is_met ms) ds ≡ true
 AllOk ms (Err fault) = ⊥
 
-group_quiet : (ms : List Member) (n : List ℕ) (r : Result Dependency DependencyFault) (rest : Result (List Dependency) DependencyFault)
+group_quiet : (ms : List GraphMember) (n : List ℕ) (r : Result Dependency DependencyFault)
+    (rest : Result (List Dependency) DependencyFault)
     → IsNil (group_read ms n (before r (Ok []))) → AllOk ms rest → AllOk ms (before r rest)
 group_quiet ms n (Ok d) (Ok ds) p q =
     and_from (is_met ms d) (list_all (is_met ms) ds)
@@ -43,32 +44,38 @@ group_quiet ms n (Ok d) (Ok ds) p q =
 group_quiet ms n (Ok d) (Err fault) p q = absurd q
 group_quiet ms n (Err fault) rest p q = absurd p
 
-group_loud : (ms : List Member) (n : List ℕ) (r : Result Dependency DependencyFault) (rest : Result (List Dependency) DependencyFault)
+group_loud : (ms : List GraphMember) (n : List ℕ) (r : Result Dependency DependencyFault)
+    (rest : Result (List Dependency) DependencyFault)
     → AllOk ms (before r rest) → IsNil (group_read ms n (before r (Ok []))) × AllOk ms rest
 group_loud ms n (Ok d) (Ok ds) q =
-    let parts = and_parts (is_met ms d) (list_all (is_met ms) ds) q in
-    (nil_joined (group_met ms n d) [] (nil_if_so (is_met ms d) (reasons.NotMet n d.grouping (standings ms d)) parts.0) tt, parts.1)
+    let parts = and_parts (is_met ms d) (list_all (is_met ms) ds) q in (
+      nil_joined (group_met ms n d) [] (nil_if_so (is_met ms d) (reasons.NotMet n d.grouping (standings ms d)) parts.0)
+          tt,
+      parts.1,
+    )
 group_loud ms n (Ok d) (Err fault) q = absurd q
 group_loud ms n (Err fault) rest q = absurd q
 
-with_quiet : (ms : List Member) (g : GroupRecord) (b : Bool) (rest : Result (List Dependency) DependencyFault)
+with_quiet : (ms : List GraphMember) (g : GroupRecord) (b : Bool) (rest : Result (List Dependency) DependencyFault)
     → IsNil (group_read ms g.name (with_group b g (Ok []))) → AllOk ms rest → AllOk ms (with_group b g rest)
 with_quiet ms g true rest p q = group_quiet ms g.name (dependency_of g) rest p q
 with_quiet ms g false rest p q = q
 
-with_loud : (ms : List Member) (g : GroupRecord) (b : Bool) (rest : Result (List Dependency) DependencyFault)
+with_loud : (ms : List GraphMember) (g : GroupRecord) (b : Bool) (rest : Result (List Dependency) DependencyFault)
     → AllOk ms (with_group b g rest) → IsNil (group_read ms g.name (with_group b g (Ok []))) × AllOk ms rest
 with_loud ms g true rest q = group_loud ms g.name (dependency_of g) rest q
 with_loud ms g false rest q = (tt, q)
 
-pub groups_quiet : (ms : List Member) (gs : List GroupRecord) → IsNil (flat_map (of_group ms) gs) → AllOk ms (read_groups gs)
+pub groups_quiet : (ms : List GraphMember) (gs : List GroupRecord) → IsNil (flat_map (of_group ms) gs)
+    → AllOk ms (read_groups gs)
 unfolding of_group read_groups
 groups_quiet ms [] p = refl
 groups_quiet ms (g ∷ gs) p =
     let parts = nil_parts (of_group ms g) (flat_map (of_group ms) gs) p in
     with_quiet ms g (is_dependency g) (read_groups gs) parts.0 (groups_quiet ms gs parts.1)
 
-pub groups_loud : (ms : List Member) (gs : List GroupRecord) → AllOk ms (read_groups gs) → IsNil (flat_map (of_group ms) gs)
+pub groups_loud : (ms : List GraphMember) (gs : List GroupRecord) → AllOk ms (read_groups gs)
+    → IsNil (flat_map (of_group ms) gs)
 unfolding of_group read_groups
 groups_loud ms [] q = tt
 groups_loud ms (g ∷ gs) q =
@@ -77,46 +84,53 @@ groups_loud ms (g ∷ gs) q =
 
 -- ---- the restarter
 
-pub off_quiet : (ms : List Member) (ds : List Dependency) → IsNil (flat_map (restarter_met ms) ds) → list_all (is_met ms) ds ≡ true
+pub off_quiet : (ms : List GraphMember) (ds : List Dependency) → IsNil (flat_map (restarter_met ms) ds)
+    → list_all (is_met ms) ds ≡ true
 off_quiet ms [] p = refl
 off_quiet ms (d ∷ ds) p =
     let parts = nil_parts (restarter_met ms d) (flat_map (restarter_met ms) ds) p in
-    and_from (is_met ms d) (list_all (is_met ms) ds) (so_if_nil (is_met ms d) (reasons.RestarterIsOff (standings ms d)) parts.0) (off_quiet ms ds parts.1)
+    and_from (is_met ms d) (list_all (is_met ms) ds)
+    (so_if_nil (is_met ms d) (reasons.RestarterIsOff (standings ms d)) parts.0) (off_quiet ms ds parts.1)
 
-pub off_loud : (ms : List Member) (ds : List Dependency) → list_all (is_met ms) ds ≡ true → IsNil (flat_map (restarter_met ms) ds)
+pub off_loud : (ms : List GraphMember) (ds : List Dependency) → list_all (is_met ms) ds ≡ true
+    → IsNil (flat_map (restarter_met ms) ds)
 off_loud ms [] e = tt
 off_loud ms (d ∷ ds) e =
     let parts = and_parts (is_met ms d) (list_all (is_met ms) ds) e in
-    nil_joined (restarter_met ms d) (flat_map (restarter_met ms) ds) (nil_if_so (is_met ms d) (reasons.RestarterIsOff (standings ms d)) parts.0) (off_loud ms ds parts.1)
+    nil_joined (restarter_met ms d) (flat_map (restarter_met ms) ds)
+    (nil_if_so (is_met ms d) (reasons.RestarterIsOff (standings ms d)) parts.0) (off_loud ms ds parts.1)
 
 -- ---- all dependencies
 
-implicit_quiet : (ms : List Member) (owner : List ℕ) (r : Result (List Dependency) DependencyFault)
+implicit_quiet : (ms : List GraphMember) (owner : List ℕ) (r : Result (List Dependency) DependencyFault)
     → AllOk ms r → list_all (is_met ms) (implicit owner) ≡ true → all_met_in ms (with_implicit owner r) ≡ true
 implicit_quiet ms owner (Ok ds) q h =
-    list_all-append (is_met ms) ds (implicit owner) ∙ and_from (list_all (is_met ms) ds) (list_all (is_met ms) (implicit owner)) q h
+    list_all-append (is_met ms) ds (implicit owner)
+    ∙ and_from (list_all (is_met ms) ds) (list_all (is_met ms) (implicit owner)) q h
 implicit_quiet ms owner (Err fault) q h = absurd q
 
-implicit_loud : (ms : List Member) (owner : List ℕ) (r : Result (List Dependency) DependencyFault)
+implicit_loud : (ms : List GraphMember) (owner : List ℕ) (r : Result (List Dependency) DependencyFault)
     → all_met_in ms (with_implicit owner r) ≡ true → AllOk ms r × (list_all (is_met ms) (implicit owner) ≡ true)
 implicit_loud ms owner (Ok ds) e =
-    and_parts (list_all (is_met ms) ds) (list_all (is_met ms) (implicit owner)) (sym (list_all-append (is_met ms) ds (implicit owner)) ∙ e)
+    and_parts (list_all (is_met ms) ds) (list_all (is_met ms) (implicit owner))
+    (sym (list_all-append (is_met ms) ds (implicit owner)) ∙ e)
 implicit_loud ms owner (Err fault) e = absurd (false≢true e)
 
-pub dependencies_quiet : (ms : List Member) (owner : List ℕ) (s : Result Snapshot BodyFault)
+pub dependencies_quiet : (ms : List GraphMember) (owner : List ℕ) (s : Result SnapshotBody BodyFault)
     → IsNil (snapshot_read s) → AllOk ms (read_groups (composed_in s)) → list_all (is_met ms) (implicit owner) ≡ true
     → all_met_in ms (dependencies_in owner s) ≡ true
-dependencies_quiet ms owner (Ok s) p q h = implicit_quiet ms owner (read_groups (composed s)) q h
+dependencies_quiet ms owner (Ok s) p q h = implicit_quiet ms owner (read_groups (groups_of_snapshot s)) q h
 dependencies_quiet ms owner (Err fault) p q h = absurd p
 
-pub dependencies_loud : (ms : List Member) (owner : List ℕ) (s : Result Snapshot BodyFault) → all_met_in ms (dependencies_in owner s) ≡ true
+pub dependencies_loud : (ms : List GraphMember) (owner : List ℕ) (s : Result SnapshotBody BodyFault)
+    → all_met_in ms (dependencies_in owner s) ≡ true
     → IsNil (snapshot_read s) × AllOk ms (read_groups (composed_in s)) × (list_all (is_met ms) (implicit owner) ≡ true)
 dependencies_loud ms owner (Ok s) e =
-    let parts = implicit_loud ms owner (read_groups (composed s)) e in
+    let parts = implicit_loud ms owner (read_groups (groups_of_snapshot s)) e in
     (tt, parts.0, parts.1)
 dependencies_loud ms owner (Err fault) e = absurd (false≢true e)
 
-pub there_if_met : (ms : List Member) (o : Option (List Dependency)) → all_met_in ms o ≡ true → is_some o ≡ true
+pub there_if_met : (ms : List GraphMember) (o : Option (List Dependency)) → all_met_in ms o ≡ true → is_some o ≡ true
 there_if_met ms None e = absurd (false≢true e)
 there_if_met ms (Some ds) e = refl
 
@@ -154,7 +168,8 @@ methods_quiet owner name gs p =
     let c = method_quiet methods.Refresh refresh both.1 in
     (a, λ j. a j || b j || c j)
 
-pub methods_loud : (owner name : List ℕ) (gs : List GroupRecord) → has_unfit_methods owner name gs ≡ false → IsNil (methods_read owner name gs)
+pub methods_loud : (owner name : List ℕ) (gs : List GroupRecord) → has_unfit_methods owner name gs ≡ false
+    → IsNil (methods_read owner name gs)
 unfolding has_unfit_methods
 methods_loud owner name gs e =
     let start = method_by owner name gs methods.Start in
@@ -163,17 +178,21 @@ methods_loud owner name gs e =
     let both = or_none (is_lacking start || is_unreadable stop) (is_unreadable refresh) e in
     let first = or_none (is_lacking start) (is_unreadable stop) both.0 in
     nil_joined (start_read start ++ method_read methods.Stop stop) (method_read methods.Refresh refresh)
-    (nil_joined (start_read start) (method_read methods.Stop stop) (start_loud start first.0) (method_loud methods.Stop stop first.1))
+    (nil_joined (start_read start) (method_read methods.Stop stop) (start_loud start first.0)
+    (method_loud methods.Stop stop first.1))
     (method_loud methods.Refresh refresh both.1)
 
 -- ---- cycles
 
-pub cycle_quiet : (ms : List Member) (m : Member) (names : List (List ℕ)) → NamesCycle ms m names → IsNil (of_cycle names) → on_cycle ms m ≡ false
+pub cycle_quiet : (ms : List GraphMember) (m : GraphMember) (names : List (List ℕ)) → NamesCycle ms m names
+    → IsNil (of_cycle names) → on_cycle ms m ≡ false
 cycle_quiet ms m names (on_none off e) p = off
 cycle_quiet ms m names (on_one path cycle e) p = absurd (subst (λ ns. IsNil (of_cycle ns)) e p)
 
-pub cycle_loud : ((ms : List Member) (m : Member) (path : List Member) → IsCycle ms m path → on_cycle ms m ≡ true)
-    → (ms : List Member) (m : Member) (names : List (List ℕ)) → NamesCycle ms m names → on_cycle ms m ≡ false → IsNil (of_cycle names)
+pub cycle_loud : ((ms : List GraphMember) (m : GraphMember) (path : List GraphMember) → IsCycle ms m path
+    → on_cycle ms m ≡ true)
+    → (ms : List GraphMember) (m : GraphMember) (names : List (List ℕ)) → NamesCycle ms m names
+    → on_cycle ms m ≡ false → IsNil (of_cycle names)
 cycle_loud found ms m names (on_none off e) is_off = subst (λ ns. IsNil (of_cycle ns)) (sym e) tt
 cycle_loud found ms m names (on_one path cycle e) is_off = absurd (false≢true (sym is_off ∙ found ms m path cycle))
 
@@ -195,11 +214,11 @@ errand_loud s (whats.Start call duration ignore) p = tt
 errand_loud s (whats.Stop to cause call) p = absurd p
 errand_loud s (whats.Refresh call) p = absurd p
 
-pub ordered_quiet : (s : State) (o : Option Order) → IsNil (ordered s o) → (o ≡ None) ⊎ IsStart o
+pub ordered_quiet : (s : State) (o : Option Order) → IsNil (reasons_of_order s o) → (o ≡ None) ⊎ IsStart o
 ordered_quiet s None p = inl refl
 ordered_quiet s (Some o) p = inr (errand_quiet s o.what p)
 
-pub ordered_loud : (s : State) (o : Option Order) → IsStart o → IsNil (ordered s o)
+pub ordered_loud : (s : State) (o : Option Order) → IsStart o → IsNil (reasons_of_order s o)
 ordered_loud s None p = absurd p
 ordered_loud s (Some o) p = errand_loud s o.what p
 

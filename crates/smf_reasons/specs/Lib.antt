@@ -1,6 +1,6 @@
 pub mod Reasons
 pub mod Ways
 pub mod Sights
-pub mod Checking
-pub mod Holding
-pub mod Telling
+pub mod Flaws
+pub mod Claims
+pub mod Texts

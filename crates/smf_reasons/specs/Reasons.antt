@@ -1,5 +1,5 @@
 -- Why an instance that is enabled does not run.
-use Rattle.std.specs.Prelude.{◌≡◌, ℕ, List, [], ◌∷◌, ◌++◌, map, filter, flat_map, Bool, true, false, not, ◌&&◌, if◌then◌else◌, Option, Some, None, Result, Ok, Err}
+use Rattle.std.specs.Prelude.{◌≡◌, ℕ, List, [], ◌∷◌, ◌++◌, map, flat_map, Bool, true, false, not, ◌&&◌, if◌then◌else◌, Option, Some, None, Result, Ok, Err}
 use Rattle.smf_contract.specs.declared.cookie.Method.{Method}
 use Rattle.smf_contract.specs.declared.cookie.Method.TheVariants as methods
 use Rattle.smf_state.specs.declared.state.State.{State}
@@ -9,7 +9,7 @@ use Rattle.smf_state.specs.declared.view.ViewItem.{ViewItem}
 use Rattle.smf_state.specs.States.{runs}
 use Rattle.smf_value.specs.declared.fault.BodyFault.{BodyFault}
 use Rattle.smf_value.specs.Groups.{GroupRecord}
-use Rattle.smf_snap.specs.declared.body.Snapshot.{Snapshot}
+use Rattle.smf_snap.specs.declared.body.SnapshotBody.{SnapshotBody}
 use Rattle.smf_wire.specs.declared.order.Order.{Order}
 use Rattle.smf_wire.specs.declared.order.What.{What}
 use Rattle.smf_wire.specs.declared.order.What.TheVariants as whats
@@ -17,13 +17,13 @@ use Rattle.smf_dep.specs.declared.dependency.Dependency.{Dependency}
 use Rattle.smf_dep.specs.declared.fault.DependencyFault.{DependencyFault}
 use Rattle.smf_dep.specs.declared.graph.Verdict.{Verdict}
 use Rattle.smf_dep.specs.declared.graph.Verdict.TheVariants as verdicts
-use Rattle.smf_dep.specs.declared.member.Member.{Member}
+use Rattle.smf_dep.specs.declared.member.GraphMember.{GraphMember}
 use Rattle.smf_dep.specs.Cycles.{IsCycle, on_cycle}
 use Rattle.smf_dep.specs.Members.{implicit, member_of, members, snapshot_in}
 use Rattle.smf_dep.specs.Methods.{MethodRead, method_by}
 use Rattle.smf_dep.specs.Requirements.{read_groups}
-use Rattle.smf_dep.specs.Verdicts.{cited, is_met}
-use Rattle.smf_engine.specs.Orders.{decided}
+use Rattle.smf_dep.specs.Verdicts.{members_of_entity, is_met}
+use Rattle.smf_engine.specs.Orders.{order_by_view}
 use Rattle.smf_reasons.specs.declared.reason.Reason.{Reason}
 use Rattle.smf_reasons.specs.declared.reason.Reason.TheVariants as reasons
 use Rattle.smf_reasons.specs.declared.reason.Standing.{Standing}
@@ -47,9 +47,9 @@ errand state (whats.Start call duration ignore) = []
 errand state (whats.Stop to cause call) = reasons.Ordered to ∷ []
 errand state (whats.Refresh call) = reasons.Ordered state ∷ []
 
-abbrev pub ordered : State → Option Order → List Reason
-ordered state None = []
-ordered state (Some o) = errand state o.what
+abbrev pub reasons_of_order : State → Option Order → List Reason
+reasons_of_order state None = []
+reasons_of_order state (Some o) = errand state o.what
 
 abbrev pub in_maintenance : State → List Reason
 in_maintenance states.Maintenance = reasons.Maintenance ∷ []
@@ -61,7 +61,7 @@ abbrev pub restarter_read : Bool → List Reason
 restarter_read true = []
 restarter_read false = reasons.UnreadableRestarter ∷ []
 
-abbrev pub snapshot_read : Result Snapshot BodyFault → List Reason
+abbrev pub snapshot_read : Result SnapshotBody BodyFault → List Reason
 snapshot_read (Ok s) = []
 snapshot_read (Err fault) = reasons.UnreadableSnapshot ∷ []
 
@@ -88,8 +88,8 @@ says_met verdicts.Met = true
 says_met verdicts.Waiting = false
 says_met verdicts.Blocked = false
 
-abbrev pub stood : Member → Standing
-stood m = record { name = m.name; state = Some m.state }
+abbrev pub standing_of_member : GraphMember → Standing
+standing_of_member m = record { name = m.name; state = Some m.state }
 
 -- the entity itself if it stands for no instance
 abbrev pub or_absent : List ℕ → List Standing → List Standing
@@ -101,36 +101,37 @@ abbrev pub alone : Dependency → List ℕ → Dependency
 alone d entity = record { grouping = d.grouping; restart_on = d.restart_on; entities = entity ∷ [] }
 
 -- the standings of an entity on which alone the dependency would not be met
-abbrev pub standing : List Member → Dependency → List ℕ → List Standing
-standing ms d entity = if is_met ms (alone d entity) then [] else or_absent entity (map stood (cited ms entity))
+abbrev pub standings_if_unmet : List GraphMember → Dependency → List ℕ → List Standing
+standings_if_unmet ms d entity = if is_met ms (alone d entity) then []
+    else or_absent entity (map standing_of_member (members_of_entity ms entity))
 
-unfoldable pub standings : List Member → Dependency → List Standing
-standings ms d = flat_map (standing ms d) d.entities
+unfoldable pub standings : List GraphMember → Dependency → List Standing
+standings ms d = flat_map (standings_if_unmet ms d) d.entities
 
-abbrev pub group_met : List Member → List ℕ → Dependency → List Reason
+abbrev pub group_met : List GraphMember → List ℕ → Dependency → List Reason
 group_met ms name d = if is_met ms d then [] else reasons.NotMet name d.grouping (standings ms d) ∷ []
 
-abbrev pub group_read : List Member → List ℕ → Result (List Dependency) DependencyFault → List Reason
+abbrev pub group_read : List GraphMember → List ℕ → Result (List Dependency) DependencyFault → List Reason
 group_read ms name (Ok ds) = flat_map (group_met ms name) ds
 group_read ms name (Err fault) = reasons.UnreadableGroup name fault ∷ []
 
 -- the reasons of a group: it can't be read, or is not met
-unfoldable pub of_group : List Member → GroupRecord → List Reason
+unfoldable pub of_group : List GraphMember → GroupRecord → List Reason
 of_group ms g = group_read ms g.name (read_groups (g ∷ []))
 
-abbrev pub restarter_met : List Member → Dependency → List Reason
+abbrev pub restarter_met : List GraphMember → Dependency → List Reason
 restarter_met ms d = if is_met ms d then [] else reasons.RestarterIsOff (standings ms d) ∷ []
 
 -- an instance of a delegated restarter wants that restarter's instance
-unfoldable pub of_restarter : List Member → List ℕ → List Reason
+unfoldable pub of_restarter : List GraphMember → List ℕ → List Reason
 of_restarter ms owner = flat_map (restarter_met ms) (implicit owner)
 
 -- ---- cycles
 
 -- the instance and those after it on a cycle, each citing the next and the last the first; none if it is on none
-pub data NamesCycle (ms : List Member) (m : Member) (names : List (List ℕ)) : Type 0 where
+pub data NamesCycle (ms : List GraphMember) (m : GraphMember) (names : List (List ℕ)) : Type 0 where
   on_none : on_cycle ms m ≡ false → names ≡ [] → NamesCycle ms m names
-  on_one : (path : List Member) → IsCycle ms m path → names ≡ m.name ∷ names_of path → NamesCycle ms m names
+  on_one : (path : List GraphMember) → IsCycle ms m path → names ≡ m.name ∷ names_of path → NamesCycle ms m names
 
 abbrev pub of_cycle : List (List ℕ) → List Reason
 of_cycle [] = []
@@ -142,20 +143,20 @@ of_cycle (name ∷ names) = reasons.OnCycle (name ∷ names) ∷ []
 abbrev pub of_row : Option View → ViewItem → List Reason
 of_row seen i =
     under_way i.row.next
-    ++ ordered i.row.state (decided seen i.instance)
+    ++ reasons_of_order i.row.state (order_by_view seen i.instance)
     ++ in_maintenance i.row.state
     ++ restarter_read i.readable
     ++ snapshot_read (snapshot_in i.body)
 
 -- the reasons of the groups of its running snapshot, of its restarter and of its methods
-abbrev pub of_member : List Member → ViewItem → Member → List Reason
+abbrev pub of_member : List GraphMember → ViewItem → GraphMember → List Reason
 of_member ms i m =
     flat_map (of_group ms) m.composed
     ++ of_restarter ms i.row.owner
     ++ methods_read i.row.owner i.name m.composed
 
 -- all that stands between an instance and its start, the names of a cycle being given
-abbrev pub in_the_way : View → ViewItem → Member → List (List ℕ) → List Reason
+abbrev pub in_the_way : View → ViewItem → GraphMember → List (List ℕ) → List Reason
 in_the_way v i m cycle = of_row (Some v) i ++ of_member (members v.items) i m ++ of_cycle cycle
 
 -- the same with some cycle that it is on

@@ -2,7 +2,7 @@
 use Rattle.std.specs.Prelude.{◌≡◌, Some}
 use Rattle.smf_state.specs.declared.view.View.{View}
 use Rattle.smf_dep.specs.Members.{members}
-use Rattle.smf_reasons.specs.declared.telling.Sight.{Sight}
+use Rattle.smf_reasons.specs.declared.reasons.Sight.{Sight}
 
 pub record IsSight (v : View) (s : Sight) : Type 0 where
   pub holds : s.engine ≡ Some v

@@ -1,11 +1,11 @@
 //! Entities that a dependency wants, and that stand for no instance.
 
 ghost use Rattle.std.specs.Prelude.{◌≡◌, ◌++◌, ◌∷◌, [], IfOk, OnOk, flat_map};
-ghost use Rattle.smf_reasons.specs.Checking.{absent, absent_of, group_checked, group_flaws, is_there, owner_checked, restarter_flaws, wants};
+ghost use Rattle.smf_reasons.specs.Flaws.{absent, absent_of, group_checked, group_flaws, is_there, owner_checked, restarter_flaws, wants};
 
 use crate::dependencies::{implicit, put_unreadable, read_alone};
 use crate::reason::{Reason, Standing};
-use smf_dep::{Dependency, DependencyFault, Grouping, Member};
+use smf_dep::{Dependency, DependencyFault, GraphMember, Grouping};
 use smf_fmri::{Fmri, InstanceFmri, Items};
 use smf_value::{Group, Name};
 use std::alloc::{AllocError, Global};
@@ -23,7 +23,7 @@ fn wants(grouping: Grouping) -> bool
 }
 
 /// True if an entity stands for an instance.
-fn is_there(members: &[Member], entity: &Fmri) -> bool
+fn is_there(members: &[GraphMember], entity: &Fmri) -> bool
     ensures { result ≡ is_there members.now entity.now }
 {
     members.iter().any(|member| member.is_cited(entity))
@@ -31,7 +31,7 @@ fn is_there(members: &[Member], entity: &Fmri) -> bool
 
 /// Puts an entity, if it stands for no instance.
 fn put_absent(
-    members: &[Member],
+    members: &[GraphMember],
     entity: &Fmri,
     all: &mut Items<Standing>,
 ) -> Result<(), AllocError>
@@ -45,7 +45,7 @@ fn put_absent(
 }
 
 fn put_all_absent(
-    members: &[Member],
+    members: &[GraphMember],
     entities: &[Fmri],
     all: &mut Items<Standing>,
 ) -> Result<(), AllocError>
@@ -58,10 +58,10 @@ fn put_all_absent(
 }
 
 /// The entities that a dependency wants, and that stand for no instance.
-#[tactic(auto, unfolding(crate::specs::Checking::absent_of))]
+#[tactic(auto, unfolding(crate::specs::Flaws::absent_of))]
 fn absent_of(
     alloc: Global,
-    members: &[Member],
+    members: &[GraphMember],
     dependency: &Dependency,
 ) -> Result<Items<Standing>, AllocError>
     ensures { IfOk result (λ all. all ≡ absent_of members.now dependency.now) }
@@ -94,7 +94,7 @@ fn put_standings(
 #[tactic(auto, using(crate::proofs::Flawed::none_lost, crate::proofs::Flawed::some_lost))]
 fn put_lost(
     alloc: Global,
-    members: &[Member],
+    members: &[GraphMember],
     group: &Name,
     dependency: &Dependency,
     all: &mut Items<Reason>,
@@ -110,7 +110,7 @@ fn put_lost(
 
 fn put_all_lost(
     alloc: Global,
-    members: &[Member],
+    members: &[GraphMember],
     group: &Name,
     dependencies: &[Dependency],
     all: &mut Items<Reason>,
@@ -127,7 +127,7 @@ fn put_all_lost(
 #[tactic(auto, using(crate::proofs::Flawed::group_asked, crate::proofs::Flawed::group_unread))]
 fn put_group_flaws(
     alloc: Global,
-    members: &[Member],
+    members: &[GraphMember],
     group: &Group,
     all: &mut Items<Reason>,
 ) -> Result<(), AllocError>
@@ -156,7 +156,7 @@ fn put_group_flaws(
 /// Puts the reasons of each group: it can't be read, or entities of it name nothing.
 pub(crate) fn put_groups_flaws(
     alloc: Global,
-    members: &[Member],
+    members: &[GraphMember],
     groups: &[Group],
     all: &mut Items<Reason>,
 ) -> Result<(), AllocError>
@@ -171,7 +171,7 @@ pub(crate) fn put_groups_flaws(
 #[tactic(auto, using(crate::proofs::Flawed::owner_there, crate::proofs::Flawed::owner_lost))]
 fn put_owner(
     alloc: Global,
-    members: &[Member],
+    members: &[GraphMember],
     dependency: &Dependency,
     all: &mut Items<Reason>,
 ) -> Result<(), AllocError>
@@ -188,7 +188,7 @@ fn put_owner(
 #[tactic(auto, using(crate::proofs::Flawed::unwanted, crate::proofs::Flawed::wanted))]
 pub(crate) fn put_restarter_flaws(
     alloc: Global,
-    members: &[Member],
+    members: &[GraphMember],
     owner: &InstanceFmri,
     all: &mut Items<Reason>,
 ) -> Result<(), AllocError>

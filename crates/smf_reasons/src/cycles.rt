@@ -1,29 +1,29 @@
 ghost use Rattle.std.specs.List.{list_any};
 ghost use Rattle.std.specs.Prelude.{◌≡◌, ◌++◌, ◌∷◌, [], IfOk, None, OnOk, Some, if◌then◌else◌};
-ghost use Rattle.smf_dep.specs.Cycles.{asked_for, asks_for, cites, on_cycle};
+ghost use Rattle.smf_dep.specs.Cycles.{asks_for, cites, on_cycle};
 ghost use Rattle.smf_dep.specs.Verdicts.{is_cited};
 ghost use Rattle.smf_reasons.specs.Reasons.{NamesCycle};
 ghost use Rattle.smf_reasons.specs.Ways.{IfWay, WayOrNone};
 
 use crate::search::places_of_cycle;
-use smf_dep::{Dependency, Grouping, Member};
+use smf_dep::{Dependency, GraphMember, Grouping};
 use smf_fmri::{Fmri, InstanceFmri, Items};
 use std::alloc::{AllocError, Global};
 
-fn is_among(member: &Member, entities: &[Fmri]) -> bool
+fn is_among(member: &GraphMember, entities: &[Fmri]) -> bool
     ensures { result ≡ list_any (λ e. is_cited e member.now) entities.now }
 {
     entities.iter().any(|entity| member.is_cited(entity))
 }
 
 /// True if a dependency cites an instance, and does not exclude it.
-fn asks_for(member: &Member, dependency: &Dependency) -> bool
+fn asks_for(member: &GraphMember, dependency: &Dependency) -> bool
     ensures { result ≡ asks_for member.now dependency.now }
 {
     dependency.grouping != Grouping::ExcludeAll && is_among(member, dependency.entities.as_slice())
 }
 
-fn any_asks_for(member: &Member, dependencies: &[Dependency]) -> bool
+fn any_asks_for(member: &GraphMember, dependencies: &[Dependency]) -> bool
     ensures { result ≡ list_any (asks_for member.now) dependencies.now }
 {
     dependencies
@@ -32,7 +32,7 @@ fn any_asks_for(member: &Member, dependencies: &[Dependency]) -> bool
 }
 
 /// True if an instance cites another.
-pub(crate) fn cites(from: &Member, to: &Member) -> bool
+pub(crate) fn cites(from: &GraphMember, to: &GraphMember) -> bool
     ensures { result ≡ cites from.now to.now }
 {
     match &from.dependencies {
@@ -65,7 +65,7 @@ fn append(all: &mut Items<InstanceFmri>, more: Items<InstanceFmri>) -> Result<()
 }
 
 /// No name, if an instance cites another.
-fn straight(alloc: Global, from: &Member, to: &Member) -> Option<Items<InstanceFmri>>
+fn straight(alloc: Global, from: &GraphMember, to: &GraphMember) -> Option<Items<InstanceFmri>>
     ensures { result ≡ (if cites from.now to.now then Some [] else None) }
 {
     if cites(from, to) {
@@ -77,13 +77,13 @@ fn straight(alloc: Global, from: &Member, to: &Member) -> Option<Items<InstanceF
 
 /// The names of the instances at these places, if they are a way. Then `from` cites the first, each cites the next, and
 /// the last cites `to`.
-#[tactic(auto, using(crate::proofs::Leading::hinted, crate::proofs::Leading::longer))]
-fn checked(
+#[tactic(auto, using(crate::proofs::Ways::hinted, crate::proofs::Ways::longer))]
+fn names_if_path(
     alloc: Global,
-    members: &[Member],
-    from: &Member,
+    members: &[GraphMember],
+    from: &GraphMember,
     places: &[usize],
-    to: &Member,
+    to: &GraphMember,
 ) -> Result<Option<Items<InstanceFmri>>, AllocError>
     ensures { IfOk result (λ names. IfWay members.now from.now to.now names) }
 {
@@ -96,7 +96,7 @@ fn checked(
     if !cites(from, next) {
         return Ok(None);
     }
-    let Some(names) = checked(alloc, members, next, rest, to)? else {
+    let Some(names) = names_if_path(alloc, members, next, rest, to)? else {
         return Ok(None);
     };
     let names = with_first(alloc, &next.name, names)?;
@@ -104,12 +104,12 @@ fn checked(
 }
 
 /// The names of instances of which each cites the next, from the one to the other; none if there are none.
-#[tactic(auto, using(crate::proofs::Leading::known_in, crate::proofs::Leading::wider_in, crate::proofs::Leading::met_in, crate::proofs::Leading::none_to_in, crate::proofs::Leading::none_from_in))]
+#[tactic(auto, using(crate::proofs::Ways::known_in, crate::proofs::Ways::wider_in, crate::proofs::Ways::met_in, crate::proofs::Ways::none_to_in, crate::proofs::Ways::none_from_in))]
 fn way(
     alloc: Global,
-    members: &[Member],
-    from: &Member,
-    to: &Member,
+    members: &[GraphMember],
+    from: &GraphMember,
+    to: &GraphMember,
 ) -> Result<Option<Items<InstanceFmri>>, AllocError>
     ensures { IfOk result (λ names. WayOrNone members.now from.now to.now names) }
 {
@@ -135,24 +135,24 @@ fn way(
 /// wrong, this would try all ways.
 fn between(
     alloc: Global,
-    members: &[Member],
-    member: &Member,
+    members: &[GraphMember],
+    member: &GraphMember,
 ) -> Result<Option<Items<InstanceFmri>>, AllocError>
     ensures { IfOk result (λ names. WayOrNone members.now member.now member.now names) }
 {
     let places = places_of_cycle(alloc, members, member)?;
-    if let Some(names) = checked(alloc, members, member, places.as_slice(), member)? {
+    if let Some(names) = names_if_path(alloc, members, member, places.as_slice(), member)? {
         return Ok(Some(names));
     }
     way(alloc, members, member, member)
 }
 
 /// The names of a cycle that an instance is on, its own first; none if it is on none.
-#[tactic(auto, using(crate::proofs::Leading::turned, crate::proofs::Leading::unturned, crate::proofs::Leading::off_cycle))]
+#[tactic(auto, using(crate::proofs::Ways::turned, crate::proofs::Ways::unturned, crate::proofs::Ways::off_cycle))]
 pub(crate) fn cycle_of(
     alloc: Global,
-    members: &[Member],
-    member: &Member,
+    members: &[GraphMember],
+    member: &GraphMember,
     is_on_cycle: bool,
 ) -> Result<Items<InstanceFmri>, AllocError>
     requires { is_on_cycle ≡ on_cycle members.now member.now }

@@ -1,11 +1,11 @@
 ghost use Rattle.std.specs.Prelude.{◌≡◌, ◌++◌, ◌∷◌, [], IfOk, OnOk, flat_map};
 ghost use Rattle.smf_dep.specs.Members.{implicit, when_there};
 ghost use Rattle.smf_dep.specs.Requirements.{Gives, read_groups};
-ghost use Rattle.smf_reasons.specs.Reasons.{group_met, group_read, of_group, of_restarter, restarter_met};
+ghost use Rattle.smf_reasons.specs.Reasons.{group_met, of_group, of_restarter, restarter_met};
 
+use crate::entity_states::{is_met, standings};
 use crate::reason::Reason;
-use crate::standing::{is_met, standings};
-use smf_dep::{Dependency, DependencyFault, Graph, Grouping, Member, RestartOn, read_groups};
+use smf_dep::{Dependency, DependencyFault, Graph, GraphMember, Grouping, RestartOn, read_groups};
 use smf_fmri::{InstanceFmri, Items, Ordered};
 use smf_state::is_startd;
 use smf_value::{Group, Name};
@@ -23,7 +23,7 @@ pub(crate) fn read_alone(alloc: Global, group: &Group) -> Result<Items<Dependenc
 /// Puts a reason if a dependency of a group is not met.
 fn put_unmet(
     alloc: Global,
-    members: &[Member],
+    members: &[GraphMember],
     graph: &Graph,
     group: &Name,
     dependency: &Dependency,
@@ -46,7 +46,7 @@ fn put_unmet(
 
 fn put_all_unmet(
     alloc: Global,
-    members: &[Member],
+    members: &[GraphMember],
     graph: &Graph,
     group: &Name,
     dependencies: &[Dependency],
@@ -76,7 +76,7 @@ pub(crate) fn put_unreadable(
 #[tactic(auto, using(crate::proofs::Reasoned::group_asked, crate::proofs::Reasoned::group_unread))]
 fn put_group(
     alloc: Global,
-    members: &[Member],
+    members: &[GraphMember],
     graph: &Graph,
     group: &Group,
     all: &mut Items<Reason>,
@@ -112,7 +112,7 @@ fn put_group(
 /// Puts the reasons of each group: it can't be read, or is not met.
 pub(crate) fn put_groups(
     alloc: Global,
-    members: &[Member],
+    members: &[GraphMember],
     graph: &Graph,
     groups: &[Group],
     all: &mut Items<Reason>,
@@ -147,7 +147,7 @@ pub(crate) fn implicit(
 
 fn put_off(
     alloc: Global,
-    members: &[Member],
+    members: &[GraphMember],
     graph: &Graph,
     dependency: &Dependency,
     all: &mut Items<Reason>,
@@ -166,7 +166,7 @@ fn put_off(
 #[tactic(auto, using(crate::proofs::Reasoned::unwanted, crate::proofs::Reasoned::wanted))]
 pub(crate) fn put_restarter(
     alloc: Global,
-    members: &[Member],
+    members: &[GraphMember],
     graph: &Graph,
     owner: &InstanceFmri,
     all: &mut Items<Reason>,

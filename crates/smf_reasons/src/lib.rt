@@ -7,19 +7,19 @@
 #![tactic(auto)]
 
 mod absent;
-mod checking;
 mod cycles;
 mod dependencies;
+mod entity_states;
+mod flaws;
 mod law;
 mod methods;
 mod reason;
+mod reasons;
 mod search;
-mod standing;
-mod telling;
 mod text;
 
-pub use checking::check;
+pub use flaws::check;
 pub use law::{flaws_are_exact, reasons_are_exact};
 pub use reason::{Reason, Standing, Told};
-pub use telling::tell;
+pub use reasons::tell;
 pub use text::{check_text_of, text_of};

@@ -27,7 +27,8 @@ fn put_start(
     groups: &Ordered<Group>,
     all: &mut Items<Reason>,
 ) -> Result<(), AllocError>
-    ensures { OnOk result (all.new ≡ all.old ++ start_read (method_by restarter.now instance.now groups.now Method.Start)) }
+    ensures { OnOk result
+        (all.new ≡ all.old ++ start_read (method_by restarter.now instance.now groups.now Method.Start)) }
 {
     let method = Method::Start;
     match ReadMethod::of(alloc, groups, method, restarter, instance) {
@@ -53,7 +54,8 @@ fn put_method(
     method: Method,
     all: &mut Items<Reason>,
 ) -> Result<(), AllocError>
-    ensures { OnOk result (all.new ≡ all.old ++ method_read method (method_by restarter.now instance.now groups.now method)) }
+    ensures { OnOk result
+        (all.new ≡ all.old ++ method_read method (method_by restarter.now instance.now groups.now method)) }
 {
     match ReadMethod::of(alloc, groups, method, restarter, instance) {
         Ok(_) => Ok(()),

@@ -1,7 +1,7 @@
 //! A search for the places of a cycle. Its answer is a hint, which is checked.
 
 use crate::cycles::cites;
-use smf_dep::Member;
+use smf_dep::GraphMember;
 use std::alloc::{AllocError, Global};
 
 fn set(before: &mut Vec<Option<usize>>, at: usize, place: usize) {
@@ -12,8 +12,8 @@ fn set(before: &mut Vec<Option<usize>>, at: usize, place: usize) {
 
 /// Notes the places that an instance cites and that were not seen before.
 fn note(
-    members: &[Member],
-    from: &Member,
+    members: &[GraphMember],
+    from: &GraphMember,
     place: usize,
     before: &mut Vec<Option<usize>>,
     work: &mut Vec<usize>,
@@ -30,7 +30,11 @@ fn note(
 }
 
 /// The places from the start to the last one, by what each was seen from.
-fn traced(alloc: Global, before: &[Option<usize>], last: usize) -> Result<Vec<usize>, AllocError> {
+fn path_to_place(
+    alloc: Global,
+    before: &[Option<usize>],
+    last: usize,
+) -> Result<Vec<usize>, AllocError> {
     let mut places = Vec::new(alloc);
     let mut at = last;
     for _ in 0..before.len() {
@@ -47,8 +51,8 @@ fn traced(alloc: Global, before: &[Option<usize>], last: usize) -> Result<Vec<us
 /// The places between an instance and itself, the fewest.
 pub(crate) fn places_of_cycle(
     alloc: Global,
-    members: &[Member],
-    member: &Member,
+    members: &[GraphMember],
+    member: &GraphMember,
 ) -> Result<Vec<usize>, AllocError> {
     let none = members.len();
     let mut before = vec![in alloc; None; none]?;
@@ -65,7 +69,7 @@ pub(crate) fn places_of_cycle(
             break;
         };
         if cites(from, member) {
-            return traced(alloc, before.as_slice(), place);
+            return path_to_place(alloc, before.as_slice(), place);
         }
         note(members, from, place, &mut before, &mut work)?;
     }

@@ -1,6 +1,6 @@
 ghost use Rattle.smf_state.specs.States.{state_text};
 ghost use Rattle.std.specs.Prelude.{◌≡◌, ◌++◌, IfOk, OnOk, codes, flat_map, string_bytes};
-ghost use Rattle.smf_reasons.specs.Telling.{block, check_block, check_text_of, checked_text, grouping_text, later_name, later_standing, names_text, part_text, property_text, reason_line, standing_text, standings_text, state_or_absent, text_of, told_text, words};
+ghost use Rattle.smf_reasons.specs.Texts.{block, check_block, check_text_of, checked_text, grouping_text, later_name, later_standing, names_text, part_text, property_text, reason_line, standing_text, standings_text, state_or_absent, text_of, told_text, words};
 
 use crate::reason::{Reason, Standing, Told};
 use smf_dep::{DependencyFault, Grouping};
@@ -115,7 +115,8 @@ fn put_names(out: &mut String, names: &[InstanceFmri]) -> Result<(), AllocError>
 }
 
 fn put_transition(out: &mut String, to: State, rest: &str) -> Result<(), AllocError>
-    ensures { OnOk result (string_bytes out.new ≡ string_bytes out.old ++ (codes "Transition to " ++ state_text to ++ rest.now)) }
+    ensures { OnOk result
+        (string_bytes out.new ≡ string_bytes out.old ++ (codes "Transition to " ++ state_text to ++ rest.now)) }
 {
     out.push_str("Transition to ")?;
     out.push_str(to.text())?;
@@ -123,7 +124,9 @@ fn put_transition(out: &mut String, to: State, rest: &str) -> Result<(), AllocEr
 }
 
 fn put_group(out: &mut String, group: &str, fault: DependencyFault) -> Result<(), AllocError>
-    ensures { OnOk result (string_bytes out.new ≡ string_bytes out.old ++ (codes "Dependency group " ++ group.now ++ codes " can't be read (" ++ property_text fault ++ codes ").")) }
+    ensures { OnOk result
+        (string_bytes out.new ≡ string_bytes out.old
+        ++ (codes "Dependency group " ++ group.now ++ codes " can't be read (" ++ property_text fault ++ codes ").")) }
 {
     out.push_str("Dependency group ")?;
     out.push_str(group)?;
@@ -138,7 +141,10 @@ fn put_unmet(
     grouping: Grouping,
     standings: &[Standing],
 ) -> Result<(), AllocError>
-    ensures { OnOk result (string_bytes out.new ≡ string_bytes out.old ++ (codes "Dependency " ++ standings_text standings.now ++ codes " (group " ++ group.now ++ codes ", " ++ grouping_text grouping ++ codes ").")) }
+    ensures { OnOk result
+        (string_bytes out.new ≡ string_bytes out.old
+        ++ (codes "Dependency " ++ standings_text standings.now ++ codes " (group " ++ group.now ++ codes ", "
+        ++ grouping_text grouping ++ codes ").")) }
 {
     out.push_str("Dependency ")?;
     put_standings(out, standings)?;
@@ -150,7 +156,9 @@ fn put_unmet(
 }
 
 fn put_restarter(out: &mut String, standings: &[Standing]) -> Result<(), AllocError>
-    ensures { OnOk result (string_bytes out.new ≡ string_bytes out.old ++ (codes "Restarter " ++ standings_text standings.now ++ codes ".")) }
+    ensures { OnOk result
+        (string_bytes out.new ≡ string_bytes out.old
+        ++ (codes "Restarter " ++ standings_text standings.now ++ codes ".")) }
 {
     out.push_str("Restarter ")?;
     put_standings(out, standings)?;
@@ -158,7 +166,9 @@ fn put_restarter(out: &mut String, standings: &[Standing]) -> Result<(), AllocEr
 }
 
 fn put_method(out: &mut String, method: &str, fault: MethodFault) -> Result<(), AllocError>
-    ensures { OnOk result (string_bytes out.new ≡ string_bytes out.old ++ (codes "Method " ++ method.now ++ codes " can't be read (" ++ part_text fault ++ codes ").")) }
+    ensures { OnOk result
+        (string_bytes out.new ≡ string_bytes out.old
+        ++ (codes "Method " ++ method.now ++ codes " can't be read (" ++ part_text fault ++ codes ").")) }
 {
     out.push_str("Method ")?;
     out.push_str(method)?;
@@ -168,7 +178,9 @@ fn put_method(out: &mut String, method: &str, fault: MethodFault) -> Result<(), 
 }
 
 fn put_cycle(out: &mut String, names: &[InstanceFmri]) -> Result<(), AllocError>
-    ensures { OnOk result (string_bytes out.new ≡ string_bytes out.old ++ (codes "It depends on itself (" ++ names_text names.now ++ codes ").")) }
+    ensures { OnOk result
+        (string_bytes out.new ≡ string_bytes out.old
+        ++ (codes "It depends on itself (" ++ names_text names.now ++ codes ").")) }
 {
     out.push_str("It depends on itself (")?;
     put_names(out, names)?;
@@ -227,7 +239,7 @@ fn put_block(out: &mut String, told: &Told) -> Result<(), AllocError>
     out.push_str("\n")
 }
 
-#[tactic(auto, unfolding(crate::specs::Telling::told_text))]
+#[tactic(auto, unfolding(crate::specs::Texts::told_text))]
 fn put_told(out: &mut String, told: &Told) -> Result<(), AllocError>
     ensures { OnOk result (string_bytes out.new ≡ string_bytes out.old ++ told_text told.now) }
 {
@@ -265,7 +277,7 @@ fn put_check_block(out: &mut String, told: &Told) -> Result<(), AllocError>
     out.push_str("\n")
 }
 
-#[tactic(auto, unfolding(crate::specs::Telling::checked_text))]
+#[tactic(auto, unfolding(crate::specs::Texts::checked_text))]
 fn put_checked(out: &mut String, told: &Told) -> Result<(), AllocError>
     ensures { OnOk result (string_bytes out.new ≡ string_bytes out.old ++ checked_text told.now) }
 {

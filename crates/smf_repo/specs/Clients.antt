@@ -2,9 +2,9 @@
 use Rattle.std.specs.Prelude.{◌≡◌, ◌⊎◌, ◌++◌, List, [], ◌∷◌, Option, Some, Result, Ok, Err}
 use Rattle.smf_model.specs.declared.command.Command.TheVariants as commands
 use Rattle.smf_model.specs.declared.command.Edit.{Edit}
-use Rattle.smf_model.specs.declared.command.Reply.{Reply}
+use Rattle.smf_model.specs.declared.command.CommandReply.{CommandReply}
 use Rattle.smf_model.specs.declared.journal.RepoFault.{RepoFault}
-use Rattle.smf_model.specs.Holdings.{Holdings}
+use Rattle.smf_model.specs.Contents.{Holdings}
 use Rattle.smf_model.specs.Journals.{IsRevised, LeavesOldOr, LeavesOnly}
 use Rattle.smf_model.specs.Next.{next}
 use Rattle.smf_model.specs.Whole.{Whole}
@@ -13,7 +13,8 @@ use Rattle.smf_model.specs.Whole.{Whole}
 -- A crash within the edit leaves what it could leave before, or what the edit makes.
 -- If the journal is sound, a crash after the edit leaves the held value.
 -- An edit that was accepted leaves a clean journal sound
-pub record IsEdited {J : Type 0} (is_clean is_sound : J → Type 0) (stands : J → Holdings → Type 0) (could : J → Option Holdings → Type 0) (before : Whole J) (edit : Edit) (after : Whole J) : Type 0 where
+pub record IsEdited {J : Type 0} (is_clean is_sound : J → Type 0) (stands : J → Holdings → Type 0)
+    (could : J → Option Holdings → Type 0) (before : Whole J) (edit : Edit) (after : Whole J) : Type 0 where
   pub trusted : is_clean after.journal → is_clean before.journal
   pub sound : IsRevised before.held after.held → is_clean after.journal → is_sound after.journal
   pub kept : stands after.journal after.held
@@ -25,25 +26,30 @@ pub record IsEdited {J : Type 0} (is_clean is_sound : J → Type 0) (stands : J 
 -- an edit, and how it ended
 pub record Given : Type 0 where
   pub edit : Edit
-  pub end : Result Reply RepoFault
+  pub end : Result CommandReply RepoFault
 
 -- the value held after an edit that ended so
-abbrev pub held_behind : Edit → Result Reply RepoFault → Holdings → Holdings
+abbrev pub held_behind : Edit → Result CommandReply RepoFault → Holdings → Holdings
 held_behind edit (Ok reply) h = (next h (commands.Edit edit)).0
 held_behind edit (Err fault) h = h
 
 -- a client to which an edit was given
-pub record IsGiven {C : Type 0} (held : C → Holdings) (follows : C → Edit → Result Reply RepoFault → C → Type 0) (before : C) (g : Given) (after : C) : Type 0 where
+pub record IsGiven {C : Type 0} (held : C → Holdings)
+    (follows : C → Edit → Result CommandReply RepoFault → C → Type 0) (before : C) (g : Given)
+    (after : C) : Type 0 where
   pub left : held after ≡ held_behind g.edit g.end (held before)
   pub behind : follows before g.edit g.end after
 
 -- a client to which edits were given in turn
-abbrev pub AreGiven : {C : Type 0} → (C → Holdings) → (C → Edit → Result Reply RepoFault → C → Type 0) → C → List Given → C → Type 0
+abbrev pub AreGiven : {C : Type 0} → (C → Holdings) → (C → Edit → Result CommandReply RepoFault → C → Type 0) → C
+    → List Given → C → Type 0
 AreGiven held follows before [] after = after ≡ before
-AreGiven {C = C} held follows before (g ∷ gs) after = (then_on : C) × IsGiven held follows before g then_on × AreGiven held follows then_on gs after
+AreGiven {C = C} held follows before (g ∷ gs) after = (then_on : C) × IsGiven held follows before g then_on
+    × AreGiven held follows then_on gs after
 
 -- only edits were given to a client
-abbrev pub IsEditedAlone : {C : Type 0} → (C → Holdings) → (C → Edit → Result Reply RepoFault → C → Type 0) → C → C → Type 0
+abbrev pub IsEditedAlone : {C : Type 0} → (C → Holdings) → (C → Edit → Result CommandReply RepoFault → C → Type 0) → C
+    → C → Type 0
 IsEditedAlone held follows before after = (all : List Given) × AreGiven held follows before all after
 
 -- the value held after edits

@@ -3,8 +3,8 @@ use Rattle.std.specs.Prelude.{ℕ, List, ◌++◌, codes, Option, Some, None}
 use Rattle.smf_value.specs.declared.fault.GroupFault.{GroupFault}
 use Rattle.smf_value.specs.declared.fault.GroupFault.TheVariants as groups
 use Rattle.smf_value.specs.Kinds.{kind_text}
-use Rattle.smf_model.specs.declared.command.Reply.{Reply}
-use Rattle.smf_model.specs.declared.command.Reply.TheVariants.{Made, Granted, Done, NoSuch, InUse, NotInState, Exists, Denied, Limit, Stale}
+use Rattle.smf_model.specs.declared.command.CommandReply.{CommandReply}
+use Rattle.smf_model.specs.declared.command.CommandReply.TheVariants.{Made, Granted, Done, NoSuch, InUse, NotInState, Exists, Denied, Limit, Stale}
 
 -- why a group is not changed
 abbrev pub denial : GroupFault → List ℕ
@@ -18,7 +18,7 @@ denial groups.Range = codes "out of range"
 denial groups.Full = codes "too many"
 
 -- the words of a refusal; what is done has none
-unfoldable pub refusal : Reply → Option (List ℕ)
+unfoldable pub refusal : CommandReply → Option (List ℕ)
 refusal (Made number) = None
 refusal (Granted row) = None
 refusal Done = None

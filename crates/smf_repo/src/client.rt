@@ -1,19 +1,19 @@
 ghost use Rattle.std.specs.Option.{option_copied};
-ghost use Rattle.std.specs.Prelude.{◌≡◌, ◌⊎◌, IfErr, IfOk, List, OnErr, Option, Result, is_some, option_map};
+ghost use Rattle.std.specs.Prelude.{◌≡◌, ◌⊎◌, IfErr, IfOk, OnErr, Option, Result, is_some, option_map};
 ghost use Rattle.smf_model.specs.declared.command.Command.TheVariants as commands;
 ghost use Rattle.smf_model.specs.declared.command.Edit.{Edit as AnyEdit};
-ghost use Rattle.smf_model.specs.declared.command.Reply.{Reply as AnyReply};
+ghost use Rattle.smf_model.specs.declared.command.CommandReply.{CommandReply as AnyReply};
 ghost use Rattle.smf_model.specs.declared.journal.RepoFault.{RepoFault as AnyFault};
 ghost use Rattle.smf_model.specs.declared.journal.RepoFault.TheVariants.{Memory};
-ghost use Rattle.smf_model.specs.Holdings.{Holdings};
-ghost use Rattle.smf_model.specs.Look.{named, service, snapshot};
-ghost use Rattle.smf_model.specs.Next.{found, next};
+ghost use Rattle.smf_model.specs.Contents.{Holdings};
+ghost use Rattle.smf_model.specs.Look.{instance_by_name, service, snapshot};
+ghost use Rattle.smf_model.specs.Next.{current_instance, next};
 ghost use Rattle.smf_model.specs.Shown.{shown_groups, snapshot_number, snapshots_of};
 ghost use Rattle.smf_repo.specs.Clients.{IsEdited};
 
 use smf_fmri::{InstanceFmri, Items, Number, Ordered, ServiceFmri, Table};
 use smf_model::{
-    Command, Edit, Instance, InstanceName, Journal, Owner, Plain, Reply, RepoFault, Service,
+    Command, CommandReply, Edit, Instance, InstanceName, Journal, Owner, Plain, RepoFault, Service,
     Snapshot,
 };
 use smf_snap::SnapshotName;
@@ -32,7 +32,7 @@ pub trait Client {
     ghost edit_fails: { AnyFault → Type 0 };
 
     /// Gives an edit to the repository. A fault leaves what is held.
-    fn apply(&mut self, edit: Edit) -> Result<Reply, RepoFault>
+    fn apply(&mut self, edit: Edit) -> Result<CommandReply, RepoFault>
         ensures exact { IfOk result (λ reply. next (held self.old) (commands.Edit edit) ≡ (held self.new, reply)) }
         ensures err { OnErr result (held self.new ≡ held self.old) }
         ensures follows { follows self.old edit result self.new }
@@ -40,14 +40,14 @@ pub trait Client {
 
     /// The instance of a number, its owner as it is read now.
     fn instance(&self, number: u64) -> Result<Option<Instance>, AllocError>
-        ensures { IfOk result (λ i. i ≡ found (held self.now) number) };
+        ensures { IfOk result (λ i. i ≡ current_instance (held self.now) number) };
 
     fn has_service(&self, name: &ServiceFmri) -> bool
         ensures { result ≡ is_some (service (held self.now) name.now) };
 
     /// The number of the instance of a name.
     fn number_of(&self, name: &InstanceFmri) -> Option<Number>
-        ensures { result ≡ option_map (λ i. i.number) (named (held self.now) name.now) };
+        ensures { result ≡ option_map (λ i. i.number) (instance_by_name (held self.now) name.now) };
 
     /// The services with their groups, by name.
     fn services(&self) -> &[Service]
@@ -82,7 +82,7 @@ impl<J: Journal> Client for Plain<J> {
 
     ghost edit_fails = { J.write_fails };
 
-    fn apply(&mut self, edit: Edit) -> Result<Reply, RepoFault> {
+    fn apply(&mut self, edit: Edit) -> Result<CommandReply, RepoFault> {
         Plain::apply(self, &Command::Edit(edit))
     }
 

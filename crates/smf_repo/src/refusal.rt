@@ -3,25 +3,25 @@ ghost use Rattle.smf_repo.specs.Refusals.{denial, refusal};
 ghost use Rattle.smf_value.specs.Kinds.{kind_text};
 
 use smf_fmri::Text;
-use smf_model::Reply;
+use smf_model::CommandReply;
 use smf_value::{GroupFault, Kind};
 use std::alloc::{AllocError, Global};
 
 /// The words for a refusal, without the program's name in front and without a line's end; none for what was done.
 /// No client's command is answered by `Stale`, whose words are `not granted`.
 #[tactic(auto, unfolding(crate::specs::Refusals::refusal))]
-pub fn refusal_text(alloc: Global, reply: &Reply) -> Result<Option<Text>, AllocError>
+pub fn refusal_text(alloc: Global, reply: &CommandReply) -> Result<Option<Text>, AllocError>
     ensures { IfOk result (λ text. text ≡ refusal reply.now) }
 {
     let words = match reply {
-        Reply::Made(_) | Reply::Granted(_) | Reply::Done => return Ok(None),
-        Reply::Denied(fault) => return Ok(Some(denial(alloc, *fault)?)),
-        Reply::NoSuch => "no such entity",
-        Reply::InUse => "in use",
-        Reply::NotInState => "not in a state for this",
-        Reply::Exists => "already exists",
-        Reply::Limit => "limit",
-        Reply::Stale(_, _) => "not granted",
+        CommandReply::Made(_) | CommandReply::Granted(_) | CommandReply::Done => return Ok(None),
+        CommandReply::Denied(fault) => return Ok(Some(denial(alloc, *fault)?)),
+        CommandReply::NoSuch => "no such entity",
+        CommandReply::InUse => "in use",
+        CommandReply::NotInState => "not in a state for this",
+        CommandReply::Exists => "already exists",
+        CommandReply::Limit => "limit",
+        CommandReply::Stale(_, _) => "not granted",
     };
     Ok(Some(Text::copy_of(alloc, words)?))
 }

@@ -1,6 +1,5 @@
-mod Judging
-pub mod Leaving
-pub mod Lists
-pub mod Resting
+mod Judgments
+pub mod OtherInstances
+pub mod IdleTicks
 mod RestlessList
 mod Rooms

@@ -6,7 +6,7 @@ use Rattle.std.specs.Prelude.{◌&&◌, filter, is_some, option_map}
 use Rattle.std.specs.Ordering.{is_eq, nat_cmp}
 use Rattle.std.proofs.lemmas.Map.Entries.{option_filter}
 use Rattle.smf_fmri.specs.ByKey.{Rises, lookup}
-use Rattle.smf_fmri.proofs.Rising.{rises_filter}
+use Rattle.smf_fmri.proofs.KeyOrder.{rises_filter}
 use Rattle.smf_fmri.proofs.SameLists.{lookup_filter, same_lists}
 use Rattle.smf_restarter.specs.declared.known.KnownInstance.{KnownInstance}
 use Rattle.smf_restarter.specs.declared.known.KnownRun.{KnownRun}
@@ -17,14 +17,14 @@ use Rattle.smf_restarter.specs.declared.known.Stage.TheVariants.{Joining, Listin
 use Rattle.smf_restarter.specs.Changes.{nothing}
 use Rattle.smf_restarter.specs.Knowledge.{Knowledge, by_instance}
 use Rattle.smf_restarter.specs.Runs.{known_run}
-use Rattle.smf_restarter.specs.Ticks.{at_rest, is_up, rests, rests_in, ticked, ticked_known, ticked_up}
-use Rattle.smf_restarter.specs.Watched.{IsOrdered, IsWatched, among, by_itself, has_none, judged, restless, restless_if}
-use Rattle.smf_restarter.proofs.Resting.{rested}
+use Rattle.smf_restarter.specs.Ticks.{at_rest, is_up, rests, rests_in, reply_to_tick, ticked_known, ticked_up}
+use Rattle.smf_restarter.specs.Watched.{IsOrdered, IsWatched, among, by_itself, has_none, restless_number, restless, restless_if}
+use Rattle.smf_restarter.proofs.IdleTicks.{rested}
 
 -- ---- nothing is known yet
 
 pub none_watched : (rs : List KnownRun) → IsWatched [] [] rs
-unfolding judged
+unfolding restless_number
 none_watched rs n = refl
 
 -- ---- whether an instance rests depends on runs alone
@@ -50,50 +50,64 @@ rises_numbers [] r = tt
 rises_numbers (i ∷ []) r = (tt, tt)
 rises_numbers (i ∷ j ∷ is) r = (r.0, rises_numbers (j ∷ is) r.1)
 
-lookup_numbers : (is : List KnownInstance) (n : ℕ) → lookup by_itself (map (λ i. i.instance) is) n ≡ option_map (λ i. i.instance) (lookup by_instance is n)
+lookup_numbers : (is : List KnownInstance) (n : ℕ)
+    → lookup by_itself (map (λ i. i.instance) is) n ≡ option_map (λ i. i.instance) (lookup by_instance is n)
 lookup_numbers [] n = refl
 lookup_numbers (i ∷ is) n = by (is_eq (nat_cmp i.instance n)) (lookup_numbers is n)
   where
-    by : (b : Bool) → lookup by_itself (map (λ i. i.instance) is) n ≡ option_map (λ i. i.instance) (lookup by_instance is n)
-        → cond b (Some i.instance) (lookup by_itself (map (λ i. i.instance) is) n) ≡ option_map (λ i. i.instance) (cond b (Some i) (lookup by_instance is n))
+    by : (b : Bool) → lookup by_itself (map (λ i. i.instance) is) n
+        ≡ option_map (λ i. i.instance) (lookup by_instance is n)
+        → cond b (Some i.instance) (lookup by_itself (map (λ i. i.instance) is) n)
+        ≡ option_map (λ i. i.instance) (cond b (Some i) (lookup by_instance is n))
     by true rest = refl
     by false rest = rest
 
-judged_filter : (rs : List KnownRun) (o : Option KnownInstance) → judged rs o ≡ option_map (λ i. i.instance) (option_filter (λ i. not (rests (among rs) i)) o)
-unfolding judged
+judged_filter : (rs : List KnownRun) (o : Option KnownInstance)
+    → restless_number rs o ≡ option_map (λ i. i.instance) (option_filter (λ i. not (rests (among rs) i)) o)
+unfolding restless_number
 judged_filter rs None = refl
 judged_filter rs (Some i) = by (rests (among rs) i)
   where
-    by : (b : Bool) → restless_if b i.instance ≡ option_map (λ (j : KnownInstance). j.instance) (cond (not b) (Some i) None)
+    by : (b : Bool) → restless_if b i.instance
+        ≡ option_map (λ (j : KnownInstance). j.instance) (cond (not b) (Some i) None)
     by true = refl
     by false = refl
 
-kept_numbers : (ns : List ℕ) (is : List KnownInstance) (rs : List KnownRun) → IsWatched ns is rs → Rises by_itself ns → Rises by_instance is → ns ≡ map (λ i. i.instance) (filter (λ i. not (rests (among rs) i)) is)
+kept_numbers : (ns : List ℕ) (is : List KnownInstance) (rs : List KnownRun) → IsWatched ns is rs → Rises by_itself ns
+    → Rises by_instance is → ns ≡ map (λ i. i.instance) (filter (λ i. not (rests (among rs) i)) is)
 kept_numbers ns is rs h r s =
     let test : KnownInstance → Bool = λ i. not (rests (among rs) i) in
-    same_lists by_itself ns (map (λ i. i.instance) (filter test is)) r (rises_numbers (filter test is) (rises_filter by_instance test is s)) (
-    λ n. h n ∙ judged_filter rs (lookup by_instance is n) ∙ sym (lookup_numbers (filter test is) n ∙ ap (λ (o : Option KnownInstance). option_map (λ i. i.instance) o) (lookup_filter by_instance test is n s)))
+    same_lists by_itself ns (map (λ i. i.instance) (filter test is)) r
+    (rises_numbers (filter test is) (rises_filter by_instance test is s)) (
+    λ n. h n ∙ judged_filter rs (lookup by_instance is n)
+    ∙ sym (lookup_numbers (filter test is) n
+    ∙ ap (λ (o : Option KnownInstance). option_map (λ i. i.instance) o) (lookup_filter by_instance test is n s)))
 
-pub numbers_are : (k : Knowledge) (ns : List ℕ) → IsWatched ns k.instances k.runs → Rises by_itself ns → IsOrdered k → ns ≡ restless k
+pub numbers_are : (k : Knowledge) (ns : List ℕ) → IsWatched ns k.instances k.runs → Rises by_itself ns → IsOrdered k
+    → ns ≡ restless k
 unfolding restless
 numbers_are k ns h r s =
     kept_numbers ns k.instances k.runs h r s.0
-    ∙ ap (λ (f : KnownInstance → Bool). map (λ i. i.instance) (filter (λ i. not (f i)) k.instances)) (fun_ext (λ i. same_rests k i))
+    ∙ ap (λ (f : KnownInstance → Bool). map (λ i. i.instance) (filter (λ i. not (f i)) k.instances))
+    (fun_ext (λ i. same_rests k i))
 
 -- ---- at rest
 
-all_or_some : (f : KnownInstance → Bool) (is : List KnownInstance) → has_none (map (λ i. i.instance) (filter (λ i. not (f i)) is)) ≡ list_all f is
+all_or_some : (f : KnownInstance → Bool) (is : List KnownInstance)
+    → has_none (map (λ i. i.instance) (filter (λ i. not (f i)) is)) ≡ list_all f is
 all_or_some f [] = refl
 all_or_some f (i ∷ is) = by (f i) (all_or_some f is)
   where
     by : (b : Bool) → has_none (map (λ i. i.instance) (filter (λ i. not (f i)) is)) ≡ list_all f is
-        → has_none (map (λ i. i.instance) (cond (not b) (i ∷ filter (λ i. not (f i)) is) (filter (λ i. not (f i)) is))) ≡ (b && list_all f is)
+        → has_none (map (λ i. i.instance)
+        (cond (not b) (i ∷ filter (λ i. not (f i)) is) (filter (λ i. not (f i)) is))) ≡ (b && list_all f is)
     by true rest = rest
     by false rest = refl
 
 pub up_rests : (k : Knowledge) (b : Bool) → is_up k.stage ≡ true → b ≡ has_none (restless k) → b ≡ at_rest k
 unfolding at_rest restless
-up_rests k b up e = e ∙ all_or_some (rests k) k.instances ∙ sym (ap (λ (c : Bool). c && list_all (rests k) k.instances) up)
+up_rests k b up e = e ∙ all_or_some (rests k) k.instances
+    ∙ sym (ap (λ (c : Bool). c && list_all (rests k) k.instances) up)
 
 pub not_up : (k : Knowledge) (b : Bool) → is_up k.stage ≡ false → b ≡ false → b ≡ at_rest k
 unfolding at_rest
@@ -101,8 +115,8 @@ not_up k b up e = e ∙ sym (ap (λ (c : Bool). c && list_all (rests k) k.instan
 
 -- ---- a tick of an instance that is not among them
 
-judged_rests : (k : Knowledge) (o : Option KnownInstance) → judged k.runs o ≡ None → ticked_known k o ≡ nothing
-unfolding judged
+judged_rests : (k : Knowledge) (o : Option KnownInstance) → restless_number k.runs o ≡ None → ticked_known k o ≡ nothing
+unfolding restless_number
 judged_rests k None e = refl
 judged_rests k (Some i) e = by (rests (among k.runs) i) refl e
   where
@@ -110,7 +124,8 @@ judged_rests k (Some i) e = by (rests (among k.runs) i) refl e
     by true f g = rested k i (sym (same_rests k i) ∙ f)
     by false f g = absurd cc
 
-none_ticked : (k : Knowledge) (n : ℕ) (s : Stage) → judged k.runs (lookup by_instance k.instances n) ≡ None → ticked_up k n s ≡ nothing
+none_ticked : (k : Knowledge) (n : ℕ) (s : Stage) → restless_number k.runs (lookup by_instance k.instances n) ≡ None
+    → ticked_up k n s ≡ nothing
 none_ticked k n Joining e = refl
 none_ticked k n Listing e = refl
 none_ticked k n Up e = judged_rests k (lookup by_instance k.instances n) e
@@ -119,6 +134,7 @@ none_if : {X : Type 0} (o : Option X) → not (is_some o) ≡ true → o ≡ Non
 none_if None e = refl
 none_if (Some x) e = absurd cc
 
-pub unnoted : (k : Knowledge) (ns : List ℕ) (n : ℕ) → IsWatched ns k.instances k.runs → not (is_some (lookup by_itself ns n)) ≡ true → ticked k n ≡ nothing
-unfolding ticked
+pub unnoted : (k : Knowledge) (ns : List ℕ) (n : ℕ) → IsWatched ns k.instances k.runs
+    → not (is_some (lookup by_itself ns n)) ≡ true → reply_to_tick k n ≡ nothing
+unfolding reply_to_tick
 unnoted k ns n h e = none_ticked k n k.stage (sym (h n) ∙ none_if (lookup by_itself ns n) e)

@@ -1,5 +1,6 @@
 -- The ends that follow on what was under way.
-use Rattle.std.specs.Prelude.{ℕ, ◌+◌, ◌==◌, ◌||◌, nat_le, Bool, true, false, if◌then◌else◌, Option, Some, None, unwrap_or}
+use Rattle.std.specs.Prelude.{ℕ, ◌+◌, ◌||◌, nat_le, Bool, if◌then◌else◌, unwrap_or}
+use Rattle.smf_fmri.specs.declared.limits.TheConstants.{FAILED_STARTS_ALLOWED}
 use Rattle.smf_state.specs.declared.row.Row.{Row}
 use Rattle.smf_state.specs.declared.state.State.{State}
 use Rattle.smf_state.specs.declared.state.State.TheVariants.{Offline, Online, Maintenance}
@@ -23,14 +24,14 @@ abbrev pub ended_stop : Row → State → Ending
 ended_stop r next = record { to = next; failed = 0; cause = unwrap_or r.cause NonError; drain = drains.Both }
 
 -- the end that follows a method's success
-abbrev pub succeeded : Row → Method → Ending
-succeeded r methods.Start = start_succeeded
-succeeded r methods.Stop = ended_stop r (unwrap_or r.next r.state)
-succeeded r methods.Refresh = ended_refresh r
+abbrev pub end_on_success : Row → Method → Ending
+end_on_success r methods.Start = start_succeeded
+end_on_success r methods.Stop = ended_stop r (unwrap_or r.next r.state)
+end_on_success r methods.Refresh = ended_refresh r
 
 -- a stop to a state, without a method
-abbrev pub stopped : State → Cause → Ending
-stopped to cause = record { to = to; failed = 0; cause = cause; drain = drains.Both }
+abbrev pub end_of_stop : State → Cause → Ending
+end_of_stop to cause = record { to = to; failed = 0; cause = cause; drain = drains.Both }
 
 -- ---- failures
 
@@ -43,7 +44,8 @@ start_counted failed = record { to = Offline; failed = failed; cause = NonError;
 
 -- the third failed start in a row is the last, and so is one after which a further one would fail too
 abbrev pub start_failed : Row → Bool → Ending
-start_failed r fatal = if fatal || nat_le 2 r.failed then start_given_up else start_counted (r.failed + 1)
+start_failed r fatal = if fatal || nat_le FAILED_STARTS_ALLOWED r.failed then start_given_up
+    else start_counted (r.failed + 1)
 
 abbrev pub stop_failed : Ending
 stop_failed = record { to = Maintenance; failed = 0; cause = Error; drain = drains.Both }

@@ -31,8 +31,9 @@ pub record Kept : Type 0 where
   pub runs_room : ℕ
   pub ready : Option ℕ
 
-abbrev pub kept : Knowledge → ℕ → ℕ → Option ℕ → Kept
-kept k instances runs ready = record { known = k; instances_room = instances; runs_room = runs; ready = ready }
+abbrev pub kept_knowledge : Knowledge → ℕ → ℕ → Option ℕ → Kept
+kept_knowledge k instances runs ready =
+    record { known = k; instances_room = instances; runs_room = runs; ready = ready }
 
 abbrev pub by_instance : By KnownInstance ℕ
 by_instance = by_number (λ i. i.instance)
@@ -56,8 +57,8 @@ by_run =
     }
 
 -- the instance of a number
-abbrev pub known : Knowledge → ℕ → Option KnownInstance
-known k n = lookup by_instance k.instances n
+abbrev pub known_instance : Knowledge → ℕ → Option KnownInstance
+known_instance k n = lookup by_instance k.instances n
 
 abbrev pub at_first : List ℕ → ℕ → ℕ → Knowledge
 at_first name actor launch =

@@ -1,5 +1,6 @@
 -- The proposals of a restarter.
-use Rattle.std.specs.Prelude.{ℕ, ◌+◌, ◌==◌, ◌&&◌, nat_lt, List, [], ◌∷◌, Bool, true, false, if◌then◌else◌, Option, Some, None, unwrap_or}
+use Rattle.std.specs.Prelude.{ℕ, ◌+◌, ◌&&◌, nat_lt, List, [], ◌∷◌, Bool, true, false, if◌then◌else◌, Option, Some, None, unwrap_or}
+use Rattle.smf_fmri.specs.declared.limits.TheConstants.{MAX_COUNT}
 use Rattle.smf_state.specs.declared.row.Row.{Row}
 use Rattle.smf_state.specs.declared.state.State.{State}
 use Rattle.smf_state.specs.declared.state.State.TheVariants.{Maintenance}
@@ -22,13 +23,13 @@ use Rattle.smf_restarter.specs.declared.known.After.TheVariants as afters
 use Rattle.smf_restarter.specs.declared.known.KnownInstance.{KnownInstance}
 use Rattle.smf_restarter.specs.declared.known.Phase.TheVariants.{Waiting}
 use Rattle.smf_restarter.specs.declared.reply.Reply.{Reply}
-use Rattle.smf_restarter.specs.Changes.{nothing, putting}
-use Rattle.smf_restarter.specs.Ends.{ended_refresh, stopped}
+use Rattle.smf_restarter.specs.Changes.{nothing, change_of_instance}
+use Rattle.smf_restarter.specs.Ends.{ended_refresh, end_of_stop}
 use Rattle.smf_restarter.specs.Knowledge.{Knowledge}
 
 -- the greatest serial
 abbrev pub greatest_serial : ℕ
-greatest_serial = 0x7fff_ffff_ffff_ffff
+greatest_serial = MAX_COUNT
 
 -- the greatest number that a row can have
 abbrev pub greatest_word : ℕ
@@ -45,21 +46,22 @@ proposal k i step =
       step = step;
     }
 
-abbrev pub waiting : KnownInstance → Proposal → After → KnownInstance
-waiting i p after = record i { phase = Waiting p after }
+abbrev pub waiting_instance : KnownInstance → Proposal → After → KnownInstance
+waiting_instance i p after = record i { phase = Waiting p after }
 
 -- a step of an instance is proposed under the next serial and the next number, if these are left
 abbrev pub proposing_if : Bool → Knowledge → KnownInstance → Step → After → List Known → Reply
 proposing_if true k i step after taken =
     record nothing {
-      change = record (putting (waiting i (proposal k i step) after)) { serial = Some (k.serial + 1) };
+      change = record (change_of_instance (waiting_instance i (proposal k i step) after))
+          { serial = Some (k.serial + 1) };
       messages = messages.Propose (proposal k i step) ∷ [];
       taken = taken;
     }
 proposing_if false k i step after taken = nothing
 
-abbrev pub proposing : Knowledge → KnownInstance → Step → After → List Known → Reply
-proposing k i step after taken =
+abbrev pub reply_with_proposal : Knowledge → KnownInstance → Step → After → List Known → Reply
+reply_with_proposal k i step after taken =
     proposing_if (nat_lt k.serial greatest_serial && nat_lt i.row.number greatest_word) k i step after taken
 
 -- ---- orders
@@ -75,11 +77,11 @@ start_step o run duration ignore = steps.Start run (unwrap_or o.row.running 0) d
 abbrev pub starting_if : Bool → Knowledge → KnownInstance → Order → List Known → MethodCall → Duration → ℕ → Reply
 starting_if true k i o taken call duration ignore =
     let run = i.row.last + 1 in
-    proposing k i (start_step o run duration ignore) (owed_by o methods.Start run call) taken
-starting_if false k i o taken call duration ignore = proposing k i (steps.Move Maintenance) afters.Idle taken
+    reply_with_proposal k i (start_step o run duration ignore) (owed_by o methods.Start run call) taken
+starting_if false k i o taken call duration ignore = reply_with_proposal k i (steps.Move Maintenance) afters.Idle taken
 
-abbrev pub starting : Knowledge → KnownInstance → Order → List Known → MethodCall → Duration → ℕ → Reply
-starting k i = starting_if (nat_lt i.row.last greatest_run) k i
+abbrev pub reply_to_start : Knowledge → KnownInstance → Order → List Known → MethodCall → Duration → ℕ → Reply
+reply_to_start k i = starting_if (nat_lt i.row.last greatest_run) k i
 
 -- the method of a stop or a refresh, if a run is left for it
 abbrev pub call_with_run : Row → Option MethodCall → Option MethodCall
@@ -88,28 +90,30 @@ call_with_run r (Some call) = if nat_lt r.last greatest_run then Some call else 
 
 abbrev pub stopping_by : Knowledge → KnownInstance → Order → List Known → State → Cause → Option MethodCall → Reply
 stopping_by k i o taken to cause (Some call) =
-    proposing k i (steps.Stop to cause (Some (i.row.last + 1))) (owed_by o methods.Stop (i.row.last + 1) call) taken
+    reply_with_proposal k i (steps.Stop to cause (Some (i.row.last + 1)))
+    (owed_by o methods.Stop (i.row.last + 1) call) taken
 stopping_by k i o taken to cause None =
-    proposing k i (steps.Stop to cause None) (afters.Ending (stopped to cause)) taken
+    reply_with_proposal k i (steps.Stop to cause None) (afters.Ending (end_of_stop to cause)) taken
 
-abbrev pub stopping : Knowledge → KnownInstance → Order → List Known → State → Cause → Option MethodCall → Reply
-stopping k i o taken to cause call = stopping_by k i o taken to cause (call_with_run i.row call)
+abbrev pub reply_to_stop : Knowledge → KnownInstance → Order → List Known → State → Cause → Option MethodCall → Reply
+reply_to_stop k i o taken to cause call = stopping_by k i o taken to cause (call_with_run i.row call)
 
 abbrev pub refreshing_by : Knowledge → KnownInstance → Order → List Known → Option MethodCall → Reply
 refreshing_by k i o taken (Some call) =
-    proposing k i (steps.Refresh (Some (i.row.last + 1))) (owed_by o methods.Refresh (i.row.last + 1) call) taken
+    reply_with_proposal k i (steps.Refresh (Some (i.row.last + 1)))
+    (owed_by o methods.Refresh (i.row.last + 1) call) taken
 refreshing_by k i o taken None =
-    proposing k i (steps.Refresh None) (afters.Ending (ended_refresh i.row)) taken
+    reply_with_proposal k i (steps.Refresh None) (afters.Ending (ended_refresh i.row)) taken
 
-abbrev pub refreshing : Knowledge → KnownInstance → Order → List Known → Option MethodCall → Reply
-refreshing k i o taken call = refreshing_by k i o taken (call_with_run i.row call)
+abbrev pub reply_to_refresh : Knowledge → KnownInstance → Order → List Known → Option MethodCall → Reply
+reply_to_refresh k i o taken call = refreshing_by k i o taken (call_with_run i.row call)
 
 abbrev pub ordered_what : Knowledge → KnownInstance → Order → List Known → What → Reply
-ordered_what k i o taken (whats.To state) = proposing k i (steps.Move state) afters.Idle taken
-ordered_what k i o taken (whats.Start call duration ignore) = starting k i o taken call duration ignore
-ordered_what k i o taken (whats.Stop to cause call) = stopping k i o taken to cause call
-ordered_what k i o taken (whats.Refresh call) = refreshing k i o taken call
+ordered_what k i o taken (whats.To state) = reply_with_proposal k i (steps.Move state) afters.Idle taken
+ordered_what k i o taken (whats.Start call duration ignore) = reply_to_start k i o taken call duration ignore
+ordered_what k i o taken (whats.Stop to cause call) = reply_to_stop k i o taken to cause call
+ordered_what k i o taken (whats.Refresh call) = reply_to_refresh k i o taken call
 
 -- an order for an instance with which nothing is being done
-abbrev pub ordered : Knowledge → KnownInstance → Order → List Known → Reply
-ordered k i o taken = ordered_what k i o taken o.what
+abbrev pub reply_to_order : Knowledge → KnownInstance → Order → List Known → Reply
+reply_to_order k i o taken = ordered_what k i o taken o.what

@@ -2,11 +2,11 @@
 use Rattle.std.specs.Prelude.{ℕ, ◌+◌, ◌≤◌, ◌||◌, List, [], ◌∷◌, length, Bool, true, false}
 use Rattle.smf_restarter.specs.declared.reply.Call.{Call}
 use Rattle.smf_restarter.specs.declared.reply.Call.TheVariants as calls
-use Rattle.smf_restarter.specs.declared.reply.Change.{Change}
+use Rattle.smf_restarter.specs.declared.reply.KnowledgeChange.{KnowledgeChange}
 use Rattle.smf_restarter.specs.declared.reply.Reply.{Reply}
 
 -- room for so many more instances and runs is enough for a change
-pub record HasPlace (c : Change) (instances runs : ℕ) : Type 0 where
+pub record HasPlace (c : KnowledgeChange) (instances runs : ℕ) : Type 0 where
   pub put : length c.put ≤ instances
   pub listed : length c.listed + 1 ≤ runs
 

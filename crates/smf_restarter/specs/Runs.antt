@@ -1,18 +1,17 @@
 -- The runs that have a contract, as a restarter knows them.
-use Rattle.std.specs.Prelude.{ℕ, ◌==◌, ◌&&◌, ◌||◌, not, nat_le, nat_lt, List, [], ◌∷◌, Bool, true, false, if◌then◌else◌, find, Option, Some, None}
+use Rattle.std.specs.Prelude.{ℕ, ◌==◌, ◌&&◌, ◌||◌, not, List, [], ◌∷◌, Bool, true, false, find, Option, Some, None}
 use Rattle.std.specs.List.{list_any}
 use Rattle.smf_fmri.specs.ByKey.{lookup}
 use Rattle.smf_contract.specs.declared.contract.Holder.{Holder}
 use Rattle.smf_contract.specs.declared.contract.Holder.TheVariants.{Held, Inherited, Abandoned}
 use Rattle.smf_contract.specs.declared.contract.Status.{Status}
 use Rattle.smf_contract.specs.declared.cookie.Cookie.{Cookie}
-use Rattle.smf_contract.specs.declared.event.Event.{Event}
 use Rattle.smf_contract.specs.declared.event.EventKind.{EventKind}
 use Rattle.smf_contract.specs.declared.event.EventKind.TheVariants as kinds
-use Rattle.smf_contract.specs.Cookies.{unpacked}
+use Rattle.smf_contract.specs.Cookies.{cookie_of_bits}
 use Rattle.smf_restarter.specs.declared.known.KnownInstance.{KnownInstance}
 use Rattle.smf_restarter.specs.declared.known.KnownRun.{KnownRun}
-use Rattle.smf_restarter.specs.Knowledge.{Knowledge, by_run, known}
+use Rattle.smf_restarter.specs.Knowledge.{Knowledge, by_run, known_instance}
 
 abbrev pub run_at : Knowledge → ℕ → ℕ → Option KnownRun
 run_at k n run = lookup by_run k.runs (record { instance = n; run = run })
@@ -77,7 +76,7 @@ listed_as k s c =
       contract = s.contract.id;
       held = is_held_by k.actor s.contract.holder;
       empty = has_none s.members;
-      failed = list_any (λ e. is_failure (ignore_of (known k c.instance)) e.kind) s.events;
+      failed = list_any (λ e. is_failure (ignore_of (known_instance k c.instance)) e.kind) s.events;
       ended = list_any (λ e. is_exit_of s.contract.first e.kind) s.events;
     }
 
@@ -86,4 +85,4 @@ listed_if k s None = []
 listed_if k s (Some c) = listed_as k s c ∷ []
 
 abbrev pub listed_run : Knowledge → Status → List KnownRun
-listed_run k s = listed_if k s (unpacked s.contract.cookie)
+listed_run k s = listed_if k s (cookie_of_bits s.contract.cookie)

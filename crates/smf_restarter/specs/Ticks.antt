@@ -1,5 +1,5 @@
 -- The turns of a restarter, for itself and for an instance, and when it has nothing left to do.
-use Rattle.std.specs.Prelude.{ℕ, ◌==◌, ◌&&◌, ◌||◌, not, List, [], ◌∷◌, Bool, true, false, if◌then◌else◌, Option, Some, None, is_none, is_some, Result, Ok, Err}
+use Rattle.std.specs.Prelude.{ℕ, ◌&&◌, ◌||◌, not, List, [], Bool, true, false, if◌then◌else◌, Option, Some, None, is_none, is_some, Result, Ok, Err}
 use Rattle.std.specs.List.{list_all}
 use Rattle.smf_state.specs.declared.row.Row.{Row}
 use Rattle.smf_state.specs.declared.state.State.{State}
@@ -10,12 +10,11 @@ use Rattle.smf_state.specs.declared.step.Step.{Step}
 use Rattle.smf_state.specs.declared.step.Step.TheVariants as steps
 use Rattle.smf_state.specs.Rows.{is_steady, same_state}
 use Rattle.smf_state.specs.States.{runs}
-use Rattle.smf_contract.specs.declared.cookie.Cookie.{Cookie}
 use Rattle.smf_contract.specs.declared.cookie.CookieFault.{CookieFault}
 use Rattle.smf_contract.specs.declared.cookie.Method.{Method}
 use Rattle.smf_contract.specs.declared.cookie.Method.TheVariants as methods
 use Rattle.smf_contract.specs.declared.terms.Terms.{Terms}
-use Rattle.smf_contract.specs.Cookies.{packed}
+use Rattle.smf_contract.specs.Cookies.{bits_of_cookie}
 use Rattle.smf_method.specs.declared.command.Builtin.{Builtin}
 use Rattle.smf_method.specs.declared.command.Builtin.TheVariants as builtins
 use Rattle.smf_method.specs.Commands.{builtin}
@@ -36,18 +35,18 @@ use Rattle.smf_restarter.specs.declared.reply.Call.{Call}
 use Rattle.smf_restarter.specs.declared.reply.Call.TheVariants as calls
 use Rattle.smf_restarter.specs.declared.reply.Course.TheVariants as courses
 use Rattle.smf_restarter.specs.declared.reply.Reply.{Reply}
-use Rattle.smf_restarter.specs.Changes.{beginning, calling, nothing, sending, turning, unchanged}
-use Rattle.smf_restarter.specs.Ends.{succeeded}
-use Rattle.smf_restarter.specs.Knowledge.{Knowledge, known}
-use Rattle.smf_restarter.specs.Orders.{proposing}
+use Rattle.smf_restarter.specs.Changes.{reply_with_method, reply_with_call, nothing, reply_with_message, change_of_course, no_change}
+use Rattle.smf_restarter.specs.Ends.{end_on_success}
+use Rattle.smf_restarter.specs.Knowledge.{Knowledge, known_instance}
+use Rattle.smf_restarter.specs.Orders.{reply_with_proposal}
 use Rattle.smf_restarter.specs.Runs.{ignores_core, ignores_signal, is_empty, known_run, orphan}
 
 -- ---- the restarter itself
 
 -- it asks for its rows, and then for the contracts
 unfoldable pub own_tick : Knowledge → Stage → Reply
-own_tick k Joining = sending (messages.Join k.name k.launch)
-own_tick k Listing = calling calls.List
+own_tick k Joining = reply_with_message (messages.Join k.name k.launch)
+own_tick k Listing = reply_with_call calls.List
 own_tick k Up = nothing
 
 -- ---- methods that are begun
@@ -87,10 +86,11 @@ begun_of i o =
 -- a run whose cookie has no form begins nothing
 abbrev pub spawning_by : KnownInstance → Owed → Result ℕ CookieFault → Reply
 spawning_by i o (Err e) = nothing
-spawning_by i o (Ok cookie) = beginning (begun_of i o) (calls.Spawn cookie (terms_of o.method i.row)) unchanged
+spawning_by i o (Ok cookie) = reply_with_method (begun_of i o) (calls.Spawn cookie (terms_of o.method i.row)) no_change
 
-abbrev pub spawning : KnownInstance → Owed → Reply
-spawning i o = spawning_by i o (packed (record { instance = i.instance; run = o.run; method = o.method }))
+abbrev pub reply_with_spawn : KnownInstance → Owed → Reply
+reply_with_spawn i o =
+    spawning_by i o (bits_of_cookie (record { instance = i.instance; run = o.run; method = o.method }))
 
 -- the kill of a run's contract, if the run is known and not known empty
 abbrev pub kill_of : Option KnownRun → Call
@@ -99,10 +99,11 @@ kill_of (Some r) = if r.empty then calls.Nothing else calls.Kill r.contract
 
 -- a built-in succeeds at once; `:kill` asks for a kill of the start contract
 abbrev pub built_in : KnownInstance → Owed → Call → Reply
-built_in i o call = beginning (begun_of i o) call (turning i.instance (courses.Ending (succeeded i.row o.method)))
+built_in i o call =
+    reply_with_method (begun_of i o) call (change_of_course i.instance (courses.Ending (end_on_success i.row o.method)))
 
 abbrev pub begun_by : Knowledge → KnownInstance → Owed → Option Builtin → Reply
-begun_by k i o None = spawning i o
+begun_by k i o None = reply_with_spawn i o
 begun_by k i o (Some builtins.True) = built_in i o calls.Nothing
 begun_by k i o (Some builtins.Kill) = built_in i o (kill_of (known_run k i.instance i.row.live))
 
@@ -150,11 +151,12 @@ abbrev pub end_step : Row → Ending → Option KnownRun → Step
 end_step r e live = steps.End e.to (keeps r e.to live) e.failed e.cause
 
 abbrev pub ending_by : Knowledge → KnownInstance → Ending → Call → Reply
-ending_by k i e calls.Nothing = proposing k i (end_step i.row e (known_run k i.instance i.row.live)) afters.Idle []
-ending_by k i e call = calling call
+ending_by k i e calls.Nothing =
+    reply_with_proposal k i (end_step i.row e (known_run k i.instance i.row.live)) afters.Idle []
+ending_by k i e call = reply_with_call call
 
-abbrev pub ending : Knowledge → KnownInstance → Ending → Reply
-ending k i e = ending_by k i e (drain_call k i e.drain)
+abbrev pub reply_with_end : Knowledge → KnownInstance → Ending → Reply
+reply_with_end k i e = ending_by k i e (drain_call k i e.drain)
 
 -- ---- notes
 
@@ -184,7 +186,8 @@ note_due r live = if is_steady r && is_some r.live then note_bits r.duration liv
 
 abbrev pub noted_by : Knowledge → KnownInstance → Option KnownRun → Option ℕ → Reply
 noted_by k i live None = nothing
-noted_by k i live (Some bits) = proposing k i (steps.Note (record { 0 = bits }) (not (is_empty live))) afters.Idle []
+noted_by k i live (Some bits) =
+    reply_with_proposal k i (steps.Note (record { 0 = bits }) (not (is_empty live))) afters.Idle []
 
 abbrev pub note : Knowledge → KnownInstance → Option KnownRun → Reply
 note k i live = noted_by k i live (note_due i.row live)
@@ -193,14 +196,14 @@ note k i live = noted_by k i live (note_due i.row live)
 
 abbrev pub adopting_or : Option KnownRun → Reply → Reply
 adopting_or None otherwise = otherwise
-adopting_or (Some r) otherwise = calling (calls.Adopt r.contract)
+adopting_or (Some r) otherwise = reply_with_call (calls.Adopt r.contract)
 
 -- before all else an orphan is adopted, unless a method runs or an answer is awaited
 abbrev pub ticked_in : Knowledge → KnownInstance → Phase → Reply
-ticked_in k i (Waiting p after) = sending (messages.Propose p)
+ticked_in k i (Waiting p after) = reply_with_message (messages.Propose p)
 ticked_in k i (Running m) = nothing
 ticked_in k i (Owes o) = adopting_or (orphan k i.instance) (begun_by k i o (builtin o.call.command))
-ticked_in k i (Ends e) = adopting_or (orphan k i.instance) (ending k i e)
+ticked_in k i (Ends e) = adopting_or (orphan k i.instance) (reply_with_end k i e)
 ticked_in k i Idle = adopting_or (orphan k i.instance) (note k i (known_run k i.instance i.row.live))
 
 abbrev pub ticked_known : Knowledge → Option KnownInstance → Reply
@@ -208,11 +211,11 @@ ticked_known k None = nothing
 ticked_known k (Some i) = ticked_in k i i.phase
 
 abbrev pub ticked_up : Knowledge → ℕ → Stage → Reply
-ticked_up k n Up = ticked_known k (known k n)
+ticked_up k n Up = ticked_known k (known_instance k n)
 ticked_up k n _ = nothing
 
-unfoldable pub ticked : Knowledge → ℕ → Reply
-ticked k n = ticked_up k n k.stage
+unfoldable pub reply_to_tick : Knowledge → ℕ → Reply
+reply_to_tick k n = ticked_up k n k.stage
 
 -- ---- at rest
 

@@ -1,12 +1,12 @@
 -- The instances that are not at rest, and what is kept of them.
 use Rattle.std.specs.Prelude.{◌≡◌, ◌+◌, ◌≤◌, ℕ, not, List, [], ◌∷◌, map, filter, Bool, true, false, Option, Some, None, option_map}
 use Rattle.std.specs.Ordering.{is_eq, nat_cmp}
-use Rattle.smf_fmri.specs.ByKey.{By, Rises, WithRoom, by_number, lookup, put, without}
+use Rattle.smf_fmri.specs.ByKey.{By, Rises, WithRoom, by_number, lookup, list_with_item, without}
 use Rattle.smf_restarter.specs.declared.known.KnownInstance.{KnownInstance}
 use Rattle.smf_restarter.specs.declared.known.KnownRun.{KnownRun}
 use Rattle.smf_restarter.specs.declared.reply.Ready.{Ready}
 use Rattle.smf_restarter.specs.Knowledge.{Knowledge, at_first, by_instance, by_run}
-use Rattle.smf_restarter.specs.Ticks.{rests, ticked}
+use Rattle.smf_restarter.specs.Ticks.{rests, reply_to_tick}
 
 -- instances and runs stand in the order of their keys
 abbrev pub IsOrdered : Knowledge → Type 0
@@ -34,34 +34,36 @@ restless_if true n = None
 restless_if false n = Some n
 
 -- the number of an instance that is not at rest
-unfoldable pub judged : List KnownRun → Option KnownInstance → Option ℕ
-judged rs None = None
-judged rs (Some i) = restless_if (rests (among rs) i) i.instance
+unfoldable pub restless_number : List KnownRun → Option KnownInstance → Option ℕ
+restless_number rs None = None
+restless_number rs (Some i) = restless_if (rests (among rs) i) i.instance
 
 -- a number is noted, or it is taken out
-abbrev pub noted : Option ℕ → ℕ → List ℕ → List ℕ
-noted None n ns = without by_itself n ns
-noted (Some m) n ns = put by_itself m ns
+abbrev pub numbers_after_note : Option ℕ → ℕ → List ℕ → List ℕ
+numbers_after_note None n ns = without by_itself n ns
+numbers_after_note (Some m) n ns = list_with_item by_itself m ns
 
 -- the numbers are those of the instances that are not at rest
 abbrev pub IsWatched : List ℕ → List KnownInstance → List KnownRun → Type 0
-IsWatched ns is rs = (n : ℕ) → lookup by_itself ns n ≡ judged rs (lookup by_instance is n)
+IsWatched ns is rs = (n : ℕ) → lookup by_itself ns n ≡ restless_number rs (lookup by_instance is n)
 
 -- but that one instance is to be judged again
 abbrev pub IsWatchedBut : ℕ → List ℕ → List KnownInstance → List KnownRun → Type 0
-IsWatchedBut m ns is rs = (n : ℕ) → is_eq (nat_cmp m n) ≡ false → lookup by_itself ns n ≡ judged rs (lookup by_instance is n)
+IsWatchedBut m ns is rs = (n : ℕ) → is_eq (nat_cmp m n) ≡ false
+    → lookup by_itself ns n ≡ restless_number rs (lookup by_instance is n)
 
 -- the reply that is made ahead is that to the tick of its instance
 abbrev pub IsReady : Knowledge → Option Ready → Type 0
 IsReady k None = Unit {0}
-IsReady k (Some r) = r.reply ≡ ticked k r.instance
+IsReady k (Some r) = r.reply ≡ reply_to_tick k r.instance
 
 abbrev pub ready_for : Option Ready → Option ℕ
 ready_for o = option_map (λ r. r.instance) o
 
 -- the lists are watched, and have room for so many more instances and runs, and to note the instances that these touch.
 -- A tick that is made ahead is that of what is known
-pub record IsRestarter (k : Knowledge) (ready : Option Ready) (ns : WithRoom ℕ) (is : WithRoom KnownInstance) (rs : WithRoom KnownRun) (instances runs : ℕ) : Type 0 where
+pub record IsRestarter (k : Knowledge) (ready : Option Ready) (ns : WithRoom ℕ) (is : WithRoom KnownInstance)
+    (rs : WithRoom KnownRun) (instances runs : ℕ) : Type 0 where
   pub watched : IsWatched ns.items is.items rs.items
   pub instances_room : instances ≤ is.room
   pub runs_room : runs ≤ rs.room

@@ -5,20 +5,20 @@
 //! `restarter`.
 #![tactic(auto)]
 
-mod answering;
-mod changing;
-mod ending;
-mod hearing;
+mod answers;
+mod changes;
+mod ends;
 mod known;
 mod orders;
+mod replies;
 mod reply;
 mod restarter;
-mod running;
-mod ticking;
-mod watching;
+mod restless_list;
+mod runs;
+mod ticks;
 
 pub use known::{
     After, Drain, Ending, KnownInstance, KnownRun, Owed, Phase, RunKey, RunningMethod, Stage,
 };
-pub use reply::{Answer, Begun, Call, Change, Course, Reply, Turn};
+pub use reply::{Answer, Begun, Call, Course, CourseChange, KnowledgeChange, Reply};
 pub use restarter::Restarter;

@@ -1,18 +1,19 @@
 //! The proposals of a restarter.
 
 ghost use Rattle.std.specs.Prelude.{◌≡◌, IfOk, OnErr, true};
-ghost use Rattle.smf_restarter.specs.Orders.{ordered, owed_by, proposing, refreshing, start_step, starting, stopping, waiting};
+ghost use Rattle.smf_restarter.specs.Orders.{reply_to_order, owed_by, reply_with_proposal, reply_to_refresh, start_step, reply_to_start, reply_to_stop, waiting_instance};
 ghost use Rattle.smf_restarter.specs.Room.{needs_memory};
 
-use crate::changing::{nothing, putting, sending};
-use crate::ending::{ended_refresh, stopped};
+use crate::changes::{change_of_instance, nothing, reply_with_message};
+use crate::ends::{end_of_stop, ended_refresh};
 use crate::known::{After, KnownInstance, Owed, Phase};
 use crate::reply::Reply;
 use crate::restarter::Restarter;
 use smf_contract::Method;
 use smf_fmri::Items;
+use smf_fmri::limits::MAX_RUN;
 use smf_method::MethodCall;
-use smf_state::{Cause, Duration, Ignore, MAX_RUN, Proposal, SharedRow, State, Step};
+use smf_state::{Cause, Duration, Ignore, Proposal, SharedRow, State, Step};
 use smf_wire::{Known, Message, Order, What};
 use std::alloc::{AllocError, Global};
 
@@ -35,18 +36,18 @@ pub(crate) fn with(
 }
 
 /// The same instance, waiting for the answer to a proposal.
-fn waiting(
+fn waiting_instance(
     known: &KnownInstance,
     proposal: Proposal,
     after: After,
 ) -> Result<KnownInstance, AllocError>
-    ensures { IfOk result (λ i. i ≡ waiting known.now proposal after) }
+    ensures { IfOk result (λ i. i ≡ waiting_instance known.now proposal after) }
 {
     with(known, &known.row, Phase::Waiting { proposal, after })
 }
 
 /// Proposes a step under the next serial and the next number. If either has run out, it does nothing.
-pub(crate) fn proposing(
+pub(crate) fn reply_with_proposal(
     alloc: Global,
     restarter: &Restarter,
     known: &KnownInstance,
@@ -54,9 +55,9 @@ pub(crate) fn proposing(
     after: After,
     taken: Items<Known>,
 ) -> Result<Reply, AllocError>
-    ensures exact { IfOk result (λ r. r ≡ proposing restarter.now.known known.now step after taken) }
+    ensures exact { IfOk result (λ r. r ≡ reply_with_proposal restarter.now.known known.now step after taken) }
     ensures memory { OnErr result
-        (needs_memory (proposing restarter.now.known known.now step after taken) ≡ true) }
+        (needs_memory (reply_with_proposal restarter.now.known known.now step after taken) ≡ true) }
 {
     let Some(serial) = restarter.serial.next() else {
         return Ok(nothing(alloc));
@@ -72,8 +73,8 @@ pub(crate) fn proposing(
         number,
         step,
     };
-    let mut reply = sending(alloc, Message::Propose(proposal.clone()?))?;
-    reply.change = putting(alloc, waiting(known, proposal, after)?)?;
+    let mut reply = reply_with_message(alloc, Message::Propose(proposal.clone()?))?;
+    reply.change = change_of_instance(alloc, waiting_instance(known, proposal, after)?)?;
     reply.change.serial = Some(serial);
     reply.taken = taken;
     Ok(reply)
@@ -105,7 +106,7 @@ fn owed_by(order: &Order, method: Method, run: u64, call: &MethodCall) -> Result
 }
 
 /// Proposes the start of an order. If no run is left, it proposes maintenance.
-fn starting(
+fn reply_to_start(
     alloc: Global,
     restarter: &Restarter,
     known: &KnownInstance,
@@ -115,21 +116,22 @@ fn starting(
     duration: Duration,
     ignore: Ignore,
 ) -> Result<Reply, AllocError>
-    ensures { IfOk result (λ r. r ≡ starting restarter.now.known known.now order.now taken call.now duration ignore) }
+    ensures { IfOk result
+        (λ r. r ≡ reply_to_start restarter.now.known known.now order.now taken call.now duration ignore) }
 {
     if known.row.last < MAX_RUN {
         let run = known.row.last + 1;
         let step = start_step(order, run, duration, ignore);
         let after = owed_by(order, Method::Start, run, call)?;
-        proposing(alloc, restarter, known, step, after, taken)
+        reply_with_proposal(alloc, restarter, known, step, after, taken)
     } else {
         let step = Step::Move(State::Maintenance);
-        proposing(alloc, restarter, known, step, After::Idle, taken)
+        reply_with_proposal(alloc, restarter, known, step, After::Idle, taken)
     }
 }
 
 /// Proposes the stop of an order. The method runs if the order has one and a run is left for it.
-fn stopping(
+fn reply_to_stop(
     alloc: Global,
     restarter: &Restarter,
     known: &KnownInstance,
@@ -139,7 +141,7 @@ fn stopping(
     cause: Cause,
     call: &Option<MethodCall>,
 ) -> Result<Reply, AllocError>
-    ensures { IfOk result (λ r. r ≡ stopping restarter.now.known known.now order.now taken to cause call.now) }
+    ensures { IfOk result (λ r. r ≡ reply_to_stop restarter.now.known known.now order.now taken to cause call.now) }
 {
     match call {
         Some(call) if known.row.last < MAX_RUN => {
@@ -147,19 +149,19 @@ fn stopping(
             let after = owed_by(order, Method::Stop, run, call)?;
             let run = Some(run);
             let step = Step::Stop { to, cause, run };
-            proposing(alloc, restarter, known, step, after, taken)
+            reply_with_proposal(alloc, restarter, known, step, after, taken)
         }
         _ => {
             let run = None;
             let step = Step::Stop { to, cause, run };
-            let after = After::Ending(stopped(to, cause));
-            proposing(alloc, restarter, known, step, after, taken)
+            let after = After::Ending(end_of_stop(to, cause));
+            reply_with_proposal(alloc, restarter, known, step, after, taken)
         }
     }
 }
 
 /// Proposes the refresh of an order. The method runs if the order has one and a run is left for it.
-fn refreshing(
+fn reply_to_refresh(
     alloc: Global,
     restarter: &Restarter,
     known: &KnownInstance,
@@ -167,48 +169,50 @@ fn refreshing(
     taken: Items<Known>,
     call: &Option<MethodCall>,
 ) -> Result<Reply, AllocError>
-    ensures { IfOk result (λ r. r ≡ refreshing restarter.now.known known.now order.now taken call.now) }
+    ensures { IfOk result (λ r. r ≡ reply_to_refresh restarter.now.known known.now order.now taken call.now) }
 {
     match call {
         Some(call) if known.row.last < MAX_RUN => {
             let run = known.row.last + 1;
             let after = owed_by(order, Method::Refresh, run, call)?;
             let step = Step::Refresh { run: Some(run) };
-            proposing(alloc, restarter, known, step, after, taken)
+            reply_with_proposal(alloc, restarter, known, step, after, taken)
         }
         _ => {
             let step = Step::Refresh { run: None };
             let after = After::Ending(ended_refresh(&known.row));
-            proposing(alloc, restarter, known, step, after, taken)
+            reply_with_proposal(alloc, restarter, known, step, after, taken)
         }
     }
 }
 
 /// Proposes what an order tells, for an instance with which nothing is being done.
-pub(crate) fn ordered(
+pub(crate) fn reply_to_order(
     alloc: Global,
     restarter: &Restarter,
     known: &KnownInstance,
     order: &Order,
     taken: Items<Known>,
 ) -> Result<Reply, AllocError>
-    ensures { IfOk result (λ r. r ≡ ordered restarter.now.known known.now order.now taken) }
+    ensures { IfOk result (λ r. r ≡ reply_to_order restarter.now.known known.now order.now taken) }
 {
     match &order.what {
         What::To(state) => {
             let step = Step::Move(*state);
-            proposing(alloc, restarter, known, step, After::Idle, taken)
+            reply_with_proposal(alloc, restarter, known, step, After::Idle, taken)
         }
         What::Start {
             method,
             duration,
             ignore,
-        } => starting(
+        } => reply_to_start(
             alloc, restarter, known, order, taken, method, *duration, *ignore,
         ),
         What::Stop { to, cause, method } => {
-            stopping(alloc, restarter, known, order, taken, *to, *cause, method)
+            reply_to_stop(alloc, restarter, known, order, taken, *to, *cause, method)
         }
-        What::Refresh { method } => { refreshing(alloc, restarter, known, order, taken, method) }
+        What::Refresh { method } => {
+            reply_to_refresh(alloc, restarter, known, order, taken, method)
+        }
     }
 }

@@ -1,7 +1,7 @@
 use crate::known::{Ending, KnownInstance, KnownRun, RunningMethod, Stage};
 use smf_contract::{Method, Terms};
 use smf_fmri::{Items, Number};
-use smf_method::Command;
+use smf_method::CommandText;
 use smf_wire::{Known, Message};
 
 /// A method that is begun.
@@ -12,7 +12,7 @@ pub struct Begun {
     pub method: Method,
     /// The revision that its order was decided on.
     pub revision: u64,
-    pub command: Command,
+    pub command: CommandText,
 }
 
 /// A call of a restarter on the contracts.
@@ -49,20 +49,20 @@ pub enum Course {
 
 /// An instance that takes another course.
 #[derive(Clone, Copy)]
-pub struct Turn {
+pub struct CourseChange {
     pub instance: u64,
     pub course: Course,
 }
 
 /// The change of what a restarter knows.
 #[derive(Drop)]
-pub struct Change {
+pub struct KnowledgeChange {
     pub stage: Option<Stage>,
     /// The serial of the last proposal.
     pub serial: Option<Number>,
     /// Instances that are known, or known otherwise, from now on.
     pub put: Items<KnownInstance>,
-    pub turn: Option<Turn>,
+    pub turn: Option<CourseChange>,
     pub forget: Option<u64>,
     /// Runs that the list of contracts names.
     pub listed: Items<KnownRun>,
@@ -73,7 +73,7 @@ pub struct Change {
 /// its call. A method whose call is a spawn begins if the spawn is made. Any other method is built in.
 #[derive(Drop)]
 pub struct Reply {
-    pub change: Change,
+    pub change: KnowledgeChange,
     /// None or one.
     pub messages: Items<Message>,
     pub taken: Items<Known>,

@@ -1,20 +1,20 @@
 ghost use Rattle.std.specs.Option.{option_copied};
 ghost use Rattle.std.specs.Prelude.{◌≡◌, ◌+◌, ◌<◌, ◌≤◌, ◌⊎◌, length, option_to_list, option_map, true, IfOk, None, OnErr, OnOk, Some};
-ghost use Rattle.smf_fmri.specs.ByKey.{put, put_all};
-ghost use Rattle.smf_restarter.specs.Answers.{answered, listed, reported, timed_out};
-ghost use Rattle.smf_restarter.specs.Changes.{changed, forgotten, nothing, phase_on, turned, unchanged};
-ghost use Rattle.smf_restarter.specs.Knowledge.{at_first, by_instance, by_run, known};
-ghost use Rattle.smf_restarter.specs.Replies.{heard};
+ghost use Rattle.smf_fmri.specs.ByKey.{list_with_item, put_all};
+ghost use Rattle.smf_restarter.specs.Answers.{change_on_answer, change_on_list, change_on_report, timed_out};
+ghost use Rattle.smf_restarter.specs.Changes.{knowledge_after, instances_without, nothing, phase_on, instances_after_turn, no_change};
+ghost use Rattle.smf_restarter.specs.Knowledge.{at_first, by_instance, by_run, known_instance};
+ghost use Rattle.smf_restarter.specs.Replies.{reply_to_message};
 ghost use Rattle.smf_restarter.specs.Room.{HasPlace, IsSpawn, needs_memory};
-ghost use Rattle.smf_restarter.specs.Ticks.{at_rest, own_tick, ticked};
+ghost use Rattle.smf_restarter.specs.Ticks.{at_rest, own_tick, reply_to_tick};
 ghost use Rattle.smf_restarter.specs.Watched.{IsOrdered, IsWatched, restless};
 
-use crate::answering::{answered, listed, reported, timed_out};
-use crate::hearing::heard;
+use crate::answers::{change_on_answer, change_on_list, change_on_report, timed_out};
 use crate::known::{KnownInstance, KnownRun, Phase, Stage};
-use crate::reply::{Answer, Change, Course, Ready, Reply, Turn};
-use crate::ticking::{own_tick, ticked};
-use crate::watching::{has_none, is_noted, is_up, judge, reserve_touched};
+use crate::replies::reply_to_message;
+use crate::reply::{Answer, Course, CourseChange, KnowledgeChange, Ready, Reply};
+use crate::restless_list::{has_none, is_noted, is_up, judge, reserve_touched};
+use crate::ticks::{own_tick, reply_to_tick};
 use smf_contract::{Report, Status};
 use smf_fmri::{InstanceFmri, Items, Number, Table};
 use smf_wire::Message;
@@ -42,13 +42,13 @@ pub struct Restarter {
 }
 
 impl Model for Restarter {
-    ghost use Rattle.smf_restarter.specs.Knowledge.{Kept, Knowledge, kept};
+    ghost use Rattle.smf_restarter.specs.Knowledge.{Kept, kept_knowledge};
     ghost use Rattle.smf_restarter.specs.Watched.{IsRestarter, ready_for};
 
     ghost Value = { Kept };
 
     ghost view = { λ r.
-        kept (record {
+        kept_knowledge (record {
           name = r.name;
           actor = r.actor;
           launch = r.launch;
@@ -129,17 +129,17 @@ impl Restarter {
     }
 
     /// The instance of a number.
-    pub(crate) fn known(&self, instance: u64) -> Option<&KnownInstance>
-        ensures { option_copied result ≡ known self.now.known instance }
+    pub(crate) fn known_instance(&self, instance: u64) -> Option<&KnownInstance>
+        ensures { option_copied result ≡ known_instance self.now.known instance }
     {
         self.instances.get(&instance)
     }
 
     /// Its reply to a message that names it.
-    pub fn heard(&self, message: &Message) -> Result<Reply, AllocError>
-        ensures { IfOk result (λ r. r ≡ heard self.now.known message.now) }
+    pub fn reply_to_message(&self, message: &Message) -> Result<Reply, AllocError>
+        ensures { IfOk result (λ r. r ≡ reply_to_message self.now.known message.now) }
     {
-        heard(self.alloc, self, message)
+        reply_to_message(self.alloc, self, message)
     }
 
     /// Its reply to a tick of its own. It needs memory only for a message.
@@ -153,19 +153,19 @@ impl Restarter {
     /// Its reply to a tick of an instance. It needs memory only to send a message, or to begin a method, whose command
     /// it copies. The change needs room for one instance and one run at most. A spawn changes nothing before its
     /// answer.
-    pub fn ticked(&self, instance: u64) -> Result<Reply, AllocError>
-        ensures exact { IfOk result (λ r. r ≡ ticked self.now.known instance) }
-        ensures memory { OnErr result (needs_memory (ticked self.now.known instance) ≡ true) }
+    pub fn reply_to_tick(&self, instance: u64) -> Result<Reply, AllocError>
+        ensures exact { IfOk result (λ r. r ≡ reply_to_tick self.now.known instance) }
+        ensures memory { OnErr result (needs_memory (reply_to_tick self.now.known instance) ≡ true) }
         ensures room { IfOk result (λ r. HasPlace r.change 1 1) }
-        ensures still { IfOk result (λ r. IsSpawn r.call → r.change ≡ unchanged) }
+        ensures still { IfOk result (λ r. IsSpawn r.call → r.change ≡ no_change) }
     {
-        ticked(self.alloc, self, instance)
+        reply_to_tick(self.alloc, self, instance)
     }
 
     /// True if it finds at once that a tick of an instance does nothing.
-    #[tactic(auto, unfolding(crate::specs::Ticks::ticked))]
+    #[tactic(auto, unfolding(crate::specs::Ticks::reply_to_tick))]
     pub fn rests_on(&self, instance: u64) -> bool
-        ensures { result ≡ true → ticked self.now.known instance ≡ nothing }
+        ensures { result ≡ true → reply_to_tick self.now.known instance ≡ nothing }
     {
         if self.stage != Stage::Up {
             return true;
@@ -184,31 +184,31 @@ impl Restarter {
     }
 
     /// The change that the list of all contracts makes to it.
-    pub fn listed(&self, statuses: &[Status]) -> Result<Change, AllocError>
-        ensures { IfOk result (λ c. c ≡ listed self.now.known statuses.now) }
+    pub fn change_on_list(&self, statuses: &[Status]) -> Result<KnowledgeChange, AllocError>
+        ensures { IfOk result (λ c. c ≡ change_on_list self.now.known statuses.now) }
     {
-        listed(self.alloc, self, statuses)
+        change_on_list(self.alloc, self, statuses)
     }
 
     /// The change that the answer to the call of an instance's tick makes to it. The change needs room for one run.
-    pub fn answered(&self, instance: u64, answer: Answer) -> Change
-        ensures exact { result ≡ answered self.now.known instance answer }
+    pub fn change_on_answer(&self, instance: u64, answer: Answer) -> KnowledgeChange
+        ensures exact { result ≡ change_on_answer self.now.known instance answer }
         ensures room { HasPlace result 0 1 }
     {
-        answered(self.alloc, self, instance, &answer)
+        change_on_answer(self.alloc, self, instance, &answer)
     }
 
     /// The change that the report of a contract's event makes to it. The change needs room for one run.
-    pub fn reported(&self, report: &Report) -> Change
-        ensures exact { result ≡ reported self.now.known report.now }
+    pub fn change_on_report(&self, report: &Report) -> KnowledgeChange
+        ensures exact { result ≡ change_on_report self.now.known report.now }
         ensures room { HasPlace result 0 1 }
     {
-        reported(self.alloc, self, report)
+        change_on_report(self.alloc, self, report)
     }
 
     /// The change that it makes when the method that runs for an instance has taken too long. The change needs room for
     /// one run.
-    pub fn timed_out(&self, instance: u64) -> Change
+    pub fn timed_out(&self, instance: u64) -> KnowledgeChange
         ensures exact { result ≡ timed_out self.now.known instance }
         ensures room { HasPlace result 0 1 }
     {
@@ -260,7 +260,7 @@ impl Restarter {
         ensures instances_room { OnOk result (1 ≤ self.new.instances_room) }
         ensures runs_room { OnOk result (1 ≤ self.new.runs_room) }
         ensures missing { OnErr result
-            (((self.old.instances_room < 1) ⊎ (self.old.runs_room < 1)) ⊎ (needs_memory (ticked self.old.known instance) ≡ true)) }
+            (((self.old.instances_room < 1) ⊎ (self.old.runs_room < 1)) ⊎ (needs_memory (reply_to_tick self.old.known instance) ≡ true)) }
     {
         match self.reserve(1, 1) {
             Err(fault) => Err(fault),
@@ -273,9 +273,9 @@ impl Restarter {
         ensures ready { OnOk result (self.new.ready ≡ Some instance) }
         ensures instances_room { self.new.instances_room ≡ self.old.instances_room }
         ensures runs_room { self.new.runs_room ≡ self.old.runs_room }
-        ensures missing { OnErr result (needs_memory (ticked self.old.known instance) ≡ true) }
+        ensures missing { OnErr result (needs_memory (reply_to_tick self.old.known instance) ≡ true) }
     {
-        match self.ticked(instance) {
+        match self.reply_to_tick(instance) {
             Err(fault) => Err(fault),
             Ok(reply) => {
                 set_ready(&mut self.ready, Some(Ready { instance, reply }));
@@ -287,7 +287,7 @@ impl Restarter {
     /// Its reply to the tick that was made ahead, if one was. It takes no memory. A change of what is known drops that
     /// tick.
     pub fn take_tick(&mut self) -> Option<Reply>
-        ensures reply { result ≡ option_map (ticked self.old.known) self.old.ready }
+        ensures reply { result ≡ option_map (reply_to_tick self.old.known) self.old.ready }
         ensures taken { self.new ≡ record self.old { ready = None } }
     {
         match self.ready.take() {
@@ -297,13 +297,13 @@ impl Restarter {
     }
 
     /// Makes a change, for which there is room.
-    #[tactic(auto, unfolding(crate::specs::Changes::changed))]
-    pub fn change(&mut self, change: Change)
+    #[tactic(auto, unfolding(crate::specs::Changes::knowledge_after))]
+    pub fn change(&mut self, change: KnowledgeChange)
         requires instances_room { length change.put ≤ self.old.instances_room }
         requires runs_room { length change.listed + 1 ≤ self.old.runs_room }
-        ensures { self.new.known ≡ changed self.old.known change }
+        ensures { self.new.known ≡ knowledge_after self.old.known change }
     {
-        let Change {
+        let KnowledgeChange {
             stage,
             serial,
             put,
@@ -349,7 +349,7 @@ fn put_known(
     requires watched { IsWatched restless.old.items instances.old.items runs.now.items }
     requires room { 0 < instances.old.room }
     requires touched { 0 < restless.old.room }
-    ensures items { instances.new.items ≡ put by_instance known instances.old.items }
+    ensures items { instances.new.items ≡ list_with_item by_instance known instances.old.items }
     ensures room { instances.old.room ≤ instances.new.room + 1 }
     ensures touched { restless.old.room ≤ restless.new.room + 1 }
     ensures watched { IsWatched restless.new.items instances.new.items runs.now.items }
@@ -392,11 +392,11 @@ fn turn_in(
     instances: &mut Table<KnownInstance>,
     restless: &mut Table<u64>,
     runs: &Table<KnownRun>,
-    turn: Option<Turn>,
+    turn: Option<CourseChange>,
 )
     requires watched { IsWatched restless.old.items instances.old.items runs.now.items }
     requires touched { 0 < restless.old.room }
-    ensures items { instances.new.items ≡ turned turn instances.old.items }
+    ensures items { instances.new.items ≡ instances_after_turn turn instances.old.items }
     ensures touched { restless.old.room ≤ restless.new.room + 1 }
     ensures watched { IsWatched restless.new.items instances.new.items runs.now.items }
 {
@@ -413,7 +413,7 @@ fn forget_in(
     forget: Option<u64>,
 )
     requires { IsWatched restless.old.items instances.old.items runs.now.items }
-    ensures items { instances.new.items ≡ forgotten forget instances.old.items }
+    ensures items { instances.new.items ≡ instances_without forget instances.old.items }
     ensures watched { IsWatched restless.new.items instances.new.items runs.now.items }
 {
     if let Some(instance) = forget {
@@ -432,7 +432,7 @@ fn put_run(
     requires watched { IsWatched restless.old.items instances.now.items runs.old.items }
     requires room { 0 < runs.old.room }
     requires touched { 0 < restless.old.room }
-    ensures items { runs.new.items ≡ put by_run run runs.old.items }
+    ensures items { runs.new.items ≡ list_with_item by_run run runs.old.items }
     ensures room { runs.old.room ≤ runs.new.room + 1 }
     ensures touched { restless.old.room ≤ restless.new.room + 1 }
     ensures watched { IsWatched restless.new.items instances.now.items runs.new.items }

@@ -1,6 +1,6 @@
-pub mod Answering
-pub mod Doing
-pub mod Going
-pub mod Parting
-pub mod Agreeing
-pub mod Settling
+pub mod Replies
+pub mod Effects
+pub mod Steps
+pub mod NodeEvents
+pub mod Agreement
+pub mod RoundFaults

@@ -3,16 +3,16 @@ use Rattle.std.specs.Prelude.{◌≡◌, ◌⊎◌, []}
 use Rattle.smf_contract.specs.Entries.{empty}
 use Rattle.smf_drive.specs.Agrees.{Agrees}
 use Rattle.smf_edge.specs.Ledgers.{Ledger}
-use Rattle.smf_edge.specs.Steps.{restarted}
+use Rattle.smf_edge.specs.Steps.{ledger_after_boot}
 use Rattle.smf_world.specs.World.{World}
 
 -- the ledger of children that were asked nothing yet
-abbrev pub unasked : Ledger
-unasked = record { notes = []; table = empty; due = []; pending = [] }
+abbrev pub empty_ledger : Ledger
+empty_ledger = record { notes = []; table = empty; due = []; pending = [] }
 
 -- children dropped all that they had, and the node did not boot after that
 abbrev pub HasDropped : World → Ledger → Type 0
-HasDropped w l = (k : Ledger) × Agrees w k × (l ≡ restarted k)
+HasDropped w l = (k : Ledger) × Agrees w k × (l ≡ ledger_after_boot k)
 
 -- they agree, or a boot went no further than that
 abbrev pub AgreesOrDropped : World → Ledger → Type 0

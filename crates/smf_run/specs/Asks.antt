@@ -4,8 +4,8 @@ use Rattle.smf_edge.specs.declared.deed.Happening.{Happening}
 use Rattle.smf_edge.specs.declared.fault.KidsFault.{KidsFault}
 use Rattle.smf_edge.specs.declared.fault.KidsFault.TheVariants.{Refused, NotFollowed, NoChild, NotHere, Memory, Device}
 use Rattle.smf_edge.specs.Answers.{MayNotAnswer, MayNotDo, Seen, Skills}
-use Rattle.smf_edge.specs.Ledgers.{Ledger, left}
-use Rattle.smf_edge.specs.Steps.{IsJoined, IsKilled, happened, restarted}
+use Rattle.smf_edge.specs.Ledgers.{Ledger, members_left}
+use Rattle.smf_edge.specs.Steps.{IsJoined, IsKilled, ledger_with_member_event, ledger_after_boot}
 use Rattle.smf_script.specs.Session.{Deed, no_member, not_here}
 use Rattle.smf_words.specs.Text.{line_end}
 use Rattle.smf_world.specs.Schedule.{Progress}
@@ -27,16 +27,17 @@ is_here k to_reboot = k.acts
 
 -- the ledger that they keep if they did it
 abbrev pub IsDone : Ask → Ledger → Ledger → Type 0
-IsDone (to_act id happening) old new = new ≡ happened old id happening
+IsDone (to_act id happening) old new = new ≡ ledger_with_member_event old id happening
 IsDone (to_join id) old new = IsJoined id old new
 IsDone (to_kill id) old new = IsKilled id old new
-IsDone to_reboot old new = new ≡ restarted old
+IsDone to_reboot old new = new ≡ ledger_after_boot old
 
 -- why they did not
 abbrev pub MayNot : Skills → Ask → Seen → Seen → KidsFault → Type 0
-MayNot k (to_act id happening) old new why = MayNotDo k k.acts (left old.ledger id) old.failures new.failures why
-MayNot k (to_join id) old new why = MayNotDo k k.joins (left old.ledger id) old.failures new.failures why
-MayNot k (to_kill id) old new why = MayNotDo k true (left old.ledger id) old.failures new.failures why
+MayNot k (to_act id happening) old new why =
+    MayNotDo k k.acts (members_left old.ledger id) old.failures new.failures why
+MayNot k (to_join id) old new why = MayNotDo k k.joins (members_left old.ledger id) old.failures new.failures why
+MayNot k (to_kill id) old new why = MayNotDo k true (members_left old.ledger id) old.failures new.failures why
 MayNot k to_reboot old new why = MayNotAnswer k k.acts old.failures new.failures why
 
 -- they were asked, and answered so: what they did not do changed nothing of what they keep
@@ -69,11 +70,12 @@ HadMemory (Err Memory) = ⊥
 HadMemory _ = Unit {0}
 
 -- the node stays as it is
-abbrev pub said : Progress → Result (Unit {0}) KidsFault → Deed
-said p answer = record { progress = p; text = answer_text answer; fine = is_ok answer }
+abbrev pub deed_of_answer : Progress → Result (Unit {0}) KidsFault → Deed
+deed_of_answer p answer = record { progress = p; text = answer_text answer; fine = is_ok answer }
 
 -- children were asked, and a line gave by their answer what `deed_by` says
-pub record HasAsked (k : Skills) (ask : Ask) (deed_by : Result (Unit {0}) KidsFault → Deed) (old new : Seen) (d : Deed) : Type 0 where
+pub record HasAsked (k : Skills) (ask : Ask) (deed_by : Result (Unit {0}) KidsFault → Deed) (old new : Seen)
+    (d : Deed) : Type 0 where
   pub answer : Result (Unit {0}) KidsFault
   pub answered : HasAnswered k ask answer old new
   pub had_memory : HadMemory answer

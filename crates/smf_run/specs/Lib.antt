@@ -1,6 +1,6 @@
 pub mod Asks
 pub mod Lines
-pub mod Failing
+pub mod Failures
 pub mod Scripts
 pub mod Ends
 pub mod Agreed

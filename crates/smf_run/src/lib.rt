@@ -5,10 +5,10 @@
 //! `script`.
 #![tactic(auto)]
 
-mod acting;
-mod ending;
+mod actions;
+mod ends;
 mod lines;
 mod script;
 
-pub use ending::end_all;
+pub use ends::end_all;
 pub use script::run_script;

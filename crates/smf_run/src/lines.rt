@@ -1,13 +1,13 @@
 ghost use Rattle.std.specs.Prelude.{IfErr, IfOk, string_bytes};
 ghost use Rattle.smf_drive.specs.Moves.{Moves};
-ghost use Rattle.smf_edge.specs.Answers.{seen};
-ghost use Rattle.smf_run.specs.Failing.{IsCutShort, LineFails};
+ghost use Rattle.smf_edge.specs.Answers.{children_state};
+ghost use Rattle.smf_run.specs.Failures.{IsCutShort, LineFails};
 ghost use Rattle.smf_run.specs.Lines.{HasDone, HasPut, HasSettled, deed, effect};
 ghost use Rattle.smf_script.specs.Faults.{MayStop};
 ghost use Rattle.smf_words.specs.Request.{request_of};
 ghost use Rattle.smf_world.specs.Reached.{IsLater};
 
-use crate::acting::{boot, join, process};
+use crate::actions::{boot, join, process};
 use smf_drive::drive;
 use smf_edge::Kids;
 use smf_model::Journal;
@@ -25,11 +25,11 @@ fn settle<J: Journal, K: Kids>(
     out: &mut String,
 ) -> Result<bool, NodeFault>
     ensures exact { IfOk result (λ fine. HasPut (λ text.
-        HasSettled K.skills rounds node.old (seen (K.ledger kids.old) (K.failures kids.old)) (seen (K.ledger kids.new) (K.failures kids.new)) (deed node.new fine text))
+        HasSettled K.skills rounds node.old (children_state (K.ledger kids.old) (K.failures kids.old)) (children_state (K.ledger kids.new) (K.failures kids.new)) (deed node.new fine text))
         (string_bytes out.old) (string_bytes out.new)) }
     ensures moves { Moves node.old.world node.new.world (K.ledger kids.old) (K.ledger kids.new) }
     ensures err { IfErr result (λ e.
-        IsCutShort K.skills J.write_fails rounds node.old (seen (K.ledger kids.old) (K.failures kids.old)) node.new (seen (K.ledger kids.new) (K.failures kids.new)) e) }
+        IsCutShort K.skills J.write_fails rounds node.old (children_state (K.ledger kids.old) (K.failures kids.old)) node.new (children_state (K.ledger kids.new) (K.failures kids.new)) e) }
     ensures later { IsLater node.old.world node.new.world }
     ensures fault { IfErr result (λ e. MayStop J.write_fails e) }
 {
@@ -47,9 +47,12 @@ fn do_request<J: Journal, K: Kids>(
     out: &mut String,
 ) -> Result<bool, NodeFault>
     ensures exact { IfOk result (λ fine. HasPut (λ text.
-        HasDone K.skills request.now (record { progress = node.old; selection = selection.old }) (seen (K.ledger kids.old) (K.failures kids.old)) (seen (K.ledger kids.new) (K.failures kids.new)) (effect (record { progress = node.new; selection = selection.new }) fine text))
+        HasDone K.skills request.now (record { progress = node.old; selection = selection.old }) (children_state (K.ledger kids.old) (K.failures kids.old)) (children_state (K.ledger kids.new) (K.failures kids.new)) (effect (record { progress = node.new; selection = selection.new }) fine text))
         (string_bytes out.old) (string_bytes out.new)) }
-    ensures err { IfErr result (λ e. LineFails K.skills J.write_fails request.now (record { progress = node.old; selection = selection.old }) (seen (K.ledger kids.old) (K.failures kids.old)) (seen (K.ledger kids.new) (K.failures kids.new)) node.new e) }
+    ensures err { IfErr result
+        (λ e. LineFails K.skills J.write_fails request.now (record { progress = node.old; selection = selection.old })
+        (children_state (K.ledger kids.old) (K.failures kids.old))
+        (children_state (K.ledger kids.new) (K.failures kids.new)) node.new e) }
     ensures later { IsLater node.old.world node.new.world }
     ensures fault { IfErr result (λ e. MayStop J.write_fails e) }
 {
@@ -72,9 +75,13 @@ pub(crate) fn run_line<J: Journal, K: Kids>(
     out: &mut String,
 ) -> Result<bool, NodeFault>
     ensures exact { IfOk result (λ fine. HasPut (λ text.
-        HasDone K.skills (request_of line.now) (record { progress = node.old; selection = selection.old }) (seen (K.ledger kids.old) (K.failures kids.old)) (seen (K.ledger kids.new) (K.failures kids.new)) (effect (record { progress = node.new; selection = selection.new }) fine text))
+        HasDone K.skills (request_of line.now) (record { progress = node.old; selection = selection.old }) (children_state (K.ledger kids.old) (K.failures kids.old)) (children_state (K.ledger kids.new) (K.failures kids.new)) (effect (record { progress = node.new; selection = selection.new }) fine text))
         (string_bytes out.old) (string_bytes out.new)) }
-    ensures err { IfErr result (λ e. LineFails K.skills J.write_fails (request_of line.now) (record { progress = node.old; selection = selection.old }) (seen (K.ledger kids.old) (K.failures kids.old)) (seen (K.ledger kids.new) (K.failures kids.new)) node.new e) }
+    ensures err { IfErr result
+        (λ e. LineFails K.skills J.write_fails (request_of line.now)
+        (record { progress = node.old; selection = selection.old })
+        (children_state (K.ledger kids.old) (K.failures kids.old))
+        (children_state (K.ledger kids.new) (K.failures kids.new)) node.new e) }
     ensures later { IsLater node.old.world node.new.world }
     ensures fault { IfErr result (λ e. MayStop J.write_fails e) }
 {

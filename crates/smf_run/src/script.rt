@@ -1,11 +1,11 @@
 ghost use Rattle.std.specs.Prelude.{◌≡◌, ◌≤◌, IfErr, IfOk, IfSome, OnErr, OnOk};
 ghost use Rattle.smf_drive.specs.Agrees.{Agrees};
-ghost use Rattle.smf_lines.specs.Reading.{lines_of};
+ghost use Rattle.smf_lines.specs.Lines.{lines_of};
 ghost use Rattle.smf_run.specs.Agreed.{AgreesOrDropped};
-ghost use Rattle.smf_edge.specs.Answers.{seen};
+ghost use Rattle.smf_edge.specs.Answers.{children_state};
 ghost use Rattle.smf_run.specs.Scripts.{HasRun, HasWritten, IsCut, Stops};
 ghost use Rattle.smf_script.specs.Faults.{IsWhy, Tells, failed_in};
-ghost use Rattle.smf_script.specs.Script.{IsWithin, begun, status_of};
+ghost use Rattle.smf_script.specs.Script.{IsWithin, first_session, status_of};
 ghost use Rattle.smf_world.specs.Reached.{IsLater};
 ghost use Rattle.smf_world.specs.Safe.{IsSafe};
 
@@ -27,8 +27,17 @@ fn do_line<W: TextWriter, J: Journal, K: Kids>(
     selection: &mut Selection,
     line: &[u8],
 ) -> Result<bool, ScriptFault>
-    ensures exact { IfOk result (λ fine. HasWritten K.skills line.now (record { progress = node.old; selection = selection.old }) (record { progress = node.new; selection = selection.new }) (seen (K.ledger kids.old) (K.failures kids.old)) (seen (K.ledger kids.new) (K.failures kids.new)) (W.contents writer.old) (W.contents writer.new) fine) }
-    ensures err { IfErr result (λ e. IsCut K.skills J.write_fails e line.now (record { progress = node.old; selection = selection.old }) (seen (K.ledger kids.old) (K.failures kids.old)) (seen (K.ledger kids.new) (K.failures kids.new)) node.new (W.contents writer.old) (W.contents writer.new)) }
+    ensures exact { IfOk result
+        (λ fine. HasWritten K.skills line.now (record { progress = node.old; selection = selection.old })
+        (record { progress = node.new; selection = selection.new })
+        (children_state (K.ledger kids.old) (K.failures kids.old))
+        (children_state (K.ledger kids.new) (K.failures kids.new)) (W.contents writer.old)
+        (W.contents writer.new) fine) }
+    ensures err { IfErr result
+        (λ e. IsCut K.skills J.write_fails e line.now (record { progress = node.old; selection = selection.old })
+        (children_state (K.ledger kids.old) (K.failures kids.old))
+        (children_state (K.ledger kids.new) (K.failures kids.new)) node.new (W.contents writer.old)
+        (W.contents writer.new)) }
     ensures later { IsLater node.old.world node.new.world }
     ensures fault { IfErr result (λ e. IsWhy J.write_fails (λ _. ⊥) W.write_fails e) }
 {
@@ -56,11 +65,13 @@ fn do_lines<R: LineReader, W: TextWriter, J: Journal, K: Kids>(
     kids: &mut K,
 ) -> Result<u8, ScriptFault>
     ensures ran { IfOk result (λ status.
-        HasRun K.skills (begun node.old) (R.remaining reader.old) (seen (K.ledger kids.old) (K.failures kids.old)) (seen (K.ledger kids.new) (K.failures kids.new)) node.new (W.contents writer.old) (W.contents writer.new) status) }
+        HasRun K.skills (first_session node.old) (R.remaining reader.old) (children_state (K.ledger kids.old) (K.failures kids.old)) (children_state (K.ledger kids.new) (K.failures kids.new)) node.new (W.contents writer.old) (W.contents writer.new) status) }
     ensures exit { IfOk result (λ status. status ≤ 1) }
-    ensures few { IfOk result (λ status. IfSome (R.remaining reader.old) (λ input. IsWithin (lines_of input) (R.interrupted reader.old) (R.interrupted reader.new))) }
+    ensures few { IfOk result
+        (λ status. IfSome (R.remaining reader.old)
+        (λ input. IsWithin (lines_of input) (R.interrupted reader.old) (R.interrupted reader.new))) }
     ensures err { IfErr result (λ fault.
-        Stops K.skills J.write_fails fault (begun node.old) (R.remaining reader.old) (seen (K.ledger kids.old) (K.failures kids.old)) (seen (K.ledger kids.new) (K.failures kids.new)) node.new (W.contents writer.old) (W.contents writer.new)) }
+        Stops K.skills J.write_fails fault (first_session node.old) (R.remaining reader.old) (children_state (K.ledger kids.old) (K.failures kids.old)) (children_state (K.ledger kids.new) (K.failures kids.new)) node.new (W.contents writer.old) (W.contents writer.new)) }
     ensures later { IsLater node.old.world node.new.world }
     ensures fault { IfErr result (λ e. IsWhy J.write_fails R.read_fails W.write_fails e) }
     ensures failed { R.has_failed reader.new ≡ failed_in result (R.has_failed reader.old) }
@@ -92,15 +103,19 @@ pub fn run_script<R: LineReader, W: TextWriter, J: Journal, K: Kids>(
     // The lines were done one after another, and what they gave was written in this order; the status is 0 if none
     // failed. If the bytes are known, they are all lines of these.
     ensures ran { IfOk result (λ status.
-        HasRun K.skills (begun node.old) (R.remaining reader.old) (seen (K.ledger kids.old) (K.failures kids.old)) (seen (K.ledger kids.new) (K.failures kids.new)) node.new (W.contents writer.old) (W.contents writer.new) status) }
+        HasRun K.skills (first_session node.old) (R.remaining reader.old) (children_state (K.ledger kids.old) (K.failures kids.old)) (children_state (K.ledger kids.new) (K.failures kids.new)) node.new (W.contents writer.old) (W.contents writer.new) status) }
     ensures exit { IfOk result (λ status. status ≤ 1) }
-    ensures few { IfOk result (λ status. IfSome (R.remaining reader.old) (λ input. IsWithin (lines_of input) (R.interrupted reader.old) (R.interrupted reader.new))) }
+    ensures few { IfOk result
+        (λ status. IfSome (R.remaining reader.old)
+        (λ input. IsWithin (lines_of input) (R.interrupted reader.old) (R.interrupted reader.new))) }
     // Some of the lines were done, and their texts were written.
     ensures err { IfErr result (λ fault.
-        Stops K.skills J.write_fails fault (begun node.old) (R.remaining reader.old) (seen (K.ledger kids.old) (K.failures kids.old)) (seen (K.ledger kids.new) (K.failures kids.new)) node.new (W.contents writer.old) (W.contents writer.new)) }
+        Stops K.skills J.write_fails fault (first_session node.old) (R.remaining reader.old) (children_state (K.ledger kids.old) (K.failures kids.old)) (children_state (K.ledger kids.new) (K.failures kids.new)) node.new (W.contents writer.old) (W.contents writer.new)) }
     // If children and the node agreed, they agree; only a fault in a boot may leave children that have dropped all.
-    ensures agrees { OnOk result (Agrees node.old.world (K.ledger kids.old) → Agrees node.new.world (K.ledger kids.new)) }
-    ensures dropped { OnErr result (Agrees node.old.world (K.ledger kids.old) → AgreesOrDropped node.new.world (K.ledger kids.new)) }
+    ensures agrees { OnOk result (Agrees node.old.world (K.ledger kids.old)
+        → Agrees node.new.world (K.ledger kids.new)) }
+    ensures dropped { OnErr result (Agrees node.old.world (K.ledger kids.old)
+        → AgreesOrDropped node.new.world (K.ledger kids.new)) }
     // Whatever the lines and the children: what the trail shows is what happened.
     ensures safe { IsSafe node.new.world }
     ensures later { IsLater node.old.world node.new.world }

@@ -1,5 +1,5 @@
-pub mod Giving
+pub mod Deeds
 pub mod Later
-pub mod Selecting
+pub mod Selections
 pub mod May
 pub mod Failures

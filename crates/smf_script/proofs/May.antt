@@ -1,5 +1,5 @@
 -- With which faults a line may end, by those of the node's calls.
-use Rattle.std.proofs.Common.{◌≡◌, ◌⊎◌, ◌<◌, ◌++◌, ◌∷◌, ◌||◌, [], ℕ, inl, inr, Bool, true, false, List, length, Option, Some, None, refl, arith}
+use Rattle.std.proofs.Common.{◌≡◌, ◌<◌, ◌++◌, ◌∷◌, ◌||◌, [], ℕ, inl, inr, Bool, true, false, List, Option, Some, None, refl, arith}
 use Rattle.std.specs.List.{list_any}
 use Rattle.smf_model.specs.declared.change.Change.{Change}
 use Rattle.smf_model.specs.declared.journal.RepoFault.{RepoFault}
@@ -8,25 +8,27 @@ use Rattle.smf_node.specs.declared.fault.NodeFault.TheVariants.{Memory, Database
 use Rattle.smf_node.specs.Faults.{IsFault, IsUnwritten, is_against_launch, is_unsent, lacks_number}
 use Rattle.smf_node.specs.Runs.{RepeatsUntilFault}
 use Rattle.smf_restarter.specs.Knowledge.{Knowledge}
-use Rattle.smf_script.specs.Failing.{MayEnd, RequestFails}
+use Rattle.smf_script.specs.Failures.{MayEnd, RequestFails}
 use Rattle.smf_script.specs.Faults.{MayStop}
 use Rattle.smf_script.specs.Session.{Session}
 use Rattle.smf_words.specs.declared.request.Request.{Request}
 use Rattle.smf_world.specs.declared.event.Event.{Event}
 use Rattle.smf_world.specs.declared.event.Event.TheVariants as events
 use Rattle.smf_world.specs.Schedule.{Progress}
-use Rattle.smf_world.specs.Worked.{calling, crashed, restarter, timed, worked}
+use Rattle.smf_world.specs.Worked.{work_of_call, work_of_crash, restarter, work_of_timeout, work_of_event}
 use Rattle.smf_world.specs.World.{World}
 
 pub may_memory : (stores : RepoFault → Type 0) (asks : Bool) (e : NodeFault) → e ≡ Memory → MayEnd stores asks e
 may_memory stores asks e is = rw is tt
 
-pub may_unwritten : (stores : RepoFault → Type 0) (changes : List Change) (e : NodeFault) → IsUnwritten stores changes e → MayEnd stores true e
+pub may_unwritten : (stores : RepoFault → Type 0) (changes : List Change) (e : NodeFault)
+    → IsUnwritten stores changes e → MayEnd stores true e
 may_unwritten stores changes e (inl is) = may_memory stores true e is
 may_unwritten stores changes e (inr h) = rw h.0 (h.1, refl)
 
 -- all of them may end with a fault with which one of them may
-pub may_more : {X : Type 0} (stores : RepoFault → Type 0) (f : X → Bool) (before : List X) (x : X) (rest : List X) (e : NodeFault) → MayEnd stores (f x) e → MayEnd stores (list_any f (before ++ x ∷ rest)) e
+pub may_more : {X : Type 0} (stores : RepoFault → Type 0) (f : X → Bool) (before : List X) (x : X) (rest : List X)
+    (e : NodeFault) → MayEnd stores (f x) e → MayEnd stores (list_any f (before ++ x ∷ rest)) e
 may_more stores f before x rest Memory h = tt
 may_more {X = X} stores f before x rest Database h = (h.0, among before)
   where
@@ -47,7 +49,8 @@ may_more stores f before x rest NoSuchActor h = h
 -- ---- an event
 
 -- nothing had to be written
-memory_alone : (stores : RepoFault → Type 0) (changes : List Change) (e : NodeFault) → changes ≡ [] → IsUnwritten stores changes e → e ≡ Memory
+memory_alone : (stores : RepoFault → Type 0) (changes : List Change) (e : NodeFault) → changes ≡ []
+    → IsUnwritten stores changes e → e ≡ Memory
 memory_alone stores changes e none (inl is) = is
 memory_alone stores changes e none (inr h) = absurd (nothing (rw none at h.2))
   where
@@ -55,28 +58,32 @@ memory_alone stores changes e none (inr h) = absurd (nothing (rw none at h.2))
     nothing l = omega arith
 
 -- one that can happen, and changes nothing that the repository holds
-pub memory_only : (stores : RepoFault → Type 0) (w : World) (event : Event) (e : NodeFault) → is_unsent w event ≡ false → is_against_launch w event ≡ false → lacks_number w event ≡ false → (worked w event).changes ≡ [] → IsFault stores w event e → e ≡ Memory
-memory_only stores w event e sent launched numbered apart f = memory_alone stores _ e apart (rw (sent, launched, numbered) at f.why)
+pub memory_only : (stores : RepoFault → Type 0) (w : World) (event : Event) (e : NodeFault)
+    → is_unsent w event ≡ false → is_against_launch w event ≡ false → lacks_number w event ≡ false
+    → (work_of_event w event).changes ≡ [] → IsFault stores w event e → e ≡ Memory
+memory_only stores w event e sent launched numbered apart f =
+    memory_alone stores _ e apart (rw (sent, launched, numbered) at f.why)
 
-pub timeout_changes : (w : World) (name : List ℕ) (n : ℕ) → (worked w (events.Timeout name n)).changes ≡ []
-unfolding worked
+pub timeout_changes : (w : World) (name : List ℕ) (n : ℕ) → (work_of_event w (events.Timeout name n)).changes ≡ []
+unfolding work_of_event
 timeout_changes w name n = by (restarter w name)
   where
-    by : (o : Option Knowledge) → (timed n o).changes ≡ []
+    by : (o : Option Knowledge) → (work_of_timeout n o).changes ≡ []
     by None = refl
     by (Some k) = refl
 
-pub crash_changes : (w : World) (name : List ℕ) → (worked w (events.Crash name)).changes ≡ []
-unfolding worked calling
+pub crash_changes : (w : World) (name : List ℕ) → (work_of_event w (events.Crash name)).changes ≡ []
+unfolding work_of_event work_of_call
 crash_changes w name = by (restarter w name)
   where
-    by : (o : Option Knowledge) → (crashed w o).changes ≡ []
+    by : (o : Option Knowledge) → (work_of_crash w o).changes ≡ []
     by None = refl
     by (Some k) = refl
 
 -- ---- messages that come again
 
-pub may_repeat : (stores : RepoFault → Type 0) (before after : Progress) (all : List ℕ) (e : NodeFault) → RepeatsUntilFault stores before all after e → MayEnd stores true e
+pub may_repeat : (stores : RepoFault → Type 0) (before after : Progress) (all : List ℕ) (e : NodeFault)
+    → RepeatsUntilFault stores before all after e → MayEnd stores true e
 may_repeat stores before after all e h = may_unwritten stores _ e h.fault
 
 -- ---- a script
@@ -89,5 +96,6 @@ may_stop stores asks NoSuchMessage h = h
 may_stop stores asks NoSuchActor h = h
 
 -- with what a line in which children have no part may end, a script may stop
-pub alone_may_stop : (stores : RepoFault → Type 0) (s : Session) (request : Request) (after : Progress) (e : NodeFault) → RequestFails stores s request after e → MayStop stores e
+pub alone_may_stop : (stores : RepoFault → Type 0) (s : Session) (request : Request) (after : Progress)
+    (e : NodeFault) → RequestFails stores s request after e → MayStop stores e
 alone_may_stop stores s request after e h = may_stop stores _ e h.may

@@ -1,4 +1,4 @@
 pub mod Session
-pub mod Failing
+pub mod Failures
 pub mod Faults
 pub mod Script

@@ -1,43 +1,43 @@
 -- The effect of each line.
 use Rattle.std.specs.Prelude.{◌≡◌, ℕ, ◌==◌, List, [], ◌∷◌, ◌++◌, ◌&&◌, not, nat_lt, position, reverse, codes, Bool, true, false, if◌then◌else◌, is_none, is_some, Option, Some, None, Result, Ok, Err}
 use Rattle.std.specs.List.{list_any}
-use Rattle.smf_admin.specs.Asking.{commands_of}
-use Rattle.smf_admin.specs.Choosing.{needs_bodies, options_of}
-use Rattle.smf_admin.specs.Listing.{svcs_text}
-use Rattle.smf_admin.specs.Telling.{no_match_text, several_text, svcadm_usage, svcs_usage}
-use Rattle.smf_admin.specs.declared.choosing.Options.{Options}
-use Rattle.smf_admin.specs.declared.listing.Listing.{Listing}
-use Rattle.smf_admin.specs.declared.asking.Asked.{Asked}
-use Rattle.smf_admin.specs.declared.asking.Asked.TheVariants as asks
-use Rattle.smf_model.specs.Holdings.{Holdings}
+use Rattle.smf_admin.specs.Requests.{commands_of}
+use Rattle.smf_admin.specs.ListOptions.{needs_bodies, options_of}
+use Rattle.smf_admin.specs.Output.{svcs_text}
+use Rattle.smf_admin.specs.Messages.{no_match_text, several_text, svcadm_usage, svcs_usage}
+use Rattle.smf_admin.specs.declared.list_options.Options.{Options}
+use Rattle.smf_admin.specs.declared.output.Listing.{Listing}
+use Rattle.smf_admin.specs.declared.requests.Asked.{Asked}
+use Rattle.smf_admin.specs.declared.requests.Asked.TheVariants as asks
+use Rattle.smf_model.specs.Contents.{Holdings}
 use Rattle.smf_model.specs.Shown.{rows, view}
-use Rattle.smf_admin.specs.declared.finding.Found.{Found}
-use Rattle.smf_admin.specs.declared.finding.Found.TheVariants as finds
-use Rattle.smf_admin.specs.Finding.{found_of}
+use Rattle.smf_admin.specs.declared.instances.Found.{Found}
+use Rattle.smf_admin.specs.declared.instances.Found.TheVariants as finds
+use Rattle.smf_admin.specs.Instances.{found_of}
 use Rattle.smf_contract.specs.declared.contract.Contract.{Contract}
 use Rattle.smf_contract.specs.declared.cookie.Cookie.{Cookie}
-use Rattle.smf_contract.specs.Cookies.{unpacked}
+use Rattle.smf_contract.specs.Cookies.{cookie_of_bits}
 use Rattle.smf_contract.specs.Entries.{Contracts, found_at, has_members}
 use Rattle.smf_fmri.specs.declared.fault.FmriFault.{FmriFault}
-use Rattle.smf_fmri.specs.Matching.{named_instance}
-use Rattle.smf_fmri.specs.Name.{read}
+use Rattle.smf_fmri.specs.Patterns.{named_instance}
+use Rattle.smf_fmri.specs.Name.{name_of_text}
 use Rattle.smf_model.specs.declared.held.Instance.{Instance}
-use Rattle.smf_model.specs.Next.{found as instance_found}
+use Rattle.smf_model.specs.Next.{current_instance as instance_found}
 use Rattle.smf_node.specs.Marks.{last_delivered}
 use Rattle.smf_model.specs.declared.command.Edit.{Edit}
-use Rattle.smf_model.specs.declared.command.Reply.{Reply}
+use Rattle.smf_model.specs.declared.command.CommandReply.{CommandReply}
 use Rattle.smf_repo.specs.Refusals.{refusal}
 use Rattle.smf_words.specs.Text.{line_end, trail_text}
 use Rattle.smf_words.specs.declared.request.Request.{Request}
 use Rattle.smf_words.specs.declared.request.Request.TheVariants as requests
-use Rattle.smf_svccfg.specs.Judged.{fault_text, judged}
+use Rattle.smf_svccfg.specs.Judged.{fault_text, judgement_of}
 use Rattle.smf_svccfg.specs.declared.fault.CfgFault.{CfgFault}
 use Rattle.smf_svccfg.specs.declared.selection.Judged.{Judged}
 use Rattle.smf_svccfg.specs.declared.selection.Judged.TheVariants as judgements
 use Rattle.smf_svccfg.specs.declared.selection.Selection.{Selection}
 use Rattle.smf_svccfg.specs.declared.selection.Selection.TheVariants.{Nothing}
-use Rattle.smf_world.specs.Schedule.{Progress, delivered_again, losing, on, refusing}
-use Rattle.smf_world.specs.Worked.{is_launched, worked}
+use Rattle.smf_world.specs.Schedule.{Progress, delivered_again, progress_with_loss, on, progress_with_refusals}
+use Rattle.smf_world.specs.Worked.{is_launched, work_of_event}
 use Rattle.smf_world.specs.declared.event.Event.TheVariants as events
 use Rattle.smf_world.specs.declared.schedule.Settled.{Settled}
 use Rattle.smf_world.specs.declared.schedule.Settled.TheVariants.{Quiet, Busy}
@@ -50,11 +50,11 @@ pub record Deed : Type 0 where
   pub text : List ℕ
   pub fine : Bool
 
-abbrev pub done : Progress → List ℕ → Deed
-done p text = record { progress = p; text = text; fine = true }
+abbrev pub success_deed : Progress → List ℕ → Deed
+success_deed p text = record { progress = p; text = text; fine = true }
 
-abbrev pub failed : Progress → List ℕ → Deed
-failed p text = record { progress = p; text = text; fine = false }
+abbrev pub failure_deed : Progress → List ℕ → Deed
+failure_deed p text = record { progress = p; text = text; fine = false }
 
 -- ---- edits
 
@@ -64,24 +64,25 @@ told_text program None = []
 told_text program (Some words) = program ++ words ++ line_end
 
 -- the deed of an edit, by the reply to it
-abbrev pub replied : List ℕ → Progress → List Reply → Deed
-replied program p [] = done p []
-replied program p (r ∷ rs) =
+abbrev pub deed_of_reply : List ℕ → Progress → List CommandReply → Deed
+deed_of_reply program p [] = success_deed p []
+deed_of_reply program p (r ∷ rs) =
     record { progress = p; text = told_text program (refusal r); fine = is_none (refusal r) }
 
 -- an edit is given to the repository
-unfoldable pub given : List ℕ → Progress → Edit → Deed
-given program p edit = replied program (on p (events.Client edit)) (worked p.world (events.Client edit)).reply
+unfoldable pub deed_of_edit : List ℕ → Progress → Edit → Deed
+deed_of_edit program p edit =
+    deed_of_reply program (on p (events.Client edit)) (work_of_event p.world (events.Client edit)).reply
 
 -- ---- svcadm
 
 abbrev pub svcadm_name : List ℕ
 svcadm_name = codes "svcadm: "
 
-unfoldable pub asked : Progress → Asked → Deed
-asked p (asks.Edit edit) = given svcadm_name p edit
-asked p (asks.NoMatch word) = failed p (no_match_text (codes "svcadm") word)
-asked p (asks.Several word count) = failed p (several_text (codes "svcadm") word count)
+unfoldable pub deed_of_command : Progress → Asked → Deed
+deed_of_command p (asks.Edit edit) = deed_of_edit svcadm_name p edit
+deed_of_command p (asks.NoMatch word) = failure_deed p (no_match_text (codes "svcadm") word)
+deed_of_command p (asks.Several word count) = failure_deed p (several_text (codes "svcadm") word count)
 
 -- one deed, and another on what it left
 abbrev pub behind : Deed → Deed → Deed
@@ -90,11 +91,11 @@ behind d e = record { progress = e.progress; text = d.text ++ e.text; fine = d.f
 -- all of them in turn, each on what the one before left, also if one is refused
 unfoldable pub asked_all : Deed → List Asked → Deed
 asked_all d [] = d
-asked_all d (one ∷ more) = asked_all (behind d (asked d.progress one)) more
+asked_all d (one ∷ more) = asked_all (behind d (deed_of_command d.progress one)) more
 
 abbrev pub svcadm_by : Progress → Option (List Asked) → Deed
-svcadm_by p None = failed p svcadm_usage
-svcadm_by p (Some all) = asked_all (done p []) all
+svcadm_by p None = failure_deed p svcadm_usage
+svcadm_by p (Some all) = asked_all (success_deed p []) all
 
 -- all words are looked up before the first is done
 unfoldable pub svcadm : Progress → List (List ℕ) → Deed
@@ -104,14 +105,15 @@ svcadm p words = svcadm_by p (commands_of p.world.now.names words)
 
 -- the output of svcs; the bodies of snapshots are looked at only if dependencies are asked for
 abbrev pub listing_of : Holdings → Options → Listing
-listing_of h options = if needs_bodies options.chosen then svcs_text (view h).items options else svcs_text (rows h) options
+listing_of h options = if needs_bodies options.chosen then svcs_text (view h).items options
+    else svcs_text (rows h) options
 
-abbrev pub listed : Progress → Listing → Deed
-listed p listing = record { progress = p; text = listing.text; fine = listing.all_matched }
+abbrev pub deed_of_svcs : Progress → Listing → Deed
+deed_of_svcs p listing = record { progress = p; text = listing.text; fine = listing.all_matched }
 
 abbrev pub svcs_by : Progress → Option Options → Deed
-svcs_by p None = failed p svcs_usage
-svcs_by p (Some options) = listed p (listing_of p.world.now options)
+svcs_by p None = failure_deed p svcs_usage
+svcs_by p (Some options) = deed_of_svcs p (listing_of p.world.now options)
 
 unfoldable pub svcs : Progress → List (List ℕ) → Deed
 svcs p words = svcs_by p (options_of words)
@@ -125,8 +127,8 @@ settled_text Busy = codes "busy" ++ line_end
 -- ---- what is asked of the schedule
 
 -- the last messages that were delivered are delivered again, in their order
-unfoldable pub repeated : ℕ → Progress → Progress
-repeated count p = delivered_again (last_delivered count p) p
+unfoldable pub progress_after_repeat : ℕ → Progress → Progress
+progress_after_repeat count p = delivered_again (last_delivered count p) p
 
 -- ---- processes
 
@@ -149,7 +151,7 @@ run_of n (Some c) = if c.instance == n then Some c.run else None
 
 -- the run of an instance that a contract with members is of
 abbrev pub run_in : Contracts → ℕ → Contract → Option ℕ
-run_in t n c = if has_members c.id t.members then run_of n (unpacked c.cookie) else None
+run_in t n c = if has_members c.id t.members then run_of n (cookie_of_bits c.cookie) else None
 
 abbrev pub is_above : Option ℕ → Option ℕ → Bool
 is_above (Some a) (Some b) = nat_lt b a
@@ -169,17 +171,17 @@ latest t n = found_at t.contracts (position (is_latest t n) t.contracts)
 -- ---- restarters
 
 abbrev pub timeout_if : Bool → Progress → ℕ → List ℕ → Deed
-timeout_if true p n restarter = done (on p (events.Timeout restarter n)) []
-timeout_if false p n restarter = failed p no_restarter
+timeout_if true p n restarter = success_deed (on p (events.Timeout restarter n)) []
+timeout_if false p n restarter = failure_deed p no_restarter
 
 abbrev pub timeout_in : Progress → Option Instance → Deed
-timeout_in p None = failed p no_restarter
+timeout_in p None = failure_deed p no_restarter
 timeout_in p (Some i) = timeout_if (is_launched p.world i.row.owner) p i.number i.row.owner
 
 abbrev pub timeout_on : Progress → Found → Deed
 timeout_on p (finds.One n) = timeout_in p (instance_found p.world.now n)
-timeout_on p (finds.NoMatch word) = failed p (no_match_text script_name word)
-timeout_on p (finds.Several word count) = failed p (several_text script_name word count)
+timeout_on p (finds.NoMatch word) = failure_deed p (no_match_text script_name word)
+timeout_on p (finds.Several word count) = failure_deed p (several_text script_name word count)
 
 -- the method that runs for the instance that a word stands for takes too long
 unfoldable pub timed_out : Progress → List ℕ → Deed
@@ -191,16 +193,16 @@ restarter_in (Ok name) = named_instance name
 restarter_in (Err fault) = None
 
 abbrev pub crash_if : Bool → Progress → List ℕ → Deed
-crash_if true p name = done (on p (events.Crash name)) []
-crash_if false p name = failed p no_restarter
+crash_if true p name = success_deed (on p (events.Crash name)) []
+crash_if false p name = failure_deed p no_restarter
 
 abbrev pub crash_in : Progress → Option (List ℕ) → Deed
-crash_in p None = failed p no_restarter
+crash_in p None = failure_deed p no_restarter
 crash_in p (Some name) = crash_if (is_launched p.world name) p name
 
 -- a restarter crashes
-unfoldable pub crashed : Progress → List ℕ → Deed
-crashed p word = crash_in p (restarter_in (read word))
+unfoldable pub deed_of_crash : Progress → List ℕ → Deed
+deed_of_crash p word = crash_in p (restarter_in (name_of_text word))
 
 -- ---- sessions
 
@@ -233,18 +235,19 @@ abbrev pub chosen_by : Selection → Selection → Deed → Effect
 chosen_by before after d = with_selection (selected_behind before after d.fine) d
 
 unfoldable pub given_selected : Session → Edit → Selection → Effect
-given_selected s edit after = chosen_by s.selection after (given svccfg_name s.progress edit)
+given_selected s edit after = chosen_by s.selection after (deed_of_edit svccfg_name s.progress edit)
 
 abbrev pub svccfg_by : Session → Result Judged CfgFault → Effect
-svccfg_by s (Ok judgements.Nothing) = with_selection s.selection (done s.progress [])
-svccfg_by s (Ok (judgements.Select found)) = with_selection found (done s.progress [])
+svccfg_by s (Ok judgements.Nothing) = with_selection s.selection (success_deed s.progress [])
+svccfg_by s (Ok (judgements.Select found)) = with_selection found (success_deed s.progress [])
 svccfg_by s (Ok (judgements.Edit edit after)) = given_selected s edit after
-svccfg_by s (Ok (judgements.Print text)) = with_selection s.selection (done s.progress text)
-svccfg_by s (Ok judgements.End) = with_selection Nothing (done s.progress [])
-svccfg_by s (Err fault) = with_selection s.selection (failed s.progress (told_text svccfg_name (Some (fault_text fault))))
+svccfg_by s (Ok (judgements.Print text)) = with_selection s.selection (success_deed s.progress text)
+svccfg_by s (Ok judgements.End) = with_selection Nothing (success_deed s.progress [])
+svccfg_by s (Err fault) =
+    with_selection s.selection (failure_deed s.progress (told_text svccfg_name (Some (fault_text fault))))
 
 unfoldable pub svccfg : Session → List ℕ → Effect
-svccfg s line = svccfg_by s (judged s.progress.world.now s.selection line)
+svccfg s line = svccfg_by s (judgement_of s.progress.world.now s.selection line)
 
 -- ---- the line
 
@@ -264,14 +267,17 @@ unfoldable pub effect_of : Session → Request → Effect
 effect_of s (requests.Svccfg line) = svccfg s line
 effect_of s (requests.Svcadm words) = with_selection s.selection (svcadm s.progress words)
 effect_of s (requests.Svcs words) = with_selection s.selection (svcs s.progress words)
-effect_of s (requests.Refuse count) = with_selection s.selection (done (refusing count s.progress) [])
-effect_of s (requests.Lose count) = with_selection s.selection (done (losing count s.progress) [])
-effect_of s (requests.Again count) = with_selection s.selection (done (repeated count s.progress) [])
+effect_of s (requests.Refuse count) =
+    with_selection s.selection (success_deed (progress_with_refusals count s.progress) [])
+effect_of s (requests.Lose count) = with_selection s.selection (success_deed (progress_with_loss count s.progress) [])
+effect_of s (requests.Again count) =
+    with_selection s.selection (success_deed (progress_after_repeat count s.progress) [])
 effect_of s (requests.Timeout word) = with_selection s.selection (timed_out s.progress word)
-effect_of s (requests.Crash word) = with_selection s.selection (crashed s.progress word)
-effect_of s requests.Trail = with_selection s.selection (done s.progress (trail_text (reverse s.progress.world.trail)))
-effect_of s requests.Bad = with_selection s.selection (failed s.progress bad_line)
-effect_of s _ = with_selection s.selection (done s.progress [])
+effect_of s (requests.Crash word) = with_selection s.selection (deed_of_crash s.progress word)
+effect_of s requests.Trail =
+    with_selection s.selection (success_deed s.progress (trail_text (reverse s.progress.world.trail)))
+effect_of s requests.Bad = with_selection s.selection (failure_deed s.progress bad_line)
+effect_of s _ = with_selection s.selection (success_deed s.progress [])
 
 -- ---- how calls do it
 
@@ -282,7 +288,8 @@ pub record IsDeed (d : Deed) (progress : Progress) (old new : List ℕ) (no_faul
   pub flag : no_fault ≡ d.fine
 
 -- a line left this node and this selection, and put its text after what was there
-pub record IsEffect (e : Effect) (progress : Progress) (selection : Selection) (old new : List ℕ) (no_fault : Bool) : Type 0 where
+pub record IsEffect (e : Effect) (progress : Progress) (selection : Selection) (old new : List ℕ)
+    (no_fault : Bool) : Type 0 where
   pub node : progress ≡ e.session.progress
   pub chosen : selection ≡ e.session.selection
   pub texts : new ≡ old ++ e.text

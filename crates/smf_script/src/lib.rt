@@ -4,10 +4,10 @@
 //! does).
 #![tactic(auto)]
 
-mod acting;
 mod fault;
+mod processes;
 mod session;
 
-pub use acting::{found_on, latest, refuse, refuse_several, refuse_word};
 pub use fault::ScriptFault;
+pub use processes::{found_on, latest, refuse, refuse_several, refuse_word};
 pub use session::{asks_children, run_request, settled_text};

@@ -1,20 +1,20 @@
 ghost use Rattle.std.specs.Prelude.{◌≡◌, ◌⊎◌, [], ◌++◌, ◌∷◌, false, IfErr, IfOk, OnOk, is_none, reverse, string_bytes, true};
 ghost use Rattle.std.specs.List.{list_any};
-ghost use Rattle.smf_admin.specs.Asking.{commands_of};
+ghost use Rattle.smf_admin.specs.Requests.{commands_of};
 ghost use Rattle.smf_repo.specs.Refusals.{refusal};
 ghost use Rattle.smf_words.specs.declared.request.Request.TheVariants as requests;
-ghost use Rattle.smf_script.specs.Session.{IsDeed, IsEffect, asked, asked_all, asks_children, done, effect_of, given, given_selected, listing_of, settled_text, svcadm, svccfg, svccfg_name, svcs, told_text};
-ghost use Rattle.smf_script.specs.Failing.{AreDone, DeedFails, MayEnd, RequestFails, SvcadmLeaves, give_edits, gives_edit};
+ghost use Rattle.smf_script.specs.Session.{IsDeed, IsEffect, deed_of_command, asked_all, asks_children, success_deed, effect_of, deed_of_edit, given_selected, listing_of, settled_text, svcadm, svccfg, svccfg_name, svcs, told_text};
+ghost use Rattle.smf_script.specs.Failures.{AreDone, DeedFails, MayEnd, RequestFails, SvcadmLeaves, give_edits, gives_edit};
 ghost use Rattle.smf_words.specs.Text.{trail_text};
 ghost use Rattle.smf_world.specs.Reached.{IsLater};
 
-use crate::acting::{crash, refuse, time_out};
+use crate::processes::{crash, refuse, time_out};
 use smf_admin::{
     Asked, Listing, Options, commands_of, no_match_text, options_of, several_text, svcadm_usage,
     svcs_text, svcs_usage,
 };
 use smf_fmri::{Items, Text};
-use smf_model::{Edit, Journal, Reply};
+use smf_model::{CommandReply, Edit, Journal};
 use smf_node::{Node, NodeFault};
 use smf_repo::refusal_text;
 use smf_svccfg::{CfgFault, Judged, Selection, fault_text, judge};
@@ -32,8 +32,14 @@ fn put_line(out: &mut String, program: &str, words: &str) -> Result<(), AllocErr
 }
 
 /// Puts why an edit was refused, if it was, and gives back whether it was not.
-fn report(alloc: Global, reply: &Reply, program: &str, out: &mut String) -> Result<bool, AllocError>
-    ensures texts { OnOk result (string_bytes out.new ≡ string_bytes out.old ++ told_text program.now (refusal reply.now)) }
+fn report(
+    alloc: Global,
+    reply: &CommandReply,
+    program: &str,
+    out: &mut String,
+) -> Result<bool, AllocError>
+    ensures texts { OnOk result
+        (string_bytes out.new ≡ string_bytes out.old ++ told_text program.now (refusal reply.now)) }
     ensures flag { IfOk result (λ fine. fine ≡ is_none (refusal reply.now)) }
 {
     let Some(words) = refusal_text(alloc, reply)? else {
@@ -44,7 +50,7 @@ fn report(alloc: Global, reply: &Reply, program: &str, out: &mut String) -> Resu
 }
 
 /// Gives an edit, and puts why it was refused, if it was; gives back whether it was not.
-#[tactic(auto, unfolding(crate::specs::Session::given))]
+#[tactic(auto, unfolding(crate::specs::Session::deed_of_edit))]
 fn give<J: Journal>(
     alloc: Global,
     node: &mut Node<J>,
@@ -52,9 +58,12 @@ fn give<J: Journal>(
     program: &str,
     out: &mut String,
 ) -> Result<bool, NodeFault>
-    ensures exact { IfOk result (λ fine. IsDeed (given program.now node.old edit) node.new (string_bytes out.old) (string_bytes out.new) fine) }
+    ensures exact { IfOk result
+        (λ fine. IsDeed (deed_of_edit program.now node.old edit) node.new (string_bytes out.old)
+        (string_bytes out.new) fine) }
     ensures later { IsLater node.old.world node.new.world }
-    ensures err { IfErr result (λ e. DeedFails J.write_fails true node.old (given program.now node.old edit) node.new e) }
+    ensures err { IfErr result
+        (λ e. DeedFails J.write_fails true node.old (deed_of_edit program.now node.old edit) node.new e) }
 {
     let reply = node.apply(edit)?;
     let fine = report(alloc, &reply, program, out)?;
@@ -70,9 +79,12 @@ fn give_selected<J: Journal>(
     after: Selection,
     out: &mut String,
 ) -> Result<bool, NodeFault>
-    ensures exact { IfOk result (λ fine. IsEffect (given_selected (record { progress = node.old; selection = selection.old }) edit after) node.new selection.new (string_bytes out.old) (string_bytes out.new) fine) }
+    ensures exact { IfOk result
+        (λ fine. IsEffect (given_selected (record { progress = node.old; selection = selection.old }) edit after)
+        node.new selection.new (string_bytes out.old) (string_bytes out.new) fine) }
     ensures later { IsLater node.old.world node.new.world }
-    ensures err { IfErr result (λ e. DeedFails J.write_fails true node.old (given svccfg_name node.old edit) node.new e) }
+    ensures err { IfErr result
+        (λ e. DeedFails J.write_fails true node.old (deed_of_edit svccfg_name node.old edit) node.new e) }
 {
     if give(alloc, node, edit, "svccfg: ", out)? {
         *selection = after;
@@ -90,9 +102,13 @@ fn svccfg<J: Journal>(
     line: &str,
     out: &mut String,
 ) -> Result<bool, NodeFault>
-    ensures exact { IfOk result (λ fine. IsEffect (svccfg (record { progress = node.old; selection = selection.old }) line.now) node.new selection.new (string_bytes out.old) (string_bytes out.new) fine) }
+    ensures exact { IfOk result
+        (λ fine. IsEffect (svccfg (record { progress = node.old; selection = selection.old }) line.now) node.new
+        selection.new (string_bytes out.old) (string_bytes out.new) fine) }
     ensures later { IsLater node.old.world node.new.world }
-    ensures err { IfErr result (λ e. RequestFails J.write_fails (record { progress = node.old; selection = selection.old }) (requests.Svccfg line.now) node.new e) }
+    ensures err { IfErr result
+        (λ e. RequestFails J.write_fails (record { progress = node.old; selection = selection.old })
+        (requests.Svccfg line.now) node.new e) }
 {
     match judge(alloc, node.repository(), selection, line) {
         Ok(Judged::Nothing) => Ok(true),
@@ -118,16 +134,18 @@ fn svccfg<J: Journal>(
     }
 }
 
-#[tactic(auto, unfolding(crate::specs::Session::asked))]
-fn asked<J: Journal>(
+#[tactic(auto, unfolding(crate::specs::Session::deed_of_command))]
+fn do_command<J: Journal>(
     alloc: Global,
     node: &mut Node<J>,
     one: Asked,
     out: &mut String,
 ) -> Result<bool, NodeFault>
-    ensures exact { IfOk result (λ fine. IsDeed (asked node.old one) node.new (string_bytes out.old) (string_bytes out.new) fine) }
+    ensures exact { IfOk result
+        (λ fine. IsDeed (deed_of_command node.old one) node.new (string_bytes out.old) (string_bytes out.new) fine) }
     ensures later { IsLater node.old.world node.new.world }
-    ensures err { IfErr result (λ e. DeedFails J.write_fails (gives_edit one) node.old (asked node.old one) node.new e) }
+    ensures err { IfErr result
+        (λ e. DeedFails J.write_fails (gives_edit one) node.old (deed_of_command node.old one) node.new e) }
 {
     match one {
         Asked::Edit(edit) => give(alloc, node, edit, "svcadm: ", out),
@@ -149,13 +167,15 @@ fn asked_all<J: Journal>(
     all: Items<Asked>,
     out: &mut String,
 ) -> Result<bool, NodeFault>
-    ensures exact { IfOk result (λ fine. IsDeed (asked_all (done node.old []) all) node.new (string_bytes out.old) (string_bytes out.new) fine) }
+    ensures exact { IfOk result
+        (λ fine. IsDeed (asked_all (success_deed node.old []) all) node.new (string_bytes out.old)
+        (string_bytes out.new) fine) }
     ensures later { IsLater node.old.world node.new.world }
     ensures err { IfErr result (λ e. MayEnd J.write_fails (list_any gives_edit all) e × AreDone node.old all node.new) }
 {
     let mut fine = true;
     for one in all.into_vec() {
-        let did = asked(alloc, node, one, out)?;
+        let did = do_command(alloc, node, one, out)?;
         fine &= did;
     }
     Ok(fine)
@@ -179,9 +199,13 @@ fn svcadm<J: Journal>(
     words: &[Text],
     out: &mut String,
 ) -> Result<bool, NodeFault>
-    ensures exact { IfOk result (λ fine. IsDeed (svcadm node.old words.now) node.new (string_bytes out.old) (string_bytes out.new) fine) }
+    ensures exact { IfOk result
+        (λ fine. IsDeed (svcadm node.old words.now) node.new (string_bytes out.old) (string_bytes out.new) fine) }
     ensures later { IsLater node.old.world node.new.world }
-    ensures err { IfErr result (λ e. MayEnd J.write_fails (give_edits (commands_of node.old.world.now.names words.now)) e × ((node.new ≡ node.old) ⊎ (node.new ≡ (svcadm node.old words.now).progress) ⊎ SvcadmLeaves node.old words.now node.new)) }
+    ensures err { IfErr result
+        (λ e. MayEnd J.write_fails (give_edits (commands_of node.old.world.now.names words.now)) e
+        × ((node.new ≡ node.old) ⊎ (node.new ≡ (svcadm node.old words.now).progress)
+        ⊎ SvcadmLeaves node.old words.now node.new)) }
 {
     match commands_on(alloc, node, words)? {
         Some(all) => asked_all(alloc, node, all, out),
@@ -193,7 +217,7 @@ fn svcadm<J: Journal>(
 }
 
 /// The output of svcs over what the node holds. The bodies of snapshots are read only if dependencies are asked for.
-fn listing<J: Journal>(
+fn svcs_output<J: Journal>(
     alloc: Global,
     node: &Node<J>,
     options: &Options,
@@ -216,13 +240,14 @@ fn svcs<J: Journal>(
     words: &[Text],
     out: &mut String,
 ) -> Result<bool, AllocError>
-    ensures { IfOk result (λ fine. IsDeed (svcs node.now words.now) node.now (string_bytes out.old) (string_bytes out.new) fine) }
+    ensures { IfOk result
+        (λ fine. IsDeed (svcs node.now words.now) node.now (string_bytes out.old) (string_bytes out.new) fine) }
 {
     let Some(options) = options_of(alloc, words)? else {
         out.push_str(svcs_usage())?;
         return Ok(false);
     };
-    let listing = listing(alloc, node, &options)?;
+    let listing = svcs_output(alloc, node, &options)?;
     out.push_str(listing.text.as_str())?;
     Ok(listing.all_matched)
 }
@@ -259,7 +284,7 @@ pub fn asks_children(request: &Request) -> bool
 }
 
 /// Does what a line asks for in which children have no part, puts its text, and gives back whether it did not fail.
-#[tactic(auto, unfolding(crate::specs::Session::effect_of, crate::specs::Session::repeated))]
+#[tactic(auto, unfolding(crate::specs::Session::effect_of, crate::specs::Session::progress_after_repeat))]
 pub fn run_request<J: Journal>(
     alloc: Global,
     node: &mut Node<J>,
@@ -268,9 +293,13 @@ pub fn run_request<J: Journal>(
     out: &mut String,
 ) -> Result<bool, NodeFault>
     requires { asks_children request.now ≡ false }
-    ensures exact { IfOk result (λ fine. IsEffect (effect_of (record { progress = node.old; selection = selection.old }) request.now) node.new selection.new (string_bytes out.old) (string_bytes out.new) fine) }
+    ensures exact { IfOk result
+        (λ fine. IsEffect (effect_of (record { progress = node.old; selection = selection.old }) request.now) node.new
+        selection.new (string_bytes out.old) (string_bytes out.new) fine) }
     ensures later { IsLater node.old.world node.new.world }
-    ensures err { IfErr result (λ e. RequestFails J.write_fails (record { progress = node.old; selection = selection.old }) request.now node.new e) }
+    ensures err { IfErr result
+        (λ e. RequestFails J.write_fails (record { progress = node.old; selection = selection.old }) request.now
+        node.new e) }
 {
     match request {
         Request::Nothing => Ok(true),

@@ -3,7 +3,7 @@ use Rattle.std.specs.Prelude.{◌≡◌, ◌⊎◌, ℕ, List, codes, Option}
 use Rattle.std_io.specs.declared.io.error.Error.{Error}
 use Rattle.sqlite.specs.declared.error.Error.{Error as StoreError}
 use Rattle.sqlite.specs.Closing.{HoldsAlone, IsCopied}
-use Rattle.sqlite.specs.Files.{FailsToClose, IsClosed, image_of, over_files}
+use Rattle.sqlite.specs.Files.{FailsToClose, IsClosed, image_of}
 use Rattle.sqlite.specs.Held.{Held}
 use Rattle.sqlite_disk.specs.declared.Disk.{Ghosts}
 use Rattle.sqlite_disk.specs.declared.Files.{Files}
@@ -12,13 +12,9 @@ use Rattle.sqlite_store.specs.FileStore as stores
 use Rattle.sqlite_trees.specs.Tree.{Trees}
 use Rattle.sqlite_trees.specs.View.{IsClean}
 use Rattle.sqlite_wal.specs.Reads.{AreClean}
-use Rattle.smf_cfg.specs.Serving.{IsTold}
-use Rattle.smf_edge.specs.Answers.{Seen, Skills}
-use Rattle.smf_model.specs.declared.journal.RepoFault.{RepoFault}
-use Rattle.smf_model.specs.Holdings.{Holdings}
+use Rattle.smf_cfg.specs.Outcomes.{IsTold}
+use Rattle.smf_model.specs.Contents.{Holdings}
 use Rattle.smf_store.specs.Holds.{StandsIn}
-use Rattle.smf_serve.specs.Cfgs as cfgs
-use Rattle.smf_serve.specs.Runs as runs
 
 -- ---- a close
 
@@ -40,17 +36,21 @@ not_closed = codes "smf: store: database failed"
 -- ---- the end of a run
 
 -- no fault ended the run, and the database was closed
-pub record IsClosedAfter {D : Type 0} {g : Ghosts D} (Done : Held (FileStore D g) → Type 0) (files : Files D) : Type 0 where
+pub record IsClosedAfter {D : Type 0} {g : Ghosts D} (Done : Held (FileStore D g) → Type 0)
+    (files : Files D) : Type 0 where
   pub after : Held (FileStore D g)
   pub done : Done after
   pub copied : IsCopiedOut after files
 
 -- a fault ended it, and the database was closed if possible; or no fault did, and the database could not be closed,
 -- which was told
-pub data IsEndedAfter {D : Type 0} {g : Ghosts D} (Done : Held (FileStore D g) → ℕ → Type 0) (Ended : Held (FileStore D g) → Option (List ℕ) → Type 0) (tells : Error → Type 0) (files : Files D) (told_new : Option (List ℕ)) : Type 0 where
+pub data IsEndedAfter {D : Type 0} {g : Ghosts D} (Done : Held (FileStore D g) → ℕ → Type 0)
+    (Ended : Held (FileStore D g) → Option (List ℕ) → Type 0) (tells : Error → Type 0) (files : Files D)
+    (told_new : Option (List ℕ)) : Type 0 where
   ended : (after : Held (FileStore D g)) → Ended after told_new → IsCopiedOut after files ⊎ IsUncopied after files
       → IsEndedAfter Done Ended tells files told_new
-  uncopied : (after : Held (FileStore D g)) (status : ℕ) (told : Option (List ℕ)) → Done after status → IsUncopied after files
+  uncopied : (after : Held (FileStore D g)) (status : ℕ) (told : Option (List ℕ)) → Done after status
+      → IsUncopied after files
       → IsTold tells told told_new not_closed → IsEndedAfter Done Ended tells files told_new
 
 -- ---- what stands in the file

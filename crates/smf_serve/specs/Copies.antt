@@ -12,7 +12,7 @@ use Rattle.sqlite_disk.specs.declared.Disk.{Ghosts}
 use Rattle.sqlite_disk.specs.declared.Files.{Files}
 use Rattle.sqlite_store.specs.declared.store.FileStore.{FileStore}
 use Rattle.sqlite_wal.specs.Recovery.{Image}
-use Rattle.smf_serve.specs.declared.copying.FileBytes.{FileBytes}
+use Rattle.smf_serve.specs.declared.copies.FileBytes.{FileBytes}
 
 abbrev pub image_in : FileBytes → Image
 image_in found = record { log = found.log.items; db = found.db.items }
@@ -33,7 +33,8 @@ pub data IsUncopied {D : Type 0} (g : Ghosts D) (image : Image) (fault : Error) 
 -- ---- a run over a copy
 
 -- a new database found the content of these bytes, and the run was over that database
-pub record IsOverCopy {D : Type 0} (g : Ghosts D) (image : Image) (Ran : Held (FileStore D g) → Held (FileStore D g) → Type 0) : Type 0 where
+pub record IsOverCopy {D : Type 0} (g : Ghosts D) (image : Image)
+    (Ran : Held (FileStore D g) → Held (FileStore D g) → Type 0) : Type 0 where
   pub conn : Held (FileStore D g)
   pub after : Held (FileStore D g)
   pub found : FindsIn image (file_state conn)

@@ -1,4 +1,4 @@
-pub mod Telling
+pub mod FaultTexts
 pub mod Cfgs
 pub mod Runs
 pub mod Sims

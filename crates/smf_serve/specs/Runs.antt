@@ -3,33 +3,33 @@ use Rattle.std.specs.Prelude.{◌≡◌, ◌⊎◌, ℕ, List, Option}
 use Rattle.std_io.specs.declared.io.error.Error.{Error}
 use Rattle.sqlite.specs.Held.{Held}
 use Rattle.sqlite.specs.Store.{Ghosts}
-use Rattle.smf_cfg.specs.Serving.{IsTold}
+use Rattle.smf_cfg.specs.Outcomes.{IsTold}
 use Rattle.smf_drive.specs.Agrees.{Agrees}
 use Rattle.smf_edge.specs.Answers.{Skills}
 use Rattle.smf_model.specs.declared.journal.RepoFault.{RepoFault}
-use Rattle.smf_model.specs.Holdings.{Holdings}
+use Rattle.smf_model.specs.Contents.{Holdings}
 use Rattle.smf_node.specs.declared.fault.NodeFault.{NodeFault}
 use Rattle.smf_node.specs.Faults.{IsUnbooted}
-use Rattle.smf_run.specs.Agreed.{AgreesOrDropped, unasked}
+use Rattle.smf_run.specs.Agreed.{AgreesOrDropped, empty_ledger}
 use Rattle.smf_edge.specs.Answers.{Seen}
 use Rattle.smf_run.specs.Ends.{HasEnded, IsUnlisted}
 use Rattle.smf_run.specs.Scripts.{HasRun, Stops}
 use Rattle.smf_script.specs.declared.fault.ScriptFault.{ScriptFault}
 use Rattle.smf_script.specs.declared.fault.ScriptFault.TheVariants.{Node}
 use Rattle.smf_script.specs.Faults.{IsWhy}
-use Rattle.smf_script.specs.Script.{begun}
+use Rattle.smf_script.specs.Script.{first_session}
 use Rattle.smf_serve.specs.Cfgs.{IsLeft, IsNotOpened}
-use Rattle.smf_serve.specs.Telling.{fault_text}
+use Rattle.smf_serve.specs.FaultTexts.{fault_text}
 use Rattle.smf_store.specs.Opens.{IsOpenedAs}
 use Rattle.smf_world.specs.declared.event.Event.TheVariants as events
 use Rattle.smf_world.specs.Happens.{happens}
 use Rattle.smf_world.specs.Safe.{IsSafe}
 use Rattle.smf_world.specs.Schedule.{Progress, begun_at}
-use Rattle.smf_world.specs.World.{found}
+use Rattle.smf_world.specs.World.{initial_world}
 
 -- the node over what was found, after its boot
 abbrev pub first : Holdings → Progress
-first h = begun_at (happens (found h) events.Boot)
+first h = begun_at (happens (initial_world h) events.Boot)
 
 -- ---- over what was found
 
@@ -39,17 +39,19 @@ AreEnded k old new = HasEnded k old new ⊎ IsUnlisted k old new
 
 -- all lines were done and what they gave was written; then what was left of children was ended. The trail is safe, and
 -- the node agreed with children that had been asked nothing before
-pub record HasRunOver (k : Skills) (stands : Holdings → Type 0) (h : Holdings) (input : Option (List ℕ)) (old new : Seen) (was is : Option (List ℕ)) (status : ℕ) : Type 0 where
+pub record HasRunOver (k : Skills) (stands : Holdings → Type 0) (h : Holdings) (input : Option (List ℕ))
+    (old new : Seen) (was is : Option (List ℕ)) (status : ℕ) : Type 0 where
   pub after : Progress
   pub mid : Seen
-  pub ran : HasRun k (begun (first h)) input old mid after was is status
+  pub ran : HasRun k (first_session (first h)) input old mid after was is status
   pub ended : AreEnded k mid new
   pub safe : IsSafe after.world
   pub stands_so : stands after.world.now
-  pub agrees : old.ledger ≡ unasked → Agrees after.world mid.ledger
+  pub agrees : old.ledger ≡ empty_ledger → Agrees after.world mid.ledger
 
 -- the node did not begin, and what was found stands
-pub record HasNotBegun (stores : RepoFault → Type 0) (stands : Holdings → Type 0) (h : Holdings) (old new : Seen) (was is : Option (List ℕ)) (fault : NodeFault) : Type 0 where
+pub record HasNotBegun (stores : RepoFault → Type 0) (stands : Holdings → Type 0) (h : Holdings) (old new : Seen)
+    (was is : Option (List ℕ)) (fault : NodeFault) : Type 0 where
   pub why : IsUnbooted stores h fault
   pub stands_so : stands h
   pub unasked : new ≡ old
@@ -58,22 +60,30 @@ pub record HasNotBegun (stores : RepoFault → Type 0) (stands : Holdings → Ty
 -- some of the lines were done and what they gave was written; then what was left of children was ended. The trail is
 -- safe. The node agreed with children that had been asked nothing before, or a boot had made them drop all that they
 -- had
-pub record HasStopped (k : Skills) (stores : RepoFault → Type 0) (stands : Holdings → Type 0) (reads writes : Error → Type 0) (h : Holdings) (input : Option (List ℕ)) (old new : Seen) (was is : Option (List ℕ)) (fault : ScriptFault) : Type 0 where
+pub record HasStopped (k : Skills) (stores : RepoFault → Type 0) (stands : Holdings → Type 0)
+    (reads writes : Error → Type 0) (h : Holdings) (input : Option (List ℕ)) (old new : Seen)
+    (was is : Option (List ℕ)) (fault : ScriptFault) : Type 0 where
   pub after : Progress
   pub mid : Seen
-  pub stops : Stops k stores fault (begun (first h)) input old mid after was is
+  pub stops : Stops k stores fault (first_session (first h)) input old mid after was is
   pub why : IsWhy stores reads writes fault
   pub ended : AreEnded k mid new
   pub safe : IsSafe after.world
   pub stands_so : stands after.world.now
-  pub agrees : old.ledger ≡ unasked → AgreesOrDropped after.world mid.ledger
+  pub agrees : old.ledger ≡ empty_ledger → AgreesOrDropped after.world mid.ledger
 
-pub data IsCutOff (k : Skills) (stores : RepoFault → Type 0) (stands : Holdings → Type 0) (reads writes : Error → Type 0) (h : Holdings) (input : Option (List ℕ)) (old new : Seen) (was is : Option (List ℕ)) (fault : ScriptFault) : Type 0 where
-  unbooted : (e : NodeFault) → fault ≡ Node e → HasNotBegun stores stands h old new was is e → IsCutOff k stores stands reads writes h input old new was is fault
-  stopped : HasStopped k stores stands reads writes h input old new was is fault → IsCutOff k stores stands reads writes h input old new was is fault
+pub data IsCutOff (k : Skills) (stores : RepoFault → Type 0) (stands : Holdings → Type 0)
+    (reads writes : Error → Type 0) (h : Holdings) (input : Option (List ℕ)) (old new : Seen)
+    (was is : Option (List ℕ)) (fault : ScriptFault) : Type 0 where
+  unbooted : (e : NodeFault) → fault ≡ Node e → HasNotBegun stores stands h old new was is e
+      → IsCutOff k stores stands reads writes h input old new was is fault
+  stopped : HasStopped k stores stands reads writes h input old new was is fault
+      → IsCutOff k stores stands reads writes h input old new was is fault
 
 -- the fault that ended it was told
-pub record IsCut (k : Skills) (stores : RepoFault → Type 0) (stands : Holdings → Type 0) (reads writes tells : Error → Type 0) (h : Holdings) (input : Option (List ℕ)) (old new : Seen) (was is told_old told_new : Option (List ℕ)) : Type 0 where
+pub record IsCut (k : Skills) (stores : RepoFault → Type 0) (stands : Holdings → Type 0)
+    (reads writes tells : Error → Type 0) (h : Holdings) (input : Option (List ℕ)) (old new : Seen)
+    (was is told_old told_new : Option (List ℕ)) : Type 0 where
   pub fault : ScriptFault
   pub cut : IsCutOff k stores stands reads writes h input old new was is fault
   pub told : IsTold tells told_old told_new (fault_text fault)
@@ -82,14 +92,18 @@ pub record IsCut (k : Skills) (stores : RepoFault → Type 0) (stands : Holdings
 
 -- no fault ended the run: the script was done over the value that the database was opened with. The value that the node
 -- held at its end stands there
-pub record IsDone {S : Type 0} (g : Ghosts S) (conn after : Held S) (k : Skills) (input : Option (List ℕ)) (old new : Seen) (was is : Option (List ℕ)) (status : ℕ) : Type 0 where
+pub record IsDone {S : Type 0} (g : Ghosts S) (conn after : Held S) (k : Skills) (input : Option (List ℕ))
+    (old new : Seen) (was is : Option (List ℕ)) (status : ℕ) : Type 0 where
   pub held : Holdings
   pub opened : IsOpenedAs g conn held
   pub ran : HasRunOver k (IsLeft g after) held input old new was is status
 
 -- a fault ended it, and was told
-pub data IsEnded {S : Type 0} (g : Ghosts S) (conn after : Held S) (k : Skills) (stores : RepoFault → Type 0) (reads writes tells : Error → Type 0) (input : Option (List ℕ)) (old new : Seen) (was is told_old told_new : Option (List ℕ)) : Type 0 where
+pub data IsEnded {S : Type 0} (g : Ghosts S) (conn after : Held S) (k : Skills) (stores : RepoFault → Type 0)
+    (reads writes tells : Error → Type 0) (input : Option (List ℕ)) (old new : Seen)
+    (was is told_old told_new : Option (List ℕ)) : Type 0 where
   unopened : new ≡ old → IsNotOpened g conn after tells was is told_old told_new
       → IsEnded g conn after k stores reads writes tells input old new was is told_old told_new
-  cut : (held : Holdings) → IsOpenedAs g conn held → IsCut k stores (IsLeft g after) reads writes tells held input old new was is told_old told_new
+  cut : (held : Holdings) → IsOpenedAs g conn held
+      → IsCut k stores (IsLeft g after) reads writes tells held input old new was is told_old told_new
       → IsEnded g conn after k stores reads writes tells input old new was is told_old told_new

@@ -3,7 +3,7 @@ use Rattle.std.specs.Prelude.{ℕ, List, Option}
 use Rattle.std_io.specs.declared.io.error.Error.{Error}
 use Rattle.smf_edge.specs.Answers.{Skills}
 use Rattle.smf_model.specs.declared.journal.RepoFault.{RepoFault}
-use Rattle.smf_model.specs.Holdings.{Holdings}
+use Rattle.smf_model.specs.Contents.{Holdings}
 use Rattle.smf_model.specs.Look.{empty}
 use Rattle.smf_edge.specs.Answers.{Seen}
 use Rattle.smf_serve.specs.Runs.{HasRunOver, IsCut}
@@ -21,5 +21,7 @@ abbrev pub IsSimulated : Skills → Option (List ℕ) → Seen → Seen → Opti
 IsSimulated k input old new was is status = HasRunOver k AnyStands empty input old new was is status
 
 -- a fault ended it, and was told
-abbrev pub IsSimulationCut : Skills → (Error → Type 0) → (Error → Type 0) → (Error → Type 0) → Option (List ℕ) → Seen → Seen → Option (List ℕ) → Option (List ℕ) → Option (List ℕ) → Option (List ℕ) → Type 0
-IsSimulationCut k reads writes tells input old new was is told_old told_new = IsCut k NoneFails AnyStands reads writes tells empty input old new was is told_old told_new
+abbrev pub IsSimulationCut : Skills → (Error → Type 0) → (Error → Type 0) → (Error → Type 0) → Option (List ℕ) → Seen
+    → Seen → Option (List ℕ) → Option (List ℕ) → Option (List ℕ) → Option (List ℕ) → Type 0
+IsSimulationCut k reads writes tells input old new was is told_old told_new =
+    IsCut k NoneFails AnyStands reads writes tells empty input old new was is told_old told_new

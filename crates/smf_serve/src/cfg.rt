@@ -3,9 +3,9 @@ ghost use Rattle.sqlite.specs.Files.{over_files};
 ghost use Rattle.smf_serve.specs.Cfgs.{IsDone, IsEnded};
 ghost use Rattle.smf_serve.specs.Closed.{IsClosedAfter, IsEndedAfter};
 
-use crate::closing::close;
+use crate::database_close::close;
+use crate::fault_texts::tell_open;
 use crate::served::{Closed, Served};
-use crate::telling::tell_open;
 use smf_lines::{LineReader, TextWriter};
 use smf_store::open_repository;
 use sqlite::{Alter, Connection};
@@ -24,7 +24,8 @@ pub fn serve_cfg<S: Alter + Drop, R: LineReader, W: TextWriter, E: TextWriter>(
 ) -> Served<S>
     ensures ok { result.status ≢ 3 → IsDone S.Store conn result.conn
         (R.remaining reader.old) (W.contents out.old) (W.contents out.new) (E.contents errors.old) (E.contents errors.new) result.status }
-    ensures fault { result.status ≡ 3 → IsEnded S.Store conn result.conn R.read_fails (λ _. Unit {0}) W.write_fails E.write_fails
+    ensures fault { result.status ≡ 3
+        → IsEnded S.Store conn result.conn R.read_fails (λ _. Unit {0}) W.write_fails E.write_fails
         (R.remaining reader.old) (W.contents out.old) (W.contents out.new) (E.contents errors.old) (E.contents errors.new) }
 {
     match open_repository(alloc, conn) {

@@ -3,11 +3,11 @@
 ghost use Rattle.std.specs.Prelude.{◌≡◌, IfOk, Some, map, option_map};
 ghost use Rattle.smf_fmri.specs.ByKey.{Rises};
 ghost use Rattle.smf_model.specs.declared.held.Instance.{Instance as AnyInstance};
-ghost use Rattle.smf_model.specs.Holdings.{Holdings};
+ghost use Rattle.smf_model.specs.Contents.{Holdings};
 ghost use Rattle.smf_model.specs.Look.{instance};
-ghost use Rattle.smf_model.specs.Next.{found, snapshot_of};
+ghost use Rattle.smf_model.specs.Next.{current_instance, snapshot_of};
 ghost use Rattle.smf_model.specs.Shown.{body_of as body_of_snapshot};
-ghost use Rattle.smf_serve.specs.Reasons.{body_of, configured, refreshed, taken_of};
+ghost use Rattle.smf_serve.specs.Reasons.{body_of, view_after_refresh, item_after_refresh, taken_of};
 ghost use Rattle.smf_state.specs.Patched.{by_item};
 
 use smf_fmri::{Bytes, Ordered, SharedOrdered};
@@ -48,7 +48,8 @@ fn body_at<J: Journal>(
     repository: &Plain<J>,
     number: u64,
 ) -> Result<Option<Bytes>, AllocError>
-    ensures { IfOk result (λ body. body ≡ option_map (body_of repository.now.held) (found repository.now.held number)) }
+    ensures { IfOk result
+        (λ body. body ≡ option_map (body_of repository.now.held) (current_instance repository.now.held number)) }
 {
     match repository.instance(number)? {
         None => Ok(None),
@@ -60,12 +61,12 @@ fn body_at<J: Journal>(
 }
 
 /// An item as a refresh would make it.
-fn refreshed<J: Journal>(
+fn item_after_refresh<J: Journal>(
     alloc: Global,
     repository: &Plain<J>,
     item: &ViewItem,
 ) -> Result<ViewItem, AllocError>
-    ensures { IfOk result (λ i. i ≡ refreshed repository.now.held item.now) }
+    ensures { IfOk result (λ i. i ≡ item_after_refresh repository.now.held item.now) }
 {
     let body = body_at(alloc, repository, item.instance)?;
     let mut item = item.clone()?;
@@ -79,22 +80,22 @@ fn all_refreshed<J: Journal>(
     items: &[ViewItem],
 ) -> Result<Ordered<ViewItem>, AllocError>
     requires { Rises by_item items.now }
-    ensures { IfOk result (λ all. all ≡ map (refreshed repository.now.held) items.now) }
+    ensures { IfOk result (λ all. all ≡ map (item_after_refresh repository.now.held) items.now) }
 {
     let mut all = Vec::new(alloc);
     for item in items {
-        all.push(refreshed(alloc, repository, item)?)?;
+        all.push(item_after_refresh(alloc, repository, item)?)?;
     }
     Ok(Ordered::from_vec(all))
 }
 
 /// The view that the graph would have if each instance was refreshed.
-#[tactic(auto, unfolding(crate::specs::Reasons::configured))]
-pub(crate) fn configured<J: Journal>(
+#[tactic(auto, unfolding(crate::specs::Reasons::view_after_refresh))]
+pub(crate) fn view_after_refresh<J: Journal>(
     alloc: Global,
     repository: &Plain<J>,
 ) -> Result<View, AllocError>
-    ensures { IfOk result (λ view. view ≡ configured repository.now.held) }
+    ensures { IfOk result (λ view. view ≡ view_after_refresh repository.now.held) }
 {
     let view = repository.view()?;
     let items = all_refreshed(alloc, repository, view.items.as_slice())?;
@@ -107,5 +108,6 @@ pub(crate) fn configured<J: Journal>(
 
 /// A check looks at the bytes of the snapshot that a refresh would take.
 pub fn a_check_sees_what_a_refresh_takes()
-    ensures { (h : Holdings) (i : AnyInstance) → instance h i.number ≡ Some i → body_of h i ≡ body_of_snapshot (snapshot_of h i) }
+    ensures { (h : Holdings) (i : AnyInstance) → instance h i.number ≡ Some i
+        → body_of h i ≡ body_of_snapshot (snapshot_of h i) }
 {}

@@ -7,21 +7,21 @@
 //! a run).
 #![tactic(auto)]
 
-mod asking;
 mod cfg;
-mod choosing;
-mod closing;
 mod configured;
-mod copying;
+mod copies;
+mod database_close;
+mod fault_texts;
+mod patterns;
+mod questions;
 mod script;
 mod served;
 mod sim;
-mod telling;
 
 pub use cfg::{serve_cfg, serve_cfg_file};
-pub use closing::a_closed_file_holds_what_was_left;
 pub use configured::a_check_sees_what_a_refresh_takes;
-pub use copying::{FileBytes, check_copy, serve_copy, why_copy};
+pub use copies::{FileBytes, check_copy, serve_copy, why_copy};
+pub use database_close::a_closed_file_holds_what_was_left;
 pub use script::{serve, serve_file};
 pub use served::{Closed, Served};
 pub use sim::serve_sim;

@@ -1,12 +1,12 @@
 ghost use Rattle.std.specs.Prelude.{◌≡◌, ◌≢◌, ◌≤◌, IfErr, IfOk};
-ghost use Rattle.smf_edge.specs.Answers.{seen};
+ghost use Rattle.smf_edge.specs.Answers.{children_state};
 ghost use Rattle.sqlite.specs.Files.{over_files};
 ghost use Rattle.smf_serve.specs.Closed.{IsClosedAfter, IsEndedAfter};
 ghost use Rattle.smf_serve.specs.Runs.{HasRunOver, IsCut, IsCutOff, IsDone, IsEnded};
 
-use crate::closing::close;
+use crate::database_close::close;
+use crate::fault_texts::{fault_text, tell_open};
 use crate::served::{Closed, Served};
-use crate::telling::{fault_text, tell_open};
 use smf_cfg::tell;
 use smf_edge::Kids;
 use smf_lines::{LineReader, TextWriter};
@@ -37,10 +37,10 @@ fn run_over<J: Journal + Drop, R: LineReader, W: TextWriter, K: Kids>(
     kids: &mut K,
 ) -> Ended<Result<u8, ScriptFault>, J>
     ensures ran { IfOk result.end (λ status.
-        HasRunOver K.skills (J.stands result.journal) repository.held (R.remaining reader.old) (seen (K.ledger kids.old) (K.failures kids.old)) (seen (K.ledger kids.new) (K.failures kids.new)) (W.contents writer.old) (W.contents writer.new) status) }
+        HasRunOver K.skills (J.stands result.journal) repository.held (R.remaining reader.old) (children_state (K.ledger kids.old) (K.failures kids.old)) (children_state (K.ledger kids.new) (K.failures kids.new)) (W.contents writer.old) (W.contents writer.new) status) }
     ensures exit { IfOk result.end (λ status. status ≤ 1) }
     ensures cut { IfErr result.end (λ fault.
-        IsCutOff K.skills J.write_fails (J.stands result.journal) R.read_fails W.write_fails repository.held (R.remaining reader.old) (seen (K.ledger kids.old) (K.failures kids.old)) (seen (K.ledger kids.new) (K.failures kids.new)) (W.contents writer.old) (W.contents writer.new) fault) }
+        IsCutOff K.skills J.write_fails (J.stands result.journal) R.read_fails W.write_fails repository.held (R.remaining reader.old) (children_state (K.ledger kids.old) (K.failures kids.old)) (children_state (K.ledger kids.new) (K.failures kids.new)) (W.contents writer.old) (W.contents writer.new) fault) }
 {
     let mut node = match Node::new(alloc, repository) {
         Ok(node) => node,
@@ -68,9 +68,11 @@ pub(crate) fn serve_over<J: Journal + Drop, R: LineReader, W: TextWriter, E: Tex
     kids: &mut K,
 ) -> Ended<u8, J>
     ensures ok { result.end ≢ 3 → HasRunOver K.skills (J.stands result.journal) repository.held
-        (R.remaining reader.old) (seen (K.ledger kids.old) (K.failures kids.old)) (seen (K.ledger kids.new) (K.failures kids.new)) (W.contents writer.old) (W.contents writer.new) result.end }
-    ensures fault { result.end ≡ 3 → IsCut K.skills J.write_fails (J.stands result.journal) R.read_fails W.write_fails E.write_fails repository.held
-        (R.remaining reader.old) (seen (K.ledger kids.old) (K.failures kids.old)) (seen (K.ledger kids.new) (K.failures kids.new)) (W.contents writer.old) (W.contents writer.new) (E.contents errors.old) (E.contents errors.new) }
+        (R.remaining reader.old) (children_state (K.ledger kids.old) (K.failures kids.old)) (children_state (K.ledger kids.new) (K.failures kids.new)) (W.contents writer.old) (W.contents writer.new) result.end }
+    ensures fault { result.end ≡ 3
+        → IsCut K.skills J.write_fails (J.stands result.journal) R.read_fails W.write_fails E.write_fails
+        repository.held
+        (R.remaining reader.old) (children_state (K.ledger kids.old) (K.failures kids.old)) (children_state (K.ledger kids.new) (K.failures kids.new)) (W.contents writer.old) (W.contents writer.new) (E.contents errors.old) (E.contents errors.new) }
 {
     let Ended { end, journal } = run_over(alloc, repository, reader, writer, kids);
     match end {
@@ -99,9 +101,10 @@ pub fn serve<S: Alter + Drop, R: LineReader, W: TextWriter, E: TextWriter, K: Ki
     kids: &mut K,
 ) -> Served<S>
     ensures ok { result.status ≢ 3 → IsDone S.Store conn result.conn K.skills
-        (R.remaining reader.old) (seen (K.ledger kids.old) (K.failures kids.old)) (seen (K.ledger kids.new) (K.failures kids.new)) (W.contents writer.old) (W.contents writer.new) result.status }
-    ensures fault { result.status ≡ 3 → IsEnded S.Store conn result.conn K.skills (λ _. Unit {0}) R.read_fails W.write_fails E.write_fails
-        (R.remaining reader.old) (seen (K.ledger kids.old) (K.failures kids.old)) (seen (K.ledger kids.new) (K.failures kids.new)) (W.contents writer.old) (W.contents writer.new) (E.contents errors.old) (E.contents errors.new) }
+        (R.remaining reader.old) (children_state (K.ledger kids.old) (K.failures kids.old)) (children_state (K.ledger kids.new) (K.failures kids.new)) (W.contents writer.old) (W.contents writer.new) result.status }
+    ensures fault { result.status ≡ 3
+        → IsEnded S.Store conn result.conn K.skills (λ _. Unit {0}) R.read_fails W.write_fails E.write_fails
+        (R.remaining reader.old) (children_state (K.ledger kids.old) (K.failures kids.old)) (children_state (K.ledger kids.new) (K.failures kids.new)) (W.contents writer.old) (W.contents writer.new) (E.contents errors.old) (E.contents errors.new) }
 {
     match open_repository(alloc, conn) {
         Ok(repository) => {
@@ -131,12 +134,12 @@ pub fn serve_file<D: Disk + Drop, R: LineReader, W: TextWriter, E: TextWriter, K
     kids: &mut K,
 ) -> Closed<D>
     ensures ok { result.status ≢ 3 → IsClosedAfter (λ after. IsDone over_files conn after K.skills
-        (R.remaining reader.old) (seen (K.ledger kids.old) (K.failures kids.old)) (seen (K.ledger kids.new) (K.failures kids.new)) (W.contents writer.old) (W.contents writer.new) result.status) result.files }
+        (R.remaining reader.old) (children_state (K.ledger kids.old) (K.failures kids.old)) (children_state (K.ledger kids.new) (K.failures kids.new)) (W.contents writer.old) (W.contents writer.new) result.status) result.files }
     ensures fault { result.status ≡ 3 → IsEndedAfter
         (λ after status. IsDone over_files conn after K.skills
-        (R.remaining reader.old) (seen (K.ledger kids.old) (K.failures kids.old)) (seen (K.ledger kids.new) (K.failures kids.new)) (W.contents writer.old) (W.contents writer.new) status)
+        (R.remaining reader.old) (children_state (K.ledger kids.old) (K.failures kids.old)) (children_state (K.ledger kids.new) (K.failures kids.new)) (W.contents writer.old) (W.contents writer.new) status)
         (λ after told. IsEnded over_files conn after K.skills (λ _. Unit {0}) R.read_fails W.write_fails E.write_fails
-        (R.remaining reader.old) (seen (K.ledger kids.old) (K.failures kids.old)) (seen (K.ledger kids.new) (K.failures kids.new)) (W.contents writer.old) (W.contents writer.new) (E.contents errors.old) told)
+        (R.remaining reader.old) (children_state (K.ledger kids.old) (K.failures kids.old)) (children_state (K.ledger kids.new) (K.failures kids.new)) (W.contents writer.old) (W.contents writer.new) (E.contents errors.old) told)
         E.write_fails result.files (E.contents errors.new) }
 {
     let served = serve(alloc, conn, reader, writer, errors, kids);

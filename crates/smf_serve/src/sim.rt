@@ -1,5 +1,5 @@
 ghost use Rattle.std.specs.Prelude.{◌≡◌, ◌≢◌};
-ghost use Rattle.smf_edge.specs.Answers.{seen};
+ghost use Rattle.smf_edge.specs.Answers.{children_state};
 ghost use Rattle.smf_serve.specs.Sims.{IsSimulated, IsSimulationCut};
 
 use crate::script::{Ended, serve_over};
@@ -18,9 +18,9 @@ pub fn serve_sim<R: LineReader, W: TextWriter, E: TextWriter, K: Kids>(
     kids: &mut K,
 ) -> u8
     ensures ok { result ≢ 3 → IsSimulated K.skills
-        (R.remaining reader.old) (seen (K.ledger kids.old) (K.failures kids.old)) (seen (K.ledger kids.new) (K.failures kids.new)) (W.contents writer.old) (W.contents writer.new) result }
+        (R.remaining reader.old) (children_state (K.ledger kids.old) (K.failures kids.old)) (children_state (K.ledger kids.new) (K.failures kids.new)) (W.contents writer.old) (W.contents writer.new) result }
     ensures fault { result ≡ 3 → IsSimulationCut K.skills R.read_fails W.write_fails E.write_fails
-        (R.remaining reader.old) (seen (K.ledger kids.old) (K.failures kids.old)) (seen (K.ledger kids.new) (K.failures kids.new)) (W.contents writer.old) (W.contents writer.new) (E.contents errors.old) (E.contents errors.new) }
+        (R.remaining reader.old) (children_state (K.ledger kids.old) (K.failures kids.old)) (children_state (K.ledger kids.new) (K.failures kids.new)) (W.contents writer.old) (W.contents writer.new) (E.contents errors.old) (E.contents errors.new) }
 {
     let repository = Plain::new(alloc, NoJournal {});
     let Ended {

@@ -1,40 +1,47 @@
 -- Events that children give, one after another.
 use Rattle.std.proofs.Common.{◌≡◌, ◌<◌, ◌+◌, ℕ, zero, suc, Bool, true, false, not, nat_lt, is_some, Option, Some, None, inl, inr, refl, sym, ap, ◌∙◌, subst, arith}
 use Rattle.std.proofs.lemmas.Bool.{lt-ltb}
-use Rattle.smf_contract.specs.declared.event.Event.{Event as ContractEvent}
+use Rattle.smf_contract.specs.declared.event.ContractEvent.{ContractEvent}
 use Rattle.smf_drive.specs.Moves.{Moves}
 use Rattle.smf_drive.specs.Moves.IsMove.{polled}
-use Rattle.smf_drive.proofs.Moving.{moves_none, moves_then, one_move}
+use Rattle.smf_drive.proofs.Moves.{moves_none, moves_then, one_move}
 use Rattle.smf_edge.specs.Answers.{Seen, Skills}
-use Rattle.smf_edge.specs.Ledgers.{Ledger}
-use Rattle.smf_machine.specs.declared.hearing.News.{News}
-use Rattle.smf_machine.specs.Children.{happened, heard, news_of}
+use Rattle.smf_machine.specs.declared.polls.News.{News}
+use Rattle.smf_machine.specs.Children.{world_after_news, world_after_poll, news_of}
 use Rattle.smf_machine.specs.Runners.{HasGiven, Rules, rules_of}
 use Rattle.smf_node.specs.declared.runners.TheConstants.{MAX_POLLS}
-use Rattle.smf_node.specs.Rounds.{AreGiven, Course, HasLearned, NoMore, course, with_event, with_world}
+use Rattle.smf_node.specs.Rounds.{AreGiven, Course, NoMore, course, with_event, with_world}
 use Rattle.smf_server.specs.Turns.{HasHeard}
 use Rattle.smf_world.specs.declared.event.Event.TheVariants as events
 use Rattle.smf_world.specs.Reached.{IsLater}
 use Rattle.smf_world.specs.Schedule.{Progress}
 use Rattle.smf_world.specs.World.{World}
-use Rattle.smf_world.proofs.Reaching.{later_by, later_same, later_self, later_then}
+use Rattle.smf_world.proofs.LaterWorlds.{later_by, later_same, later_self, later_then}
 
 -- ---- one event
 
-later_happened : (o : Option News) (w v : World) → v ≡ happened o w → IsLater w v
+later_happened : (o : Option News) (w v : World) → v ≡ world_after_news o w → IsLater w v
 later_happened None w v is = later_same w v is
 later_happened (Some n) w v is = later_by w v (events.Process n.process n.what) is
 
-pub later_heard : (o : Option ContractEvent) (p q : Progress) → q ≡ with_world p (heard o p.world) → IsLater p.world q.world
+pub later_heard : (o : Option ContractEvent) (p q : Progress) → q ≡ with_world p (world_after_poll o p.world)
+    → IsLater p.world q.world
 later_heard None p q is = later_same p.world q.world (ap (λ (x : Progress). x.world) is)
-later_heard (Some e) p q is = later_happened (news_of p.world.table e) p.world q.world (ap (λ (x : Progress). x.world) is)
+later_heard (Some e) p q is =
+    later_happened (news_of p.world.table e) p.world q.world (ap (λ (x : Progress). x.world) is)
 
 -- ---- so many events
 
-given_last : (r : Rules) (k : ℕ) (c : Course) (p : Progress) (s t : Seen) (e : ContractEvent) → AreGiven r k c (course p s) → r.polls (Some e) s t → AreGiven r (suc k) c (course (with_event p e) t)
-given_last r zero c p s t e h poll =
-    (e, t, subst (λ (x : Course). r.polls (Some e) x.seen t) h poll, subst (λ (x : Course). course (with_event p e) t ≡ course (with_event x.progress e) t) h refl)
-given_last r (suc k) c p s t e h poll = (h.0, h.1, h.2, given_last r k (course (with_event c.progress h.0) h.1) p s t e h.3 poll)
+given_last : (r : Rules) (k : ℕ) (c : Course) (p : Progress) (s t : Seen) (e : ContractEvent)
+    → AreGiven r k c (course p s) → r.polls (Some e) s t → AreGiven r (suc k) c (course (with_event p e) t)
+given_last r zero c p s t e h poll = (
+  e,
+  t,
+  subst (λ (x : Course). r.polls (Some e) x.seen t) h poll,
+  subst (λ (x : Course). course (with_event p e) t ≡ course (with_event x.progress e) t) h refl,
+)
+given_last r (suc k) c p s t e h poll =
+    (h.0, h.1, h.2, given_last r k (course (with_event c.progress h.0) h.1) p s t e h.3 poll)
 
 -- children gave so many events; that is whether any was given
 pub record HaveGiven (k : Skills) (count : ℕ) (c d : Course) (any : Bool) : Type 0 where
@@ -45,52 +52,84 @@ pub record HaveGiven (k : Skills) (count : ℕ) (c d : Course) (any : Bool) : Ty
 pub given_none : (k : Skills) (c : Course) → HaveGiven k 0 c c false
 given_none k c = record { given = refl; told = refl; later = later_self c.progress.world }
 
-given_more : (k : Skills) (n : ℕ) (c : Course) (p q : Progress) (s t : Seen) (o : Option ContractEvent) (e : ContractEvent) (any : Bool) → HaveGiven k n c (course p s) any → o ≡ Some e → (rules_of k).polls o s t → q ≡ with_world p (heard o p.world)
+given_more : (k : Skills) (n : ℕ) (c : Course) (p q : Progress) (s t : Seen) (o : Option ContractEvent)
+    (e : ContractEvent) (any : Bool) → HaveGiven k n c (course p s) any → o ≡ Some e → (rules_of k).polls o s t
+    → q ≡ with_world p (world_after_poll o p.world)
     → HaveGiven k (n + 1) c (course q t) true
 given_more k n c p q s t o e any h some poll is =
     let next : suc n ≡ n + 1 = omega arith in
-    let at : q ≡ with_event p e = is ∙ ap (λ (x : Option ContractEvent). with_world p (heard x p.world)) some in
-    let one : (rules_of k).polls (Some e) s t = subst (λ (x : Option ContractEvent). (rules_of k).polls x s t) some poll in
+    let at : q ≡ with_event p e =
+    is ∙ ap (λ (x : Option ContractEvent). with_world p (world_after_poll x p.world)) some in
+    let one : (rules_of k).polls (Some e) s t =
+    subst (λ (x : Option ContractEvent). (rules_of k).polls x s t) some poll in
     record {
       given = subst (λ (m : ℕ). AreGiven (rules_of k) m c (course q t)) next
-          (subst (λ (x : Progress). AreGiven (rules_of k) (suc n) c (course x t)) (sym at) (given_last (rules_of k) n c p s t e h.given one));
+          (subst (λ (x : Progress). AreGiven (rules_of k) (suc n) c (course x t)) (sym at)
+          (given_last (rules_of k) n c p s t e h.given one));
       told = sym (lt-ltb 0 (n + 1) (omega arith));
       later = later_then c.progress.world p.world q.world h.later (later_heard o p q is);
     }
 
-pub given_on : (k : Skills) (n : ℕ) (c : Course) (p q : Progress) (s t : Seen) (o : Option ContractEvent) (b any : Bool) → HaveGiven k n c (course p s) any → is_some o ≡ not b → b ≡ false → (rules_of k).polls o s t → q ≡ with_world p (heard o p.world)
+pub given_on : (k : Skills) (n : ℕ) (c : Course) (p q : Progress) (s t : Seen) (o : Option ContractEvent)
+    (b any : Bool) → HaveGiven k n c (course p s) any → is_some o ≡ not b → b ≡ false → (rules_of k).polls o s t
+    → q ≡ with_world p (world_after_poll o p.world)
     → HaveGiven k (n + 1) c (course q t) true
 given_on k n c p q s t None b any h found is poll at = absurd cc
 given_on k n c p q s t (Some e) b any h found is poll at = given_more k n c p q s t (Some e) e any h refl poll at
 
-pub heard_quiet : (k : Skills) (n : ℕ) (c : Course) (p q : Progress) (s t : Seen) (o : Option ContractEvent) (b any : Bool) → HaveGiven k n c (course p s) any → n < MAX_POLLS → is_some o ≡ not b → b ≡ true → (rules_of k).polls o s t → q ≡ with_world p (heard o p.world)
+pub heard_quiet : (k : Skills) (n : ℕ) (c : Course) (p q : Progress) (s t : Seen) (o : Option ContractEvent)
+    (b any : Bool) → HaveGiven k n c (course p s) any → n < MAX_POLLS → is_some o ≡ not b → b ≡ true
+    → (rules_of k).polls o s t → q ≡ with_world p (world_after_poll o p.world)
     → HasHeard k c (course q t) any
 heard_quiet k n c p q s t (Some e) b any h low found is poll at = absurd cc
 heard_quiet k n c p q s t None b any h low found is poll at =
     record {
-      learned = record { count = n; mid = course p s; given = h.given; few = omega (arith, low); ended = inr (poll, at) };
+      learned = record {
+        count = n;
+        mid = course p s;
+        given = h.given;
+        few = omega (arith, low);
+        ended = inr (poll, at);
+      };
       told = h.told;
     }
 
-pub heard_most : (k : Skills) (n : ℕ) (c d : Course) (any : Bool) → HaveGiven k n c d any → n ≡ MAX_POLLS → HasHeard k c d any
-heard_most k n c d any h is = record { learned = record { count = n; mid = d; given = h.given; few = omega (arith, is); ended = inl (is, refl) }; told = h.told }
+pub heard_most : (k : Skills) (n : ℕ) (c d : Course) (any : Bool) → HaveGiven k n c d any → n ≡ MAX_POLLS
+    → HasHeard k c d any
+heard_most k n c d any h is =
+    record {
+      learned = record {
+        count = n;
+        mid = d;
+        given = h.given;
+        few = omega (arith, is);
+        ended = inl (is, refl);
+      };
+      told = h.told;
+    }
 
 -- ---- they are moves
 
-moves_to : (c d e : Course) → Moves c.progress.world d.progress.world c.seen.ledger d.seen.ledger → e ≡ d → Moves c.progress.world e.progress.world c.seen.ledger e.seen.ledger
-moves_to c d e h is = subst (λ (x : Course). Moves c.progress.world x.progress.world c.seen.ledger x.seen.ledger) (sym is) h
+moves_to : (c d e : Course) → Moves c.progress.world d.progress.world c.seen.ledger d.seen.ledger → e ≡ d
+    → Moves c.progress.world e.progress.world c.seen.ledger e.seen.ledger
+moves_to c d e h is =
+    subst (λ (x : Course). Moves c.progress.world x.progress.world c.seen.ledger x.seen.ledger) (sym is) h
 
-given_moved : (k : Skills) (n : ℕ) (c d : Course) → AreGiven (rules_of k) n c d → Moves c.progress.world d.progress.world c.seen.ledger d.seen.ledger
+given_moved : (k : Skills) (n : ℕ) (c d : Course) → AreGiven (rules_of k) n c d
+    → Moves c.progress.world d.progress.world c.seen.ledger d.seen.ledger
 given_moved k zero c d h = moves_to c c d (moves_none c.progress.world c.seen.ledger) h
 given_moved k (suc n) c d h =
     let m : Course = course (with_event c.progress h.0) h.1 in
     moves_then c.progress.world m.progress.world d.progress.world c.seen.ledger m.seen.ledger d.seen.ledger
-    (one_move c.progress.world m.progress.world c.seen.ledger m.seen.ledger (polled h.0 h.2 refl)) (given_moved k n m d h.3)
+    (one_move c.progress.world m.progress.world c.seen.ledger m.seen.ledger (polled h.0 h.2 refl))
+    (given_moved k n m d h.3)
 
-still_moved : (c d : Course) → d.progress.world ≡ c.progress.world → d.seen.ledger ≡ c.seen.ledger → Moves c.progress.world d.progress.world c.seen.ledger d.seen.ledger
+still_moved : (c d : Course) → d.progress.world ≡ c.progress.world → d.seen.ledger ≡ c.seen.ledger
+    → Moves c.progress.world d.progress.world c.seen.ledger d.seen.ledger
 still_moved c d world kept = (zero, (world, kept))
 
-ended_moved : (k : Skills) (n : ℕ) (c d : Course) → NoMore (rules_of k) n c d → Moves c.progress.world d.progress.world c.seen.ledger d.seen.ledger
+ended_moved : (k : Skills) (n : ℕ) (c d : Course) → NoMore (rules_of k) n c d
+    → Moves c.progress.world d.progress.world c.seen.ledger d.seen.ledger
 ended_moved k n c d (inl h) = moves_to c c d (moves_none c.progress.world c.seen.ledger) h.1
 ended_moved k n c d (inr h) = still_moved c d (ap (λ (p : Progress). p.world) h.1) (none_kept h.0)
   where
@@ -98,7 +137,10 @@ ended_moved k n c d (inr h) = still_moved c d (ap (λ (p : Progress). p.world) h
     none_kept (inl none) = none.0
     none_kept (inr failed) = failed.1
 
-pub heard_moved : (k : Skills) (c d : Course) (any : Bool) → HasHeard k c d any → Moves c.progress.world d.progress.world c.seen.ledger d.seen.ledger
+pub heard_moved : (k : Skills) (c d : Course) (any : Bool) → HasHeard k c d any
+    → Moves c.progress.world d.progress.world c.seen.ledger d.seen.ledger
 heard_moved k c d any h =
-    moves_then c.progress.world h.learned.mid.progress.world d.progress.world c.seen.ledger h.learned.mid.seen.ledger d.seen.ledger
-    (given_moved k h.learned.count c h.learned.mid h.learned.given) (ended_moved k h.learned.count h.learned.mid d h.learned.ended)
+    moves_then c.progress.world h.learned.mid.progress.world d.progress.world c.seen.ledger h.learned.mid.seen.ledger
+    d.seen.ledger
+    (given_moved k h.learned.count c h.learned.mid h.learned.given)
+    (ended_moved k h.learned.count h.learned.mid d h.learned.ended)

@@ -1,5 +1,5 @@
 -- How a server ends, out of what its parts do.
-use Rattle.std.proofs.Common.{◌≡◌, ◌⊎◌, inl, inr, ℕ, suc, List, Bool, true, false, Option, refl, subst}
+use Rattle.std.proofs.Common.{◌≡◌, inl, inr, ℕ, suc, List, Bool, true, false, Option, refl, subst}
 use Rattle.std.specs.Prelude.{Result, Ok, Err, IfOk, IfErr}
 use Rattle.std.specs.declared.time.Duration.{Duration}
 use Rattle.smf_edge.specs.Answers.{Seen, Skills}
@@ -7,21 +7,27 @@ use Rattle.smf_model.specs.declared.journal.RepoFault.{RepoFault}
 use Rattle.smf_run.specs.Ends.{HasEnded, IsUnlisted}
 use Rattle.smf_script.specs.declared.fault.ScriptFault.{ScriptFault}
 use Rattle.smf_server.specs.Life.{AreLeft, AreTurns, HasLasted, HasStayed, IsBroken}
-use Rattle.smf_server.specs.Passing.{Passed}
+use Rattle.smf_server.specs.Traffic.{Passed}
 use Rattle.smf_server.specs.Turns.{Between, HasTurned}
 use Rattle.smf_server.specs.declared.ask.Onward.{Onward}
 use Rattle.smf_server.specs.declared.ask.Onward.TheVariants.{Goes}
 use Rattle.smf_server.proofs.Served.{one_turn_more}
 
-pub goes_on : (k : Skills) (clock : Duration → Type 0) (n : ℕ) (o : Onward) (was now is : Option (List Passed)) (s mid t : Between) → AreTurns k clock n was now s mid → o ≡ Goes → HasTurned k clock o now is mid t → AreTurns k clock (suc n) was is s t
+pub goes_on : (k : Skills) (clock : Duration → Type 0) (n : ℕ) (o : Onward) (was now is : Option (List Passed))
+    (s mid t : Between) → AreTurns k clock n was now s mid → o ≡ Goes → HasTurned k clock o now is mid t
+    → AreTurns k clock (suc n) was is s t
 goes_on k clock n o was now is s mid t turns same turned =
-    one_turn_more k clock n was now is s mid t turns (subst (λ (x : Onward). HasTurned k clock x now is mid t) same turned)
+    one_turn_more k clock n was now is s mid t turns
+    (subst (λ (x : Onward). HasTurned k clock x now is mid t) same turned)
 
-pub lasted : (k : Skills) (clock : Duration → Type 0) (stores : RepoFault → Type 0) (most : ℕ) (how : Result Onward ScriptFault) (was is : Option (List Passed)) (s t : Between)
-    → IfOk how (λ onward. HasStayed k clock most onward was is s t) → IfErr how (λ fault. IsBroken k clock stores fault was is s t) → HasLasted k clock stores most how was is s t
+pub lasted : (k : Skills) (clock : Duration → Type 0) (stores : RepoFault → Type 0) (most : ℕ)
+    (how : Result Onward ScriptFault) (was is : Option (List Passed)) (s t : Between)
+    → IfOk how (λ onward. HasStayed k clock most onward was is s t)
+    → IfErr how (λ fault. IsBroken k clock stores fault was is s t) → HasLasted k clock stores most how was is s t
 lasted k clock stores most (Ok onward) was is s t stayed broken = stayed
 lasted k clock stores most (Err fault) was is s t stayed broken = broken
 
-pub are_left : (k : Skills) (listed : Bool) (old new : Seen) → (listed ≡ true → HasEnded k old new) → (listed ≡ false → IsUnlisted k old new) → AreLeft k old new
+pub are_left : (k : Skills) (listed : Bool) (old new : Seen) → (listed ≡ true → HasEnded k old new)
+    → (listed ≡ false → IsUnlisted k old new) → AreLeft k old new
 are_left k true old new ended unlisted = inl (ended refl)
 are_left k false old new ended unlisted = inr (unlisted refl)

@@ -1,6 +1,6 @@
 pub mod Life
 pub mod Loops
-pub mod Passing
-pub mod Stopping
-pub mod Telling
+pub mod Traffic
+pub mod Stops
+pub mod FaultTexts
 pub mod Turns

@@ -3,7 +3,7 @@ use Rattle.std.specs.Prelude.{◌≡◌, ◌⊎◌, ℕ, List, [], ◌∷◌, le
 use Rattle.std.specs.declared.time.Duration.{Duration}
 use Rattle.smf_edge.specs.Answers.{Seen, Skills}
 use Rattle.smf_model.specs.declared.journal.RepoFault.{RepoFault}
-use Rattle.smf_model.specs.Holdings.{Holdings}
+use Rattle.smf_model.specs.Contents.{Holdings}
 use Rattle.smf_node.specs.Faults.{IsUnbooted}
 use Rattle.smf_node.specs.declared.fault.NodeFault.{NodeFault}
 use Rattle.smf_run.specs.Ends.{HasEnded, IsUnlisted}
@@ -12,8 +12,8 @@ use Rattle.smf_script.specs.declared.fault.ScriptFault.TheVariants.{Node}
 use Rattle.smf_world.specs.declared.event.Event.TheVariants as events
 use Rattle.smf_world.specs.Schedule.{begun_at}
 use Rattle.smf_world.specs.Happens.{happens}
-use Rattle.smf_world.specs.World.{found}
-use Rattle.smf_server.specs.Passing.{Passed, Closed, passing}
+use Rattle.smf_world.specs.World.{initial_world}
+use Rattle.smf_server.specs.Traffic.{Passed, Closed, traffic_with}
 use Rattle.smf_server.specs.Turns.{Between, IsFailed, IsServed, standing}
 use Rattle.smf_server.specs.declared.ask.Onward.{Onward}
 use Rattle.smf_server.specs.declared.ask.Onward.TheVariants.{Goes, Ends}
@@ -21,35 +21,41 @@ use Rattle.smf_server.specs.declared.ask.Onward.TheVariants.{Goes, Ends}
 -- ---- turns
 
 -- so many turns were taken
-pub record AreTurns (k : Skills) (clock : Duration → Type 0) (count : ℕ) (was is : Option (List Passed)) (s t : Between) : Type 0 where
+pub record AreTurns (k : Skills) (clock : Duration → Type 0) (count : ℕ) (was is : Option (List Passed))
+    (s t : Between) : Type 0 where
   pub served : IsServed k clock was is s t
   pub many : length served.turns ≡ count
 
 -- turns were taken until no more was asked
-pub record IsClosed (k : Skills) (clock : Duration → Type 0) (was is : Option (List Passed)) (s t : Between) : Type 0 where
+pub record IsClosed (k : Skills) (clock : Duration → Type 0) (was is : Option (List Passed))
+    (s t : Between) : Type 0 where
   pub now : Option (List Passed)
   pub served : IsServed k clock was now s t
-  pub closed : is ≡ passing (Closed ∷ []) now
+  pub closed : is ≡ traffic_with (Closed ∷ []) now
 
 -- turns were taken, and a fault ended the next one
-pub record IsBroken (k : Skills) (clock : Duration → Type 0) (stores : RepoFault → Type 0) (fault : ScriptFault) (was is : Option (List Passed)) (s t : Between) : Type 0 where
+pub record IsBroken (k : Skills) (clock : Duration → Type 0) (stores : RepoFault → Type 0) (fault : ScriptFault)
+    (was is : Option (List Passed)) (s t : Between) : Type 0 where
   pub now : Option (List Passed)
   pub mid : Between
   pub served : IsServed k clock was now s mid
   pub failed : IsFailed k stores fault now is mid t
 
 -- turns were taken until no more was asked, or the most that a server takes
-abbrev pub HasStayed : Skills → (Duration → Type 0) → ℕ → Onward → Option (List Passed) → Option (List Passed) → Between → Between → Type 0
+abbrev pub HasStayed : Skills → (Duration → Type 0) → ℕ → Onward → Option (List Passed) → Option (List Passed)
+    → Between → Between → Type 0
 HasStayed k clock most Ends was is s t = IsClosed k clock was is s t
 HasStayed k clock most Goes was is s t = AreTurns k clock most was is s t
 
 -- ---- from boot to end
 
 -- after the boot of what was found, and before the first turn
-abbrev pub booted : Holdings → Seen → Between
-booted h seen = record { standing = standing (begun_at (happens (found h) events.Boot)) seen true; looked = 0; ends = [] }
+abbrev pub state_after_boot : Holdings → Seen → Between
+state_after_boot h seen =
+    record { standing = standing (begun_at (happens (initial_world h) events.Boot)) seen true; looked = 0; ends = [] }
 
-abbrev pub HasLasted : Skills → (Duration → Type 0) → (RepoFault → Type 0) → ℕ → Result Onward ScriptFault → Option (List Passed) → Option (List Passed) → Between → Between → Type 0
+abbrev pub HasLasted : Skills → (Duration → Type 0) → (RepoFault → Type 0) → ℕ → Result Onward ScriptFault
+    → Option (List Passed) → Option (List Passed) → Between → Between → Type 0
 HasLasted k clock stores most (Ok onward) was is s t = HasStayed k clock most onward was is s t
 HasLasted k clock stores most (Err fault) was is s t = IsBroken k clock stores fault was is s t
 
@@ -59,8 +65,10 @@ AreLeft k old new = HasEnded k old new ⊎ IsUnlisted k old new
 
 -- turns were taken, and then the children that were left were ended. The value after the last turn stands in the
 -- journal
-pub record HasLived {J : Type 0} (k : Skills) (clock : Duration → Type 0) (stores : RepoFault → Type 0) (stands : J → Holdings → Type 0)
-    (most : ℕ) (how : Result Onward ScriptFault) (journal : J) (was is : Option (List Passed)) (first : Between) (new : Seen) : Type 0 where
+pub record HasLived {J : Type 0} (k : Skills) (clock : Duration → Type 0) (stores : RepoFault → Type 0)
+    (stands : J → Holdings → Type 0)
+    (most : ℕ) (how : Result Onward ScriptFault) (journal : J) (was is : Option (List Passed)) (first : Between)
+    (new : Seen) : Type 0 where
   pub last : Between
   pub lasted : HasLasted k clock stores most how was is first last
   pub kept : stands journal last.standing.course.progress.world.now
@@ -68,7 +76,8 @@ pub record HasLived {J : Type 0} (k : Skills) (clock : Duration → Type 0) (sto
 
 -- there was no boot, and nothing was done
 pub record IsUnborn {J : Type 0} (stores : RepoFault → Type 0) (stands : J → Holdings → Type 0)
-    (h : Holdings) (how : Result Onward ScriptFault) (journal : J) (was is : Option (List Passed)) (old new : Seen) : Type 0 where
+    (h : Holdings) (how : Result Onward ScriptFault) (journal : J) (was is : Option (List Passed))
+    (old new : Seen) : Type 0 where
   pub fault : NodeFault
   pub told : how ≡ Err (Node fault)
   pub unbooted : IsUnbooted stores h fault

@@ -6,8 +6,8 @@ use Rattle.std.specs.List.{list_any}
 use Rattle.smf_model.specs.declared.command.Edit.TheVariants.{Mark}
 use Rattle.smf_model.specs.declared.command.Mark.TheVariants.{Maintenance}
 use Rattle.smf_model.specs.declared.held.Instance.{Instance}
-use Rattle.smf_model.specs.Holdings.{Holdings}
-use Rattle.smf_model.specs.Next.{found}
+use Rattle.smf_model.specs.Contents.{Holdings}
+use Rattle.smf_model.specs.Next.{current_instance}
 use Rattle.smf_server.specs.declared.ends.End.{End}
 use Rattle.smf_server.specs.declared.ends.TheConstants.{MOST_ENDS, PERIOD}
 use Rattle.smf_state.specs.declared.state.State.{State}
@@ -53,7 +53,8 @@ end_if false n = None
 -- a restarter noted that what it ran ended: it committed the row again, in the state in which the instance ran with
 -- nothing under way. A stop that was ordered, and a start that fails, are no such ends
 abbrev pub end_in : List Item → ℕ → Item → Option ℕ
-end_in shown place (Committed i number state next) = end_if (runs state && is_none next && was_steady shown i state place) i
+end_in shown place (Committed i number state next) =
+    end_if (runs state && is_none next && was_steady shown i state place) i
 end_in shown place _ = None
 
 abbrev pub end_by : List Item → ℕ → Option Item → Option ℕ
@@ -71,9 +72,10 @@ ended_now at None = []
 ended_now at (Some n) = record { instance = n; at = at } ∷ []
 
 -- ends, and those of which so many items of a trail tell, from a first one on
-abbrev pub noted : List End → List Item → Duration → ℕ → ℕ → List End
-noted ends shown at first zero = ends
-noted ends shown at first (suc k) = noted ends shown at first k ++ ended_now at (end_at shown (first + k))
+abbrev pub ends_after_items : List End → List Item → Duration → ℕ → ℕ → List End
+ends_after_items ends shown at first zero = ends
+ends_after_items ends shown at first (suc k) =
+    ends_after_items ends shown at first k ++ ended_now at (end_at shown (first + k))
 
 -- it is less than ten seconds ago
 abbrev pub is_recent : Duration → End → Bool
@@ -81,7 +83,7 @@ is_recent now e = nat_lt (as_nanos now - as_nanos e.at) PERIOD
 
 -- those of the last ten seconds, with those of which a trail tells past the items that were looked at
 abbrev pub seen_by : Duration → List Item → ℕ → List End → List End
-seen_by now shown looked ends = noted (filter (is_recent now) ends) shown now looked (length shown - looked)
+seen_by now shown looked ends = ends_after_items (filter (is_recent now) ends) shown now looked (length shown - looked)
 
 -- ---- instances that ended too often
 
@@ -99,7 +101,8 @@ number_if true numbers n = numbers ++ n ∷ []
 number_if false numbers n = numbers
 
 abbrev pub with_hasty : List End → List ℕ → End → List ℕ
-with_hasty ends numbers e = number_if (is_hasty ends e.instance && not (list_any (is_number e.instance) numbers)) numbers e.instance
+with_hasty ends numbers e =
+    number_if (is_hasty ends e.instance && not (list_any (is_number e.instance) numbers)) numbers e.instance
 
 abbrev pub hasty_among : List End → List ℕ → List End → List ℕ
 hasty_among ends numbers [] = numbers
@@ -132,4 +135,4 @@ line_of (Some i) = loop_text i.name ∷ []
 -- a line for each of these instances that is there
 abbrev pub lines_of : Holdings → List ℕ → List (List ℕ)
 lines_of h [] = []
-lines_of h (n ∷ ns) = line_of (found h n) ++ lines_of h ns
+lines_of h (n ∷ ns) = line_of (current_instance h n) ++ lines_of h ns

@@ -1,5 +1,5 @@
 -- The state of a server, turn by turn.
-use Rattle.std.specs.Prelude.{◌≡◌, ℕ, nat_lt, ◌==◌, ◌||◌, ◌&&◌, not, List, [], ◌∷◌, ◌++◌, length, filter, flat_map, map, reverse, option_to_list, Bool, true, false, Option, Some, None, option_map, is_some, slice_get}
+use Rattle.std.specs.Prelude.{◌≡◌, ℕ, nat_lt, ◌==◌, ◌||◌, ◌&&◌, not, List, [], ◌∷◌, length, filter, flat_map, map, reverse, Bool, true, false, Option, Some, is_some, slice_get}
 use Rattle.std.specs.declared.time.Duration.{Duration}
 use Rattle.smf_edge.specs.Answers.{Seen, Skills}
 use Rattle.smf_machine.specs.Runners.{rules_of}
@@ -13,7 +13,7 @@ use Rattle.smf_restarter.specs.Knowledge.{Knowledge}
 use Rattle.smf_run.specs.Scripts.{HasRun, Stops}
 use Rattle.smf_script.specs.declared.fault.ScriptFault.{ScriptFault}
 use Rattle.smf_script.specs.declared.fault.ScriptFault.TheVariants.{Node}
-use Rattle.smf_script.specs.Script.{begun}
+use Rattle.smf_script.specs.Script.{first_session}
 use Rattle.smf_world.specs.declared.event.Event.TheVariants as events
 use Rattle.smf_world.specs.declared.item.Item.{Item}
 use Rattle.smf_world.specs.declared.schedule.Settled.{Settled}
@@ -22,7 +22,7 @@ use Rattle.smf_world.specs.Schedule.{Progress, on}
 use Rattle.smf_world.specs.Worked.{restarter}
 use Rattle.smf_world.specs.World.{World}
 use Rattle.smf_server.specs.Loops.{hasty, is_kept, lines_of, marks, seen_by}
-use Rattle.smf_server.specs.Passing.{Passed, Asked, Closed, Told, passing, reply_in}
+use Rattle.smf_server.specs.Traffic.{Passed, Asked, Closed, Told, traffic_with, reply_in}
 use Rattle.smf_server.specs.declared.ask.Onward.{Onward}
 use Rattle.smf_server.specs.declared.ends.End.{End}
 use Rattle.smf_server.specs.declared.ends.Ends.{Ends as SeenEnds}
@@ -81,7 +81,8 @@ GoesIf false k c busy t = t ≡ record { course = c; busy = busy }
 pub record HasTried (k : Skills) (c : Course) (t : Standing) : Type 0 where
   pub one : Standing
   pub first : HasGone k 1 c one
-  pub more : GoesIf (one.busy && not (is_same (size_of c.progress.world) (size_of one.course.progress.world))) k one.course one.busy t
+  pub more : GoesIf (one.busy && not (is_same (size_of c.progress.world) (size_of one.course.progress.world))) k
+      one.course one.busy t
 
 -- rounds were made if anything happened; if more were wanted, one at first
 abbrev pub GoesBy : Bool → Bool → Skills → Course → Standing → Type 0
@@ -146,16 +147,16 @@ pub record HasPassed (k : Skills) (s t : Standing) : Type 0 where
 abbrev pub shown_of : World → List Item
 shown_of w = reverse w.trail
 
-abbrev pub shown : Between → List Item
-shown s = shown_of s.standing.course.progress.world
+abbrev pub trail_of_state : Between → List Item
+trail_of_state s = shown_of s.standing.course.progress.world
 
 -- true if the trail shows anything that was not looked at
 abbrev pub has_more : Between → Bool
-has_more s = nat_lt s.looked (length (shown s))
+has_more s = nat_lt s.looked (length (trail_of_state s))
 
 -- the ends of the last ten seconds, with those of which the trail tells anew
 abbrev pub ends_by : Duration → Between → List End
-ends_by now s = seen_by now (shown s) s.looked s.ends
+ends_by now s = seen_by now (trail_of_state s) s.looked s.ends
 
 -- the clock was read, and the instances that ended too often were marked for maintenance, each once. This is told of
 -- them, their ends are forgotten, and rounds are wanted
@@ -166,7 +167,7 @@ pub record HasLooked (clock : Duration → Type 0) (s t : Between) (lines : List
   pub are : numbers ≡ hasty (ends_by now s)
   pub marked : t.standing.course ≡ at s.standing.course (marks numbers s.standing.course.progress)
   pub busy : t.standing.busy ≡ (s.standing.busy || nat_lt 0 (length numbers))
-  pub looked : t.looked ≡ length (shown s)
+  pub looked : t.looked ≡ length (trail_of_state s)
   pub kept : t.ends ≡ filter (is_kept numbers) (ends_by now s)
   pub told : lines ≡ lines_of s.standing.course.progress.world.now numbers
 
@@ -192,7 +193,8 @@ pub record Answer : Type 0 where
 
 -- the lines of a request were done, and this was said to them
 abbrev pub HasAnswered : Skills → Answer → Course → Course → Type 0
-HasAnswered k a c d = HasRun k (begun c.progress) (Some a.request) c.seen d.seen d.progress (Some []) (Some a.text) a.status
+HasAnswered k a c d =
+    HasRun k (first_session c.progress) (Some a.request) c.seen d.seen d.progress (Some []) (Some a.text) a.status
 
 -- and then rounds were made, at least if anything came of them
 pub record IsAnswer (k : Skills) (a : Answer) (s t : Between) : Type 0 where
@@ -220,37 +222,43 @@ passed_in (Ticked lines) = map Told lines
 passed_in (Answered a) = Asked a.request ∷ reply_in a.written a.text a.status ∷ []
 
 -- a turn was taken: one request came in and its reply went out, or lines were told
-pub record IsTurn (k : Skills) (clock : Duration → Type 0) (was is : Option (List Passed)) (s t : Between) : Type 0 where
+pub record IsTurn (k : Skills) (clock : Duration → Type 0) (was is : Option (List Passed))
+    (s t : Between) : Type 0 where
   pub one : Doing
   pub step : Step k clock one s t
-  pub passed : is ≡ passing (passed_in one) was
+  pub passed : is ≡ traffic_with (passed_in one) was
 
-abbrev pub HasTurned : Skills → (Duration → Type 0) → Onward → Option (List Passed) → Option (List Passed) → Between → Between → Type 0
+abbrev pub HasTurned : Skills → (Duration → Type 0) → Onward → Option (List Passed) → Option (List Passed) → Between
+    → Between → Type 0
 HasTurned k clock Goes was is s t = IsTurn k clock was is s t
-HasTurned k clock Ends was is s t = (t ≡ s) × (is ≡ passing (Closed ∷ []) was)
+HasTurned k clock Ends was is s t = (t ≡ s) × (is ≡ traffic_with (Closed ∷ []) was)
 
 -- ---- faults
 
 -- a request was ended by a fault, and replied to with its status
-pub record IsCut (k : Skills) (stores : RepoFault → Type 0) (fault : ScriptFault) (was is : Option (List Passed)) (s t : Course) : Type 0 where
+pub record IsCut (k : Skills) (stores : RepoFault → Type 0) (fault : ScriptFault) (was is : Option (List Passed))
+    (s t : Course) : Type 0 where
   pub request : List ℕ
   pub text : List ℕ
   pub written : Bool
-  pub stops : Stops k stores fault (begun s.progress) (Some request) s.seen t.seen t.progress (Some []) (Some text)
-  pub passed : is ≡ passing (Asked request ∷ reply_in written text 3 ∷ []) was
+  pub stops : Stops k stores fault (first_session s.progress) (Some request) s.seen t.seen t.progress (Some [])
+      (Some text)
+  pub passed : is ≡ traffic_with (Asked request ∷ reply_in written text 3 ∷ []) was
 
 -- a request was answered, and then the node failed
 pub record IsCutAfter (k : Skills) (was is : Option (List Passed)) (s : Course) : Type 0 where
   pub answer : Answer
   pub done : Course
   pub ran : HasAnswered k answer s done
-  pub passed : is ≡ passing (passed_in (Answered answer)) was
+  pub passed : is ≡ traffic_with (passed_in (Answered answer)) was
 
 -- a fault ended a turn: at a tick nothing passed, and a request was replied to
-pub data IsFailed (k : Skills) (stores : RepoFault → Type 0) (fault : ScriptFault) (was is : Option (List Passed)) (s t : Between) : Type 0 where
+pub data IsFailed (k : Skills) (stores : RepoFault → Type 0) (fault : ScriptFault) (was is : Option (List Passed))
+    (s t : Between) : Type 0 where
   tick_failed : (e : NodeFault) → fault ≡ Node e → is ≡ was → IsFailed k stores fault was is s t
   request_failed : IsCut k stores fault was is s.standing.course t.standing.course → IsFailed k stores fault was is s t
-  rounds_failed : (e : NodeFault) → fault ≡ Node e → IsCutAfter k was is s.standing.course → IsFailed k stores fault was is s t
+  rounds_failed : (e : NodeFault) → fault ≡ Node e → IsCutAfter k was is s.standing.course
+      → IsFailed k stores fault was is s t
 
 -- ---- turn after turn
 
@@ -259,13 +267,15 @@ Steps k clock [] s t = t ≡ s
 Steps k clock (one ∷ more) s t = (mid : Between) × Step k clock one s mid × Steps k clock more mid t
 
 -- requests came in and were replied to in their order, each done on what all turns before it left
-pub record IsServed (k : Skills) (clock : Duration → Type 0) (was is : Option (List Passed)) (s t : Between) : Type 0 where
+pub record IsServed (k : Skills) (clock : Duration → Type 0) (was is : Option (List Passed))
+    (s t : Between) : Type 0 where
   pub turns : List Doing
   pub steps : Steps k clock turns s t
-  pub passed : is ≡ passing (flat_map passed_in turns) was
+  pub passed : is ≡ traffic_with (flat_map passed_in turns) was
 
 -- that is so before the first turn, and each turn keeps it so
 abbrev pub TurnsFollow : Skills → (Duration → Type 0) → Type 0
 TurnsFollow k clock =
     (was now is : Option (List Passed)) (s mid t : Between)
-    → IsServed k clock was was s s × (IsServed k clock was now s mid → IsTurn k clock now is mid t → IsServed k clock was is s t)
+    → IsServed k clock was was s s
+    × (IsServed k clock was now s mid → IsTurn k clock now is mid t → IsServed k clock was is s t)

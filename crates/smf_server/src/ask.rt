@@ -1,6 +1,6 @@
 /// The next thing that a server is asked.
 #[derive(Drop)]
-pub enum Ask {
+pub enum ServerInput {
     /// Time has passed.
     Tick,
     /// Lines are to be done.

@@ -1,4 +1,4 @@
-ghost use Rattle.smf_server.specs.Loops.{end_at, end_if, end_in, ended_now, hasty, is_end_of, is_hasty, is_kept, is_number, is_recent, noted, seen_by, steady_at, steady_if, steady_in, was_steady, with_hasty};
+ghost use Rattle.smf_server.specs.Loops.{end_at, end_if, end_in, ended_now, hasty, is_end_of, is_hasty, is_kept, is_number, is_recent, ends_after_items, seen_by, steady_at, steady_if, steady_in, was_steady, with_hasty};
 ghost use Rattle.std.specs.List.{list_any};
 ghost use Rattle.std.specs.Option.{option_copied};
 ghost use Rattle.std.specs.Prelude.{◌≡◌, ◌++◌, ◌+◌, ◌≤◌, IfOk, OnOk, count_by, filter, length, slice_get};
@@ -133,7 +133,7 @@ fn push_ends(
     count: usize,
 ) -> Result<(), AllocError>
     requires { first + count ≤ length trail.now }
-    ensures { OnOk result (ends.new.items ≡ noted ends.old.items trail.now at first count) }
+    ensures { OnOk result (ends.new.items ≡ ends_after_items ends.old.items trail.now at first count) }
 {
     for passed in 0..count {
         push_end(ends, at, end_at(trail, first + passed))?;

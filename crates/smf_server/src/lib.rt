@@ -9,29 +9,29 @@
 #![tactic(auto)]
 
 mod ask;
+mod child_events;
 mod desk;
 mod ends;
-mod hearing;
+mod fault_texts;
 mod law;
 mod life;
 mod marks;
 mod server;
 mod size;
 mod stops;
-mod telling;
 mod timer;
-mod turning;
+mod turns;
 mod watch;
 
-pub use ask::{Ask, Onward};
+pub use ask::{Onward, ServerInput};
 pub use desk::Desk;
 pub use ends::{End, Ends, MOST_ENDS, PERIOD};
+pub use fault_texts::fault_text;
 pub use law::turns_follow;
 pub use life::{Life, MOST_TURNS, stay_over};
 pub use server::Server;
 pub use size::Size;
 pub use stops::{Ender, Noted, Stop};
-pub use telling::fault_text;
 pub use timer::Timer;
-pub use turning::turn;
+pub use turns::turn;
 pub use watch::Watch;

@@ -1,7 +1,7 @@
 //! A server from its boot to its end.
 ghost use Rattle.std.specs.Prelude.{◌⊎◌, IfErr, IfOk};
-ghost use Rattle.smf_edge.specs.Answers.{seen};
-ghost use Rattle.smf_server.specs.Life.{HasLived, HasStayed, IsBroken, IsUnborn, booted};
+ghost use Rattle.smf_edge.specs.Answers.{children_state};
+ghost use Rattle.smf_server.specs.Life.{HasLived, HasStayed, IsBroken, IsUnborn, state_after_boot};
 ghost use Rattle.smf_server.specs.Turns.{between, standing};
 ghost use Rattle.smf_server.specs.declared.life.TheConstants.{MOST_TURNS};
 ghost use Rattle.smf_world.specs.Reached.{IsLater};
@@ -12,7 +12,7 @@ use crate::desk::Desk;
 use crate::server::Server;
 use crate::stops::{Ender, Noted};
 use crate::timer::Timer;
-use crate::turning::turn;
+use crate::turns::turn;
 use smf_edge::Kids;
 use smf_model::{Journal, Plain};
 use smf_node::Node;
@@ -31,19 +31,21 @@ fn stay<D: Desk, T: Timer, E: Ender, J: Journal, K: Kids>(
     ender: &mut E,
     server: &mut Server<J, K>,
 ) -> Result<Onward, ScriptFault>
-    ensures ok { IfOk result (λ onward. HasStayed K.skills (T.says timer.now) MOST_TURNS onward (D.passed desk.old) (D.passed desk.new)
+    ensures ok { IfOk result
+        (λ onward. HasStayed K.skills (T.says timer.now) MOST_TURNS onward (D.passed desk.old) (D.passed desk.new)
         (between
-        (standing server.old.node (seen (K.ledger server.old.kids) (K.failures server.old.kids)) server.old.busy)
+        (standing server.old.node (children_state (K.ledger server.old.kids) (K.failures server.old.kids)) server.old.busy)
         server.old.ends)
         (between
-        (standing server.new.node (seen (K.ledger server.new.kids) (K.failures server.new.kids)) server.new.busy)
+        (standing server.new.node (children_state (K.ledger server.new.kids) (K.failures server.new.kids)) server.new.busy)
         server.new.ends)) }
-    ensures err { IfErr result (λ e. IsBroken K.skills (T.says timer.now) J.write_fails e (D.passed desk.old) (D.passed desk.new)
+    ensures err { IfErr result
+        (λ e. IsBroken K.skills (T.says timer.now) J.write_fails e (D.passed desk.old) (D.passed desk.new)
         (between
-        (standing server.old.node (seen (K.ledger server.old.kids) (K.failures server.old.kids)) server.old.busy)
+        (standing server.old.node (children_state (K.ledger server.old.kids) (K.failures server.old.kids)) server.old.busy)
         server.old.ends)
         (between
-        (standing server.new.node (seen (K.ledger server.new.kids) (K.failures server.new.kids)) server.new.busy)
+        (standing server.new.node (children_state (K.ledger server.new.kids) (K.failures server.new.kids)) server.new.busy)
         server.new.ends)) }
     ensures later { IsLater server.old.node.world server.new.node.world }
     ensures safe { IsSafe server.new.node.world }
@@ -77,11 +79,12 @@ fn live<D: Desk, T: Timer, E: Ender, J: Journal + Drop, K: Kids + Drop>(
     ender: &mut E,
     server: Server<J, K>,
 ) -> Life<J, K>
-    ensures { HasLived K.skills (T.says timer.now) J.write_fails J.stands MOST_TURNS result.how result.journal (D.passed desk.old) (D.passed desk.new)
+    ensures { HasLived K.skills (T.says timer.now) J.write_fails J.stands MOST_TURNS result.how result.journal
+        (D.passed desk.old) (D.passed desk.new)
         (between
-        (standing server.node (seen (K.ledger server.kids) (K.failures server.kids)) server.busy)
+        (standing server.node (children_state (K.ledger server.kids) (K.failures server.kids)) server.busy)
         server.ends)
-        (seen (K.ledger result.kids) (K.failures result.kids)) }
+        (children_state (K.ledger result.kids) (K.failures result.kids)) }
 {
     let mut server = server;
     let how = stay(alloc, desk, timer, ender, &mut server);
@@ -110,10 +113,11 @@ pub fn stay_over<D: Desk, T: Timer, E: Ender, J: Journal + Drop, K: Kids + Drop>
     repository: Plain<J>,
     kids: K,
 ) -> Life<J, K>
-    ensures { HasLived K.skills (T.says timer.now) J.write_fails J.stands MOST_TURNS result.how result.journal (D.passed desk.old) (D.passed desk.new)
-        (booted repository.held (seen (K.ledger kids) (K.failures kids))) (seen (K.ledger result.kids) (K.failures result.kids))
+    ensures { HasLived K.skills (T.says timer.now) J.write_fails J.stands MOST_TURNS result.how result.journal
+        (D.passed desk.old) (D.passed desk.new)
+        (state_after_boot repository.held (children_state (K.ledger kids) (K.failures kids))) (children_state (K.ledger result.kids) (K.failures result.kids))
         ⊎ IsUnborn J.write_fails J.stands repository.held result.how result.journal (D.passed desk.old) (D.passed desk.new)
-        (seen (K.ledger kids) (K.failures kids)) (seen (K.ledger result.kids) (K.failures result.kids)) }
+        (children_state (K.ledger kids) (K.failures kids)) (children_state (K.ledger result.kids) (K.failures result.kids)) }
 {
     match Node::new(alloc, repository) {
         Ok(node) => live(alloc, desk, timer, ender, Server::new(alloc, node, kids)),

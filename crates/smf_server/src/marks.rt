@@ -1,4 +1,4 @@
-ghost use Rattle.smf_model.specs.Next.{found};
+ghost use Rattle.smf_model.specs.Next.{current_instance};
 ghost use Rattle.smf_server.specs.Loops.{line_of, lines_of, loop_text, mark_of, marks};
 ghost use Rattle.smf_world.specs.Reached.{IsLater};
 ghost use Rattle.smf_world.specs.Schedule.{on};
@@ -25,7 +25,7 @@ fn push_line<J: Journal>(
     instance: u64,
     lines: &mut Items<Text>,
 ) -> Result<(), AllocError>
-    ensures { OnOk result (lines.new ≡ lines.old ++ line_of (found node.now.world.now instance)) }
+    ensures { OnOk result (lines.new ≡ lines.old ++ line_of (current_instance node.now.world.now instance)) }
 {
     match node.repository().instance(instance)? {
         Some(instance) => {

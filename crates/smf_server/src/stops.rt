@@ -1,19 +1,19 @@
 ghost use Rattle.smf_method.specs.Commands.{is_signal, is_signal_byte};
-ghost use Rattle.smf_method.specs.Settings.{timeout_by, timeout_in};
+ghost use Rattle.smf_method.specs.Properties.{timeout_by, timeout_in};
 ghost use Rattle.smf_model.specs.Next.{named_snapshot};
 ghost use Rattle.smf_server.specs.Turns.{size_of};
-ghost use Rattle.smf_server.specs.Stopping.{is_child, is_new, named_stop, stop_by, stop_in, stop_of, stops_among, stops_of, telling, timed_stop};
+ghost use Rattle.smf_server.specs.Stops.{is_child, is_new, named_stop, stop_by, stop_in, stop_of, stops_among, stops_of, stop_lists_if, timed_stop};
 ghost use Rattle.std.specs.List.{list_all};
 ghost use Rattle.std.specs.Option.{option_copied};
 ghost use Rattle.std.specs.Prelude.{◌≡◌, ◌++◌, IfOk, OnErr, OnOk, Some};
 
 use crate::size::Size;
-use crate::turning::{is_same, size};
+use crate::turns::{is_same, size};
 use smf_fmri::{InstanceFmri, Items, Text, strip};
 use smf_method::Timeout;
 use smf_model::{Instance, InstanceEntry, Journal, Plain, Snapshot};
 use smf_node::Node;
-use smf_snap::composed;
+use smf_snap::composed_group;
 use smf_state::Duration;
 use smf_value::{Group, Property, Value};
 use std::alloc::{AllocError, Global};
@@ -40,7 +40,7 @@ pub trait Ender {
 
     /// From now on what start methods began is ended so, and all else by TERM.
     fn end_by(&mut self, stops: &[Stop])
-        ensures { told self.new ≡ telling true stops.now (told self.old) };
+        ensures { told self.new ≡ stop_lists_if true stops.now (told self.old) };
 }
 
 /// By what it is seen whether anything happened since whoever ends contracts was told how.
@@ -106,7 +106,14 @@ fn stop_with(
     signal: &str,
     timeout: Option<Timeout>,
 ) -> Result<Stop, AllocError>
-    ensures { IfOk result (λ stop. stop ≡ record { instance = instance.now.name; signal = signal.now; timeout = timeout; child = is_child instance.now.row.duration }) }
+    ensures { IfOk result
+        (λ stop. stop
+        ≡ record {
+          instance = instance.now.name;
+          signal = signal.now;
+          timeout = timeout;
+          child = is_child instance.now.row.duration;
+        }) }
 {
     let child = is_child(instance.row.duration);
     let name = instance.name.clone()?;
@@ -219,7 +226,7 @@ fn push_stop(
         Some(snapshot) => push_if_there(
             alloc,
             instance,
-            composed(&snapshot.instance_groups, &snapshot.service_groups, "stop"),
+            composed_group(&snapshot.instance_groups, &snapshot.service_groups, "stop"),
             stops,
         ),
     }
@@ -242,7 +249,9 @@ fn push_entry<J: Journal>(
     entry: &InstanceEntry,
     stops: &mut Items<Stop>,
 ) -> Result<(), AllocError>
-    ensures { OnOk result (stops.new ≡ stops.old ++ stop_of entry.now.instance (named_snapshot repository.now.held entry.now.instance.row.running)) }
+    ensures { OnOk result
+        (stops.new ≡ stops.old ++ stop_of entry.now.instance
+        (named_snapshot repository.now.held entry.now.instance.row.running)) }
 {
     let running = snapshot_of(repository, entry.instance.row.running);
     push_stop(alloc, &entry.instance, running, stops)?;
@@ -288,7 +297,8 @@ fn tell_if<E: Ender, J: Journal>(
     repository: &Plain<J>,
     is_new: bool,
 ) -> Result<(), AllocError>
-    ensures told { OnOk result (E.told ender.new ≡ telling is_new (stops_of repository.now.held) (E.told ender.old)) }
+    ensures told { OnOk result
+        (E.told ender.new ≡ stop_lists_if is_new (stops_of repository.now.held) (E.told ender.old)) }
     ensures fault { OnErr result (E.told ender.new ≡ E.told ender.old) }
 {
     if !is_new {
@@ -317,7 +327,9 @@ impl Noted {
         ender: &mut E,
         node: &Node<J>,
     ) -> Result<(), AllocError>
-        ensures told { OnOk result (E.told ender.new ≡ telling (is_new self.old.size (size_of node.now.world)) (stops_of node.now.world.now) (E.told ender.old)) }
+        ensures told { OnOk result
+            (E.told ender.new ≡ stop_lists_if (is_new self.old.size (size_of node.now.world))
+            (stops_of node.now.world.now) (E.told ender.old)) }
         ensures noted { OnOk result (self.new.size ≡ Some (size_of node.now.world)) }
         ensures fault { OnErr result (E.told ender.new ≡ E.told ender.old) }
         ensures kept { OnErr result (self.new.size ≡ self.old.size) }

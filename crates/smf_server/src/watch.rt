@@ -41,7 +41,7 @@ struct Timed {
 }
 
 /// The method that runs for an instance, if it may take too long.
-fn watched(phase: &Phase) -> Option<Timed>
+fn timed_method(phase: &Phase) -> Option<Timed>
     ensures { IfSome result (λ _. MayTimeOut phase.now) }
 {
     match phase {
@@ -65,7 +65,7 @@ fn runs(known: &KnownInstance, due: &Due) -> bool
     if known.instance != due.instance {
         return false;
     }
-    match watched(&known.phase) {
+    match timed_method(&known.phase) {
         Some(timed) => timed.run == due.run && timed.method == due.method,
         None => false,
     }
@@ -201,7 +201,7 @@ impl Watch {
         dues: &mut Vec<Due>,
     ) -> Result<(), AllocError> {
         for one in known {
-            if let Some(timed) = watched(&one.phase) {
+            if let Some(timed) = timed_method(&one.phase) {
                 let due = self.due_of(now, restarter, one.instance, &timed)?;
                 dues.push(due)?;
             }

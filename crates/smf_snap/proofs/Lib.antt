@@ -1,3 +1,3 @@
 pub mod ByName
-pub mod Rising
+pub mod Order
 pub mod Bodies

@@ -16,5 +16,5 @@ abbrev pub composition : List GroupRecord → List GroupRecord → List GroupRec
 composition instance service = put_all by_group instance service
 
 -- the instance's group of a name, else the service's
-unfoldable pub composed : List GroupRecord → List GroupRecord → List ℕ → Option GroupRecord
-composed instance service name = first_of (group_of name instance) (group_of name service)
+unfoldable pub composed_group : List GroupRecord → List GroupRecord → List ℕ → Option GroupRecord
+composed_group instance service name = first_of (group_of name instance) (group_of name service)

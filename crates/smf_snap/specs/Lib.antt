@@ -1,4 +1,4 @@
 pub mod Composed
-pub mod Taking
+pub mod Snapshots
 pub mod Names
 pub mod Body

@@ -1,7 +1,7 @@
 ghost use Rattle.smf_snap.specs.Body.{IsSnapshot, decoded_snapshot, spelled_both, spelled_snapshot};
-ghost use Rattle.smf_snap.specs.declared.body.Snapshot.{Snapshot as AnySnapshot};
+ghost use Rattle.smf_snap.specs.declared.body.SnapshotBody.{SnapshotBody as AnySnapshot};
 ghost use Rattle.smf_value.specs.Body.{AreGroups};
-ghost use Rattle.smf_value.specs.Reading.{Gives};
+ghost use Rattle.smf_value.specs.Decoder.{Gives};
 ghost use Rattle.std.specs.Prelude.{◌≡◌, IfOk, Ok};
 
 use smf_fmri::{Bytes, Ordered};
@@ -10,13 +10,13 @@ use std::alloc::{AllocError, Global};
 
 /// The groups that a snapshot holds of an instance and of its service.
 #[derive(Drop)]
-pub struct Snapshot {
+pub struct SnapshotBody {
     pub service: Ordered<Group>,
     pub instance: Ordered<Group>,
 }
 
 /// The bytes of a snapshot: the service's body, and then the instance's.
-pub fn encode_snapshot(alloc: Global, snapshot: &Snapshot) -> Result<Bytes, AllocError>
+pub fn encode_snapshot(alloc: Global, snapshot: &SnapshotBody) -> Result<Bytes, AllocError>
     ensures spelled { IfOk result (λ b. b ≡ spelled_snapshot snapshot.now) }
     ensures formed { IfOk result (λ _. IsSnapshot snapshot.now) }
 {
@@ -39,7 +39,7 @@ pub fn encode_both(
 }
 
 /// The snapshot of such bytes. A place is counted from the start of the first body.
-pub fn decode_snapshot(alloc: Global, bytes: &[u8]) -> Result<Snapshot, BodyFault>
+pub fn decode_snapshot(alloc: Global, bytes: &[u8]) -> Result<SnapshotBody, BodyFault>
     ensures found { IfOk result (λ s. IsSnapshot s × (bytes.now ≡ spelled_snapshot s)) }
     ensures only { (s : AnySnapshot) → IsSnapshot s → bytes.now ≡ spelled_snapshot s → Gives (λ x. x) result (Ok s) }
     ensures exact { Gives (λ x. x) result (decoded_snapshot bytes.now) }
@@ -48,7 +48,7 @@ pub fn decode_snapshot(alloc: Global, bytes: &[u8]) -> Result<Snapshot, BodyFaul
 }
 
 #[tactic(auto, unfolding(crate::specs::Body::decoded_snapshot))]
-fn decode_snapshot_exact(alloc: Global, bytes: &[u8]) -> Result<Snapshot, BodyFault>
+fn decode_snapshot_exact(alloc: Global, bytes: &[u8]) -> Result<SnapshotBody, BodyFault>
     ensures { Gives (λ x. x) result (decoded_snapshot bytes.now) }
 {
     let (service, rest) = match decode_first(alloc, bytes) {
@@ -56,7 +56,7 @@ fn decode_snapshot_exact(alloc: Global, bytes: &[u8]) -> Result<Snapshot, BodyFa
         Err(fault) => return Err(fault),
     };
     match decode(alloc, rest) {
-        Ok(instance) => Ok(Snapshot { service, instance }),
+        Ok(instance) => Ok(SnapshotBody { service, instance }),
         Err(BodyFault::Memory) => Err(BodyFault::Memory),
         Err(BodyFault::BadBody(place)) => {
             Err(BodyFault::BadBody(bytes.len() - rest.len() + place))

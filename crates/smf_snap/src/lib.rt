@@ -3,11 +3,11 @@
 #![tactic(auto)]
 
 mod body;
-mod composing;
+mod compositions;
 mod name;
-mod taking;
+mod snapshots;
 
-pub use body::{Snapshot, decode_snapshot, encode_both, encode_snapshot};
-pub use composing::composed;
+pub use body::{SnapshotBody, decode_snapshot, encode_both, encode_snapshot};
+pub use compositions::composed_group;
 pub use name::{SnapshotName, names};
-pub use taking::{is_snapped, restore, take};
+pub use snapshots::{is_snapped, restore, take};

@@ -5,9 +5,9 @@ use Rattle.std.specs.Fmt.{decimal}
 use Rattle.std.specs.Prelude.{nat_eq}
 use Rattle.std.proofs.lemmas.Bool.Decides.{nat_tests}
 use Rattle.smf_fmri.specs.Counts.{read_count, no_space}
-use Rattle.smf_fmri.specs.Matching.{IsInstanceName, read_short}
+use Rattle.smf_fmri.specs.Patterns.{IsInstanceName, read_short}
 use Rattle.smf_fmri.proofs.Counts.{printed_is_read, read_is_printed, read_is_small, decimal_spaceless}
-use Rattle.smf_fmri.proofs.Matching.{same_text}
+use Rattle.smf_fmri.proofs.Patterns.{same_text}
 use Rattle.smf_fmri.proofs.Short.{short_again, short_is_name, name_spaceless}
 use Rattle.smf_state.specs.declared.flags.Asks.{Asks}
 use Rattle.smf_state.specs.declared.state.State.{State}
@@ -57,14 +57,20 @@ state_reads Degraded = refl
 state_reads Maintenance = refl
 
 state_is : (a b c d e f : Bool) (t : List ℕ) (s : State)
-    → pointwise nat_eq t (codes "uninitialized") ≡ a → pointwise nat_eq t (codes "disabled") ≡ b → pointwise nat_eq t (codes "offline") ≡ c → pointwise nat_eq t (codes "online") ≡ d → pointwise nat_eq t (codes "degraded") ≡ e → pointwise nat_eq t (codes "maintenance") ≡ f
-    → cond a (Some Uninitialized) (cond b (Some Disabled) (cond c (Some Offline) (cond d (Some Online) (cond e (Some Degraded) (cond f (Some Maintenance) None))))) ≡ Some s → t ≡ state_text s
+    → pointwise nat_eq t (codes "uninitialized") ≡ a → pointwise nat_eq t (codes "disabled") ≡ b
+    → pointwise nat_eq t (codes "offline") ≡ c → pointwise nat_eq t (codes "online") ≡ d
+    → pointwise nat_eq t (codes "degraded") ≡ e → pointwise nat_eq t (codes "maintenance") ≡ f
+    → cond a (Some Uninitialized)
+    (cond b (Some Disabled)
+    (cond c (Some Offline) (cond d (Some Online) (cond e (Some Degraded) (cond f (Some Maintenance) None)))))
+    ≡ Some s → t ≡ state_text s
 state_is true b c d e f t s p q u v w x h = let is : Uninitialized ≡ s = cc in word t _ p ∙ ap state_text is
 state_is false true c d e f t s p q u v w x h = let is : Disabled ≡ s = cc in word t _ q ∙ ap state_text is
 state_is false false true d e f t s p q u v w x h = let is : Offline ≡ s = cc in word t _ u ∙ ap state_text is
 state_is false false false true e f t s p q u v w x h = let is : Online ≡ s = cc in word t _ v ∙ ap state_text is
 state_is false false false false true f t s p q u v w x h = let is : Degraded ≡ s = cc in word t _ w ∙ ap state_text is
-state_is false false false false false true t s p q u v w x h = let is : Maintenance ≡ s = cc in word t _ x ∙ ap state_text is
+state_is false false false false false true t s p q u v w x h = let is : Maintenance ≡ s = cc in
+    word t _ x ∙ ap state_text is
 state_is false false false false false false t s p q u v w x h = cc
 
 state_spaceless : (s : State) → no_space (state_text s) ≡ true
@@ -89,8 +95,10 @@ cause_reads Admin = refl
 cause_reads Config = refl
 
 cause_is : (a b c d : Bool) (t : List ℕ) (s : Cause)
-    → pointwise nat_eq t (codes "error") ≡ a → pointwise nat_eq t (codes "nonerror") ≡ b → pointwise nat_eq t (codes "admin") ≡ c → pointwise nat_eq t (codes "config") ≡ d
-    → cond a (Some Error) (cond b (Some NonError) (cond c (Some Admin) (cond d (Some Config) None))) ≡ Some s → t ≡ cause_text s
+    → pointwise nat_eq t (codes "error") ≡ a → pointwise nat_eq t (codes "nonerror") ≡ b
+    → pointwise nat_eq t (codes "admin") ≡ c → pointwise nat_eq t (codes "config") ≡ d
+    → cond a (Some Error) (cond b (Some NonError) (cond c (Some Admin) (cond d (Some Config) None))) ≡ Some s
+    → t ≡ cause_text s
 cause_is true b c d t s p q u v h = let is : Error ≡ s = cc in word t _ p ∙ ap cause_text is
 cause_is false true c d t s p q u v h = let is : NonError ≡ s = cc in word t _ q ∙ ap cause_text is
 cause_is false false true d t s p q u v h = let is : Admin ≡ s = cc in word t _ u ∙ ap cause_text is
@@ -116,7 +124,8 @@ duration_reads Transient = refl
 duration_reads Child = refl
 
 duration_is : (a b c : Bool) (t : List ℕ) (s : Duration)
-    → pointwise nat_eq t (codes "contract") ≡ a → pointwise nat_eq t (codes "transient") ≡ b → pointwise nat_eq t (codes "child") ≡ c
+    → pointwise nat_eq t (codes "contract") ≡ a → pointwise nat_eq t (codes "transient") ≡ b
+    → pointwise nat_eq t (codes "child") ≡ c
     → cond a (Some Contract) (cond b (Some Transient) (cond c (Some Child) None)) ≡ Some s → t ≡ duration_text s
 duration_is true b c t s p q u h = let is : Contract ≡ s = cc in word t _ p ∙ ap duration_text is
 duration_is false true c t s p q u h = let is : Transient ≡ s = cc in word t _ q ∙ ap duration_text is
@@ -144,14 +153,21 @@ verb_reads verbs.End = refl
 verb_reads verbs.Note = refl
 
 verb_is : (a b c d e f : Bool) (t : List ℕ) (s : Verb)
-    → pointwise nat_eq t (codes "move") ≡ a → pointwise nat_eq t (codes "start") ≡ b → pointwise nat_eq t (codes "stop") ≡ c → pointwise nat_eq t (codes "refresh") ≡ d → pointwise nat_eq t (codes "end") ≡ e → pointwise nat_eq t (codes "note") ≡ f
-    → cond a (Some verbs.Move) (cond b (Some verbs.Start) (cond c (Some verbs.Stop) (cond d (Some verbs.Refresh) (cond e (Some verbs.End) (cond f (Some verbs.Note) None))))) ≡ Some s → t ≡ verb_text s
+    → pointwise nat_eq t (codes "move") ≡ a → pointwise nat_eq t (codes "start") ≡ b
+    → pointwise nat_eq t (codes "stop") ≡ c → pointwise nat_eq t (codes "refresh") ≡ d
+    → pointwise nat_eq t (codes "end") ≡ e → pointwise nat_eq t (codes "note") ≡ f
+    → cond a (Some verbs.Move)
+    (cond b (Some verbs.Start)
+    (cond c (Some verbs.Stop)
+    (cond d (Some verbs.Refresh) (cond e (Some verbs.End) (cond f (Some verbs.Note) None))))) ≡ Some s
+    → t ≡ verb_text s
 verb_is true b c d e f t s p q u v w x h = let is : verbs.Move ≡ s = cc in word t _ p ∙ ap verb_text is
 verb_is false true c d e f t s p q u v w x h = let is : verbs.Start ≡ s = cc in word t _ q ∙ ap verb_text is
 verb_is false false true d e f t s p q u v w x h = let is : verbs.Stop ≡ s = cc in word t _ u ∙ ap verb_text is
 verb_is false false false true e f t s p q u v w x h = let is : verbs.Refresh ≡ s = cc in word t _ v ∙ ap verb_text is
 verb_is false false false false true f t s p q u v w x h = let is : verbs.End ≡ s = cc in word t _ w ∙ ap verb_text is
-verb_is false false false false false true t s p q u v w x h = let is : verbs.Note ≡ s = cc in word t _ x ∙ ap verb_text is
+verb_is false false false false false true t s p q u v w x h = let is : verbs.Note ≡ s = cc in
+    word t _ x ∙ ap verb_text is
 verb_is false false false false false false t s p q u v w x h = cc
 
 verb_spaceless : (s : Verb) → no_space (verb_text s) ≡ true
@@ -173,7 +189,8 @@ flag_reads : (b : Bool) → read_flag (flag_text b) ≡ Some b
 flag_reads false = refl
 flag_reads true = refl
 
-flag_is : (a b : Bool) (t : List ℕ) (s : Bool) → pointwise nat_eq t (codes "0") ≡ a → pointwise nat_eq t (codes "1") ≡ b → cond a (Some false) (cond b (Some true) None) ≡ Some s → t ≡ flag_text s
+flag_is : (a b : Bool) (t : List ℕ) (s : Bool) → pointwise nat_eq t (codes "0") ≡ a
+    → pointwise nat_eq t (codes "1") ≡ b → cond a (Some false) (cond b (Some true) None) ≡ Some s → t ≡ flag_text s
 flag_is true b t s p q h = let is : false ≡ s = cc in word t _ p ∙ ap flag_text is
 flag_is false true t s p q h = let is : true ≡ s = cc in word t _ q ∙ ap flag_text is
 flag_is false false t s p q h = cc
@@ -193,11 +210,14 @@ flag = record {
 asks_read : (n : ℕ) → n < 256 → asks_of (Some n) ≡ Some (record { 0 = n })
 asks_read n h = let low : nat_lt n 256 ≡ true = lt-ltb n 256 h in rw low refl
 
-asks_by : (v : Bool) (n : ℕ) (a : Asks) → nat_lt n 256 ≡ v → cond v (Some (record { 0 = n })) None ≡ Some a → (n ≡ a.0) × (a.0 < 256)
-asks_by true n a e h = let is : ◌≡◌ {A = Asks} (record { 0 = n }) a = cc in let same : n ≡ a.0 = ap (λ (x : Asks). x.0) is in (same, rw (← same) (ltb-true n 256 e))
+asks_by : (v : Bool) (n : ℕ) (a : Asks) → nat_lt n 256 ≡ v → cond v (Some (record { 0 = n })) None ≡ Some a
+    → (n ≡ a.0) × (a.0 < 256)
+asks_by true n a e h = let is : ◌≡◌ {A = Asks} (record { 0 = n }) a = cc in let same : n ≡ a.0 =
+    ap (λ (x : Asks). x.0) is in (same, rw (← same) (ltb-true n 256 e))
 asks_by false n a e h = cc
 
-asks_is : (o : Option ℕ) (t : List ℕ) (a : Asks) → read_count t ≡ o → asks_of o ≡ Some a → (t ≡ decimal a.0) × (a.0 < 256)
+asks_is : (o : Option ℕ) (t : List ℕ) (a : Asks) → read_count t ≡ o → asks_of o ≡ Some a
+    → (t ≡ decimal a.0) × (a.0 < 256)
 asks_is None t a e h = cc
 asks_is (Some n) t a e h = let found = asks_by _ n a refl h in (read_is_printed t n e ∙ ap decimal found.0, found.1)
 

@@ -27,13 +27,14 @@ abbrev pub field_read : {X : Type 0} → Option X → Option (List ℕ) → ℕ 
 field_read None rest left = Err left
 field_read (Some x) rest left = Ok (x, rest)
 
-abbrev pub read_as : {X : Type 0} → (List ℕ → Option X) → ℕ → Option (List ℕ × Option (List ℕ)) → Result (X × Option (List ℕ)) ℕ
+abbrev pub read_as : {X : Type 0} → (List ℕ → Option X) → ℕ → Option (List ℕ × Option (List ℕ))
+    → Result (X × Option (List ℕ)) ℕ
 read_as read left None = Err left
 read_as read left (Some f) = field_read (read f.0) f.1 left
 
 -- the value of the first field, and the rest after it; or the length of the rest, if the field is wrong or missing
-unfoldable pub taken : {X : Type 0} → (List ℕ → Option X) → Option (List ℕ) → Result (X × Option (List ℕ)) ℕ
-taken read rest = read_as read (left_of rest) (first_field rest)
+unfoldable pub next_field : {X : Type 0} → (List ℕ → Option X) → Option (List ℕ) → Result (X × Option (List ℕ)) ℕ
+next_field read rest = read_as read (left_of rest) (first_field rest)
 
 -- none is written as "-"
 abbrev pub read_optional : {X : Type 0} → (List ℕ → Option X) → List ℕ → Option (Option X)
@@ -59,7 +60,8 @@ abbrev pub read_ignore : List ℕ → Option ℕ
 read_ignore text = ignore_of (read_count text)
 
 abbrev pub read_flag : List ℕ → Option Bool
-read_flag text = if pointwise nat_eq text (codes "0") then Some false else if pointwise nat_eq text (codes "1") then Some true else None
+read_flag text = if pointwise nat_eq text (codes "0") then Some false else if pointwise nat_eq text (codes "1")
+    then Some true else None
 
 abbrev pub flag_text : Bool → List ℕ
 flag_text false = codes "0"
@@ -67,18 +69,20 @@ flag_text true = codes "1"
 
 -- ---- what a call returned
 
-abbrev pub seen : Option (Bor (List ℕ)) → Option (List ℕ)
-seen rest = option_map (λ r. r.now) rest
+abbrev pub text_of_borrow : Option (Bor (List ℕ)) → Option (List ℕ)
+text_of_borrow rest = option_map (λ r. r.now) rest
 
 -- a reader returned the value of the definition, unless memory ran out
-abbrev pub GivesAt : {X : Type 0} → Result (X × Option (Bor (List ℕ))) FieldFault → Result (X × Option (List ℕ)) ℕ → Type 0
-GivesAt (Ok x) given = given ≡ Ok (x.0, seen x.1)
+abbrev pub GivesAt : {X : Type 0} → Result (X × Option (Bor (List ℕ))) FieldFault → Result (X × Option (List ℕ)) ℕ
+    → Type 0
+GivesAt (Ok x) given = given ≡ Ok (x.0, text_of_borrow x.1)
 GivesAt (Err Memory) given = Unit {0}
 GivesAt (Err (Left n)) given = given ≡ Err n
 
 -- a reader that takes no memory returned the value of the definition
-abbrev pub IsRead : {X : Type 0} → Result (X × Option (Bor (List ℕ))) WrongField → Result (X × Option (List ℕ)) ℕ → Type 0
-IsRead (Ok x) given = given ≡ Ok (x.0, seen x.1)
+abbrev pub IsRead : {X : Type 0} → Result (X × Option (Bor (List ℕ))) WrongField → Result (X × Option (List ℕ)) ℕ
+    → Type 0
+IsRead (Ok x) given = given ≡ Ok (x.0, text_of_borrow x.1)
 IsRead (Err wrong) given = given ≡ Err wrong.left
 
 -- one reader after another

@@ -3,7 +3,7 @@ use Rattle.std.specs.Prelude.{◌≡◌, ℕ, ◌-◌, ◌<◌, ◌≤◌, ◌^�
 use Rattle.std.specs.Cmp.Lexicographic.{pointwise}
 use Rattle.std.specs.Fmt.{decimal}
 use Rattle.smf_fmri.specs.Counts.{read_count}
-use Rattle.smf_fmri.specs.Matching.{IsInstanceName, read_short}
+use Rattle.smf_fmri.specs.Patterns.{IsInstanceName, read_short}
 use Rattle.smf_state.specs.declared.fault.RowFault.{RowFault}
 use Rattle.smf_state.specs.declared.fault.RowFault.TheVariants as row_faults
 use Rattle.smf_state.specs.declared.fault.StepTextFault.{StepTextFault}
@@ -13,7 +13,7 @@ use Rattle.smf_state.specs.declared.step.Step.{Step}
 use Rattle.smf_state.specs.declared.step.Step.TheVariants.{Move, Start, Stop, Refresh, End, Note}
 use Rattle.smf_state.specs.declared.step.Verb.{Verb}
 use Rattle.smf_state.specs.declared.step.Verb.TheVariants as verbs
-use Rattle.smf_state.specs.Fields.{◌>>=◌, taken, read_optional, optional_text, read_asks, read_ignore, read_flag, flag_text}
+use Rattle.smf_state.specs.Fields.{◌>>=◌, next_field, read_optional, optional_text, read_asks, read_ignore, read_flag, flag_text}
 use Rattle.smf_state.specs.Rows.{fresh}
 use Rattle.smf_state.specs.States.{state_text, read_state, cause_text, read_cause, duration_text, read_duration}
 
@@ -21,15 +21,27 @@ use Rattle.smf_state.specs.States.{state_text, read_state, cause_text, read_caus
 
 abbrev pub first_part : Row → List ℕ → List ℕ
 first_part r tail =
-    r.owner ++ 32 ∷ (decimal r.number ++ 32 ∷ (state_text r.state ++ 32 ∷ (optional_text state_text r.next ++ 32 ∷ (optional_text decimal r.live ++ 32 ∷ (optional_text decimal r.side ++ 32 ∷ (decimal r.last ++ tail))))))
+    r.owner ++ 32
+    ∷ (decimal r.number ++ 32
+    ∷ (state_text r.state ++ 32
+    ∷ (optional_text state_text r.next ++ 32
+    ∷ (optional_text decimal r.live ++ 32 ∷ (optional_text decimal r.side ++ 32 ∷ (decimal r.last ++ tail))))))
 
 abbrev pub second_part : Row → List ℕ → List ℕ
 second_part r tail =
-    decimal r.failed ++ 32 ∷ (decimal r.asks.0 ++ 32 ∷ (optional_text cause_text r.cause ++ 32 ∷ (duration_text r.duration ++ 32 ∷ (decimal r.ignore ++ 32 ∷ (decimal r.base ++ 32 ∷ (decimal r.err ++ tail))))))
+    decimal r.failed ++ 32
+    ∷ (decimal r.asks.0 ++ 32
+    ∷ (optional_text cause_text r.cause ++ 32
+    ∷ (duration_text r.duration ++ 32
+    ∷ (decimal r.ignore ++ 32 ∷ (decimal r.base ++ 32 ∷ (decimal r.err ++ tail))))))
 
 abbrev pub third_part : Row → List ℕ → List ℕ
 third_part r tail =
-    decimal r.stop ++ 32 ∷ (decimal r.refresh ++ 32 ∷ (decimal r.start ++ 32 ∷ (optional_text decimal r.running ++ 32 ∷ (optional_text decimal r.begun ++ 32 ∷ (decimal r.launch ++ 32 ∷ (decimal r.serial ++ tail))))))
+    decimal r.stop ++ 32
+    ∷ (decimal r.refresh ++ 32
+    ∷ (decimal r.start ++ 32
+    ∷ (optional_text decimal r.running ++ 32
+    ∷ (optional_text decimal r.begun ++ 32 ∷ (decimal r.launch ++ 32 ∷ (decimal r.serial ++ tail))))))
 
 unfoldable pub row_onto : Row → List ℕ → List ℕ
 row_onto r tail = first_part r (32 ∷ second_part r (32 ∷ third_part r tail))
@@ -42,36 +54,68 @@ row_text r = row_onto r []
 
 unfoldable pub first_at : Option (List ℕ) → Result (Row × Option (List ℕ)) ℕ
 first_at rest = do
-  owner ← taken read_short rest
-  number ← taken read_count owner.1
-  state ← taken read_state number.1
-  next ← taken (read_optional read_state) state.1
-  live ← taken (read_optional read_count) next.1
-  side ← taken (read_optional read_count) live.1
-  last ← taken read_count side.1
-  Ok (record (fresh owner.0) { number = number.0; state = state.0; next = next.0; live = live.0; side = side.0; last = last.0 }, last.1)
+  owner ← next_field read_short rest
+  number ← next_field read_count owner.1
+  state ← next_field read_state number.1
+  next ← next_field (read_optional read_state) state.1
+  live ← next_field (read_optional read_count) next.1
+  side ← next_field (read_optional read_count) live.1
+  last ← next_field read_count side.1
+  Ok (
+    record (fresh owner.0) {
+      number = number.0;
+      state = state.0;
+      next = next.0;
+      live = live.0;
+      side = side.0;
+      last = last.0;
+    },
+    last.1,
+  )
 
 unfoldable pub second_at : Row → Option (List ℕ) → Result (Row × Option (List ℕ)) ℕ
 second_at r rest = do
-  failed ← taken read_count rest
-  asks ← taken read_asks failed.1
-  cause ← taken (read_optional read_cause) asks.1
-  duration ← taken read_duration cause.1
-  ignore ← taken read_ignore duration.1
-  base ← taken read_count ignore.1
-  err ← taken read_count base.1
-  Ok (record r { failed = failed.0; asks = asks.0; cause = cause.0; duration = duration.0; ignore = ignore.0; base = base.0; err = err.0 }, err.1)
+  failed ← next_field read_count rest
+  asks ← next_field read_asks failed.1
+  cause ← next_field (read_optional read_cause) asks.1
+  duration ← next_field read_duration cause.1
+  ignore ← next_field read_ignore duration.1
+  base ← next_field read_count ignore.1
+  err ← next_field read_count base.1
+  Ok (
+    record r {
+      failed = failed.0;
+      asks = asks.0;
+      cause = cause.0;
+      duration = duration.0;
+      ignore = ignore.0;
+      base = base.0;
+      err = err.0;
+    },
+    err.1,
+  )
 
 unfoldable pub third_at : Row → Option (List ℕ) → Result (Row × Option (List ℕ)) ℕ
 third_at r rest = do
-  stop ← taken read_count rest
-  refresh ← taken read_count stop.1
-  start ← taken read_count refresh.1
-  running ← taken (read_optional read_count) start.1
-  begun ← taken (read_optional read_count) running.1
-  launch ← taken read_count begun.1
-  serial ← taken read_count launch.1
-  Ok (record r { stop = stop.0; refresh = refresh.0; start = start.0; running = running.0; begun = begun.0; launch = launch.0; serial = serial.0 }, serial.1)
+  stop ← next_field read_count rest
+  refresh ← next_field read_count stop.1
+  start ← next_field read_count refresh.1
+  running ← next_field (read_optional read_count) start.1
+  begun ← next_field (read_optional read_count) running.1
+  launch ← next_field read_count begun.1
+  serial ← next_field read_count launch.1
+  Ok (
+    record r {
+      stop = stop.0;
+      refresh = refresh.0;
+      start = start.0;
+      running = running.0;
+      begun = begun.0;
+      launch = launch.0;
+      serial = serial.0;
+    },
+    serial.1,
+  )
 
 unfoldable pub row_at : Option (List ℕ) → Result (Row × Option (List ℕ)) ℕ
 row_at rest = do
@@ -119,10 +163,14 @@ read_verb text =
 -- the fields after the verb
 abbrev pub fields_onto : Step → List ℕ → List ℕ
 fields_onto (Move to) tail = state_text to ++ tail
-fields_onto (Start run snapshot duration ignore base) tail = decimal run ++ 32 ∷ (decimal snapshot ++ 32 ∷ (duration_text duration ++ 32 ∷ (decimal ignore ++ 32 ∷ (decimal base ++ tail))))
-fields_onto (Stop to cause run) tail = state_text to ++ 32 ∷ (cause_text cause ++ 32 ∷ (optional_text decimal run ++ tail))
+fields_onto (Start run snapshot duration ignore base) tail =
+    decimal run ++ 32
+    ∷ (decimal snapshot ++ 32 ∷ (duration_text duration ++ 32 ∷ (decimal ignore ++ 32 ∷ (decimal base ++ tail))))
+fields_onto (Stop to cause run) tail =
+    state_text to ++ 32 ∷ (cause_text cause ++ 32 ∷ (optional_text decimal run ++ tail))
 fields_onto (Refresh run) tail = optional_text decimal run ++ tail
-fields_onto (End to keep failed cause) tail = state_text to ++ 32 ∷ (flag_text keep ++ 32 ∷ (decimal failed ++ 32 ∷ (cause_text cause ++ tail)))
+fields_onto (End to keep failed cause) tail =
+    state_text to ++ 32 ∷ (flag_text keep ++ 32 ∷ (decimal failed ++ 32 ∷ (cause_text cause ++ tail)))
 fields_onto (Note bits keep) tail = decimal bits.0 ++ 32 ∷ (flag_text keep ++ tail)
 
 unfoldable pub step_onto : Step → List ℕ → List ℕ
@@ -134,37 +182,37 @@ step_text s = step_onto s []
 
 unfoldable pub fields_at : Verb → Option (List ℕ) → Result (Step × Option (List ℕ)) ℕ
 fields_at verbs.Move rest = do
-  to ← taken read_state rest
+  to ← next_field read_state rest
   Ok (Move to.0, to.1)
 fields_at verbs.Start rest = do
-  run ← taken read_count rest
-  snapshot ← taken read_count run.1
-  duration ← taken read_duration snapshot.1
-  ignore ← taken read_ignore duration.1
-  base ← taken read_count ignore.1
+  run ← next_field read_count rest
+  snapshot ← next_field read_count run.1
+  duration ← next_field read_duration snapshot.1
+  ignore ← next_field read_ignore duration.1
+  base ← next_field read_count ignore.1
   Ok (Start run.0 snapshot.0 duration.0 ignore.0 base.0, base.1)
 fields_at verbs.Stop rest = do
-  to ← taken read_state rest
-  cause ← taken read_cause to.1
-  run ← taken (read_optional read_count) cause.1
+  to ← next_field read_state rest
+  cause ← next_field read_cause to.1
+  run ← next_field (read_optional read_count) cause.1
   Ok (Stop to.0 cause.0 run.0, run.1)
 fields_at verbs.Refresh rest = do
-  run ← taken (read_optional read_count) rest
+  run ← next_field (read_optional read_count) rest
   Ok (Refresh run.0, run.1)
 fields_at verbs.End rest = do
-  to ← taken read_state rest
-  keep ← taken read_flag to.1
-  failed ← taken read_count keep.1
-  cause ← taken read_cause failed.1
+  to ← next_field read_state rest
+  keep ← next_field read_flag to.1
+  failed ← next_field read_count keep.1
+  cause ← next_field read_cause failed.1
   Ok (End to.0 keep.0 failed.0 cause.0, cause.1)
 fields_at verbs.Note rest = do
-  bits ← taken read_asks rest
-  keep ← taken read_flag bits.1
+  bits ← next_field read_asks rest
+  keep ← next_field read_flag bits.1
   Ok (Note bits.0 keep.0, keep.1)
 
 unfoldable pub step_at : Option (List ℕ) → Result (Step × Option (List ℕ)) ℕ
 step_at rest = do
-  verb ← taken read_verb rest
+  verb ← next_field read_verb rest
   fields_at verb.0 verb.1
 
 abbrev pub whole_step : ℕ → Result (Step × Option (List ℕ)) ℕ → Result Step StepTextFault

@@ -1,8 +1,8 @@
 ghost use Rattle.std.specs.Prelude.{◌≡◌, ◌≤◌, option_map, Ok, Err, IfOk};
 ghost use Rattle.smf_fmri.specs.Counts.{read_count};
-ghost use Rattle.smf_fmri.specs.Matching.{read_short};
+ghost use Rattle.smf_fmri.specs.Patterns.{read_short};
 ghost use Rattle.smf_state.specs.States.{read_state, read_cause, read_duration};
-ghost use Rattle.smf_state.specs.Fields.{first_field, split_field, left_of, taken, read_optional, read_asks, read_ignore, read_flag, seen, GivesAt, IsRead};
+ghost use Rattle.smf_state.specs.Fields.{first_field, split_field, left_of, next_field, read_optional, read_asks, read_ignore, read_flag, text_of_borrow, GivesAt, IsRead};
 
 use crate::fault::{FieldFault, WrongField};
 use crate::flags::Asks;
@@ -13,7 +13,7 @@ use std::alloc::Global;
 
 /// The first field of the rest of a line, and the rest after its space. Nothing is left after the last field.
 pub fn field_at(rest: Option<&str>) -> Option<(&str, Option<&str>)>
-    ensures { option_map (λ x. (x.0.now, seen x.1)) result ≡ first_field (seen rest.entry) }
+    ensures { option_map (λ x. (x.0.now, text_of_borrow x.1)) result ≡ first_field (text_of_borrow rest.entry) }
 {
     match rest {
         None => None,
@@ -22,7 +22,7 @@ pub fn field_at(rest: Option<&str>) -> Option<(&str, Option<&str>)>
 }
 
 fn split_field(text: &str) -> (&str, Option<&str>)
-    ensures { (result.0.now, seen result.1) ≡ split_field text.now }
+    ensures { (result.0.now, text_of_borrow result.1) ≡ split_field text.now }
 {
     match text.split_once(' ') {
         Some((field, after)) => (field, Some(after)),
@@ -32,7 +32,7 @@ fn split_field(text: &str) -> (&str, Option<&str>)
 
 /// How many bytes are left.
 pub fn left_of(rest: Option<&str>) -> usize
-    ensures { result ≡ left_of (seen rest.entry) }
+    ensures { result ≡ left_of (text_of_borrow rest.entry) }
 {
     match rest {
         None => 0,
@@ -41,7 +41,7 @@ pub fn left_of(rest: Option<&str>) -> usize
 }
 
 fn wrong(rest: Option<&str>) -> WrongField
-    ensures { result.left ≡ left_of (seen rest.entry) }
+    ensures { result.left ≡ left_of (text_of_borrow rest.entry) }
 {
     WrongField {
         left: left_of(rest),
@@ -49,12 +49,12 @@ fn wrong(rest: Option<&str>) -> WrongField
 }
 
 /// The name of an instance in the short form.
-#[tactic(auto, unfolding(crate::specs::Fields::taken))]
+#[tactic(auto, unfolding(crate::specs::Fields::next_field))]
 pub fn name_at(
     alloc: Global,
     rest: Option<&str>,
 ) -> Result<(InstanceFmri, Option<&str>), FieldFault>
-    ensures { GivesAt result (taken read_short (seen rest.entry)) }
+    ensures { GivesAt result (next_field read_short (text_of_borrow rest.entry)) }
 {
     let Some((field, after)) = field_at(rest) else {
         return Err(FieldFault::Left(left_of(rest)));
@@ -66,9 +66,9 @@ pub fn name_at(
 }
 
 /// A number up to 2^64 - 1, in decimal without leading zeros.
-#[tactic(auto, unfolding(crate::specs::Fields::taken))]
+#[tactic(auto, unfolding(crate::specs::Fields::next_field))]
 pub fn number_at(rest: Option<&str>) -> Result<(u64, Option<&str>), WrongField>
-    ensures { IsRead result (taken read_count (seen rest.entry)) }
+    ensures { IsRead result (next_field read_count (text_of_borrow rest.entry)) }
 {
     let Some((field, after)) = field_at(rest) else {
         return Err(wrong(rest));
@@ -79,9 +79,9 @@ pub fn number_at(rest: Option<&str>) -> Result<(u64, Option<&str>), WrongField>
     }
 }
 
-#[tactic(auto, unfolding(crate::specs::Fields::taken))]
+#[tactic(auto, unfolding(crate::specs::Fields::next_field))]
 pub fn optional_number_at(rest: Option<&str>) -> Result<(Option<u64>, Option<&str>), WrongField>
-    ensures { IsRead result (taken (read_optional read_count) (seen rest.entry)) }
+    ensures { IsRead result (next_field (read_optional read_count) (text_of_borrow rest.entry)) }
 {
     let Some((field, after)) = field_at(rest) else {
         return Err(wrong(rest));
@@ -95,9 +95,9 @@ pub fn optional_number_at(rest: Option<&str>) -> Result<(Option<u64>, Option<&st
     }
 }
 
-#[tactic(auto, unfolding(crate::specs::Fields::taken))]
+#[tactic(auto, unfolding(crate::specs::Fields::next_field))]
 pub fn state_at(rest: Option<&str>) -> Result<(State, Option<&str>), WrongField>
-    ensures { IsRead result (taken read_state (seen rest.entry)) }
+    ensures { IsRead result (next_field read_state (text_of_borrow rest.entry)) }
 {
     let Some((field, after)) = field_at(rest) else {
         return Err(wrong(rest));
@@ -108,9 +108,9 @@ pub fn state_at(rest: Option<&str>) -> Result<(State, Option<&str>), WrongField>
     }
 }
 
-#[tactic(auto, unfolding(crate::specs::Fields::taken))]
+#[tactic(auto, unfolding(crate::specs::Fields::next_field))]
 pub fn optional_state_at(rest: Option<&str>) -> Result<(Option<State>, Option<&str>), WrongField>
-    ensures { IsRead result (taken (read_optional read_state) (seen rest.entry)) }
+    ensures { IsRead result (next_field (read_optional read_state) (text_of_borrow rest.entry)) }
 {
     let Some((field, after)) = field_at(rest) else {
         return Err(wrong(rest));
@@ -124,9 +124,9 @@ pub fn optional_state_at(rest: Option<&str>) -> Result<(Option<State>, Option<&s
     }
 }
 
-#[tactic(auto, unfolding(crate::specs::Fields::taken))]
+#[tactic(auto, unfolding(crate::specs::Fields::next_field))]
 pub fn cause_at(rest: Option<&str>) -> Result<(Cause, Option<&str>), WrongField>
-    ensures { IsRead result (taken read_cause (seen rest.entry)) }
+    ensures { IsRead result (next_field read_cause (text_of_borrow rest.entry)) }
 {
     let Some((field, after)) = field_at(rest) else {
         return Err(wrong(rest));
@@ -137,9 +137,9 @@ pub fn cause_at(rest: Option<&str>) -> Result<(Cause, Option<&str>), WrongField>
     }
 }
 
-#[tactic(auto, unfolding(crate::specs::Fields::taken))]
+#[tactic(auto, unfolding(crate::specs::Fields::next_field))]
 pub fn optional_cause_at(rest: Option<&str>) -> Result<(Option<Cause>, Option<&str>), WrongField>
-    ensures { IsRead result (taken (read_optional read_cause) (seen rest.entry)) }
+    ensures { IsRead result (next_field (read_optional read_cause) (text_of_borrow rest.entry)) }
 {
     let Some((field, after)) = field_at(rest) else {
         return Err(wrong(rest));
@@ -153,9 +153,9 @@ pub fn optional_cause_at(rest: Option<&str>) -> Result<(Option<Cause>, Option<&s
     }
 }
 
-#[tactic(auto, unfolding(crate::specs::Fields::taken))]
+#[tactic(auto, unfolding(crate::specs::Fields::next_field))]
 pub fn duration_at(rest: Option<&str>) -> Result<(Duration, Option<&str>), WrongField>
-    ensures { IsRead result (taken read_duration (seen rest.entry)) }
+    ensures { IsRead result (next_field read_duration (text_of_borrow rest.entry)) }
 {
     let Some((field, after)) = field_at(rest) else {
         return Err(wrong(rest));
@@ -167,9 +167,9 @@ pub fn duration_at(rest: Option<&str>) -> Result<(Duration, Option<&str>), Wrong
 }
 
 /// Asks as a number up to 255.
-#[tactic(auto, unfolding(crate::specs::Fields::taken))]
+#[tactic(auto, unfolding(crate::specs::Fields::next_field))]
 pub fn asks_at(rest: Option<&str>) -> Result<(Asks, Option<&str>), WrongField>
-    ensures { IsRead result (taken read_asks (seen rest.entry)) }
+    ensures { IsRead result (next_field read_asks (text_of_borrow rest.entry)) }
 {
     let Some((field, after)) = field_at(rest) else {
         return Err(wrong(rest));
@@ -181,9 +181,9 @@ pub fn asks_at(rest: Option<&str>) -> Result<(Asks, Option<&str>), WrongField>
 }
 
 /// The bits of failures left out, as a number up to 3.
-#[tactic(auto, unfolding(crate::specs::Fields::taken))]
+#[tactic(auto, unfolding(crate::specs::Fields::next_field))]
 pub fn ignore_at(rest: Option<&str>) -> Result<(u8, Option<&str>), WrongField>
-    ensures read { IsRead result (taken read_ignore (seen rest.entry)) }
+    ensures read { IsRead result (next_field read_ignore (text_of_borrow rest.entry)) }
     ensures small { IfOk result (λ x. x.0 ≤ 3) }
 {
     let Some((field, after)) = field_at(rest) else {
@@ -196,9 +196,9 @@ pub fn ignore_at(rest: Option<&str>) -> Result<(u8, Option<&str>), WrongField>
 }
 
 /// A flag as 0 or 1.
-#[tactic(auto, unfolding(crate::specs::Fields::taken))]
+#[tactic(auto, unfolding(crate::specs::Fields::next_field))]
 pub fn flag_at(rest: Option<&str>) -> Result<(bool, Option<&str>), WrongField>
-    ensures { IsRead result (taken read_flag (seen rest.entry)) }
+    ensures { IsRead result (next_field read_flag (text_of_borrow rest.entry)) }
 {
     let Some((field, after)) = field_at(rest) else {
         return Err(wrong(rest));

@@ -1,5 +1,4 @@
-ghost use Rattle.std.specs.Prelude.{⊤, ◌≡◌, ◌==◌, ◌≤◌, [], ◌∷◌, codes, if◌then◌else◌, nat_le, Some, None};
-ghost use Rattle.std.specs.Int.RustNames.{bit_and};
+ghost use Rattle.std.specs.Prelude.{⊤, ◌≡◌, ◌≤◌, [], ◌∷◌, codes, if◌then◌else◌, nat_le, Some, None};
 
 use bitflags::{Flag, Flags, bitflag_items};
 use std::marker::Model;

@@ -1,7 +1,7 @@
 ghost use Rattle.std.specs.Option.{option_copied};
 ghost use Rattle.std.specs.Prelude.{◌≡◌, ◌+◌, ◌<◌, ◌≤◌, IfOk, None, OnErr, OnOk, vec_len};
 ghost use Rattle.smf_fmri.specs.ByKey.{Rises, lookup};
-ghost use Rattle.smf_state.specs.Patched.{by_item, items_held, patched, with_item, with_items};
+ghost use Rattle.smf_state.specs.Patched.{by_item, items_held, view_after_changes, with_item, with_items};
 
 use crate::view::{ChangedItem, View, ViewItem};
 use smf_fmri::{SharedOrdered, Table};
@@ -67,14 +67,14 @@ impl HeldView {
 
     /// Puts each changed item in its place, or takes it out. The view is then that of another revision. If memory runs
     /// out, it is as it was.
-    #[tactic(auto, unfolding(crate::specs::Patched::patched))]
+    #[tactic(auto, unfolding(crate::specs::Patched::view_after_changes))]
     pub fn patch(
         &mut self,
         alloc: Global,
         to: u64,
         changes: &[ChangedItem],
     ) -> Result<(), AllocError>
-        ensures ok { OnOk result (self.new ≡ patched self.old to changes.now) }
+        ensures ok { OnOk result (self.new ≡ view_after_changes self.old to changes.now) }
         ensures err { OnErr result (self.new ≡ self.old) }
     {
         let copies = copies_of(alloc, changes)?;

@@ -27,7 +27,7 @@ pub use flags::{Asks, Failures, Ignore};
 pub use held_view::HeldView;
 pub use own_name::{is_startd, startd};
 pub use refusal::Why;
-pub use row::{MAX_NUMBER, MAX_RUN, Row, steps_go_along_the_diagram};
+pub use row::{Row, steps_go_along_the_diagram};
 pub use shared_row::SharedRow;
 pub use state::{Cause, Duration, State, edge};
 pub use step::{Proposal, Step, Verb};

@@ -11,7 +11,7 @@ const STARTD: &str = "svc:/system/svc/restarter:default";
 pub fn startd(alloc: Global) -> Result<InstanceFmri, AllocError>
     ensures { IfOk result (λ name. name ≡ startd) }
 {
-    InstanceFmri::known(alloc, STARTD)
+    InstanceFmri::from_valid_text(alloc, STARTD)
 }
 
 /// True if it is svc.startd's own restarter.

@@ -1,5 +1,5 @@
-ghost use Rattle.std.specs.Prelude.{◌≡◌, ◌+◌, ◌<◌, ℕ, MatchResult, Ok, Err, OnErr, Some, is_some, is_none};
-ghost use Rattle.smf_state.specs.Rows.{GoesOn, is_past_last, run_of, still_live, is_next_run, is_steady, is_stopped, may_move, may_end, may_count, allowed, refusal, kept, asks_at, fresh, last_with, ended, stepped, applied};
+ghost use Rattle.std.specs.Prelude.{◌≡◌, ◌<◌, ℕ, MatchResult, Ok, Err, OnErr, Some, is_some, is_none};
+ghost use Rattle.smf_state.specs.Rows.{GoesOn, is_past_last, run_of, still_live, is_next_run, is_steady, is_stopped, may_move, may_end, is_allowed, refusal, run_if_kept, asks_at, fresh, last_with, row_with_end_revision, row_after_step, result_of_proposal};
 ghost use Rattle.smf_state.specs.declared.row.Row.{Row as AnyRow};
 ghost use Rattle.smf_state.specs.declared.step.Proposal.{Proposal as AnyProposal};
 
@@ -9,13 +9,8 @@ use crate::state::{Cause, Duration, State, edge};
 use crate::step::{Proposal, Step};
 use bitflags::Flags;
 use smf_fmri::InstanceFmri;
+use smf_fmri::limits::{MAX_COUNT, MAX_RUN};
 use std::alloc::AllocError;
-
-/// The greatest run, 2^38 - 1.
-pub const MAX_RUN: u64 = 0x3f_ffff_ffff;
-
-/// The greatest row number, 2^63 - 1.
-pub const MAX_NUMBER: u64 = 0x7fff_ffff_ffff_ffff;
 
 /// The state of an instance, as the repository holds it.
 #[derive(Drop)]
@@ -185,7 +180,7 @@ impl Row {
     }
 
     fn allows(&self, step: &Step) -> bool
-        ensures { result ≡ allowed self.now step.now }
+        ensures { result ≡ is_allowed self.now step.now }
     {
         match step {
             Step::Move(to) => self.next.is_none() && may_move(self.state, *to),
@@ -212,7 +207,7 @@ impl Row {
     fn refusal(&self, step: &Step) -> Option<StepFault>
         ensures { result ≡ refusal self.now step.now }
     {
-        if self.number >= MAX_NUMBER || is_past_last(step.run()) {
+        if self.number >= MAX_COUNT || is_past_last(step.run()) {
             Some(StepFault::Exhausted)
         } else if self.is_still_live(step) {
             Some(StepFault::StillLive)
@@ -225,31 +220,41 @@ impl Row {
         }
     }
 
+    /// Takes a move, for which the revision does not count.
+    fn take_move(&mut self, to: State)
+        ensures { self.new ≡ row_after_step self.old (Step.Move to) 0 }
+    {
+        self.asks = asks_at(self.state, to, self.asks);
+        self.state = to;
+        self.failed = 0;
+    }
+
+    /// Takes a start, for which the revision does not count.
+    fn take_start(&mut self, run: u64, snapshot: u64, duration: Duration, ignore: Ignore, base: u64)
+        ensures { self.new ≡ row_after_step self.old (Step.Start run snapshot duration ignore base) 0 }
+    {
+        self.next = Some(State::Online);
+        self.live = Some(run);
+        self.last = run;
+        self.begun = Some(snapshot);
+        self.duration = duration;
+        self.ignore = ignore;
+        self.base = base;
+    }
+
     /// Takes a step, the number, launch and serial aside.
     fn take(&mut self, step: &Step, revision: u64)
-        ensures { self.new ≡ stepped self.old step.now revision }
+        ensures { self.new ≡ row_after_step self.old step.now revision }
     {
         match step {
-            Step::Move(to) => {
-                self.asks = asks_at(self.state, *to, self.asks);
-                self.state = *to;
-                self.failed = 0;
-            }
+            Step::Move(to) => self.take_move(*to),
             Step::Start {
                 run,
                 snapshot,
                 duration,
                 ignore,
                 base,
-            } => {
-                self.next = Some(State::Online);
-                self.live = Some(*run);
-                self.last = *run;
-                self.begun = Some(*snapshot);
-                self.duration = *duration;
-                self.ignore = *ignore;
-                self.base = *base;
-            }
+            } => self.take_start(*run, *snapshot, *duration, *ignore, *base),
             Step::Stop { to, cause, run } => {
                 self.next = Some(*to);
                 self.cause = Some(*cause);
@@ -274,7 +279,7 @@ impl Row {
     }
 
     fn take_end(&mut self, to: State, keep: bool, failed: u64, cause: Cause, revision: u64)
-        ensures { self.new ≡ stepped self.old (Step.End to keep failed cause) revision }
+        ensures { self.new ≡ row_after_step self.old (Step.End to keep failed cause) revision }
     {
         self.mark_end(to, cause, revision);
         self.asks = asks_at(self.state, to, self.asks);
@@ -286,7 +291,7 @@ impl Row {
     }
 
     fn keep_live(&mut self, keep: bool)
-        ensures { self.new ≡ record self.old { live = kept keep self.old.live } }
+        ensures { self.new ≡ record self.old { live = run_if_kept keep self.old.live } }
     {
         if !keep {
             self.live = None;
@@ -304,7 +309,7 @@ impl Row {
 
     /// Notes the revision of an end from running, or of a start that succeeded.
     fn mark_end(&mut self, to: State, cause: Cause, revision: u64)
-        ensures { self.new ≡ ended self.old to cause revision }
+        ensures { self.new ≡ row_with_end_revision self.old to cause revision }
     {
         if self.state.runs() && !to.runs() {
             if cause == Cause::Error {
@@ -321,9 +326,10 @@ impl Row {
     /// Takes the step of a proposal into the row at a revision, or gives the first reason to refuse it. The reasons
     /// stand in the order of the faults. Takes no memory. The repository itself sets the snapshots `running` and
     /// `start`.
-    #[tactic(auto, unfolding(crate::specs::Rows::applied))]
+    #[tactic(auto, unfolding(crate::specs::Rows::result_of_proposal))]
     pub fn apply(&mut self, proposal: &Proposal, revision: u64) -> Result<(), StepFault>
-        ensures exact { MatchResult result (λ _. applied self.old proposal.now revision ≡ Ok self.new) (λ e. applied self.old proposal.now revision ≡ Err e) }
+        ensures exact { MatchResult result (λ _. result_of_proposal self.old proposal.now revision ≡ Ok self.new)
+            (λ e. result_of_proposal self.old proposal.now revision ≡ Err e) }
         ensures err { OnErr result (self.new ≡ self.old) }
     {
         if let Some(fault) = self.refusal(&proposal.step) {
@@ -342,5 +348,6 @@ impl Row {
 
 /// A law of the definitions, for every row and step.
 pub fn steps_go_along_the_diagram()
-    ensures { (r after : AnyRow) (p : AnyProposal) (revision : ℕ) → applied r p revision ≡ Ok after → GoesOn r after }
+    ensures { (r after : AnyRow) (p : AnyProposal) (revision : ℕ) → result_of_proposal r p revision ≡ Ok after
+        → GoesOn r after }
 {}

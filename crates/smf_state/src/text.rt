@@ -1,8 +1,8 @@
-ghost use Rattle.std.specs.Prelude.{◌≡◌, ◌++◌, [], ◌∷◌, IfOk, IfSome, OnOk, Ok, Err, Some, string_bytes};
+ghost use Rattle.std.specs.Prelude.{◌≡◌, ◌++◌, [], IfOk, IfSome, OnOk, Ok, Err, Some, string_bytes};
 ghost use Rattle.std.specs.Fmt.{decimal};
-ghost use Rattle.smf_state.specs.Fields.{GivesAt, IsRead, seen, taken, optional_text, flag_text};
+ghost use Rattle.smf_state.specs.Fields.{GivesAt, IsRead, text_of_borrow, next_field, optional_text, flag_text};
 ghost use Rattle.smf_state.specs.States.{state_text, cause_text};
-ghost use Rattle.smf_state.specs.Texts.{GivesRow, IsSmall, IsFirst, IsSecond, IsThird, IsRow, IsStep, first_part, second_part, third_part, row_text, first_at, second_at, third_at, row_at, read_row, verb_of, verb_text, read_verb, fields_onto, step_text, fields_at, step_at, read_step};
+ghost use Rattle.smf_state.specs.Texts.{GivesRow, IsSmall, IsFirst, IsSecond, IsThird, IsRow, IsStep, first_part, second_part, third_part, row_text, first_at, second_at, third_at, row_at, read_row, read_verb, step_text, fields_at, step_at, read_step};
 ghost use Rattle.smf_state.specs.declared.row.Row.{Row as AnyRow};
 ghost use Rattle.smf_state.specs.declared.step.Step.{Step as AnyStep};
 
@@ -13,7 +13,7 @@ use crate::fields::{
 };
 use crate::flags::Ignore;
 use crate::row::Row;
-use crate::state::{Cause, State};
+use crate::state::{Cause, Duration, State};
 use crate::step::{Step, Verb};
 use smf_fmri::Text;
 use std::alloc::{AllocError, Global};
@@ -22,7 +22,7 @@ use std::fmt::{self, Write};
 /// The first seven fields, the others new.
 #[tactic(auto, unfolding(crate::specs::Texts::first_at))]
 fn first_at(alloc: Global, rest: Option<&str>) -> Result<(Row, Option<&str>), FieldFault>
-    ensures { GivesAt result (first_at (seen rest.entry)) }
+    ensures { GivesAt result (first_at (text_of_borrow rest.entry)) }
 {
     let (owner, rest) = name_at(alloc, rest)?;
     let (number, rest) = number_at(rest)?;
@@ -44,7 +44,7 @@ fn first_at(alloc: Global, rest: Option<&str>) -> Result<(Row, Option<&str>), Fi
 /// The next seven fields.
 #[tactic(auto, unfolding(crate::specs::Texts::second_at))]
 fn second_at(mut row: Row, rest: Option<&str>) -> Result<(Row, Option<&str>), WrongField>
-    ensures { IsRead result (second_at row (seen rest.entry)) }
+    ensures { IsRead result (second_at row (text_of_borrow rest.entry)) }
 {
     let (failed, rest) = number_at(rest)?;
     let (asks, rest) = asks_at(rest)?;
@@ -66,7 +66,7 @@ fn second_at(mut row: Row, rest: Option<&str>) -> Result<(Row, Option<&str>), Wr
 /// The last seven fields.
 #[tactic(auto, unfolding(crate::specs::Texts::third_at))]
 fn third_at(mut row: Row, rest: Option<&str>) -> Result<(Row, Option<&str>), WrongField>
-    ensures { IsRead result (third_at row (seen rest.entry)) }
+    ensures { IsRead result (third_at row (text_of_borrow rest.entry)) }
 {
     let (stop, rest) = number_at(rest)?;
     let (refresh, rest) = number_at(rest)?;
@@ -88,7 +88,7 @@ fn third_at(mut row: Row, rest: Option<&str>) -> Result<(Row, Option<&str>), Wro
 /// Reads the row at the start of the rest of a line, and gives the rest after it.
 #[tactic(auto, unfolding(crate::specs::Texts::row_at))]
 pub fn row_at(alloc: Global, rest: Option<&str>) -> Result<(Row, Option<&str>), FieldFault>
-    ensures { GivesAt result (row_at (seen rest.entry)) }
+    ensures { GivesAt result (row_at (text_of_borrow rest.entry)) }
 {
     let (row, rest) = first_at(alloc, rest)?;
     let (row, rest) = second_at(row, rest)?;
@@ -204,9 +204,9 @@ impl Verb {
     }
 }
 
-#[tactic(auto, unfolding(crate::specs::Fields::taken))]
+#[tactic(auto, unfolding(crate::specs::Fields::next_field))]
 fn verb_at(rest: Option<&str>) -> Result<(Verb, Option<&str>), WrongField>
-    ensures { IsRead result (taken read_verb (seen rest.entry)) }
+    ensures { IsRead result (next_field read_verb (text_of_borrow rest.entry)) }
 {
     let Some((field, after)) = field_at(rest) else {
         return Err(WrongField { left: 0 });
@@ -221,7 +221,7 @@ fn verb_at(rest: Option<&str>) -> Result<(Verb, Option<&str>), WrongField>
 
 #[tactic(auto, unfolding(crate::specs::Texts::fields_at))]
 fn fields_at(verb: Verb, rest: Option<&str>) -> Result<(Step, Option<&str>), WrongField>
-    ensures { IsRead result (fields_at verb (seen rest.entry)) }
+    ensures { IsRead result (fields_at verb (text_of_borrow rest.entry)) }
 {
     match verb {
         Verb::Move => {
@@ -250,7 +250,7 @@ fn fields_at(verb: Verb, rest: Option<&str>) -> Result<(Step, Option<&str>), Wro
 
 #[tactic(auto, unfolding(crate::specs::Texts::fields_at))]
 fn start_at(rest: Option<&str>) -> Result<(Step, Option<&str>), WrongField>
-    ensures { IsRead result (fields_at Verb.Start (seen rest.entry)) }
+    ensures { IsRead result (fields_at Verb.Start (text_of_borrow rest.entry)) }
 {
     let (run, rest) = number_at(rest)?;
     let (snapshot, rest) = number_at(rest)?;
@@ -269,7 +269,7 @@ fn start_at(rest: Option<&str>) -> Result<(Step, Option<&str>), WrongField>
 
 #[tactic(auto, unfolding(crate::specs::Texts::fields_at))]
 fn end_at(rest: Option<&str>) -> Result<(Step, Option<&str>), WrongField>
-    ensures { IsRead result (fields_at Verb.End (seen rest.entry)) }
+    ensures { IsRead result (fields_at Verb.End (text_of_borrow rest.entry)) }
 {
     let (to, rest) = state_at(rest)?;
     let (keep, rest) = flag_at(rest)?;
@@ -287,7 +287,7 @@ fn end_at(rest: Option<&str>) -> Result<(Step, Option<&str>), WrongField>
 /// Reads the step at the start of the rest of a line, and gives the rest after it. Takes no memory.
 #[tactic(auto, unfolding(crate::specs::Texts::step_at))]
 pub fn step_at(rest: Option<&str>) -> Result<(Step, Option<&str>), WrongField>
-    ensures { IsRead result (step_at (seen rest.entry)) }
+    ensures { IsRead result (step_at (text_of_borrow rest.entry)) }
 {
     let (verb, rest) = verb_at(rest)?;
     fields_at(verb, rest)
@@ -302,6 +302,25 @@ fn read_step(text: &str) -> Result<Step, StepTextFault>
         Ok((_, Some(rest))) => Err(StepTextFault::BadStep(text.len().saturating_sub(rest.len()))),
         Err(wrong) => Err(StepTextFault::BadStep(text.len().saturating_sub(wrong.left))),
     }
+}
+
+/// Writes the text of a start after another.
+#[tactic(auto, unfolding(crate::specs::Texts::step_onto))]
+fn put_start(
+    out: &mut String,
+    run: u64,
+    snapshot: u64,
+    duration: Duration,
+    ignore: Ignore,
+    base: u64,
+) -> Result<(), AllocError>
+    ensures text { OnOk result
+        (string_bytes out.new ≡ string_bytes out.old ++ step_text (Step.Start run snapshot duration ignore base)) }
+    ensures known { OnOk result (IsStep (Step.Start run snapshot duration ignore base)) }
+{
+    let ignore = ignore.bits();
+    write!(out, "start {run} {snapshot} {duration}")?;
+    write!(out, " {ignore} {base}")
 }
 
 impl Step {
@@ -341,12 +360,7 @@ impl Step {
                 duration,
                 ignore,
                 base,
-            } => {
-                let (run, snapshot, base) = (*run, *snapshot, *base);
-                let ignore = ignore.bits();
-                write!(out, "start {run} {snapshot} {duration}")?;
-                write!(out, " {ignore} {base}")
-            }
+            } => put_start(out, *run, *snapshot, *duration, *ignore, *base),
             Step::Stop { to, cause, run } => {
                 let run = number_or_none(*run);
                 write!(out, "stop {to} {cause} {run}")

@@ -4,17 +4,17 @@ use Rattle.std.specs.Cmp.Lexicographic.{pointwise}
 use Rattle.sqlite.specs.declared.types.Value.{Value}
 use Rattle.sqlite.specs.Order.{Row, column}
 use Rattle.smf_fmri.specs.declared.fault.FmriFault.{FmriFault}
-use Rattle.smf_fmri.specs.Matching.{IsInstanceName, IsServiceName, instance_of, read_short}
-use Rattle.smf_fmri.specs.Name.{read}
-use Rattle.smf_fmri.proofs.Matching.{same_text}
+use Rattle.smf_fmri.specs.Patterns.{IsInstanceName, IsServiceName, instance_of, read_short}
+use Rattle.smf_fmri.specs.Name.{name_of_text}
+use Rattle.smf_fmri.proofs.Patterns.{same_text}
 use Rattle.smf_fmri.proofs.Short.{short_is_name}
 use Rattle.smf_model.specs.declared.held.Instance.{Instance}
 use Rattle.smf_model.specs.declared.held.Launch.{Launch}
 use Rattle.smf_laws.specs.Consistent.{IsLaunchHeld}
-use Rattle.smf_store.specs.declared.counting.Counters.{Counters}
-use Rattle.smf_store.specs.declared.counting.StoreVersion.{StoreVersion}
+use Rattle.smf_store.specs.declared.counter_rows.Counters.{Counters}
+use Rattle.smf_store.specs.declared.counter_rows.StoreVersion.{StoreVersion}
 use Rattle.smf_store.specs.Judged.{counters_said, is_within, number_of, number_said, value_of}
-use Rattle.smf_store.specs.Readings.{◌>>=◌, count_in, given, greatest, instance_said, joined_name, launch_said, name_said, number_in, optional_in, service_said, short_by, short_service, state_said, text_in}
+use Rattle.smf_store.specs.RowValues.{◌>>=◌, count_in, value_if, greatest, instance_said, joined_name, launch_said, name_said, number_in, optional_in, service_said, short_by, short_service, state_said, text_in}
 use Rattle.smf_store.proofs.Makes.{some_is}
 
 -- ---- options and tests
@@ -23,11 +23,12 @@ pub none_is : {X : Type 0} (x : X) → None ≡ Some x → ⊥
 none_is x e = cc
 
 -- the result of a reading after another
-pub bind_is : {A B : Type 0} (o : Option A) (f : A → Option B) (y : B) → (o >>= f) ≡ Some y → (x : A) × (o ≡ Some x) × (f x ≡ Some y)
+pub bind_is : {A B : Type 0} (o : Option A) (f : A → Option B) (y : B) → (o >>= f) ≡ Some y
+    → (x : A) × (o ≡ Some x) × (f x ≡ Some y)
 bind_is None f y e = absurd (none_is y e)
 bind_is (Some x) f y e = (x, refl, e)
 
-pub passes : {X : Type 0} (b : Bool) (x y : X) → given b x ≡ Some y → (b ≡ true) × (x ≡ y)
+pub passes : {X : Type 0} (b : Bool) (x y : X) → value_if b x ≡ Some y → (b ≡ true) × (x ≡ y)
 passes true x y e = (refl, some_is x y e)
 passes false x y e = absurd (none_is y e)
 
@@ -60,7 +61,8 @@ pub record AreWithin (version : StoreVersion) (r i s : ℕ) : Type 0 where
   pub first_snapshot : 1 ≤ s
   pub next_snapshot : s ≤ greatest
 
-pub counters_within : (version : StoreVersion) (rows : List Row) (c : Counters) → counters_said version rows ≡ Some c → AreWithin version c.revision c.next_instance c.next_snapshot
+pub counters_within : (version : StoreVersion) (rows : List Row) (c : Counters) → counters_said version rows ≡ Some c
+    → AreWithin version c.revision c.next_instance c.next_snapshot
 unfolding counters_said
 counters_within version rows c e =
     let a = bind_is (number_said (codes "revision") rows) _ c e in
@@ -79,21 +81,23 @@ counters_within version rows c e =
 
 -- ---- names
 
-named_by : (a b : Bool) (text found name : List ℕ) → pointwise nat_eq found text ≡ a → is_some (instance_of found) ≡ b → cond a (cond b None (Some found)) None ≡ Some name → read text ≡ Ok found → IsServiceName name
+named_by : (a b : Bool) (text found name : List ℕ) → pointwise nat_eq found text ≡ a → is_some (instance_of found) ≡ b
+    → cond a (cond b None (Some found)) None ≡ Some name → name_of_text text ≡ Ok found → IsServiceName name
 named_by true true text found name e i h r = absurd (none_is name h)
 named_by true false text found name e i h r =
     let is : found ≡ name = some_is found name h in
     let same : found ≡ text = (same_text found text).0 e in
-    subst IsServiceName is (record { reads = ap read same ∙ r; names = i })
+    subst IsServiceName is (record { reads = ap name_of_text same ∙ r; names = i })
 named_by false b text found name e i h r = absurd (none_is name h)
 
-service_by : (text name : List ℕ) (r : Result (List ℕ) FmriFault) → read text ≡ r → short_by text r ≡ Some name → IsServiceName name
+service_by : (text name : List ℕ) (r : Result (List ℕ) FmriFault) → name_of_text text ≡ r
+    → short_by text r ≡ Some name → IsServiceName name
 service_by text name (Ok found) e h = named_by _ _ text found name refl refl h e
 service_by text name (Err fault) e h = absurd (none_is name h)
 
 short_accepted : (text name : List ℕ) → short_service text ≡ Some name → IsServiceName name
 unfolding short_service
-short_accepted text name e = service_by text name (read text) refl e
+short_accepted text name e = service_by text name (name_of_text text) refl e
 
 pub service_accepted : (r : Row) (name : List ℕ) → service_said r ≡ Some name → IsServiceName name
 unfolding service_said
@@ -130,5 +134,6 @@ launch_accepted r l e =
     let b = bind_is (number_in (column r 2)) _ l a.2 in
     let c = bind_is (read_short a.0) _ l b.2 in
     let made : Launch = record { restarter = c.0; count = b.0 } in
-    let held : IsLaunchHeld made = record { named = (short_is_name a.0 c.0 c.1).1; count = number_low (column r 2) b.0 b.1 } in
+    let held : IsLaunchHeld made =
+    record { named = (short_is_name a.0 c.0 c.1).1; count = number_low (column r 2) b.0 b.1 } in
     subst IsLaunchHeld (some_is made l c.2) held

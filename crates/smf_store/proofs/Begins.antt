@@ -21,8 +21,8 @@ use Rattle.smf_tables.proofs.Changes.{went, same_value}
 use Rattle.smf_tables.proofs.Creates as texts
 use Rattle.smf_model.specs.Look.{empty}
 use Rattle.smf_model.proofs.LawNumbers.{first_numbers}
-use Rattle.smf_store.specs.Creating.{AreBare, Creates, Counts, Made, MayMake}
-use Rattle.smf_model.specs.Holdings.{Holdings}
+use Rattle.smf_store.specs.Creation.{AreBare, Creates, Counts, Made, MayMake}
+use Rattle.smf_model.specs.Contents.{Holdings}
 use Rattle.smf_store.specs.Holds.{Listed, Stands, StandsIn, Counted}
 use Rattle.smf_store.specs.Shown.{Counter, Version, Layout, Revision, NextInstance, NextSnapshot, Count, count_of, HasCount, HasGroup, of_service, of_instance, OwnedGroup}
 use Rattle.smf_store.proofs.Makes.{shows_then}
@@ -38,22 +38,29 @@ record IsNew (schema : Schema) (table : Table) (old new : Database) : Type 0 whe
   sound : IsDatabase new
 
 creates : (text : List ℕ) (schema : Schema) (table : Table) (old new : State) (count : ℕ) → old.now.schema ≡ schema
-    → (command_of (understood schema text) ≡ CreateTable) × (statement_of text (understood schema text) ≡ text) → IsPlain (understood schema text) → table_defined_by text ≡ Ok table
-    → lacks_sequence (created schema table) ≡ false → Executes text [] old new (Ok count) → IsNew schema table old.now new.now
+    → (command_of (understood schema text) ≡ CreateTable) × (statement_of text (understood schema text) ≡ text)
+    → IsPlain (understood schema text) → table_defined_by text ≡ Ok table
+    → lacks_sequence (created schema table) ≡ false → Executes text [] old new (Ok count)
+    → IsNew schema table old.now new.now
 creates text schema table old new count has runs plain is uncounted h =
-    let w = subst (λ t. Writes old new None CreateTable t [] count) runs.1 (runs_as text [] old new schema has CreateTable runs.0 plain count h) in
+    let w = subst (λ t. Writes old new None CreateTable t [] count) runs.1
+    (runs_as text [] old new schema has CreateTable runs.0 plain count h) in
     let all = went w.changed in
     let first = went all.1 in
     let made = first.1 in
     let both : Ok made.table ≡ Ok table = sym made.defined ∙ is in
     let same_table : made.table ≡ table = same_value both in
-    let defined : first.0.schema ≡ created schema table = made.is ∙ ap (λ s. created s made.table) has ∙ ap (created schema) same_table in
+    let defined : first.0.schema ≡ created schema table =
+    made.is ∙ ap (λ s. created s made.table) has ∙ ap (created schema) same_table in
     let lacks : lacks_sequence first.0.schema ≡ false = ap lacks_sequence defined ∙ uncounted in
-    let now : new.now ≡ first.0 = ap (λ (p : Tally × Database). p.1) (same_value all.2) ∙ same_value (rw lacks at first.2) in
+    let now : new.now ≡ first.0 = ap (λ (p : Tally × Database). p.1) (same_value all.2)
+    ∙ same_value (rw lacks at first.2) in
     record {
       defined = ap (λ (d : Database). d.schema) now ∙ defined;
-      bare = ap (λ (d : Database). d.trees (next_tree schema)) now ∙ subst (λ s. first.0.trees (next_tree s) ≡ []) has made.empty;
-      others = subst (λ (d : Database). KeepsRows schema.tables old.now.trees d.trees) (sym now) (subst (λ (s : Schema). KeepsRows s.tables old.now.trees first.0.trees) has made.others);
+      bare = ap (λ (d : Database). d.trees (next_tree schema)) now
+          ∙ subst (λ s. first.0.trees (next_tree s) ≡ []) has made.empty;
+      others = subst (λ (d : Database). KeepsRows schema.tables old.now.trees d.trees) (sym now)
+          (subst (λ (s : Schema). KeepsRows s.tables old.now.trees first.0.trees) has made.others);
       sound = w.sound;
     }
 
@@ -62,7 +69,8 @@ module _ (old new : State) (count : ℕ) where
   creates_meta h = record {
     shows = h.1;
     made = λ bare.
-        let m = creates texts.meta_text no_schema (tables.meta_at 0) old new count bare.has texts.meta_runs texts.meta_plain texts.meta_is refl h.0 in
+        let m = creates texts.meta_text no_schema (tables.meta_at 0) old new count bare.has texts.meta_runs
+        texts.meta_plain texts.meta_is refl h.0 in
         (record { has = m.defined; rows = (m.bare, tt) }, m.sound);
   }
 
@@ -70,49 +78,100 @@ module _ (old new : State) (count : ℕ) where
   creates_service h = record {
     shows = h.1;
     made = λ bare.
-        let m = creates texts.service_text one_table (tables.service_at 0) old new count bare.has texts.service_runs texts.service_plain texts.service_is refl h.0 in
+        let m = creates texts.service_text one_table
+        (tables.service_at 0) old new count bare.has texts.service_runs texts.service_plain texts.service_is refl
+        h.0 in
         (record { has = m.defined; rows = (m.others.0 ∙ bare.rows.0, (m.bare, tt)) }, m.sound);
   }
 
-  pub creates_instance : ExecutesInside 0 texts.instance_text [] old new (Ok count) → Creates two_tables three_tables old new
+  pub creates_instance : ExecutesInside 0 texts.instance_text [] old new (Ok count)
+      → Creates two_tables three_tables old new
   creates_instance h = record {
     shows = h.1;
     made = λ bare.
-        let m = creates texts.instance_text two_tables (tables.instance_at 0) old new count bare.has texts.instance_runs texts.instance_plain texts.instance_is refl h.0 in
-        (record { has = m.defined; rows = (m.others.0 ∙ bare.rows.0, (m.others.1.0 ∙ bare.rows.1.0, (m.bare, tt))) }, m.sound);
+        let m = creates texts.instance_text two_tables
+        (tables.instance_at 0) old new count bare.has texts.instance_runs texts.instance_plain texts.instance_is
+        refl h.0 in (
+          record { has = m.defined; rows = (m.others.0 ∙ bare.rows.0, (m.others.1.0 ∙ bare.rows.1.0, (m.bare, tt))) },
+          m.sound,
+        );
   }
 
   pub creates_grp : ExecutesInside 0 texts.grp_text [] old new (Ok count) → Creates three_tables four_tables old new
   creates_grp h = record {
     shows = h.1;
     made = λ bare.
-        let m = creates texts.grp_text three_tables (tables.grp_at 0) old new count bare.has texts.grp_runs texts.grp_plain texts.grp_is refl h.0 in
-        (record { has = m.defined; rows = (m.others.0 ∙ bare.rows.0, (m.others.1.0 ∙ bare.rows.1.0, (m.others.1.1.0 ∙ bare.rows.1.1.0, (m.bare, tt)))) }, m.sound);
+        let m = creates texts.grp_text three_tables
+        (tables.grp_at 0) old new count bare.has texts.grp_runs texts.grp_plain texts.grp_is refl h.0 in (
+          record {
+            has = m.defined;
+            rows = (
+              m.others.0 ∙ bare.rows.0,
+              (m.others.1.0 ∙ bare.rows.1.0, (m.others.1.1.0 ∙ bare.rows.1.1.0, (m.bare, tt))),
+            );
+          },
+          m.sound,
+        );
   }
 
   pub creates_snap : ExecutesInside 0 texts.snap_text [] old new (Ok count) → Creates four_tables five_tables old new
   creates_snap h = record {
     shows = h.1;
     made = λ bare.
-        let m = creates texts.snap_text four_tables (tables.snap_at 0) old new count bare.has texts.snap_runs texts.snap_plain texts.snap_is refl h.0 in
-        (record { has = m.defined; rows = (m.others.0 ∙ bare.rows.0, (m.others.1.0 ∙ bare.rows.1.0, (m.others.1.1.0 ∙ bare.rows.1.1.0, (m.others.1.1.1.0 ∙ bare.rows.1.1.1.0, (m.bare, tt))))) }, m.sound);
+        let m = creates texts.snap_text four_tables
+        (tables.snap_at 0) old new count bare.has texts.snap_runs texts.snap_plain texts.snap_is refl h.0 in (
+          record {
+            has = m.defined;
+            rows = (
+              m.others.0 ∙ bare.rows.0,
+              (
+                m.others.1.0 ∙ bare.rows.1.0,
+                (m.others.1.1.0 ∙ bare.rows.1.1.0, (m.others.1.1.1.0 ∙ bare.rows.1.1.1.0, (m.bare, tt))),
+              ),
+            );
+          },
+          m.sound,
+        );
   }
 
-  pub creates_restarter : ExecutesInside 0 texts.restarter_text [] old new (Ok count) → Creates five_tables store_schema old new
+  pub creates_restarter : ExecutesInside 0 texts.restarter_text [] old new (Ok count)
+      → Creates five_tables store_schema old new
   creates_restarter h = record {
     shows = h.1;
     made = λ bare.
-        let m = creates texts.restarter_text five_tables (tables.restarter_at 0) old new count bare.has texts.restarter_runs texts.restarter_plain texts.restarter_is refl h.0 in
-        (record { has = m.defined; rows = (m.others.0 ∙ bare.rows.0, (m.others.1.0 ∙ bare.rows.1.0, (m.others.1.1.0 ∙ bare.rows.1.1.0, (m.others.1.1.1.0 ∙ bare.rows.1.1.1.0, (m.others.1.1.1.1.0 ∙ bare.rows.1.1.1.1.0, (m.bare, tt)))))) }, m.sound);
+        let m = creates texts.restarter_text five_tables
+        (tables.restarter_at 0) old new count bare.has texts.restarter_runs texts.restarter_plain
+        texts.restarter_is refl h.0 in (
+          record {
+            has = m.defined;
+            rows = (
+              m.others.0 ∙ bare.rows.0,
+              (
+                m.others.1.0 ∙ bare.rows.1.0,
+                (
+                  m.others.1.1.0 ∙ bare.rows.1.1.0,
+                  (m.others.1.1.1.0 ∙ bare.rows.1.1.1.0, (m.others.1.1.1.1.0 ∙ bare.rows.1.1.1.1.0, (m.bare, tt))),
+                ),
+              ),
+            );
+          },
+          m.sound,
+        );
   }
 
 creates_then : (x y z : Schema) (a b c : State) → Creates x y a b → Creates y z b c → Creates x z a c
-creates_then x y z a b c p q = record { shows = shows_then a b c p.shows q.shows; made = λ bare. q.made (p.made bare).0 }
+creates_then x y z a b c p q =
+    record { shows = shows_then a b c p.shows q.shows; made = λ bare. q.made (p.made bare).0 }
 
-pub creates_all : (a b c d e f g : State) → Creates no_schema one_table a b → Creates one_table two_tables b c → Creates two_tables three_tables c d → Creates three_tables four_tables d e → Creates four_tables five_tables e f
+pub creates_all : (a b c d e f g : State) → Creates no_schema one_table a b → Creates one_table two_tables b c
+    → Creates two_tables three_tables c d → Creates three_tables four_tables d e → Creates four_tables five_tables e f
     → Creates five_tables store_schema f g → Creates no_schema store_schema a g
 creates_all a b c d e f g one two three four five six =
-    creates_then no_schema one_table store_schema a b g one (creates_then one_table two_tables store_schema b c g two (creates_then two_tables three_tables store_schema c d g three (creates_then three_tables four_tables store_schema d e g four (creates_then four_tables five_tables store_schema e f g five six))))
+    creates_then no_schema one_table store_schema a b g one
+    (creates_then one_table two_tables store_schema b c g two
+    (creates_then two_tables three_tables store_schema c d g three
+    (creates_then three_tables four_tables store_schema d e g four
+    (creates_then four_tables five_tables store_schema e f g five six))))
 
 -- ---- the counters
 
@@ -120,13 +179,23 @@ keyed_none : IsKeyed []
 keyed_none = record { ints = λ r h. absurd h; one = λ a b ha hb same. absurd ha }
 
 listed_none : {X : Type 0} (S : X → Row → Type 0) (rows : List Row) → rows ≡ [] → Listed (λ x. ⊥) S rows
-listed_none S rows is = subst (Listed (λ x. ⊥) S) (sym is) (record { there = λ x h. absurd h; only = λ r h. absurd h; keyed = keyed_none })
+listed_none S rows is =
+    subst (Listed (λ x. ⊥) S) (sym is) (record { there = λ x h. absurd h; only = λ r h. absurd h; keyed = keyed_none })
 
 counted_none : (rows : List Row) → rows ≡ [] → Counted (λ x. ⊥) rows
-counted_none rows is = subst (Counted (λ x. ⊥)) (sym is) (record { there = λ x h. absurd h; only = λ r h c key. absurd h; texts = λ r h. absurd h; keyed = keyed_none })
+counted_none rows is =
+    subst (Counted (λ x. ⊥)) (sym is)
+    (record { there = λ x h. absurd h; only = λ r h c key. absurd h; texts = λ r h. absurd h; keyed = keyed_none })
 
 abbrev none : Six
-none = record { counts = λ x. ⊥; services = λ x. ⊥; instances = λ x. ⊥; groups = λ x. ⊥; snapshots = λ x. ⊥; launches = λ x. ⊥ }
+none = record {
+  counts = λ x. ⊥;
+  services = λ x. ⊥;
+  instances = λ x. ⊥;
+  groups = λ x. ⊥;
+  snapshots = λ x. ⊥;
+  launches = λ x. ⊥;
+}
 
 presents_none : (db : Database) → AreBare store_schema db → IsDatabase db → Presents db none
 presents_none db bare sound = record {
@@ -144,7 +213,9 @@ abbrev first_count : Counter → Count
 first_count c = record { counter = c; value = count_of empty c }
 
 abbrev IsOneOf : Count → Type 0
-IsOneOf x = (x ≡ first_count NextSnapshot) ⊎ ((x ≡ first_count NextInstance) ⊎ ((x ≡ first_count Revision) ⊎ ((x ≡ first_count Layout) ⊎ ((x ≡ first_count Version) ⊎ ⊥))))
+IsOneOf x = (x ≡ first_count NextSnapshot)
+    ⊎ ((x ≡ first_count NextInstance)
+    ⊎ ((x ≡ first_count Revision) ⊎ ((x ≡ first_count Layout) ⊎ ((x ≡ first_count Version) ⊎ ⊥))))
 
 counted : (x : Count) (c : Counter) → x ≡ first_count c → HasCount empty x
 counted x c same = ap (λ (z : Count). count_of empty z.counter) same ∙ sym (ap (λ (z : Count). z.value) same)
@@ -171,10 +242,13 @@ no_group x (of_instance above e f d m) = let clash : None ≡ Some e = f in cc
 clash : {X : Type 0} (x : X) → None ≡ Some x → ⊥
 clash x e = cc
 
-pub counts_all : (a b c d e f : State) → AddsMeta (codes "version") (pos 2) a b → AddsMeta (codes "layout") (pos 2) b c → AddsMeta (codes "revision") (pos 0) c d → AddsMeta (codes "next_instance") (pos 1) d e
+pub counts_all : (a b c d e f : State) → AddsMeta (codes "version") (pos 2) a b
+    → AddsMeta (codes "layout") (pos 2) b c → AddsMeta (codes "revision") (pos 0) c d
+    → AddsMeta (codes "next_instance") (pos 1) d e
     → AddsMeta (codes "next_snapshot") (pos 1) e f → Counts a f
 counts_all a b c d e f one two three four five = record {
-  shows = shows_then a e f (shows_then a d e (shows_then a c d (shows_then a b c one.shows two.shows) three.shows) four.shows) five.shows;
+  shows = shows_then a e f
+      (shows_then a d e (shows_then a c d (shows_then a b c one.shows two.shows) three.shows) four.shows) five.shows;
   made = λ bare sound.
       let p0 = presents_none a.now bare sound in
       let p1 = step.add_count a b none p0 (first_count Version) one in
@@ -192,30 +266,47 @@ counts_all a b c d e f one two three four five = record {
           groups = becomes p5.groups (λ x m. absurd m) no_group;
           snapshots = becomes p5.snapshots (λ x m. absurd m) (λ x m. clash x m);
           launches = becomes p5.launches (λ x m. absurd m) (λ x m. clash x m);
-        }) (record { ordered = record { services = tt; instances = tt; names = tt; snapshots = tt; launches = tt }; service_groups = λ name s e. absurd (clash s e); instance_groups = λ n x e. absurd (clash x e); none_at_zero = refl });
+        }) (record {
+          ordered = record { services = tt; instances = tt; names = tt; snapshots = tt; launches = tt };
+          service_groups = λ name s e. absurd (clash s e);
+          instance_groups =
+              λ n x e. absurd (clash x e);
+          none_at_zero = refl;
+        });
         numbered = first_numbers;
       };
 }
 
 -- ---- the transaction
 
-pub stands_made : (begun mid last : State) → Creates no_schema store_schema begun mid → Counts mid last → begun.now.schema ≡ no_schema → Stands last.now empty
+pub stands_made : (begun mid last : State) → Creates no_schema store_schema begun mid → Counts mid last
+    → begun.now.schema ≡ no_schema → Stands last.now empty
 stands_made begun mid last one two has = let it = one.made (record { has = has; rows = tt }) in two.made it.0 it.1
 
-pub made_store : (old begun mid last end : State) → begun.now ≡ old.now → Creates no_schema store_schema begun mid → Counts mid last → Shows last end last.now last.now false → Made old end
+pub made_store : (old begun mid last end : State) → begun.now ≡ old.now → Creates no_schema store_schema begun mid
+    → Counts mid last → Shows last end last.now last.now false → Made old end
 made_store old begun mid last end now one two s = record {
   is_open = s.is_open;
-  keeps = λ has. record { stands = subst (λ d. Stands d empty) (sym s.now_is) (stands_made begun mid last one two (ap (λ (d : Database). d.schema) now ∙ has)); settled = s.committed_is ∙ sym s.now_is };
+  keeps = λ has.
+      record {
+        stands = subst (λ d. Stands d empty) (sym s.now_is)
+            (stands_made begun mid last one two (ap (λ (d : Database). d.schema) now ∙ has));
+        settled =
+            s.committed_is ∙ sym s.now_is;
+      };
 }
 
 -- a store is known by its trees
 pub stands_in : (db : Database) (trees : Trees) (h : Holdings) → Stands db h → trees ≡ db.trees → StandsIn trees h
 stands_in db trees h st is =
-    let same : ◌≡◌ {A = Database} db (record { schema = store_schema; trees = trees }) = ap₂ (λ a b. record { schema = a; trees = b }) st.holds.schema (sym is) in
+    let same : ◌≡◌ {A = Database} db (record { schema = store_schema; trees = trees }) =
+    ap₂ (λ a b. record { schema = a; trees = b }) st.holds.schema (sym is) in
     subst (λ d. Stands d h) same st
 
-pub may_make : (old begun mid last : State) (db : Trees) → old.now.schema ≡ no_schema → begun.now ≡ old.now → Creates no_schema store_schema begun mid → Counts mid last → db ≡ last.now.trees → MayMake old db
+pub may_make : (old begun mid last : State) (db : Trees) → old.now.schema ≡ no_schema → begun.now ≡ old.now
+    → Creates no_schema store_schema begun mid → Counts mid last → db ≡ last.now.trees → MayMake old db
 may_make old begun mid last db has now one two is = record {
   was_empty = has;
-  stands = stands_in last.now db empty (stands_made begun mid last one two (ap (λ (d : Database). d.schema) now ∙ has)) is;
+  stands = stands_in last.now db empty
+      (stands_made begun mid last one two (ap (λ (d : Database). d.schema) now ∙ has)) is;
 }

@@ -5,7 +5,7 @@ use Rattle.sqlite.specs.Schema.{Schema}
 use Rattle.sqlite.specs.State.{State}
 use Rattle.sqlite.specs.Tree.{Trees}
 use Rattle.smf_tables.specs.Schema.{no_schema, store_schema}
-use Rattle.smf_model.specs.Holdings.{Holdings}
+use Rattle.smf_model.specs.Contents.{Holdings}
 use Rattle.smf_model.specs.Look.{empty}
 use Rattle.smf_store.specs.Holds.{Stands, StandsFirst, StandsIn}
 use Rattle.smf_store.specs.Opens.{MayOpen, of_empty, of_second, of_first}
@@ -30,8 +30,10 @@ module _ (old : State) (h k : Holdings) (second : Stands old.now h) (first : Sta
       one_value : (m n : ℕ) → Int (pos m) ≡ Int (pos n) → m ≡ n
       one_value m n e = cc
 
-      apart : (c : Counter) (n : ℕ) → first_count_of k c ≡ Some n → Text (counter_text Version) ≡ Text (counter_text c) → Int (pos 2) ≡ Int (pos n) → ⊥
-      apart Version n is same value = let one : 1 ≡ n = some_is 1 n is in let two : 2 ≡ n = one_value 2 n value in omega (arith, one, two)
+      apart : (c : Counter) (n : ℕ) → first_count_of k c ≡ Some n
+          → Text (counter_text Version) ≡ Text (counter_text c) → Int (pos 2) ≡ Int (pos n) → ⊥
+      apart Version n is same value = let one : 1 ≡ n = some_is 1 n is in let two : 2 ≡ n = one_value 2 n value in
+          omega (arith, one, two)
       apart Layout n is same value = absurd cc
       apart Revision n is same value = absurd cc
       apart NextInstance n is same value = absurd cc
@@ -57,7 +59,8 @@ module _ (old : State) (trees : Trees) (left : MayOpen old trees) where
       by (of_first k was after) = absurd (two_versions old h k stands was)
 
   -- any other database: nothing
-  pub after_other : (old.now.schema ≡ no_schema → ⊥) → ((h : Holdings) → Stands old.now h → ⊥) → ((h : Holdings) → StandsFirst old.now h → ⊥) → ⊥
+  pub after_other : (old.now.schema ≡ no_schema → ⊥) → ((h : Holdings) → Stands old.now h → ⊥)
+      → ((h : Holdings) → StandsFirst old.now h → ⊥) → ⊥
   after_other some second first = by left
     where
       by : MayOpen old trees → ⊥

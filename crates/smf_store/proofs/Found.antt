@@ -5,10 +5,11 @@ use Rattle.std.specs.declared.cmp.Ordering.TheVariants.{Less}
 use Rattle.sqlite_rules.specs.Lists.{Has}
 use Rattle.smf_fmri.specs.ByKey.{By, IsBelowFirst, Rises, has_key, lookup}
 use Rattle.smf_fmri.proofs.Lookups.{same_key}
-use Rattle.smf_fmri.proofs.Rising.{first_below}
+use Rattle.smf_fmri.proofs.KeyOrder.{first_below}
 
 module _ {X K : Type 0} (o : By X K) where
-  found_by : (k : K) (y : X) (ys : List X) (x : X) (b : Bool) → cond b (Some y) (lookup o ys k) ≡ Some x → (lookup o ys k ≡ Some x → Has ys x) → Has (y ∷ ys) x
+  found_by : (k : K) (y : X) (ys : List X) (x : X) (b : Bool) → cond b (Some y) (lookup o ys k) ≡ Some x
+      → (lookup o ys k ≡ Some x → Has ys x) → Has (y ∷ ys) x
   found_by k y ys x true e behind = inl (let same : y ≡ x = cc in sym same)
   found_by k y ys x false e behind = inr (behind e)
 
@@ -23,5 +24,7 @@ module _ {X K : Type 0} (o : By X K) where
 
   pub has_found : (xs : List X) (x : X) → Rises o xs → Has xs x → lookup o xs (o.key x) ≡ Some x
   has_found [] x r h = absurd h
-  has_found (y ∷ ys) x r (inl same) = subst (λ z. cond (is_eq (o.cmp (o.key y) (o.key z))) (Some y) (lookup o ys (o.key z)) ≡ Some z) (sym same) (rw (same_key o (o.key y)) refl)
+  has_found (y ∷ ys) x r (inl same) =
+      subst (λ z. cond (is_eq (o.cmp (o.key y) (o.key z))) (Some y) (lookup o ys (o.key z)) ≡ Some z) (sym same)
+      (rw (same_key o (o.key y)) refl)
   has_found (y ∷ ys) x r (inr more) = rw (all_above ys (o.key y) x r.0 r.1 more) (has_found ys x r.1 more)

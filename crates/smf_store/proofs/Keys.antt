@@ -3,7 +3,7 @@ use Rattle.std.proofs.Common.{◌≡◌, List, ℕ, None, Some, ap, ◌∙◌}
 use Rattle.std.specs.Prelude.{IsUtf8}
 use Rattle.sqlite.specs.declared.types.Value.{Value}
 use Rattle.sqlite.specs.declared.types.Value.TheVariants.{Text}
-use Rattle.smf_store.specs.Readings.{text_in}
+use Rattle.smf_store.specs.RowValues.{text_in}
 use Rattle.smf_store.proofs.Utf8.{is_text}
 
 -- a value that is no text is not this one

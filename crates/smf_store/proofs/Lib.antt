@@ -20,7 +20,7 @@ pub mod Counts
 pub mod Stands
 pub mod Before
 pub mod Crashes
-pub mod Agreeing
+pub mod Agreements
 pub mod Keys
 pub mod Spelt
 pub mod Once

@@ -43,7 +43,9 @@ differs_by Greater e = refl
 
 differ_ints : (m n : ℤ) → (m ≡ n → ⊥) → differ (Int m) (Int n) ≡ true
 unfolding binary
-differ_ints m n apart = differs_by (value_cmp (Int m) (Int n)) (not_true _ (λ e. apart (same_ints m n (ap is_eq (sym (value_cmp-Int m n)) ∙ e))))
+differ_ints m n apart =
+    differs_by (value_cmp (Int m) (Int n))
+    (not_true _ (λ e. apart (same_ints m n (ap is_eq (sym (value_cmp-Int m n)) ∙ e))))
 
 pub int_of : (v : Value) → is_int v ≡ true → (n : ℤ) × (v ≡ Int n)
 int_of Null e = absurd cc
@@ -75,11 +77,13 @@ refuted : (c : Bool) → c ≡ true → not c ≡ true → ⊥
 refuted c e f = let clash : false ≡ true = ap not (sym e) ∙ f in cc
 
 -- two rows that agree in a column, and two that agree in three
-agree_one : (a b : Row) (p : ℕ) (t : List ℕ) → column a p ≡ Text t → column b p ≡ Text t → agree plain (p ∷ []) a (p ∷ []) b ≡ true
+agree_one : (a b : Row) (p : ℕ) (t : List ℕ) → column a p ≡ Text t → column b p ≡ Text t
+    → agree plain (p ∷ []) a (p ∷ []) b ≡ true
 unfolding binary first_key
 agree_one a b p t e f = rw (e, f, same_texts t) refl
 
-agree_three : (a b : Row) (s g : List ℕ) (n : ℤ) → column a 1 ≡ Text s → column b 1 ≡ Text s → column a 2 ≡ Int n → column b 2 ≡ Int n → column a 3 ≡ Text g → column b 3 ≡ Text g
+agree_three : (a b : Row) (s g : List ℕ) (n : ℤ) → column a 1 ≡ Text s → column b 1 ≡ Text s → column a 2 ≡ Int n
+    → column b 2 ≡ Int n → column a 3 ≡ Text g → column b 3 ≡ Text g
     → agree plain (1 ∷ 2 ∷ 3 ∷ []) a (1 ∷ 2 ∷ 3 ∷ []) b ≡ true
 unfolding binary first_key
 agree_three a b s g n e1 f1 e2 f2 e3 f3 = rw (e1, f1, e2, f2, e3, f3, same_texts s, same_numbers n, same_texts g) refl
@@ -87,9 +91,11 @@ agree_three a b s g n e1 f1 e2 f2 e3 f3 = rw (e1, f1, e2, f2, e3, f3, same_texts
 both_true : (a b : Bool) → a ≡ true → b ≡ true → (a && b) ≡ true
 both_true a b e f = rw (e, f) refl
 
-clash_of : (places : List ℕ) (rows : List Row) (a b : Row) → Has rows a → agree plain places a places b ≡ true → differ (rowid a) (rowid b) ≡ true → clashes plain places rows b ≡ true
+clash_of : (places : List ℕ) (rows : List Row) (a b : Row) → Has rows a → agree plain places a places b ≡ true
+    → differ (rowid a) (rowid b) ≡ true → clashes plain places rows b ≡ true
 clash_of places rows a b there same unlike =
-    some_from (λ other. agree plain places other places b && differ (rowid other) (rowid b)) rows a there (both_true (agree plain places a places b) (differ (rowid a) (rowid b)) same unlike)
+    some_from (λ other. agree plain places other places b && differ (rowid other) (rowid b)) rows a there
+    (both_true (agree plain places a places b) (differ (rowid a) (rowid b)) same unlike)
 
 module _ (db : Database) (has : db.schema ≡ store_schema) (sound : IsDatabase db) where
   rules : Keeps Unique store_schema db.trees
@@ -101,26 +107,53 @@ module _ (db : Database) (has : db.schema ≡ store_schema) (sound : IsDatabase 
   abbrev test_of : Table → Row → Index → Bool
   test_of table row i = not (guards i table && clashes i.order i.columns (db.trees table.tree) row)
 
-  pub once_meta : (a b : Row) (t : List ℕ) → Has (db.trees 0) a → Has (db.trees 0) b → Unlike a b → column a 1 ≡ Text t → column b 1 ≡ Text t → ⊥
+  pub once_meta : (a b : Row) (t : List ℕ) → Has (db.trees 0) a → Has (db.trees 0) b → Unlike a b
+      → column a 1 ≡ Text t → column b 1 ≡ Text t → ⊥
   once_meta a b t ha hb u ea eb =
-      let e : passes Unique store_schema db.trees tables.meta b ≡ true = all_has (λ row. passes Unique store_schema db.trees tables.meta row ≡ true) (db.trees 0) b (rules.0) hb in
-      let f : not (clashes plain (1 ∷ []) (db.trees 0) b) ≡ true = test_has (test_of tables.meta b) store_schema.indexes (automatic tables.meta 0 (1 ∷ []) 1) e (inl refl) in
-      refuted (clashes plain (1 ∷ []) (db.trees 0) b) (clash_of (1 ∷ []) (db.trees 0) a b ha (agree_one a b 1 t ea eb) (differ_rowids (rowid a) (rowid b) u.0 u.1 u.2)) f
+      let e : passes Unique store_schema db.trees tables.meta b ≡ true =
+      all_has (λ row. passes Unique store_schema db.trees tables.meta row ≡ true) (db.trees 0) b (rules.0) hb in
+      let f : not (clashes plain (1 ∷ []) (db.trees 0) b) ≡ true =
+      test_has (test_of tables.meta b) store_schema.indexes (automatic tables.meta 0 (1 ∷ []) 1) e (inl refl) in
+      refuted (clashes plain (1 ∷ []) (db.trees 0) b)
+      (clash_of (1 ∷ []) (db.trees 0) a b ha (agree_one a b 1 t ea eb)
+      (differ_rowids (rowid a) (rowid b) u.0 u.1 u.2)) f
 
-  pub once_service : (a b : Row) (t : List ℕ) → Has (db.trees 2) a → Has (db.trees 2) b → Unlike a b → column a 1 ≡ Text t → column b 1 ≡ Text t → ⊥
+  pub once_service : (a b : Row) (t : List ℕ) → Has (db.trees 2) a → Has (db.trees 2) b → Unlike a b
+      → column a 1 ≡ Text t → column b 1 ≡ Text t → ⊥
   once_service a b t ha hb u ea eb =
-      let e : passes Unique store_schema db.trees tables.service b ≡ true = all_has (λ row. passes Unique store_schema db.trees tables.service row ≡ true) (db.trees 2) b (rules.1.0) hb in
-      let f : not (clashes plain (1 ∷ []) (db.trees 2) b) ≡ true = test_has (test_of tables.service b) store_schema.indexes (automatic tables.service 0 (1 ∷ []) 3) e (inr (inl refl)) in
-      refuted (clashes plain (1 ∷ []) (db.trees 2) b) (clash_of (1 ∷ []) (db.trees 2) a b ha (agree_one a b 1 t ea eb) (differ_rowids (rowid a) (rowid b) u.0 u.1 u.2)) f
+      let e : passes Unique store_schema db.trees tables.service b ≡ true =
+      all_has (λ row. passes Unique store_schema db.trees tables.service row ≡ true) (db.trees 2) b
+      (rules.1.0) hb in
+      let f : not (clashes plain (1 ∷ []) (db.trees 2) b) ≡ true =
+      test_has (test_of tables.service b) store_schema.indexes (automatic tables.service 0 (1 ∷ []) 3) e
+      (inr (inl refl)) in
+      refuted (clashes plain (1 ∷ []) (db.trees 2) b)
+      (clash_of (1 ∷ []) (db.trees 2) a b ha (agree_one a b 1 t ea eb)
+      (differ_rowids (rowid a) (rowid b) u.0 u.1 u.2)) f
 
-  pub once_group : (a b : Row) (s g : List ℕ) (n : ℤ) → Has (db.trees 6) a → Has (db.trees 6) b → Unlike a b → column a 1 ≡ Text s → column b 1 ≡ Text s → column a 2 ≡ Int n → column b 2 ≡ Int n → column a 3 ≡ Text g → column b 3 ≡ Text g → ⊥
+  pub once_group : (a b : Row) (s g : List ℕ) (n : ℤ) → Has (db.trees 6) a → Has (db.trees 6) b → Unlike a b
+      → column a 1 ≡ Text s → column b 1 ≡ Text s → column a 2 ≡ Int n → column b 2 ≡ Int n → column a 3 ≡ Text g
+      → column b 3 ≡ Text g → ⊥
   once_group a b s g n ha hb u e1 f1 e2 f2 e3 f3 =
-      let e : passes Unique store_schema db.trees tables.grp b ≡ true = all_has (λ row. passes Unique store_schema db.trees tables.grp row ≡ true) (db.trees 6) b (rules.1.1.1.0) hb in
-      let f : not (clashes plain (1 ∷ 2 ∷ 3 ∷ []) (db.trees 6) b) ≡ true = test_has (test_of tables.grp b) store_schema.indexes (automatic tables.grp 0 (1 ∷ 2 ∷ 3 ∷ []) 7) e (inr (inr (inr (inl refl)))) in
-      refuted (clashes plain (1 ∷ 2 ∷ 3 ∷ []) (db.trees 6) b) (clash_of (1 ∷ 2 ∷ 3 ∷ []) (db.trees 6) a b ha (agree_three a b s g n e1 f1 e2 f2 e3 f3) (differ_rowids (rowid a) (rowid b) u.0 u.1 u.2)) f
+      let e : passes Unique store_schema db.trees tables.grp b ≡ true =
+      all_has (λ row. passes Unique store_schema db.trees tables.grp row ≡ true) (db.trees 6) b
+      (rules.1.1.1.0) hb in
+      let f : not (clashes plain (1 ∷ 2 ∷ 3 ∷ []) (db.trees 6) b) ≡ true =
+      test_has (test_of tables.grp b) store_schema.indexes (automatic tables.grp 0 (1 ∷ 2 ∷ 3 ∷ []) 7) e
+      (inr (inr (inr (inl refl)))) in
+      refuted (clashes plain (1 ∷ 2 ∷ 3 ∷ []) (db.trees 6) b)
+      (clash_of (1 ∷ 2 ∷ 3 ∷ []) (db.trees 6) a b ha (agree_three a b s g n e1 f1 e2 f2 e3 f3)
+      (differ_rowids (rowid a) (rowid b) u.0 u.1 u.2)) f
 
-  pub once_launch : (a b : Row) (t : List ℕ) → Has (db.trees 9) a → Has (db.trees 9) b → Unlike a b → column a 1 ≡ Text t → column b 1 ≡ Text t → ⊥
+  pub once_launch : (a b : Row) (t : List ℕ) → Has (db.trees 9) a → Has (db.trees 9) b → Unlike a b
+      → column a 1 ≡ Text t → column b 1 ≡ Text t → ⊥
   once_launch a b t ha hb u ea eb =
-      let e : passes Unique store_schema db.trees tables.restarter b ≡ true = all_has (λ row. passes Unique store_schema db.trees tables.restarter row ≡ true) (db.trees 9) b (rules.1.1.1.1.1.0) hb in
-      let f : not (clashes plain (1 ∷ []) (db.trees 9) b) ≡ true = test_has (test_of tables.restarter b) store_schema.indexes (automatic tables.restarter 0 (1 ∷ []) 10) e (inr (inr (inr (inr (inl refl))))) in
-      refuted (clashes plain (1 ∷ []) (db.trees 9) b) (clash_of (1 ∷ []) (db.trees 9) a b ha (agree_one a b 1 t ea eb) (differ_rowids (rowid a) (rowid b) u.0 u.1 u.2)) f
+      let e : passes Unique store_schema db.trees tables.restarter b ≡ true =
+      all_has (λ row. passes Unique store_schema db.trees tables.restarter row ≡ true) (db.trees 9) b
+      (rules.1.1.1.1.1.0) hb in
+      let f : not (clashes plain (1 ∷ []) (db.trees 9) b) ≡ true =
+      test_has (test_of tables.restarter b) store_schema.indexes (automatic tables.restarter 0 (1 ∷ []) 10) e
+      (inr (inr (inr (inr (inl refl))))) in
+      refuted (clashes plain (1 ∷ []) (db.trees 9) b)
+      (clash_of (1 ∷ []) (db.trees 9) a b ha (agree_one a b 1 t ea eb)
+      (differ_rowids (rowid a) (rowid b) u.0 u.1 u.2)) f

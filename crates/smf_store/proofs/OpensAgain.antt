@@ -2,7 +2,7 @@
 use Rattle.std.proofs.Common.{◌≡◌, inl, inr, Result, Ok, Err, sym, subst, ◌∙◌}
 use Rattle.sqlite.specs.Effect.{Database}
 use Rattle.smf_tables.specs.Schema.{store_schema}
-use Rattle.smf_model.specs.Holdings.{Holdings}
+use Rattle.smf_model.specs.Contents.{Holdings}
 use Rattle.smf_laws.specs.Consistent.{IsConsistent}
 use Rattle.smf_store.specs.declared.fault.WriteFault.{WriteFault}
 use Rattle.smf_store.specs.declared.refusal.OpenFault.{OpenFault}
@@ -15,13 +15,15 @@ use Rattle.smf_store.proofs.Stands.{failure_of}
 use Rattle.smf_store.proofs.StandsAgain.{first_again, stands_again}
 
 -- the rows of a store of the second version say its value
-pub says_again : (db : Database) (h : Holdings) (what : Result Holdings OpenFault) → Stands db h → IsConsistent h → Says db.trees what → what ≡ Ok h
+pub says_again : (db : Database) (h : Holdings) (what : Result Holdings OpenFault) → Stands db h → IsConsistent h
+    → Says db.trees what → what ≡ Ok h
 says_again db h what s c w = sym w.said ∙ stands_again db w.rows h w.listed s c
 
 clash : (h : Holdings) (e : OpenFault) → ◌≡◌ {A = Result Holdings OpenFault} (Err e) (Ok h) → ⊥
 clash h e is = cc
 
-never_said : (db : Database) (h : Holdings) (e : OpenFault) → IsStoreOf db h → IsConsistent h → Says db.trees (Err e) → ⊥
+never_said : (db : Database) (h : Holdings) (e : OpenFault) → IsStoreOf db h → IsConsistent h → Says db.trees (Err e)
+    → ⊥
 never_said db h e (in_second s) c w = clash h e (says_again db h (Err e) s c w)
 never_said db h e (in_first s) c w = let k = first_again db w.rows h w.listed s c in clash k.0 e (sym w.said ∙ k.1)
 
@@ -29,14 +31,16 @@ has_tables : (db : Database) (h : Holdings) → IsStoreOf db h → db.schema ≡
 has_tables db h (in_second s) = s.holds.schema
 has_tables db h (in_first s) = s.schema
 
-said_alone : (db : Database) (h : Holdings) (e : OpenFault) → IsStoreOf db h → IsConsistent h → IsSaid db.trees e → IsFailure e
+said_alone : (db : Database) (h : Holdings) (e : OpenFault) → IsStoreOf db h → IsConsistent h → IsSaid db.trees e
+    → IsFailure e
 said_alone db h Memory s c said = tt
 said_alone db h Failed s c said = tt
 said_alone db h (Version n) s c said = absurd (never_said db h (Version n) s c said)
 said_alone db h (Damaged table) s c said = absurd (never_said db h (Damaged table) s c said)
 said_alone db h TooManyInstances s c said = absurd (never_said db h TooManyInstances s c said)
 
-pub refused_alone : (db : Database) (e : OpenFault) (h : Holdings) → IsStoreOf db h → IsConsistent h → IsRefused db e → IsFailure e
+pub refused_alone : (db : Database) (e : OpenFault) (h : Holdings) → IsStoreOf db h → IsConsistent h → IsRefused db e
+    → IsFailure e
 refused_alone db e h s c (inl failure) = failure
 refused_alone db e h s c (inr (inl other)) = absurd (other.0 (has_tables db h s))
 refused_alone db e h s c (inr (inr said)) = said_alone db h e s c said.1

@@ -8,7 +8,7 @@ use Rattle.smf_tables.specs.Schema.{store_schema}
 use Rattle.smf_model.specs.declared.held.Instance.{Instance}
 use Rattle.smf_model.specs.declared.held.Launch.{Launch}
 use Rattle.smf_model.specs.declared.held.Snapshot.{Snapshot}
-use Rattle.smf_model.specs.Holdings.{Holdings}
+use Rattle.smf_model.specs.Contents.{Holdings}
 use Rattle.smf_store.specs.Shown.{Count, HasCount, HasService, ShowsService, HasInstance, ShowsInstance, OwnedGroup, HasGroup, ShowsGroup, HasSnapshot, ShowsSnapshot, HasLaunch, ShowsLaunch}
 use Rattle.smf_store.specs.Holds.{Listed, Holds, IsArranged, Counted}
 
@@ -21,7 +21,14 @@ pub record Six : Type 1 where
   pub launches : Launch → Type 0
 
 abbrev pub six_of : Holdings → Six
-six_of h = record { counts = HasCount h; services = HasService h; instances = HasInstance h; groups = HasGroup h; snapshots = HasSnapshot h; launches = HasLaunch h }
+six_of h = record {
+  counts = HasCount h;
+  services = HasService h;
+  instances = HasInstance h;
+  groups = HasGroup h;
+  snapshots = HasSnapshot h;
+  launches = HasLaunch h;
+}
 
 pub record Presents (db : Database) (m : Six) : Type 0 where
   pub schema : db.schema ≡ store_schema
@@ -34,81 +41,140 @@ pub record Presents (db : Database) (m : Six) : Type 0 where
   pub launches : Listed m.launches ShowsLaunch (db.trees 9)
 
 pub presents : (db : Database) (h : Holdings) → Holds db h → Presents db (six_of h)
-presents db h p = record { schema = p.schema; sound = p.sound; counts = p.show.counts; services = p.show.services; instances = p.show.instances; groups = p.show.groups; snapshots = p.show.snapshots; launches = p.show.launches }
+presents db h p =
+    record {
+      schema = p.schema;
+      sound = p.sound;
+      counts = p.show.counts;
+      services = p.show.services;
+      instances = p.show.instances;
+      groups = p.show.groups;
+      snapshots = p.show.snapshots;
+      launches = p.show.launches;
+    }
 
 pub holds : (db : Database) (h : Holdings) → Presents db (six_of h) → IsArranged h → Holds db h
-holds db h p a = record { schema = p.schema; sound = p.sound; show = record { counts = p.counts; services = p.services; instances = p.instances; groups = p.groups; snapshots = p.snapshots; launches = p.launches }; arranged = a }
+holds db h p a =
+    record {
+      schema = p.schema;
+      sound = p.sound;
+      show = record {
+        counts = p.counts;
+        services = p.services;
+        instances = p.instances;
+        groups = p.groups;
+        snapshots = p.snapshots;
+        launches = p.launches;
+      };
+      arranged = a;
+    }
 
 -- one table turned, and the others are as they were
 module _ {C : List Row → List Row → Type 0} (old new : Database) (m : Six) (p : Presents old m) where
-  pub with_counts : Turns C tables.meta old new → (P : Count → Type 0) → Counted P (new.trees 0) → Presents new (record m { counts = P })
+  pub with_counts : Turns C tables.meta old new → (P : Count → Type 0) → Counted P (new.trees 0)
+      → Presents new (record m { counts = P })
   with_counts turns P listed = record {
     schema = turns.schema;
     sound = turns.sound;
     counts = listed;
-    services = (let apart : ◌≢◌ {A = ℕ} 2 0 = λ e. omega (arith, e) in subst (Listed m.services ShowsService) (sym (turns.spares.1.0 apart)) p.services);
-    instances = (let apart : ◌≢◌ {A = ℕ} 4 0 = λ e. omega (arith, e) in subst (Listed m.instances ShowsInstance) (sym (turns.spares.1.1.0 apart)) p.instances);
-    groups = (let apart : ◌≢◌ {A = ℕ} 6 0 = λ e. omega (arith, e) in subst (Listed m.groups ShowsGroup) (sym (turns.spares.1.1.1.0 apart)) p.groups);
-    snapshots = (let apart : ◌≢◌ {A = ℕ} 8 0 = λ e. omega (arith, e) in subst (Listed m.snapshots ShowsSnapshot) (sym (turns.spares.1.1.1.1.0 apart)) p.snapshots);
-    launches = (let apart : ◌≢◌ {A = ℕ} 9 0 = λ e. omega (arith, e) in subst (Listed m.launches ShowsLaunch) (sym (turns.spares.1.1.1.1.1.0 apart)) p.launches);
+    services = (let apart : ◌≢◌ {A = ℕ} 2 0 = λ e. omega (arith, e) in
+        subst (Listed m.services ShowsService) (sym (turns.spares.1.0 apart)) p.services);
+    instances = (let apart : ◌≢◌ {A = ℕ} 4 0 = λ e. omega (arith, e) in
+        subst (Listed m.instances ShowsInstance) (sym (turns.spares.1.1.0 apart)) p.instances);
+    groups = (let apart : ◌≢◌ {A = ℕ} 6 0 = λ e. omega (arith, e) in
+        subst (Listed m.groups ShowsGroup) (sym (turns.spares.1.1.1.0 apart)) p.groups);
+    snapshots = (let apart : ◌≢◌ {A = ℕ} 8 0 = λ e. omega (arith, e) in
+        subst (Listed m.snapshots ShowsSnapshot) (sym (turns.spares.1.1.1.1.0 apart)) p.snapshots);
+    launches = (let apart : ◌≢◌ {A = ℕ} 9 0 = λ e. omega (arith, e) in
+        subst (Listed m.launches ShowsLaunch) (sym (turns.spares.1.1.1.1.1.0 apart)) p.launches);
   }
 
-  pub with_services : Turns C tables.service old new → (P : List ℕ → Type 0) → Listed P ShowsService (new.trees 2) → Presents new (record m { services = P })
+  pub with_services : Turns C tables.service old new → (P : List ℕ → Type 0) → Listed P ShowsService (new.trees 2)
+      → Presents new (record m { services = P })
   with_services turns P listed = record {
     schema = turns.schema;
     sound = turns.sound;
-    counts = (let apart : ◌≢◌ {A = ℕ} 0 2 = λ e. omega (arith, e) in subst (Counted m.counts) (sym (turns.spares.0 apart)) p.counts);
+    counts = (let apart : ◌≢◌ {A = ℕ} 0 2 = λ e. omega (arith, e) in
+        subst (Counted m.counts) (sym (turns.spares.0 apart)) p.counts);
     services = listed;
-    instances = (let apart : ◌≢◌ {A = ℕ} 4 2 = λ e. omega (arith, e) in subst (Listed m.instances ShowsInstance) (sym (turns.spares.1.1.0 apart)) p.instances);
-    groups = (let apart : ◌≢◌ {A = ℕ} 6 2 = λ e. omega (arith, e) in subst (Listed m.groups ShowsGroup) (sym (turns.spares.1.1.1.0 apart)) p.groups);
-    snapshots = (let apart : ◌≢◌ {A = ℕ} 8 2 = λ e. omega (arith, e) in subst (Listed m.snapshots ShowsSnapshot) (sym (turns.spares.1.1.1.1.0 apart)) p.snapshots);
-    launches = (let apart : ◌≢◌ {A = ℕ} 9 2 = λ e. omega (arith, e) in subst (Listed m.launches ShowsLaunch) (sym (turns.spares.1.1.1.1.1.0 apart)) p.launches);
+    instances = (let apart : ◌≢◌ {A = ℕ} 4 2 = λ e. omega (arith, e) in
+        subst (Listed m.instances ShowsInstance) (sym (turns.spares.1.1.0 apart)) p.instances);
+    groups = (let apart : ◌≢◌ {A = ℕ} 6 2 = λ e. omega (arith, e) in
+        subst (Listed m.groups ShowsGroup) (sym (turns.spares.1.1.1.0 apart)) p.groups);
+    snapshots = (let apart : ◌≢◌ {A = ℕ} 8 2 = λ e. omega (arith, e) in
+        subst (Listed m.snapshots ShowsSnapshot) (sym (turns.spares.1.1.1.1.0 apart)) p.snapshots);
+    launches = (let apart : ◌≢◌ {A = ℕ} 9 2 = λ e. omega (arith, e) in
+        subst (Listed m.launches ShowsLaunch) (sym (turns.spares.1.1.1.1.1.0 apart)) p.launches);
   }
 
-  pub with_instances : Turns C tables.instance old new → (P : Instance → Type 0) → Listed P ShowsInstance (new.trees 4) → Presents new (record m { instances = P })
+  pub with_instances : Turns C tables.instance old new → (P : Instance → Type 0)
+      → Listed P ShowsInstance (new.trees 4) → Presents new (record m { instances = P })
   with_instances turns P listed = record {
     schema = turns.schema;
     sound = turns.sound;
-    counts = (let apart : ◌≢◌ {A = ℕ} 0 4 = λ e. omega (arith, e) in subst (Counted m.counts) (sym (turns.spares.0 apart)) p.counts);
-    services = (let apart : ◌≢◌ {A = ℕ} 2 4 = λ e. omega (arith, e) in subst (Listed m.services ShowsService) (sym (turns.spares.1.0 apart)) p.services);
+    counts = (let apart : ◌≢◌ {A = ℕ} 0 4 = λ e. omega (arith, e) in
+        subst (Counted m.counts) (sym (turns.spares.0 apart)) p.counts);
+    services = (let apart : ◌≢◌ {A = ℕ} 2 4 = λ e. omega (arith, e) in
+        subst (Listed m.services ShowsService) (sym (turns.spares.1.0 apart)) p.services);
     instances = listed;
-    groups = (let apart : ◌≢◌ {A = ℕ} 6 4 = λ e. omega (arith, e) in subst (Listed m.groups ShowsGroup) (sym (turns.spares.1.1.1.0 apart)) p.groups);
-    snapshots = (let apart : ◌≢◌ {A = ℕ} 8 4 = λ e. omega (arith, e) in subst (Listed m.snapshots ShowsSnapshot) (sym (turns.spares.1.1.1.1.0 apart)) p.snapshots);
-    launches = (let apart : ◌≢◌ {A = ℕ} 9 4 = λ e. omega (arith, e) in subst (Listed m.launches ShowsLaunch) (sym (turns.spares.1.1.1.1.1.0 apart)) p.launches);
+    groups = (let apart : ◌≢◌ {A = ℕ} 6 4 = λ e. omega (arith, e) in
+        subst (Listed m.groups ShowsGroup) (sym (turns.spares.1.1.1.0 apart)) p.groups);
+    snapshots = (let apart : ◌≢◌ {A = ℕ} 8 4 = λ e. omega (arith, e) in
+        subst (Listed m.snapshots ShowsSnapshot) (sym (turns.spares.1.1.1.1.0 apart)) p.snapshots);
+    launches = (let apart : ◌≢◌ {A = ℕ} 9 4 = λ e. omega (arith, e) in
+        subst (Listed m.launches ShowsLaunch) (sym (turns.spares.1.1.1.1.1.0 apart)) p.launches);
   }
 
-  pub with_groups : Turns C tables.grp old new → (P : OwnedGroup → Type 0) → Listed P ShowsGroup (new.trees 6) → Presents new (record m { groups = P })
+  pub with_groups : Turns C tables.grp old new → (P : OwnedGroup → Type 0) → Listed P ShowsGroup (new.trees 6)
+      → Presents new (record m { groups = P })
   with_groups turns P listed = record {
     schema = turns.schema;
     sound = turns.sound;
-    counts = (let apart : ◌≢◌ {A = ℕ} 0 6 = λ e. omega (arith, e) in subst (Counted m.counts) (sym (turns.spares.0 apart)) p.counts);
-    services = (let apart : ◌≢◌ {A = ℕ} 2 6 = λ e. omega (arith, e) in subst (Listed m.services ShowsService) (sym (turns.spares.1.0 apart)) p.services);
-    instances = (let apart : ◌≢◌ {A = ℕ} 4 6 = λ e. omega (arith, e) in subst (Listed m.instances ShowsInstance) (sym (turns.spares.1.1.0 apart)) p.instances);
+    counts = (let apart : ◌≢◌ {A = ℕ} 0 6 = λ e. omega (arith, e) in
+        subst (Counted m.counts) (sym (turns.spares.0 apart)) p.counts);
+    services = (let apart : ◌≢◌ {A = ℕ} 2 6 = λ e. omega (arith, e) in
+        subst (Listed m.services ShowsService) (sym (turns.spares.1.0 apart)) p.services);
+    instances = (let apart : ◌≢◌ {A = ℕ} 4 6 = λ e. omega (arith, e) in
+        subst (Listed m.instances ShowsInstance) (sym (turns.spares.1.1.0 apart)) p.instances);
     groups = listed;
-    snapshots = (let apart : ◌≢◌ {A = ℕ} 8 6 = λ e. omega (arith, e) in subst (Listed m.snapshots ShowsSnapshot) (sym (turns.spares.1.1.1.1.0 apart)) p.snapshots);
-    launches = (let apart : ◌≢◌ {A = ℕ} 9 6 = λ e. omega (arith, e) in subst (Listed m.launches ShowsLaunch) (sym (turns.spares.1.1.1.1.1.0 apart)) p.launches);
+    snapshots = (let apart : ◌≢◌ {A = ℕ} 8 6 = λ e. omega (arith, e) in
+        subst (Listed m.snapshots ShowsSnapshot) (sym (turns.spares.1.1.1.1.0 apart)) p.snapshots);
+    launches = (let apart : ◌≢◌ {A = ℕ} 9 6 = λ e. omega (arith, e) in
+        subst (Listed m.launches ShowsLaunch) (sym (turns.spares.1.1.1.1.1.0 apart)) p.launches);
   }
 
-  pub with_snapshots : Turns C tables.snap old new → (P : Snapshot → Type 0) → Listed P ShowsSnapshot (new.trees 8) → Presents new (record m { snapshots = P })
+  pub with_snapshots : Turns C tables.snap old new → (P : Snapshot → Type 0) → Listed P ShowsSnapshot (new.trees 8)
+      → Presents new (record m { snapshots = P })
   with_snapshots turns P listed = record {
     schema = turns.schema;
     sound = turns.sound;
-    counts = (let apart : ◌≢◌ {A = ℕ} 0 8 = λ e. omega (arith, e) in subst (Counted m.counts) (sym (turns.spares.0 apart)) p.counts);
-    services = (let apart : ◌≢◌ {A = ℕ} 2 8 = λ e. omega (arith, e) in subst (Listed m.services ShowsService) (sym (turns.spares.1.0 apart)) p.services);
-    instances = (let apart : ◌≢◌ {A = ℕ} 4 8 = λ e. omega (arith, e) in subst (Listed m.instances ShowsInstance) (sym (turns.spares.1.1.0 apart)) p.instances);
-    groups = (let apart : ◌≢◌ {A = ℕ} 6 8 = λ e. omega (arith, e) in subst (Listed m.groups ShowsGroup) (sym (turns.spares.1.1.1.0 apart)) p.groups);
+    counts = (let apart : ◌≢◌ {A = ℕ} 0 8 = λ e. omega (arith, e) in
+        subst (Counted m.counts) (sym (turns.spares.0 apart)) p.counts);
+    services = (let apart : ◌≢◌ {A = ℕ} 2 8 = λ e. omega (arith, e) in
+        subst (Listed m.services ShowsService) (sym (turns.spares.1.0 apart)) p.services);
+    instances = (let apart : ◌≢◌ {A = ℕ} 4 8 = λ e. omega (arith, e) in
+        subst (Listed m.instances ShowsInstance) (sym (turns.spares.1.1.0 apart)) p.instances);
+    groups = (let apart : ◌≢◌ {A = ℕ} 6 8 = λ e. omega (arith, e) in
+        subst (Listed m.groups ShowsGroup) (sym (turns.spares.1.1.1.0 apart)) p.groups);
     snapshots = listed;
-    launches = (let apart : ◌≢◌ {A = ℕ} 9 8 = λ e. omega (arith, e) in subst (Listed m.launches ShowsLaunch) (sym (turns.spares.1.1.1.1.1.0 apart)) p.launches);
+    launches = (let apart : ◌≢◌ {A = ℕ} 9 8 = λ e. omega (arith, e) in
+        subst (Listed m.launches ShowsLaunch) (sym (turns.spares.1.1.1.1.1.0 apart)) p.launches);
   }
 
-  pub with_launches : Turns C tables.restarter old new → (P : Launch → Type 0) → Listed P ShowsLaunch (new.trees 9) → Presents new (record m { launches = P })
+  pub with_launches : Turns C tables.restarter old new → (P : Launch → Type 0) → Listed P ShowsLaunch (new.trees 9)
+      → Presents new (record m { launches = P })
   with_launches turns P listed = record {
     schema = turns.schema;
     sound = turns.sound;
-    counts = (let apart : ◌≢◌ {A = ℕ} 0 9 = λ e. omega (arith, e) in subst (Counted m.counts) (sym (turns.spares.0 apart)) p.counts);
-    services = (let apart : ◌≢◌ {A = ℕ} 2 9 = λ e. omega (arith, e) in subst (Listed m.services ShowsService) (sym (turns.spares.1.0 apart)) p.services);
-    instances = (let apart : ◌≢◌ {A = ℕ} 4 9 = λ e. omega (arith, e) in subst (Listed m.instances ShowsInstance) (sym (turns.spares.1.1.0 apart)) p.instances);
-    groups = (let apart : ◌≢◌ {A = ℕ} 6 9 = λ e. omega (arith, e) in subst (Listed m.groups ShowsGroup) (sym (turns.spares.1.1.1.0 apart)) p.groups);
-    snapshots = (let apart : ◌≢◌ {A = ℕ} 8 9 = λ e. omega (arith, e) in subst (Listed m.snapshots ShowsSnapshot) (sym (turns.spares.1.1.1.1.0 apart)) p.snapshots);
+    counts = (let apart : ◌≢◌ {A = ℕ} 0 9 = λ e. omega (arith, e) in
+        subst (Counted m.counts) (sym (turns.spares.0 apart)) p.counts);
+    services = (let apart : ◌≢◌ {A = ℕ} 2 9 = λ e. omega (arith, e) in
+        subst (Listed m.services ShowsService) (sym (turns.spares.1.0 apart)) p.services);
+    instances = (let apart : ◌≢◌ {A = ℕ} 4 9 = λ e. omega (arith, e) in
+        subst (Listed m.instances ShowsInstance) (sym (turns.spares.1.1.0 apart)) p.instances);
+    groups = (let apart : ◌≢◌ {A = ℕ} 6 9 = λ e. omega (arith, e) in
+        subst (Listed m.groups ShowsGroup) (sym (turns.spares.1.1.1.0 apart)) p.groups);
+    snapshots = (let apart : ◌≢◌ {A = ℕ} 8 9 = λ e. omega (arith, e) in
+        subst (Listed m.snapshots ShowsSnapshot) (sym (turns.spares.1.1.1.1.0 apart)) p.snapshots);
     launches = listed;
   }

@@ -13,8 +13,8 @@ use Rattle.sqlite.specs.Order.{Row}
 use Rattle.smf_fmri.specs.declared.reader.Place.{Place}
 use Rattle.smf_fmri.specs.declared.reader.Place.TheVariants.{Start, Begin, Service, BeginInstance, Instance}
 use Rattle.smf_fmri.specs.Counts.{read_count}
-use Rattle.smf_fmri.specs.Matching.{read_short}
-use Rattle.smf_fmri.specs.Name.{is_word_byte, next, read, short, wrong_at}
+use Rattle.smf_fmri.specs.Patterns.{read_short}
+use Rattle.smf_fmri.specs.Name.{is_word_byte, next, name_of_text, short, wrong_at}
 use Rattle.smf_fmri.proofs.Whole.{name_is_short}
 use Rattle.smf_state.specs.declared.row.Row.{Row as StateRow}
 use Rattle.smf_state.specs.declared.state.Cause.{Cause}
@@ -23,7 +23,7 @@ use Rattle.smf_state.specs.declared.state.Duration.{Duration}
 use Rattle.smf_state.specs.declared.state.Duration.TheVariants.{Contract, Transient, Child}
 use Rattle.smf_state.specs.declared.state.State.{State}
 use Rattle.smf_state.specs.declared.state.State.TheVariants.{Uninitialized, Disabled, Offline, Online, Degraded, Maintenance}
-use Rattle.smf_state.specs.Fields.{taken, read_asks, read_ignore, read_optional, optional_text}
+use Rattle.smf_state.specs.Fields.{next_field, read_asks, read_ignore, read_optional, optional_text}
 use Rattle.smf_state.specs.States.{state_text, cause_text, duration_text, read_state, read_cause, read_duration}
 use Rattle.smf_state.specs.Texts.{first_at, second_at, third_at, row_at, whole_row, read_row}
 use Rattle.smf_state.proofs.Lines.{behind, bind_ok, took}
@@ -45,7 +45,9 @@ is_low b = nat_lt b 128
 
 low_all : (bs : List ℕ) → list_all is_low bs ≡ true → IsAscii bs
 low_all [] e = IsAscii-nil
-low_all (b ∷ bs) e = IsAscii-cons b bs (ltb-true b 128 (both_left (is_low b) (list_all is_low bs) e)) (low_all bs (both_right (is_low b) (list_all is_low bs) e))
+low_all (b ∷ bs) e =
+    IsAscii-cons b bs (ltb-true b 128 (both_left (is_low b) (list_all is_low bs) e))
+    (low_all bs (both_right (is_low b) (list_all is_low bs) e))
 
 pub low_append : (xs ys : List ℕ) → IsAscii xs → IsAscii ys → IsAscii (xs ++ ys)
 low_append [] ys a b = b
@@ -85,12 +87,14 @@ low_begin : (v : Bool) (b : ℕ) (s q : Place) → is_ascii_alphanumeric b ≡ v
 low_begin true b s q e h = low_letter b e
 low_begin false b s q e h = absurd cc
 
-low_start : (v w : Bool) (b : ℕ) (q : Place) → is_ascii_alphanumeric b ≡ v → (b == 58) ≡ w → cond v (Some Service) (cond w (Some BeginInstance) None) ≡ Some q → b < 128
+low_start : (v w : Bool) (b : ℕ) (q : Place) → is_ascii_alphanumeric b ≡ v → (b == 58) ≡ w
+    → cond v (Some Service) (cond w (Some BeginInstance) None) ≡ Some q → b < 128
 low_start true w b q e f h = low_letter b e
 low_start false true b q e f h = low_one b 58 (omega arith) f
 low_start false false b q e f h = absurd cc
 
-low_service : (v w x : Bool) (b : ℕ) (q : Place) → is_word_byte b ≡ v → (b == 47) ≡ w → (b == 58) ≡ x → cond v (Some Service) (cond w (Some Begin) (cond x (Some BeginInstance) None)) ≡ Some q → b < 128
+low_service : (v w x : Bool) (b : ℕ) (q : Place) → is_word_byte b ≡ v → (b == 47) ≡ w → (b == 58) ≡ x
+    → cond v (Some Service) (cond w (Some Begin) (cond x (Some BeginInstance) None)) ≡ Some q → b < 128
 low_service true w x b q e f g h = low_word b e
 low_service false true x b q e f g h = low_one b 47 (omega arith) f
 low_service false false true b q e f g h = low_one b 58 (omega arith) g
@@ -107,7 +111,9 @@ low_next BeginInstance q b h = low_begin _ b (Instance 1) q refl h
 low_next Service q b h = low_service _ _ _ b q refl refl refl h
 low_next (Instance n) q b h = low_instance _ (nat_lt n 255) b (Instance (n + 1)) q refl h
 
-low_on : (p : Place) (o : Option Place) (b at : ℕ) (bs : List ℕ) → next p b ≡ o → option_map_or (λ q. wrong_at q (at + 1) bs) o (Some at) ≡ None → ((q : Place) → wrong_at q (at + 1) bs ≡ None → IsAscii bs) → IsAscii (b ∷ bs)
+low_on : (p : Place) (o : Option Place) (b at : ℕ) (bs : List ℕ) → next p b ≡ o
+    → option_map_or (λ q. wrong_at q (at + 1) bs) o (Some at) ≡ None
+    → ((q : Place) → wrong_at q (at + 1) bs ≡ None → IsAscii bs) → IsAscii (b ∷ bs)
 low_on p None b at bs e w behind = absurd cc
 low_on p (Some q) b at bs e w behind = IsAscii-cons b bs (low_next p q b e) (behind q w)
 
@@ -115,8 +121,9 @@ low_from : (p : Place) (at : ℕ) (bs : List ℕ) → wrong_at p at bs ≡ None 
 low_from p at [] e = IsAscii-nil
 low_from p at (b ∷ bs) e = low_on p (next p b) b at bs refl e (λ q w. low_from q (at + 1) bs w)
 
-pub low_name : (t : List ℕ) → read t ≡ Ok t → IsAscii t
-low_name t h = let s = name_is_short t h in subst IsAscii (sym s.shown) (low_append short s.rest (low_all short refl) (low_from Begin 0 s.rest s.body))
+pub low_name : (t : List ℕ) → name_of_text t ≡ Ok t → IsAscii t
+low_name t h = let s = name_is_short t h in
+    subst IsAscii (sym s.shown) (low_append short s.rest (low_all short refl) (low_from Begin 0 s.rest s.body))
 
 -- ---- the rows of instances
 
@@ -159,32 +166,40 @@ low_rest : (o : Option (List ℕ)) → IsLow o → IsAscii (behind o)
 low_rest None h = IsAscii-nil
 low_rest (Some t) h = IsAscii-cons 32 t (omega arith) h
 
-low_taken : (s : Option (List ℕ)) (t : List ℕ) (rest : Option (List ℕ)) → s ≡ Some (t ++ behind rest) → IsAscii t → IsLow rest → IsLow s
+low_taken : (s : Option (List ℕ)) (t : List ℕ) (rest : Option (List ℕ)) → s ≡ Some (t ++ behind rest) → IsAscii t
+    → IsLow rest → IsLow s
 low_taken s t rest is low left = subst IsLow (sym is) (low_append t (behind rest) low (low_rest rest left))
 
-low_count : (s : Option (List ℕ)) (n : ℕ) (rest : Option (List ℕ)) → taken read_count s ≡ Ok (n, rest) → IsLow rest → IsLow s
-low_count s n rest h left = let t = took number s n rest h in low_taken s (decimal n) rest t.line (IsAscii-decimal n t.inside) left
+low_count : (s : Option (List ℕ)) (n : ℕ) (rest : Option (List ℕ)) → next_field read_count s ≡ Ok (n, rest)
+    → IsLow rest → IsLow s
+low_count s n rest h left = let t = took number s n rest h in
+    low_taken s (decimal n) rest t.line (IsAscii-decimal n t.inside) left
 
-low_counts_by : (o : Option ℕ) (s : Option (List ℕ)) (rest : Option (List ℕ)) → taken (read_optional read_count) s ≡ Ok (o, rest) → IsLow rest → IsLow s
-low_counts_by None s rest h left = let t = took optional_number s None rest h in low_taken s (codes "-") rest t.line dash left
-low_counts_by (Some n) s rest h left = let t = took optional_number s (Some n) rest h in low_taken s (decimal n) rest t.line (IsAscii-decimal n t.inside) left
+low_counts_by : (o : Option ℕ) (s : Option (List ℕ)) (rest : Option (List ℕ))
+    → next_field (read_optional read_count) s ≡ Ok (o, rest) → IsLow rest → IsLow s
+low_counts_by None s rest h left = let t = took optional_number s None rest h in
+    low_taken s (codes "-") rest t.line dash left
+low_counts_by (Some n) s rest h left = let t = took optional_number s (Some n) rest h in
+    low_taken s (decimal n) rest t.line (IsAscii-decimal n t.inside) left
 
-low_counts : (s : Option (List ℕ)) (o : Option ℕ) (rest : Option (List ℕ)) → taken (read_optional read_count) s ≡ Ok (o, rest) → IsLow rest → IsLow s
+low_counts : (s : Option (List ℕ)) (o : Option ℕ) (rest : Option (List ℕ))
+    → next_field (read_optional read_count) s ≡ Ok (o, rest) → IsLow rest → IsLow s
 low_counts s o rest h left = low_counts_by o s rest h left
 
 ends : (x y : StateRow × Option (List ℕ)) → ◌≡◌ {A = Result (StateRow × Option (List ℕ)) ℕ} (Ok x) (Ok y) → x.1 ≡ y.1
 ends x y e = let is : x ≡ y = cc in ap (λ (z : StateRow × Option (List ℕ)). z.1) is
 
-first_low : (s : Option (List ℕ)) (r : StateRow) (rest : Option (List ℕ)) → first_at s ≡ Ok (r, rest) → IsLow rest → IsLow s
+first_low : (s : Option (List ℕ)) (r : StateRow) (rest : Option (List ℕ)) → first_at s ≡ Ok (r, rest) → IsLow rest
+    → IsLow s
 unfolding first_at
 first_low s r rest h left =
-    let a = bind_ok (taken read_short s) _ _ h in
-    let b = bind_ok (taken read_count a.0.1) _ _ a.2 in
-    let c = bind_ok (taken read_state b.0.1) _ _ b.2 in
-    let d = bind_ok (taken (read_optional read_state) c.0.1) _ _ c.2 in
-    let e = bind_ok (taken (read_optional read_count) d.0.1) _ _ d.2 in
-    let f = bind_ok (taken (read_optional read_count) e.0.1) _ _ e.2 in
-    let g = bind_ok (taken read_count f.0.1) _ _ f.2 in
+    let a = bind_ok (next_field read_short s) _ _ h in
+    let b = bind_ok (next_field read_count a.0.1) _ _ a.2 in
+    let c = bind_ok (next_field read_state b.0.1) _ _ b.2 in
+    let d = bind_ok (next_field (read_optional read_state) c.0.1) _ _ c.2 in
+    let e = bind_ok (next_field (read_optional read_count) d.0.1) _ _ d.2 in
+    let f = bind_ok (next_field (read_optional read_count) e.0.1) _ _ e.2 in
+    let g = bind_ok (next_field read_count f.0.1) _ _ f.2 in
     let ta = took name s a.0.0 a.0.1 a.1 in
     let tc = took state b.0.1 c.0.0 c.0.1 c.1 in
     let td = took optional_state c.0.1 d.0.0 d.0.1 d.1 in
@@ -197,16 +212,17 @@ first_low s r rest h left =
     (low_counts e.0.1 f.0.0 f.0.1 f.1
     (low_count f.0.1 g.0.0 g.0.1 g.1 (subst IsLow (sym last) left)))))))
 
-second_low : (q : StateRow) (s : Option (List ℕ)) (r : StateRow) (rest : Option (List ℕ)) → second_at q s ≡ Ok (r, rest) → IsLow rest → IsLow s
+second_low : (q : StateRow) (s : Option (List ℕ)) (r : StateRow) (rest : Option (List ℕ))
+    → second_at q s ≡ Ok (r, rest) → IsLow rest → IsLow s
 unfolding second_at
 second_low q s r rest h left =
-    let a = bind_ok (taken read_count s) _ _ h in
-    let b = bind_ok (taken read_asks a.0.1) _ _ a.2 in
-    let c = bind_ok (taken (read_optional read_cause) b.0.1) _ _ b.2 in
-    let d = bind_ok (taken read_duration c.0.1) _ _ c.2 in
-    let e = bind_ok (taken read_ignore d.0.1) _ _ d.2 in
-    let f = bind_ok (taken read_count e.0.1) _ _ e.2 in
-    let g = bind_ok (taken read_count f.0.1) _ _ f.2 in
+    let a = bind_ok (next_field read_count s) _ _ h in
+    let b = bind_ok (next_field read_asks a.0.1) _ _ a.2 in
+    let c = bind_ok (next_field (read_optional read_cause) b.0.1) _ _ b.2 in
+    let d = bind_ok (next_field read_duration c.0.1) _ _ c.2 in
+    let e = bind_ok (next_field read_ignore d.0.1) _ _ d.2 in
+    let f = bind_ok (next_field read_count e.0.1) _ _ e.2 in
+    let g = bind_ok (next_field read_count f.0.1) _ _ f.2 in
     let tb = took asks a.0.1 b.0.0 b.0.1 b.1 in
     let tc = took optional_cause b.0.1 c.0.0 c.0.1 c.1 in
     let td = took duration c.0.1 d.0.0 d.0.1 d.1 in
@@ -222,16 +238,17 @@ second_low q s r rest h left =
     (low_count e.0.1 f.0.0 f.0.1 f.1
     (low_count f.0.1 g.0.0 g.0.1 g.1 (subst IsLow (sym last) left)))))))
 
-third_low : (q : StateRow) (s : Option (List ℕ)) (r : StateRow) (rest : Option (List ℕ)) → third_at q s ≡ Ok (r, rest) → IsLow rest → IsLow s
+third_low : (q : StateRow) (s : Option (List ℕ)) (r : StateRow) (rest : Option (List ℕ)) → third_at q s ≡ Ok (r, rest)
+    → IsLow rest → IsLow s
 unfolding third_at
 third_low q s r rest h left =
-    let a = bind_ok (taken read_count s) _ _ h in
-    let b = bind_ok (taken read_count a.0.1) _ _ a.2 in
-    let c = bind_ok (taken read_count b.0.1) _ _ b.2 in
-    let d = bind_ok (taken (read_optional read_count) c.0.1) _ _ c.2 in
-    let e = bind_ok (taken (read_optional read_count) d.0.1) _ _ d.2 in
-    let f = bind_ok (taken read_count e.0.1) _ _ e.2 in
-    let g = bind_ok (taken read_count f.0.1) _ _ f.2 in
+    let a = bind_ok (next_field read_count s) _ _ h in
+    let b = bind_ok (next_field read_count a.0.1) _ _ a.2 in
+    let c = bind_ok (next_field read_count b.0.1) _ _ b.2 in
+    let d = bind_ok (next_field (read_optional read_count) c.0.1) _ _ c.2 in
+    let e = bind_ok (next_field (read_optional read_count) d.0.1) _ _ d.2 in
+    let f = bind_ok (next_field read_count e.0.1) _ _ e.2 in
+    let g = bind_ok (next_field read_count f.0.1) _ _ f.2 in
     let last : g.0.1 ≡ rest = ends _ _ g.2 in
     low_count s a.0.0 a.0.1 a.1
     (low_count a.0.1 b.0.0 b.0.1 b.1
@@ -248,7 +265,8 @@ rows_low s r h =
     let b = bind_ok (second_at a.0.0 a.0.1) _ _ a.2 in
     first_low s a.0.0 a.0.1 a.1 (second_low a.0.0 a.0.1 b.0.0 b.0.1 b.1 (third_low b.0.0 b.0.1 r None b.2 tt))
 
-row_whole : (size : ℕ) (r : StateRow) (m : Result (StateRow × Option (List ℕ)) ℕ) → whole_row size m ≡ Ok r → m ≡ Ok (r, None)
+row_whole : (size : ℕ) (r : StateRow) (m : Result (StateRow × Option (List ℕ)) ℕ) → whole_row size m ≡ Ok r
+    → m ≡ Ok (r, None)
 row_whole size r (Ok (q, None)) h = let is : q ≡ r = cc in ap (λ x. Ok (x, None)) is
 row_whole size r (Ok (q, Some rest)) h = absurd cc
 row_whole size r (Err left) h = absurd cc

@@ -11,7 +11,8 @@ use Rattle.smf_store.specs.Steps.{Adds, Grows, owned_by}
 
 module _ {X : Type 0} {M : X → Type 0} {S : X → Row → Type 0} {old : List Row} (is : Listed M S old) where
   -- the rows that are picked are those of what goes
-  pub lost : {new : List Row} (picked : Row → Bool) → Loses picked old new → (Goes : X → Type 0) → ((x : X) (r : Row) → S x r → picked r ≡ false → Goes x → ⊥)
+  pub lost : {new : List Row} (picked : Row → Bool) → Loses picked old new → (Goes : X → Type 0)
+      → ((x : X) (r : Row) → S x r → picked r ≡ false → Goes x → ⊥)
       → ((x : X) (r : Row) → S x r → (Goes x → ⊥) → picked r ≡ false) → Listed (λ x. M x × (Goes x → ⊥)) S new
   lost picked l Goes kept spared = record {
     there = λ x m. let r = is.there x m.0 in (r.0, l.stays r.0 r.1 (spared x r.0 r.2 m.1), r.2);
@@ -44,8 +45,10 @@ module _ {X : Type 0} {M : X → Type 0} {S : X → Row → Type 0} {old : List 
 
 -- the same of the counters
 module _ {M : Count → Type 0} {old : List Row} (is : Counted M old) where
-  pub counts_lost : {new : List Row} (picked : Row → Bool) → Loses picked old new → (Goes : Count → Type 0) → ((x : Count) (r : Row) → ShowsCount x r → picked r ≡ false → Goes x → ⊥)
-      → ((x : Count) (r : Row) → ShowsCount x r → (Goes x → ⊥) → picked r ≡ false) → Counted (λ x. M x × (Goes x → ⊥)) new
+  pub counts_lost : {new : List Row} (picked : Row → Bool) → Loses picked old new → (Goes : Count → Type 0)
+      → ((x : Count) (r : Row) → ShowsCount x r → picked r ≡ false → Goes x → ⊥)
+      → ((x : Count) (r : Row) → ShowsCount x r → (Goes x → ⊥) → picked r ≡ false)
+      → Counted (λ x. M x × (Goes x → ⊥)) new
   counts_lost picked l Goes kept spared = record {
     there = λ x m. let r = is.there x m.0 in (r.0, l.stays r.0 r.1 (spared x r.0 r.2 m.1), r.2);
     only = λ r h c key. let w = l.was r h in let x = is.only r w.0 c key in (x.0, (x.1, kept x.0 r x.2 w.1), x.2);
@@ -53,7 +56,8 @@ module _ {M : Count → Type 0} {old : List Row} (is : Counted M old) where
     keyed = l.keyed;
   }
 
-  pub counts_gained : {new : List Row} (row : Row) → Gains row old new → (x : Count) → ShowsCount x row → Counted (λ y. (y ≡ x) ⊎ M y) new
+  pub counts_gained : {new : List Row} (row : Row) → Gains row old new → (x : Count) → ShowsCount x row
+      → Counted (λ y. (y ≡ x) ⊎ M y) new
   counts_gained row g x shows = record {
     there = λ y m. elim m [
       | inl same ↦ (row, g.there, subst (λ z. ShowsCount z row) (sym same) shows)
@@ -63,7 +67,10 @@ module _ {M : Count → Type 0} {old : List Row} (is : Counted M old) where
       | inl same ↦ (x, inl refl, subst (ShowsCount x) (sym same) shows)
       | inr old_one ↦ let y = is.only r old_one c key in (y.0, inr y.1, y.2)
     ];
-    texts = λ r h. elim (g.was r h) [ inl same ↦ subst HasTextKey (sym same) (text_key x row shows) | inr old_one ↦ is.texts r old_one ];
+    texts = λ r h. elim (g.was r h) [
+      | inl same ↦ subst HasTextKey (sym same) (text_key x row shows)
+      | inr old_one ↦ is.texts r old_one
+    ];
     keyed = g.keyed;
   }
 
@@ -79,11 +86,13 @@ module _ {M : Count → Type 0} {old : List Row} (is : Counted M old) where
 abbrev pub IsOf : List ℕ → ℕ → List GroupRecord → OwnedGroup → Type 0
 IsOf service number gs x = (g : GroupRecord) × Has gs g × (x ≡ owned_by service number g)
 
-pub grown : {M : OwnedGroup → Type 0} {old new : List Row} (service : List ℕ) (number : ℕ) (gs : List GroupRecord) → Listed M ShowsGroup old → Grows service number gs old new
+pub grown : {M : OwnedGroup → Type 0} {old new : List Row} (service : List ℕ) (number : ℕ) (gs : List GroupRecord)
+    → Listed M ShowsGroup old → Grows service number gs old new
     → Listed (λ x. IsOf service number gs x ⊎ M x) ShowsGroup new
 grown service number gs is grows = record {
   there = λ x m. elim m [
-    | inl new_one ↦ let r = grows.there new_one.0 new_one.1 in (r.0, r.1, subst (λ z. ShowsGroup z r.0) (sym new_one.2) r.2)
+    | inl new_one ↦ let r = grows.there new_one.0 new_one.1 in
+        (r.0, r.1, subst (λ z. ShowsGroup z r.0) (sym new_one.2) r.2)
     | inr old_one ↦ let r = is.there x old_one in (r.0, grows.stays r.0 r.1, r.2)
   ];
   only = λ r h. elim (grows.was r h) [

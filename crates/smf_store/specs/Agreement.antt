@@ -2,7 +2,7 @@
 use Rattle.std.specs.Prelude.{◌≡◌, ◌≤◌, ℕ, Some}
 use Rattle.smf_model.specs.declared.held.Instance.{Instance}
 use Rattle.smf_model.specs.declared.held.Snapshot.{Snapshot}
-use Rattle.smf_model.specs.Holdings.{Holdings}
+use Rattle.smf_model.specs.Contents.{Holdings}
 use Rattle.smf_model.specs.Look.{instance, launch_of, snapshot}
 
 -- an instance names a snapshot

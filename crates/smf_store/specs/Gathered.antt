@@ -2,10 +2,10 @@
 use Rattle.std.specs.Prelude.{◌≡◌, List, [], ◌∷◌, ◌++◌}
 use Rattle.sqlite.specs.Order.{Row}
 use Rattle.sqlite_rules.specs.Lists.{Has}
-use Rattle.smf_model.specs.Holdings.{Holdings}
+use Rattle.smf_model.specs.Contents.{Holdings}
 use Rattle.smf_model.specs.Laws.{IsNumbered}
-use Rattle.smf_store.specs.declared.counting.StoreVersion.{StoreVersion}
-use Rattle.smf_store.specs.declared.judging.StoreRows.{StoreRows}
+use Rattle.smf_store.specs.declared.counter_rows.StoreVersion.{StoreVersion}
+use Rattle.smf_store.specs.declared.judgements.StoreRows.{StoreRows}
 use Rattle.smf_store.specs.Shown.{HasCountIn, ShowsCount, HasService, ShowsService, HasInstance, ShowsInstance, HasGroup, ShowsGroup, HasSnapshot, ShowsSnapshot, HasLaunch, ShowsLaunch, Count, Counter, HasKey, HasTextKey}
 use Rattle.smf_store.specs.Holds.{IsArranged}
 
@@ -46,13 +46,16 @@ abbrev pub AddsServiceRow : Row → Holdings → Holdings → Type 0
 AddsServiceRow r k h = (rows : Rows) → AreRead rows k → AreRead (record rows { services = rows.services ++ r ∷ [] }) h
 
 abbrev pub GathersServices : List Row → Holdings → Holdings → Type 0
-GathersServices all k h = (rows : Rows) → rows.services ≡ [] → AreRead rows k → AreRead (record rows { services = all }) h
+GathersServices all k h = (rows : Rows) → rows.services ≡ [] → AreRead rows k
+    → AreRead (record rows { services = all }) h
 
 abbrev pub AddsInstanceRow : Row → Holdings → Holdings → Type 0
-AddsInstanceRow r k h = (rows : Rows) → AreRead rows k → AreRead (record rows { instances = rows.instances ++ r ∷ [] }) h
+AddsInstanceRow r k h = (rows : Rows) → AreRead rows k
+    → AreRead (record rows { instances = rows.instances ++ r ∷ [] }) h
 
 abbrev pub GathersInstances : List Row → Holdings → Holdings → Type 0
-GathersInstances all k h = (rows : Rows) → rows.instances ≡ [] → AreRead rows k → AreRead (record rows { instances = all }) h
+GathersInstances all k h = (rows : Rows) → rows.instances ≡ [] → AreRead rows k
+    → AreRead (record rows { instances = all }) h
 
 abbrev pub AddsGroupOf : Row → Holdings → Holdings → Type 0
 AddsGroupOf r k h = (rows : Rows) → AreRead rows k → AreRead (record rows { groups = rows.groups ++ r ∷ [] }) h
@@ -61,20 +64,32 @@ abbrev pub GathersGroups : List Row → Holdings → Holdings → Type 0
 GathersGroups all k h = (rows : Rows) → rows.groups ≡ [] → AreRead rows k → AreRead (record rows { groups = all }) h
 
 abbrev pub AddsSnapshotRow : Row → Holdings → Holdings → Type 0
-AddsSnapshotRow r k h = (rows : Rows) → AreRead rows k → AreRead (record rows { snapshots = rows.snapshots ++ r ∷ [] }) h
+AddsSnapshotRow r k h = (rows : Rows) → AreRead rows k
+    → AreRead (record rows { snapshots = rows.snapshots ++ r ∷ [] }) h
 
 abbrev pub GathersSnapshots : List Row → Holdings → Holdings → Type 0
-GathersSnapshots all k h = (rows : Rows) → rows.snapshots ≡ [] → AreRead rows k → AreRead (record rows { snapshots = all }) h
+GathersSnapshots all k h = (rows : Rows) → rows.snapshots ≡ [] → AreRead rows k
+    → AreRead (record rows { snapshots = all }) h
 
 abbrev pub AddsLaunchRow : Row → Holdings → Holdings → Type 0
 AddsLaunchRow r k h = (rows : Rows) → AreRead rows k → AreRead (record rows { launches = rows.launches ++ r ∷ [] }) h
 
 abbrev pub GathersLaunches : List Row → Holdings → Holdings → Type 0
-GathersLaunches all k h = (rows : Rows) → rows.launches ≡ [] → AreRead rows k → AreRead (record rows { launches = all }) h
+GathersLaunches all k h = (rows : Rows) → rows.launches ≡ [] → AreRead rows k
+    → AreRead (record rows { launches = all }) h
 
 -- the rows of the first table, and all of them
 abbrev pub first_of : StoreVersion → StoreRows → Rows
-first_of version rows = record { version = version; counts = rows.counts.items; services = []; instances = []; groups = []; snapshots = []; launches = [] }
+first_of version rows =
+    record {
+      version = version;
+      counts = rows.counts.items;
+      services = [];
+      instances = [];
+      groups = [];
+      snapshots = [];
+      launches = [];
+    }
 
 abbrev pub rows_of : StoreVersion → StoreRows → Rows
 rows_of version rows =

@@ -4,11 +4,11 @@ pub mod Holds
 pub mod Steps
 pub mod Ends
 pub mod Unique
-pub mod Creating
+pub mod Creation
 pub mod Gathered
 pub mod Cells
-pub mod Counting
-pub mod Readings
+pub mod CounterRows
+pub mod RowValues
 pub mod Judged
 pub mod Agreement
 pub mod Begun

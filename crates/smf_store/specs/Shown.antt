@@ -5,10 +5,10 @@ use Rattle.sqlite.specs.declared.types.Value.TheVariants.{Int, Text, Blob}
 use Rattle.sqlite.specs.Values.{or_null}
 use Rattle.sqlite.specs.Order.{Row, column}
 use Rattle.smf_fmri.specs.ByKey.{lookup}
-use Rattle.smf_fmri.specs.Matching.{service_of}
+use Rattle.smf_fmri.specs.Patterns.{service_of}
 use Rattle.smf_fmri.specs.Name.{short}
 use Rattle.smf_state.specs.Texts.{read_row, row_text}
-use Rattle.smf_value.specs.Body.{AreGroups, spelled}
+use Rattle.smf_value.specs.Body.{AreGroups, bytes_of_groups}
 use Rattle.smf_value.specs.Groups.{GroupRecord}
 use Rattle.smf_snap.specs.Body.{spelled_both}
 use Rattle.smf_model.specs.declared.held.Instance.{Instance}
@@ -16,10 +16,10 @@ use Rattle.smf_model.specs.declared.held.InstanceEntry.{InstanceEntry}
 use Rattle.smf_model.specs.declared.held.Launch.{Launch}
 use Rattle.smf_model.specs.declared.held.Service.{Service}
 use Rattle.smf_model.specs.declared.held.Snapshot.{Snapshot}
-use Rattle.smf_model.specs.Holdings.{Holdings}
+use Rattle.smf_model.specs.Contents.{Holdings}
 use Rattle.smf_model.specs.Look.{by_entry, by_launch, group_in, service, snapshot}
-use Rattle.smf_store.specs.declared.counting.StoreVersion.{StoreVersion}
-use Rattle.smf_store.specs.declared.counting.StoreVersion.TheVariants as versions
+use Rattle.smf_store.specs.declared.counter_rows.StoreVersion.{StoreVersion}
+use Rattle.smf_store.specs.declared.counter_rows.StoreVersion.TheVariants as versions
 
 -- ---- the table of counters
 
@@ -129,7 +129,7 @@ pub record ShowsGroup (x : OwnedGroup) (r : Row) : Type 0 where
   pub service_is : column r 1 ≡ Text x.service
   pub number_is : column r 2 ≡ Int (pos x.number)
   pub name_is : column r 3 ≡ Text x.group.name
-  pub body_is : column r 4 ≡ Blob (spelled (x.group ∷ []))
+  pub body_is : column r 4 ≡ Blob (bytes_of_groups (x.group ∷ []))
 
 -- ---- the table of snapshots
 

@@ -5,20 +5,20 @@ use Rattle.sqlite.specs.Tree.{Trees}
 use Rattle.sqlite.specs.Effect.{Database, IsDatabase}
 use Rattle.sqlite.specs.State.{State, Shows}
 use Rattle.smf_tables.specs.Layout.{StandsNamed, StandsSomewhere}
-use Rattle.smf_tables.specs.Reading.{AreShown}
+use Rattle.smf_tables.specs.Scans.{AreShown}
 use Rattle.smf_tables.specs.Rows.{AreKeyed}
 use Rattle.smf_tables.specs.Schema.{snap_at, store_schema}
-use Rattle.smf_model.specs.Holdings.{Holdings}
-use Rattle.smf_store.specs.declared.counting.StoreVersion.{StoreVersion}
-use Rattle.smf_store.specs.declared.counting.StoreVersion.TheVariants as versions
-use Rattle.smf_store.specs.declared.judging.StoreRows.{StoreRows}
+use Rattle.smf_model.specs.Contents.{Holdings}
+use Rattle.smf_store.specs.declared.counter_rows.StoreVersion.{StoreVersion}
+use Rattle.smf_store.specs.declared.counter_rows.StoreVersion.TheVariants as versions
+use Rattle.smf_store.specs.declared.judgements.StoreRows.{StoreRows}
 use Rattle.smf_store.specs.declared.refusal.OpenFault.{OpenFault}
 use Rattle.smf_store.specs.declared.refusal.OpenFault.TheVariants.{Memory, Database as Failed, Version, Damaged, TooManyInstances}
 use Rattle.smf_store.specs.declared.refusal.StoreTable.{StoreTable}
 use Rattle.smf_store.specs.declared.refusal.StoreTable.TheVariants as tables
 use Rattle.smf_store.specs.FirstOther.{IsFirstOther, is_before}
 use Rattle.smf_store.specs.Holds.{Keeps, Stands, StandsFirst}
-use Rattle.smf_store.specs.Judged.{first_broken, judged}
+use Rattle.smf_store.specs.Judged.{first_broken, verdict_on_rows}
 
 -- these are the rows of a table, by the columns at these places, and no rowid stands twice
 pub record IsListed (tree : ℕ) (places : List ℕ) (trees : Trees) (rows : List Row) : Type 0 where
@@ -54,7 +54,8 @@ AreSnapshots other db rows = ListedIf (is_before tables.Snapshot other) 8 (0 ∷
 pub record AreListedBefore (other : Option StoreTable) (rows : StoreRows) (db : Database) : Type 0 where
   pub counts : ListedIf (is_before tables.Meta other) 0 (0 ∷ 1 ∷ 2 ∷ []) db.trees rows.counts.items
   pub services : ListedIf (is_before tables.Service other) 2 (0 ∷ 1 ∷ []) db.trees rows.services.items
-  pub instances : ListedIf (is_before tables.Instance other) 4 (0 ∷ 0 ∷ 2 ∷ 3 ∷ 4 ∷ 5 ∷ 6 ∷ []) db.trees rows.instances.items
+  pub instances : ListedIf (is_before tables.Instance other) 4
+      (0 ∷ 0 ∷ 2 ∷ 3 ∷ 4 ∷ 5 ∷ 6 ∷ []) db.trees rows.instances.items
   pub groups : ListedIf (is_before tables.Group other) 6 (0 ∷ 1 ∷ 2 ∷ 3 ∷ 4 ∷ []) db.trees rows.groups.items
   pub snapshots : AreSnapshots other db rows.snapshots.items
   pub launches : ListedIf (is_before tables.Restarter other) 9 (0 ∷ 1 ∷ 2 ∷ []) db.trees rows.launches.items
@@ -90,7 +91,7 @@ IsFailure TooManyInstances = ⊥
 pub record Says (trees : Trees) (what : Result Holdings OpenFault) : Type 0 where
   pub rows : StoreRows
   pub listed : AreListed rows trees
-  pub said : judged rows ≡ what
+  pub said : verdict_on_rows rows ≡ what
 
 -- a fault that says something of the store is what its rows say
 abbrev pub IsSaid : Trees → OpenFault → Type 0
@@ -104,7 +105,7 @@ IsSaid trees TooManyInstances = Says trees (Err TooManyInstances)
 pub record SaysBefore (other : Option StoreTable) (db : Database) (e : OpenFault) : Type 0 where
   pub rows : StoreRows
   pub listed : AreListedBefore other rows db
-  pub said : e ≡ first_broken other (judged rows)
+  pub said : e ≡ first_broken other (verdict_on_rows rows)
 
 -- a fault is a failure, or it comes from the rows before that table
 abbrev pub IsSaidBefore : Option StoreTable → Database → OpenFault → Type 0
@@ -112,7 +113,8 @@ IsSaidBefore other db e = IsFailure e ⊎ SaysBefore other db e
 
 -- the tables of the schema are not those of a store, and this fault comes from them
 abbrev pub IsOther : Database → OpenFault → Type 0
-IsOther db e = (db.schema ≡ store_schema → ⊥) × (other : Option StoreTable) × IsFirstOther db.schema other × SaysBefore other db e
+IsOther db e = (db.schema ≡ store_schema → ⊥) × (other : Option StoreTable) × IsFirstOther db.schema other
+    × SaysBefore other db e
 
 -- a fault that names a table or a version. The table is the first, in their order, that is absent, or another, or has a
 -- row that breaks a rule

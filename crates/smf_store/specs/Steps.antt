@@ -10,8 +10,8 @@ use Rattle.smf_value.specs.Groups.{GroupRecord}
 use Rattle.smf_tables.specs.Rows.{IsKeyed, Alters, Gains, Turns}
 use Rattle.smf_tables.specs.Schema.{grp, store_schema}
 use Rattle.smf_model.specs.declared.change.Change.{Change}
-use Rattle.smf_model.specs.Holdings.{Holdings}
-use Rattle.smf_model.specs.Look.{installed, changed}
+use Rattle.smf_model.specs.Contents.{Holdings}
+use Rattle.smf_model.specs.Look.{holdings_after_changes, holdings_after_change}
 use Rattle.smf_store.specs.Shown.{OwnedGroup, ShowsGroup}
 use Rattle.smf_store.specs.Holds.{Holds}
 
@@ -48,7 +48,7 @@ AddsRow Shows table = Alters (Adds Shows) table
 -- inside a transaction a value gave way to what a change makes of it
 pub record Makes (change : Change) (old new : State) : Type 0 where
   pub shows : Shows old new new.now old.committed true
-  pub made : (h : Holdings) → Holds old.now h → Holds new.now (changed h change)
+  pub made : (h : Holdings) → Holds old.now h → Holds new.now (holdings_after_change h change)
 
 -- inside a transaction all changes but the rest were made
 pub record Reached (rest whole : List Change) (old new : State) : Type 0 where
@@ -56,13 +56,13 @@ pub record Reached (rest whole : List Change) (old new : State) : Type 0 where
   pub kept : KeepsCommit old new
   pub live : length rest < length whole → IsTrue new.is_open
   pub made : (h : Holdings) → Holds old.now h
-      → (g : Holdings) × Holds new.now g × (installed g rest ≡ installed h whole)
+      → (g : Holdings) × Holds new.now g × (holdings_after_changes g rest ≡ holdings_after_changes h whole)
 
 -- the changes are committed
 pub record Wrote (changes : List Change) (old new : State) : Type 0 where
   pub was_open : IsTrue old.is_open
   pub is_open : IsTrue new.is_open
-  pub made : (h : Holdings) → Holds old.now h → Holds new.now (installed h changes)
+  pub made : (h : Holdings) → Holds old.now h → Holds new.now (holdings_after_changes h changes)
   pub settled : new.committed ≡ new.now
 
 -- the committed database is there, if the store is still open
@@ -73,5 +73,6 @@ pub record Kept (old new : State) : Type 0 where
 -- a write may leave this in the file
 abbrev pub MayCommit : List Change → State → Trees → Type 0
 MayCommit changes old trees =
-    IsTrue old.is_open × (db : Database) × ((h : Holdings) → Holds old.now h → Holds db (installed h changes))
+    IsTrue old.is_open × (db : Database)
+    × ((h : Holdings) → Holds old.now h → Holds db (holdings_after_changes h changes))
     × (trees ≡ db.trees)

@@ -4,7 +4,7 @@ ghost use Rattle.smf_store.specs.Agreement.{AreLaunched, NameOwn};
 ghost use Rattle.smf_store.specs.Gathered.{GathersLaunches, GathersSnapshots};
 ghost use Rattle.smf_store.specs.Judged.{Takes, entry_names_own, is_launched, is_own, launches_said, names_own, snapshots_said};
 
-use crate::gathering::{gather_launches, gather_snapshots};
+use crate::additions::{gather_launches, gather_snapshots};
 use smf_fmri::Number;
 use smf_model::{Instance, InstanceEntry, Tables};
 use sqlite::Row;

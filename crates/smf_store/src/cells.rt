@@ -4,7 +4,7 @@ ghost use Rattle.std.specs.Str.{is_utf8};
 ghost use Rattle.sqlite.specs.Order.{column};
 ghost use Rattle.sqlite_value.specs.Value.{owned};
 ghost use Rattle.smf_store.specs.Shown.{optional_value};
-ghost use Rattle.smf_store.specs.Readings.{bytes_in, count_in, given, integer_in, number_in, optional_in, text_in};
+ghost use Rattle.smf_store.specs.RowValues.{bytes_in, count_in, value_if, integer_in, number_in, optional_in, text_in};
 
 use smf_fmri::Number;
 use sqlite::Row;
@@ -82,7 +82,7 @@ pub(crate) fn optional_at(row: &Row, at: usize) -> Option<Option<Number>>
 
 /// The bytes as a text, if they are one.
 fn text_of(bytes: &[u8]) -> Option<&str>
-    ensures exact { option_map (λ x. x.now) result ≡ given (is_utf8 bytes.now) bytes.now }
+    ensures exact { option_map (λ x. x.now) result ≡ value_if (is_utf8 bytes.now) bytes.now }
     ensures same { IfSome result (λ text. text.now ≡ bytes.now) }
 {
     match std::str::from_utf8(bytes) {

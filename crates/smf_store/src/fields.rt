@@ -1,7 +1,7 @@
-ghost use Rattle.std.specs.Prelude.{◌≡◌, ◌<◌, ◌++◌, [], ◌∷◌, pos, IfOk, IfSome, IsTrue, option_map, string_bytes};
-ghost use Rattle.smf_fmri.specs.Matching.{instance_of, service_of};
+ghost use Rattle.std.specs.Prelude.{◌≡◌, ◌<◌, ◌++◌, [], ◌∷◌, pos, IfOk, IsTrue, option_map, string_bytes};
+ghost use Rattle.smf_fmri.specs.Patterns.{instance_of, service_of};
 ghost use Rattle.smf_fmri.specs.Name.{short};
-ghost use Rattle.smf_value.specs.Body.{AreGroups, spelled};
+ghost use Rattle.smf_value.specs.Body.{AreGroups, bytes_of_groups};
 ghost use Rattle.smf_store.specs.Shown.{IsSplit};
 
 use crate::fault::WriteFault;
@@ -89,7 +89,7 @@ pub(crate) fn are_same(columns: &Columns, read: &NameColumns) -> bool
 
 /// A group as bytes.
 pub(crate) fn body_of(alloc: Global, group: &Group) -> Result<Bytes, AllocError>
-    ensures spelled { IfOk result (λ b. b ≡ spelled (group.now ∷ [])) }
+    ensures spelled { IfOk result (λ b. b ≡ bytes_of_groups (group.now ∷ [])) }
     ensures formed { IfOk result (λ _. AreGroups (group.now ∷ [])) }
 {
     let mut one = Ordered::new(alloc);

@@ -9,23 +9,23 @@
 //! The whole: `store` (the journal), `repository` (the repository over a store).
 #![tactic(auto)]
 
+mod additions;
 mod agreement;
 mod cells;
-mod counting;
-mod creating;
+mod changes;
+mod counter_rows;
+mod creation;
 mod fault;
 mod fields;
-mod gathering;
-mod judging;
-mod making;
-mod opening;
+mod judgements;
+mod opens;
 mod places;
-mod reading;
+mod queries;
 mod refusal;
 mod repository;
 mod rows;
 mod store;
-mod writing;
+mod writes;
 
 pub use refusal::{OpenFault, StoreTable};
 pub use repository::open_repository;

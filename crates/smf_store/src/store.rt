@@ -2,12 +2,12 @@ ghost use Rattle.std.specs.Prelude.{◌≡◌, ◌↔◌, IfErr, IfOk, IsTrue};
 ghost use Rattle.sqlite.specs.Held.{state};
 ghost use Rattle.sqlite.specs.State.{HasCleanDisk};
 ghost use Rattle.smf_laws.specs.Consistent.{IsConsistent};
-ghost use Rattle.smf_model.specs.Holdings.{Holdings};
+ghost use Rattle.smf_model.specs.Contents.{Holdings};
 ghost use Rattle.smf_model.specs.Laws.{IsNumbered};
 ghost use Rattle.smf_model.specs.Look.{empty};
 ghost use Rattle.smf_tables.specs.Schema.{no_schema};
 ghost use Rattle.smf_store.specs.Agreement.{AreLaunched, AreUnlaunched, NameOwn};
-ghost use Rattle.smf_store.specs.Creating.{MayMake};
+ghost use Rattle.smf_store.specs.Creation.{MayMake};
 ghost use Rattle.smf_store.specs.Ends.{LeavesOr};
 ghost use Rattle.smf_store.specs.Opens.{IsFoundIn, IsStoreOf, MayFailToOpen, MayOpen};
 ghost use Rattle.smf_store.specs.Stages.{IsFailure, IsRefused};
@@ -15,11 +15,11 @@ ghost use Rattle.smf_store.specs.Steps.{Kept};
 ghost use Rattle.smf_store.specs.Holds.{Could, IsSound, Keeps};
 ghost use Rattle.smf_store.specs.Unique.{stays_settled};
 
-use crate::creating::make_store;
+use crate::creation::make_store;
 use crate::fault::repo_fault;
-use crate::opening::read_store;
+use crate::opens::read_store;
 use crate::refusal::OpenFault;
-use crate::writing::write_all;
+use crate::writes::write_all;
 use smf_model::{Change, Journal, RepoFault, Tables};
 use sqlite::{Alter, Connection};
 use sqlite_schema::schema::Schema;
@@ -69,7 +69,8 @@ impl<S: Alter> Store<S> {
     ) -> Result<(Store<S>, Tables), (OpenFault, Connection<S>)>
         ensures stands { IfOk result (λ p. IsSound (state S.Store p.0.conn) → Keeps (state S.Store p.0.conn) p.1) }
         ensures sound { IfOk result (λ p. HasCleanDisk (state S.Store p.0.conn) → IsSound (state S.Store p.0.conn)) }
-        ensures found { IfOk result (λ p. HasCleanDisk (state S.Store p.0.conn) → IsFoundIn (state S.Store conn) (state S.Store p.0.conn) p.1) }
+        ensures found { IfOk result (λ p. HasCleanDisk (state S.Store p.0.conn)
+            → IsFoundIn (state S.Store conn) (state S.Store p.0.conn) p.1) }
         // Also if the disk is not clean.
         ensures numbered { IfOk result (λ p. IsNumbered p.1) }
         // Each snapshot that an instance names is there, and is its own.
@@ -77,14 +78,18 @@ impl<S: Alter> Store<S> {
         ensures launched { IfOk result (λ p. AreLaunched p.1) }
         // The value keeps the rules that commands keep, if no row with the number 0 keeps a launch.
         // No open judges this one.
-        ensures consistent { IfOk result (λ p. HasCleanDisk (state S.Store p.0.conn) → AreUnlaunched p.1 → IsConsistent p.1) }
+        ensures consistent { IfOk result (λ p. HasCleanDisk (state S.Store p.0.conn) → AreUnlaunched p.1
+            → IsConsistent p.1) }
         ensures crash { IfOk result (λ p. LeavesOr MayOpen S.Store conn p.0.conn) }
         // A fault that names a version or a table says what the rows of the tables say.
-        ensures refused { IfErr result (λ e. HasCleanDisk (state S.Store e.1) → IsRefused (state S.Store conn).now e.0) }
+        ensures refused { IfErr result (λ e. HasCleanDisk (state S.Store e.1)
+            → IsRefused (state S.Store conn).now e.0) }
         // No verdict refuses a store of a value that commands make: it is opened, or the opening fails.
-        ensures opens_again { IfErr result (λ e. HasCleanDisk (state S.Store e.1) → (h : Holdings) → IsStoreOf (state S.Store conn).now h → IsConsistent h → IsFailure e.0) }
+        ensures opens_again { IfErr result (λ e. HasCleanDisk (state S.Store e.1) → (h : Holdings)
+            → IsStoreOf (state S.Store conn).now h → IsConsistent h → IsFailure e.0) }
         ensures crash_err { IfErr result (λ e. LeavesOr (MayFailToOpen e.0) S.Store conn e.1) }
-        ensures kept { IfErr result (λ e. HasCleanDisk (state S.Store e.1) → Kept (state S.Store conn) (state S.Store e.1)) }
+        ensures kept { IfErr result (λ e. HasCleanDisk (state S.Store e.1)
+            → Kept (state S.Store conn) (state S.Store e.1)) }
     {
         if is_bare(conn.schema()) {
             match make_store(&mut conn) {

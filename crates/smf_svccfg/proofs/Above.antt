@@ -2,11 +2,11 @@
 use Rattle.std.proofs.Common.{◌≡◌, ℕ, List, Bool, true, false, Option, Some, None, refl, sym, ◌∙◌, ap}
 use Rattle.std.specs.Prelude.{option_map}
 use Rattle.smf_model.specs.declared.held.Instance.{Instance}
-use Rattle.smf_model.specs.declared.setting.Setting.{Setting}
-use Rattle.smf_model.specs.Holdings.{Holdings}
+use Rattle.smf_model.specs.declared.general_group.Setting.{Setting}
+use Rattle.smf_model.specs.Contents.{Holdings}
 use Rattle.smf_model.specs.Look.{groups_of, instance}
-use Rattle.smf_model.specs.Next.{found}
-use Rattle.smf_model.specs.Setting.{Groups, current, owned_by_setting, service_fmri}
+use Rattle.smf_model.specs.Next.{current_instance}
+use Rattle.smf_model.specs.GeneralGroup.{Groups, current, owned_by_setting, service_fmri}
 use Rattle.smf_svccfg.specs.declared.selection.Selection.TheVariants as selected
 use Rattle.smf_svccfg.specs.Judged.{above_instance}
 
@@ -22,7 +22,8 @@ above_current : (gs : Groups) (i : Option Instance) → above_instance (option_m
 above_current gs None = refl
 above_current gs (Some i) = ap (λ name. selected.Service (service_fmri name)) (current_name gs i)
 
-pub above_found : (h : Holdings) (n : ℕ) (read : Option Instance) (i : Instance) (service : List ℕ) → read ≡ found h n → read ≡ Some i → service ≡ service_fmri i.name
+pub above_found : (h : Holdings) (n : ℕ) (read : Option Instance) (i : Instance) (service : List ℕ)
+    → read ≡ current_instance h n → read ≡ Some i → service ≡ service_fmri i.name
     → selected.Service service ≡ above_instance (instance h n)
 above_found h n read i service e is named =
     ap selected.Service named ∙ ap above_instance (sym is ∙ e) ∙ above_current (groups_of h) (instance h n)

@@ -1,10 +1,10 @@
 pub mod Blanks
 pub mod Parts
 pub mod Above
-pub mod Reading
-pub mod Closing
+pub mod TokenReads
+pub mod Parentheses
 pub mod Escapes
 pub mod Spelled
 pub mod Written
-pub mod Fitting
+pub mod Judgements
 pub mod Children

@@ -5,7 +5,7 @@ use Rattle.std.proofs.lemmas.Bool.Decides.{nat_tests}
 use Rattle.std.specs.Char.{is_ascii_alphanumeric}
 use Rattle.std.specs.List.{AllByRecursion, list_any, position_or_len}
 use Rattle.smf_fmri.specs.Name.{is_word_byte}
-use Rattle.smf_fmri.specs.Spelling.{AllWord, IsComponent}
+use Rattle.smf_fmri.specs.Grammar.{AllWord, IsComponent}
 use Rattle.smf_model.specs.declared.command.PropertyChange.{PropertyChange}
 use Rattle.smf_model.specs.declared.command.PropertyChange.TheVariants as properties
 use Rattle.smf_value.specs.declared.kind.Kind.{Kind}
@@ -19,7 +19,7 @@ use Rattle.smf_svccfg.specs.declared.line.Line.TheVariants as lines
 use Rattle.smf_svccfg.specs.declared.token.Token.{Token}
 use Rattle.smf_svccfg.specs.declared.token.Token.TheVariants as tokens
 use Rattle.smf_svccfg.specs.Lines.{IsChange, IsWritable, change_tokens, flag_tokens, is_comment, is_slash, kind_and_values, kind_tokens, line_in, line_of, line_text, name_in, parts_at_slash, quoted_all, target_in, tokens_for, word_tokens, words_before_close}
-use Rattle.smf_svccfg.specs.Tokens.{AreTokens, Gives, IsBare, is_special, tokens_of, written}
+use Rattle.smf_svccfg.specs.Tokens.{AreTokens, Gives, IsBare, is_special, tokens_of, text_of_tokens}
 use Rattle.smf_svccfg.specs.Words.{is_word}
 use Rattle.smf_svccfg.proofs.Spelled.{tokens_again}
 
@@ -48,27 +48,34 @@ name_again name h = rw (name_reads name h) refl
 
 -- ---- a group and a property
 
-slash_at : (group property : List ℕ) → AllByRecursion IsFree group → position_or_len is_slash (group ++ 47 ∷ property) ≡ length group
+slash_at : (group property : List ℕ) → AllByRecursion IsFree group
+    → position_or_len is_slash (group ++ 47 ∷ property) ≡ length group
 slash_at [] property h = refl
-slash_at (b ∷ bs) property h = let later : position_or_len is_slash (bs ++ 47 ∷ property) ≡ length bs = slash_at bs property h.1 in rw h.0.slash (omega (arith, later))
+slash_at (b ∷ bs) property h = let later : position_or_len is_slash (bs ++ 47 ∷ property) ≡ length bs =
+    slash_at bs property h.1 in rw h.0.slash (omega (arith, later))
 
-parts_by : (word group property : List ℕ) (at : ℕ) → position_or_len is_slash word ≡ at → nat_lt at (length word) ≡ true → take at word ≡ group → drop (at + 1) word ≡ property
+parts_by : (word group property : List ℕ) (at : ℕ) → position_or_len is_slash word ≡ at
+    → nat_lt at (length word) ≡ true → take at word ≡ group → drop (at + 1) word ≡ property
     → parts_at_slash word ≡ Some (group, property)
 parts_by word group property at e low front rest = rw (e, low, front, rest) refl
 
-parts_again : (group property : List ℕ) → AllByRecursion IsFree group → parts_at_slash (group ++ 47 ∷ property) ≡ Some (group, property)
+parts_again : (group property : List ℕ) → AllByRecursion IsFree group
+    → parts_at_slash (group ++ 47 ∷ property) ≡ Some (group, property)
 parts_again group property h =
     parts_by (group ++ 47 ∷ property) group property (length group) (slash_at group property h)
     (lt-ltb (length group) (length (group ++ 47 ∷ property)) (omega (arith, length-append group (47 ∷ property))))
     (take-append_seam group (47 ∷ property)) (drop-append-add group (47 ∷ property) 1)
 
-target_by : (word group property : List ℕ) → parts_at_slash word ≡ Some (group, property) → name_in group ≡ Some group → name_in property ≡ Some property
+target_by : (word group property : List ℕ) → parts_at_slash word ≡ Some (group, property) → name_in group ≡ Some group
+    → name_in property ≡ Some property
     → target_in word ≡ Some (record { group = group; property = property })
 target_by word group property e g p = rw (e, g, p) refl
 
-target_again : (group property : List ℕ) → IsNameText group → IsNameText property → target_in (group ++ 47 ∷ property) ≡ Some (record { group = group; property = property })
+target_again : (group property : List ℕ) → IsNameText group → IsNameText property
+    → target_in (group ++ 47 ∷ property) ≡ Some (record { group = group; property = property })
 target_again group property h k =
-    target_by (group ++ 47 ∷ property) group property (parts_again group property (component_free group h.component)) (name_again group h) (name_again property k)
+    target_by (group ++ 47 ∷ property) group property (parts_again group property (component_free group h.component))
+    (name_again group h) (name_again property k)
 
 -- ---- kinds and values
 
@@ -84,7 +91,8 @@ kind_bare Astring = bare (codes "astring:") refl refl
 kind_bare Ustring = bare (codes "ustring:") refl refl
 kind_bare Fmri = bare (codes "fmri:") refl refl
 
-kind_read : (kind : Kind) (t : Token) (ts : List Token) → kind_and_values (tokens.Bare (kind_text kind ++ 58 ∷ []) ∷ t ∷ ts) ≡ Some (Some kind, t ∷ ts)
+kind_read : (kind : Kind) (t : Token) (ts : List Token)
+    → kind_and_values (tokens.Bare (kind_text kind ++ 58 ∷ []) ∷ t ∷ ts) ≡ Some (Some kind, t ∷ ts)
 kind_read Boolean t ts = refl
 kind_read Count t ts = refl
 kind_read Integer t ts = refl
@@ -93,7 +101,8 @@ kind_read Astring t ts = refl
 kind_read Ustring t ts = refl
 kind_read Fmri t ts = refl
 
-kind_behind : (kind : Option Kind) (ts rest : List Token) → AreTokens ts → AreTokens rest → AreTokens (kind_tokens kind ++ rest)
+kind_behind : (kind : Option Kind) (ts rest : List Token) → AreTokens ts → AreTokens rest
+    → AreTokens (kind_tokens kind ++ rest)
 kind_behind None ts rest h k = k
 kind_behind (Some kind) ts rest h k = (kind_bare kind, k)
 
@@ -108,9 +117,19 @@ listed_again (value ∷ values) = rw (listed_again values) refl
 -- ---- lines
 
 change_are : (group : List ℕ) (change : PropertyChange) → AreTokens (change_tokens group change)
-change_are group (properties.Set name kind values) =
-    (bare (codes "setprop") refl refl, (tt, (bare (codes "=") refl refl, kind_behind kind [] (tokens.Open ∷ (quoted_all values ++ tokens.Close ∷ [])) tt (tt, listed_tokens values (tokens.Close ∷ []) (tt, tt)))))
-change_are group (properties.AddValue name kind value) = (bare (codes "addpropvalue") refl refl, (tt, kind_behind kind [] (tokens.Quoted value ∷ []) tt (tt, tt)))
+change_are group (properties.Set name kind values) = (
+  bare (codes "setprop") refl refl,
+  (
+    tt,
+    (
+      bare (codes "=") refl refl,
+      kind_behind kind [] (tokens.Open ∷ (quoted_all values ++ tokens.Close ∷ [])) tt
+          (tt, listed_tokens values (tokens.Close ∷ []) (tt, tt)),
+    ),
+  ),
+)
+change_are group (properties.AddValue name kind value) =
+    (bare (codes "addpropvalue") refl refl, (tt, kind_behind kind [] (tokens.Quoted value ∷ []) tt (tt, tt)))
 change_are group (properties.DeleteValue name value) = (bare (codes "delpropvalue") refl refl, (tt, (tt, tt)))
 change_are group (properties.Delete name) = (bare (codes "delprop") refl refl, (tt, tt))
 
@@ -139,15 +158,16 @@ all_are (lines.SelectSnapshot word) = (bare (codes "selectsnap") refl refl, word
 all_are (lines.Revert word) = (bare (codes "revert") refl refl, word_are word)
 all_are lines.End = (bare (codes "end") refl refl, tt)
 
-no_comment_change : (group : List ℕ) (change : PropertyChange) → is_comment (written (change_tokens group change)) ≡ false
-unfolding written
+no_comment_change : (group : List ℕ) (change : PropertyChange)
+    → is_comment (text_of_tokens (change_tokens group change)) ≡ false
+unfolding text_of_tokens
 no_comment_change group (properties.Set name kind values) = refl
 no_comment_change group (properties.AddValue name kind value) = refl
 no_comment_change group (properties.DeleteValue name value) = refl
 no_comment_change group (properties.Delete name) = refl
 
 no_comment : (l : Line) → is_comment (line_text l) ≡ false
-unfolding written
+unfolding text_of_tokens
 no_comment lines.Nothing = refl
 no_comment (lines.Select word) = refl
 no_comment (lines.Delete word) = refl
@@ -164,19 +184,28 @@ no_comment (lines.SelectSnapshot word) = refl
 no_comment (lines.Revert word) = refl
 no_comment lines.End = refl
 
-change_again : (group : List ℕ) (change : PropertyChange) → IsNameText group → IsChange change → line_in (change_tokens group change) ≡ Ok (lines.Property group change)
+change_again : (group : List ℕ) (change : PropertyChange) → IsNameText group → IsChange change
+    → line_in (change_tokens group change) ≡ Ok (lines.Property group change)
 change_again group (properties.Set name None values) h k = rw (target_again group name h k, listed_again values) refl
-change_again group (properties.Set name (Some kind) values) h k = rw (kind_read kind tokens.Open (quoted_all values ++ tokens.Close ∷ []), target_again group name h k, listed_again values) refl
+change_again group (properties.Set name (Some kind) values) h k =
+    rw (
+      kind_read kind tokens.Open (quoted_all values ++ tokens.Close ∷ []),
+      target_again group name h k,
+      listed_again values,
+    ) refl
 change_again group (properties.AddValue name None value) h k = rw (target_again group name h k) refl
-change_again group (properties.AddValue name (Some kind) value) h k = rw (kind_read kind (tokens.Quoted value) [], target_again group name h k) refl
+change_again group (properties.AddValue name (Some kind) value) h k =
+    rw (kind_read kind (tokens.Quoted value) [], target_again group name h k) refl
 change_again group (properties.DeleteValue name value) h k = rw (target_again group name h k) refl
 change_again group (properties.Delete name) h k = rw (target_again group name h k) refl
 
-group_again : (name group_type : List ℕ) (p : Bool) → IsNameText name → IsNameText group_type → line_in (tokens_for (lines.AddGroup name group_type p)) ≡ Ok (lines.AddGroup name group_type p)
+group_again : (name group_type : List ℕ) (p : Bool) → IsNameText name → IsNameText group_type
+    → line_in (tokens_for (lines.AddGroup name group_type p)) ≡ Ok (lines.AddGroup name group_type p)
 group_again name group_type true h k = rw (name_again name h, name_again group_type k) refl
 group_again name group_type false h k = rw (name_again name h, name_again group_type k) refl
 
-snapshot_again : (word : Option (List ℕ)) → line_in (tokens_for (lines.SelectSnapshot word)) ≡ Ok (lines.SelectSnapshot word)
+snapshot_again : (word : Option (List ℕ))
+    → line_in (tokens_for (lines.SelectSnapshot word)) ≡ Ok (lines.SelectSnapshot word)
 snapshot_again None = refl
 snapshot_again (Some word) = refl
 
@@ -201,12 +230,17 @@ tokens_give (lines.SelectSnapshot word) h = snapshot_again word
 tokens_give (lines.Revert word) h = revert_again word
 tokens_give lines.End h = refl
 
-line_by_parts : (text : List ℕ) (ts : List Token) (l : Result Line LineFault) → is_comment text ≡ false → tokens_of text ≡ Ok ts → line_in ts ≡ l → line_of text ≡ l
+line_by_parts : (text : List ℕ) (ts : List Token) (l : Result Line LineFault) → is_comment text ≡ false
+    → tokens_of text ≡ Ok ts → line_in ts ≡ l → line_of text ≡ l
 unfolding line_of
 line_by_parts text ts l comment read gives = rw (comment, read) gives
 
 line_again : (l : Line) → IsWritable l → line_of (line_text l) ≡ Ok l
-line_again l h = line_by_parts (line_text l) (tokens_for l) (Ok l) (no_comment l) (tokens_again (tokens_for l) (all_are l)) (tokens_give l h)
+line_again l h =
+    line_by_parts (line_text l) (tokens_for l) (Ok l) (no_comment l) (tokens_again (tokens_for l) (all_are l))
+    (tokens_give l h)
 
-pub read_again : (r : Result Line LineFault) (text : List ℕ) → Gives r (line_of text) → (l : Line) → IsWritable l → text ≡ line_text l → Gives r (Ok l)
-read_again r text given l h e = let P : Result Line LineFault → Type 0 = λ x. Gives r x in subst P (ap line_of e ∙ line_again l h) given
+pub read_again : (r : Result Line LineFault) (text : List ℕ) → Gives r (line_of text) → (l : Line) → IsWritable l
+    → text ≡ line_text l → Gives r (Ok l)
+read_again r text given l h e = let P : Result Line LineFault → Type 0 = λ x. Gives r x in
+    subst P (ap line_of e ∙ line_again l h) given

@@ -3,17 +3,17 @@ use Rattle.std.specs.Fmt.{decimal}
 use Rattle.std.specs.Prelude.{◌≡◌, ◌==◌, ◌⊎◌, ℕ, List, ◌∷◌, ◌++◌, nat_eq, codes, Bool, false, true, if◌then◌else◌, Option, Some, None, is_some, option_map, Result, Ok, Err}
 use Rattle.std.specs.Cmp.Lexicographic.{pointwise}
 use Rattle.smf_fmri.specs.declared.fault.FmriFault.{FmriFault}
-use Rattle.smf_fmri.specs.Name.{short, read}
-use Rattle.smf_fmri.specs.Matching.{named_service, named_instance, read_short}
+use Rattle.smf_fmri.specs.Name.{short, name_of_text}
+use Rattle.smf_fmri.specs.Patterns.{named_service, named_instance, read_short}
 use Rattle.smf_model.specs.declared.command.Edit.{Edit}
 use Rattle.smf_model.specs.declared.command.Edit.TheVariants as edits
 use Rattle.smf_model.specs.declared.command.PropertyChange.{PropertyChange}
 use Rattle.smf_model.specs.declared.held.Instance.{Instance}
 use Rattle.smf_model.specs.declared.held.Owner.{Owner}
 use Rattle.smf_model.specs.declared.held.Owner.TheVariants as owners
-use Rattle.smf_model.specs.Holdings.{Holdings}
-use Rattle.smf_model.specs.Look.{instance, service, named}
-use Rattle.smf_model.specs.Setting.{service_fmri}
+use Rattle.smf_model.specs.Contents.{Holdings}
+use Rattle.smf_model.specs.Look.{instance, service, instance_by_name}
+use Rattle.smf_model.specs.GeneralGroup.{service_fmri}
 use Rattle.smf_model.specs.Shown.{snapshot_number}
 use Rattle.smf_snap.specs.declared.name.SnapshotName.{SnapshotName}
 use Rattle.smf_snap.specs.declared.name.SnapshotName.TheVariants.{Running}
@@ -49,7 +49,7 @@ short_service text (Ok name) = if pointwise nat_eq name text then named_service 
 short_service text (Err e) = None
 
 abbrev pub read_service : List ℕ → Option (List ℕ)
-read_service text = short_service text (read text)
+read_service text = short_service text (name_of_text text)
 
 abbrev pub present_service : Holdings → Option (List ℕ) → Option Owner
 present_service h None = None
@@ -57,7 +57,7 @@ present_service h (Some name) = if is_some (service h name) then Some (owners.Se
 
 abbrev pub present_instance : Holdings → Option (List ℕ) → Option Owner
 present_instance h None = None
-present_instance h (Some name) = option_map (λ i. owners.Instance i.number) (named h name)
+present_instance h (Some name) = option_map (λ i. owners.Instance i.number) (instance_by_name h name)
 
 -- the child of what is selected: a service of this name, or an instance of this name of the selected service
 abbrev pub child : Holdings → Selection → List ℕ → Option Owner
@@ -66,12 +66,13 @@ child h (selected.Service s) word = present_instance h (read_short (s ++ 58 ∷ 
 child h _ word = None
 
 abbrev pub entity_by : Holdings → Result (List ℕ) FmriFault → Option Owner
-entity_by h (Ok name) = if is_some (named_instance name) then present_instance h (named_instance name) else present_service h (named_service name)
+entity_by h (Ok name) = if is_some (named_instance name) then present_instance h (named_instance name)
+    else present_service h (named_service name)
 entity_by h (Err e) = None
 
 -- the service or the instance that a word names in full
 abbrev pub entity : Holdings → List ℕ → Option Owner
-entity h word = entity_by h (read word)
+entity h word = entity_by h (name_of_text word)
 
 abbrev pub child_or : Option Owner → Option Owner → Option Owner
 child_or (Some owner) other = Some owner
@@ -152,9 +153,9 @@ judged_add selected.Nothing word = added_service (read_service (short ++ word))
 judged_add (selected.Service s) word = added_instance s (name_in word)
 judged_add _ word = Err (Usage commands.Add)
 
-abbrev pub deleting : Owner → Edit
-deleting (owners.Service name) = edits.DeleteService name
-deleting (owners.Instance n) = edits.DeleteInstance n
+abbrev pub delete_edit : Owner → Edit
+delete_edit (owners.Service name) = edits.DeleteService name
+delete_edit (owners.Instance n) = edits.DeleteInstance n
 
 -- true if the owner that is deleted is selected
 abbrev pub is_owner : Selection → Owner → Bool
@@ -171,13 +172,13 @@ above h (owners.Instance n) = above_instance (instance h n)
 abbrev pub after_delete : Holdings → Selection → Owner → Selection
 after_delete h s owner = if is_owner s owner then above h owner else s
 
-abbrev pub deleted : Holdings → Selection → Option Owner → Result Judged CfgFault
-deleted h s None = Err NoSuch
-deleted h s (Some owner) = Ok (judgements.Edit (deleting owner) (after_delete h s owner))
+abbrev pub judgement_of_delete : Holdings → Selection → Option Owner → Result Judged CfgFault
+judgement_of_delete h s None = Err NoSuch
+judgement_of_delete h s (Some owner) = Ok (judgements.Edit (delete_edit owner) (after_delete h s owner))
 
 -- the owner that a word names is deleted
 abbrev pub deleted_by_name : Holdings → Selection → List ℕ → Result Judged CfgFault
-deleted_by_name h s word = deleted h s (named_by h s word)
+deleted_by_name h s word = judgement_of_delete h s (named_by h s word)
 
 abbrev pub judged_delete : Holdings → Selection → List ℕ → Result Judged CfgFault
 judged_delete h s word = if is_snapshot s then Err ReadOnly else deleted_by_name h s word
@@ -201,25 +202,25 @@ reverting_to s n None = Err NoSuch
 reverting_to s n (Some name) = Ok (judgements.Edit (edits.Revert n name) s)
 
 -- back to the selected snapshot, else to the running one; no snapshot is selected after it
-abbrev pub reverting : Selection → Result Judged CfgFault
-reverting selected.Nothing = Err NotSelected
-reverting (selected.Service s) = Err NotSelected
-reverting (selected.Instance n) = Ok (judgements.Edit (edits.Revert n Running) (selected.Instance n))
-reverting (selected.Snapshot n name) = Ok (judgements.Edit (edits.Revert n name) (selected.Instance n))
+abbrev pub revert_by_selection : Selection → Result Judged CfgFault
+revert_by_selection selected.Nothing = Err NotSelected
+revert_by_selection (selected.Service s) = Err NotSelected
+revert_by_selection (selected.Instance n) = Ok (judgements.Edit (edits.Revert n Running) (selected.Instance n))
+revert_by_selection (selected.Snapshot n name) = Ok (judgements.Edit (edits.Revert n name) (selected.Instance n))
 
 abbrev pub reverting_by : Selection → Option ℕ → List ℕ → Result Judged CfgFault
 reverting_by s None word = Err NotSelected
 reverting_by s (Some n) word = reverting_to s n (name_from word)
 
 abbrev pub judged_revert : Selection → Option (List ℕ) → Result Judged CfgFault
-judged_revert s None = reverting s
+judged_revert s None = revert_by_selection s
 judged_revert s (Some word) = reverting_by s (instance_in s) word
 
 -- ---- listings
 
-abbrev pub printed : Option (List ℕ) → Result Judged CfgFault
-printed None = Err NotSelected
-printed (Some text) = Ok (judgements.Print text)
+abbrev pub judged_print : Option (List ℕ) → Result Judged CfgFault
+judged_print None = Err NotSelected
+judged_print (Some text) = Ok (judgements.Print text)
 
 -- ---- the whole
 
@@ -229,9 +230,9 @@ judged_line h s (lines.Select word) = judged_select (named_by h s word)
 judged_line h s (lines.Delete word) = judged_delete h s word
 judged_line h s lines.Unselect = judged_unselect h s
 judged_line h s lines.List = Ok (judgements.Print (children_text h s))
-judged_line h s lines.ListGroups = printed (option_map groups_text (groups_in h s))
-judged_line h s lines.ListProperties = printed (option_map properties_text (groups_in h s))
-judged_line h s lines.ListSnapshots = printed (option_map snapshots_text (snapshots_in h (instance_in s)))
+judged_line h s lines.ListGroups = judged_print (option_map groups_text (groups_in h s))
+judged_line h s lines.ListProperties = judged_print (option_map properties_text (groups_in h s))
+judged_line h s lines.ListSnapshots = judged_print (option_map snapshots_text (snapshots_in h (instance_in s)))
 judged_line h s (lines.Add word) = judged_add s word
 judged_line h s (lines.AddGroup name group_type p) = judged_add_group s (owner_of s) name group_type p
 judged_line h s (lines.DeleteGroup name) = judged_delete_group s (owner_of s) name
@@ -251,15 +252,15 @@ judged_by h s (Ok line) = judged_line h s line
 judged_by h s (Err e) = Err (given_by e)
 
 -- the judgement of a line; the repository may still refuse the edit
-unfoldable pub judged : Holdings → Selection → List ℕ → Result Judged CfgFault
-judged h s line = judged_by h s (line_of line)
+unfoldable pub judgement_of : Holdings → Selection → List ℕ → Result Judged CfgFault
+judgement_of h s line = judged_by h s (line_of line)
 
 -- ---- what a line may come to
 
 -- a service or an instance that the repository has
 abbrev pub IsOwner : Holdings → Owner → Type 0
 IsOwner h (owners.Service s) = is_some (service h s) ≡ true
-IsOwner h (owners.Instance n) = (name : List ℕ) × (option_map (λ i. i.number) (named h name) ≡ Some n)
+IsOwner h (owners.Instance n) = (name : List ℕ) × (option_map (λ i. i.number) (instance_by_name h name) ≡ Some n)
 
 -- the service above the instance that was selected
 abbrev pub IsAboveInstance : Holdings → Option ℕ → List ℕ → Type 0

@@ -17,10 +17,10 @@ use Rattle.smf_svccfg.specs.declared.fault.LineFault.{LineFault}
 use Rattle.smf_svccfg.specs.declared.fault.LineFault.TheVariants.{Unknown, Usage}
 use Rattle.smf_svccfg.specs.declared.line.Line.{Line}
 use Rattle.smf_svccfg.specs.declared.line.Line.TheVariants as lines
-use Rattle.smf_svccfg.specs.declared.parsing.Target.{Target}
+use Rattle.smf_svccfg.specs.declared.arguments.Target.{Target}
 use Rattle.smf_svccfg.specs.declared.token.Token.{Token}
 use Rattle.smf_svccfg.specs.declared.token.Token.TheVariants as tokens
-use Rattle.smf_svccfg.specs.Tokens.{tokens_of, written}
+use Rattle.smf_svccfg.specs.Tokens.{tokens_of, text_of_tokens}
 
 -- ---- commands
 
@@ -185,14 +185,15 @@ names_kind word ts = ends_in_colon word && not (no_tokens ts)
 -- the values after a command, and the kind before them. A first bare word that ends in a colon has to name a kind, if
 -- more follows
 abbrev pub kind_and_values : List Token → Option (Option Kind × List Token)
-kind_and_values (tokens.Bare word ∷ ts) = if names_kind word ts then with_kind (kind_in word) ts else Some (None, tokens.Bare word ∷ ts)
+kind_and_values (tokens.Bare word ∷ ts) =
+    if names_kind word ts then with_kind (kind_in word) ts else Some (None, tokens.Bare word ∷ ts)
 kind_and_values ts = Some (None, ts)
 
 -- ---- the tokens behind each command
 
-abbrev pub used : CfgCommand → Option Line → Result Line LineFault
-used command None = Err (Usage command)
-used command (Some line) = Ok line
+abbrev pub line_or_usage : CfgCommand → Option Line → Result Line LineFault
+line_or_usage command None = Err (Usage command)
+line_or_usage command (Some line) = Ok line
 
 -- a command with nothing after it
 abbrev pub alone : Line → List Token → Option Line
@@ -222,7 +223,8 @@ is_flag (Some word) = pointwise nat_eq word (codes "P")
 
 abbrev pub add_group : List Token → Option Line
 add_group (name ∷ group_type ∷ []) = group_by (text_in name) (text_in group_type) false
-add_group (name ∷ group_type ∷ flag ∷ []) = if is_flag (text_in flag) then group_by (text_in name) (text_in group_type) true else None
+add_group (name ∷ group_type ∷ flag ∷ []) =
+    if is_flag (text_in flag) then group_by (text_in name) (text_in group_type) true else None
 add_group _ = None
 
 -- the group and the property of a token
@@ -241,7 +243,8 @@ abbrev pub delete_property : Option (List ℕ) → Option Line
 delete_property word = delete_property_by (target_by word)
 
 abbrev pub delete_value_by : Option Target → Option (List ℕ) → Option Line
-delete_value_by (Some target) (Some value) = Some (change_of target.group (properties.DeleteValue target.property value))
+delete_value_by (Some target) (Some value) =
+    Some (change_of target.group (properties.DeleteValue target.property value))
 delete_value_by _ _ = None
 
 abbrev pub delete_value : List Token → Option Line
@@ -249,7 +252,8 @@ delete_value (target ∷ value ∷ []) = delete_value_by (target_by (text_in tar
 delete_value _ = None
 
 abbrev pub add_value_by : Option Target → Option Kind → Option (List ℕ) → Option Line
-add_value_by (Some target) kind (Some value) = Some (change_of target.group (properties.AddValue target.property kind value))
+add_value_by (Some target) kind (Some value) =
+    Some (change_of target.group (properties.AddValue target.property kind value))
 add_value_by _ kind _ = None
 
 abbrev pub add_values : Option Target → Option (Option Kind × List Token) → Option Line
@@ -273,30 +277,31 @@ set_values target None = None
 set_values target (Some values) = set_by target values.0 (values_in values.1)
 
 abbrev pub set_property : List Token → Option Line
-set_property (target ∷ sign ∷ ts) = if is_equals (text_in sign) then set_values (target_by (text_in target)) (kind_and_values ts) else None
+set_property (target ∷ sign ∷ ts) =
+    if is_equals (text_in sign) then set_values (target_by (text_in target)) (kind_and_values ts) else None
 set_property _ = None
 
 -- the line of a command with these tokens after it; none if it cannot be used so
-abbrev pub asked : CfgCommand → List Token → Option Line
-asked commands.Select ts = option_map (λ word. lines.Select word) (one_word ts)
-asked commands.Delete ts = option_map (λ word. lines.Delete word) (one_word ts)
-asked commands.Unselect ts = alone lines.Unselect ts
-asked commands.List ts = alone lines.List ts
-asked commands.ListGroups ts = alone lines.ListGroups ts
-asked commands.ListProperties ts = alone lines.ListProperties ts
-asked commands.ListSnapshots ts = alone lines.ListSnapshots ts
-asked commands.Add ts = add_by (one_word ts)
-asked commands.AddGroup ts = add_group ts
-asked commands.DeleteGroup ts = delete_group_by (one_word ts)
-asked commands.DeleteProperty ts = delete_property (one_word ts)
-asked commands.SetProperty ts = set_property ts
-asked commands.AddValue ts = add_value ts
-asked commands.DeleteValue ts = delete_value ts
-asked commands.SelectSnapshot ts = option_map (λ word. lines.SelectSnapshot word) (word_or_none ts)
-asked commands.Revert ts = option_map (λ word. lines.Revert word) (word_or_none ts)
-asked commands.End ts = alone lines.End ts
-asked commands.Exit ts = alone lines.End ts
-asked commands.Quit ts = alone lines.End ts
+abbrev pub line_of_command : CfgCommand → List Token → Option Line
+line_of_command commands.Select ts = option_map (λ word. lines.Select word) (one_word ts)
+line_of_command commands.Delete ts = option_map (λ word. lines.Delete word) (one_word ts)
+line_of_command commands.Unselect ts = alone lines.Unselect ts
+line_of_command commands.List ts = alone lines.List ts
+line_of_command commands.ListGroups ts = alone lines.ListGroups ts
+line_of_command commands.ListProperties ts = alone lines.ListProperties ts
+line_of_command commands.ListSnapshots ts = alone lines.ListSnapshots ts
+line_of_command commands.Add ts = add_by (one_word ts)
+line_of_command commands.AddGroup ts = add_group ts
+line_of_command commands.DeleteGroup ts = delete_group_by (one_word ts)
+line_of_command commands.DeleteProperty ts = delete_property (one_word ts)
+line_of_command commands.SetProperty ts = set_property ts
+line_of_command commands.AddValue ts = add_value ts
+line_of_command commands.DeleteValue ts = delete_value ts
+line_of_command commands.SelectSnapshot ts = option_map (λ word. lines.SelectSnapshot word) (word_or_none ts)
+line_of_command commands.Revert ts = option_map (λ word. lines.Revert word) (word_or_none ts)
+line_of_command commands.End ts = alone lines.End ts
+line_of_command commands.Exit ts = alone lines.End ts
+line_of_command commands.Quit ts = alone lines.End ts
 
 -- ---- the line
 
@@ -311,7 +316,7 @@ command_by (Some word) = command_from word
 
 abbrev pub command_line : Option CfgCommand → List Token → Result Line LineFault
 command_line None ts = Err Unknown
-command_line (Some command) ts = used command (asked command ts)
+command_line (Some command) ts = line_or_usage command (line_of_command command ts)
 
 abbrev pub line_in : List Token → Result Line LineFault
 line_in [] = Ok lines.Nothing
@@ -351,10 +356,12 @@ target_token group property = tokens.Quoted (group ++ 47 ∷ property)
 
 abbrev pub change_tokens : List ℕ → PropertyChange → List Token
 change_tokens group (properties.Set name kind values) =
-    command_token commands.SetProperty ∷ target_token group name ∷ tokens.Bare (codes "=") ∷ (kind_tokens kind ++ tokens.Open ∷ (quoted_all values ++ tokens.Close ∷ []))
+    command_token commands.SetProperty ∷ target_token group name ∷ tokens.Bare (codes "=")
+    ∷ (kind_tokens kind ++ tokens.Open ∷ (quoted_all values ++ tokens.Close ∷ []))
 change_tokens group (properties.AddValue name kind value) =
     command_token commands.AddValue ∷ target_token group name ∷ (kind_tokens kind ++ tokens.Quoted value ∷ [])
-change_tokens group (properties.DeleteValue name value) = command_token commands.DeleteValue ∷ target_token group name ∷ tokens.Quoted value ∷ []
+change_tokens group (properties.DeleteValue name value) =
+    command_token commands.DeleteValue ∷ target_token group name ∷ tokens.Quoted value ∷ []
 change_tokens group (properties.Delete name) = command_token commands.DeleteProperty ∷ target_token group name ∷ []
 
 abbrev pub tokens_for : Line → List Token
@@ -367,7 +374,8 @@ tokens_for lines.ListGroups = command_token commands.ListGroups ∷ []
 tokens_for lines.ListProperties = command_token commands.ListProperties ∷ []
 tokens_for lines.ListSnapshots = command_token commands.ListSnapshots ∷ []
 tokens_for (lines.Add word) = command_token commands.Add ∷ tokens.Quoted word ∷ []
-tokens_for (lines.AddGroup name group_type p) = command_token commands.AddGroup ∷ tokens.Quoted name ∷ tokens.Quoted group_type ∷ flag_tokens p
+tokens_for (lines.AddGroup name group_type p) =
+    command_token commands.AddGroup ∷ tokens.Quoted name ∷ tokens.Quoted group_type ∷ flag_tokens p
 tokens_for (lines.DeleteGroup name) = command_token commands.DeleteGroup ∷ tokens.Quoted name ∷ []
 tokens_for (lines.Property group change) = change_tokens group change
 tokens_for (lines.SelectSnapshot word) = command_token commands.SelectSnapshot ∷ word_tokens word
@@ -376,7 +384,7 @@ tokens_for lines.End = command_token commands.End ∷ []
 
 -- a line as it is written
 abbrev pub line_text : Line → List ℕ
-line_text l = written (tokens_for l)
+line_text l = text_of_tokens (tokens_for l)
 
 abbrev pub IsChange : PropertyChange → Type 0
 IsChange (properties.Set name kind values) = IsNameText name

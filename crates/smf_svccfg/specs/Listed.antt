@@ -1,13 +1,13 @@
 -- The output of the lines that list.
 use Rattle.std.specs.Prelude.{ℕ, List, [], ◌∷◌, ◌++◌, Bool, true, false, codes, Option, Some, None}
 use Rattle.std.specs.List.{flat_map}
-use Rattle.smf_fmri.specs.Matching.{service_of}
+use Rattle.smf_fmri.specs.Patterns.{service_of}
 use Rattle.smf_fmri.specs.Name.{strip}
 use Rattle.smf_value.specs.declared.value.Value.{Value}
 use Rattle.smf_value.specs.declared.value.Value.TheVariants.{Astring, Ustring}
 use Rattle.smf_value.specs.Groups.{GroupRecord, PropertyRecord}
 use Rattle.smf_value.specs.Kinds.{kind_text}
-use Rattle.smf_value.specs.Spellings.{printed}
+use Rattle.smf_value.specs.ValueTexts.{text_of_value}
 use Rattle.smf_snap.specs.declared.name.SnapshotName.{SnapshotName}
 use Rattle.smf_snap.specs.Composed.{composition}
 use Rattle.smf_snap.specs.Names.{name_text}
@@ -15,12 +15,12 @@ use Rattle.smf_model.specs.declared.held.InstanceName.{InstanceName}
 use Rattle.smf_model.specs.declared.held.Owner.TheVariants as owners
 use Rattle.smf_model.specs.declared.held.Service.{Service}
 use Rattle.smf_model.specs.declared.held.Snapshot.{Snapshot}
-use Rattle.smf_model.specs.Holdings.{Holdings}
+use Rattle.smf_model.specs.Contents.{Holdings}
 use Rattle.smf_model.specs.Next.{named_snapshot}
 use Rattle.smf_model.specs.Shown.{shown_groups, snapshot_number, snapshots_of}
 use Rattle.smf_svccfg.specs.declared.selection.Selection.{Selection}
 use Rattle.smf_svccfg.specs.declared.selection.Selection.TheVariants as selected
-use Rattle.smf_svccfg.specs.Tokens.{quoted}
+use Rattle.smf_svccfg.specs.Tokens.{quoted_text}
 
 -- a line and its end
 abbrev pub line_for : List ℕ → List ℕ
@@ -72,9 +72,9 @@ children_text h _ = []
 
 -- a text is printed in quotes, any other value as it is spelled
 abbrev pub value_text : Value → List ℕ
-value_text (Astring text) = quoted text
-value_text (Ustring text) = quoted text
-value_text v = printed v
+value_text (Astring text) = quoted_text text
+value_text (Ustring text) = quoted_text text
+value_text v = text_of_value v
 
 abbrev pub flag_text : Bool → List ℕ
 flag_text true = codes " P"

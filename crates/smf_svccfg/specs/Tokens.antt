@@ -124,18 +124,18 @@ tokens_of line = tokens_in (read_from places.Between 0 line)
 abbrev pub escaped_byte : ℕ → List ℕ
 escaped_byte b = if is_mark b then 92 ∷ b ∷ [] else b ∷ []
 
-abbrev pub escaped : List ℕ → List ℕ
-escaped text = flat_map escaped_byte text
+abbrev pub escaped_text : List ℕ → List ℕ
+escaped_text text = flat_map escaped_byte text
 
 -- a text in quotes
-abbrev pub quoted : List ℕ → List ℕ
-quoted text = 34 ∷ (escaped text ++ 34 ∷ [])
+abbrev pub quoted_text : List ℕ → List ℕ
+quoted_text text = 34 ∷ (escaped_text text ++ 34 ∷ [])
 
 abbrev pub token_text : Token → List ℕ
 token_text tokens.Open = 40 ∷ []
 token_text tokens.Close = 41 ∷ []
 token_text (tokens.Bare word) = word
-token_text (tokens.Quoted word) = quoted word
+token_text (tokens.Quoted word) = quoted_text word
 
 -- a byte that a bare word has not
 abbrev pub is_special : ℕ → Bool
@@ -154,9 +154,9 @@ abbrev pub AreTokens : List Token → Type 0
 AreTokens ts = AllByRecursion IsToken ts
 
 -- tokens with a space after each
-unfoldable pub written : List Token → List ℕ
-written [] = []
-written (t ∷ ts) = token_text t ++ 32 ∷ written ts
+unfoldable pub text_of_tokens : List Token → List ℕ
+text_of_tokens [] = []
+text_of_tokens (t ∷ ts) = token_text t ++ 32 ∷ text_of_tokens ts
 
 -- ---- byte by byte
 
@@ -166,44 +166,44 @@ pub record Reading : Type 0 where
   pub word : List ℕ
   pub tokens : List Token
 
-abbrev pub reading : Place → List ℕ → List Token → Reading
-reading p word ts = record { place = p; word = word; tokens = ts }
+abbrev pub reader_at : Place → List ℕ → List Token → Reading
+reader_at p word ts = record { place = p; word = word; tokens = ts }
 
 -- a reader after a byte outside a word
-abbrev pub begun : ℕ → ℕ → List ℕ → List Token → Result Reading LineFault
-begun at b word ts =
-    if is_blank b then Ok (reading places.Between word ts)
-    else if b == 40 then Ok (reading places.Between word (ts ++ tokens.Open ∷ []))
-    else if b == 41 then Ok (reading places.Between word (ts ++ tokens.Close ∷ []))
-    else if b == 34 then Ok (reading (places.Quoted at) word ts)
+abbrev pub step_outside_word : ℕ → ℕ → List ℕ → List Token → Result Reading LineFault
+step_outside_word at b word ts =
+    if is_blank b then Ok (reader_at places.Between word ts)
+    else if b == 40 then Ok (reader_at places.Between word (ts ++ tokens.Open ∷ []))
+    else if b == 41 then Ok (reader_at places.Between word (ts ++ tokens.Close ∷ []))
+    else if b == 34 then Ok (reader_at (places.Quoted at) word ts)
     else if b == 92 then Err (Quote at)
-    else Ok (reading places.Bare (word ++ b ∷ []) ts)
+    else Ok (reader_at places.Bare (word ++ b ∷ []) ts)
 
 -- a reader after a bare word, and after a quoted one
 abbrev pub behind_bare : List ℕ → List Token → Reading
-behind_bare word ts = reading places.Between [] (ts ++ tokens.Bare word ∷ [])
+behind_bare word ts = reader_at places.Between [] (ts ++ tokens.Bare word ∷ [])
 
 abbrev pub behind_quoted : List ℕ → List Token → Reading
-behind_quoted word ts = reading places.Closed [] (ts ++ tokens.Quoted word ∷ [])
+behind_quoted word ts = reader_at places.Closed [] (ts ++ tokens.Quoted word ∷ [])
 
 abbrev pub stepped_at : Place → ℕ → ℕ → List ℕ → List Token → Result Reading LineFault
-stepped_at places.Between at b word ts = begun at b word ts
+stepped_at places.Between at b word ts = step_outside_word at b word ts
 stepped_at places.Bare at b word ts =
-    if is_bound b then begun at b [] (ts ++ tokens.Bare word ∷ [])
+    if is_bound b then step_outside_word at b [] (ts ++ tokens.Bare word ∷ [])
     else if is_mark b then Err (Quote at)
-    else Ok (reading places.Bare (word ++ b ∷ []) ts)
+    else Ok (reader_at places.Bare (word ++ b ∷ []) ts)
 stepped_at (places.Quoted opening) at b word ts =
     if b == 34 then Ok (behind_quoted word ts)
-    else if b == 92 then Ok (reading (places.Escaped opening at) word ts)
-    else Ok (reading (places.Quoted opening) (word ++ b ∷ []) ts)
+    else if b == 92 then Ok (reader_at (places.Escaped opening at) word ts)
+    else Ok (reader_at (places.Quoted opening) (word ++ b ∷ []) ts)
 stepped_at (places.Escaped opening escape) at b word ts =
-    if is_mark b then Ok (reading (places.Quoted opening) (word ++ b ∷ []) ts)
+    if is_mark b then Ok (reader_at (places.Quoted opening) (word ++ b ∷ []) ts)
     else Err (Quote escape)
-stepped_at places.Closed at b word ts = if is_bound b then begun at b word ts else Err (Quote at)
+stepped_at places.Closed at b word ts = if is_bound b then step_outside_word at b word ts else Err (Quote at)
 
 -- a reader after one byte more
-abbrev pub stepped : Reading → ℕ → ℕ → Result Reading LineFault
-stepped r at b = stepped_at r.place at b r.word r.tokens
+abbrev pub next_reading : Reading → ℕ → ℕ → Result Reading LineFault
+next_reading r at b = stepped_at r.place at b r.word r.tokens
 
 abbrev pub finished_at : Place → List ℕ → List Token → Result (List Token) LineFault
 finished_at places.Between word ts = Ok ts
@@ -213,5 +213,5 @@ finished_at (places.Escaped opening escape) word ts = Err (Quote opening)
 finished_at places.Closed word ts = Ok ts
 
 -- the tokens of a reader at the line's end
-abbrev pub finished : Reading → Result (List Token) LineFault
-finished r = finished_at r.place r.word r.tokens
+abbrev pub tokens_at_end : Reading → Result (List Token) LineFault
+tokens_at_end r = finished_at r.place r.word r.tokens

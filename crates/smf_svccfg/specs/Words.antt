@@ -27,6 +27,6 @@ abbrev pub spaced_behind : List ℕ → List (List ℕ) → List ℕ
 spaced_behind word [] = word
 spaced_behind word (w ∷ ws) = word ++ 32 ∷ spaced_behind w ws
 
-abbrev pub spaced : List (List ℕ) → List ℕ
-spaced [] = []
-spaced (w ∷ ws) = spaced_behind w ws
+abbrev pub words_with_spaces : List (List ℕ) → List ℕ
+words_with_spaces [] = []
+words_with_spaces (w ∷ ws) = spaced_behind w ws

@@ -5,23 +5,23 @@
 //! `judgement`. The faults of both are in `fault`.
 #![tactic(auto)]
 
+mod arguments;
 mod command;
+mod entities;
 mod fault;
-mod judging;
+mod judgement;
 mod line;
-mod listing;
-mod naming;
-mod parsing;
-mod quoting;
+mod line_words;
+mod output;
+mod quotes;
 mod selection;
-mod splitting;
 mod token;
 
 pub use command::CfgCommand;
 pub use fault::{CfgFault, LineFault, fault_text};
-pub use judging::judge;
+pub use judgement::judge;
 pub use line::{Line, parse_line};
-pub use quoting::quoted;
+pub use line_words::words;
+pub use quotes::quoted_text;
 pub use selection::{Judged, Selection};
-pub use splitting::words;
 pub use token::{Token, tokens};

@@ -1,11 +1,11 @@
 ghost use Rattle.std.specs.Prelude.{◌≡◌, Ok};
 ghost use Rattle.smf_svccfg.specs.declared.line.Line.{Line as AnyLine};
-ghost use Rattle.smf_svccfg.specs.Lines.{IsWritable, asked, command_by, is_comment, line_in, line_of, line_text, text_in, used};
+ghost use Rattle.smf_svccfg.specs.Lines.{IsWritable, line_of_command, command_by, is_comment, line_in, line_of, line_text, text_in, line_or_usage};
 ghost use Rattle.smf_svccfg.specs.Tokens.{Gives};
 
+use crate::arguments::{line_of_command, text_in};
 use crate::command::CfgCommand;
 use crate::fault::LineFault;
-use crate::parsing::{asked, text_in};
 use crate::token::{Token, tokens};
 use smf_fmri::Text;
 use smf_model::PropertyChange;
@@ -65,10 +65,10 @@ fn command_of(token: &Token) -> Option<CfgCommand>
     }
 }
 
-fn used(alloc: Global, command: CfgCommand, behind: &[Token]) -> Result<Line, LineFault>
-    ensures { Gives result (used command (asked command behind.now)) }
+fn line_or_usage(alloc: Global, command: CfgCommand, behind: &[Token]) -> Result<Line, LineFault>
+    ensures { Gives result (line_or_usage command (line_of_command command behind.now)) }
 {
-    match asked(alloc, command, behind)? {
+    match line_of_command(alloc, command, behind)? {
         Some(line) => Ok(line),
         None => Err(LineFault::Usage(command)),
     }
@@ -82,7 +82,7 @@ fn line_in(alloc: Global, tokens: &[Token]) -> Result<Line, LineFault>
     };
     match command_of(first) {
         None => Err(LineFault::Unknown),
-        Some(command) => used(alloc, command, behind),
+        Some(command) => line_or_usage(alloc, command, behind),
     }
 }
 

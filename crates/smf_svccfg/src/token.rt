@@ -3,10 +3,10 @@ ghost use Rattle.std.specs.Str.{IsUtf8};
 ghost use Rattle.smf_svccfg.specs.declared.token.Place.TheVariants as places;
 ghost use Rattle.smf_svccfg.specs.declared.token.Token.{Token as AnyToken};
 ghost use Rattle.smf_svccfg.specs.declared.token.Token.TheVariants as tokens;
-ghost use Rattle.smf_svccfg.specs.Tokens.{AreTokens, Gives, Leaves, behind_bare, behind_quoted, begun, finished, is_bound, is_mark, reading, stepped, stepped_at, tokens_of, written};
+ghost use Rattle.smf_svccfg.specs.Tokens.{AreTokens, Gives, Leaves, behind_bare, behind_quoted, step_outside_word, tokens_at_end, is_bound, is_mark, reader_at, next_reading, stepped_at, tokens_of, text_of_tokens};
 
 use crate::fault::LineFault;
-use crate::splitting::is_blank;
+use crate::line_words::is_blank;
 use smf_fmri::{Items, Text};
 use std::alloc::{AllocError, Global};
 use std::marker::Model;
@@ -49,11 +49,11 @@ struct Reader {
 }
 
 impl Model for Reader {
-    ghost use Rattle.smf_svccfg.specs.Tokens.{Reading, reading};
+    ghost use Rattle.smf_svccfg.specs.Tokens.{Reading, reader_at};
 
     ghost Value = { Reading };
 
-    ghost view = { λ r. reading r.place r.word.items r.tokens };
+    ghost view = { λ r. reader_at r.place r.word.items r.tokens };
 }
 
 fn is_bound(b: u8) -> bool
@@ -81,7 +81,7 @@ fn text_of(alloc: Global, bytes: &[u8]) -> Result<Text, AllocError>
 
 impl Reader {
     fn new(alloc: Global) -> Reader
-        ensures { result ≡ reading places.Between [] [] }
+        ensures { result ≡ reader_at places.Between [] [] }
     {
         Reader {
             alloc,
@@ -95,7 +95,7 @@ impl Reader {
     fn take_word(&mut self) -> Result<Text, AllocError>
         requires { IsUtf8 self.old.word }
         ensures word { IfOk result (λ text. text ≡ self.old.word) }
-        ensures left { OnOk result (self.new ≡ reading self.old.place [] self.old.tokens) }
+        ensures left { OnOk result (self.new ≡ reader_at self.old.place [] self.old.tokens) }
     {
         let text = text_of(self.alloc, self.word.as_slice())?;
         self.word.clear();
@@ -103,7 +103,7 @@ impl Reader {
     }
 
     fn push_token(&mut self, place: Place, token: Token) -> Result<(), LineFault>
-        ensures { Leaves result (Ok (reading place self.old.word (self.old.tokens ++ token ∷ []))) self.new }
+        ensures { Leaves result (Ok (reader_at place self.old.word (self.old.tokens ++ token ∷ []))) self.new }
     {
         self.tokens.push(token)?;
         self.place = place;
@@ -111,7 +111,7 @@ impl Reader {
     }
 
     fn push_byte(&mut self, place: Place, b: u8) -> Result<(), LineFault>
-        ensures { Leaves result (Ok (reading place (self.old.word ++ b ∷ []) self.old.tokens)) self.new }
+        ensures { Leaves result (Ok (reader_at place (self.old.word ++ b ∷ []) self.old.tokens)) self.new }
     {
         self.word.push(b)?;
         self.place = place;
@@ -138,7 +138,7 @@ impl Reader {
 
     /// Takes a byte outside a word.
     fn begin(&mut self, at: usize, b: u8) -> Result<(), LineFault>
-        ensures { Leaves result (begun at b self.old.word self.old.tokens) self.new }
+        ensures { Leaves result (step_outside_word at b self.old.word self.old.tokens) self.new }
     {
         if is_blank(b) {
             self.place = Place::Between;
@@ -212,7 +212,7 @@ impl Reader {
     /// Takes the byte at a place of the line.
     fn step(&mut self, at: usize, b: u8) -> Result<(), LineFault>
         requires { b < 128 → IsUtf8 self.old.word }
-        ensures { Leaves result (stepped self.old at b) self.new }
+        ensures { Leaves result (next_reading self.old at b) self.new }
     {
         match self.place {
             Place::Between => self.begin(at, b),
@@ -226,7 +226,7 @@ impl Reader {
     /// The tokens, at the line's end.
     fn finish(self) -> Result<Items<Token>, LineFault>
         requires { IsUtf8 self.word }
-        ensures { Gives result (finished self) }
+        ensures { Gives result (tokens_at_end self) }
     {
         let mut reader = self;
         match reader.place {
@@ -245,7 +245,7 @@ impl Reader {
 /// The tokens of a line.
 pub fn tokens(alloc: Global, line: &str) -> Result<Items<Token>, LineFault>
     // Tokens that are written are read again.
-    ensures again { (ts : List AnyToken) → AreTokens ts → line.now ≡ written ts → Gives result (Ok ts) }
+    ensures again { (ts : List AnyToken) → AreTokens ts → line.now ≡ text_of_tokens ts → Gives result (Ok ts) }
     ensures exact { Gives result (tokens_of line.now) }
 {
     read_tokens(alloc, line)

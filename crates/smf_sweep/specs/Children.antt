@@ -1,6 +1,6 @@
 -- The list of children: a line for each, with the number of its session, when its first process was started, and the
 -- boot.
-use Rattle.std.specs.Prelude.{ℕ, List, [], ◌∷◌, nat_eq, nat_lt, ◌==◌, if◌then◌else◌, Option, Some, None}
+use Rattle.std.specs.Prelude.{ℕ, List, [], nat_eq, nat_lt, if◌then◌else◌, Option, Some, None}
 use Rattle.std.specs.Cmp.Lexicographic.{pointwise}
 use Rattle.std.specs.List.{filter_map}
 use Rattle.std.specs.Str.Lines.{lines}
@@ -20,13 +20,14 @@ with_boot boot None child = None
 with_boot boot (Some told) child = if pointwise nat_eq told boot then child else None
 
 -- the child of a number, by what its line says after that: when it was started, and the boot
-abbrev pub started : List ℕ → Option ℕ → Option (List ℕ) → Option Child
-started boot number None = None
-started boot number (Some rest) = with_boot boot (split_field rest).1 (child_of number (read_count (split_field rest).0))
+abbrev pub child_by_rest : List ℕ → Option ℕ → Option (List ℕ) → Option Child
+child_by_rest boot number None = None
+child_by_rest boot number (Some rest) =
+    with_boot boot (split_field rest).1 (child_of number (read_count (split_field rest).0))
 
 -- the child that a line names
 abbrev pub read_child : List ℕ → List ℕ → Option Child
-read_child boot line = started boot (read_count (split_field line).0) (split_field line).1
+read_child boot line = child_by_rest boot (read_count (split_field line).0) (split_field line).1
 
 -- the children that a text names; no list is there, and there are none
 abbrev pub children_of : List ℕ → Option (List ℕ) → List Child

@@ -1,5 +1,5 @@
 pub mod Children
-pub mod Leaving
-pub mod Tellings
-pub mod Sweeping
+pub mod Leftovers
+pub mod Replies
+pub mod Sweeps
 pub mod Words

@@ -2,8 +2,8 @@
 ghost use Rattle.std.specs.Prelude.{◌≡◌, IfOk};
 ghost use Rattle.std.specs.List.{filter_map};
 ghost use Rattle.std.specs.Str.Lines.{lines};
-ghost use Rattle.smf_state.specs.Fields.{seen};
-ghost use Rattle.smf_sweep.specs.Children.{child_of, read_child, started, with_boot};
+ghost use Rattle.smf_state.specs.Fields.{text_of_borrow};
+ghost use Rattle.smf_sweep.specs.Children.{child_of, read_child, child_by_rest, with_boot};
 
 use smf_fmri::read_count;
 use smf_state::field_at;
@@ -30,7 +30,7 @@ fn child_of(number: Option<u64>, start: Option<u64>) -> Option<Child>
 
 /// A child, if its line ends with the system's boot.
 fn with_boot(told: Option<&str>, boot: &str, child: Option<Child>) -> Option<Child>
-    ensures { result ≡ with_boot boot.now (seen told.entry) child }
+    ensures { result ≡ with_boot boot.now (text_of_borrow told.entry) child }
 {
     match told {
         Some(told) if told == boot => child,
@@ -40,8 +40,8 @@ fn with_boot(told: Option<&str>, boot: &str, child: Option<Child>) -> Option<Chi
 }
 
 /// The child of a number, by what its line says after that.
-fn started(number: Option<u64>, rest: Option<&str>, boot: &str) -> Option<Child>
-    ensures { result ≡ started boot.now number (seen rest.entry) }
+fn child_by_rest(number: Option<u64>, rest: Option<&str>, boot: &str) -> Option<Child>
+    ensures { result ≡ child_by_rest boot.now number (text_of_borrow rest.entry) }
 {
     let (start, told) = field_at(rest)?;
     with_boot(told, boot, child_of(number, read_count(start)))
@@ -52,7 +52,7 @@ fn read_child(line: &str, boot: &str) -> Option<Child>
     ensures { result ≡ read_child boot.now line.now }
 {
     let (number, rest) = field_at(Some(line))?;
-    started(read_count(number), rest, boot)
+    child_by_rest(read_count(number), rest, boot)
 }
 
 /// The children that a list names, of those that were started since the system's boot.

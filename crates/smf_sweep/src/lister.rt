@@ -1,11 +1,11 @@
 ghost use Rattle.std.specs.Prelude.{◌≡◌, IfErr, IfOk, string_bytes, true};
-ghost use Rattle.smf_sweep.specs.Sweeping.{IsClosed, StopsRun, WasCleared};
+ghost use Rattle.smf_sweep.specs.Sweeps.{IsClosed, StopsRun, WasCleared};
 ghost use Rattle.smf_sweep.specs.declared.lister.TheConstants.{MOST};
 
 use crate::fault::SweepFault;
 use crate::rounds::{clear, close};
 use crate::survey::Survey;
-use crate::words::{FIRST, is_method, listed};
+use crate::words::{FIRST, is_method, program_with_line};
 use std::alloc::{Allocator, Global};
 use std::io;
 use std::process::{Child, Command as Program, Processes, Stdio};
@@ -55,7 +55,9 @@ impl<S: Survey + Drop> Lister<S> {
 
     /// Removes the list, if none is left of the children that it names. Says whether it did.
     pub fn close(&mut self) -> Result<bool, SweepFault>
-        ensures closed { IfOk result (λ closed. closed ≡ true → IsClosed S.tells (string_bytes self.old.place.list) (string_bytes self.old.boot) self.old.system self.new.system) }
+        ensures closed { IfOk result (λ closed. closed ≡ true
+            → IsClosed S.tells (string_bytes self.old.place.list)
+            (string_bytes self.old.boot) self.old.system self.new.system) }
     {
         close(
             self.alloc,
@@ -80,7 +82,7 @@ impl<S: Survey + Processes> Processes for Lister<S> {
         if !is_method(command) {
             return self.system.spawn(command, stdin, stdout, stderr);
         }
-        let program = listed(
+        let program = program_with_line(
             self.alloc,
             command,
             FIRST,

@@ -1,7 +1,7 @@
 // Processes of the system, and which of them are left of children.
 ghost use Rattle.std.specs.Prelude.{◌≡◌, IfOk, filter};
 ghost use Rattle.std.specs.List.{list_any};
-ghost use Rattle.smf_sweep.specs.Leaving.{has_number, is_child, is_held, is_left, is_marked, is_member, left_of};
+ghost use Rattle.smf_sweep.specs.Leftovers.{has_number, is_child, is_held, is_left, is_marked, is_member, left_of};
 
 use crate::child::Child;
 use std::alloc::{AllocError, Global};

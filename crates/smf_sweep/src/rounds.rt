@@ -2,8 +2,8 @@
 ghost use Rattle.std.specs.Prelude.{◌≡◌, ◌≢◌, ◌⊎◌, [], IfErr, IfOk, OnOk, false, true, option_map, string_bytes};
 ghost use Rattle.smf_sweep.specs.Children.{children_of};
 ghost use Rattle.smf_sweep.specs.declared.fault.SweepFault.TheVariants.{Memory, Unanswered, Unread};
-ghost use Rattle.smf_sweep.specs.Tellings.{NoAnswer};
-ghost use Rattle.smf_sweep.specs.Sweeping.{FindsSome, HasNone, IsAsked, IsCleared, IsClosed, IsRound, IsSwept, IsUnread, StopsRound, StopsRun, StopsSweep};
+ghost use Rattle.smf_sweep.specs.Replies.{NoAnswer};
+ghost use Rattle.smf_sweep.specs.Sweeps.{FindsSome, HasNone, IsAsked, IsCleared, IsClosed, IsRound, IsSwept, IsUnread, StopsRound, StopsRun, StopsSweep};
 
 use crate::child::{Child, children_in};
 use crate::fault::{SweepFault, fault_of};
@@ -19,7 +19,8 @@ fn look<S: Survey>(
     children: &[Child],
 ) -> Result<Vec<Process>, SweepFault>
     ensures none { IfOk result (λ left. left.items ≡ [] → HasNone S.tells children.now survey.old survey.new) }
-    ensures some { IfOk result (λ left. left.items ≢ [] → FindsSome S.tells children.now left.items survey.old survey.new) }
+    ensures some { IfOk result (λ left. left.items ≢ []
+        → FindsSome S.tells children.now left.items survey.old survey.new) }
     ensures stopped { IfErr result (λ e. (e ≡ Memory) ⊎ ((e ≡ Unanswered) × S.tells survey.old NoAnswer survey.new)) }
 {
     if children.is_empty() {

@@ -1,6 +1,6 @@
 // The questions that the system is asked for an older run.
-ghost use Rattle.std.specs.Prelude.{◌≡◌, IfOk, OnErr, OnOk, option_map, string_bytes};
-ghost use Rattle.smf_sweep.specs.Tellings.{Telling, Booted, Listed, Looked, Ended, Emptied, Removed, NoAnswer};
+ghost use Rattle.std.specs.Prelude.{IfOk, OnErr, OnOk, option_map, string_bytes};
+ghost use Rattle.smf_sweep.specs.Replies.{Telling, Booted, Listed, Looked, Ended, Emptied, Removed, NoAnswer};
 
 use crate::child::Child;
 use crate::process::Process;

@@ -99,7 +99,7 @@ fn add_words<B: Allocator + Clone>(
 
 /// A method's program, which writes its line first. Its variables are the four of a method, as far as the program sets
 /// them.
-pub(crate) fn listed<B: Allocator + Clone>(
+pub(crate) fn program_with_line<B: Allocator + Clone>(
     alloc: Global,
     command: &Program<B>,
     first: &str,
@@ -110,7 +110,9 @@ pub(crate) fn listed<B: Allocator + Clone>(
 ) -> Result<Program, AllocError>
     ensures clears { IfOk result (λ c. clears_env c ≡ true) }
     ensures program { IfOk result (λ c. command_program c ≡ codes "/usr/bin/setsid") }
-    ensures args { IfOk result (λ c. command_args c ≡ first_words first.now list.now lock.now number.now boot.now ++ command_args command.now) }
+    ensures args { IfOk result
+        (λ c. command_args c ≡ first_words first.now list.now lock.now number.now boot.now
+        ++ command_args command.now) }
     ensures alone { IfOk result (λ c. (name : List ℕ) → IsOther name → command_var c name ≡ None) }
 {
     let mut program = bare(alloc, first, list, lock, number, boot)?;

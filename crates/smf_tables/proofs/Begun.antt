@@ -25,27 +25,57 @@ begins_1 s a = (behind s 1, ap (with_tables s) (cut s.tables 0 meta a))
 
 pub begins_2 : (s : Schema) → StandsAt s 0 meta → StandsAt s 1 service → Begins begun_2 s
 unfolding Begins with_tables behind
-begins_2 s a b = (behind s 2, ap (with_tables s) (cut s.tables 0 meta a ∙ ap (λ l. meta ∷ l) (cut s.tables 1 service b)))
+begins_2 s a b =
+    (behind s 2, ap (with_tables s) (cut s.tables 0 meta a ∙ ap (λ l. meta ∷ l) (cut s.tables 1 service b)))
 
 pub begins_3 : (s : Schema) → StandsAt s 0 meta → StandsAt s 1 service → StandsAt s 2 instance → Begins begun_3 s
 unfolding Begins with_tables behind
-begins_3 s a b c =
-    (behind s 3, ap (with_tables s) (cut s.tables 0 meta a ∙ ap (λ l. meta ∷ l) (cut s.tables 1 service b ∙ ap (λ l. service ∷ l) (cut s.tables 2 instance c))))
+begins_3 s a b c = (
+  behind s 3,
+  ap (with_tables s)
+      (cut s.tables 0 meta a
+      ∙ ap (λ l. meta ∷ l) (cut s.tables 1 service b ∙ ap (λ l. service ∷ l) (cut s.tables 2 instance c))),
+)
 
-pub begins_4 : (s : Schema) → StandsAt s 0 meta → StandsAt s 1 service → StandsAt s 2 instance → StandsAt s 3 grp → Begins begun_4 s
+pub begins_4 : (s : Schema) → StandsAt s 0 meta → StandsAt s 1 service → StandsAt s 2 instance → StandsAt s 3 grp
+    → Begins begun_4 s
 unfolding Begins with_tables behind
-begins_4 s a b c d =
-    (behind s 4, ap (with_tables s) (cut s.tables 0 meta a ∙ ap (λ l. meta ∷ l) (cut s.tables 1 service b ∙ ap (λ l. service ∷ l) (cut s.tables 2 instance c ∙ ap (λ l. instance ∷ l) (cut s.tables 3 grp d)))))
+begins_4 s a b c d = (
+  behind s 4,
+  ap (with_tables s)
+      (cut s.tables 0 meta a
+      ∙ ap (λ l. meta ∷ l)
+      (cut s.tables 1 service b
+      ∙ ap (λ l. service ∷ l) (cut s.tables 2 instance c ∙ ap (λ l. instance ∷ l) (cut s.tables 3 grp d)))),
+)
 
-pub begins_5 : (s : Schema) → StandsAt s 0 meta → StandsAt s 1 service → StandsAt s 2 instance → StandsAt s 3 grp → StandsAt s 4 snap → Begins begun_5 s
+pub begins_5 : (s : Schema) → StandsAt s 0 meta → StandsAt s 1 service → StandsAt s 2 instance → StandsAt s 3 grp
+    → StandsAt s 4 snap → Begins begun_5 s
 unfolding Begins with_tables behind
-begins_5 s a b c d e =
-    (behind s 5, ap (with_tables s) (cut s.tables 0 meta a ∙ ap (λ l. meta ∷ l) (cut s.tables 1 service b ∙ ap (λ l. service ∷ l) (cut s.tables 2 instance c ∙ ap (λ l. instance ∷ l) (cut s.tables 3 grp d ∙ ap (λ l. grp ∷ l) (cut s.tables 4 snap e))))))
+begins_5 s a b c d e = (
+  behind s 5,
+  ap (with_tables s)
+      (cut s.tables 0 meta a
+      ∙ ap (λ l. meta ∷ l)
+      (cut s.tables 1 service b
+      ∙ ap (λ l. service ∷ l) (cut s.tables 2 instance c
+      ∙ ap (λ l. instance ∷ l) (cut s.tables 3 grp d ∙ ap (λ l. grp ∷ l) (cut s.tables 4 snap e))))),
+)
 
-pub begins_6 : (s : Schema) → StandsAt s 0 meta → StandsAt s 1 service → StandsAt s 2 instance → StandsAt s 3 grp → StandsAt s 4 snap → StandsAt s 5 restarter → Begins begun_6 s
+pub begins_6 : (s : Schema) → StandsAt s 0 meta → StandsAt s 1 service → StandsAt s 2 instance → StandsAt s 3 grp
+    → StandsAt s 4 snap → StandsAt s 5 restarter → Begins begun_6 s
 unfolding Begins with_tables behind
-begins_6 s a b c d e f =
-    (behind s 6, ap (with_tables s) (cut s.tables 0 meta a ∙ ap (λ l. meta ∷ l) (cut s.tables 1 service b ∙ ap (λ l. service ∷ l) (cut s.tables 2 instance c ∙ ap (λ l. instance ∷ l) (cut s.tables 3 grp d ∙ ap (λ l. grp ∷ l) (cut s.tables 4 snap e ∙ ap (λ l. snap ∷ l) (cut s.tables 5 restarter f)))))))
+begins_6 s a b c d e f = (
+  behind s 6,
+  ap (with_tables s)
+      (cut s.tables 0 meta a
+      ∙ ap (λ l. meta ∷ l)
+      (cut s.tables 1 service b
+      ∙ ap (λ l. service ∷ l) (cut s.tables 2 instance c
+      ∙ ap (λ l. instance ∷ l)
+      (cut s.tables 3 grp d
+      ∙ ap (λ l. grp ∷ l) (cut s.tables 4 snap e ∙ ap (λ l. snap ∷ l) (cut s.tables 5 restarter f)))))),
+)
 
 -- a store begins with each of these
 pub record OfStore (s : Schema) : Type 0 where

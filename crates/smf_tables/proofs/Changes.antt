@@ -1,7 +1,6 @@
 -- The effect of DELETE and INSERT on the rows of any table on which no foreign key acts. No lemma here needs the order
 -- of the rows.
 use Rattle.std.proofs.Common.{◌≡◌, ◌≢◌, ◌⊎◌, inl, inr, ℕ, ℤ, List, [], ◌∷◌, None, Ok, Err, Option, Result, refl, sym, ap, subst, ◌∙◌, Bool, true, false, cond, true≢false, nat_le, fold}
-use Rattle.std.specs.List.{list_all, list_any}
 use Rattle.std.specs.Ordering.{is_eq}
 use Rattle.std.proofs.lemmas.Bool.{and_parts, not-true}
 use Rattle.sqlite.specs.declared.types.Value.TheVariants.{Int, Null}
@@ -51,13 +50,17 @@ has_id (y ∷ all) x i keyed (inl same) = inl (sym (ap (λ z. id_in (rowid z)) (
 has_id (y ∷ all) x i keyed (inr more) = inr (has_id all x i keyed more)
 
 pub no_tables : (db : Trees) (t : ℕ) → overlay db [] t ≡ db t
-no_tables db t = elim (nat_le 2147483648 t) as (λ b. Rattle.std.specs.Prelude.unwrap_or (cond b None None) (db t) ≡ db t) [ true ↦ refl | false ↦ refl ]
+no_tables db t =
+    elim (nat_le 2147483648 t) as (λ b. Rattle.std.specs.Prelude.unwrap_or (cond b None None) (db t) ≡ db t)
+    [ true ↦ refl | false ↦ refl ]
 
 -- a test of a WHERE looks at columns alone
 abbrev pub LooksAtColumns : List Term → Row → Type 0
 LooksAtColumns filter params = (a b : Row) → SameColumns a b → is_picked filter params a ≡ is_picked filter params b
 
-pub loses : (db : Trees) (tree : ℕ) (filter : List Term) (params : Row) (found : List Row) → LooksAtColumns filter params → IsKeyed (db tree) → AreShown (overlay db []) tree filter (col 1 0 ∷ []) params found
+pub loses : (db : Trees) (tree : ℕ) (filter : List Term) (params : Row) (found : List Row)
+    → LooksAtColumns filter params → IsKeyed (db tree)
+    → AreShown (overlay db []) tree filter (col 1 0 ∷ []) params found
     → Loses (is_picked filter params) (db tree) (without_all (db tree) (ids_of found))
 loses db tree filter params found looks keyed shown =
     let rows = db tree in
@@ -68,7 +71,8 @@ loses db tree filter params found looks keyed shown =
     let x = from_id found (id_in (rowid r)) m in
     let s = shown.sound x.0 x.1 in
     let there : Has rows s.0 = subst (λ l. Has l s.0) same s.1 in
-    let equal : rowid r ≡ rowid s.0 = id_is r h ∙ ap Int (x.2 ∙ ap (λ y. id_in (rowid y)) s.3) ∙ sym (id_is s.0 there) in
+    let equal : rowid r ≡ rowid s.0 = id_is r h ∙ ap Int (x.2 ∙ ap (λ y. id_in (rowid y)) s.3)
+    ∙ sym (id_is s.0 there) in
     true≢false (sym s.2 ∙ sym (looks r s.0 (keyed.one r s.0 h there equal)) ∙ fails) in
     record {
       was = λ r h.
@@ -76,19 +80,27 @@ loses db tree filter params found looks keyed shown =
             old,
             elim (passes r) as (λ b. passes r ≡ b → passes r ≡ false) [
               | true ↦ λ is. absurd (none_left (ids_of found) (id_in (rowid r)) rows r (id_is r old)
-                  (has_id found (rowid r ∷ []) (id_in (rowid r)) (id_is r old) (shown.complete r (subst (λ l. Has l r) (sym same) old) is)) h)
+                  (has_id found (rowid r ∷ []) (id_in (rowid r)) (id_is r old)
+                  (shown.complete r (subst (λ l. Has l r) (sym same) old) is)) h)
               | false ↦ λ is. is
             ] refl,
           );
       stays = λ r h fails. stays_left (ids_of found) (id_in (rowid r)) rows r (id_is r h) (spared r h fails) h;
-      keyed = record { ints = λ r h. keyed.ints r (without_all_has (ids_of found) rows r h); one = λ a b ha hb. keyed.one a b (without_all_has (ids_of found) rows a ha) (without_all_has (ids_of found) rows b hb) };
+      keyed = record {
+        ints = λ r h. keyed.ints r (without_all_has (ids_of found) rows r h);
+        one = λ a b ha hb. keyed.one a b (without_all_has (ids_of found) rows a ha)
+            (without_all_has (ids_of found) rows b hb);
+      };
     }
 
 untaken : (rows : List Row) (new r : Row) → is_taken rows new ≡ false → Has rows r → rowid r ≡ rowid new → ⊥
 untaken rows new r free there same =
-    true≢false (sym (has_any (λ x. is_eq (value_cmp (rowid x) (rowid new))) rows r there (ap (λ v. is_eq (value_cmp v (rowid new))) same ∙ ap is_eq (tied_itself value_cmp_total (rowid new)))) ∙ free)
+    true≢false (sym
+    (has_any (λ x. is_eq (value_cmp (rowid x) (rowid new))) rows r there
+    (ap (λ v. is_eq (value_cmp v (rowid new))) same ∙ ap is_eq (tied_itself value_cmp_total (rowid new)))) ∙ free)
 
-pub gains : (rows : List Row) (new : Row) → IsKeyed rows → is_int (rowid new) ≡ true → are_fresh rows (new ∷ []) ≡ true → Gains new rows (put_row new rows)
+pub gains : (rows : List Row) (new : Row) → IsKeyed rows → is_int (rowid new) ≡ true
+    → are_fresh rows (new ∷ []) ≡ true → Gains new rows (put_row new rows)
 gains rows new keyed int fresh =
     let free = not-true _ (and_parts _ _ fresh).0 in
     let was : (r : Row) → Has (put_row new rows) r → (r ≡ new) ⊎ Has rows r = put_has new rows in
@@ -100,8 +112,14 @@ gains rows new keyed int fresh =
       keyed = record {
         ints = λ r h. elim (was r h) [ inl same ↦ ap (λ x. is_int (rowid x)) same ∙ int | inr old ↦ keyed.ints r old ];
         one = λ a b ha hb same. elim (was a ha) [
-          | inl a_new ↦ elim (was b hb) [ inl b_new ↦ λ at small. ap (λ x. column x at) (a_new ∙ sym b_new) | inr b_old ↦ absurd (untaken rows new b free b_old (sym same ∙ ap rowid a_new)) ]
-          | inr a_old ↦ elim (was b hb) [ inl b_new ↦ absurd (untaken rows new a free a_old (same ∙ ap rowid b_new)) | inr b_old ↦ keyed.one a b a_old b_old same ]
+          | inl a_new ↦ elim (was b hb) [
+            | inl b_new ↦ λ at small. ap (λ x. column x at) (a_new ∙ sym b_new)
+            | inr b_old ↦ absurd (untaken rows new b free b_old (sym same ∙ ap rowid a_new))
+          ]
+          | inr a_old ↦ elim (was b hb) [
+            | inl b_new ↦ absurd (untaken rows new a free a_old (same ∙ ap rowid b_new))
+            | inr b_old ↦ keyed.one a b a_old b_old same
+          ]
         ];
       };
     }
@@ -114,7 +132,9 @@ module _ (limit : Option ℕ) (keys : Keys) (schema : Schema) (table : Table) (p
   abbrev pub Spares : Trees → Trees → Type 0
   Spares old new = AllByRecursion (λ t. t.tree ≢ table.tree → new t.tree ≡ old t.tree) schema.tables
 
-  pub deletes : (db : Trees) (filter : List Term) (w : Written) → LooksAtColumns filter params → IsKeyed (db table.tree) → Deletes task (record { lets = []; body = rows_query table.tree filter (col 1 0 ∷ []) }) db (Ok w)
+  pub deletes : (db : Trees) (filter : List Term) (w : Written) → LooksAtColumns filter params
+      → IsKeyed (db table.tree)
+      → Deletes task (record { lets = []; body = rows_query table.tree filter (col 1 0 ∷ []) }) db (Ok w)
       → Loses (is_picked filter params) (db table.tree) (w.trees table.tree) × Spares db w.trees
   deletes db filter w looks keyed h =
       let found = went h in
@@ -123,18 +143,23 @@ module _ (limit : Option ℕ) (keys : Keys) (schema : Schema) (table : Table) (p
       let applies = one_step schema keys db step.0 edit (acts (taken_by db edit) edit.news) step.1 in
       let shown = are_shown (overlay db []) [] table.tree filter (col 1 0 ∷ []) params found.0 (found.1.answer Null) in
       let trees : w.trees ≡ step.0 = ap (λ (x : Written). x.trees) (same_value step.2) in (
-        subst (Loses (is_picked filter params) (db table.tree)) (sym (ap (λ (t : Trees). t table.tree) trees ∙ applies.rows)) (loses db table.tree filter params found.0 looks keyed shown),
+        subst (Loses (is_picked filter params) (db table.tree))
+            (sym (ap (λ (t : Trees). t table.tree) trees ∙ applies.rows))
+            (loses db table.tree filter params found.0 looks keyed shown),
         subst (Spares db) (sym trees) applies.tables,
       )
 
-  no_count : (db : Trees) (counter : Option Row) (top : ℤ) (out : Outcome Trees) → table.is_counted ≡ false → Counts task db counter top out → out ≡ Ok db
+  no_count : (db : Trees) (counter : Option Row) (top : ℤ) (out : Outcome Trees) → table.is_counted ≡ false
+      → Counts task db counter top out → out ≡ Ok db
   no_count db counter top out uncounted h = rw uncounted at h
 
   -- INSERT of one row that the statement gives, which the columns cast to `made` with its rowid
   pub inserts : (db : Trees) (from : Source) (source made : Row) (w : Written) → table.is_counted ≡ false
-      → ((rows : List Row) → IsSource (record { schema = schema; trees = db }) (stamped table params) from rows → rows ≡ source ∷ [])
+      → ((rows : List Row) → IsSource (record { schema = schema; trees = db }) (stamped table params) from rows
+      → rows ≡ source ∷ [])
       → with_rowid Chosen (db table.tree) (cast_row table source) ≡ made
-      → IsKeyed (db table.tree) → Inserts task from db (Ok w) → Gains made (db table.tree) (w.trees table.tree) × Spares db w.trees
+      → IsKeyed (db table.tree) → Inserts task from db (Ok w)
+      → Gains made (db table.tree) (w.trees table.tree) × Spares db w.trees
   inserts db from source made w uncounted given cast keyed h =
       let rows = went h in
       let counter = went rows.2 in
@@ -143,10 +168,15 @@ module _ (limit : Option ℕ) (keys : Keys) (schema : Schema) (table : Table) (p
       let edit = edit_of db table [] (rowids_for table (count_of counter.0)) 0 rows.0 in
       let applies = one_step schema keys db step.0 edit (acts (taken_by db edit) edit.news) step.1 in
       let news : edit.news ≡ made ∷ [] =
-      ap (λ b. (edit_of db table [] (cond b (Above (count_of counter.0)) Chosen) 0 rows.0).news) uncounted ∙ ap (λ all. (edit_of db table [] Chosen 0 all).news) (given rows.0 rows.1) ∙ ap (λ r. r ∷ []) cast in
+      ap (λ b. (edit_of db table [] (cond b (Above (count_of counter.0)) Chosen) 0 rows.0).news) uncounted
+      ∙ ap (λ all. (edit_of db table [] Chosen 0 all).news) (given rows.0 rows.1) ∙ ap (λ r. r ∷ []) cast in
       let ended = no_count step.0 counter.0 (fold higher (count_of counter.0) edit.news) (Ok last.0) uncounted last.1 in
       let trees : w.trees ≡ step.0 = ap (λ (x : Written). x.trees) (same_value last.2) ∙ same_value ended in
-      let now : w.trees table.tree ≡ put_row made (db table.tree) = ap (λ (t : Trees). t table.tree) trees ∙ applies.rows ∙ ap (put_all (db table.tree)) news in
-      let fresh : are_fresh (db table.tree) (made ∷ []) ≡ true = ap (are_fresh (db table.tree)) (sym news) ∙ applies.fresh in
-      let int : is_int (rowid made) ≡ true = (and_parts _ _ (ap have_rowids (sym news) ∙ applies.keyed)).0 in
-      (subst (Gains made (db table.tree)) (sym now) (gains (db table.tree) made keyed int fresh), subst (Spares db) (sym trees) applies.tables)
+      let now : w.trees table.tree ≡ put_row made (db table.tree) =
+      ap (λ (t : Trees). t table.tree) trees ∙ applies.rows ∙ ap (put_all (db table.tree)) news in
+      let fresh : are_fresh (db table.tree) (made ∷ []) ≡ true =
+      ap (are_fresh (db table.tree)) (sym news) ∙ applies.fresh in
+      let int : is_int (rowid made) ≡ true = (and_parts _ _ (ap have_rowids (sym news) ∙ applies.keyed)).0 in (
+        subst (Gains made (db table.tree)) (sym now) (gains (db table.tree) made keyed int fresh),
+        subst (Spares db) (sym trees) applies.tables,
+      )

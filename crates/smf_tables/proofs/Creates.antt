@@ -11,7 +11,8 @@ use Rattle.smf_tables.specs.Schema.{no_schema, one_table, two_tables, three_tabl
 abbrev pub meta_text : List ℕ
 meta_text = codes "CREATE TABLE meta (k TEXT PRIMARY KEY, v INTEGER NOT NULL) STRICT"
 
-pub meta_runs : (command_of (understood no_schema meta_text) ≡ CreateTable) × (statement_of meta_text (understood no_schema meta_text) ≡ meta_text)
+pub meta_runs : (command_of (understood no_schema meta_text) ≡ CreateTable)
+    × (statement_of meta_text (understood no_schema meta_text) ≡ meta_text)
 unfolding understood everything
 meta_runs = (refl, refl)
 
@@ -26,7 +27,8 @@ meta_is = refl
 abbrev pub service_text : List ℕ
 service_text = codes "CREATE TABLE service (name TEXT PRIMARY KEY) STRICT"
 
-pub service_runs : (command_of (understood one_table service_text) ≡ CreateTable) × (statement_of service_text (understood one_table service_text) ≡ service_text)
+pub service_runs : (command_of (understood one_table service_text) ≡ CreateTable)
+    × (statement_of service_text (understood one_table service_text) ≡ service_text)
 unfolding understood everything
 service_runs = (refl, refl)
 
@@ -39,9 +41,11 @@ unfolding understood everything
 service_is = refl
 
 abbrev pub instance_text : List ℕ
-instance_text = codes "CREATE TABLE instance (id INTEGER PRIMARY KEY, service TEXT NOT NULL REFERENCES service(name), name TEXT NOT NULL, rowtext TEXT NOT NULL, start_snap INTEGER, previous_snap INTEGER, UNIQUE(service, name)) STRICT"
+instance_text =
+    codes "CREATE TABLE instance (id INTEGER PRIMARY KEY, service TEXT NOT NULL REFERENCES service(name), name TEXT NOT NULL, rowtext TEXT NOT NULL, start_snap INTEGER, previous_snap INTEGER, UNIQUE(service, name)) STRICT"
 
-pub instance_runs : (command_of (understood two_tables instance_text) ≡ CreateTable) × (statement_of instance_text (understood two_tables instance_text) ≡ instance_text)
+pub instance_runs : (command_of (understood two_tables instance_text) ≡ CreateTable)
+    × (statement_of instance_text (understood two_tables instance_text) ≡ instance_text)
 unfolding understood everything
 instance_runs = (refl, refl)
 
@@ -54,9 +58,11 @@ unfolding understood everything
 instance_is = refl
 
 abbrev pub grp_text : List ℕ
-grp_text = codes "CREATE TABLE grp (service TEXT NOT NULL, instance INTEGER NOT NULL, name TEXT NOT NULL, body BLOB NOT NULL, PRIMARY KEY(service, instance, name)) STRICT"
+grp_text = codes
+    "CREATE TABLE grp (service TEXT NOT NULL, instance INTEGER NOT NULL, name TEXT NOT NULL, body BLOB NOT NULL, PRIMARY KEY(service, instance, name)) STRICT"
 
-pub grp_runs : (command_of (understood three_tables grp_text) ≡ CreateTable) × (statement_of grp_text (understood three_tables grp_text) ≡ grp_text)
+pub grp_runs : (command_of (understood three_tables grp_text) ≡ CreateTable)
+    × (statement_of grp_text (understood three_tables grp_text) ≡ grp_text)
 unfolding understood everything
 grp_runs = (refl, refl)
 
@@ -71,7 +77,8 @@ grp_is = refl
 abbrev pub snap_text : List ℕ
 snap_text = codes "CREATE TABLE snap (id INTEGER PRIMARY KEY, instance INTEGER NOT NULL, body BLOB NOT NULL) STRICT"
 
-pub snap_runs : (command_of (understood four_tables snap_text) ≡ CreateTable) × (statement_of snap_text (understood four_tables snap_text) ≡ snap_text)
+pub snap_runs : (command_of (understood four_tables snap_text) ≡ CreateTable)
+    × (statement_of snap_text (understood four_tables snap_text) ≡ snap_text)
 unfolding understood everything
 snap_runs = (refl, refl)
 
@@ -86,7 +93,8 @@ snap_is = refl
 abbrev pub restarter_text : List ℕ
 restarter_text = codes "CREATE TABLE restarter (name TEXT PRIMARY KEY, launch INTEGER NOT NULL) STRICT"
 
-pub restarter_runs : (command_of (understood five_tables restarter_text) ≡ CreateTable) × (statement_of restarter_text (understood five_tables restarter_text) ≡ restarter_text)
+pub restarter_runs : (command_of (understood five_tables restarter_text) ≡ CreateTable)
+    × (statement_of restarter_text (understood five_tables restarter_text) ≡ restarter_text)
 unfolding understood everything
 restarter_runs = (refl, refl)
 

@@ -15,7 +15,7 @@ use Rattle.sqlite.specs.State.{State, Shown, Shows, ShowsRows, IsUnchanged, IsRo
 use Rattle.sqlite.proofs.Callers.{IsPlain, command_of, reads_as}
 use Rattle.sqlite_rules.specs.Lists.{Has}
 use Rattle.sqlite_rules.proofs.ListLemmas.{has_at}
-use Rattle.smf_tables.specs.declared.looking.NameColumns.{NameColumns}
+use Rattle.smf_tables.specs.declared.lookups.NameColumns.{NameColumns}
 use Rattle.smf_tables.specs.Rows.{equal, is_picked}
 use Rattle.smf_tables.specs.Statements.{ReadsName, FindsService}
 use Rattle.smf_tables.proofs.Answers.{ordered_query, AreShown, are_shown}
@@ -28,38 +28,53 @@ kept old new same = record { was_open = λ _. same.0.was_open; committed = λ _.
 undone : (old new : State) → IsRolledBack old new → KeepsCommit old new
 undone old new back = record { was_open = back.was_open; committed = λ o. (back.undone o).1 }
 
-runs_none : (old new : State) (text : List ℕ) (c : Compiled) (params : Row) (e : Error) → RunsCommand old new text c params (Err e) → KeepsCommit old new
+runs_none : (old new : State) (text : List ℕ) (c : Compiled) (params : Row) (e : Error)
+    → RunsCommand old new text c params (Err e) → KeepsCommit old new
 runs_none old new text c params e (inl refused) = kept old new refused.1
 runs_none old new text c params e (inr failed) = undone old new failed.3
 
-shows_none : (old new : State) (text : List ℕ) (c : Compiled) (params : Row) (e : Error) (what : Option Returning) → FailsToShow old new text c params e what → KeepsCommit old new
+shows_none : (old new : State) (text : List ℕ) (c : Compiled) (params : Row) (e : Error) (what : Option Returning)
+    → FailsToShow old new text c params e what → KeepsCommit old new
 shows_none old new text c params e None h = kept old new h.3
 shows_none old new text c params e (Some what) h = runs_none old new text c params e h
 
 -- a query that fails commits nothing
-pub fails_kept : (text : List ℕ) (params : Row) (old new : State) (e : Error) → FailsToQuery text params old new e ⊎ IsTooLate text params old new e → KeepsCommit old new
+pub fails_kept : (text : List ℕ) (params : Row) (old new : State) (e : Error)
+    → FailsToQuery text params old new e ⊎ IsTooLate text params old new e → KeepsCommit old new
 unfolding FailsToQuery IsNotRun
 fails_kept text params old new e (inl (inl (inl unread))) = kept old new unread.1
 fails_kept text params old new e (inl (inl (inr failed))) = undone old new failed.3
 fails_kept text params old new e (inl (inr h)) = shows_none old new text h.0 _ e h.0.returning h.2
 fails_kept text params old new e (inr late) = kept old new late.5
 
-shown_by : (old new : State) (text : List ℕ) (c : Compiled) (params : Row) (rows : List Row) (what : Option Returning) → IsTrue old.in_transaction → ShowsRows old new text c params rows what
+shown_by : (old new : State) (text : List ℕ) (c : Compiled) (params : Row) (rows : List Row) (what : Option Returning)
+    → IsTrue old.in_transaction → ShowsRows old new text c params rows what
     → Shows old new new.now old.committed true
-shown_by old new text c params rows None on h = let s = h.3.0 in record { was_open = s.was_open; is_open = s.is_open; now_is = refl; committed_is = s.committed_is; mode = s.mode ∙ on }
+shown_by old new text c params rows None on h = let s = h.3.0 in
+    record {
+      was_open = s.was_open;
+      is_open = s.is_open;
+      now_is = refl;
+      committed_is = s.committed_is;
+      mode = s.mode ∙ on;
+    }
 shown_by old new text c params rows (Some what) on h =
     subst (λ b. Shows old new new.now (if b then old.committed else new.now) b) on h.1.shown
 
 -- a query inside a transaction stays inside, and commits nothing
-pub shown_inside : (text : List ℕ) (params : Row) (old new : State) (rows : List Row) → IsTrue old.in_transaction → Shown text params old new rows → Shows old new new.now old.committed true
+pub shown_inside : (text : List ℕ) (params : Row) (old new : State) (rows : List Row) → IsTrue old.in_transaction
+    → Shown text params old new rows → Shows old new new.now old.committed true
 unfolding Shown
 shown_inside text params old new rows on h = shown_by old new text h.0 _ rows h.0.returning on h.2
 
-pub shown_kept : (text : List ℕ) (params : Row) (old new : State) (rows : List Row) → IsTrue old.in_transaction → Shown text params old new rows → KeepsCommit old new
-shown_kept text params old new rows on h = let s = shown_inside text params old new rows on h in record { was_open = λ _. s.was_open; committed = λ _. s.committed_is }
+pub shown_kept : (text : List ℕ) (params : Row) (old new : State) (rows : List Row) → IsTrue old.in_transaction
+    → Shown text params old new rows → KeepsCommit old new
+shown_kept text params old new rows on h = let s = shown_inside text params old new rows on h in
+    record { was_open = λ _. s.was_open; committed = λ _. s.committed_is }
 
 -- a query that is no write leaves all as it was
-pub unchanged : (text : List ℕ) (params : Row) (old new : State) (rows : List Row) → IsPlain (understood old.now.schema text) → Shown text params old new rows → IsUnchanged old new
+pub unchanged : (text : List ℕ) (params : Row) (old new : State) (rows : List Row)
+    → IsPlain (understood old.now.schema text) → Shown text params old new rows → IsUnchanged old new
 unfolding Shown
 unchanged text params old new rows plain h =
     let bare = subst IsPlain h.1.is plain in
@@ -67,12 +82,18 @@ unchanged text params old new rows plain h =
     it.3
 
 module _ {schema : Schema} (text : List ℕ) (params : Row) (old new : State) (order : List (Term × Key)) (tree : ℕ) (tests shown : List Term) (names : List (List ℕ))
-    (is : command_of (understood schema text) ≡ Select (record { lets = []; body = ordered_query order tree tests shown }) names)
-    (plain : IsPlain (understood schema text)) (unlisted : reads_listing schema text ≡ false) (has : old.now.schema ≡ schema) where
+    (is : command_of (understood schema text)
+    ≡ Select (record { lets = []; body = ordered_query order tree tests shown }) names)
+    (plain : IsPlain (understood schema text)) (unlisted : reads_listing schema text ≡ false)
+    (has : old.now.schema ≡ schema) where
   -- the rows that pass are shown, and no other
-  pub shows_rows : (rows : List Row) → Shown text params old new rows → AreShown old.now.trees tree tests shown params rows
+  pub shows_rows : (rows : List Row) → Shown text params old new rows
+      → AreShown old.now.trees tree tests shown params rows
   shows_rows rows seen =
-      let it = are_shown (overlay old.now.trees []) order tree tests shown params rows ((reads_as text params old new schema has (Select (record { lets = []; body = ordered_query order tree tests shown }) names) is plain unlisted rows seen).answer Null) in
+      let it = are_shown (overlay old.now.trees []) order tree tests shown params rows
+      ((reads_as text params old new schema has
+      (Select (record { lets = []; body = ordered_query order tree tests shown }) names) is plain unlisted rows
+      seen).answer Null) in
       let same = no_tables old.now.trees tree in
       record {
         sound = λ x h. let s = it.sound x h in (s.0, subst (λ l. Has l s.0) same s.1, s.2, s.3);
@@ -80,7 +101,8 @@ module _ {schema : Schema} (text : List ℕ) (params : Row) (old new : State) (o
       }
 
   pub same_database : (rows : List Row) → Shown text params old new rows → new.now ≡ old.now
-  same_database rows seen = (unchanged text params old new rows (subst (λ s. IsPlain (understood s text)) (sym has) plain) seen).0.now_is
+  same_database rows seen =
+      (unchanged text params old new rows (subst (λ s. IsPlain (understood s text)) (sym has) plain) seen).0.now_is
 
 pub first_is : {X : Type 0} (rows : List X) (x : X) → 0 < length rows → x ≡ get_or rows 0 x → Has rows x
 first_is rows x within is = has_at rows 0 x within is
@@ -101,33 +123,54 @@ module _ (old new : State) (rows : List Row) (on : IsTrue old.in_transaction) wh
   pub no_name : (id : ℤ) → length rows ≡ 0 → Shown Texts.name_of (Int id ∷ []) old new rows → ReadsName id old new None
   no_name id none seen = record {
     shows = shown_inside Texts.name_of (Int id ∷ []) old new rows on seen;
-    same = λ has. same_database Texts.name_of (Int id ∷ []) old new [] 4 (equal 0 0 ∷ []) (col 1 2 ∷ col 1 3 ∷ []) (codes "service" ∷ codes "name" ∷ []) Texts.name_of_is Texts.name_of_plain Texts.name_of_unlisted has rows seen;
+    same = λ has. same_database Texts.name_of (Int id ∷ []) old new [] 4 (equal 0 0 ∷ []) (col 1 2 ∷ col 1 3 ∷ [])
+        (codes "service" ∷ codes "name" ∷ []) Texts.name_of_is Texts.name_of_plain Texts.name_of_unlisted has rows seen;
     seen = λ has.
-        let all = shows_rows Texts.name_of (Int id ∷ []) old new [] 4 (equal 0 0 ∷ []) (col 1 2 ∷ col 1 3 ∷ []) (codes "service" ∷ codes "name" ∷ []) Texts.name_of_is Texts.name_of_plain Texts.name_of_unlisted has rows seen in
-        (tt, λ r there. fails_unless (is_picked (equal 0 0 ∷ []) (Int id ∷ []) r) (λ passes. none_in rows none _ (all.complete r there passes)));
+        let all = shows_rows Texts.name_of (Int id ∷ []) old new [] 4 (equal 0 0 ∷ []) (col 1 2 ∷ col 1 3 ∷ [])
+        (codes "service" ∷ codes "name" ∷ []) Texts.name_of_is Texts.name_of_plain Texts.name_of_unlisted has rows
+        seen in (
+          tt,
+          λ r there. fails_unless (is_picked (equal 0 0 ∷ []) (Int id ∷ []) r)
+              (λ passes. none_in rows none _ (all.complete r there passes)),
+        );
   }
 
-  pub reads_name : (id : ℤ) (it : NameColumns) (x : Row) → Has rows x → column x 0 ≡ Text (string_bytes it.service) → column x 1 ≡ Text (string_bytes it.name)
+  pub reads_name : (id : ℤ) (it : NameColumns) (x : Row) → Has rows x → column x 0 ≡ Text (string_bytes it.service)
+      → column x 1 ≡ Text (string_bytes it.name)
       → Shown Texts.name_of (Int id ∷ []) old new rows → ReadsName id old new (Some it)
   reads_name id it x there service name seen = record {
     shows = shown_inside Texts.name_of (Int id ∷ []) old new rows on seen;
-    same = λ has. same_database Texts.name_of (Int id ∷ []) old new [] 4 (equal 0 0 ∷ []) (col 1 2 ∷ col 1 3 ∷ []) (codes "service" ∷ codes "name" ∷ []) Texts.name_of_is Texts.name_of_plain Texts.name_of_unlisted has rows seen;
+    same = λ has. same_database Texts.name_of (Int id ∷ []) old new [] 4 (equal 0 0 ∷ []) (col 1 2 ∷ col 1 3 ∷ [])
+        (codes "service" ∷ codes "name" ∷ []) Texts.name_of_is Texts.name_of_plain Texts.name_of_unlisted has rows seen;
     seen = λ has.
-        let all = shows_rows Texts.name_of (Int id ∷ []) old new [] 4 (equal 0 0 ∷ []) (col 1 2 ∷ col 1 3 ∷ []) (codes "service" ∷ codes "name" ∷ []) Texts.name_of_is Texts.name_of_plain Texts.name_of_unlisted has rows seen in
-        let s = all.sound x there in
-        (record { row = s.0; there = s.1; picked = s.2; shows = (sym (ap (λ r. column r 0) s.3) ∙ service, sym (ap (λ r. column r 1) s.3) ∙ name) }, tt);
+        let all = shows_rows Texts.name_of (Int id ∷ []) old new [] 4 (equal 0 0 ∷ []) (col 1 2 ∷ col 1 3 ∷ [])
+        (codes "service" ∷ codes "name" ∷ []) Texts.name_of_is Texts.name_of_plain Texts.name_of_unlisted has rows
+        seen in
+        let s = all.sound x there in (
+          record {
+            row = s.0;
+            there = s.1;
+            picked = s.2;
+            shows = (sym (ap (λ r. column r 0) s.3) ∙ service, sym (ap (λ r. column r 1) s.3) ∙ name);
+          },
+          tt,
+        );
   }
 
-  pub finds_service : (name : List ℕ) (found : Bool) → (IsTrue found → 0 < length rows) → Shown Texts.has_service (Text name ∷ []) old new rows → FindsService name old new found
+  pub finds_service : (name : List ℕ) (found : Bool) → (IsTrue found → 0 < length rows)
+      → Shown Texts.has_service (Text name ∷ []) old new rows → FindsService name old new found
   finds_service name found some seen = record {
     shows = shown_inside Texts.has_service (Text name ∷ []) old new rows on seen;
-    same = λ has. same_database Texts.has_service (Text name ∷ []) old new [] 2 (equal 1 0 ∷ []) (col 1 1 ∷ []) (codes "name" ∷ []) Texts.has_service_is Texts.has_service_plain Texts.has_service_unlisted has rows seen;
+    same = λ has. same_database Texts.has_service (Text name ∷ []) old new [] 2 (equal 1 0 ∷ []) (col 1 1 ∷ [])
+        (codes "name" ∷ []) Texts.has_service_is Texts.has_service_plain Texts.has_service_unlisted has rows seen;
     seen = λ has is.
         let x = some_in rows (some is) in
-        let all = shows_rows Texts.has_service (Text name ∷ []) old new [] 2 (equal 1 0 ∷ []) (col 1 1 ∷ []) (codes "name" ∷ []) Texts.has_service_is Texts.has_service_plain Texts.has_service_unlisted has rows seen in
+        let all = shows_rows Texts.has_service (Text name ∷ []) old new [] 2 (equal 1 0 ∷ []) (col 1 1 ∷ [])
+        (codes "name" ∷ []) Texts.has_service_is Texts.has_service_plain Texts.has_service_unlisted has rows seen in
         let s = all.sound x.0 x.1 in
         record { row = s.0; there = s.1; picked = s.2; shows = tt };
   }
 
-  pub no_service : (name : List ℕ) → Shown Texts.has_service (Text name ∷ []) old new rows → FindsService name old new false
+  pub no_service : (name : List ℕ) → Shown Texts.has_service (Text name ∷ []) old new rows
+      → FindsService name old new false
   no_service name seen = finds_service name false (λ is. absurd (let e : false ≡ true = is in cc)) seen

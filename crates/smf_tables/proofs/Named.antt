@@ -64,20 +64,32 @@ module _ (s : Schema) (place : ℕ) (t : Table) (name : Name) (named : table_nam
   within outs sums = record { schema = s; levels = level_of outs ∷ []; may_aggregate = sums; may_alias = true }
 
   abbrev output : ℕ → Column → Output
-  output j it = record { name = it.name; is_alias = false; is_column = true; term = col 1 (place_of t j); carried = declared t j it }
+  output j it =
+      record {
+        name = it.name;
+        is_alias = false;
+        is_column = true;
+        term = col 1 (place_of t j);
+        carried = declared t j it;
+      }
 
   table_is : (slot : ℕ) → body.table_in s slot (origin.Table name) ≡ Ok (name, place)
   unfolding body.table_in
   table_is slot = rw named
 
-  bounds_are : (src : Source) (last : Carried) (budget : ℕ) → (out-Source src).origin ≡ origin.Table name → (out-Source src).alias ≡ None → (out-Source src).using ≡ []
-      → body.bounds s (src ∷ []) (record { next = 1; steps = []; aggregates = []; budget = budget; written = None; last = last }) ≡ Ok (bound ∷ [], so_far budget last)
+  bounds_are : (src : Source) (last : Carried) (budget : ℕ) → (out-Source src).origin ≡ origin.Table name
+      → (out-Source src).alias ≡ None → (out-Source src).using ≡ []
+      → body.bounds s (src ∷ [])
+      (record { next = 1; steps = []; aggregates = []; budget = budget; written = None; last = last })
+      ≡ Ok (bound ∷ [], so_far budget last)
   unfolding body.bounds body.bound take_slot
   bounds_are src last budget from bare used = rw (from, bare, used, table_is)
 
-  joins_are : (outs : List Output) (core : Core) (src : Source) (budget : ℕ) (last : Carried) → (out-Core core).from ≡ src ∷ [] → (out-Core core).filter ≡ None
+  joins_are : (outs : List Output) (core : Core) (src : Source) (budget : ℕ) (last : Carried)
+      → (out-Core core).from ≡ src ∷ [] → (out-Core core).filter ≡ None
       → (out-Source src).is_left ≡ false → (out-Source src).on ≡ None → (out-Source src).using ≡ []
-      → body.matching lower (outermost s) (level_of outs) core (so_far budget last) ≡ Ok (record { steps = Inner t.tree ∷ []; filter = [] }, so_far budget last)
+      → body.matching lower (outermost s) (level_of outs) core (so_far budget last)
+      ≡ Ok (record { steps = Inner t.tree ∷ []; filter = [] }, so_far budget last)
   unfolding body.matching body.joins body.join body.shared body.inner_join body.tests
   joins_are outs core src budget last from all left on used = rw (from, all, left, on, used, there)
 
@@ -99,7 +111,8 @@ module _ (s : Schema) (place : ℕ) (t : Table) (name : Name) (named : table_nam
       unfolding found_as in_level only hit is_among
       found_is = rw (column_in_is)
 
-      column_is : (st : State) → column (within outs sums) None c st ≡ Ok (col 1 (place_of t j), record st { last = declared t j it })
+      column_is : (st : State) → column (within outs sums) None c st
+          ≡ Ok (col 1 (place_of t j), record st { last = declared t j it })
       unfolding column term_of
       column_is st = rw (found_is, column_at_is)
 
@@ -108,14 +121,19 @@ module _ (s : Schema) (place : ℕ) (t : Table) (name : Name) (named : table_nam
         unfolding body.heading
         heading_is text = rw (shape, found_is, heading_at)
 
-        term_is : (budget : ℕ) (last : Carried) → nat_lt 1 budget ≡ true → lower (within outs sums) e (so_far budget last) ≡ Ok (col 1 (place_of t j), so_far (budget - 1) (declared t j it))
+        term_is : (budget : ℕ) (last : Carried) → nat_lt 1 budget ≡ true
+            → lower (within outs sums) e (so_far budget last)
+            ≡ Ok (col 1 (place_of t j), so_far (budget - 1) (declared t j it))
         unfolding lower_to node opened passes begin finish spend
         term_is budget last enough = rw (enough, shape, column_is)
 
-        output_is : (one : Shown) (text : Name) (done : List Output) (budget : ℕ) (last : Carried) → out-Shown one ≡ Shown-F.One e None text → nat_lt 1 budget ≡ true
-            → body.shown lower (within outs sums) (bound ∷ []) done one (so_far budget last) ≡ Ok (done ++ output j it ∷ [], so_far (budget - 1) (declared t j it))
+        output_is : (one : Shown) (text : Name) (done : List Output) (budget : ℕ) (last : Carried)
+            → out-Shown one ≡ Shown-F.One e None text → nat_lt 1 budget ≡ true
+            → body.shown lower (within outs sums) (bound ∷ []) done one (so_far budget last)
+            ≡ Ok (done ++ output j it ∷ [], so_far (budget - 1) (declared t j it))
         unfolding body.shown body.is_column
-        output_is one text done budget last shows enough = rw (shows, term_is budget last enough, heading_is text, shape)
+        output_is one text done budget last shows enough =
+            rw (shows, term_is budget last enough, heading_is text, shape)
 
 -- ---- the text
 
@@ -245,23 +263,34 @@ module _ (s : Schema) (place tree : ℕ) (named : table_named s (codes "snap") �
   level = level_of s place t (codes "snap") named there
 
   module _ (core : Core) (is : IsCore core) where
-    outputs_are : (last : Carried) → body.result lower (outermost s) (level []) core (so_far 100000 last) ≡ Ok (outs, so_far 99996 (declared t 2 kept))
+    outputs_are : (last : Carried) → body.result lower (outermost s) (level []) core (so_far 100000 last)
+        ≡ Ok (outs, so_far 99996 (declared t 2 kept))
     unfolding body.result body.outputs same_name
     outputs_are last = rw (
       is.shown,
-      output_is s place t (codes "snap") named there (codes "id") 0 id refl refl [] true is.first.e is.first.shape is.one is.first.text [] 100000 last is.first.shows refl,
-      output_is s place t (codes "snap") named there (codes "id") 0 id refl refl [] true is.second.e is.second.shape is.two is.second.text (take 1 outs) 99999 (declared t 0 id) is.second.shows refl,
-      output_is s place t (codes "snap") named there (codes "instance") 1 owner refl refl [] true is.third.e is.third.shape is.three is.third.text (take 2 outs) 99998 (declared t 0 id) is.third.shows refl,
-      output_is s place t (codes "snap") named there (codes "body") 2 kept refl refl [] true is.fourth.e is.fourth.shape is.four is.fourth.text (take 3 outs) 99997 (declared t 1 owner) is.fourth.shows refl,
+      output_is s place t (codes "snap") named there
+          (codes "id") 0 id refl refl [] true is.first.e is.first.shape is.one is.first.text [] 100000 last
+          is.first.shows refl,
+      output_is s place t (codes "snap") named there
+          (codes "id") 0 id refl refl [] true is.second.e is.second.shape is.two is.second.text (take 1 outs) 99999
+          (declared t 0 id) is.second.shows refl,
+      output_is s place t (codes "snap") named there
+          (codes "instance") 1 owner refl refl [] true is.third.e is.third.shape is.three is.third.text
+          (take 2 outs) 99998 (declared t 0 id) is.third.shows refl,
+      output_is s place t (codes "snap") named there
+          (codes "body") 2 kept refl refl [] true is.fourth.e is.fourth.shape is.four is.fourth.text
+          (take 3 outs) 99997 (declared t 1 owner) is.fourth.shows refl,
     )
 
-    body_is : body.body lower (outermost s) core (fresh 1 max_budget) ≡ Ok (record { level = level outs; steps = Inner tree ∷ []; filter = [] }, so_far 99996 (declared t 2 kept))
+    body_is : body.body lower (outermost s) core (fresh 1 max_budget)
+        ≡ Ok (record { level = level outs; steps = Inner tree ∷ []; filter = [] }, so_far 99996 (declared t 2 kept))
     unfolding body.body
     body_is = rw (
       is.from,
       bounds_are s place t (codes "snap") named there is.src nothing 100000 is.origin_is is.alias is.using,
       outputs_are nothing,
-      joins_are s place t (codes "snap") named there outs core is.src 99996 (declared t 2 kept) is.from is.all is.left is.on is.using,
+      joins_are s place t (codes "snap") named there outs core is.src 99996
+          (declared t 2 kept) is.from is.all is.left is.on is.using,
     )
 
     module _ (by : Sort) (asks : IsSort by) where
@@ -281,7 +310,8 @@ module _ (s : Schema) (place tree : ℕ) (named : table_named s (codes "snap") �
       unfolding is_numeral
       numeral_is = rw asks.shape
 
-      sorts_are : sorts lower (inside s (level outs) false) outs (by ∷ []) (so_far 99996 (declared t 2 kept)) ≡ Ok (by_rowid, so_far 99995 (declared t 0 id))
+      sorts_are : sorts lower (inside s (level outs) false) outs (by ∷ []) (so_far 99996 (declared t 2 kept))
+          ≡ Ok (by_rowid, so_far 99995 (declared t 0 id))
       unfolding sorts sort key collation_of placed alone same_name
       sorts_are = rw (
         asks.key_is,
@@ -290,20 +320,46 @@ module _ (s : Schema) (place tree : ℕ) (named : table_named s (codes "snap") �
         written_is,
         asks.ascends,
         asks.nulls,
-        term_is s place t (codes "snap") named there (codes "id") 0 id refl refl outs false asks.e asks.shape 99996 (declared t 2 kept) refl,
+        term_is s place t (codes "snap") named there (codes "id") 0 id refl refl outs false asks.e asks.shape 99996
+            (declared t 2 kept) refl,
         numeral_is,
       )
 
       parts_are : parts s core (by ∷ []) (fresh 1 max_budget)
-          ≡ Ok (record { body = record { level = level outs; steps = Inner tree ∷ []; filter = [] }; is_grouped = false; keys = []; collations = []; having = []; order = by_rowid }, so_far 99995 (declared t 0 id))
+          ≡ Ok (
+            record {
+              body = record { level = level outs; steps = Inner tree ∷ []; filter = [] };
+              is_grouped = false;
+              keys = [];
+              collations = [];
+              having = [];
+              order = by_rowid;
+            },
+            so_far 99995 (declared t 0 id),
+          )
       unfolding parts keys having body.tests
       parts_are = rw (body_is, is.group, is.having, sorts_are)
 
       abbrev draft : Draft
-      draft = record { from = chain (Inner tree ∷ []); filter = []; group = None; project = col 1 0 ∷ col 1 0 ∷ col 1 2 ∷ col 1 3 ∷ []; distinct = false; collations = []; order = by_rowid; limit = lit (Int (negsuc 0)); offset = number 0 }
+      draft = record {
+        from = chain (Inner tree ∷ []);
+        filter = [];
+        group = None;
+        project = col 1 0 ∷ col 1 0 ∷ col 1 2 ∷ col 1 3 ∷ [];
+        distinct = false;
+        collations = [];
+        order =
+            by_rowid;
+        limit = lit (Int (negsuc 0));
+        offset = number 0;
+      }
 
       abbrev drafted : program.Shown
-      drafted = (draft, codes "id" ∷ codes "id" ∷ codes "instance" ∷ codes "body" ∷ [], None ∷ None ∷ Some Binary ∷ Some Binary ∷ [])
+      drafted = (
+        draft,
+        codes "id" ∷ codes "id" ∷ codes "instance" ∷ codes "body" ∷ [],
+        None ∷ None ∷ Some Binary ∷ Some Binary ∷ [],
+      )
 
       draft_is : named_query s core (by ∷ []) (lit (Int (negsuc 0)), number 0) ≡ Ok drafted
       unfolding named_query assembled ungrouped
@@ -311,8 +367,20 @@ module _ (s : Schema) (place tree : ℕ) (named : table_named s (codes "snap") �
 
   module _ (low : nat_le (2 ^ 31) tree ≡ false) (of_tree : find (λ u. u.tree == tree) s.tables ≡ Some (snap_at tree)) where
     query_is : (sel : Select) (q : IsQuery sel) → program.query s sel ≡ Ok (drafted q.core q.is q.by q.asks, [])
-    unfolding program.query program.query_to program.level program.with program.whole program.alone program.single program.sources program.source program.viewing paging constant_or
-    query_is sel q = rw (q.with_is, q.first_is, q.others_are, q.order_is, q.limit_is, q.offset_is, q.is.from, q.is.origin_is, draft_is q.core q.is q.by q.asks)
+    unfolding program.query program.query_to program.level program.with program.whole program.alone program.single
+        program.sources program.source program.viewing paging constant_or
+    query_is sel q =
+        rw (
+          q.with_is,
+          q.first_is,
+          q.others_are,
+          q.order_is,
+          q.limit_is,
+          q.offset_is,
+          q.is.from,
+          q.is.origin_is,
+          draft_is q.core q.is q.by q.asks,
+        )
 
     program_is : (sel : Select) (q : IsQuery sel) → program.program s [] (draft q.core q.is q.by q.asks)
         ≡ Ok (record { lets = []; body = ordered_query by_rowid tree [] (col 1 0 ∷ col 1 0 ∷ col 1 2 ∷ col 1 3 ∷ []) })
@@ -321,7 +389,9 @@ module _ (s : Schema) (place tree : ℕ) (named : table_named s (codes "snap") �
 
     abbrev meant : Compiled
     meant = record {
-      command = Answer (record { lets = []; body = ordered_query by_rowid tree [] (col 1 0 ∷ col 1 0 ∷ col 1 2 ∷ col 1 3 ∷ []) }) (codes "id" ∷ codes "id" ∷ codes "instance" ∷ codes "body" ∷ []);
+      command = Answer
+          (record { lets = []; body = ordered_query by_rowid tree [] (col 1 0 ∷ col 1 0 ∷ col 1 2 ∷ col 1 3 ∷ []) })
+          (codes "id" ∷ codes "id" ∷ codes "instance" ∷ codes "body" ∷ []);
       returning = None;
       names = text_is.p.names;
       formats = [];
@@ -332,7 +402,14 @@ module _ (s : Schema) (place tree : ℕ) (named : table_named s (codes "snap") �
 
     compiled_is : compiled s all_snapshots ≡ Ok meant
     unfolding compiled planned meaning command returning timed read
-    compiled_is = rw (text_is.reads, text_is.asked, text_is.formats, query_is text_is.sel text_is.query, program_is text_is.sel text_is.query)
+    compiled_is =
+        rw (
+          text_is.reads,
+          text_is.asked,
+          text_is.formats,
+          query_is text_is.sel text_is.query,
+          program_is text_is.sel text_is.query,
+        )
 
     pub snapshots_unlisted : reads_listing s all_snapshots ≡ false
     snapshots_unlisted = rw (compiled_is)
@@ -342,7 +419,11 @@ module _ (s : Schema) (place tree : ℕ) (named : table_named s (codes "snap") �
     understood_is = rw (snapshots_unlisted, compiled_is)
 
     pub snapshots_are : command_of (understood s all_snapshots)
-        ≡ Answer (record { lets = []; body = ordered_query by_rowid tree [] (col 1 0 ∷ col 1 0 ∷ col 1 2 ∷ col 1 3 ∷ []) }) (codes "id" ∷ codes "id" ∷ codes "instance" ∷ codes "body" ∷ [])
+        ≡ Answer (record {
+          lets = [];
+          body = ordered_query by_rowid tree [] (col 1 0 ∷ col 1 0 ∷ col 1 2 ∷ col 1 3 ∷ []);
+        })
+        (codes "id" ∷ codes "id" ∷ codes "instance" ∷ codes "body" ∷ [])
     snapshots_are = ap command_of understood_is
 
     pub snapshots_plain : IsPlain (understood s all_snapshots)

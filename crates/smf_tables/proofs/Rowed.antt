@@ -11,7 +11,8 @@ use Rattle.sqlite_rules.specs.Lists.{Has}
 use Rattle.sqlite_rules.proofs.ListLemmas.{all_more, all_from, all_has, has_either}
 use Rattle.smf_tables.specs.Rows.{AreApart, AreKeyed}
 
-pub taken : {X : Type 0} (xs : List X) (at : ℕ) (x y : X) → at < length xs → x ≡ get_or xs at x → Has (take (at + 1) xs) y → Has (take at xs) y ⊎ (y ≡ x)
+pub taken : {X : Type 0} (xs : List X) (at : ℕ) (x y : X) → at < length xs → x ≡ get_or xs at x
+    → Has (take (at + 1) xs) y → Has (take at xs) y ⊎ (y ≡ x)
 taken {X} xs at x y within is h =
     let P = λ (z : X). Has (take at xs) z ⊎ (z ≡ x) in
     all_has P (take (at + 1) xs) y (all_more P xs at x within is (all_from P (take at xs) (λ z m. inl m)) (inr refl)) h
@@ -23,7 +24,8 @@ pub record RisesTo (last : Option ℤ) (rows : List Row) : Type 0 where
   pub apart : AreApart rows
 
 -- one row more, whose rowid none before it has
-pub apart_push : (rows : List Row) (r : Row) → AreApart rows → ((a : Row) → Has rows a → rowid a ≡ rowid r → ⊥) → AreApart (rows ++ r ∷ [])
+pub apart_push : (rows : List Row) (r : Row) → AreApart rows → ((a : Row) → Has rows a → rowid a ≡ rowid r → ⊥)
+    → AreApart (rows ++ r ∷ [])
 apart_push [] r h fresh = (tt, tt)
 apart_push (x ∷ xs) r h fresh = (
   all_from (λ a. rowid x ≡ rowid a → ⊥) (xs ++ r ∷ []) (λ a there. elim (has_either xs (r ∷ []) a there) [
@@ -52,7 +54,8 @@ itself a = grind (arith, ints)
 pub rises_none : RisesTo None []
 rises_none = record { below = λ r h. absurd h; one = λ a b h. absurd h; apart = tt }
 
-pub rises_more : (rows : List Row) (at : ℕ) (r : Row) (last : Option ℤ) (id : ℤ) → at < length rows → r ≡ get_or rows at r → column r 0 ≡ Int id → IfSome last (λ l. l <ℤ id) → RisesTo last (take at rows)
+pub rises_more : (rows : List Row) (at : ℕ) (r : Row) (last : Option ℤ) (id : ℤ) → at < length rows
+    → r ≡ get_or rows at r → column r 0 ≡ Int id → IfSome last (λ l. l <ℤ id) → RisesTo last (take at rows)
     → RisesTo (Some id) (take (at + 1) rows)
 rises_more rows at r last id within is shows above before =
     let under : (l : ℤ) → last ≡ Some l → l <ℤ id = λ l e. subst (λ o. IfSome o (λ x. x <ℤ id)) e above in
@@ -73,7 +76,8 @@ rises_more rows at r last id within is shows above before =
           | inr also ↦ new ∙ sym also
         ]
       ];
-      apart = subst AreApart (ap (λ x. take at rows ++ x ∷ []) is ∙ sym (take_more rows at r within)) (apart_push (take at rows) r before.apart apart);
+      apart = subst AreApart (ap (λ x. take at rows ++ x ∷ []) is ∙ sym (take_more rows at r within))
+          (apart_push (take at rows) r before.apart apart);
     }
 
 pub rises_keyed : (last : Option ℤ) (rows : List Row) → RisesTo last rows → AreKeyed rows

@@ -63,7 +63,8 @@ other_id r id other keyed apart =
     equal_ints a b h = int_eq_is a b (ap is_eq (sym (value_cmp-Int a b)) ∙ h)
 
 -- a row whose rowid was taken out is gone
-pub none_left : (ids : List ℤ) (id : ℤ) (rows : List Row) (r : Row) → rowid r ≡ Int id → Has ids id → Has (without_all rows ids) r → ⊥
+pub none_left : (ids : List ℤ) (id : ℤ) (rows : List Row) (r : Row) → rowid r ≡ Int id → Has ids id
+    → Has (without_all rows ids) r → ⊥
 none_left [] id rows r keyed h there = h
 none_left (i ∷ ids) id rows r keyed (inl same) there =
     let left = (has_filtered _ rows r (without_all_has ids (without_rowid i rows) r there)).1 in
@@ -71,7 +72,8 @@ none_left (i ∷ ids) id rows r keyed (inl same) there =
 none_left (i ∷ ids) id rows r keyed (inr more) there = none_left ids id (without_rowid i rows) r keyed more there
 
 -- a row whose rowid is not among them stays
-pub stays_left : (ids : List ℤ) (id : ℤ) (rows : List Row) (r : Row) → rowid r ≡ Int id → (Has ids id → ⊥) → Has rows r → Has (without_all rows ids) r
+pub stays_left : (ids : List ℤ) (id : ℤ) (rows : List Row) (r : Row) → rowid r ≡ Int id → (Has ids id → ⊥)
+    → Has rows r → Has (without_all rows ids) r
 stays_left [] id rows r keyed h there = there
 stays_left (i ∷ ids) id rows r keyed h there =
     stays_left ids id (without_rowid i rows) r keyed (λ m. h (inr m))

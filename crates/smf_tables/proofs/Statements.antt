@@ -4,16 +4,14 @@ use Rattle.std.specs.Prelude.{◌==◌}
 use Rattle.std.specs.List.{AllByRecursion, flat_map, filter_map}
 use Rattle.sqlite.specs.Order.{Row}
 use Rattle.sqlite.specs.Cast.{cast_row}
-use Rattle.sqlite.specs.Command.{Command}
 use Rattle.sqlite.specs.Command.TheVariants.{Insert, Delete}
 use Rattle.sqlite.specs.Source.{Source}
 use Rattle.sqlite.specs.Rowids.TheVariants.{Chosen}
 use Rattle.sqlite.specs.Does.{Tally, Does, OnRows}
 use Rattle.sqlite.specs.Rows.{Task, stamped}
-use Rattle.sqlite.specs.Edit.{with_rowid, next_rowid}
-use Rattle.sqlite.specs.Tree.{Trees}
+use Rattle.sqlite.specs.Edit.{with_rowid}
 use Rattle.sqlite.specs.Table.{Table}
-use Rattle.sqlite.specs.Term.{Term, col, lit, holds}
+use Rattle.sqlite.specs.Term.{Term, col}
 use Rattle.sqlite.specs.Effect.{Database, IsSource}
 use Rattle.sqlite.specs.Listing.{understood}
 use Rattle.sqlite.specs.State.{State, mode_of, Executes}
@@ -28,7 +26,10 @@ use Rattle.smf_tables.proofs.Changes.{LooksAtColumns, went, same_value, deletes,
 
 pub no_acts : (tree : ℕ) (olds news : List Row) → works store_schema Enforced 0 tree olds news ≡ []
 no_acts tree olds news =
-    elim (length news == 0) as (λ b. flat_map (λ child. filter_map (λ ref. work_by 0 tree (pairs olds news) child ref (deed_for Enforced b ref) (parent_key store_schema.tables ref)) child.references) store_schema.tables ≡ []) [
+    elim (length news == 0) as (λ b. flat_map
+    (λ child. filter_map
+    (λ ref. work_by 0 tree (pairs olds news) child ref (deed_for Enforced b ref)
+    (parent_key store_schema.tables ref)) child.references) store_schema.tables ≡ []) [
       | true ↦ refl
       | false ↦ refl
     ]
@@ -37,40 +38,70 @@ module _ (text : List ℕ) (params : Row) (old new : State) (count : ℕ) (has :
   abbrev task : Task
   task = record { limit = old.step_limit; keys = Enforced; schema = store_schema; table = table; params = params }
 
-  pub deletes_rows : (filter : List Term) → command_of (understood store_schema text) ≡ Delete at (record { lets = []; body = rows_query table.tree filter (col 1 0 ∷ []) })
-      → IsPlain (understood store_schema text) → LooksAtColumns filter params → IsKeyed (old.now.trees table.tree) → Executes text params old new (Ok count)
+  pub deletes_rows : (filter : List Term)
+      → command_of (understood store_schema text)
+      ≡ Delete at (record { lets = []; body = rows_query table.tree filter (col 1 0 ∷ []) })
+      → IsPlain (understood store_schema text) → LooksAtColumns filter params → IsKeyed (old.now.trees table.tree)
+      → Executes text params old new (Ok count)
       → Turns (Loses (is_picked filter params)) table old.now new.now
   deletes_rows filter is plain looks keyed h =
       let command = Delete at (record { lets = []; body = rows_query table.tree filter (col 1 0 ∷ []) }) in
       let w = runs_as text params old new store_schema has command is plain count h in
       let stmt = statement_of text (understood store_schema text) in
-      let done = went (subst (λ (o : Option Table). Rattle.sqlite.specs.Does.AtPlace (λ t. OnRows (record { limit = old.step_limit; keys = Enforced; schema = store_schema; table = t; params = params }) (mode_of old) None command old.now.trees) o (Ok (w.tally, new.now))) listed
-      (subst (λ s. Does old.step_limit (mode_of old) params (record old.now { schema = s }) stmt None command (Ok (w.tally, new.now))) has w.changed)) in
+      let done = went
+      (subst (λ (o : Option Table). Rattle.sqlite.specs.Does.AtPlace
+      (λ t. OnRows (record {
+        limit = old.step_limit;
+        keys = Enforced;
+        schema = store_schema;
+        table = t;
+        params = params;
+      }) (mode_of old) None command old.now.trees) o (Ok (w.tally, new.now))) listed
+      (subst (λ s. Does old.step_limit (mode_of old) params (record old.now { schema = s }) stmt None command
+      (Ok (w.tally, new.now))) has w.changed)) in
       let now = ap (λ (p : Tally × Database). p.1) (same_value (went (went done.2).2).2) in
-      let it = deletes old.step_limit Enforced store_schema table params (λ olds news. no_acts table.tree olds news) old.now.trees filter done.0 looks keyed done.1 in
+      let it = deletes old.step_limit Enforced store_schema table params
+      (λ olds news. no_acts table.tree olds news) old.now.trees filter done.0 looks keyed done.1 in
       record {
         schema = ap (λ (d : Database). d.schema) now;
         sound = w.sound;
-        rows = subst (λ (d : Database). Loses (is_picked filter params) (old.now.trees table.tree) (d.trees table.tree)) (sym now) it.0;
-        spares = subst (λ (d : Database). AllByRecursion (λ t. t.tree ≢ table.tree → d.trees t.tree ≡ old.now.trees t.tree) store_schema.tables) (sym now) it.1;
+        rows = subst (λ (d : Database). Loses (is_picked filter params) (old.now.trees table.tree)
+            (d.trees table.tree)) (sym now) it.0;
+        spares = subst (λ (d : Database). AllByRecursion
+            (λ t. t.tree ≢ table.tree → d.trees t.tree ≡ old.now.trees t.tree) store_schema.tables) (sym now) it.1;
       }
 
-  pub inserts_row : (from : Source) → command_of (understood store_schema text) ≡ Insert at from → IsPlain (understood store_schema text) → IsKeyed (old.now.trees table.tree)
+  pub inserts_row : (from : Source) → command_of (understood store_schema text) ≡ Insert at from
+      → IsPlain (understood store_schema text) → IsKeyed (old.now.trees table.tree)
       → (source made : Row) → table.is_counted ≡ false
-      → ((rows : List Row) → IsSource (record { schema = store_schema; trees = old.now.trees }) (stamped table params) from rows → rows ≡ source ∷ [])
+      → ((rows : List Row)
+      → IsSource (record { schema = store_schema; trees = old.now.trees }) (stamped table params) from rows
+      → rows ≡ source ∷ [])
       → with_rowid Chosen (old.now.trees table.tree) (cast_row table source) ≡ made
       → Executes text params old new (Ok count) → Turns (Gains made) table old.now new.now
   inserts_row from is plain keyed source made uncounted given cast h =
       let command = Insert at from in
       let w = runs_as text params old new store_schema has command is plain count h in
       let stmt = statement_of text (understood store_schema text) in
-      let done = went (subst (λ (o : Option Table). Rattle.sqlite.specs.Does.AtPlace (λ t. OnRows (record { limit = old.step_limit; keys = Enforced; schema = store_schema; table = t; params = params }) (mode_of old) None command old.now.trees) o (Ok (w.tally, new.now))) listed
-      (subst (λ s. Does old.step_limit (mode_of old) params (record old.now { schema = s }) stmt None command (Ok (w.tally, new.now))) has w.changed)) in
+      let done = went
+      (subst (λ (o : Option Table). Rattle.sqlite.specs.Does.AtPlace
+      (λ t. OnRows (record {
+        limit = old.step_limit;
+        keys = Enforced;
+        schema = store_schema;
+        table = t;
+        params = params;
+      }) (mode_of old) None command old.now.trees) o (Ok (w.tally, new.now))) listed
+      (subst (λ s. Does old.step_limit (mode_of old) params (record old.now { schema = s }) stmt None command
+      (Ok (w.tally, new.now))) has w.changed)) in
       let now = ap (λ (p : Tally × Database). p.1) (same_value (went (went done.2).2).2) in
-      let it = inserts old.step_limit Enforced store_schema table params (λ olds news. no_acts table.tree olds news) old.now.trees from source made done.0 uncounted given cast keyed done.1 in
+      let it = inserts old.step_limit Enforced store_schema table params
+      (λ olds news. no_acts table.tree olds news) old.now.trees from source made done.0 uncounted given cast keyed
+      done.1 in
       record {
         schema = ap (λ (d : Database). d.schema) now;
         sound = w.sound;
         rows = subst (λ (d : Database). Gains made (old.now.trees table.tree) (d.trees table.tree)) (sym now) it.0;
-        spares = subst (λ (d : Database). AllByRecursion (λ t. t.tree ≢ table.tree → d.trees t.tree ≡ old.now.trees t.tree) store_schema.tables) (sym now) it.1;
+        spares = subst (λ (d : Database). AllByRecursion
+            (λ t. t.tree ≢ table.tree → d.trees t.tree ≡ old.now.trees t.tree) store_schema.tables) (sym now) it.1;
       }

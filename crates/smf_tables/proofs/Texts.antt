@@ -14,7 +14,8 @@ use Rattle.smf_tables.proofs.Answers.{rows_query}
 abbrev pub drop_meta : List ℕ
 drop_meta = codes "DELETE FROM meta WHERE k = ?1"
 
-pub drop_meta_is : command_of (understood store_schema drop_meta) ≡ Delete 0 (record { lets = []; body = rows_query 0 (equal 1 0 ∷ []) (col 1 0 ∷ []) })
+pub drop_meta_is : command_of (understood store_schema drop_meta)
+    ≡ Delete 0 (record { lets = []; body = rows_query 0 (equal 1 0 ∷ []) (col 1 0 ∷ []) })
 unfolding understood everything
 drop_meta_is = refl
 
@@ -25,7 +26,8 @@ drop_meta_plain = (refl, refl)
 abbrev pub drop_service : List ℕ
 drop_service = codes "DELETE FROM service WHERE name = ?1"
 
-pub drop_service_is : command_of (understood store_schema drop_service) ≡ Delete 1 (record { lets = []; body = rows_query 2 (equal 1 0 ∷ []) (col 1 0 ∷ []) })
+pub drop_service_is : command_of (understood store_schema drop_service)
+    ≡ Delete 1 (record { lets = []; body = rows_query 2 (equal 1 0 ∷ []) (col 1 0 ∷ []) })
 unfolding understood everything
 drop_service_is = refl
 
@@ -36,7 +38,8 @@ drop_service_plain = (refl, refl)
 abbrev pub drop_instance : List ℕ
 drop_instance = codes "DELETE FROM instance WHERE id = ?1"
 
-pub drop_instance_is : command_of (understood store_schema drop_instance) ≡ Delete 2 (record { lets = []; body = rows_query 4 (equal 0 0 ∷ []) (col 1 0 ∷ []) })
+pub drop_instance_is : command_of (understood store_schema drop_instance)
+    ≡ Delete 2 (record { lets = []; body = rows_query 4 (equal 0 0 ∷ []) (col 1 0 ∷ []) })
 unfolding understood everything
 drop_instance_is = refl
 
@@ -47,7 +50,8 @@ drop_instance_plain = (refl, refl)
 abbrev pub drop_groups : List ℕ
 drop_groups = codes "DELETE FROM grp WHERE service = ?1 AND instance = ?2"
 
-pub drop_groups_is : command_of (understood store_schema drop_groups) ≡ Delete 3 (record { lets = []; body = rows_query 6 (equal 1 0 ∷ equal 2 1 ∷ []) (col 1 0 ∷ []) })
+pub drop_groups_is : command_of (understood store_schema drop_groups)
+    ≡ Delete 3 (record { lets = []; body = rows_query 6 (equal 1 0 ∷ equal 2 1 ∷ []) (col 1 0 ∷ []) })
 unfolding understood everything
 drop_groups_is = refl
 
@@ -58,7 +62,8 @@ drop_groups_plain = (refl, refl)
 abbrev pub drop_snapshots : List ℕ
 drop_snapshots = codes "DELETE FROM snap WHERE instance = ?1"
 
-pub drop_snapshots_is : command_of (understood store_schema drop_snapshots) ≡ Delete 4 (record { lets = []; body = rows_query 8 (equal 2 0 ∷ []) (col 1 0 ∷ []) })
+pub drop_snapshots_is : command_of (understood store_schema drop_snapshots)
+    ≡ Delete 4 (record { lets = []; body = rows_query 8 (equal 2 0 ∷ []) (col 1 0 ∷ []) })
 unfolding understood everything
 drop_snapshots_is = refl
 
@@ -69,7 +74,8 @@ drop_snapshots_plain = (refl, refl)
 abbrev pub drop_launch : List ℕ
 drop_launch = codes "DELETE FROM restarter WHERE name = ?1"
 
-pub drop_launch_is : command_of (understood store_schema drop_launch) ≡ Delete 5 (record { lets = []; body = rows_query 9 (equal 1 0 ∷ []) (col 1 0 ∷ []) })
+pub drop_launch_is : command_of (understood store_schema drop_launch)
+    ≡ Delete 5 (record { lets = []; body = rows_query 9 (equal 1 0 ∷ []) (col 1 0 ∷ []) })
 unfolding understood everything
 drop_launch_is = refl
 
@@ -80,7 +86,8 @@ drop_launch_plain = (refl, refl)
 abbrev pub add_meta : List ℕ
 add_meta = codes "INSERT INTO meta (k, v) VALUES (?1, ?2)"
 
-pub add_meta_is : command_of (understood store_schema add_meta) ≡ Insert 0 (Values (lit Null ∷ col 0 0 ∷ col 0 1 ∷ []) 3)
+pub add_meta_is : command_of (understood store_schema add_meta)
+    ≡ Insert 0 (Values (lit Null ∷ col 0 0 ∷ col 0 1 ∷ []) 3)
 unfolding understood everything
 add_meta_is = refl
 
@@ -100,9 +107,11 @@ unfolding understood everything
 add_service_plain = (refl, refl)
 
 abbrev pub add_instance : List ℕ
-add_instance = codes "INSERT INTO instance (id, service, name, rowtext, start_snap, previous_snap) VALUES (?1, ?2, ?3, ?4, ?5, ?6)"
+add_instance =
+    codes "INSERT INTO instance (id, service, name, rowtext, start_snap, previous_snap) VALUES (?1, ?2, ?3, ?4, ?5, ?6)"
 
-pub add_instance_is : command_of (understood store_schema add_instance) ≡ Insert 2 (Values (col 0 0 ∷ lit Null ∷ col 0 1 ∷ col 0 2 ∷ col 0 3 ∷ col 0 4 ∷ col 0 5 ∷ []) 7)
+pub add_instance_is : command_of (understood store_schema add_instance)
+    ≡ Insert 2 (Values (col 0 0 ∷ lit Null ∷ col 0 1 ∷ col 0 2 ∷ col 0 3 ∷ col 0 4 ∷ col 0 5 ∷ []) 7)
 unfolding understood everything
 add_instance_is = refl
 
@@ -113,7 +122,8 @@ add_instance_plain = (refl, refl)
 abbrev pub add_group : List ℕ
 add_group = codes "INSERT INTO grp (service, instance, name, body) VALUES (?1, ?2, ?3, ?4)"
 
-pub add_group_is : command_of (understood store_schema add_group) ≡ Insert 3 (Values (lit Null ∷ col 0 0 ∷ col 0 1 ∷ col 0 2 ∷ col 0 3 ∷ []) 5)
+pub add_group_is : command_of (understood store_schema add_group)
+    ≡ Insert 3 (Values (lit Null ∷ col 0 0 ∷ col 0 1 ∷ col 0 2 ∷ col 0 3 ∷ []) 5)
 unfolding understood everything
 add_group_is = refl
 
@@ -124,7 +134,8 @@ add_group_plain = (refl, refl)
 abbrev pub add_snapshot : List ℕ
 add_snapshot = codes "INSERT INTO snap (id, instance, body) VALUES (?1, ?2, ?3)"
 
-pub add_snapshot_is : command_of (understood store_schema add_snapshot) ≡ Insert 4 (Values (col 0 0 ∷ lit Null ∷ col 0 1 ∷ col 0 2 ∷ []) 4)
+pub add_snapshot_is : command_of (understood store_schema add_snapshot)
+    ≡ Insert 4 (Values (col 0 0 ∷ lit Null ∷ col 0 1 ∷ col 0 2 ∷ []) 4)
 unfolding understood everything
 add_snapshot_is = refl
 
@@ -135,7 +146,8 @@ add_snapshot_plain = (refl, refl)
 abbrev pub add_launch : List ℕ
 add_launch = codes "INSERT INTO restarter (name, launch) VALUES (?1, ?2)"
 
-pub add_launch_is : command_of (understood store_schema add_launch) ≡ Insert 5 (Values (lit Null ∷ col 0 0 ∷ col 0 1 ∷ []) 3)
+pub add_launch_is : command_of (understood store_schema add_launch)
+    ≡ Insert 5 (Values (lit Null ∷ col 0 0 ∷ col 0 1 ∷ []) 3)
 unfolding understood everything
 add_launch_is = refl
 
@@ -146,7 +158,9 @@ add_launch_plain = (refl, refl)
 abbrev pub name_of : List ℕ
 name_of = codes "SELECT service, name FROM instance WHERE id = ?1"
 
-pub name_of_is : command_of (understood store_schema name_of) ≡ Select (record { lets = []; body = rows_query 4 (equal 0 0 ∷ []) (col 1 2 ∷ col 1 3 ∷ []) }) (codes "service" ∷ codes "name" ∷ [])
+pub name_of_is : command_of (understood store_schema name_of)
+    ≡ Select (record { lets = []; body = rows_query 4 (equal 0 0 ∷ []) (col 1 2 ∷ col 1 3 ∷ []) })
+    (codes "service" ∷ codes "name" ∷ [])
 unfolding understood everything
 name_of_is = refl
 
@@ -161,7 +175,8 @@ name_of_unlisted = refl
 abbrev pub has_service : List ℕ
 has_service = codes "SELECT name FROM service WHERE name = ?1"
 
-pub has_service_is : command_of (understood store_schema has_service) ≡ Select (record { lets = []; body = rows_query 2 (equal 1 0 ∷ []) (col 1 1 ∷ []) }) (codes "name" ∷ [])
+pub has_service_is : command_of (understood store_schema has_service)
+    ≡ Select (record { lets = []; body = rows_query 2 (equal 1 0 ∷ []) (col 1 1 ∷ []) }) (codes "name" ∷ [])
 unfolding understood everything
 has_service_is = refl
 

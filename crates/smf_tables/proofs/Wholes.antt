@@ -11,7 +11,9 @@ use Rattle.smf_tables.proofs.Answers.{ordered_query, by_rowid}
 abbrev pub all_meta : List ℕ
 all_meta = codes "SELECT rowid, k, v FROM meta ORDER BY rowid"
 
-pub all_meta_is : (rest : Rest) → command_of (understood (begun_1 rest) all_meta) ≡ Select (record { lets = []; body = ordered_query by_rowid 0 [] (col 1 0 ∷ col 1 1 ∷ col 1 2 ∷ []) }) (codes "rowid" ∷ codes "k" ∷ codes "v" ∷ [])
+pub all_meta_is : (rest : Rest) → command_of (understood (begun_1 rest) all_meta)
+    ≡ Select (record { lets = []; body = ordered_query by_rowid 0 [] (col 1 0 ∷ col 1 1 ∷ col 1 2 ∷ []) })
+    (codes "rowid" ∷ codes "k" ∷ codes "v" ∷ [])
 unfolding understood everything
 all_meta_is rest = refl
 
@@ -26,7 +28,9 @@ all_meta_unlisted rest = refl
 abbrev pub all_services : List ℕ
 all_services = codes "SELECT rowid, name FROM service ORDER BY rowid"
 
-pub all_services_is : (rest : Rest) → command_of (understood (begun_2 rest) all_services) ≡ Select (record { lets = []; body = ordered_query by_rowid 2 [] (col 1 0 ∷ col 1 1 ∷ []) }) (codes "rowid" ∷ codes "name" ∷ [])
+pub all_services_is : (rest : Rest) → command_of (understood (begun_2 rest) all_services)
+    ≡ Select (record { lets = []; body = ordered_query by_rowid 2 [] (col 1 0 ∷ col 1 1 ∷ []) })
+    (codes "rowid" ∷ codes "name" ∷ [])
 unfolding understood everything
 all_services_is rest = refl
 
@@ -41,7 +45,13 @@ all_services_unlisted rest = refl
 abbrev pub all_instances : List ℕ
 all_instances = codes "SELECT id, id, service, name, rowtext, start_snap, previous_snap FROM instance ORDER BY id"
 
-pub all_instances_is : (rest : Rest) → command_of (understood (begun_3 rest) all_instances) ≡ Select (record { lets = []; body = ordered_query by_rowid 4 [] (col 1 0 ∷ col 1 0 ∷ col 1 2 ∷ col 1 3 ∷ col 1 4 ∷ col 1 5 ∷ col 1 6 ∷ []) }) (codes "id" ∷ codes "id" ∷ codes "service" ∷ codes "name" ∷ codes "rowtext" ∷ codes "start_snap" ∷ codes "previous_snap" ∷ [])
+pub all_instances_is : (rest : Rest) → command_of (understood (begun_3 rest) all_instances)
+    ≡ Select (record {
+      lets = [];
+      body = ordered_query by_rowid 4 [] (col 1 0 ∷ col 1 0 ∷ col 1 2 ∷ col 1 3 ∷ col 1 4 ∷ col 1 5 ∷ col 1 6 ∷ []);
+    })
+    (codes "id" ∷ codes "id" ∷ codes "service" ∷ codes "name" ∷ codes "rowtext" ∷ codes "start_snap"
+    ∷ codes "previous_snap" ∷ [])
 unfolding understood everything
 all_instances_is rest = refl
 
@@ -56,7 +66,12 @@ all_instances_unlisted rest = refl
 abbrev pub all_groups : List ℕ
 all_groups = codes "SELECT rowid, service, instance, name, body FROM grp ORDER BY rowid"
 
-pub all_groups_is : (rest : Rest) → command_of (understood (begun_4 rest) all_groups) ≡ Select (record { lets = []; body = ordered_query by_rowid 6 [] (col 1 0 ∷ col 1 1 ∷ col 1 2 ∷ col 1 3 ∷ col 1 4 ∷ []) }) (codes "rowid" ∷ codes "service" ∷ codes "instance" ∷ codes "name" ∷ codes "body" ∷ [])
+pub all_groups_is : (rest : Rest) → command_of (understood (begun_4 rest) all_groups)
+    ≡ Select (record {
+      lets = [];
+      body = ordered_query by_rowid 6 [] (col 1 0 ∷ col 1 1 ∷ col 1 2 ∷ col 1 3 ∷ col 1 4 ∷ []);
+    })
+    (codes "rowid" ∷ codes "service" ∷ codes "instance" ∷ codes "name" ∷ codes "body" ∷ [])
 unfolding understood everything
 all_groups_is rest = refl
 
@@ -71,7 +86,9 @@ all_groups_unlisted rest = refl
 abbrev pub all_snapshots : List ℕ
 all_snapshots = codes "SELECT id, id, instance, body FROM snap ORDER BY id"
 
-pub all_snapshots_is : (rest : Rest) → command_of (understood (begun_5 rest) all_snapshots) ≡ Select (record { lets = []; body = ordered_query by_rowid 8 [] (col 1 0 ∷ col 1 0 ∷ col 1 2 ∷ col 1 3 ∷ []) }) (codes "id" ∷ codes "id" ∷ codes "instance" ∷ codes "body" ∷ [])
+pub all_snapshots_is : (rest : Rest) → command_of (understood (begun_5 rest) all_snapshots)
+    ≡ Select (record { lets = []; body = ordered_query by_rowid 8 [] (col 1 0 ∷ col 1 0 ∷ col 1 2 ∷ col 1 3 ∷ []) })
+    (codes "id" ∷ codes "id" ∷ codes "instance" ∷ codes "body" ∷ [])
 unfolding understood everything
 all_snapshots_is rest = refl
 
@@ -86,7 +103,9 @@ all_snapshots_unlisted rest = refl
 abbrev pub all_launches : List ℕ
 all_launches = codes "SELECT rowid, name, launch FROM restarter ORDER BY rowid"
 
-pub all_launches_is : (rest : Rest) → command_of (understood (begun_6 rest) all_launches) ≡ Select (record { lets = []; body = ordered_query by_rowid 9 [] (col 1 0 ∷ col 1 1 ∷ col 1 2 ∷ []) }) (codes "rowid" ∷ codes "name" ∷ codes "launch" ∷ [])
+pub all_launches_is : (rest : Rest) → command_of (understood (begun_6 rest) all_launches)
+    ≡ Select (record { lets = []; body = ordered_query by_rowid 9 [] (col 1 0 ∷ col 1 1 ∷ col 1 2 ∷ []) })
+    (codes "rowid" ∷ codes "name" ∷ codes "launch" ∷ [])
 unfolding understood everything
 all_launches_is rest = refl
 

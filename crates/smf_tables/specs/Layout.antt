@@ -28,7 +28,8 @@ pub record HasKeys (table : Table) (key : Option ℕ) (primary unique : List ℕ
   pub orders_is : table.orders ≡ plain ∷ []
 
 abbrev pub index : List ℕ → ℕ → ℕ → List ℕ → Index
-index name tree table columns = record { name = name; tree = tree; table = table; columns = columns; order = plain; is_unique = true }
+index name tree table columns =
+    record { name = name; tree = tree; table = table; columns = columns; order = plain; is_unique = true }
 
 -- the rowid alone
 pub record HasRowKey (table : Table) : Type 0 where
@@ -38,7 +39,14 @@ pub record HasRowKey (table : Table) : Type 0 where
   pub orders_is : table.orders ≡ []
 
 abbrev pub to_service : Reference
-to_service = record { columns = 2 ∷ []; parent = codes "service"; parent_columns = codes "name" ∷ []; on_delete = NoAction; on_update = NoAction; is_deferred = false }
+to_service = record {
+  columns = 2 ∷ [];
+  parent = codes "service";
+  parent_columns = codes "name" ∷ [];
+  on_delete = NoAction;
+  on_update = NoAction;
+  is_deferred = false;
+}
 
 -- the table at this place of a schema, counted from 0, is this one
 abbrev pub StandsAt : Schema → ℕ → Table → Type 0
@@ -66,19 +74,41 @@ abbrev pub begun_1 : Rest → Schema
 begun_1 rest = record { tables = stored.meta ∷ rest.tables; indexes = rest.indexes; views = rest.views }
 
 abbrev pub begun_2 : Rest → Schema
-begun_2 rest = record { tables = stored.meta ∷ stored.service ∷ rest.tables; indexes = rest.indexes; views = rest.views }
+begun_2 rest =
+    record { tables = stored.meta ∷ stored.service ∷ rest.tables; indexes = rest.indexes; views = rest.views }
 
 abbrev pub begun_3 : Rest → Schema
-begun_3 rest = record { tables = stored.meta ∷ stored.service ∷ stored.instance ∷ rest.tables; indexes = rest.indexes; views = rest.views }
+begun_3 rest =
+    record {
+      tables = stored.meta ∷ stored.service ∷ stored.instance ∷ rest.tables;
+      indexes = rest.indexes;
+      views = rest.views;
+    }
 
 abbrev pub begun_4 : Rest → Schema
-begun_4 rest = record { tables = stored.meta ∷ stored.service ∷ stored.instance ∷ stored.grp ∷ rest.tables; indexes = rest.indexes; views = rest.views }
+begun_4 rest =
+    record {
+      tables = stored.meta ∷ stored.service ∷ stored.instance ∷ stored.grp ∷ rest.tables;
+      indexes = rest.indexes;
+      views = rest.views;
+    }
 
 abbrev pub begun_5 : Rest → Schema
-begun_5 rest = record { tables = stored.meta ∷ stored.service ∷ stored.instance ∷ stored.grp ∷ stored.snap ∷ rest.tables; indexes = rest.indexes; views = rest.views }
+begun_5 rest =
+    record {
+      tables = stored.meta ∷ stored.service ∷ stored.instance ∷ stored.grp ∷ stored.snap ∷ rest.tables;
+      indexes = rest.indexes;
+      views = rest.views;
+    }
 
 abbrev pub begun_6 : Rest → Schema
-begun_6 rest = record { tables = stored.meta ∷ stored.service ∷ stored.instance ∷ stored.grp ∷ stored.snap ∷ stored.restarter ∷ rest.tables; indexes = rest.indexes; views = rest.views }
+begun_6 rest =
+    record {
+      tables = stored.meta ∷ stored.service ∷ stored.instance ∷ stored.grp ∷ stored.snap ∷ stored.restarter
+          ∷ rest.tables;
+      indexes = rest.indexes;
+      views = rest.views;
+    }
 
 unfoldable pub Begins : (Rest → Schema) → Schema → Type 0
 Begins begun schema = (rest : Rest) × (schema ≡ begun rest)

@@ -2,5 +2,5 @@ pub mod Schema
 pub mod Rows
 pub mod Calls
 pub mod Statements
-pub mod Reading
+pub mod Scans
 pub mod Layout

@@ -12,7 +12,8 @@ use Rattle.sqlite.specs.Change.{created}
 use Rattle.sqlite_value.specs.Keys.{plain}
 
 abbrev pub column : List ℕ → Kind → Bool → Column
-column name kind not_null = record { name = name; kind = kind; is_strict = true; not_null = not_null; default = Null; collation = Binary }
+column name kind not_null =
+    record { name = name; kind = kind; is_strict = true; not_null = not_null; default = Null; collation = Binary }
 
 -- the counters: version, layout, revision, next_instance, next_snapshot
 abbrev pub meta_at : ℕ → Table
@@ -65,7 +66,14 @@ instance_at tree = record {
   uniques = (2 ∷ 3 ∷ []) ∷ [];
   orders = plain ∷ [];
   checks = [];
-  references = record { columns = 2 ∷ []; parent = codes "service"; parent_columns = codes "name" ∷ []; on_delete = NoAction; on_update = NoAction; is_deferred = false } ∷ [];
+  references = record {
+    columns = 2 ∷ [];
+    parent = codes "service";
+    parent_columns = codes "name" ∷ [];
+    on_delete = NoAction;
+    on_update = NoAction;
+    is_deferred = false;
+  } ∷ [];
   computed = [];
   stamps = record { places = []; terms = []; formats = [] };
   is_counted = false;

@@ -8,8 +8,8 @@ use Rattle.sqlite.specs.Tree.{Trees}
 use Rattle.sqlite.specs.State.{State, Shows}
 use Rattle.sqlite.specs.Term.{Term}
 use Rattle.sqlite_rules.specs.Lists.{Has}
-use Rattle.smf_tables.specs.declared.looking.NameColumns.{NameColumns}
-use Rattle.smf_tables.specs.declared.writing.InstanceRow.{InstanceRow}
+use Rattle.smf_tables.specs.declared.lookups.NameColumns.{NameColumns}
+use Rattle.smf_tables.specs.declared.edits.InstanceRow.{InstanceRow}
 use Rattle.smf_tables.specs.Schema.{meta, service, instance, grp, snap, restarter, store_schema}
 use Rattle.smf_tables.specs.Rows.{Alters, Gains, Loses, equal, is_picked}
 
@@ -30,7 +30,8 @@ DropsInstance id = Alters (Loses (is_picked (equal 0 0 ∷ []) (Int id ∷ [])))
 
 abbrev pub instance_row : InstanceRow → Row
 instance_row i =
-    Int i.id ∷ Null ∷ Text i.service.now ∷ Text i.name.now ∷ Text i.row.now ∷ or_null Int i.start ∷ or_null Int i.previous ∷ []
+    Int i.id ∷ Null ∷ Text i.service.now ∷ Text i.name.now ∷ Text i.row.now ∷ or_null Int i.start
+    ∷ or_null Int i.previous ∷ []
 
 abbrev pub AddsInstance : InstanceRow → State → State → Type 0
 AddsInstance i = Alters (Gains (instance_row i)) instance
@@ -57,7 +58,8 @@ abbrev pub DropsLaunch : List ℕ → State → State → Type 0
 DropsLaunch name = Alters (Loses (is_picked (equal 1 0 ∷ []) (Text name ∷ []))) restarter
 
 abbrev pub AddsLaunch : List ℕ → ℤ → State → State → Type 0
-AddsLaunch name count old = Alters (Gains (Int (next_rowid (old.now.trees 9)) ∷ Text name ∷ Int count ∷ [])) restarter old
+AddsLaunch name count old =
+    Alters (Gains (Int (next_rowid (old.now.trees 9)) ∷ Text name ∷ Int count ∷ [])) restarter old
 
 -- there is such a row
 pub record HasRow (rows : List Row) (tests : List Term) (params : Row) (Shows : Row → Type 0) : Type 0 where

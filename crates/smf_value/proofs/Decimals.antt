@@ -8,7 +8,7 @@ use Rattle.std.specs.List.{list_all, position_or_len}
 use Rattle.std.specs.Str.Parse.{digits_value}
 use Rattle.std.proofs.lemmas.Bool.Decides.{nat_tests}
 use Rattle.std.proofs.lemmas.Fmt.{decimal-digits_value, digits_decimal, digits_value-decimal, decimal_digit, decimal_nonempty, first_decimal, length-decimal-le}
-use Rattle.smf_value.specs.Spellings.{is_decimal, is_point, nine_digits}
+use Rattle.smf_value.specs.ValueTexts.{is_decimal, is_point, nine_digits}
 use Rattle.smf_value.proofs.Numbers.{AreDigits, own, decimal_digits, decimal_filled, nine_fit}
 use Rattle.smf_value.proofs.Texts.{both}
 
@@ -23,11 +23,14 @@ no_zero d false e h k = let t : (d == 48) ≡ true = eq-eqb d 48 k in cc
 pub decimal_plain : (ds : List ℕ) → is_decimal ds ≡ true → IsPlain ds
 decimal_plain [] h e = cc
 decimal_plain (d ∷ []) h e = refl
-decimal_plain (d ∷ c ∷ ds) h e = absurd (no_zero d (d == 48) refl (both (not (d == 48)) (list_all is_ascii_digit (d ∷ c ∷ ds)) h).0 e)
+decimal_plain (d ∷ c ∷ ds) h e =
+    absurd (no_zero d (d == 48) refl (both (not (d == 48)) (list_all is_ascii_digit (d ∷ c ∷ ds)) h).0 e)
 
 -- a text in decimal is the text that its number prints as
-pub decimal_again : (ds : List ℕ) → is_decimal ds ≡ true → digits_value 10 ds < 2 ^ 64 → ds ≡ decimal (digits_value 10 ds)
-decimal_again ds h low = sym (decimal-digits_value own ds (decimal_digits ds h) (decimal_filled ds h) (decimal_plain ds h) low)
+pub decimal_again : (ds : List ℕ) → is_decimal ds ≡ true → digits_value 10 ds < 2 ^ 64
+    → ds ≡ decimal (digits_value 10 ds)
+decimal_again ds h low =
+    sym (decimal-digits_value own ds (decimal_digits ds h) (decimal_filled ds h) (decimal_plain ds h) low)
 
 zero_not : (d : ℕ) (v : Bool) → (d == 48) ≡ v → (d ≡ 48 → ⊥) → not v ≡ true
 zero_not d true e h = absurd (h (eqb-true d 48 e))
@@ -44,7 +47,8 @@ decimal_is_plain (suc n) low e = absurd (omega (arith, first_decimal (suc n) (om
 
 -- the text that a number prints as is in decimal, and is that number
 pub prints_decimal : (n : ℕ) → n < 2 ^ 64 → is_decimal (decimal n) ≡ true
-prints_decimal n low = decimal_from (decimal n) (digits_decimal own n low) (decimal_nonempty n low) (decimal_is_plain n low)
+prints_decimal n low =
+    decimal_from (decimal n) (digits_decimal own n low) (decimal_nonempty n low) (decimal_is_plain n low)
 
 pub prints_value : (n : ℕ) → n < 2 ^ 64 → digits_value 10 (decimal n) ≡ n
 prints_value n low = digits_value-decimal own n low
@@ -71,13 +75,16 @@ padded_zero ds p =
     let z : suc (length ds) - l ≡ suc (length ds - l) = omega arith in
     record { same = rw z (ap (λ (r : List ℕ). 48 ∷ r) p.same); short = omega arith }
 
-padded_by : (v : Bool) (d e : ℕ) (ds : List ℕ) → (d == 48) ≡ v → AreDigits (d ∷ e ∷ ds) → digits_value 10 (d ∷ e ∷ ds) < 2 ^ 64 → (digits_value 10 (e ∷ ds) < 2 ^ 64 → IsPadded (e ∷ ds)) → IsPadded (d ∷ e ∷ ds)
+padded_by : (v : Bool) (d e : ℕ) (ds : List ℕ) → (d == 48) ≡ v → AreDigits (d ∷ e ∷ ds)
+    → digits_value 10 (d ∷ e ∷ ds) < 2 ^ 64 → (digits_value 10 (e ∷ ds) < 2 ^ 64 → IsPadded (e ∷ ds))
+    → IsPadded (d ∷ e ∷ ds)
 padded_by true d e ds h digits low k =
     let is : 48 ≡ d = sym (eqb-true d 48 h) in
     let P : ℕ → Type 0 = λ c. digits_value 10 (c ∷ e ∷ ds) < 2 ^ 64 in
     let Q : ℕ → Type 0 = λ c. IsPadded (c ∷ e ∷ ds) in
     subst Q is (padded_zero (e ∷ ds) (k (subst P (sym is) low)))
-padded_by false d e ds h digits low k = padded_plain (d ∷ e ∷ ds) digits (omega arith) (λ is. absurd (not_here d h is)) low
+padded_by false d e ds h digits low k =
+    padded_plain (d ∷ e ∷ ds) digits (omega arith) (λ is. absurd (not_here d h is)) low
   where
     not_here : (d : ℕ) → (d == 48) ≡ false → d ≡ 48 → ⊥
     not_here d h is = let t : (d == 48) ≡ true = eq-eqb d 48 is in cc
@@ -85,7 +92,9 @@ padded_by false d e ds h digits low k = padded_plain (d ∷ e ∷ ds) digits (om
 are_padded : (ds : List ℕ) → AreDigits ds → 0 < length ds → digits_value 10 ds < 2 ^ 64 → IsPadded ds
 are_padded [] d n low = absurd (omega arith)
 are_padded (c ∷ []) d n low = padded_plain (c ∷ []) d n (λ h. refl) low
-are_padded (c ∷ e ∷ ds) d n low = padded_by (c == 48) c e ds refl d low (λ l. are_padded (e ∷ ds) (both (is_ascii_digit c) (list_all is_ascii_digit (e ∷ ds)) d).1 (omega arith) l)
+are_padded (c ∷ e ∷ ds) d n low =
+    padded_by (c == 48) c e ds refl d low
+    (λ l. are_padded (e ∷ ds) (both (is_ascii_digit c) (list_all is_ascii_digit (e ∷ ds)) d).1 (omega arith) l)
 
 -- nine digits are what their number prints as
 pub nine_again : (ds : List ℕ) → AreDigits ds → length ds ≡ 9 → ds ≡ nine_digits (digits_value 10 ds)
@@ -143,4 +152,5 @@ pub same_text : (a b : List ℕ) → pointwise nat_eq a b ≡ true → a ≡ b
 same_text [] [] h = refl
 same_text [] (y ∷ ys) h = cc
 same_text (x ∷ xs) [] h = cc
-same_text (x ∷ xs) (y ∷ ys) h = let p = both (nat_eq x y) (pointwise nat_eq xs ys) h in let e : x ≡ y = eqb-true x y p.0 in let t : xs ≡ ys = same_text xs ys p.1 in cc
+same_text (x ∷ xs) (y ∷ ys) h = let p = both (nat_eq x y) (pointwise nat_eq xs ys) h in let e : x ≡ y =
+    eqb-true x y p.0 in let t : xs ≡ ys = same_text xs ys p.1 in cc

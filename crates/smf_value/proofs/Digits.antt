@@ -3,7 +3,8 @@ use Rattle.std.proofs.Common.{◌≡◌, ℕ, suc, ◌+◌, ◌-◌, ◌<◌, Li
 use Rattle.std.specs.Prelude.{replicate}
 
 -- one zero more
-pub zero_more : (was text all : List ℕ) (i : ℕ) → i < 9 → was ++ replicate (9 - i) 48 ≡ all → text ≡ was ++ 48 ∷ [] → text ++ replicate (9 - (i + 1)) 48 ≡ all
+pub zero_more : (was text all : List ℕ) (i : ℕ) → i < 9 → was ++ replicate (9 - i) 48 ≡ all → text ≡ was ++ 48 ∷ []
+    → text ++ replicate (9 - (i + 1)) 48 ≡ all
 zero_more was text all i low h e =
     let z : 9 - i ≡ suc (9 - (i + 1)) = omega arith in
     let one : replicate (9 - i) 48 ≡ 48 ∷ replicate (9 - (i + 1)) 48 = rw z refl in

@@ -6,12 +6,15 @@ use Rattle.std.specs.Str.{is_utf8}
 use Rattle.std.proofs.lemmas.Str.{IsUtf8-from_ascii, is_utf8-from_IsUtf8}
 use Rattle.std.proofs.lemmas.Bool.Decides.{nat_tests}
 use Rattle.smf_fmri.specs.Name.{is_word_byte}
-use Rattle.smf_fmri.specs.Spelling.{AllWord, IsComponent}
+use Rattle.smf_fmri.specs.Grammar.{AllWord, IsComponent}
 use Rattle.smf_value.specs.Names.{rest_wrong, name_wrong, is_name, IsNameText}
 
-rest_by : (v w : Bool) (b at : ℕ) (bs : List ℕ) → is_word_byte b ≡ v → nat_lt at 255 ≡ w → cond (v && w) (rest_wrong (at + 1) bs) (Some at) ≡ None
-    → (at + 1 ≤ 255 → rest_wrong (at + 1) bs ≡ None → AllWord bs × (at + 1 + length bs ≤ 255)) → AllWord (b ∷ bs) × (at + length (b ∷ bs) ≤ 255)
-rest_by true true b at bs e f h k = let low : at < 255 = ltb-true at 255 f in let p = k (omega arith) h in ((e, p.0), omega arith)
+rest_by : (v w : Bool) (b at : ℕ) (bs : List ℕ) → is_word_byte b ≡ v → nat_lt at 255 ≡ w
+    → cond (v && w) (rest_wrong (at + 1) bs) (Some at) ≡ None
+    → (at + 1 ≤ 255 → rest_wrong (at + 1) bs ≡ None → AllWord bs × (at + 1 + length bs ≤ 255))
+    → AllWord (b ∷ bs) × (at + length (b ∷ bs) ≤ 255)
+rest_by true true b at bs e f h k = let low : at < 255 = ltb-true at 255 f in let p = k (omega arith) h in
+    ((e, p.0), omega arith)
 rest_by true false b at bs e f h k = cc
 rest_by false w b at bs e f h k = cc
 
@@ -19,7 +22,8 @@ rest_is : (bs : List ℕ) (at : ℕ) → at ≤ 255 → rest_wrong at bs ≡ Non
 rest_is [] at low h = (tt, omega arith)
 rest_is (b ∷ bs) at low h = rest_by _ _ b at bs refl refl h (λ l k. rest_is bs (at + 1) l k)
 
-first_by : (v : Bool) (b : ℕ) (bs : List ℕ) → is_ascii_alphanumeric b ≡ v → cond v (rest_wrong 1 bs) (Some 0) ≡ None → IsNameText (b ∷ bs)
+first_by : (v : Bool) (b : ℕ) (bs : List ℕ) → is_ascii_alphanumeric b ≡ v → cond v (rest_wrong 1 bs) (Some 0) ≡ None
+    → IsNameText (b ∷ bs)
 first_by false b bs e h = cc
 first_by true b bs e h = let p = rest_is bs 1 (omega arith) h in record { component = (e, p.0); bounded = omega arith }
 
@@ -29,7 +33,8 @@ name_is (b ∷ bs) h = first_by _ b bs refl h
 
 rest_reads : (bs : List ℕ) (at : ℕ) → AllWord bs → at + length bs ≤ 255 → rest_wrong at bs ≡ None
 rest_reads [] at words low = refl
-rest_reads (b ∷ bs) at words low = let less : nat_lt at 255 ≡ true = lt-ltb at 255 (omega arith) in rw (words.0, less) (rest_reads bs (at + 1) words.1 (omega arith))
+rest_reads (b ∷ bs) at words low = let less : nat_lt at 255 ≡ true = lt-ltb at 255 (omega arith) in
+    rw (words.0, less) (rest_reads bs (at + 1) words.1 (omega arith))
 
 name_reads_by : (text : List ℕ) → IsComponent text → length text ≤ 255 → name_wrong text ≡ None
 name_reads_by [] h low = absurd h
@@ -65,7 +70,9 @@ component_is_ascii (b ∷ bs) h zero = letter_is_ascii b h.0
 component_is_ascii (b ∷ bs) h (suc i) = words_are_ascii bs h.1 i
 
 pub name_is_utf8 : (text : List ℕ) → is_name text ≡ true → is_utf8 text ≡ true
-name_is_utf8 text h = is_utf8-from_IsUtf8 text (IsUtf8-from_ascii text (component_is_ascii text (name_is text (no_wrong text h)).component))
+name_is_utf8 text h =
+    is_utf8-from_IsUtf8 text
+    (IsUtf8-from_ascii text (component_is_ascii text (name_is text (no_wrong text h)).component))
 
 pub is_name_at : (text : List ℕ) → name_wrong text ≡ None → is_name text ≡ true
 is_name_at text h = ap is_none h

@@ -40,11 +40,12 @@ spelled_property p = spelled_text w16 p.name ++ (kind_code p.kind ∷ spelled_al
 abbrev pub spelled_group : GroupRecord → List ℕ
 spelled_group g =
     spelled_text w16 g.name
-    ++ (spelled_text w16 g.group_type ++ (spelled_bit g.non_persistent ++ spelled_all w16 spelled_property g.properties))
+    ++ (spelled_text w16 g.group_type
+    ++ (spelled_bit g.non_persistent ++ spelled_all w16 spelled_property g.properties))
 
 -- the body of groups
-abbrev pub spelled : List GroupRecord → List ℕ
-spelled gs = spelled_all w32 spelled_group gs
+abbrev pub bytes_of_groups : List GroupRecord → List ℕ
+bytes_of_groups gs = spelled_all w32 spelled_group gs
 
 -- a property that is right in all its parts
 pub record IsWholeProperty (p : PropertyRecord) : Type 0 where

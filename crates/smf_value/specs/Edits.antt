@@ -1,6 +1,7 @@
 -- How groups are changed.
 use Rattle.std.specs.Prelude.{◌≡◌, ℕ, List, [], ◌∷◌, ◌++◌, length, not, nat_lt, if◌then◌else◌, filter, is_some, Option, Some, None, Result, Ok, Err}
-use Rattle.smf_fmri.specs.ByKey.{put, without}
+use Rattle.smf_fmri.specs.declared.limits.TheConstants.{MAX_PARTS}
+use Rattle.smf_fmri.specs.ByKey.{list_with_item, without}
 use Rattle.smf_value.specs.declared.fault.GroupFault.{GroupFault}
 use Rattle.smf_value.specs.declared.fault.GroupFault.TheVariants.{Memory, NoSuch, NeedsKind, KindDiffers, TooLong, NotA, Range, Full}
 use Rattle.smf_value.specs.declared.fault.ValueFault.{ValueFault}
@@ -9,7 +10,7 @@ use Rattle.smf_value.specs.declared.kind.Kind.{Kind}
 use Rattle.smf_value.specs.declared.value.Value.{Value}
 use Rattle.smf_value.specs.Kinds.{is_kind}
 use Rattle.smf_value.specs.Values.{is_value}
-use Rattle.smf_value.specs.Spellings.{read_value}
+use Rattle.smf_value.specs.ValueTexts.{read_value}
 use Rattle.smf_value.specs.Groups.{PropertyRecord, GroupRecord, by_property, property_of}
 
 abbrev pub Fails : {Y : Type 0} → GroupFault → Result Y GroupFault → Type 0
@@ -38,24 +39,24 @@ given_by values.TooLong = TooLong
 given_by (values.NotA kind) = NotA kind
 given_by values.Range = Range
 
-abbrev pub lifted : {X : Type 0} → Result X ValueFault → Result X GroupFault
-lifted (Ok x) = Ok x
-lifted (Err e) = Err (given_by e)
+abbrev pub group_result : {X : Type 0} → Result X ValueFault → Result X GroupFault
+group_result (Ok x) = Ok x
+group_result (Err e) = Err (given_by e)
 
 -- the values of texts, or the first bad one's fault
 abbrev pub read_values : Kind → List (List ℕ) → Result (List Value) GroupFault
 read_values kind [] = Ok []
 read_values kind (text ∷ texts) = do
-  value ← lifted (read_value kind text)
+  value ← group_result (read_value kind text)
   others ← read_values kind texts
   Ok (value ∷ others)
 
 -- the kind that a property comes to have: a new one needs one, and a present one keeps its own
-abbrev pub agreed : Option Kind → Option PropertyRecord → Result Kind GroupFault
-agreed None None = Err NeedsKind
-agreed (Some kind) None = Ok kind
-agreed None (Some p) = Ok p.kind
-agreed (Some kind) (Some p) = if is_kind kind p.kind then Ok kind else Err KindDiffers
+abbrev pub kind_after_edit : Option Kind → Option PropertyRecord → Result Kind GroupFault
+kind_after_edit None None = Err NeedsKind
+kind_after_edit (Some kind) None = Ok kind
+kind_after_edit None (Some p) = Ok p.kind
+kind_after_edit (Some kind) (Some p) = if is_kind kind p.kind then Ok kind else Err KindDiffers
 
 abbrev pub values_of : Option PropertyRecord → List Value
 values_of None = []
@@ -64,19 +65,20 @@ values_of (Some p) = p.values
 -- a property put in its place, over the one that has its name: at most 1,000 in all
 unfoldable pub put_property : PropertyRecord → GroupRecord → Result GroupRecord GroupFault
 put_property p g =
-    if nat_lt 1000 (length (put by_property p g.properties)) then Err Full
-    else Ok (record g { properties = put by_property p g.properties })
+    if nat_lt MAX_PARTS (length (list_with_item by_property p g.properties)) then Err Full
+    else Ok (record g { properties = list_with_item by_property p g.properties })
 
 -- at most 1,000 values in a property
-abbrev pub bounded : PropertyRecord → Result PropertyRecord GroupFault
-bounded p = if nat_lt 1000 (length p.values) then Err Full else Ok p
+abbrev pub property_or_full : PropertyRecord → Result PropertyRecord GroupFault
+property_or_full p = if nat_lt MAX_PARTS (length p.values) then Err Full else Ok p
 
 -- a property of these values, and no others
-unfoldable pub property_set : List ℕ → Option Kind → List (List ℕ) → Option PropertyRecord → Result PropertyRecord GroupFault
+unfoldable pub property_set : List ℕ → Option Kind → List (List ℕ) → Option PropertyRecord
+    → Result PropertyRecord GroupFault
 property_set name kind texts found = do
-  k ← agreed kind found
+  k ← kind_after_edit kind found
   vs ← read_values k texts
-  bounded (record { name = name; kind = k; values = vs })
+  property_or_full (record { name = name; kind = k; values = vs })
 
 unfoldable pub set : List ℕ → Option Kind → List (List ℕ) → GroupRecord → Result GroupRecord GroupFault
 set name kind texts g = do
@@ -86,9 +88,9 @@ set name kind texts g = do
 -- a value after the others, even if the property has it already
 unfoldable pub property_added : List ℕ → Option Kind → List ℕ → Option PropertyRecord → Result PropertyRecord GroupFault
 property_added name kind text found = do
-  k ← agreed kind found
-  v ← lifted (read_value k text)
-  bounded (record { name = name; kind = k; values = values_of found ++ v ∷ [] })
+  k ← kind_after_edit kind found
+  v ← group_result (read_value k text)
+  property_or_full (record { name = name; kind = k; values = values_of found ++ v ∷ [] })
 
 unfoldable pub add_value : List ℕ → Option Kind → List ℕ → GroupRecord → Result GroupRecord GroupFault
 add_value name kind text g = do
@@ -98,7 +100,7 @@ add_value name kind text g = do
 -- all values that equal it go; a property without values stays
 unfoldable pub property_less : List ℕ → PropertyRecord → Result PropertyRecord GroupFault
 property_less text p = do
-  v ← lifted (read_value p.kind text)
+  v ← group_result (read_value p.kind text)
   Ok (record p { values = filter (λ w. not (is_value w v)) p.values })
 
 abbrev pub present_less : List ℕ → Option PropertyRecord → Result PropertyRecord GroupFault

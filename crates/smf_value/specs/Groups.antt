@@ -1,6 +1,7 @@
 -- Properties and groups.
 use Rattle.std.specs.Prelude.{◌≡◌, ℕ, ◌≤◌, ◌-◌, List, [], ◌∷◌, length, Bool, true, Option, Some, None, option_map, slice_get}
 use Rattle.std.specs.List.{list_all}
+use Rattle.smf_fmri.specs.declared.limits.TheConstants.{MAX_PARTS}
 use Rattle.smf_fmri.specs.ByKey.{By, Rises, by_text, lookup}
 use Rattle.smf_value.specs.declared.kind.Kind.{Kind}
 use Rattle.smf_value.specs.declared.value.Value.{Value}
@@ -30,7 +31,7 @@ AreOf kind values = list_all (λ v. is_kind (kind_of v) kind) values ≡ true
 
 pub record IsProperty (p : PropertyRecord) : Type 0 where
   pub kinds : AreOf p.kind p.values
-  pub bounded : length p.values ≤ 1000
+  pub bounded : length p.values ≤ MAX_PARTS
 
 -- properties are kept by their names, and groups by theirs
 abbrev pub by_property : By PropertyRecord (List ℕ)
@@ -41,7 +42,7 @@ by_group = by_text (λ g. g.name)
 
 pub record IsGroup (g : GroupRecord) : Type 0 where
   pub rises : Rises by_property g.properties
-  pub bounded : length g.properties ≤ 1000
+  pub bounded : length g.properties ≤ MAX_PARTS
 
 -- the property of a name
 abbrev pub property_of : List ℕ → GroupRecord → Option PropertyRecord

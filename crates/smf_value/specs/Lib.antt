@@ -3,8 +3,8 @@ pub mod Kinds
 pub mod Moments
 pub mod Texts
 pub mod Values
-pub mod Spellings
+pub mod ValueTexts
 pub mod Groups
 pub mod Edits
 pub mod Body
-pub mod Reading
+pub mod Decoder

@@ -1,8 +1,9 @@
 -- The names of groups, types and properties.
 use Rattle.std.specs.Prelude.{◌≡◌, ℕ, ◌+◌, ◌≤◌, List, [], ◌∷◌, length, Bool, true, ◌&&◌, nat_lt, if◌then◌else◌, Option, Some, None, is_none, Result, Ok, Err}
 use Rattle.std.specs.Char.{is_ascii_alphanumeric}
+use Rattle.smf_fmri.specs.declared.limits.TheConstants.{MAX_COMPONENT}
 use Rattle.smf_fmri.specs.Name.{is_word_byte}
-use Rattle.smf_fmri.specs.Spelling.{IsComponent}
+use Rattle.smf_fmri.specs.Grammar.{IsComponent}
 use Rattle.smf_value.specs.declared.fault.NameFault.{NameFault}
 use Rattle.smf_value.specs.declared.fault.NameFault.TheVariants.{Memory, Component}
 
@@ -18,7 +19,7 @@ Gives view (Err e) given = Fails e given
 -- the place of the first byte that cannot stand after the first one, counted from `at`
 abbrev pub rest_wrong : ℕ → List ℕ → Option ℕ
 rest_wrong at [] = None
-rest_wrong at (b ∷ bs) = if is_word_byte b && nat_lt at 255 then rest_wrong (at + 1) bs else Some at
+rest_wrong at (b ∷ bs) = if is_word_byte b && nat_lt at MAX_COMPONENT then rest_wrong (at + 1) bs else Some at
 
 -- the place of the first byte that cannot stand in a name
 abbrev pub name_wrong : List ℕ → Option ℕ
@@ -42,4 +43,4 @@ pub record IsName (text : List ℕ) : Type 0 where
 -- the same by its looks: a letter or a digit, and then letters, digits and _ - . , in at most 255 bytes
 pub record IsNameText (text : List ℕ) : Type 0 where
   pub component : IsComponent text
-  pub bounded : length text ≤ 255
+  pub bounded : length text ≤ MAX_COMPONENT

@@ -4,12 +4,10 @@ ghost use Rattle.std.specs.Cmp.Lexicographic.{pointwise, nat_list_eq_equiv};
 ghost use Rattle.std.specs.List.{list_all};
 ghost use Rattle.std.specs.Prelude.{◌≡◌, IfOk, Some, nat_eq, true};
 
+use smf_fmri::limits::MAX_TEXT;
 use std::alloc::{AllocError, Global};
 use std::fmt;
 use std::marker::Model;
-
-/// The most bytes that an astring has.
-const MAX: usize = 4096;
 
 /// A text of ASCII without control characters, of at most 4,096 bytes.
 #[derive(Drop)]
@@ -40,7 +38,7 @@ impl Astring {
     pub fn is_text(bytes: &[u8]) -> bool
         ensures { result ≡ is_astring bytes.now }
     {
-        bytes.len() <= MAX && all_plain(bytes)
+        bytes.len() <= MAX_TEXT && all_plain(bytes)
     }
 
     /// A text that is known to be one.

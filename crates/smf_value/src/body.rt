@@ -1,7 +1,7 @@
 //! Groups as bytes.
 
 ghost use Rattle.smf_fmri.specs.ByKey.{Rises};
-ghost use Rattle.smf_value.specs.Body.{AreGroups, IsWholeGroup, IsWholeProperty, spelled, spelled_bit, spelled_group, spelled_moment, spelled_property, spelled_text, spelled_value};
+ghost use Rattle.smf_value.specs.Body.{AreGroups, IsWholeGroup, IsWholeProperty, bytes_of_groups, spelled_bit, spelled_group, spelled_moment, spelled_property, spelled_text, spelled_value};
 ghost use Rattle.smf_value.specs.Groups.{by_group};
 ghost use Rattle.smf_value.specs.Names.{IsName};
 ghost use Rattle.smf_value.specs.Values.{IsValue};
@@ -12,9 +12,9 @@ ghost use Rattle.std.specs.Prelude.{◌≡◌, ◌++◌, ◌<◌, ◌^◌, IfOk,
 use crate::group::Group;
 use crate::name::Name;
 use crate::property::Property;
-use crate::spelling::short_of;
 use crate::time::Time;
 use crate::value::Value;
+use crate::value_texts::short_of;
 use smf_fmri::{Bytes, Ordered};
 use std::alloc::{AllocError, Global};
 
@@ -106,7 +106,7 @@ fn put_group(alloc: Global, out: &mut Vec<u8>, group: &Group) -> Result<(), Allo
 
 fn body_of(alloc: Global, groups: &[Group]) -> Result<Bytes, AllocError>
     requires { Rises by_group groups.now }
-    ensures spelled { IfOk result (λ b. b ≡ spelled groups.now) }
+    ensures spelled { IfOk result (λ b. b ≡ bytes_of_groups groups.now) }
     ensures formed { IfOk result (λ _. AreGroups groups.now) }
 {
     let Ok(count) = u32::try_from(groups.len()) else {
@@ -122,7 +122,7 @@ fn body_of(alloc: Global, groups: &[Group]) -> Result<Bytes, AllocError>
 
 /// The body of groups.
 pub fn encode(alloc: Global, groups: &Ordered<Group>) -> Result<Bytes, AllocError>
-    ensures spelled { IfOk result (λ b. b ≡ spelled groups.now) }
+    ensures spelled { IfOk result (λ b. b ≡ bytes_of_groups groups.now) }
     // Such groups are what `decode` gives of their body.
     ensures formed { IfOk result (λ _. AreGroups groups.now) }
 {

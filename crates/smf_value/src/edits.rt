@@ -1,7 +1,7 @@
 //! Changes of a group that are read from texts.
 
-ghost use Rattle.smf_value.specs.Edits.{Answers, Leaves, add_value, agreed, bounded, del_value, lifted, present_less, property_added, property_less, property_set, read_values, set, values_of};
-ghost use Rattle.smf_value.specs.Spellings.{read_value};
+ghost use Rattle.smf_value.specs.Edits.{Answers, Leaves, add_value, kind_after_edit, property_or_full, del_value, group_result, present_less, property_added, property_less, property_set, read_values, set, values_of};
+ghost use Rattle.smf_value.specs.ValueTexts.{read_value};
 ghost use Rattle.smf_value.specs.Groups.{AreOf};
 ghost use Rattle.smf_value.specs.Values.{is_value, kind_of};
 ghost use Rattle.std.specs.Option.{option_copied};
@@ -13,12 +13,13 @@ use crate::kind::Kind;
 use crate::name::Name;
 use crate::property::Property;
 use crate::value::Value;
+use smf_fmri::limits::MAX_PARTS;
 use smf_fmri::{Items, Text};
 use std::alloc::{AllocError, Global};
 
 /// The kind that a property comes to have.
-fn agreed(kind: Option<Kind>, present: Option<&Property>) -> Result<Kind, GroupFault>
-    ensures { result ≡ agreed kind (option_copied present.entry) }
+fn kind_after_edit(kind: Option<Kind>, present: Option<&Property>) -> Result<Kind, GroupFault>
+    ensures { result ≡ kind_after_edit kind (option_copied present.entry) }
 {
     match (kind, present) {
         (None, None) => Err(GroupFault::NeedsKind),
@@ -36,7 +37,7 @@ fn agreed(kind: Option<Kind>, present: Option<&Property>) -> Result<Kind, GroupF
 
 /// The value of a kind that a text spells.
 fn read_value(alloc: Global, kind: Kind, text: &str) -> Result<Value, GroupFault>
-    ensures exact { Answers (λ v. v) result (lifted (read_value kind text.now)) }
+    ensures exact { Answers (λ v. v) result (group_result (read_value kind text.now)) }
     ensures kind { IfOk result (λ v. kind_of v ≡ kind) }
 {
     match Value::read(alloc, kind, text) {
@@ -83,11 +84,11 @@ fn values_but(alloc: Global, values: &[Value], value: &Value) -> Result<Items<Va
 }
 
 /// A property of these values, if they are not too many.
-fn bounded(name: &Name, kind: Kind, values: Items<Value>) -> Result<Property, GroupFault>
+fn property_or_full(name: &Name, kind: Kind, values: Items<Value>) -> Result<Property, GroupFault>
     requires { AreOf kind values }
-    ensures { Answers (λ p. p) result (bounded (record { name = name.now; kind = kind; values = values })) }
+    ensures { Answers (λ p. p) result (property_or_full (record { name = name.now; kind = kind; values = values })) }
 {
-    if values.len() > Property::MAX_VALUES {
+    if values.len() > MAX_PARTS {
         return Err(GroupFault::Full);
     }
     let name = name.clone()?;
@@ -105,9 +106,9 @@ fn property_set(
 ) -> Result<Property, GroupFault>
     ensures { Answers (λ p. p) result (property_set name.now kind texts.now (option_copied present.entry)) }
 {
-    let kind = agreed(kind, present)?;
+    let kind = kind_after_edit(kind, present)?;
     let values = read_values(alloc, kind, texts)?;
-    bounded(name, kind, values)
+    property_or_full(name, kind, values)
 }
 
 /// A property with a further value.
@@ -121,11 +122,11 @@ fn property_added(
 ) -> Result<Property, GroupFault>
     ensures { Answers (λ p. p) result (property_added name.now kind text.now (option_copied present.entry)) }
 {
-    let kind = agreed(kind, present)?;
+    let kind = kind_after_edit(kind, present)?;
     let value = read_value(alloc, kind, text)?;
     let mut values = values_of(alloc, present)?;
     values.push(value)?;
-    bounded(name, kind, values)
+    property_or_full(name, kind, values)
 }
 
 /// A property without the values that equal one.

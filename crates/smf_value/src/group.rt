@@ -1,4 +1,4 @@
-ghost use Rattle.smf_fmri.specs.ByKey.{Rises, by_text, put};
+ghost use Rattle.smf_fmri.specs.ByKey.{Rises, by_text, list_with_item};
 ghost use Rattle.smf_value.specs.Edits.{Leaves, del, put_property};
 ghost use Rattle.smf_value.specs.Groups.{IsGroup, by_property, group_with, property_of, text_in};
 ghost use Rattle.smf_value.specs.declared.fault.GroupFault.TheVariants.{Memory};
@@ -12,6 +12,7 @@ use crate::flags::GroupFlags;
 use crate::name::Name;
 use crate::property::Property;
 use bitflags::Flags;
+use smf_fmri::limits::MAX_PARTS;
 use smf_fmri::{ExactClone, Items, Keyed, Ordered, TextKeyed};
 use std::alloc::{AllocError, Global};
 use std::marker::Model;
@@ -38,9 +39,6 @@ impl Model for Group {
 }
 
 impl Group {
-    /// The most properties that a group has.
-    pub const MAX_PROPERTIES: usize = 1000;
-
     /// A group without properties.
     pub fn new(alloc: Global, name: Name, group_type: Name, flags: GroupFlags) -> Group
         ensures { result ≡ group_with name group_type (bit_and flags.0 1 == 1) [] }
@@ -148,9 +146,9 @@ impl Group {
 /// True if a property would be one more than a group may have.
 fn is_one_too_many(properties: &Ordered<Property>, property: &Property) -> bool
     requires { length properties.now ≤ 1000 }
-    ensures { result ≡ nat_lt 1000 (length (put by_property property.now properties.now)) }
+    ensures { result ≡ nat_lt 1000 (length (list_with_item by_property property.now properties.now)) }
 {
-    if properties.as_slice().len() < Group::MAX_PROPERTIES {
+    if properties.as_slice().len() < MAX_PARTS {
         return false;
     }
     properties.get(property.key()).is_none()

@@ -5,6 +5,7 @@
 
 mod astring;
 mod body;
+mod decoder;
 mod edits;
 mod fault;
 mod flags;
@@ -12,21 +13,20 @@ mod group;
 mod kind;
 mod name;
 mod property;
-mod reading;
-mod spelling;
 mod time;
 mod ustring;
 mod value;
+mod value_texts;
 
 pub use astring::Astring;
 pub use body::encode;
+pub use decoder::{decode, decode_first};
 pub use fault::{BodyFault, GroupFault, NameFault, ValueFault};
 pub use flags::GroupFlags;
 pub use group::Group;
 pub use kind::Kind;
 pub use name::Name;
 pub use property::Property;
-pub use reading::{decode, decode_first};
 pub use time::Time;
 pub use ustring::Ustring;
 pub use value::Value;

@@ -6,13 +6,11 @@ ghost use Rattle.std.specs.Ordering.{nat_cmp};
 ghost use Rattle.std.specs.Prelude.{◌≡◌, IfOk, Ok, Some, nat_eq, refl, true};
 
 use crate::fault::NameFault;
+use smf_fmri::limits::MAX_COMPONENT;
 use std::alloc::{AllocError, Global};
 use std::cmp::Ordering;
 use std::fmt;
 use std::marker::Model;
-
-/// The most bytes that a name has.
-const MAX: usize = 255;
 
 /// The name of a group, of its type, or of a property: one component of at most 255 bytes, which
 /// contracts see as its bytes.
@@ -44,7 +42,7 @@ fn rest_wrong(rest: &[u8]) -> Option<usize>
 {
     let mut at = 1;
     for b in rest {
-        if !is_word_byte(*b) || at >= MAX {
+        if !is_word_byte(*b) || at >= MAX_COMPONENT {
             return Some(at);
         }
         at += 1;
@@ -75,11 +73,11 @@ impl Name {
         // Which byte cannot stand there.
         ensures exact { Gives (λ n. n) result (read_name text.now) }
     {
-        Name::parsed(alloc, text)
+        Name::parse_name_exact(alloc, text)
     }
 
     #[tactic(auto, unfolding(crate::specs::Names::read_name))]
-    fn parsed(alloc: Global, text: &str) -> Result<Name, NameFault>
+    fn parse_name_exact(alloc: Global, text: &str) -> Result<Name, NameFault>
         ensures { Gives (λ n. n) result (read_name text.now) }
     {
         if let Some(place) = name_wrong(text.as_bytes()) {

@@ -31,9 +31,6 @@ impl Model for Property {
 }
 
 impl Property {
-    /// The most values that a property has.
-    pub const MAX_VALUES: usize = 1000;
-
     /// A property of values that are known to be of its kind, and not too many.
     pub fn new(name: Name, kind: Kind, values: Items<Value>) -> Property
         requires kinds { AreOf kind values }

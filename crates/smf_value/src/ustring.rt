@@ -5,12 +5,10 @@ ghost use Rattle.std.specs.List.{list_all};
 ghost use Rattle.std.specs.Str.{is_utf8};
 ghost use Rattle.std.specs.Prelude.{◌≡◌, IfOk, Some, nat_eq, true};
 
+use smf_fmri::limits::MAX_TEXT;
 use std::alloc::{AllocError, Global};
 use std::marker::Model;
 use std::{fmt, str};
-
-/// The most bytes that a ustring has.
-const MAX: usize = 4096;
 
 /// A text without the control characters of ASCII (U+0000 to U+001F, U+007F), of at most 4,096 bytes.
 #[derive(Drop)]
@@ -48,7 +46,7 @@ impl Ustring {
     pub fn is_text(bytes: &[u8]) -> bool
         ensures { result ≡ is_ustring bytes.now }
     {
-        bytes.len() <= MAX && all_no_control(bytes) && is_utf8(bytes)
+        bytes.len() <= MAX_TEXT && all_no_control(bytes) && is_utf8(bytes)
     }
 
     /// A text that is known to be one.

@@ -1,5 +1,5 @@
 -- Bytes as digits: what is written is read, and what is read was written so.
-use Rattle.std.proofs.Common.{◌≡◌, ℕ, zero, suc, ◌+◌, ◌*◌, ◌/◌, ◌%◌, ◌<◌, ◌≤◌, ◌==◌, not, List, [], ◌∷◌, length, get_or, Bool, true, false, cond, Option, Some, None, Result, Ok, Err, refl, sym, ◌∙◌, ap, subst, arith, eqb-true, codes, inl, inr}
+use Rattle.std.proofs.Common.{◌≡◌, ℕ, suc, ◌*◌, ◌/◌, ◌%◌, ◌<◌, ◌==◌, not, List, [], ◌∷◌, length, get_or, Bool, true, false, cond, Option, Some, None, Result, Ok, Err, refl, sym, ◌∙◌, ap, subst, arith, eqb-true, codes, inl, inr}
 use Rattle.std.specs.Cmp.Lexicographic.{pointwise}
 use Rattle.std.specs.List.{list_all}
 use Rattle.std.specs.Prelude.{nat_eq, slice_index}
@@ -12,7 +12,7 @@ use Rattle.hex.specs.Hex.{IsBytes, decode_of, encode_lower, encode_with, hex_dig
 use Rattle.hex.specs.declared.error.FromHexError.{FromHexError}
 use Rattle.hex.proofs.HexLemmas.{IsDigits-lower_digits, decode_of-encode_lower, decode_of-ok, length-encode_with}
 use Rattle.smf_fmri.specs.Counts.{no_space}
-use Rattle.smf_fmri.proofs.Matching.{same_text}
+use Rattle.smf_fmri.proofs.Patterns.{same_text}
 use Rattle.smf_method.specs.Commands.{IsCommand}
 use Rattle.smf_method.proofs.PlainTexts.{byte_is_ascii}
 use Rattle.smf_value.specs.Texts.{is_plain}
@@ -40,25 +40,29 @@ hex_reads [] h = refl
 hex_reads (b ∷ bs) h =
     let other : pointwise nat_eq (encode_lower (b ∷ bs)) (codes "-") ≡ false = no_dash _ b bs refl in
     let again : decode_of (encode_lower (b ∷ bs)) ≡ Ok (b ∷ bs) = decode_of-encode_lower (b ∷ bs) h in
-    let same : pointwise nat_eq (encode_lower (b ∷ bs)) (encode_lower (b ∷ bs)) ≡ true = itself (encode_lower (b ∷ bs)) in
+    let same : pointwise nat_eq (encode_lower (b ∷ bs)) (encode_lower (b ∷ bs)) ≡ true =
+    itself (encode_lower (b ∷ bs)) in
     rw (other, again, same) refl
 
 was_ok : (r : Result (List ℕ) FromHexError) (bytes : List ℕ) → result_ok r ≡ Some bytes → r ≡ Ok bytes
 was_ok (Ok x) bytes h = let is : x ≡ bytes = cc in ap (λ (y : List ℕ). Ok y) is
 was_ok (Err e) bytes h = cc
 
-same_by : (v : Bool) (t xs bytes : List ℕ) → pointwise nat_eq (hex_text xs) t ≡ v → cond v (Some xs) None ≡ Some bytes → (xs ≡ bytes) × (t ≡ hex_text bytes)
+same_by : (v : Bool) (t xs bytes : List ℕ) → pointwise nat_eq (hex_text xs) t ≡ v → cond v (Some xs) None ≡ Some bytes
+    → (xs ≡ bytes) × (t ≡ hex_text bytes)
 same_by true t xs bytes e h = let is : xs ≡ bytes = cc in (is, sym ((same_text (hex_text xs) t).0 e) ∙ ap hex_text is)
 same_by false t xs bytes e h = cc
 
-decoded_is : (o : Option (List ℕ)) (t bytes : List ℕ) → result_ok (decode_of t) ≡ o → written_so t o ≡ Some bytes → (t ≡ hex_text bytes) × IsBytes bytes
+decoded_is : (o : Option (List ℕ)) (t bytes : List ℕ) → result_ok (decode_of t) ≡ o → written_so t o ≡ Some bytes
+    → (t ≡ hex_text bytes) × IsBytes bytes
 decoded_is None t bytes e h = cc
 decoded_is (Some xs) t bytes e h =
     let found = same_by _ t xs bytes refl h in
     let ok = decode_of-ok t xs (was_ok (decode_of t) xs e) in
     (found.1, subst IsBytes found.0 ok.3)
 
-hex_by : (v : Bool) (t bytes : List ℕ) → pointwise nat_eq t (codes "-") ≡ v → cond v (Some []) (written_so t (result_ok (decode_of t))) ≡ Some bytes → (t ≡ hex_text bytes) × IsBytes bytes
+hex_by : (v : Bool) (t bytes : List ℕ) → pointwise nat_eq t (codes "-") ≡ v
+    → cond v (Some []) (written_so t (result_ok (decode_of t))) ≡ Some bytes → (t ≡ hex_text bytes) × IsBytes bytes
 hex_by true t [] e h = ((same_text t (codes "-")).0 e, λ i. omega arith)
 hex_by true t (b ∷ bs) e h = cc
 hex_by false t bytes e h = decoded_is _ t bytes refl h
@@ -102,15 +106,18 @@ command_bytes : (text : List ℕ) → IsCommand text → IsBytes text
 command_bytes text h i = let small : slice_index text i < 128 = plain_ascii text h.plain i in omega arith
 
 -- a text that is not in UTF-8 is no command
-pub no_command : (v : Bool) (text : List ℕ) → list_all is_plain text ≡ v → (IsUtf8 text → ⊥) → None ≡ cond v (Some text) None
+pub no_command : (v : Bool) (text : List ℕ) → list_all is_plain text ≡ v → (IsUtf8 text → ⊥)
+    → None ≡ cond v (Some text) None
 no_command true text e wrong = absurd (wrong (IsUtf8-from_ascii text (plain_ascii text e)))
 no_command false text e wrong = refl
 
-command_by : (v : Bool) (xs text : List ℕ) → list_all is_plain xs ≡ v → cond v (Some xs) None ≡ Some text → (xs ≡ text) × IsCommand text
+command_by : (v : Bool) (xs text : List ℕ) → list_all is_plain xs ≡ v → cond v (Some xs) None ≡ Some text
+    → (xs ≡ text) × IsCommand text
 command_by true xs text e h = let is : xs ≡ text = cc in (is, record { plain = rw (← is) e })
 command_by false xs text e h = cc
 
-command_is : (o : Option (List ℕ)) (t text : List ℕ) → read_hex t ≡ o → command_in o ≡ Some text → (t ≡ hex_text text) × IsCommand text
+command_is : (o : Option (List ℕ)) (t text : List ℕ) → read_hex t ≡ o → command_in o ≡ Some text
+    → (t ≡ hex_text text) × IsCommand text
 command_is None t text e h = cc
 command_is (Some xs) t text e h =
     let found = command_by _ xs text refl h in
@@ -132,11 +139,13 @@ command = record {
 abbrev pub IsWritten : List ℕ → Type 0
 IsWritten bytes = AreBytes bytes × IsBody bytes
 
-body_by : (v : Bool) (xs bytes : List ℕ) → is_body xs ≡ v → cond v (Some xs) None ≡ Some bytes → (xs ≡ bytes) × IsBody bytes
+body_by : (v : Bool) (xs bytes : List ℕ) → is_body xs ≡ v → cond v (Some xs) None ≡ Some bytes
+    → (xs ≡ bytes) × IsBody bytes
 body_by true xs bytes e h = let is : xs ≡ bytes = cc in (is, record { read = rw (← is) e })
 body_by false xs bytes e h = cc
 
-body_is : (o : Option (List ℕ)) (t bytes : List ℕ) → read_hex t ≡ o → body_in o ≡ Some bytes → (t ≡ hex_text bytes) × IsWritten bytes
+body_is : (o : Option (List ℕ)) (t bytes : List ℕ) → read_hex t ≡ o → body_in o ≡ Some bytes
+    → (t ≡ hex_text bytes) × IsWritten bytes
 body_is None t bytes e h = cc
 body_is (Some xs) t bytes e h =
     let found = body_by _ xs bytes refl h in

@@ -1,8 +1,8 @@
 -- Numbers that pass a test: what is written is read, and what is read was written so.
-use Rattle.std.proofs.Common.{◌≡◌, ℕ, ◌<◌, ◌==◌, List, Bool, true, false, cond, Option, Some, None, IfSome, refl, sym, ◌∙◌, ap, arith, codes, nat_lt, ltb-true, lt-ltb, eqb-true, ne_eqb}
+use Rattle.std.proofs.Common.{◌≡◌, ℕ, ◌<◌, ◌==◌, List, Bool, true, false, cond, Option, Some, None, IfSome, refl, sym, ◌∙◌, ap, arith, codes, ltb-true, lt-ltb, eqb-true, ne_eqb}
 use Rattle.std.specs.Fmt.{decimal}
 use Rattle.std.specs.Prelude.{◌||◌}
-use Rattle.smf_fmri.specs.Counts.{no_space, read_count}
+use Rattle.smf_fmri.specs.Counts.{read_count}
 use Rattle.smf_fmri.proofs.Counts.{decimal_spaceless, printed_is_read, read_is_printed, read_is_small}
 use Rattle.smf_method.specs.Timeouts.{IsTimeout, timeout_of}
 use Rattle.smf_state.specs.Fields.{optional_text, read_optional}
@@ -18,7 +18,8 @@ if_by : (v : Bool) (test : ℕ → Bool) (m n : ℕ) → test m ≡ v → cond v
 if_by true test m n e h = let is : m ≡ n = cc in (is, rw (← is) e)
 if_by false test m n e h = cc
 
-if_is : (test : ℕ → Bool) (o : Option ℕ) (t : List ℕ) (n : ℕ) → read_count t ≡ o → number_if test o ≡ Some n → (t ≡ decimal n) × Passes test n
+if_is : (test : ℕ → Bool) (o : Option ℕ) (t : List ℕ) (n : ℕ) → read_count t ≡ o → number_if test o ≡ Some n
+    → (t ≡ decimal n) × Passes test n
 if_is test None t n e h = cc
 if_is test (Some m) t n e h =
     let found = if_by _ test m n refl h in
@@ -52,7 +53,8 @@ optional_seconds = optional seconds no_dash_seconds
 
 pub timeout_in : (t : Option ℕ) → IfSome t IsTimeout → Passes are_seconds (seconds_of t)
 timeout_in None h = (omega arith, refl)
-timeout_in (Some n) h = let low : n < 0xffff_ffff_ffff_ffff = h.bounded in (omega arith, lt-ltb n 0xffff_ffff_ffff_ffff low)
+timeout_in (Some n) h = let low : n < 0xffff_ffff_ffff_ffff = h.bounded in
+    (omega arith, lt-ltb n 0xffff_ffff_ffff_ffff low)
 
 pub timeout_again : (t : Option ℕ) → IfSome t IsTimeout → timeout_of (seconds_of t) ≡ t
 timeout_again None h = refl
@@ -63,9 +65,11 @@ timeout_again (Some n) h =
     let b : (n == 18446744073709551615) ≡ false = ne_eqb n 18446744073709551615 (λ e. omega arith) in
     rw (a, b) refl
 
-seconds_by : (a b : Bool) (n : ℕ) → (n == 0) ≡ a → (n == 18446744073709551615) ≡ b → n < 18446744073709551615 → seconds_of (cond (a || b) None (Some n)) ≡ n
+seconds_by : (a b : Bool) (n : ℕ) → (n == 0) ≡ a → (n == 18446744073709551615) ≡ b → n < 18446744073709551615
+    → seconds_of (cond (a || b) None (Some n)) ≡ n
 seconds_by true b n e f low = sym (eqb-true n 0 e)
-seconds_by false true n e f low = let is : n ≡ 18446744073709551615 = eqb-true n 18446744073709551615 f in absurd (omega arith)
+seconds_by false true n e f low = let is : n ≡ 18446744073709551615 = eqb-true n 18446744073709551615 f in
+    absurd (omega arith)
 seconds_by false false n e f low = refl
 
 pub seconds_again : (n : ℕ) → are_seconds n ≡ true → seconds_of (timeout_of n) ≡ n

@@ -1,15 +1,14 @@
 -- How a line is read: each field in turn and the rest after it, or the length of the rest from a wrong field on.
-use Rattle.std.specs.Prelude.{◌≡◌, ℕ, zero, suc, ◌-◌, List, [], ◌∷◌, length, nat_eq, nat_le, nat_lt, slice_get, codes, if◌then◌else◌, Bool, true, false, Option, Some, None, option_map, Result, Ok, Err}
+use Rattle.std.specs.Prelude.{◌≡◌, ℕ, zero, suc, ◌-◌, List, [], ◌∷◌, length, nat_eq, nat_lt, slice_get, codes, if◌then◌else◌, Bool, true, false, Option, Some, None, option_map, Result, Ok, Err}
 use Rattle.std.specs.Cmp.Lexicographic.{pointwise}
 use Rattle.smf_fmri.specs.Counts.{read_count}
-use Rattle.smf_fmri.specs.Matching.{read_short}
+use Rattle.smf_fmri.specs.Patterns.{read_short}
 use Rattle.smf_method.specs.Commands.{command_of}
 use Rattle.smf_method.specs.Timeouts.{timeout_of}
 use Rattle.smf_method.specs.declared.call.MethodCall.{MethodCall}
-use Rattle.smf_state.specs.declared.refusal.Why.{Why}
 use Rattle.smf_state.specs.declared.view.ChangedItem.{ChangedItem}
 use Rattle.smf_state.specs.declared.view.View.{View}
-use Rattle.smf_state.specs.Fields.{◌>>=◌, read_flag, read_ignore, read_optional, taken}
+use Rattle.smf_state.specs.Fields.{◌>>=◌, read_flag, read_ignore, read_optional, next_field}
 use Rattle.smf_state.specs.declared.fault.FieldFault.{FieldFault}
 use Rattle.smf_state.specs.declared.fault.FieldFault.TheVariants as fields
 use Rattle.smf_state.specs.declared.fault.WrongField.{WrongField}
@@ -81,34 +80,34 @@ method_of seconds command = record { timeout = timeout_of seconds; command = com
 
 unfoldable pub method_at : Option (List ℕ) → Field MethodCall
 method_at rest = do
-  seconds ← taken read_seconds rest
-  command ← taken read_command seconds.1
+  seconds ← next_field read_seconds rest
+  command ← next_field read_command seconds.1
   Ok (method_of seconds.0 command.0, command.1)
 
 -- after the seconds, or after "-"
 abbrev pub method_behind : Option ℕ → Option (List ℕ) → Field (Option MethodCall)
 method_behind None rest = Ok (None, rest)
 method_behind (Some seconds) rest = do
-  command ← taken read_command rest
+  command ← next_field read_command rest
   Ok (Some (method_of seconds command.0), command.1)
 
 unfoldable pub optional_method_at : Option (List ℕ) → Field (Option MethodCall)
 optional_method_at rest = do
-  seconds ← taken (read_optional read_seconds) rest
+  seconds ← next_field (read_optional read_seconds) rest
   method_behind seconds.0 seconds.1
 
 unfoldable pub what_behind : OrderWord → Option (List ℕ) → Field What
 what_behind order_words.To rest = do
-  state ← taken read_state rest
+  state ← next_field read_state rest
   Ok (To state.0, state.1)
 what_behind order_words.Start rest = do
   method ← method_at rest
-  duration ← taken read_duration method.1
-  ignore ← taken read_ignore duration.1
+  duration ← next_field read_duration method.1
+  ignore ← next_field read_ignore duration.1
   Ok (Start method.0 duration.0 ignore.0, ignore.1)
 what_behind order_words.Stop rest = do
-  to ← taken read_state rest
-  cause ← taken read_cause to.1
+  to ← next_field read_state rest
+  cause ← next_field read_cause to.1
   method ← optional_method_at cause.1
   Ok (Stop to.0 cause.0 method.0, method.1)
 what_behind order_words.Refresh rest = do
@@ -117,15 +116,15 @@ what_behind order_words.Refresh rest = do
 
 unfoldable pub what_at : Option (List ℕ) → Field What
 what_at rest = do
-  word ← taken read_order_word rest
+  word ← next_field read_order_word rest
   what_behind word.0 word.1
 
 -- ---- items in number order
 
 unfoldable pub known_at : Option ℕ → Option (List ℕ) → Field Known
 known_at before rest = do
-  instance ← taken (read_above before) rest
-  name ← taken read_short instance.1
+  instance ← next_field (read_above before) rest
+  name ← next_field read_short instance.1
   row ← row_at name.1
   Ok (record { instance = instance.0; name = name.0; row = row.0 }, row.1)
 
@@ -143,16 +142,26 @@ all_known_at before (suc n) rest = do
 -- after the number and the name
 unfoldable pub item_behind : ℕ → List ℕ → Option (List ℕ) → Field ViewItem
 item_behind number name rest = do
-  enabled ← taken read_flag rest
-  readable ← taken read_flag enabled.1
+  enabled ← next_field read_flag rest
+  readable ← next_field read_flag enabled.1
   row ← row_at readable.1
-  body ← taken (read_optional read_body) row.1
-  Ok (record { instance = number; name = name; enabled = enabled.0; readable = readable.0; row = row.0; body = body.0 }, body.1)
+  body ← next_field (read_optional read_body) row.1
+  Ok (
+    record {
+      instance = number;
+      name = name;
+      enabled = enabled.0;
+      readable = readable.0;
+      row = row.0;
+      body = body.0;
+    },
+    body.1,
+  )
 
 unfoldable pub item_at : Option ℕ → Option (List ℕ) → Field ViewItem
 item_at before rest = do
-  instance ← taken (read_above before) rest
-  name ← taken read_short instance.1
+  instance ← next_field (read_above before) rest
+  name ← next_field read_short instance.1
   item_behind instance.0 name.0 name.1
 
 abbrev pub last_item : List ViewItem → Option ℕ
@@ -174,8 +183,8 @@ changed_behind number (Some name) rest = do
 
 unfoldable pub changed_at : Option ℕ → Option (List ℕ) → Field ChangedItem
 changed_at before rest = do
-  instance ← taken (read_above before) rest
-  name ← taken (read_optional read_short) instance.1
+  instance ← next_field (read_above before) rest
+  name ← next_field (read_optional read_short) instance.1
   changed_behind instance.0 name.0 name.1
 
 abbrev pub last_changed : List ChangedItem → Option ℕ
@@ -192,23 +201,43 @@ all_changed_at before (suc n) rest = do
 
 unfoldable pub proposal_at : Option (List ℕ) → Field Proposal
 proposal_at rest = do
-  proposer ← taken read_short rest
-  launch ← taken read_count proposer.1
-  serial ← taken read_count launch.1
-  instance ← taken read_count serial.1
-  number ← taken read_count instance.1
+  proposer ← next_field read_short rest
+  launch ← next_field read_count proposer.1
+  serial ← next_field read_count launch.1
+  instance ← next_field read_count serial.1
+  number ← next_field read_count instance.1
   step ← step_at number.1
-  Ok (record { proposer = proposer.0; launch = launch.0; serial = serial.0; instance = instance.0; number = number.0; step = step.0 }, step.1)
+  Ok (
+    record {
+      proposer = proposer.0;
+      launch = launch.0;
+      serial = serial.0;
+      instance = instance.0;
+      number = number.0;
+      step = step.0;
+    },
+    step.1,
+  )
 
 unfoldable pub order_at : Option (List ℕ) → Field Order
 order_at rest = do
-  restarter ← taken read_short rest
-  instance ← taken read_count restarter.1
-  name ← taken read_short instance.1
-  revision ← taken read_count name.1
+  restarter ← next_field read_short rest
+  instance ← next_field read_count restarter.1
+  name ← next_field read_short instance.1
+  revision ← next_field read_count name.1
   row ← row_at revision.1
   what ← what_at row.1
-  Ok (record { restarter = restarter.0; instance = instance.0; name = name.0; revision = revision.0; row = row.0; what = what.0 }, what.1)
+  Ok (
+    record {
+      restarter = restarter.0;
+      instance = instance.0;
+      name = name.0;
+      revision = revision.0;
+      row = row.0;
+      what = what.0;
+    },
+    what.1,
+  )
 
 abbrev pub row_if : Bool → Option (List ℕ) → Field (Option Row)
 row_if false rest = Ok (None, rest)
@@ -218,47 +247,47 @@ row_if true rest = do
 
 unfoldable pub view_at : Option (List ℕ) → Field View
 view_at rest = do
-  revision ← taken read_count rest
-  count ← taken read_count revision.1
+  revision ← next_field read_count rest
+  count ← next_field read_count revision.1
   items ← items_at None count.0 count.1
   Ok (record { revision = revision.0; items = items.0 }, items.1)
 
 unfoldable pub changes_at : Option (List ℕ) → Field ViewChanges
 changes_at rest = do
-  from ← taken read_count rest
-  to ← taken read_count from.1
-  count ← taken read_count to.1
+  from ← next_field read_count rest
+  to ← next_field read_count from.1
+  count ← next_field read_count to.1
   items ← all_changed_at None count.0 count.1
   Ok (record { from = from.0; to = to.0; items = items.0 }, items.1)
 
 -- the fields after the word
 unfoldable pub message_behind : MessageWord → Option (List ℕ) → Field Message
 message_behind words.Join rest = do
-  name ← taken read_short rest
-  launch ← taken read_count name.1
+  name ← next_field read_short rest
+  launch ← next_field read_count name.1
   Ok (Join name.0 launch.0, launch.1)
 message_behind words.Rows rest = do
-  name ← taken read_short rest
-  launch ← taken read_count name.1
-  count ← taken read_count launch.1
+  name ← next_field read_short rest
+  launch ← next_field read_count name.1
+  count ← next_field read_count launch.1
   rows ← all_known_at None count.0 count.1
   Ok (Rows name.0 launch.0 rows.0, rows.1)
 message_behind words.Propose rest = do
   proposal ← proposal_at rest
   Ok (Propose proposal.0, proposal.1)
 message_behind words.Ack rest = do
-  name ← taken read_short rest
-  launch ← taken read_count name.1
-  serial ← taken read_count launch.1
-  instance ← taken read_count serial.1
+  name ← next_field read_short rest
+  launch ← next_field read_count name.1
+  serial ← next_field read_count launch.1
+  instance ← next_field read_count serial.1
   row ← row_at instance.1
   Ok (Ack name.0 launch.0 serial.0 instance.0 row.0, row.1)
 message_behind words.Nack rest = do
-  name ← taken read_short rest
-  launch ← taken read_count name.1
-  serial ← taken read_count launch.1
-  instance ← taken read_count serial.1
-  why ← taken read_why instance.1
+  name ← next_field read_short rest
+  launch ← next_field read_count name.1
+  serial ← next_field read_count launch.1
+  instance ← next_field read_count serial.1
+  why ← next_field read_why instance.1
   row ← row_if (has_row why.0) why.1
   Ok (Nack name.0 launch.0 serial.0 instance.0 why.0 row.0, row.1)
 message_behind words.AskView rest = Ok (AskView, rest)
@@ -266,7 +295,7 @@ message_behind words.View rest = do
   view ← view_at rest
   Ok (Seen view.0, view.1)
 message_behind words.AskChange rest = do
-  revision ← taken read_count rest
+  revision ← next_field read_count rest
   Ok (AskChange revision.0, revision.1)
 message_behind words.Changes rest = do
   changes ← changes_at rest
@@ -277,7 +306,7 @@ message_behind words.Order rest = do
 
 unfoldable pub message_at : Option (List ℕ) → Field Message
 message_at rest = do
-  word ← taken read_message_word rest
+  word ← next_field read_message_word rest
   message_behind word.0 word.1
 
 abbrev pub read_close : List ℕ → Option (Unit {0})
@@ -290,7 +319,7 @@ nothing_behind (Some rest) = Err (length rest)
 -- the field that closes a line, with nothing after it
 unfoldable pub close_at : Option (List ℕ) → Result (Unit {0}) ℕ
 close_at rest = do
-  close ← taken read_close rest
+  close ← next_field read_close rest
   nothing_behind close.1
 
 unfoldable pub whole_message : List ℕ → Result Message ℕ
@@ -300,13 +329,13 @@ whole_message line = do
   Ok message.0
 
 -- a fault by its place, counted from the start
-abbrev pub placed : ℕ → Result Message ℕ → Result Message WireFault
-placed size (Ok m) = Ok m
-placed size (Err left) = Err (NotInGrammar (size - left))
+abbrev pub with_place_of_fault : ℕ → Result Message ℕ → Result Message WireFault
+with_place_of_fault size (Ok m) = Ok m
+with_place_of_fault size (Err left) = Err (NotInGrammar (size - left))
 
 -- the message that a line spells, or the place of the first wrong field
 unfoldable pub read_line : List ℕ → Result Message WireFault
-read_line line = placed (length line) (whole_message line)
+read_line line = with_place_of_fault (length line) (whole_message line)
 
 -- ---- what a call returned
 

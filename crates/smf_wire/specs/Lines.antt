@@ -1,11 +1,11 @@
 -- Messages as lines: fields with one space between, closed by the field ".".
-use Rattle.std.specs.Prelude.{◌≡◌, ℕ, ◌<◌, ◌≤◌, ◌^◌, List, [], ◌∷◌, ◌++◌, length, map, codes, Bool, true, false, Option, Some, None, is_some, unwrap_or, IfSome, Result, Ok, Err}
+use Rattle.std.specs.Prelude.{◌≡◌, ℕ, ◌≤◌, List, [], ◌∷◌, ◌++◌, length, map, codes, Bool, true, false, Option, Some, None, is_some, unwrap_or, IfSome}
 use Rattle.std.specs.Fmt.{decimal}
 use Rattle.std.specs.List.{AllByRecursion, flat_map}
 use Rattle.std.specs.Option.{option_to_list}
 use Rattle.hex.specs.Hex.{IsBytes}
 use Rattle.smf_fmri.specs.ByKey.{by_number, Rises}
-use Rattle.smf_fmri.specs.Matching.{IsInstanceName}
+use Rattle.smf_fmri.specs.Patterns.{IsInstanceName}
 use Rattle.smf_method.specs.Commands.{IsCommand}
 use Rattle.smf_method.specs.Timeouts.{IsTimeout}
 use Rattle.smf_method.specs.declared.call.MethodCall.{MethodCall}
@@ -16,7 +16,6 @@ use Rattle.smf_state.specs.declared.view.View.{View}
 use Rattle.smf_state.specs.Fields.{flag_text, optional_text}
 use Rattle.smf_state.specs.States.{cause_text, duration_text, state_text}
 use Rattle.smf_state.specs.Texts.{IsRow, IsSmall, IsStep, row_text, step_text}
-use Rattle.smf_state.specs.declared.row.Row.{Row}
 use Rattle.smf_state.specs.declared.step.Proposal.{Proposal}
 use Rattle.smf_state.specs.declared.view.ViewItem.{ViewItem}
 use Rattle.smf_wire.specs.Digits.{hex_text}
@@ -30,10 +29,10 @@ use Rattle.smf_wire.specs.declared.order.What.{What}
 use Rattle.smf_wire.specs.declared.order.What.TheVariants.{To, Start, Stop, Refresh}
 
 -- parts with one space between
-abbrev pub spaced : List (List ℕ) → List ℕ
-spaced [] = []
-spaced (part ∷ []) = part
-spaced (part ∷ next ∷ parts) = part ++ 32 ∷ spaced (next ∷ parts)
+abbrev pub text_of_parts : List (List ℕ) → List ℕ
+text_of_parts [] = []
+text_of_parts (part ∷ []) = part
+text_of_parts (part ∷ next ∷ parts) = part ++ 32 ∷ text_of_parts (next ∷ parts)
 
 -- parts with a space before each
 abbrev pub each_behind : {X : Type 0} → (X → List ℕ) → List X → List ℕ
@@ -44,7 +43,7 @@ abbrev pub seconds_of : Option ℕ → ℕ
 seconds_of timeout = unwrap_or timeout 0
 
 abbrev pub method_text : MethodCall → List ℕ
-method_text m = spaced (decimal (seconds_of m.timeout) ∷ hex_text m.command ∷ [])
+method_text m = text_of_parts (decimal (seconds_of m.timeout) ∷ hex_text m.command ∷ [])
 
 -- the parts of an order after its word
 abbrev pub what_parts : What → List (List ℕ)
@@ -54,17 +53,17 @@ what_parts (Stop to cause m) = state_text to ∷ cause_text cause ∷ optional_t
 what_parts (Refresh m) = optional_text method_text m ∷ []
 
 abbrev pub what_text : What → List ℕ
-what_text w = spaced (order_word_text (order_word w) ∷ what_parts w)
+what_text w = text_of_parts (order_word_text (order_word w) ∷ what_parts w)
 
 abbrev pub known_text : Known → List ℕ
-known_text k = spaced (decimal k.instance ∷ k.name ∷ row_text k.row ∷ [])
+known_text k = text_of_parts (decimal k.instance ∷ k.name ∷ row_text k.row ∷ [])
 
 -- the parts of a view item after its number
 abbrev pub item_parts : ViewItem → List (List ℕ)
 item_parts i = i.name ∷ flag_text i.enabled ∷ flag_text i.readable ∷ row_text i.row ∷ optional_text hex_text i.body ∷ []
 
 abbrev pub item_text : ViewItem → List ℕ
-item_text i = spaced (decimal i.instance ∷ item_parts i)
+item_text i = text_of_parts (decimal i.instance ∷ item_parts i)
 
 -- "-" for an instance that is gone
 abbrev pub change_parts : Option ViewItem → List (List ℕ)
@@ -72,7 +71,7 @@ change_parts None = codes "-" ∷ []
 change_parts (Some i) = item_parts i
 
 abbrev pub changed_text : ChangedItem → List ℕ
-changed_text c = spaced (decimal c.instance ∷ change_parts c.item)
+changed_text c = text_of_parts (decimal c.instance ∷ change_parts c.item)
 
 -- the parts of a message after its word
 abbrev pub message_parts : Message → List (List ℕ)
@@ -92,7 +91,7 @@ message_parts (Ordered o) =
     o.restarter ∷ decimal o.instance ∷ o.name ∷ decimal o.revision ∷ row_text o.row ∷ what_text o.what ∷ []
 
 abbrev pub message_text : Message → List ℕ
-message_text m = spaced (message_word_text (message_word m) ∷ message_parts m)
+message_text m = text_of_parts (message_word_text (message_word m) ∷ message_parts m)
 
 -- the line of a message
 abbrev pub line_text : Message → List ℕ

@@ -3,7 +3,6 @@ use Rattle.std.specs.Prelude.{ℕ, List, nat_eq, codes, if◌then◌else◌, Opt
 use Rattle.std.specs.Cmp.Lexicographic.{pointwise}
 use Rattle.smf_state.specs.declared.refusal.Why.{Why}
 use Rattle.smf_state.specs.declared.refusal.Why.TheVariants as reasons
-use Rattle.smf_state.specs.declared.fault.StepFault.{StepFault}
 use Rattle.smf_state.specs.declared.fault.StepFault.TheVariants.{Exhausted, StillLive, NotLive, NoEdge}
 use Rattle.smf_wire.specs.declared.message.Message.{Message}
 use Rattle.smf_wire.specs.declared.message.Message.TheVariants as messages

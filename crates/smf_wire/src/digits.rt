@@ -30,7 +30,7 @@ fn is_written_so(alloc: Global, text: &str, bytes: &[u8]) -> Result<bool, AllocE
 }
 
 /// The bytes that digits are, or none if some are missing or of the wrong form.
-fn decoded(alloc: Global, text: &str) -> Result<Option<Bytes>, AllocError>
+fn bytes_of_digits(alloc: Global, text: &str) -> Result<Option<Bytes>, AllocError>
     ensures { IfOk result (λ bytes. bytes ≡ result_ok (decode_of text.now)) }
 {
     match hex::decode(alloc, text) {
@@ -48,7 +48,7 @@ pub(crate) fn read_hex(alloc: Global, text: &str) -> Result<Option<Bytes>, Alloc
     if text == "-" {
         return Ok(Some(Bytes::new(alloc)?));
     }
-    let Some(bytes) = decoded(alloc, text)? else {
+    let Some(bytes) = bytes_of_digits(alloc, text)? else {
         return Ok(None);
     };
     if !is_written_so(alloc, text, bytes.as_slice())? {

@@ -12,5 +12,6 @@ pub fn lines_are_read_again()
 
 /// No line begins another.
 pub fn no_line_begins_another()
-    ensures { (m n : AnyMessage) (tail : List ℕ) → HasLine m → HasLine n → line_text n ≡ line_text m ++ tail → tail ≡ [] }
+    ensures { (m n : AnyMessage) (tail : List ℕ) → HasLine m → HasLine n → line_text n ≡ line_text m ++ tail
+        → tail ≡ [] }
 {}

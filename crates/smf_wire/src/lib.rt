@@ -2,17 +2,17 @@
 //! Modules: `order` (what the graph orders), `message`, `encoder` and `decoder` (lines), `law`, `word`, `digits`, `fault`.
 #![tactic(auto)]
 
-mod decoding;
+mod decoder;
 mod digits;
-mod encoding;
+mod encoder;
 mod fault;
 mod law;
 mod message;
 mod order;
 mod word;
 
-pub use decoding::decode;
-pub use encoding::encode;
+pub use decoder::decode;
+pub use encoder::encode;
 pub use fault::WireFault;
 pub use law::{lines_are_read_again, no_line_begins_another};
 pub use message::{Known, Message, ViewChanges};

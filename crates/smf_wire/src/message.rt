@@ -1,4 +1,5 @@
 ghost use Rattle.std.specs.Prelude.{◌≡◌, IfOk};
+ghost use Rattle.smf_wire.specs.declared.message.Message.TheVariants.{Ack, Nack};
 
 use crate::order::Order;
 use smf_fmri::{InstanceFmri, Items};
@@ -80,7 +81,7 @@ impl Clone for Known {
     }
 }
 
-#[tactic(auto, using(crate::proofs::Lists::same_items))]
+#[tactic(auto, using(smf_state::proofs::Copies::same_items))]
 fn copy_of_changes(items: &Items<ChangedItem>) -> Result<Items<ChangedItem>, AllocError>
     ensures { IfOk result (λ copy. copy ≡ items.now) }
 {
@@ -100,7 +101,7 @@ impl Clone for ViewChanges {
     }
 }
 
-#[tactic(auto, using(crate::proofs::Lists::same_items))]
+#[tactic(auto, using(smf_state::proofs::Copies::same_items))]
 fn copy_of_rows(rows: &Items<Known>) -> Result<Items<Known>, AllocError>
     ensures { IfOk result (λ copy. copy ≡ rows.now) }
 {
@@ -114,6 +115,48 @@ fn copy_of_row(row: &Option<SharedRow>) -> Result<Option<SharedRow>, AllocError>
         None => Ok(None),
         Some(row) => Ok(Some(row.clone()?)),
     }
+}
+
+fn copy_of_ack(
+    name: &InstanceFmri,
+    launch: u64,
+    serial: u64,
+    instance: u64,
+    row: &SharedRow,
+) -> Result<Message, AllocError>
+    ensures { IfOk result (λ copy. copy ≡ Ack name.now launch serial instance row.now) }
+{
+    let name = name.clone()?;
+    let row = row.clone()?;
+    Ok(Message::Ack {
+        name,
+        launch,
+        serial,
+        instance,
+        row,
+    })
+}
+
+fn copy_of_nack(
+    name: &InstanceFmri,
+    launch: u64,
+    serial: u64,
+    instance: u64,
+    why: Why,
+    row: &Option<SharedRow>,
+) -> Result<Message, AllocError>
+    ensures { IfOk result (λ copy. copy ≡ Nack name.now launch serial instance why row.now) }
+{
+    let name = name.clone()?;
+    let row = copy_of_row(row)?;
+    Ok(Message::Nack {
+        name,
+        launch,
+        serial,
+        instance,
+        why,
+        row,
+    })
 }
 
 impl Clone for Message {
@@ -137,13 +180,7 @@ impl Clone for Message {
                 serial,
                 instance,
                 row,
-            } => Ok(Message::Ack {
-                name: name.clone()?,
-                launch: *launch,
-                serial: *serial,
-                instance: *instance,
-                row: row.clone()?,
-            }),
+            } => copy_of_ack(name, *launch, *serial, *instance, row),
             Message::Nack {
                 name,
                 launch,
@@ -151,14 +188,7 @@ impl Clone for Message {
                 instance,
                 why,
                 row,
-            } => Ok(Message::Nack {
-                name: name.clone()?,
-                launch: *launch,
-                serial: *serial,
-                instance: *instance,
-                why: *why,
-                row: copy_of_row(row)?,
-            }),
+            } => copy_of_nack(name, *launch, *serial, *instance, *why, row),
             Message::AskView => Ok(Message::AskView),
             Message::View(view) => Ok(Message::View(view.clone()?)),
             Message::AskChange(revision) => Ok(Message::AskChange(*revision)),

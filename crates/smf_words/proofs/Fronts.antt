@@ -13,7 +13,8 @@ turned : (p b : ℕ) (v : Bool) → eqb b p ≡ v → nat_eq p b ≡ v
 turned p b true e = eq-eqb p b (sym (eqb-true b p e))
 turned p b false e = ne_eqb p b (λ same. eqb-false b p e (sym same))
 
-by_byte : (b : ℕ) (bs : List ℕ) (u v : Bool) → eqb b 32 ≡ u → eqb b 9 ≡ v → behind_blank (b ∷ bs) ≡ either (strip (32 ∷ []) (b ∷ bs)) (strip (9 ∷ []) (b ∷ bs))
+by_byte : (b : ℕ) (bs : List ℕ) (u v : Bool) → eqb b 32 ≡ u → eqb b 9 ≡ v
+    → behind_blank (b ∷ bs) ≡ either (strip (32 ∷ []) (b ∷ bs)) (strip (9 ∷ []) (b ∷ bs))
 unfolding strip either
 by_byte b bs true v e f = rw (e, turned 32 b true e) refl
 by_byte b bs false true e f = rw (e, f, turned 32 b false e, turned 9 b true f) refl
@@ -28,11 +29,13 @@ pub blank_first : (text behind : List ℕ) → Some behind ≡ strip (32 ∷ [])
 unfolding either
 blank_first text behind e = sym (blank_either text ∙ ap (λ o. either o (strip (9 ∷ []) text)) (sym e))
 
-pub blank_second : (text : List ℕ) (found : Option (List ℕ)) → None ≡ strip (32 ∷ []) text → found ≡ strip (9 ∷ []) text → found ≡ behind_blank text
+pub blank_second : (text : List ℕ) (found : Option (List ℕ)) → None ≡ strip (32 ∷ []) text
+    → found ≡ strip (9 ∷ []) text → found ≡ behind_blank text
 unfolding either
 blank_second text found e f = f ∙ sym (blank_either text ∙ ap (λ o. either o (strip (9 ∷ []) text)) (sym e))
 
-more_by : (v : Bool) (b : ℕ) (bs behind : List ℕ) → is_blank b ≡ v → Some behind ≡ cond v (Some bs) None → (front (b ∷ bs) ≡ front behind) × (length behind < length (b ∷ bs))
+more_by : (v : Bool) (b : ℕ) (bs behind : List ℕ) → is_blank b ≡ v → Some behind ≡ cond v (Some bs) None
+    → (front (b ∷ bs) ≡ front behind) × (length behind < length (b ∷ bs))
 unfolding front
 more_by true b bs behind e h = let same : behind ≡ bs = cc in (rw (e, same) refl, rw same (omega arith))
 more_by false b bs behind e h = absurd (cc)
@@ -43,7 +46,8 @@ none_by true b bs e h = cc
 none_by false b bs e h = rw e refl
 
 -- one blank less
-pub front_more : (text behind : List ℕ) → Some behind ≡ behind_blank text → (front text ≡ front behind) × (length behind < length text)
+pub front_more : (text behind : List ℕ) → Some behind ≡ behind_blank text
+    → (front text ≡ front behind) × (length behind < length text)
 front_more [] behind e = absurd (cc)
 front_more (b ∷ bs) behind e = more_by (is_blank b) b bs behind refl e
 

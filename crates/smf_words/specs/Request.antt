@@ -4,7 +4,7 @@ use Rattle.std.specs.Cmp.Lexicographic.{pointwise}
 use Rattle.std.specs.Option.{option_map_or}
 use Rattle.smf_fmri.specs.Counts.{read_count}
 use Rattle.smf_fmri.specs.Name.{strip}
-use Rattle.smf_lines.specs.Reading.{text_in}
+use Rattle.smf_lines.specs.Lines.{text_in}
 use Rattle.smf_svccfg.specs.Lines.{is_comment}
 use Rattle.smf_svccfg.specs.Words.{is_blank, words}
 use Rattle.smf_contract.specs.declared.event.Exit.TheVariants.{Code}
@@ -107,8 +107,8 @@ exit_line _ = asks.Bad
 -- ---- the line by its first word
 
 -- a request in which something happens to processes, restarters or the machine
-abbrev pub happening : List ℕ → List (List ℕ) → Request
-happening first arguments =
+abbrev pub incident_request : List ℕ → List (List ℕ) → Request
+incident_request first arguments =
     if pointwise nat_eq first (codes "exit") then exit_line arguments
     else if pointwise nat_eq first (codes "fork") then process_by processes.Fork (word_in arguments)
     else if pointwise nat_eq first (codes "core") then process_by (processes.Fail Core) (word_in arguments)
@@ -121,14 +121,14 @@ happening first arguments =
     else asks.Bad
 
 -- a request to the schedule, or for its trail
-abbrev pub scheduling : List ℕ → List (List ℕ) → Request
-scheduling first arguments =
+abbrev pub schedule_request : List ℕ → List (List ℕ) → Request
+schedule_request first arguments =
     if pointwise nat_eq first (codes "settle") then settle_by (count_in arguments)
     else if pointwise nat_eq first (codes "refuse") then refuse_by (count_in arguments)
     else if pointwise nat_eq first (codes "lose") then lose_by (count_in arguments)
     else if pointwise nat_eq first (codes "again") then again_by (count_in arguments)
     else if pointwise nat_eq first (codes "trail") then trail_line arguments
-    else happening first arguments
+    else incident_request first arguments
 
 abbrev pub asked_by : List ℕ → List (List ℕ) → Request
 asked_by text [] = asks.Nothing
@@ -136,7 +136,7 @@ asked_by text (first ∷ arguments) =
     if pointwise nat_eq first (codes "svccfg") then asks.Svccfg (behind_word (codes "svccfg") text)
     else if pointwise nat_eq first (codes "svcadm") then asks.Svcadm arguments
     else if pointwise nat_eq first (codes "svcs") then asks.Svcs arguments
-    else scheduling first arguments
+    else schedule_request first arguments
 
 -- the request of a text; a comment has its sign as the first byte
 unfoldable pub asked_of : List ℕ → Request

@@ -28,11 +28,14 @@ abbrev pub item_text : Item → List ℕ
 item_text Boot = codes "boot" ++ line_end
 item_text (Emptied contract) = codes "emptied " ++ decimal contract ++ line_end
 item_text (Committed instance number state next) =
-    codes "committed " ++ decimal instance ++ blank ++ decimal number ++ blank ++ state_text state ++ blank ++ next_text next ++ line_end
+    codes "committed " ++ decimal instance ++ blank ++ decimal number ++ blank ++ state_text state ++ blank
+    ++ next_text next ++ line_end
 item_text (Held name launch instance number state) =
-    codes "held " ++ name ++ blank ++ decimal launch ++ blank ++ decimal instance ++ blank ++ decimal number ++ blank ++ state_text state ++ line_end
+    codes "held " ++ name ++ blank ++ decimal launch ++ blank ++ decimal instance ++ blank ++ decimal number ++ blank
+    ++ state_text state ++ line_end
 item_text (Spawned contract instance run method revision command) =
-    codes "spawned " ++ decimal contract ++ blank ++ decimal instance ++ blank ++ decimal run ++ blank ++ method_text method ++ blank ++ decimal revision ++ blank ++ command ++ line_end
+    codes "spawned " ++ decimal contract ++ blank ++ decimal instance ++ blank ++ decimal run ++ blank
+    ++ method_text method ++ blank ++ decimal revision ++ blank ++ command ++ line_end
 
 -- a line an item, the first first
 unfoldable pub trail_text : List Item → List ℕ

@@ -1,6 +1,6 @@
 ghost use Rattle.std.specs.Prelude.{◌≡◌, IfOk, option_map};
 ghost use Rattle.smf_svccfg.specs.Lines.{is_comment};
-ghost use Rattle.smf_words.specs.Request.{again_by, asked_by, asked_of, behind_blank, behind_one_blank, behind_word, boot_line, count_in, crash_by, exit_by, exit_line, exit_of, front, happening, join_by, lose_by, process_by, refuse_by, request_of, scheduling, settle_by, timeout_by, trail_line, word_in};
+ghost use Rattle.smf_words.specs.Request.{again_by, asked_by, asked_of, behind_blank, behind_one_blank, behind_word, boot_line, count_in, crash_by, exit_by, exit_line, exit_of, front, incident_request, join_by, lose_by, process_by, refuse_by, request_of, schedule_request, settle_by, timeout_by, trail_line, word_in};
 
 use smf_contract::{Exit, Failure};
 use smf_fmri::{Items, Text, read_count, strip};
@@ -245,8 +245,8 @@ fn exit_line(arguments: &[Text]) -> Result<Request, AllocError>
 }
 
 /// A request in which something happens to processes, restarters or the machine.
-fn happening(first: &str, arguments: &[Text]) -> Result<Request, AllocError>
-    ensures { IfOk result (λ request. request ≡ happening first.now arguments.now) }
+fn incident_request(first: &str, arguments: &[Text]) -> Result<Request, AllocError>
+    ensures { IfOk result (λ request. request ≡ incident_request first.now arguments.now) }
 {
     if first == "exit" {
         exit_line(arguments)
@@ -275,8 +275,8 @@ fn happening(first: &str, arguments: &[Text]) -> Result<Request, AllocError>
 }
 
 /// A request to the schedule, or for its trail.
-fn scheduling(first: &str, arguments: &[Text]) -> Result<Request, AllocError>
-    ensures { IfOk result (λ request. request ≡ scheduling first.now arguments.now) }
+fn schedule_request(first: &str, arguments: &[Text]) -> Result<Request, AllocError>
+    ensures { IfOk result (λ request. request ≡ schedule_request first.now arguments.now) }
 {
     if first == "settle" {
         Ok(settle_by(count_in(arguments)))
@@ -289,7 +289,7 @@ fn scheduling(first: &str, arguments: &[Text]) -> Result<Request, AllocError>
     } else if first == "trail" {
         Ok(trail_line(arguments))
     } else {
-        happening(first, arguments)
+        incident_request(first, arguments)
     }
 }
 
@@ -308,7 +308,7 @@ fn asked_by(alloc: Global, text: &str, words: &[Text]) -> Result<Request, AllocE
     } else if first == "svcs" {
         Ok(Request::Svcs(copies(alloc, arguments)?))
     } else {
-        scheduling(first, arguments)
+        schedule_request(first, arguments)
     }
 }
 

@@ -1,9 +1,11 @@
 ghost use Rattle.std.specs.Prelude.{◌≡◌, ◌++◌, IfOk, OnOk, string_bytes};
 ghost use Rattle.std.specs.List.{flat_map};
+ghost use Rattle.smf_world.specs.declared.item.Item.TheVariants.{Held, Spawned};
 ghost use Rattle.smf_words.specs.Text.{item_text, method_text, next_text, trail_text};
 
 use smf_contract::Method;
-use smf_fmri::Text;
+use smf_fmri::{InstanceFmri, Text};
+use smf_method::CommandText;
 use smf_state::State;
 use smf_world::Item;
 use std::alloc::{AllocError, Global};
@@ -26,6 +28,42 @@ fn method_text(method: Method) -> &'static str
         Method::Stop => "stop",
         Method::Refresh => "refresh",
     }
+}
+
+fn put_held(
+    out: &mut String,
+    name: &InstanceFmri,
+    launch: u64,
+    instance: u64,
+    number: u64,
+    state: State,
+) -> Result<(), AllocError>
+    ensures { OnOk result
+        (string_bytes out.new ≡ string_bytes out.old ++ item_text (Held name.now launch instance number state)) }
+{
+    let name = name.print();
+    let state = state.text();
+    write!(out, "held {name} {launch} {instance}")?;
+    writeln!(out, " {number} {state}")
+}
+
+fn put_spawned(
+    out: &mut String,
+    contract: u64,
+    instance: u64,
+    run: u64,
+    method: Method,
+    revision: u64,
+    command: &CommandText,
+) -> Result<(), AllocError>
+    ensures { OnOk result (string_bytes out.new
+        ≡ string_bytes out.old ++ item_text (Spawned contract instance run method revision command.now)) }
+{
+    let method = method_text(method);
+    let command = command.as_str();
+    write!(out, "spawned {contract} {instance} {run}")?;
+    write!(out, " {method} {revision} ")?;
+    writeln!(out, "{command}")
 }
 
 /// Puts an item of the trail, and the end of its line.
@@ -51,12 +89,7 @@ fn put_item(out: &mut String, item: &Item) -> Result<(), AllocError>
             instance,
             number,
             state,
-        } => {
-            let name = name.print();
-            let state = state.text();
-            write!(out, "held {name} {launch} {instance}")?;
-            writeln!(out, " {number} {state}")
-        }
+        } => put_held(out, name, *launch, *instance, *number, *state),
         Item::Spawned {
             contract,
             instance,
@@ -64,13 +97,7 @@ fn put_item(out: &mut String, item: &Item) -> Result<(), AllocError>
             method,
             revision,
             command,
-        } => {
-            let method = method_text(*method);
-            let command = command.as_str();
-            write!(out, "spawned {contract} {instance} {run}")?;
-            write!(out, " {method} {revision} ")?;
-            writeln!(out, "{command}")
-        }
+        } => put_spawned(out, *contract, *instance, *run, *method, *revision, command),
     }
 }
 

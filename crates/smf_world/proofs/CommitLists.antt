@@ -5,14 +5,14 @@ use Rattle.std.specs.Ordering.{is_eq, nat_cmp}
 use Rattle.std.specs.declared.cmp.Ordering.{Ordering}
 use Rattle.std.specs.declared.cmp.Ordering.TheVariants.{Less, Equal, Greater}
 use Rattle.std.proofs.lemmas.Bool.Decides.{nat_tests}
-use Rattle.smf_fmri.specs.ByKey.{put, put_by}
+use Rattle.smf_fmri.specs.ByKey.{list_with_item, put_by}
 use Rattle.smf_fmri.proofs.Lookups.{both_ways, equal_from_test, same_key}
 use Rattle.smf_model.specs.declared.held.Instance.{Instance}
-use Rattle.smf_model.specs.Holdings.{Holdings}
+use Rattle.smf_model.specs.Contents.{Holdings}
 use Rattle.smf_model.specs.Laws.{AreApart}
 use Rattle.smf_model.specs.Look.{by_instance, has_number, in_place, instance, instances, put_over}
-use Rattle.smf_model.specs.Next.{booted}
-use Rattle.smf_model.specs.Setting.{Groups}
+use Rattle.smf_model.specs.Next.{instance_after_boot}
+use Rattle.smf_model.specs.GeneralGroup.{Groups}
 use Rattle.smf_model.proofs.Written.{put_each}
 use Rattle.smf_world.specs.Safe.{is_other_number, is_committed}
 
@@ -71,12 +71,14 @@ abbrev pub AreFound : List Instance → List Instance → Type 0
 AreFound all [] = Unit {0}
 AreFound all (i ∷ is) = (find (has_number i.number) all ≡ Some i) × AreFound all is
 
-found_more : (y : Instance) (all xs : List Instance) → find (has_number y.number) all ≡ None → AreFound all xs → AreFound (y ∷ all) xs
+found_more : (y : Instance) (all xs : List Instance) → find (has_number y.number) all ≡ None → AreFound all xs
+    → AreFound (y ∷ all) xs
 found_more y all [] n a = tt
 found_more y all (i ∷ is) n a = (by (has_number i.number y) refl, found_more y all is n a.1)
   where
     by : (b : Bool) → has_number i.number y ≡ b → cond b (Some y) (find (has_number i.number) all) ≡ Some i
-    by true e = absurd (no_such (sym (subst (λ (m : ℕ). find (has_number m) all ≡ None) (number_is y.number i.number e) n) ∙ a.0))
+    by true e = absurd
+        (no_such (sym (subst (λ (m : ℕ). find (has_number m) all ≡ None) (number_is y.number i.number e) n) ∙ a.0))
     by false e = a.0
 
 pub found_all : (xs : List Instance) → AreApart xs → AreFound xs xs
@@ -94,7 +96,8 @@ pub none_kept : (test : Instance → Bool) (xs : List Instance) → NonePass tes
 none_kept test [] a = refl
 none_kept test (x ∷ xs) a = rw a.0 (none_kept test xs a.1)
 
-pub none_pass_filter : (test keep : Instance → Bool) (xs : List Instance) → NonePass test xs → NonePass test (filter keep xs)
+pub none_pass_filter : (test keep : Instance → Bool) (xs : List Instance) → NonePass test xs
+    → NonePass test (filter keep xs)
 none_pass_filter test keep [] a = tt
 none_pass_filter test keep (x ∷ xs) a = by (keep x) (none_pass_filter test keep xs a.1)
   where
@@ -111,11 +114,14 @@ over_none : (x : Instance) (xs : List Instance) → find (has_number x.number) x
 over_none x [] n = refl
 over_none x (y ∷ ys) n = by (has_number x.number y) n (over_none x ys)
   where
-    by : (b : Bool) → cond b (Some y) (find (has_number x.number) ys) ≡ None → (find (has_number x.number) ys ≡ None → put_over x ys ≡ ys) → (if b then in_place x y else y) ∷ put_over x ys ≡ y ∷ ys
+    by : (b : Bool) → cond b (Some y) (find (has_number x.number) ys) ≡ None
+        → (find (has_number x.number) ys ≡ None → put_over x ys ≡ ys)
+        → (if b then in_place x y else y) ∷ put_over x ys ≡ y ∷ ys
     by true e ih = absurd (no_such (sym e))
     by false e ih = ap (λ (zs : List Instance). y ∷ zs) (ih e)
 
-pub none_pass_over : (test : Instance → Bool) (x : Instance) (xs : List Instance) → NonePass test xs → test x ≡ false → NonePass test (put_over x xs)
+pub none_pass_over : (test : Instance → Bool) (x : Instance) (xs : List Instance) → NonePass test xs → test x ≡ false
+    → NonePass test (put_over x xs)
 none_pass_over test x [] a e = tt
 none_pass_over test x (y ∷ ys) a e = (by (has_number x.number y) refl, none_pass_over test x ys a.1 e)
   where
@@ -123,33 +129,42 @@ none_pass_over test x (y ∷ ys) a e = (by (has_number x.number y) refl, none_pa
     by true h = ap test (in_place_is x y (number_is y.number x.number h)) ∙ e
     by false h = a.0
 
-one_over : (test : Instance → Bool) (x i : Instance) (xs : List Instance) → AreApart xs → NonePass test xs → test x ≡ true → find (has_number x.number) xs ≡ Some i → filter test (put_over x xs) ≡ x ∷ []
+one_over : (test : Instance → Bool) (x i : Instance) (xs : List Instance) → AreApart xs → NonePass test xs
+    → test x ≡ true → find (has_number x.number) xs ≡ Some i → filter test (put_over x xs) ≡ x ∷ []
 one_over test x i [] apart a t e = absurd (no_such e)
 one_over test x i (y ∷ ys) apart a t e = by (has_number x.number y) refl e (one_over test x i ys apart.1 a.1 t)
   where
-    by : (b : Bool) → has_number x.number y ≡ b → cond b (Some y) (find (has_number x.number) ys) ≡ Some i → (find (has_number x.number) ys ≡ Some i → filter test (put_over x ys) ≡ x ∷ [])
+    by : (b : Bool) → has_number x.number y ≡ b → cond b (Some y) (find (has_number x.number) ys) ≡ Some i
+        → (find (has_number x.number) ys ≡ Some i → filter test (put_over x ys) ≡ x ∷ [])
         → filter test ((if b then in_place x y else y) ∷ put_over x ys) ≡ x ∷ []
     by true h e ih =
         let here : y.number ≡ x.number = number_is y.number x.number h in
-        let rest : put_over x ys ≡ ys = over_none x ys (subst (λ (n : ℕ). find (has_number n) ys ≡ None) here apart.0) in
-        ap (λ (z : Instance). filter test (z ∷ put_over x ys)) (in_place_is x y here) ∙ (ap (λ (zs : List Instance). filter test (x ∷ zs)) rest ∙ rw t (ap (λ (zs : List Instance). x ∷ zs) (none_kept test ys a.1)))
+        let rest : put_over x ys ≡ ys =
+        over_none x ys (subst (λ (n : ℕ). find (has_number n) ys ≡ None) here apart.0) in
+        ap (λ (z : Instance). filter test (z ∷ put_over x ys)) (in_place_is x y here)
+        ∙ (ap (λ (zs : List Instance). filter test (x ∷ zs)) rest
+        ∙ rw t (ap (λ (zs : List Instance). x ∷ zs) (none_kept test ys a.1)))
     by false h e ih = rw a.0 (ih e)
 
-pub one_put : (test : Instance → Bool) (x : Instance) (xs : List Instance) → NonePass test xs → test x ≡ true → filter test (put by_instance x xs) ≡ x ∷ []
+pub one_put : (test : Instance → Bool) (x : Instance) (xs : List Instance) → NonePass test xs → test x ≡ true
+    → filter test (list_with_item by_instance x xs) ≡ x ∷ []
 one_put test x [] a t = rw t refl
 one_put test x (y ∷ ys) a t = by (nat_cmp y.number x.number) (one_put test x ys a.1 t)
   where
-    by : (r : Ordering) → filter test (put by_instance x ys) ≡ x ∷ [] → filter test (put_by r x y ys (put by_instance x ys)) ≡ x ∷ []
+    by : (r : Ordering) → filter test (list_with_item by_instance x ys) ≡ x ∷ []
+        → filter test (put_by r x y ys (list_with_item by_instance x ys)) ≡ x ∷ []
     by Less ih = rw a.0 ih
     by Equal ih = rw t (ap (λ (zs : List Instance). x ∷ zs) (none_kept test ys a.1))
     by Greater ih = rw (t, a.0) (ap (λ (zs : List Instance). x ∷ zs) (none_kept test ys a.1))
 
 -- ---- what is committed
 
-pub at_same : (o : Option Instance) (i x : Instance) → o ≡ Some i → x.row.number ≡ i.row.number → is_other_number o x ≡ false
+pub at_same : (o : Option Instance) (i x : Instance) → o ≡ Some i → x.row.number ≡ i.row.number
+    → is_other_number o x ≡ false
 at_same o i x e f = rw e (not_other x.row.number i.row.number f)
 
-pub at_next : (o : Option Instance) (i x : Instance) → o ≡ Some i → x.row.number ≡ i.row.number + 1 → is_other_number o x ≡ true
+pub at_next : (o : Option Instance) (i x : Instance) → o ≡ Some i → x.row.number ≡ i.row.number + 1
+    → is_other_number o x ≡ true
 at_next o i x e f = rw e (other x.row.number i.row.number f)
 
 -- an instance under its number is not committed
@@ -161,18 +176,22 @@ pub all_same : (h : Holdings) → AreApart (instances h) → NonePass (is_commit
 all_same h a = none_changed h (instances h) (found_all (instances h) a)
 
 -- put in its place under the number that it had
-pub still_same : (h : Holdings) (n : ℕ) (i x : Instance) → AreApart (instances h) → instance h n ≡ Some i → x.number ≡ n → x.row.number ≡ i.row.number → NonePass (is_committed h) (put_over x (instances h))
+pub still_same : (h : Holdings) (n : ℕ) (i x : Instance) → AreApart (instances h) → instance h n ≡ Some i
+    → x.number ≡ n → x.row.number ≡ i.row.number → NonePass (is_committed h) (put_over x (instances h))
 still_same h n i x a there number f =
-    none_pass_over (is_committed h) x (instances h) (all_same h a) (at_same (instance h x.number) i x (subst (λ (m : ℕ). instance h m ≡ Some i) (sym number) there) f)
+    none_pass_over (is_committed h) x (instances h) (all_same h a)
+    (at_same (instance h x.number) i x (subst (λ (m : ℕ). instance h m ≡ Some i) (sym number) there) f)
 
 -- put in its place under the next number
-pub one_moved : (h : Holdings) (n : ℕ) (i x : Instance) → AreApart (instances h) → instance h n ≡ Some i → x.number ≡ n → x.row.number ≡ i.row.number + 1 → filter (is_committed h) (put_over x (instances h)) ≡ x ∷ []
+pub one_moved : (h : Holdings) (n : ℕ) (i x : Instance) → AreApart (instances h) → instance h n ≡ Some i
+    → x.number ≡ n → x.row.number ≡ i.row.number + 1 → filter (is_committed h) (put_over x (instances h)) ≡ x ∷ []
 one_moved h n i x a there number f =
     let at : instance h x.number ≡ Some i = subst (λ (m : ℕ). instance h m ≡ Some i) (sym number) there in
     one_over (is_committed h) x i (instances h) a (all_same h a) (at_next (instance h x.number) i x at f) at
 
 -- one that was not there
-pub one_new : (h : Holdings) (x : Instance) → AreApart (instances h) → instance h x.number ≡ None → filter (is_committed h) (put by_instance x (instances h)) ≡ x ∷ []
+pub one_new : (h : Holdings) (x : Instance) → AreApart (instances h) → instance h x.number ≡ None
+    → filter (is_committed h) (list_with_item by_instance x (instances h)) ≡ x ∷ []
 one_new h x a none = one_put (is_committed h) x (instances h) (all_same h a) (new (instance h x.number) none)
   where
     new : (o : Option Instance) → o ≡ None → is_other_number o x ≡ true
@@ -184,23 +203,30 @@ pub none_first : {X : Type 0} (b : Bool) (x : X) (o : Option X) → cond b (Some
 none_first true x o e = absurd cc
 none_first false x o e = (refl, e)
 
-put_behind : (gs : Groups) (y : Instance) (is ys : List Instance) → find (has_number y.number) is ≡ None → put_each (booted gs) is (y ∷ ys) ≡ y ∷ put_each (booted gs) is ys
+put_behind : (gs : Groups) (y : Instance) (is ys : List Instance) → find (has_number y.number) is ≡ None
+    → put_each (instance_after_boot gs) is (y ∷ ys) ≡ y ∷ put_each (instance_after_boot gs) is ys
 put_behind gs y [] ys n = refl
 put_behind gs y (i ∷ is) ys n =
     let first = none_first (has_number y.number i) i (find (has_number y.number) is) n in
-    rw (turned i.number y.number first.0) (put_behind gs y is (put_over (booted gs i) ys) first.1)
+    rw (turned i.number y.number first.0) (put_behind gs y is (put_over (instance_after_boot gs i) ys) first.1)
 
-pub put_all : (gs : Groups) (xs : List Instance) → AreApart xs → put_each (booted gs) xs xs ≡ map (booted gs) xs
+pub put_all : (gs : Groups) (xs : List Instance) → AreApart xs
+    → put_each (instance_after_boot gs) xs xs ≡ map (instance_after_boot gs) xs
 put_all gs [] a = refl
 put_all gs (i ∷ is) a =
-    let rest : put_over (booted gs i) is ≡ is = over_none (booted gs i) is a.0 in
+    let rest : put_over (instance_after_boot gs i) is ≡ is = over_none (instance_after_boot gs i) is a.0 in
     rw (has_itself i.number)
-    (ap (λ (zs : List Instance). put_each (booted gs) is (booted gs i ∷ zs)) rest
-    ∙ (put_behind gs (booted gs i) is is a.0 ∙ ap (λ (zs : List Instance). booted gs i ∷ zs) (put_all gs is a.1)))
+    (ap (λ (zs : List Instance). put_each (instance_after_boot gs) is (instance_after_boot gs i ∷ zs)) rest
+    ∙ (put_behind gs (instance_after_boot gs i) is is a.0
+    ∙ ap (λ (zs : List Instance). instance_after_boot gs i ∷ zs) (put_all gs is a.1)))
 
-booted_pass : (h : Holdings) (gs : Groups) (xs : List Instance) → AreFound (instances h) xs → filter (is_committed h) (map (booted gs) xs) ≡ map (booted gs) xs
+booted_pass : (h : Holdings) (gs : Groups) (xs : List Instance) → AreFound (instances h) xs
+    → filter (is_committed h) (map (instance_after_boot gs) xs) ≡ map (instance_after_boot gs) xs
 booted_pass h gs [] a = refl
-booted_pass h gs (i ∷ is) a = rw (at_next (instance h i.number) i (booted gs i) a.0 refl) (ap (λ (zs : List Instance). booted gs i ∷ zs) (booted_pass h gs is a.1))
+booted_pass h gs (i ∷ is) a =
+    rw (at_next (instance h i.number) i (instance_after_boot gs i) a.0 refl)
+    (ap (λ (zs : List Instance). instance_after_boot gs i ∷ zs) (booted_pass h gs is a.1))
 
-pub all_booted : (h : Holdings) (gs : Groups) → AreApart (instances h) → filter (is_committed h) (map (booted gs) (instances h)) ≡ map (booted gs) (instances h)
+pub all_booted : (h : Holdings) (gs : Groups) → AreApart (instances h)
+    → filter (is_committed h) (map (instance_after_boot gs) (instances h)) ≡ map (instance_after_boot gs) (instances h)
 all_booted h gs a = booted_pass h gs (instances h) (found_all (instances h) a)

@@ -9,11 +9,11 @@ use Rattle.smf_dep.specs.Members.{member_of, members}
 use Rattle.smf_dep.specs.Places.{finding_of}
 use Rattle.smf_state.specs.declared.view.View.{View}
 use Rattle.smf_model.specs.History.{History, value_at}
-use Rattle.smf_model.specs.Holdings.{Holdings}
+use Rattle.smf_model.specs.Contents.{Holdings}
 use Rattle.smf_model.specs.Laws.{IsNumbered}
 use Rattle.smf_model.specs.Shown.{view}
-use Rattle.smf_engine.specs.Orders.{decided, has_fault, is_about, method_in}
-use Rattle.smf_state.specs.Patched.{patched}
+use Rattle.smf_engine.specs.Orders.{order_by_view, has_fault, is_about, method_in}
+use Rattle.smf_state.specs.Patched.{view_after_changes}
 use Rattle.smf_wire.specs.declared.message.Message.{Message}
 use Rattle.smf_wire.specs.declared.message.Message.TheVariants as messages
 use Rattle.smf_wire.specs.declared.message.ViewChanges.{ViewChanges}
@@ -34,7 +34,7 @@ pub record AreChangesIn (y : History) (c : ViewChanges) : Type 0 where
   pub after : Holdings
   pub after_is : value_at y c.to ≡ Some after
   pub numbered : IsNumbered after
-  pub leads : patched (view before) c.to c.items ≡ view after
+  pub leads : view_after_changes (view before) c.to c.items ≡ view after
 
 abbrev pub ViewSaid : History → Message → Type 0
 ViewSaid y (messages.View v) = IsViewIn y v
@@ -55,7 +55,7 @@ pub record IsOrderIn (y : History) (o : Order) : Type 0 where
   pub value : Holdings
   pub value_is : value_at y o.revision ≡ Some value
   pub numbered : IsNumbered value
-  pub given : decided (Some (view value)) o.instance ≡ Some o
+  pub given : order_by_view (Some (view value)) o.instance ≡ Some o
 
 abbrev pub OrderSaid : History → Message → Type 0
 OrderSaid y (messages.Order o) = IsOrderIn y o

@@ -17,7 +17,7 @@ use Rattle.smf_state.specs.declared.refusal.Why.{Why}
 use Rattle.smf_state.specs.declared.refusal.Why.TheVariants as whys
 use Rattle.smf_model.specs.declared.held.Instance.{Instance}
 use Rattle.smf_model.specs.History.{History}
-use Rattle.smf_model.specs.Holdings.{Holdings}
+use Rattle.smf_model.specs.Contents.{Holdings}
 use Rattle.smf_model.specs.Look.{instance, launch_of}
 use Rattle.smf_wire.specs.declared.message.Message.{Message}
 use Rattle.smf_wire.specs.declared.message.Message.TheVariants as messages
@@ -31,8 +31,8 @@ use Rattle.smf_restarter.specs.declared.known.Owed.{Owed}
 use Rattle.smf_restarter.specs.declared.known.Phase.{Phase}
 use Rattle.smf_restarter.specs.declared.known.Phase.TheVariants as phases
 use Rattle.smf_restarter.specs.declared.known.Stage.TheVariants.{Joining}
-use Rattle.smf_restarter.specs.Ends.{ended_refresh, stopped}
-use Rattle.smf_restarter.specs.Knowledge.{Knowledge, by_instance, known}
+use Rattle.smf_restarter.specs.Ends.{ended_refresh, end_of_stop}
+use Rattle.smf_restarter.specs.Knowledge.{Knowledge, by_instance, known_instance}
 use Rattle.smf_restarter.specs.Ticks.{is_up}
 use Rattle.smf_world.proofs.RowClauses.{IsDead, WasProposed, WasRow, WasSaid}
 use Rattle.smf_world.proofs.DecidedClauses.{IsReadyAt}
@@ -48,7 +48,7 @@ pub record IsMine (k : Knowledge) (q : Proposal) : Type 0 where
 pub record IsAwaitedBy (k : Knowledge) (q : Proposal) : Type 0 where
   pub of : KnownInstance
   pub after : After
-  pub is_known : known k q.instance ≡ Some of
+  pub is_known : known_instance k q.instance ≡ Some of
   pub phase : of.phase ≡ phases.Waiting q after
 
 -- ---- what follows a proposal
@@ -78,7 +78,7 @@ pub record IsStartPlanned (y : History) (n : ℕ) (r : Row) (run snapshot revisi
 abbrev pub IsPlanned : History → ℕ → Row → Step → After → Type 0
 IsPlanned y n r (Start run snapshot duration ignore revision) after = IsStartPlanned y n r run snapshot revision after
 IsPlanned y n r (Stop to cause (Some run)) after = IsOwedNext methods.Stop run r after
-IsPlanned y n r (Stop to cause None) after = after ≡ afters.Ending (stopped to cause)
+IsPlanned y n r (Stop to cause None) after = after ≡ afters.Ending (end_of_stop to cause)
 IsPlanned y n r (Refresh (Some run)) after = IsOwedNext methods.Refresh run r after
 IsPlanned y n r (Refresh None) after = after ≡ afters.Ending (ended_refresh r)
 IsPlanned y n r (Move to) after = after ≡ afters.Idle
@@ -127,7 +127,8 @@ pub record IsEndOf (e : Ending) (r : Row) : Type 0 where
 -- ---- one instance
 
 -- a proposal, and what follows it, as they are awaited
-pub record IsAwaited (y : History) (h : Holdings) (ms : List Message) (B : ℕ → ℕ → Type 0) (k : Knowledge) (n : ℕ) (r : Row) (p : Proposal) (after : After) : Type 0 where
+pub record IsAwaited (y : History) (h : Holdings) (ms : List Message) (B : ℕ → ℕ → Type 0) (k : Knowledge) (n : ℕ)
+    (r : Row) (p : Proposal) (after : After) : Type 0 where
   pub mine : IsMine k p
   pub at : p.instance ≡ n
   pub number : p.number ≡ r.number + 1
@@ -135,7 +136,8 @@ pub record IsAwaited (y : History) (h : Holdings) (ms : List Message) (B : ℕ �
   pub said : WasProposed p ms
   pub greatest : (q : Proposal) → WasProposed q ms → IsMine k q → q.instance ≡ n → q.serial ≤ p.serial
   pub plan : IsPlanned y n r p.step after
-  pub unspent : (i : Instance) (run : ℕ) → instance h n ≡ Some i → i.row.owner ≡ k.name → i.row.launch ≡ k.launch → i.row.serial ≡ p.serial → run_of p.step ≡ Some run → B n run → ⊥
+  pub unspent : (i : Instance) (run : ℕ) → instance h n ≡ Some i → i.row.owner ≡ k.name → i.row.launch ≡ k.launch
+      → i.row.serial ≡ p.serial → run_of p.step ≡ Some run → B n run → ⊥
 
 -- a start is owed as it was decided and then granted
 pub record IsStartOwed (y : History) (n : ℕ) (r : Row) (o : Owed) : Type 0 where
@@ -155,7 +157,8 @@ IsOwedAs methods.Stop y n r o = Unit {0}
 IsOwedAs methods.Refresh y n r o = Unit {0}
 
 -- a method is owed: the row is as it is held, granted to this launch, and the run was never begun
-pub record IsOwing (y : History) (h : Holdings) (B : ℕ → ℕ → Type 0) (k : Knowledge) (n : ℕ) (r : Row) (o : Owed) : Type 0 where
+pub record IsOwing (y : History) (h : Holdings) (B : ℕ → ℕ → Type 0) (k : Knowledge) (n : ℕ) (r : Row)
+    (o : Owed) : Type 0 where
   pub of : Instance
   pub there : instance h n ≡ Some of
   pub owner : of.row.owner ≡ k.name
@@ -174,7 +177,8 @@ IsInPhase y h ms B k n r (phases.Running m) = IsUnder m.method r
 IsInPhase y h ms B k n r (phases.Ending e) = IsEndOf e r
 
 -- an instance as it is known
-pub record IsKnown (y : History) (h : Holdings) (ms : List Message) (B : ℕ → ℕ → Type 0) (k : Knowledge) (n : ℕ) (i : KnownInstance) : Type 0 where
+pub record IsKnown (y : History) (h : Holdings) (ms : List Message) (B : ℕ → ℕ → Type 0) (k : Knowledge) (n : ℕ)
+    (i : KnownInstance) : Type 0 where
   pub was : WasRow h n i.row
   pub owner : i.row.owner ≡ k.name
   pub phase : IsInPhase y h ms B k n i.row i.phase
@@ -211,7 +215,7 @@ abbrev pub AcksAreStill : Holdings → List Message → Knowledge → Type 0
 AcksAreStill h ms k =
     (serial n : ℕ) (r : Row) (p : Proposal) (after : After) (i : KnownInstance)
     → IsAckOf k serial n r ms
-    → known k n ≡ Some i
+    → known_instance k n ≡ Some i
     → i.phase ≡ phases.Waiting p after
     → p.serial ≡ serial
     → is_begun p.step ≡ true
@@ -226,7 +230,7 @@ abbrev pub NacksAreTrue : Holdings → List Message → Knowledge → Type 0
 NacksAreTrue h ms k =
     (serial n : ℕ) (why : Why) (o : Option Row) (p : Proposal) (after : After) (i : KnownInstance)
     → IsNackOf k serial n why o ms
-    → known k n ≡ Some i
+    → known_instance k n ≡ Some i
     → i.phase ≡ phases.Waiting p after
     → p.serial ≡ serial
     → IsRefusal h k p why o
@@ -237,15 +241,16 @@ DeadOrAwaited h ms k = (q : Proposal) → WasProposed q ms → IsMine k q → Is
 
 -- ---- the whole
 
-pub record IsInformed (y : History) (h : Holdings) (ms : List Message) (B : ℕ → ℕ → Type 0) (k : Knowledge) : Type 0 where
+pub record IsInformed (y : History) (h : Holdings) (ms : List Message) (B : ℕ → ℕ → Type 0)
+    (k : Knowledge) : Type 0 where
   pub launch : k.launch ≡ launch_of h k.name
   pub launched : 1 ≤ k.launch
   pub rises : Rises by_instance k.instances
   pub blank : k.stage ≡ Joining → k.instances ≡ []
   pub unserved : is_up k.stage ≡ false → k.serial ≡ 0
-  pub idle : is_up k.stage ≡ false → (n : ℕ) (i : KnownInstance) → known k n ≡ Some i → i.phase ≡ phases.Idle
+  pub idle : is_up k.stage ≡ false → (n : ℕ) (i : KnownInstance) → known_instance k n ≡ Some i → i.phase ≡ phases.Idle
   pub serial : (q : Proposal) → WasProposed q ms → IsMine k q → q.serial ≤ k.serial
-  pub each : (n : ℕ) (i : KnownInstance) → known k n ≡ Some i → IsKnown y h ms B k n i
+  pub each : (n : ℕ) (i : KnownInstance) → known_instance k n ≡ Some i → IsKnown y h ms B k n i
   pub dead : DeadOrAwaited h ms k
   pub acks : AcksAreStill h ms k
   pub nacks : NacksAreTrue h ms k

@@ -11,7 +11,7 @@ use Rattle.smf_state.specs.declared.step.Step.TheVariants.{Move, Start, Stop, Re
 use Rattle.smf_state.specs.Rows.{is_stopped, may_end, same_state}
 use Rattle.smf_state.specs.States.{runs}
 use Rattle.smf_model.specs.History.{History}
-use Rattle.smf_model.specs.Holdings.{Holdings}
+use Rattle.smf_model.specs.Contents.{Holdings}
 use Rattle.smf_wire.specs.declared.message.Message.{Message}
 use Rattle.smf_restarter.specs.declared.known.After.{After}
 use Rattle.smf_restarter.specs.declared.known.Drain.{Drain}
@@ -47,11 +47,14 @@ kill_nothing (Some r) e = by r.empty e
     by true f = refl
     by false f = absurd cc
 
-live_drained : (k : Knowledge) (i : KnownInstance) (d : Drain) → drains_live d ≡ true → drain_call k i d ≡ calls.Nothing → is_empty (known_run k i.instance i.row.live) ≡ true
+live_drained : (k : Knowledge) (i : KnownInstance) (d : Drain) → drains_live d ≡ true
+    → drain_call k i d ≡ calls.Nothing → is_empty (known_run k i.instance i.row.live) ≡ true
 live_drained k i drains.Nothing l e = absurd cc
 live_drained k i drains.Live l e = kill_nothing (known_run k i.instance i.row.live) e
 live_drained k i drains.Side l e = absurd cc
-live_drained k i drains.Both l e = kill_nothing (known_run k i.instance i.row.live) (first_nothing (kill_of (known_run k i.instance i.row.live)) (kill_of (known_run k i.instance i.row.side)) e)
+live_drained k i drains.Both l e =
+    kill_nothing (known_run k i.instance i.row.live)
+    (first_nothing (kill_of (known_run k i.instance i.row.live)) (kill_of (known_run k i.instance i.row.side)) e)
 
 -- ---- what does not keep the live run
 
@@ -69,15 +72,19 @@ if_true : (b x y : Bool) → b ≡ true → (if b then x else y) ≡ false → x
 if_true true x y e f = f
 if_true false x y e f = absurd cc
 
-online_not_kept : (r : Row) (to : State) (o : Option KnownRun) → r.state ≡ Offline → to ≡ Online → keeps r to o ≡ false → keeps_run r.duration o ≡ false
+online_not_kept : (r : Row) (to : State) (o : Option KnownRun) → r.state ≡ Offline → to ≡ Online
+    → keeps r to o ≡ false → keeps_run r.duration o ≡ false
 online_not_kept r to o e f g =
-    if_true (same_state r.state Offline) (same_state Online Online && keeps_run r.duration o) (is_refresh_end r Online) (ap (λ (s : State). same_state s Offline) e) (subst (λ (s : State). keeps r s o ≡ false) f g)
+    if_true (same_state r.state Offline) (same_state Online Online && keeps_run r.duration o)
+    (is_refresh_end r Online) (ap (λ (s : State). same_state s Offline) e)
+    (subst (λ (s : State). keeps r s o ≡ false) f g)
 
 -- an end that fits and does not keep the live run is the end of a start or of a stop
 abbrev IsFreed : Row → Type 0
 IsFreed r = IsStarting r ⊎ IsStopping r
 
-freed_by : (s : State) (n : State) (to : State) → may_end s (Some n) to false ≡ true → ((s ≡ Offline) × (n ≡ Online)) ⊎ ((runs s ≡ true) × (is_stopped n ≡ true))
+freed_by : (s : State) (n : State) (to : State) → may_end s (Some n) to false ≡ true
+    → ((s ≡ Offline) × (n ≡ Online)) ⊎ ((runs s ≡ true) × (is_stopped n ≡ true))
 freed_by Offline Online to e = inl (refl, refl)
 freed_by Offline Uninitialized to e = absurd cc
 freed_by Offline Disabled to e = absurd cc
@@ -119,12 +126,17 @@ both_first : (a b : Bool) → (a && b) ≡ true → a ≡ true
 both_first true b e = refl
 both_first false b e = absurd cc
 
-end_frees : (k : Knowledge) (i : KnownInstance) (e : Ending) → IsEndOf e i.row → drain_call k i e.drain ≡ calls.Nothing → keeps i.row e.to (known_run k i.instance i.row.live) ≡ false → may_end i.row.state i.row.next e.to false ≡ true
+end_frees : (k : Knowledge) (i : KnownInstance) (e : Ending) → IsEndOf e i.row
+    → drain_call k i e.drain ≡ calls.Nothing → keeps i.row e.to (known_run k i.instance i.row.live) ≡ false
+    → may_end i.row.state i.row.next e.to false ≡ true
     → is_empty (known_run k i.instance i.row.live) ≡ true
 end_frees k i e is drained not_keeps may = by (freed i.row e.to may)
   where
-    start_by : IsStarting i.row → (e.to ≡ Online) ⊎ (drains_live e.drain ≡ true) → is_empty (known_run k i.instance i.row.live) ≡ true
-    start_by s (inl to) = not_kept i.row.duration (known_run k i.instance i.row.live) (online_not_kept i.row e.to (known_run k i.instance i.row.live) s.state to not_keeps)
+    start_by : IsStarting i.row → (e.to ≡ Online) ⊎ (drains_live e.drain ≡ true)
+        → is_empty (known_run k i.instance i.row.live) ≡ true
+    start_by s (inl to) =
+        not_kept i.row.duration (known_run k i.instance i.row.live)
+        (online_not_kept i.row e.to (known_run k i.instance i.row.live) s.state to not_keeps)
     start_by s (inr l) = live_drained k i e.drain l drained
 
     by : IsFreed i.row → is_empty (known_run k i.instance i.row.live) ≡ true
@@ -149,23 +161,34 @@ plain_frees_none (Start run snapshot duration ignore revision) e f = cc
 plain_frees_none (End to keep failed cause) e f = cc
 plain_frees_none (Note bits keep) e f = cc
 
-end_fits : (r : Row) (to : State) (keep : Bool) (failed : ℕ) (cause : Cause) → fits r (End to keep failed cause) ≡ true → may_end r.state r.next to keep ≡ true
-end_fits r to keep failed cause e = both_first (may_end r.state r.next to keep) _ (is_tested r (End to keep failed cause) e).form
+end_fits : (r : Row) (to : State) (keep : Bool) (failed : ℕ) (cause : Cause)
+    → fits r (End to keep failed cause) ≡ true → may_end r.state r.next to keep ≡ true
+end_fits r to keep failed cause e =
+    both_first (may_end r.state r.next to keep) _ (is_tested r (End to keep failed cause) e).form
 
 -- if a proposed step fits the row that is held and frees its live run, no contract of that run is known to have members
-pub proposed_frees : (y : History) (h : Holdings) (ms : List Message) (B : ℕ → ℕ → Type 0) (k : Knowledge) (T : Message → Type 0) (i : KnownInstance) (step : Step) (after : After)
-    → IsInformed y h ms B k → Proposes k T i step after → frees step ≡ true → fits i.row step ≡ true → is_empty (known_run k i.instance i.row.live) ≡ true
+pub proposed_frees : (y : History) (h : Holdings) (ms : List Message) (B : ℕ → ℕ → Type 0) (k : Knowledge)
+    (T : Message → Type 0) (i : KnownInstance) (step : Step) (after : After)
+    → IsInformed y h ms B k → Proposes k T i step after → frees step ≡ true → fits i.row step ≡ true
+    → is_empty (known_run k i.instance i.row.live) ≡ true
 proposed_frees y h ms B k T i step after f (starts o call duration ignore t x what is then_is) free fit =
     absurd (let g : false ≡ true = sym (ap frees is) ∙ free in cc)
-proposed_frees y h ms B k T i step after f (orders o t x plain anyhow) free fit = absurd (plain_frees_none step plain free)
+proposed_frees y h ms B k T i step after f (orders o t x plain anyhow) free fit =
+    absurd (plain_frees_none step plain free)
 proposed_frees y h ms B k T i step after f (ends e at ph drained is then_is) free fit =
     let live : Option KnownRun = known_run k i.instance i.row.live in
     let not_keeps : keeps i.row e.to live ≡ false = not_false (keeps i.row e.to live) (sym (ap frees is) ∙ free) in
-    let may : may_end i.row.state i.row.next e.to (keeps i.row e.to live) ≡ true = end_fits i.row e.to (keeps i.row e.to live) e.failed e.cause (sym (ap (fits i.row) is) ∙ fit) in
-    let is_end : IsEndOf e i.row = subst (IsInPhase y h ms B k i.instance i.row) ph (f.each i.instance i at.is_known).phase in
-    end_frees k i e is_end drained not_keeps (subst (λ (b : Bool). may_end i.row.state i.row.next e.to b ≡ true) not_keeps may)
-proposed_frees y h ms B k T i step after f (notes bits at ph due is then_is) free fit = not_not (is_empty (known_run k i.instance i.row.live)) (sym (ap frees is) ∙ free)
+    let may : may_end i.row.state i.row.next e.to (keeps i.row e.to live) ≡ true =
+    end_fits i.row e.to (keeps i.row e.to live) e.failed e.cause (sym (ap (fits i.row) is) ∙ fit) in
+    let is_end : IsEndOf e i.row =
+    subst (IsInPhase y h ms B k i.instance i.row) ph (f.each i.instance i at.is_known).phase in
+    end_frees k i e is_end drained not_keeps
+    (subst (λ (b : Bool). may_end i.row.state i.row.next e.to b ≡ true) not_keeps may)
+proposed_frees y h ms B k T i step after f (notes bits at ph due is then_is) free fit =
+    not_not (is_empty (known_run k i.instance i.row.live)) (sym (ap frees is) ∙ free)
 
 -- the same of the run by its number
-pub freed_run : (k : Knowledge) (n run : ℕ) (live : Option ℕ) (r : KnownRun) → is_empty (known_run k n live) ≡ true → live ≡ Some run → run_at k n run ≡ Some r → r.empty ≡ true
-freed_run k n run live r e is known = sym (ap is_empty known) ∙ subst (λ (o : Option ℕ). is_empty (known_run k n o) ≡ true) is e
+pub freed_run : (k : Knowledge) (n run : ℕ) (live : Option ℕ) (r : KnownRun) → is_empty (known_run k n live) ≡ true
+    → live ≡ Some run → run_at k n run ≡ Some r → r.empty ≡ true
+freed_run k n run live r e is known = sym (ap is_empty known)
+    ∙ subst (λ (o : Option ℕ). is_empty (known_run k n o) ≡ true) is e

@@ -2,8 +2,8 @@
 use Rattle.std.proofs.Common.{◌≡◌, ℕ, ◌≤◌, List, [], ◌∷◌, Option, Some, None, refl, sym, ap, ◌∙◌, subst, arith}
 use Rattle.std.specs.Prelude.{find, unwrap_or}
 use Rattle.smf_state.specs.declared.view.ViewItem.{ViewItem}
-use Rattle.smf_model.specs.History.{History, made}
-use Rattle.smf_model.specs.Holdings.{Holdings}
+use Rattle.smf_model.specs.History.{History, holdings_after_commands}
+use Rattle.smf_model.specs.Contents.{Holdings}
 use Rattle.smf_model.specs.Laws.{IsNumbered}
 use Rattle.smf_model.specs.Shown.{view}
 use Rattle.smf_engine.specs.Orders.{is_about, order_in, order_to}
@@ -28,7 +28,8 @@ use Rattle.smf_world.proofs.KnowLater.{proposal_is}
 -- ---- orders
 
 -- an order is of a row of the restarter that it is for
-order_owner : (o : Order) (revision : ℕ) (items : List ViewItem) (x : Option ViewItem) → order_in revision items x ≡ Some o → o.row.owner ≡ o.restarter
+order_owner : (o : Order) (revision : ℕ) (items : List ViewItem) (x : Option ViewItem)
+    → order_in revision items x ≡ Some o → o.row.owner ≡ o.restarter
 order_owner o revision items None e = absurd cc
 order_owner o revision items (Some i) e = order_shape revision items i Says none some e
   where
@@ -40,22 +41,33 @@ order_owner o revision items (Some i) e = order_shape revision items i Says none
 
     some : (what : What) → Says (order_to revision i (Some what))
     some what f =
-        let same : record { restarter = i.row.owner; instance = i.instance; name = i.name; revision = revision; row = i.row; what = what } ≡ o = cc in
+        let same : record {
+          restarter = i.row.owner;
+          instance = i.instance;
+          name = i.name;
+          revision = revision;
+          row = i.row;
+          what = what;
+        } ≡ o = cc in
         ap (λ (a : Order). a.row.owner) (sym same) ∙ ap (λ (a : Order). a.restarter) same
 
-pub order_given : (y : History) (h : Holdings) (k : Knowledge) (o : Order) → IsNumbered y.first → h ≡ made y.first y.past → IsOrderIn y o → o.restarter ≡ k.name → IsGiven y h k o
+pub order_given : (y : History) (h : Holdings) (k : Knowledge) (o : Order) → IsNumbered y.first
+    → h ≡ holdings_after_commands y.first y.past → IsOrderIn y o → o.restarter ≡ k.name → IsGiven y h k o
 order_given y h k o numbered newest is to =
     record {
-      owner = order_owner o (view is.value).revision (view is.value).items (find (is_about o.instance) (view is.value).items) is.given ∙ to;
+      owner = order_owner o (view is.value).revision (view is.value).items
+          (find (is_about o.instance) (view is.value).items) is.given ∙ to;
       ready = λ call duration ignore what. start_is_ready y o call duration ignore is what;
       past = λ call duration ignore what.
-          ready_past y h o.revision o.instance o.row.number (unwrap_or o.row.running 0) (record { call = call; duration = duration; ignore = ignore }) o.row numbered newest
+          ready_past y h o.revision o.instance o.row.number (unwrap_or o.row.running 0)
+          (record { call = call; duration = duration; ignore = ignore }) o.row numbered newest
           (start_is_ready y o call duration ignore is what);
     }
 
 -- ---- what is said
 
-pub may_does : (y : History) (h : Holdings) (ms : List Message) (B : ℕ → ℕ → Type 0) (k : Knowledge) (d : Doing) → AreSaid h ms → Does k (WasTold y h ms k) d → IsInformed y h ms B k → AllMayBeSaid h ms d.said
+pub may_does : (y : History) (h : Holdings) (ms : List Message) (B : ℕ → ℕ → Type 0) (k : Knowledge) (d : Doing)
+    → AreSaid h ms → Does k (WasTold y h ms k) d → IsInformed y h ms B k → AllMayBeSaid h ms d.said
 may_does y h ms B k d said does f = by does
   where
     silent : (e : Doing) → d ≡ e → e.said ≡ [] → AllMayBeSaid h ms d.said
@@ -66,11 +78,16 @@ may_does y h ms B k d said does f = by does
 
     by : Does k (WasTold y h ms k) d → AllMayBeSaid h ms d.said
     by (rests run call e) = silent _ e refl
-    by (joins stage e) = one _ (messages.Join k.name k.launch) e refl (record { is = subst (λ (x : ℕ). k.launch ≤ x) f.launch (omega arith); once = tt })
+    by (joins stage e) =
+        one _ (messages.Join k.name k.launch) e refl
+        (record { is = subst (λ (x : ℕ). k.launch ≤ x) f.launch (omega arith); once = tt })
     by (repeats i p after at ph e) =
         let was : WasProposed p ms = (awaited_at y h ms B k i p after f at ph).said in
-        one _ (messages.Propose p) e refl (record { is = proposal_is h ms p said was; once = λ q w. said.once p q was w })
-    by (proposes i step after stage why e) = one _ (messages.Propose (proposal k i step)) e refl (may_propose y h ms B k i step after f (proposable y h ms B k i step after said f why))
+        one _ (messages.Propose p) e refl
+        (record { is = proposal_is h ms p said was; once = λ q w. said.once p q was w })
+    by (proposes i step after stage why e) =
+        one _ (messages.Propose (proposal k i step)) e refl
+        (may_propose y h ms B k i step after f (proposable y h ms B k i step after said f why))
     by (granted i p after name row at ph t e) = silent _ e refl
     by (refused i p after name why row at ph t differs e) = silent _ e refl
     by (forgets i p after name why row at ph t reason e) = silent _ e refl

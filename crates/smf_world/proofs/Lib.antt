@@ -1,11 +1,11 @@
 pub mod CommitLists
-pub mod Showing
+pub mod RowItems
 pub mod Owned
 pub mod PlainCommands
-pub mod Noting
+pub mod TrailItems
 pub mod ItemsMade
 pub mod Walked
-pub mod Lasting
+pub mod Facts
 pub mod Logged
 pub mod Pushed
 pub mod Tracked
@@ -14,7 +14,7 @@ pub mod Told
 pub mod Heard
 pub mod Answered
 pub mod Honest
-pub mod Reaching
+pub mod LaterWorlds
 pub mod Scheduled
 pub mod Ranked
 pub mod NothingLeft
@@ -67,7 +67,7 @@ pub mod DecidedShown
 pub mod Ahead
 pub mod DecidedLast
 pub mod DecidedStarts
-pub mod DecidedLasting
+pub mod DecidedEvents
 pub mod DecidedOwed
 pub mod TablesWalked
 pub mod LiveItems
@@ -77,7 +77,7 @@ pub mod LiveStarts
 pub mod TablesKept
 pub mod LiveRows
 pub mod LiveKnown
-pub mod LiveGoing
+pub mod LiveEvents
 pub mod LiveTrue
 pub mod LiveHeard
 pub mod LiveTicked
@@ -90,7 +90,7 @@ pub mod Safely
 pub mod FormedNames
 pub mod FormedEdits
 pub mod FormedGroups
-pub mod FormedHoldings
+pub mod FormedChanges
 pub mod FormedCommands
 pub mod SpelledShown
 pub mod SpelledChanges

@@ -4,7 +4,7 @@ use Rattle.smf_contract.specs.declared.cookie.Method.TheVariants as methods
 use Rattle.smf_state.specs.declared.step.Step.{Step}
 use Rattle.smf_state.specs.declared.step.Step.TheVariants as steps
 use Rattle.smf_model.specs.declared.held.Instance.{Instance}
-use Rattle.smf_model.specs.Holdings.{Holdings}
+use Rattle.smf_model.specs.Contents.{Holdings}
 use Rattle.smf_model.specs.Look.{instance}
 use Rattle.smf_wire.specs.declared.message.Message.{Message}
 use Rattle.smf_wire.specs.declared.message.Message.TheVariants as messages
@@ -13,7 +13,7 @@ use Rattle.smf_restarter.specs.declared.known.KnownRun.{KnownRun}
 use Rattle.smf_restarter.specs.declared.known.Owed.{Owed}
 use Rattle.smf_restarter.specs.declared.known.Phase.TheVariants as phases
 use Rattle.smf_restarter.specs.declared.known.Stage.TheVariants as stages
-use Rattle.smf_restarter.specs.Knowledge.{Knowledge, known}
+use Rattle.smf_restarter.specs.Knowledge.{Knowledge, known_instance}
 use Rattle.smf_restarter.specs.Runs.{run_at}
 use Rattle.smf_world.specs.declared.item.Item.{Item}
 use Rattle.smf_world.specs.declared.item.Item.TheVariants.{Boot, Emptied, Spawned}
@@ -91,7 +91,7 @@ pub record IsOwed (ks : List Knowledge) (n run : ℕ) : Type 0 where
   pub of : KnownInstance
   pub owed : Owed
   pub is_launched : IsIn restarter ks
-  pub is_known : known restarter n ≡ Some of
+  pub is_known : known_instance restarter n ≡ Some of
   pub owes : of.phase ≡ phases.Owes owed
   pub start : owed.method ≡ methods.Start
   pub live : of.row.live ≡ Some run

@@ -47,5 +47,7 @@ at_place P (y ∷ ys) zero x a e = let same : y ≡ x = cc in subst P same a.0
 at_place P (y ∷ ys) (suc n) x a e = at_place P ys n x a.1 e
 
 -- a fact of each message that was sent holds of the one at a place
-pub each_sent : {X : Type 0} (P : X → Type 0) (xs : List X) (n : ℕ) (x : X) → Each P xs → slice_get (reverse xs) n ≡ Some x → P x
-each_sent P xs n x a e = at_place P (reverse xs) n x (subst (Each P) (append-nil (reverse xs)) (each_reversed P xs [] a tt)) e
+pub each_sent : {X : Type 0} (P : X → Type 0) (xs : List X) (n : ℕ) (x : X) → Each P xs
+    → slice_get (reverse xs) n ≡ Some x → P x
+each_sent P xs n x a e =
+    at_place P (reverse xs) n x (subst (Each P) (append-nil (reverse xs)) (each_reversed P xs [] a tt)) e

@@ -5,14 +5,16 @@ use Rattle.smf_world.specs.declared.item.Item.TheVariants.{Boot, Committed, Held
 use Rattle.smf_world.specs.Safe.{WasSpawned, last_committed, live_starts}
 use Rattle.smf_world.proofs.LiveClauses.{Once, live_runs}
 use Rattle.smf_world.proofs.LiveLists.{Each}
-use Rattle.smf_world.proofs.Noting.{noted, noted_more}
+use Rattle.smf_world.proofs.TrailItems.{noted, noted_more}
 use Rattle.smf_world.proofs.TablesClauses.{spawned_for}
 use Rattle.smf_world.proofs.TablesWalked.{IsHeld, IsRow}
 
 -- if each item of a kind keeps a fact, all of them together keep it
-pub each_noted : (P : List Item → Type 0) (Q : Item → Type 0) → ((x : Item) (t : List Item) → Q x → P t → P (x ∷ t)) → (xs t : List Item) → Each Q xs → P t → P (noted xs t)
+pub each_noted : (P : List Item → Type 0) (Q : Item → Type 0) → ((x : Item) (t : List Item) → Q x → P t → P (x ∷ t))
+    → (xs t : List Item) → Each Q xs → P t → P (noted xs t)
 each_noted P Q step [] t a p = p
-each_noted P Q step (x ∷ xs) t a p = subst P (sym (noted_more x xs t)) (each_noted P Q step xs (x ∷ t) a.1 (step x t a.0 p))
+each_noted P Q step (x ∷ xs) t a p =
+    subst P (sym (noted_more x xs t)) (each_noted P Q step xs (x ∷ t) a.1 (step x t a.0 p))
 
 abbrev pub IsEmptied : Item → Type 0
 IsEmptied (Emptied c) = Unit {0}
@@ -99,16 +101,21 @@ pub rows_starts : (xs t : List Item) → Each IsRow xs → live_starts (noted xs
 rows_starts xs t a = each_noted (λ u. live_starts u ≡ live_starts t) IsRow (λ x u q p. row_starts x u q ∙ p) xs t a refl
 
 pub rows_spawned : (i run : ℕ) (xs t : List Item) → Each IsRow xs → WasSpawned i run (noted xs t) → WasSpawned i run t
-rows_spawned i run xs t a = each_noted (λ u. WasSpawned i run u → WasSpawned i run t) IsRow (λ x u q p w. p (row_spawned i run x u q w)) xs t a (λ w. w)
+rows_spawned i run xs t a =
+    each_noted (λ u. WasSpawned i run u → WasSpawned i run t) IsRow
+    (λ x u q p w. p (row_spawned i run x u q w)) xs t a (λ w. w)
 
 pub rows_spawned_for : (c : ℕ) (xs t : List Item) → Each IsRow xs → spawned_for c (noted xs t) ≡ spawned_for c t
-rows_spawned_for c xs t a = each_noted (λ u. spawned_for c u ≡ spawned_for c t) IsRow (λ x u q p. row_spawned_for c x u q ∙ p) xs t a refl
+rows_spawned_for c xs t a =
+    each_noted (λ u. spawned_for c u ≡ spawned_for c t) IsRow (λ x u q p. row_spawned_for c x u q ∙ p) xs t a refl
 
 pub rows_once : (xs t : List Item) → Each IsRow xs → Once t → Once (noted xs t)
 rows_once xs t a o = each_noted Once IsRow row_once xs t a o
 
-pub held_last_committed : (n : ℕ) (xs t : List Item) → Each IsHeld xs → last_committed n (noted xs t) ≡ last_committed n t
-held_last_committed n xs t a = each_noted (λ u. last_committed n u ≡ last_committed n t) IsHeld (λ x u q p. held_last n x u q ∙ p) xs t a refl
+pub held_last_committed : (n : ℕ) (xs t : List Item) → Each IsHeld xs
+    → last_committed n (noted xs t) ≡ last_committed n t
+held_last_committed n xs t a =
+    each_noted (λ u. last_committed n u ≡ last_committed n t) IsHeld (λ x u q p. held_last n x u q ∙ p) xs t a refl
 
 -- ---- contracts that are emptied
 
@@ -116,11 +123,17 @@ pub emptied_each : (cs : List ℕ) → Each IsEmptied (map (λ (c : ℕ). Emptie
 emptied_each [] = tt
 emptied_each (c ∷ cs) = (tt, emptied_each cs)
 
-pub all_emptied_spawned : (i run : ℕ) (xs t : List Item) → Each IsEmptied xs → WasSpawned i run (noted xs t) → WasSpawned i run t
-all_emptied_spawned i run xs t a = each_noted (λ u. WasSpawned i run u → WasSpawned i run t) IsEmptied (λ x u q p w. p (emptied_spawned i run x u q w)) xs t a (λ w. w)
+pub all_emptied_spawned : (i run : ℕ) (xs t : List Item) → Each IsEmptied xs → WasSpawned i run (noted xs t)
+    → WasSpawned i run t
+all_emptied_spawned i run xs t a =
+    each_noted (λ u. WasSpawned i run u → WasSpawned i run t) IsEmptied
+    (λ x u q p w. p (emptied_spawned i run x u q w)) xs t a (λ w. w)
 
 pub all_emptied_once : (xs t : List Item) → Each IsEmptied xs → Once t → Once (noted xs t)
 all_emptied_once xs t a o = each_noted Once IsEmptied emptied_once xs t a o
 
-pub all_emptied_spawned_for : (c : ℕ) (xs t : List Item) → Each IsEmptied xs → spawned_for c (noted xs t) ≡ spawned_for c t
-all_emptied_spawned_for c xs t a = each_noted (λ u. spawned_for c u ≡ spawned_for c t) IsEmptied (λ x u q p. emptied_spawned_for c x u q ∙ p) xs t a refl
+pub all_emptied_spawned_for : (c : ℕ) (xs t : List Item) → Each IsEmptied xs
+    → spawned_for c (noted xs t) ≡ spawned_for c t
+all_emptied_spawned_for c xs t a =
+    each_noted (λ u. spawned_for c u ≡ spawned_for c t) IsEmptied
+    (λ x u q p. emptied_spawned_for c x u q ∙ p) xs t a refl

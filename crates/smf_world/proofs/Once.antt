@@ -26,7 +26,8 @@ reached : (t : List Item) (i n : ℕ) → AlongTheDiagram t → WasNumbered i n 
 reached [] i n a w = absurd w
 reached (Committed j m s next ∷ t) i n a (inl e) = by (j == i) refl
   where
-    by : (b : Bool) → (j == i) ≡ b → IsReachedBy n (cond b (Some (record { number = m; state = s; booted = false })) (last_of i t))
+    by : (b : Bool) → (j == i) ≡ b
+        → IsReachedBy n (cond b (Some (record { number = m; state = s; booted = false })) (last_of i t))
     by true f = subst (λ (k : ℕ). n ≤ k) (sym e.1) (omega arith)
     by false f = absurd (differ j i e.0 f)
 reached (Committed j m s next ∷ t) i n a (inr w) = by (j == i) refl (reached t i n a.1 w)
@@ -34,8 +35,10 @@ reached (Committed j m s next ∷ t) i n a (inr w) = by (j == i) refl (reached t
     more : n + 1 ≤ m → n ≤ m
     more le = omega arith
 
-    by : (b : Bool) → (j == i) ≡ b → IsReachedBy n (last_of i t) → IsReachedBy n (cond b (Some (record { number = m; state = s; booted = false })) (last_of i t))
-    by true f r = more (passes n m s (last_of j t) a.0 (subst (λ (k : ℕ). IsReachedBy n (last_of k t)) (sym (eqb-true j i f)) r))
+    by : (b : Bool) → (j == i) ≡ b → IsReachedBy n (last_of i t)
+        → IsReachedBy n (cond b (Some (record { number = m; state = s; booted = false })) (last_of i t))
+    by true f r =
+        more (passes n m s (last_of j t) a.0 (subst (λ (k : ℕ). IsReachedBy n (last_of k t)) (sym (eqb-true j i f)) r))
     by false f r = r
 reached (Held name launch j m s ∷ t) i n a w = reached t i n a w
 reached (Spawned c j r method revision command ∷ t) i n a w = reached t i n a w

@@ -9,10 +9,10 @@ use Rattle.smf_state.specs.declared.refusal.Why.TheVariants as whys
 use Rattle.smf_state.specs.declared.row.Row.{Row}
 use Rattle.smf_state.specs.declared.step.Proposal.{Proposal}
 use Rattle.smf_model.specs.declared.command.Command.TheVariants as commands
-use Rattle.smf_model.specs.declared.command.Reply.{Reply as CommandReply}
-use Rattle.smf_model.specs.declared.command.Reply.TheVariants as replies
+use Rattle.smf_model.specs.declared.command.CommandReply.{CommandReply}
+use Rattle.smf_model.specs.declared.command.CommandReply.TheVariants as replies
 use Rattle.smf_model.specs.Look.{launch_of}
-use Rattle.smf_model.specs.Next.{asked}
+use Rattle.smf_model.specs.Next.{outcome_of_command}
 use Rattle.smf_changes.specs.Changes.{changes_since, recent}
 use Rattle.smf_wire.specs.declared.message.Known.{Known}
 use Rattle.smf_wire.specs.declared.message.Message.{Message}
@@ -20,16 +20,16 @@ use Rattle.smf_wire.specs.declared.message.Message.TheVariants as messages
 use Rattle.smf_restarter.specs.declared.known.KnownInstance.{KnownInstance}
 use Rattle.smf_restarter.specs.declared.known.Stage.{Stage}
 use Rattle.smf_restarter.specs.declared.known.Stage.TheVariants.{Joining, Listing, Up}
-use Rattle.smf_restarter.specs.Changes.{nothing, taking, unchanged}
-use Rattle.smf_restarter.specs.Knowledge.{Knowledge, known}
-use Rattle.smf_restarter.specs.Replies.{Awaited, acked, acked_by, awaited, heard, heard_rows, idle, nacked, nacked_by, refused_by}
+use Rattle.smf_restarter.specs.Changes.{nothing, reply_with_rows, no_change}
+use Rattle.smf_restarter.specs.Knowledge.{Knowledge, known_instance}
+use Rattle.smf_restarter.specs.Replies.{Awaited, reply_to_ack, acked_by, awaited_proposal, reply_to_message, heard_rows, idle, reply_to_nack, nacked_by, refused_by}
 use Rattle.smf_world.specs.declared.event.Event.TheVariants as events
-use Rattle.smf_world.specs.Happens.{done, happens}
-use Rattle.smf_world.specs.Schedule.{Progress, deliver_count, deliver_next, delivering, delivering_if, is_skipped, turn_of_messages, waiting_count}
-use Rattle.smf_world.specs.Worked.{answer_to, commanded, delivered, delivered_if, heard_by, joined, proposed, restarter, sent_at, told, worked}
+use Rattle.smf_world.specs.Happens.{world_after, happens}
+use Rattle.smf_world.specs.Schedule.{Progress, deliver_count, deliver_next, progress_after_next, delivering_if, is_skipped, turn_of_messages, waiting_count}
+use Rattle.smf_world.specs.Worked.{answer_to, work_of_command, work_of_delivery, delivered_if, heard_by, work_of_join, work_with_answers, restarter, sent_at, work_on_message, work_of_event}
 use Rattle.smf_world.specs.World.{World}
 use Rattle.smf_world.proofs.DecidedQuiet.{IsAsked, heard_quiet}
-use Rattle.smf_world.proofs.FormedHoldings.{every_both}
+use Rattle.smf_world.proofs.FormedChanges.{every_both}
 use Rattle.smf_world.proofs.LiveLists.{Each}
 use Rattle.smf_world.proofs.Questions.{of_answer}
 
@@ -64,36 +64,43 @@ two_below_three = omega arith
 -- ---- what restarters send
 
 -- a restarter sends nothing on its rows
-rows_send : (k : Knowledge) (launch : ℕ) (rows : List Known) (s : Stage) → AreBelow 1 (heard_rows k launch rows s).messages
+rows_send : (k : Knowledge) (launch : ℕ) (rows : List Known) (s : Stage)
+    → AreBelow 1 (heard_rows k launch rows s).messages
 rows_send k launch rows Up = tt
 rows_send k launch rows Listing = tt
 rows_send k launch rows Joining = by (launch == k.launch)
   where
-    by : (b : Bool) → AreBelow 1 (if b then taking rows (record unchanged { stage = Some Listing; put = map idle rows }) else nothing).messages
+    by : (b : Bool)
+        → AreBelow 1 (if b then reply_with_rows rows (record no_change { stage = Some Listing; put = map idle rows })
+        else nothing).messages
     by true = tt
     by false = tt
 
 -- a restarter sends nothing on an answer to a proposal
-acked_sends : (k : Knowledge) (row : Row) (i : KnownInstance) (o : Option Awaited) → AreBelow 1 (acked_by k row i o).messages
+acked_sends : (k : Knowledge) (row : Row) (i : KnownInstance) (o : Option Awaited)
+    → AreBelow 1 (acked_by k row i o).messages
 acked_sends k row i None = tt
 acked_sends k row i (Some a) = tt
 
-ack_sends : (k : Knowledge) (launch serial : ℕ) (row : Row) (o : Option KnownInstance) → AreBelow 1 (acked k launch serial row o).messages
+ack_sends : (k : Knowledge) (launch serial : ℕ) (row : Row) (o : Option KnownInstance)
+    → AreBelow 1 (reply_to_ack k launch serial row o).messages
 ack_sends k launch serial row None = tt
-ack_sends k launch serial row (Some i) = acked_sends k row i (awaited launch serial i.phase)
+ack_sends k launch serial row (Some i) = acked_sends k row i (awaited_proposal launch serial i.phase)
 
 refusal_sends : (i : KnownInstance) (why : Why) (row : Option Row) → AreBelow 1 (refused_by i why row).messages
 refusal_sends i whys.Owner row = tt
 refusal_sends i why None = tt
 refusal_sends i why (Some row) = tt
 
-nacked_sends : (why : Why) (row : Option Row) (i : KnownInstance) (o : Option Awaited) → AreBelow 1 (nacked_by why row i o).messages
+nacked_sends : (why : Why) (row : Option Row) (i : KnownInstance) (o : Option Awaited)
+    → AreBelow 1 (nacked_by why row i o).messages
 nacked_sends why row i None = tt
 nacked_sends why row i (Some a) = refusal_sends i why row
 
-nack_sends : (launch serial : ℕ) (why : Why) (row : Option Row) (o : Option KnownInstance) → AreBelow 1 (nacked launch serial why row o).messages
+nack_sends : (launch serial : ℕ) (why : Why) (row : Option Row) (o : Option KnownInstance)
+    → AreBelow 1 (reply_to_nack launch serial why row o).messages
 nack_sends launch serial why row None = tt
-nack_sends launch serial why row (Some i) = nacked_sends why row i (awaited launch serial i.phase)
+nack_sends launch serial why row (Some i) = nacked_sends why row i (awaited_proposal launch serial i.phase)
 
 -- a restarter sends joins and proposals alone, and both rank below an order
 asked_below : (m : Message) → IsAsked m → IsBelow 3 m
@@ -114,7 +121,8 @@ all_asked (m ∷ ms) a = (asked_below m a.0, all_asked ms a.1)
 
 -- ---- what a delivery sends
 
-told_sends : (n : ℕ) (m : Message) (o : Option Knowledge) → ((k : Knowledge) → AreBelow n (heard k m).messages) → AreBelow n (told m o).messages
+told_sends : (n : ℕ) (m : Message) (o : Option Knowledge)
+    → ((k : Knowledge) → AreBelow n (reply_to_message k m).messages) → AreBelow n (work_on_message m o).messages
 unfolding heard_by
 told_sends n m None sends = tt
 told_sends n m (Some k) sends = sends k
@@ -124,19 +132,20 @@ answer_sends p (replies.Granted row) = (one_below_two, tt)
 answer_sends p (replies.Stale why row) = (one_below_two, tt)
 answer_sends p _ = tt
 
-join_sends : (w : World) (name : List ℕ) (launch : ℕ) (b : Bool) → AreBelow 2 (joined w name launch b).messages
+join_sends : (w : World) (name : List ℕ) (launch : ℕ) (b : Bool) → AreBelow 2 (work_of_join w name launch b).messages
 join_sends w name launch true = (one_below_two, tt)
 join_sends w name launch false = tt
 
-proposal_sends : (w : World) (p : Proposal) → AreBelow 2 (proposed p (commanded w (commands.Propose p))).messages
-unfolding commanded
-proposal_sends w p = answer_sends p (asked w.now (commands.Propose p)).reply
+proposal_sends : (w : World) (p : Proposal)
+    → AreBelow 2 (work_with_answers p (work_of_command w (commands.Propose p))).messages
+unfolding work_of_command
+proposal_sends w p = answer_sends p (outcome_of_command w.now (commands.Propose p)).reply
 
-heard_sends : (k : Knowledge) (m : Message) → IsBelow 2 m → AreBelow 1 (heard k m).messages
-unfolding heard
+heard_sends : (k : Knowledge) (m : Message) → IsBelow 2 m → AreBelow 1 (reply_to_message k m).messages
+unfolding reply_to_message
 heard_sends k (messages.Rows name launch rows) b = rows_send k launch rows k.stage
-heard_sends k (messages.Ack name launch serial n row) b = ack_sends k launch serial row (known k n)
-heard_sends k (messages.Nack name launch serial n why row) b = nack_sends launch serial why row (known k n)
+heard_sends k (messages.Ack name launch serial n row) b = ack_sends k launch serial row (known_instance k n)
+heard_sends k (messages.Nack name launch serial n why row) b = nack_sends launch serial why row (known_instance k n)
 heard_sends k (messages.Order o) b = absurd (omega arith)
 heard_sends k (messages.Join name launch) b = tt
 heard_sends k (messages.Propose p) b = tt
@@ -146,18 +155,30 @@ heard_sends k (messages.View v) b = tt
 heard_sends k (messages.Changes news) b = tt
 
 -- a delivery sends only messages of lower ranks
-pub delivery_sends : (w : World) (m : Message) → AreBelow (rank m) (delivered w m).messages
-unfolding delivered
+pub delivery_sends : (w : World) (m : Message) → AreBelow (rank m) (work_of_delivery w m).messages
+unfolding work_of_delivery
 delivery_sends w (messages.Join name launch) = join_sends w name launch (launch == launch_of w.now name)
-delivery_sends w (messages.Rows name launch rows) = told_sends 1 (messages.Rows name launch rows) (restarter w name) (λ k. heard_sends k (messages.Rows name launch rows) one_below_two)
+delivery_sends w (messages.Rows name launch rows) =
+    told_sends 1 (messages.Rows name launch rows) (restarter w name)
+    (λ k. heard_sends k (messages.Rows name launch rows) one_below_two)
 delivery_sends w (messages.Propose p) = proposal_sends w p
-delivery_sends w (messages.Ack name launch serial n row) = told_sends 1 (messages.Ack name launch serial n row) (restarter w name) (λ k. heard_sends k (messages.Ack name launch serial n row) one_below_two)
-delivery_sends w (messages.Nack name launch serial n why row) = told_sends 1 (messages.Nack name launch serial n why row) (restarter w name) (λ k. heard_sends k (messages.Nack name launch serial n why row) one_below_two)
+delivery_sends w (messages.Ack name launch serial n row) =
+    told_sends 1 (messages.Ack name launch serial n row) (restarter w name)
+    (λ k. heard_sends k (messages.Ack name launch serial n row) one_below_two)
+delivery_sends w (messages.Nack name launch serial n why row) =
+    told_sends 1 (messages.Nack name launch serial n why row) (restarter w name)
+    (λ k. heard_sends k (messages.Nack name launch serial n why row) one_below_two)
 delivery_sends w messages.AskView = (one_below_two, tt)
 delivery_sends w (messages.View v) = tt
-delivery_sends w (messages.AskChange from) = (of_answer (IsBelow 2) w.now from (changes_since (recent w.history.first w.history.past) w.now from) one_below_two (λ c. one_below_two), tt)
+delivery_sends w (messages.AskChange from) = (
+  of_answer (IsBelow 2) w.now from (changes_since (recent w.history.first w.history.past) w.now from) one_below_two
+      (λ c. one_below_two),
+  tt,
+)
 delivery_sends w (messages.Changes c) = tt
-delivery_sends w (messages.Order o) = told_sends 3 (messages.Order o) (restarter w o.restarter) (λ k. all_asked (heard k (messages.Order o)).messages (heard_quiet k (messages.Order o)))
+delivery_sends w (messages.Order o) =
+    told_sends 3 (messages.Order o) (restarter w o.restarter)
+    (λ k. all_asked (reply_to_message k (messages.Order o)).messages (heard_quiet k (messages.Order o)))
 
 -- ---- the front of what waits
 
@@ -169,7 +190,8 @@ front_at (y ∷ ys) zero x rest e = cc
 front_at (y ∷ ys) (suc n) x rest e = front_at ys n x rest e
 
 -- one place on, the rest is left
-rest_after : {X : Type 0} (xs : List X) (n : ℕ) (x : X) (rest : List X) → drop n xs ≡ x ∷ rest → (drop (n + 1) xs ≡ rest) × (n + 1 ≤ length xs)
+rest_after : {X : Type 0} (xs : List X) (n : ℕ) (x : X) (rest : List X) → drop n xs ≡ x ∷ rest
+    → (drop (n + 1) xs ≡ rest) × (n + 1 ≤ length xs)
 rest_after [] zero x rest e = absurd cc
 rest_after [] (suc n) x rest e = absurd cc
 rest_after (y ∷ ys) zero x rest e = (cc, omega arith)
@@ -192,8 +214,9 @@ sent_before : (new sent : List Message) → reverse (reverse new ++ sent) ≡ re
 sent_before new sent = reverse-append (reverse new) sent ∙ ap (λ ms. reverse sent ++ ms) (reverse-reverse new)
 
 -- a delivery puts what it sends after all that was sent before
-happens_sends : (w : World) (place : ℕ) → reverse (happens w (events.Deliver place)).sent ≡ reverse w.sent ++ (delivered_if w (sent_at w place)).messages
-unfolding happens done worked
+happens_sends : (w : World) (place : ℕ)
+    → reverse (happens w (events.Deliver place)).sent ≡ reverse w.sent ++ (delivered_if w (sent_at w place)).messages
+unfolding happens world_after work_of_event
 happens_sends w place = sent_before (delivered_if w (sent_at w place)).messages w.sent
 
 -- a delivery takes the first message that waits, and puts messages of lower ranks after the last
@@ -202,7 +225,8 @@ record Passes (m : Message) (before after : List Message) : Type 0 where
   are : after ≡ before ++ sends
   lower : AreBelow (rank m) sends
 
-passes_by : (b : Bool) (p : Progress) (m : Message) (rest : List Message) → waits p ≡ m ∷ rest → Passes m rest (waits (delivering b p))
+passes_by : (b : Bool) (p : Progress) (m : Message) (rest : List Message) → waits p ≡ m ∷ rest
+    → Passes m rest (waits (progress_after_next b p))
 passes_by true p m rest e =
     let after = rest_after (reverse p.world.sent) p.next m rest e in
     record { sends = []; are = after.0 ∙ sym (append-nil rest); lower = tt }
@@ -216,14 +240,17 @@ passes_by false p m rest e =
           ap (λ ms. drop (p.next + 1) ms) (happens_sends p.world p.next)
           ∙ drop-append-le (p.next + 1) (reverse p.world.sent) new after.1
           ∙ ap (λ ms. ms ++ new) after.0;
-      lower = subst (λ (o : Option Message). AreBelow (rank m) (delivered_if p.world o).messages) (sym at) (delivery_sends p.world m);
+      lower = subst (λ (o : Option Message). AreBelow (rank m) (delivered_if p.world o).messages) (sym at)
+          (delivery_sends p.world m);
     }
 
-passes : (p : Progress) (m : Message) (rest : List Message) → waits p ≡ m ∷ rest → Passes m rest (waits (deliver_next p))
+passes : (p : Progress) (m : Message) (rest : List Message) → waits p ≡ m ∷ rest
+    → Passes m rest (waits (deliver_next p))
 unfolding deliver_next
 passes p m rest e =
     let at : sent_at p.world p.next ≡ Some m = front_at (reverse p.world.sent) p.next m rest e in
-    subst (λ (o : Option Message). Passes m rest (waits (delivering_if o p))) (sym at) (passes_by (is_skipped p) p m rest e)
+    subst (λ (o : Option Message). Passes m rest (waits (delivering_if o p))) (sym at)
+    (passes_by (is_skipped p) p m rest e)
 
 -- ---- a turn
 
@@ -232,7 +259,8 @@ below_more n k [] le a = tt
 below_more n k (m ∷ ms) le a = let first : rank m < n = a.0 in (omega arith, below_more n k ms le a.1)
 
 -- once all that waited at first is delivered, only what was sent meanwhile waits
-count_lowers : (k : ℕ) (p : Progress) (ms more : List Message) → waits p ≡ ms ++ more → AreBelow (k + 1) ms → AreBelow k more
+count_lowers : (k : ℕ) (p : Progress) (ms more : List Message) → waits p ≡ ms ++ more → AreBelow (k + 1) ms
+    → AreBelow k more
     → AreBelow k (waits (deliver_count (length ms) p))
 count_lowers k p [] more e a b = subst (AreBelow k) (sym e) b
 count_lowers k p (m ∷ ms) more e a b =
@@ -290,4 +318,5 @@ none_waits p =
     let q : Progress = turn_of_messages p in
     let r : Progress = turn_of_messages q in
     let s : Progress = turn_of_messages r in
-    count_is s ∙ none_below_one (waits s) (turn_lowers 1 r (turn_lowers 2 q (turn_lowers 3 p (all_below_four (waits p)))))
+    count_is s ∙ none_below_one (waits s)
+    (turn_lowers 1 r (turn_lowers 2 q (turn_lowers 3 p (all_below_four (waits p)))))

@@ -2,37 +2,37 @@
 use Rattle.std.proofs.Common.{◌≡◌, ◌≤◌, ◌==◌, ℕ, Bool, true, false, cond, List, [], ◌∷◌, Option, Some, None, refl, sym, subst, arith}
 use Rattle.std.specs.Ordering.{is_eq, nat_cmp}
 use Rattle.std.proofs.lemmas.Bool.Decides.{nat_tests}
-use Rattle.smf_state.specs.Rows.{applied, fresh}
+use Rattle.smf_state.specs.Rows.{result_of_proposal, fresh}
 use Rattle.smf_state.specs.declared.state.State.TheVariants.{Uninitialized, Disabled}
-use Rattle.smf_model.specs.Holdings.{Holdings}
+use Rattle.smf_model.specs.Contents.{Holdings}
 use Rattle.smf_model.specs.declared.held.Instance.{Instance}
 use Rattle.smf_model.specs.Dates.{IsDated, revision_of}
 use Rattle.smf_model.specs.Laws.{IsIndexed, IsNumbered}
-use Rattle.smf_model.specs.Look.{bare, groups_of, installed}
+use Rattle.smf_model.specs.Look.{bare, groups_of, holdings_after_changes}
 use Rattle.smf_state.specs.OwnName.{startd}
-use Rattle.smf_model.specs.Setting.{current, enabled, setting}
+use Rattle.smf_model.specs.GeneralGroup.{current, is_instance_enabled, setting}
 use Rattle.smf_model.specs.Shown.{view, rows_of}
-use Rattle.smf_model.specs.Next.{answer, asked, asked_boot, asked_edit, asked_launch, greatest, next}
+use Rattle.smf_model.specs.Next.{answer, outcome_of_command, asked_boot, asked_edit, asked_launch, greatest, next}
 use Rattle.smf_model.proofs.LawDates.{fresh_date}
 use Rattle.smf_model.proofs.LawLists.{no_such, some_same}
 use Rattle.smf_model.proofs.LawNumbers.{first_numbers}
 use Rattle.smf_model.proofs.Names.{index_added}
-use Rattle.smf_contract.specs.Called.{called, emptied_by}
+use Rattle.smf_contract.specs.Called.{table_after_contract_call, emptied_by}
 use Rattle.smf_engine.specs.Orders.{order}
-use Rattle.smf_restarter.specs.Answers.{listed}
-use Rattle.smf_restarter.specs.Changes.{changed}
-use Rattle.smf_restarter.specs.Replies.{heard}
+use Rattle.smf_restarter.specs.Answers.{change_on_list}
+use Rattle.smf_restarter.specs.Changes.{knowledge_after}
+use Rattle.smf_restarter.specs.Replies.{reply_to_message}
 use Rattle.smf_restarter.specs.Ticks.{own_tick}
 use Rattle.smf_world.specs.declared.event.Event.{Event}
 use Rattle.smf_world.specs.declared.event.Event.TheVariants as events
 use Rattle.smf_world.specs.declared.item.Item.{Item}
 use Rattle.smf_world.specs.declared.item.Item.TheVariants.{Boot, Committed}
-use Rattle.smf_world.specs.Happens.{done, happens}
+use Rattle.smf_world.specs.Happens.{world_after, happens}
 use Rattle.smf_world.specs.Items.{items_of}
 use Rattle.smf_world.specs.Runs.{run}
 use Rattle.smf_world.specs.Safe.{AlongTheDiagram, Last, RowFollows, commits}
-use Rattle.smf_world.specs.Worked.{acted, answer_of, call_of, calling, commanded, delivered, heard_by, worked}
-use Rattle.smf_world.specs.World.{found}
+use Rattle.smf_world.specs.Worked.{work_of_turn, answer_of, call_of, work_of_call, work_of_command, work_of_delivery, heard_by, work_of_event}
+use Rattle.smf_world.specs.World.{initial_world}
 use Rattle.smf_world.proofs.CommitLists.{has_not}
 use Rattle.smf_world.proofs.Pushed.{last_commits}
 
@@ -58,8 +58,11 @@ schedule =
     events.Launch startd ∷ events.OwnTick startd ∷ events.Deliver 0 ∷ events.Deliver 1 ∷ events.OwnTick startd
     ∷ events.Ask ∷ events.Deliver 2 ∷ events.Deliver 3 ∷ events.Orders ∷ events.Deliver 4 ∷ events.Deliver 5 ∷ []
 
-shows : commits (run schedule (happens (found limited) events.Boot)).trail ≡ Committed 1 1 Disabled None ∷ []
-unfolding next asked asked_boot asked_launch asked_edit answer applied installed current enabled setting view rows_of groups_of order changed heard listed own_tick called emptied_by items_of commanded delivered heard_by acted answer_of call_of calling worked done happens
+shows : commits (run schedule (happens (initial_world limited) events.Boot)).trail ≡ Committed 1 1 Disabled None ∷ []
+unfolding next outcome_of_command asked_boot asked_launch asked_edit answer result_of_proposal holdings_after_changes
+    current is_instance_enabled setting view rows_of groups_of order knowledge_after reply_to_message change_on_list
+    own_tick table_after_contract_call emptied_by items_of work_of_command work_of_delivery heard_by work_of_turn
+    answer_of call_of work_of_call work_of_event world_after happens
 shows = refl
 
 is_other : (n : ℕ) → 2 ≤ n → (1 == n) ≡ false
@@ -94,7 +97,8 @@ limited_numbered =
 
 commits_along : (t : List Item) → AlongTheDiagram t → AlongTheDiagram (commits t)
 commits_along [] a = a
-commits_along (Committed j m state next ∷ t) a = (subst (λ (o : Option Last). RowFollows o m state) (sym (last_commits j t)) a.0, commits_along t a.1)
+commits_along (Committed j m state next ∷ t) a =
+    (subst (λ (o : Option Last). RowFollows o m state) (sym (last_commits j t)) a.0, commits_along t a.1)
 commits_along (Boot ∷ t) a = commits_along t a
 commits_along (item ∷ t) a = commits_along t a
 
@@ -102,8 +106,11 @@ commits_along (item ∷ t) a = commits_along t a
 first_disabled : AlongTheDiagram (Committed 1 1 Disabled None ∷ []) → ⊥
 first_disabled a = let e : Disabled ≡ Uninitialized = a.0 in cc
 
-not_along : AlongTheDiagram (run schedule (happens (found limited) events.Boot)).trail → ⊥
-not_along a = first_disabled (subst AlongTheDiagram shows (commits_along (run schedule (happens (found limited) events.Boot)).trail a))
+not_along : AlongTheDiagram (run schedule (happens (initial_world limited) events.Boot)).trail → ⊥
+not_along a =
+    first_disabled
+    (subst AlongTheDiagram shows (commits_along (run schedule (happens (initial_world limited) events.Boot)).trail a))
 
-pub boot_needed : (h : Holdings) × (es : List Event) × IsNumbered h × (AlongTheDiagram (run es (happens (found h) events.Boot)).trail → ⊥)
+pub boot_needed : (h : Holdings) × (es : List Event) × IsNumbered h
+    × (AlongTheDiagram (run es (happens (initial_world h) events.Boot)).trail → ⊥)
 boot_needed = (limited, schedule, limited_numbered, not_along)

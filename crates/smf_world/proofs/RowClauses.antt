@@ -10,7 +10,7 @@ use Rattle.smf_state.specs.Rows.{is_stopped, refusal, same_state}
 use Rattle.smf_state.specs.States.{runs}
 use Rattle.smf_model.specs.declared.held.Instance.{Instance}
 use Rattle.smf_model.specs.History.{History, value_at}
-use Rattle.smf_model.specs.Holdings.{Holdings}
+use Rattle.smf_model.specs.Contents.{Holdings}
 use Rattle.smf_model.specs.Laws.{Stays}
 use Rattle.smf_model.specs.Look.{instance, launch_of}
 use Rattle.smf_model.specs.Next.{is_other_snapshot}
@@ -83,7 +83,8 @@ pub record WasRow (h : Holdings) (n : ℕ) (r : Row) : Type 0 where
 
 -- each row of the history was the instance's
 abbrev pub WereRows : History → Holdings → Type 0
-WereRows y h = (m : ℕ) (v : Holdings) (n : ℕ) (i : Instance) → value_at y m ≡ Some v → instance v n ≡ Some i → WasRow h n i.row
+WereRows y h = (m : ℕ) (v : Holdings) (n : ℕ) (i : Instance) → value_at y m ≡ Some v → instance v n ≡ Some i
+    → WasRow h n i.row
 
 -- the row with which a start began, in a value after the one that it was decided on
 pub record WasAnnounced (y : History) (n : ℕ) (r : Row) : Type 0 where

@@ -1,24 +1,24 @@
 -- The effect of a command on the row of an instance, and the answer to a proposal.
 use Rattle.std.specs.Prelude.{◌≡◌, ◌⊎◌, ◌+◌, ◌≤◌, ℕ, true, false, List, [], Option, Some, None}
-use Rattle.smf_fmri.specs.ByKey.{put as put_in, without}
+use Rattle.smf_fmri.specs.ByKey.{list_with_item as put_in, without}
 use Rattle.smf_state.specs.declared.row.Row.{Row}
 use Rattle.smf_state.specs.declared.state.State.TheVariants.{Uninitialized, Disabled}
 use Rattle.smf_state.specs.declared.step.Proposal.{Proposal}
-use Rattle.smf_state.specs.Rows.{fresh, numbered, refusal, stepped}
+use Rattle.smf_state.specs.Rows.{fresh, row_with_numbers, refusal, row_after_step}
 use Rattle.smf_state.specs.States.{runs}
 use Rattle.smf_model.specs.declared.change.Outcome.{Outcome}
 use Rattle.smf_model.specs.declared.command.Command.{Command}
 use Rattle.smf_model.specs.declared.command.Command.TheVariants as commands
 use Rattle.smf_model.specs.declared.command.Edit.TheVariants as edits
-use Rattle.smf_model.specs.declared.command.Reply.TheVariants as replies
+use Rattle.smf_model.specs.declared.command.CommandReply.TheVariants as replies
 use Rattle.smf_state.specs.declared.refusal.Why.{Why}
 use Rattle.smf_state.specs.declared.refusal.Why.TheVariants as whys
 use Rattle.smf_model.specs.declared.held.Instance.{Instance}
-use Rattle.smf_model.specs.Holdings.{Holdings}
+use Rattle.smf_model.specs.Contents.{Holdings}
 use Rattle.smf_model.specs.Laws.{IsNumbered, Stays}
-use Rattle.smf_model.specs.Look.{by_instance, installed, instance, instances, launch_of, put_over}
-use Rattle.smf_model.specs.Next.{booted, booted_row, is_again, is_other_snapshot, moved_row, new_instance}
-use Rattle.smf_model.specs.Setting.{Groups, current}
+use Rattle.smf_model.specs.Look.{by_instance, holdings_after_changes, instance, instances, launch_of, put_over}
+use Rattle.smf_model.specs.Next.{instance_after_boot, booted_row, is_again, is_other_snapshot, moved_row, new_instance}
+use Rattle.smf_model.specs.GeneralGroup.{Groups, current}
 use Rattle.smf_model.proofs.Written.{AreHeldAtZero, put_each}
 use Rattle.smf_world.proofs.RowClauses.{fits}
 
@@ -56,7 +56,8 @@ pub record IsGrant (h : Holdings) (m : ℕ) (p : Proposal) (before after : Row) 
   pub number : p.number ≡ before.number + 1
   pub fits : fits before p.step ≡ true
   pub new : is_again read p ≡ false
-  pub left : after ≡ record (numbered (stepped read p.step (h.revision + 1)) (read.number + 1) p) { running = after.running }
+  pub left : after ≡ record (row_with_numbers (row_after_step read p.step (h.revision + 1)) (read.number + 1) p)
+      { running = after.running }
   pub running : TakesOrKeeps h m before after
   pub first : (after.running ≡ before.running) ⊎ (before.state ≡ Uninitialized)
 
@@ -73,29 +74,37 @@ pub record IsHandedOver (h : Holdings) (m : ℕ) (before after : Row) : Type 0 w
 -- a row that a command puts over another; m is the number of the snapshot that comes next
 pub data RowPut (h : Holdings) (m : ℕ) (c : Command) (n : ℕ) (before after : Row) : Type 0 where
   quiet : IsQuiet h m before after → RowPut h m c n before after
-  granted : (p : Proposal) → c ≡ commands.Propose p → p.instance ≡ n → IsGrant h m p before after → RowPut h m c n before after
+  granted : (p : Proposal) → c ≡ commands.Propose p → p.instance ≡ n → IsGrant h m p before after
+      → RowPut h m c n before after
   handed : c ≡ commands.Edit (edits.Refresh n) → IsHandedOver h m before after → RowPut h m c n before after
 
 -- the list of instances that a command makes
 pub data ListPut (h : Holdings) (m : ℕ) (c : Command) (xs : List Instance) : Type 0 where
   alike : xs ≡ instances h → ListPut h m c xs
   joined : (name : List ℕ) → xs ≡ put_in by_instance (new_instance h name) (instances h) → ListPut h m c xs
-  left : (n : ℕ) (i : Instance) → instance h n ≡ Some i → c ≡ commands.Edit (edits.DeleteInstance n) → IsAtRest i.row → xs ≡ without by_instance n (instances h) → ListPut h m c xs
-  put : (n : ℕ) (i x : Instance) → instance h n ≡ Some i → x.number ≡ n → RowPut h m c n i.row x.row → xs ≡ put_over x (instances h) → ListPut h m c xs
-  each : c ≡ commands.Boot → (gs : Groups) → xs ≡ put_each (booted gs) (instances h) (instances h) → ListPut h m c xs
+  left : (n : ℕ) (i : Instance) → instance h n ≡ Some i → c ≡ commands.Edit (edits.DeleteInstance n) → IsAtRest i.row
+      → xs ≡ without by_instance n (instances h) → ListPut h m c xs
+  put : (n : ℕ) (i x : Instance) → instance h n ≡ Some i → x.number ≡ n → RowPut h m c n i.row x.row
+      → xs ≡ put_over x (instances h) → ListPut h m c xs
+  each : c ≡ commands.Boot → (gs : Groups) → xs ≡ put_each (instance_after_boot gs) (instances h) (instances h)
+      → ListPut h m c xs
 
 -- the list that it leaves: owners may be written afterwards, into rows with number 0
 pub data ListLeft (h : Holdings) (m : ℕ) (c : Command) (xs : List Instance) : Type 0 where
   as_put : ListPut h m c xs → ListLeft h m c xs
-  written : (ys : List Instance) → ListPut h m c ys → (gs : Groups) (js : List Instance) → (IsNumbered h → AreHeldAtZero ys js) → xs ≡ put_each (current gs) js ys → ListLeft h m c xs
+  written : (ys : List Instance) → ListPut h m c ys → (gs : Groups) (js : List Instance)
+      → (IsNumbered h → AreHeldAtZero ys js) → xs ≡ put_each (current gs) js ys → ListLeft h m c xs
 
 -- the instance n before a command and after it
 pub data RowMoves (h : Holdings) (m : ℕ) (c : Command) (n : ℕ) (o p : Option Instance) : Type 0 where
   absent : o ≡ None → p ≡ None → RowMoves h m c n o p
   goes : (i j : Instance) → o ≡ Some i → p ≡ Some j → RowPut h m c n i.row j.row → RowMoves h m c n o p
-  joins : (j : Instance) → o ≡ None → p ≡ Some j → n ≡ h.next_instance → j.row ≡ fresh j.row.owner → RowMoves h m c n o p
-  leaves : (i : Instance) → o ≡ Some i → p ≡ None → c ≡ commands.Edit (edits.DeleteInstance n) → IsAtRest i.row → RowMoves h m c n o p
-  boots : (i j : Instance) (owner : List ℕ) → o ≡ Some i → p ≡ Some j → c ≡ commands.Boot → j.row ≡ booted_row i.row owner → RowMoves h m c n o p
+  joins : (j : Instance) → o ≡ None → p ≡ Some j → n ≡ h.next_instance → j.row ≡ fresh j.row.owner
+      → RowMoves h m c n o p
+  leaves : (i : Instance) → o ≡ Some i → p ≡ None → c ≡ commands.Edit (edits.DeleteInstance n) → IsAtRest i.row
+      → RowMoves h m c n o p
+  boots : (i j : Instance) (owner : List ℕ) → o ≡ Some i → p ≡ Some j → c ≡ commands.Boot
+      → j.row ≡ booted_row i.row owner → RowMoves h m c n o p
 
 -- the value that a command makes, if it makes a revision
 pub record Moves (h : Holdings) (c : Command) (k : Holdings) : Type 0 where
@@ -145,7 +154,8 @@ pub record IsGranted (h : Holdings) (p : Proposal) (k : Holdings) (r : Row) : Ty
 
 -- the answer to a proposal
 pub data Answers (h : Holdings) (p : Proposal) (a : Outcome) : Type 0 where
-  anew : (r : Row) → a.reply ≡ replies.Granted r → IsGranted h p (installed h a.changes) r → Answers h p a
+  anew : (r : Row) → a.reply ≡ replies.Granted r → IsGranted h p (holdings_after_changes h a.changes) r → Answers h p a
   again : (r : Row) → a.reply ≡ replies.Granted r → a.changes ≡ [] → IsAgain h p r → Answers h p a
-  refused : (why : Why) (r : Option Row) → a.reply ≡ replies.Stale why r → a.changes ≡ [] → IsRefused h p why r → Answers h p a
+  refused : (why : Why) (r : Option Row) → a.reply ≡ replies.Stale why r → a.changes ≡ [] → IsRefused h p why r
+      → Answers h p a
   limited : a.reply ≡ replies.Limit → a.changes ≡ [] → Answers h p a

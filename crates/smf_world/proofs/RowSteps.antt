@@ -1,6 +1,6 @@
 -- The row after a step that fits: its shape, its runs, and the fields that stay.
 use Rattle.std.proofs.Common.{◌≡◌, ℕ, ◌+◌, ◌≤◌, ◌==◌, ◌&&◌, not, is_none, is_some, Bool, true, false, if◌then◌else◌, Option, Some, None, refl, sym, ap, ◌∙◌, arith, eqb-true}
-use Rattle.smf_state.specs.Rows.{allowed, exhausted, is_next_run, is_steady, is_stopped, kept, last_with, may_end, may_move, may_count, not_live, refusal, run_of, same_state, stepped, still_live}
+use Rattle.smf_state.specs.Rows.{is_allowed, is_exhausted, is_next_run, is_steady, is_stopped, run_if_kept, last_with, may_end, may_move, may_count, not_live, refusal, run_of, same_state, row_after_step, still_live}
 use Rattle.smf_state.specs.States.{runs}
 use Rattle.smf_state.specs.declared.fault.StepFault.TheVariants.{Exhausted, StillLive, NotLive, NoEdge}
 use Rattle.smf_state.specs.declared.row.Row.{Row}
@@ -13,7 +13,9 @@ use Rattle.smf_world.proofs.RowClauses.{HasRuns, IsLeft, IsShaped, fits, may_be_
 
 -- ---- tests
 
-no_fault : (a b d e : Bool) → is_none (if a then Some Exhausted else if b then Some StillLive else if d then Some NotLive else if e then None else Some NoEdge) ≡ true → (b ≡ false) × (d ≡ false) × (e ≡ true)
+no_fault : (a b d e : Bool)
+    → is_none (if a then Some Exhausted else if b then Some StillLive else if d then Some NotLive else if e then None
+    else Some NoEdge) ≡ true → (b ≡ false) × (d ≡ false) × (e ≡ true)
 no_fault true b d e f = absurd cc
 no_fault false true d e f = absurd cc
 no_fault false false true e f = absurd cc
@@ -33,13 +35,13 @@ not_true true e = absurd cc
 pub record IsTested (r : Row) (s : Step) : Type 0 where
   pub live : still_live r s ≡ false
   pub ending : not_live r s ≡ false
-  pub form : allowed r s ≡ true
+  pub form : is_allowed r s ≡ true
   pub snapshot : is_other_snapshot r s ≡ false
 
 pub is_tested : (r : Row) (s : Step) → fits r s ≡ true → IsTested r s
 is_tested r s e =
     let parts = both (is_none (refusal r s)) (not (is_other_snapshot r s)) e in
-    let t = no_fault (exhausted r s) (still_live r s) (not_live r s) (allowed r s) parts.0 in
+    let t = no_fault (is_exhausted r s) (still_live r s) (not_live r s) (is_allowed r s) parts.0 in
     record { live = t.0; ending = t.1; form = t.2; snapshot = not_true (is_other_snapshot r s) parts.1 }
 
 is_nothing : {X : Type 0} (o : Option X) → is_none o ≡ true → o ≡ None
@@ -84,16 +86,17 @@ snapshot_is (Some s) snapshot e = by (s == snapshot) refl e
 not_offline : (s : State) → runs s ≡ true → s ≡ Offline → ⊥
 not_offline s e f = let stopped : runs s ≡ false = rw f refl in clash (runs s) e stopped
 
-kept_is : (keep : Bool) (live : Option ℕ) (m : ℕ) → kept keep live ≡ Some m → live ≡ Some m
+kept_is : (keep : Bool) (live : Option ℕ) (m : ℕ) → run_if_kept keep live ≡ Some m → live ≡ Some m
 kept_is true live m e = e
 kept_is false live m e = absurd cc
 
-kept_not : (keep : Bool) (live : Option ℕ) → keep ≡ false → kept keep live ≡ None
+kept_not : (keep : Bool) (live : Option ℕ) → keep ≡ false → run_if_kept keep live ≡ None
 kept_not true live e = absurd cc
 kept_not false live e = refl
 
 -- an end that keeps the live run leaves the instance running
-kept_ends : (s : State) (o : Option State) (to : State) (keep : Bool) (live : Option ℕ) → may_end s o to keep ≡ true → runs to ≡ false → is_some (kept keep live) ≡ false
+kept_ends : (s : State) (o : Option State) (to : State) (keep : Bool) (live : Option ℕ) → may_end s o to keep ≡ true
+    → runs to ≡ false → is_some (run_if_kept keep live) ≡ false
 kept_ends s o to false live e f = refl
 kept_ends s o to true live e f = absurd (clash (runs to) (end_keeps s o to e) f)
 
@@ -129,7 +132,7 @@ is_sided r (Some run) e has =
 -- a row as a step leaves it, with other numbers and another snapshot
 abbrev pub behind : Row → Step → ℕ → ℕ → ℕ → ℕ → Option ℕ → Row
 behind r s revision number launch serial running =
-    record (stepped r s revision) { number = number; launch = launch; serial = serial; running = running }
+    record (row_after_step r s revision) { number = number; launch = launch; serial = serial; running = running }
 
 -- a start that is under way is what the step began
 pub record HasBegun (r : Row) (s : Step) (t : Row) : Type 0 where
@@ -150,7 +153,8 @@ pub record IsStepped (r : Row) (s : Step) (t : Row) : Type 0 where
   pub else_last : run_of s ≡ None → t.last ≡ r.last
   pub start : t.state ≡ Offline → t.next ≡ Some Online → HasBegun r s t
 
-pub steps : (r : Row) (s : Step) (revision number launch serial : ℕ) (running : Option ℕ) → fits r s ≡ true → IsShaped r → HasRuns r → IsStepped r s (behind r s revision number launch serial running)
+pub steps : (r : Row) (s : Step) (revision number launch serial : ℕ) (running : Option ℕ) → fits r s ≡ true
+    → IsShaped r → HasRuns r → IsStepped r s (behind r s revision number launch serial running)
 steps r (Move to) revision number launch serial running e shape has =
     let t = is_tested r (Move to) e in
     let form = both (is_none r.next) (may_move r.state to) t.form in
@@ -163,7 +167,12 @@ steps r (Move to) revision number launch serial running e shape has =
         alone = λ f. shape.side rest;
         side = shape.side;
       };
-      runs = record { live = has.live; side = has.side; apart = has.apart; newest = λ f g. absurd (none_some r.next Online rest g) };
+      runs = record {
+        live = has.live;
+        side = has.side;
+        apart = has.apart;
+        newest = λ f g. absurd (none_some r.next Online rest g);
+      };
       left = record { state = refl; next = rest; side = shape.side rest; live = gone };
       last = omega arith;
       owner = refl;
@@ -193,12 +202,29 @@ steps r (Start run snapshot duration ignore base) revision number launch serial 
         apart = λ m f g. none_some r.side m alone g;
         newest = λ f g. refl;
       };
-      left = record { run = run; snapshot = snapshot; step = refl; state = offline; next = refl; live = refl; side = alone; last = refl; begun = refl };
+      left = record {
+        run = run;
+        snapshot = snapshot;
+        step = refl;
+        state = offline;
+        next = refl;
+        live = refl;
+        side = alone;
+        last = refl;
+        begun = refl;
+      };
       last = omega arith;
       owner = refl;
       run = λ m f. (let is : run ≡ m = cc in (sym is ∙ new, is));
       else_last = λ f. absurd cc;
-      start = λ f g. record { run = run; snapshot = snapshot; step = refl; from = offline; live = refl; begun = sym (snapshot_is r.running snapshot t.snapshot) };
+      start = λ f g. record {
+        run = run;
+        snapshot = snapshot;
+        step = refl;
+        from = offline;
+        live = refl;
+        begun = sym (snapshot_is r.running snapshot t.snapshot);
+      };
     }
 steps r (Stop to cause run) revision number launch serial running e shape has =
     let t = is_tested r (Stop to cause run) e in
@@ -219,7 +245,16 @@ steps r (Stop to cause run) revision number launch serial running e shape has =
         apart = new.apart;
         newest = λ f g. absurd (not_offline r.state steady.1 f);
       };
-      left = record { to = to; cause = cause; step = refl; state = steady.1; stopped = from.1; next = refl; of = refl; last = λ m f. (new.run m f).1 };
+      left = record {
+        to = to;
+        cause = cause;
+        step = refl;
+        state = steady.1;
+        stopped = from.1;
+        next = refl;
+        of = refl;
+        last = λ m f. (new.run m f).1;
+      };
       last = new.last;
       owner = refl;
       run = new.run;

@@ -1,8 +1,8 @@
 -- Behind an accepted boot of what was found, whatever happens: all that an administrator depends on.
 use Rattle.std.proofs.Common.{◌≡◌, List, subst}
 use Rattle.smf_model.specs.declared.command.Command.TheVariants as commands
-use Rattle.smf_model.specs.declared.command.Reply.TheVariants as answers
-use Rattle.smf_model.specs.Holdings.{Holdings}
+use Rattle.smf_model.specs.declared.command.CommandReply.TheVariants as answers
+use Rattle.smf_model.specs.Contents.{Holdings}
 use Rattle.smf_model.specs.Laws.{IsNumbered}
 use Rattle.smf_model.specs.Next.{next}
 use Rattle.smf_world.specs.declared.event.Event.{Event}
@@ -11,13 +11,14 @@ use Rattle.smf_world.specs.Happens.{happens}
 use Rattle.smf_world.specs.Reached.{IsLater, IsReached}
 use Rattle.smf_world.specs.Runs.{run}
 use Rattle.smf_world.specs.Safe.{IsSafe}
-use Rattle.smf_world.specs.World.{World, found}
+use Rattle.smf_world.specs.World.{World, initial_world}
 use Rattle.smf_world.proofs.Honest.{run_recorded}
 use Rattle.smf_world.proofs.KnowStarts.{run_starts}
 use Rattle.smf_world.proofs.LiveAll.{run_lives}
-use Rattle.smf_world.proofs.Reaching.{reached_later}
+use Rattle.smf_world.proofs.LaterWorlds.{reached_later}
 
-pub run_safe : (h : Holdings) (es : List Event) → IsNumbered h → (next h commands.Boot).1 ≡ answers.Done → IsSafe (run es (happens (found h) events.Boot))
+pub run_safe : (h : Holdings) (es : List Event) → IsNumbered h → (next h commands.Boot).1 ≡ answers.Done
+    → IsSafe (run es (happens (initial_world h) events.Boot))
 run_safe h es numbered done =
     record {
       recorded = run_recorded h es numbered done;

@@ -4,14 +4,14 @@ use Rattle.smf_state.specs.declared.row.Row.{Row}
 use Rattle.smf_state.specs.declared.step.Proposal.{Proposal}
 use Rattle.smf_model.specs.declared.change.Change.{Change}
 use Rattle.smf_model.specs.declared.change.Outcome.{Outcome}
-use Rattle.smf_model.specs.declared.command.Reply.{Reply}
-use Rattle.smf_model.specs.declared.command.Reply.TheVariants as replies
+use Rattle.smf_model.specs.declared.command.CommandReply.{CommandReply}
+use Rattle.smf_model.specs.declared.command.CommandReply.TheVariants as replies
 use Rattle.smf_state.specs.declared.refusal.Why.{Why}
 use Rattle.smf_state.specs.declared.refusal.Why.TheVariants as whys
 use Rattle.smf_model.specs.declared.held.Instance.{Instance}
-use Rattle.smf_model.specs.Holdings.{Holdings}
+use Rattle.smf_model.specs.Contents.{Holdings}
 use Rattle.smf_model.specs.Laws.{IsNumbered, Stays}
-use Rattle.smf_model.specs.Look.{installed, instance, launch_of}
+use Rattle.smf_model.specs.Look.{holdings_after_changes, instance, launch_of}
 use Rattle.smf_wire.specs.declared.message.Message.{Message}
 use Rattle.smf_wire.specs.declared.message.Message.TheVariants as messages
 use Rattle.smf_world.specs.Worked.{answer_to}
@@ -37,7 +37,8 @@ pub record IsLast (k : Holdings) (p : Proposal) (r : Row) : Type 0 where
 pub given_last : (h : Holdings) (p : Proposal) (k : Holdings) (r : Row) → AreFit h → IsGranted h p k r → IsLast k p r
 given_last h p k r fit g =
     let f = fit p.instance g.before g.there in
-    let x : IsGiven p g.before.row g.after.row = is_given h k.next_snapshot p g.before.row g.after.row g.grant f.shape f.runs in
+    let x : IsGiven p g.before.row g.after.row =
+    is_given h k.next_snapshot p g.before.row g.after.row g.grant f.shape f.runs in
     record {
       of = g.after;
       there = g.is;
@@ -50,7 +51,8 @@ given_last h p k r fit g =
     }
 
 -- the proposal that was granted last explains the row
-pub again_last : (h : Holdings) (ms : List Message) (p : Proposal) (r : Row) → AreFit h → AreSaid h ms → AreExplained h ms → WasProposed p ms → IsAgain h p r → IsLast h p r
+pub again_last : (h : Holdings) (ms : List Message) (p : Proposal) (r : Row) → AreFit h → AreSaid h ms
+    → AreExplained h ms → WasProposed p ms → IsAgain h p r → IsLast h p r
 again_last h ms p r fit said explained was a =
     let q : IsProposal h p = each_in (IsSaid h ms) (messages.Propose p) ms said.each was in
     let launch : a.of.row.launch ≡ p.launch = ap (λ (x : Row). x.launch) (sym a.reads.same) ∙ a.launch in
@@ -76,17 +78,21 @@ again_last h ms p r fit said explained was a =
 
 -- ---- the answers
 
-abbrev MayAnswer : Holdings → List Message → Proposal → Reply → Type 0
+abbrev MayAnswer : Holdings → List Message → Proposal → CommandReply → Type 0
 MayAnswer k ms p r = AllMayBeSaid k ms (answer_to p r)
 
-is_answer : (ms : List Message) (p : Proposal) → WasProposed p ms → IsAnswer ms p.proposer p.launch p.serial p.instance p
+is_answer : (ms : List Message) (p : Proposal) → WasProposed p ms
+    → IsAnswer ms p.proposer p.launch p.serial p.instance p
 is_answer ms p was = record { said = was; proposer = refl; launch = refl; serial = refl; at = refl }
 
 -- granted anew
-acks_new : (h : Holdings) (ms : List Message) (p : Proposal) (k : Holdings) (r : Row) → IsNumbered k → AreFit h → ((name : List ℕ) → launch_of h name ≤ launch_of k name) → IsProposal h p → WasProposed p ms → IsGranted h p k r → MayAnswer k ms p (replies.Granted r)
+acks_new : (h : Holdings) (ms : List Message) (p : Proposal) (k : Holdings) (r : Row) → IsNumbered k → AreFit h
+    → ((name : List ℕ) → launch_of h name ≤ launch_of k name) → IsProposal h p → WasProposed p ms → IsGranted h p k r
+    → MayAnswer k ms p (replies.Granted r)
 acks_new h ms p k r numbered fit rise q was g =
     let f = fit p.instance g.before g.there in
-    let x : IsGiven p g.before.row g.after.row = is_given h k.next_snapshot p g.before.row g.after.row g.grant f.shape f.runs in
+    let x : IsGiven p g.before.row g.after.row =
+    is_given h k.next_snapshot p g.before.row g.after.row g.grant f.shape f.runs in
     let ack : IsAck k ms p.proposer p.launch p.serial p.instance g.after.row = record {
       bound = (let a = q.launch in let b = rise p.proposer in omega arith);
       was = was_now k p.instance g.after numbered g.is;
@@ -101,7 +107,8 @@ acks_new h ms p k r numbered fit rise q was g =
     (record { is = subst (IsAck k ms p.proposer p.launch p.serial p.instance) g.row ack; once = tt }, tt)
 
 -- granted again
-acks_again : (h : Holdings) (ms : List Message) (p : Proposal) (r : Row) → IsNumbered h → AreFit h → AreSaid h ms → AreExplained h ms → WasProposed p ms → IsAgain h p r → MayAnswer h ms p (replies.Granted r)
+acks_again : (h : Holdings) (ms : List Message) (p : Proposal) (r : Row) → IsNumbered h → AreFit h → AreSaid h ms
+    → AreExplained h ms → WasProposed p ms → IsAgain h p r → MayAnswer h ms p (replies.Granted r)
 acks_again h ms p r numbered fit said explained was a =
     let q : IsProposal h p = each_in (IsSaid h ms) (messages.Propose p) ms said.each was in
     let l : IsLast h p r = again_last h ms p r fit said explained was a in
@@ -119,10 +126,18 @@ acks_again h ms p r numbered fit said explained was a =
     (record { is = ack; once = tt }, tt)
 
 -- refused
-nacks : (h : Holdings) (ms : List Message) (p : Proposal) (why : Why) (r : Option Row) → IsNumbered h → IsProposal h p → WasProposed p ms → IsRefused h p why r → MayAnswer h ms p (replies.Stale why r)
+nacks : (h : Holdings) (ms : List Message) (p : Proposal) (why : Why) (r : Option Row) → IsNumbered h → IsProposal h p
+    → WasProposed p ms → IsRefused h p why r → MayAnswer h ms p (replies.Stale why r)
 nacks h ms p why r numbered q was x = (
   record {
-    is = record { bound = q.launch; was = read_was r x.row; told = has_row why r x.reason; owner = of_owner why r x.reason; to = p; answers = is_answer ms p was };
+    is = record {
+      bound = q.launch;
+      was = read_was r x.row;
+      told = has_row why r x.reason;
+      owner = of_owner why r x.reason;
+      to = p;
+      answers = is_answer ms p was;
+    };
     once = tt;
   },
   tt,
@@ -157,18 +172,25 @@ nacks h ms p why r numbered q was x = (
     of_owner (whys.Step fault) None e = tt
     of_owner (whys.Step fault) (Some s) e = e.0
 
-unmade : (h : Holdings) (cs : List Change) → cs ≡ [] → installed h cs ≡ h
-unfolding installed
-unmade h cs e = ap (installed h) e
+unmade : (h : Holdings) (cs : List Change) → cs ≡ [] → holdings_after_changes h cs ≡ h
+unfolding holdings_after_changes
+unmade h cs e = ap (holdings_after_changes h) e
 
-pub may_answer : (h : Holdings) (ms : List Message) (p : Proposal) (a : Outcome) → IsNumbered h → IsNumbered (installed h a.changes) → ((name : List ℕ) → launch_of h name ≤ launch_of (installed h a.changes) name)
-    → AreFit h → AreSaid h ms → AreExplained h ms → WasProposed p ms → Answers h p a → MayAnswer (installed h a.changes) ms p a.reply
+pub may_answer : (h : Holdings) (ms : List Message) (p : Proposal) (a : Outcome) → IsNumbered h
+    → IsNumbered (holdings_after_changes h a.changes)
+    → ((name : List ℕ) → launch_of h name ≤ launch_of (holdings_after_changes h a.changes) name)
+    → AreFit h → AreSaid h ms → AreExplained h ms → WasProposed p ms → Answers h p a
+    → MayAnswer (holdings_after_changes h a.changes) ms p a.reply
 may_answer h ms p a b n rise fit said explained was (anew r e g) =
-    subst (MayAnswer (installed h a.changes) ms p) (sym e) (acks_new h ms p (installed h a.changes) r n fit rise (each_in (IsSaid h ms) (messages.Propose p) ms said.each was) was g)
+    subst (MayAnswer (holdings_after_changes h a.changes) ms p) (sym e)
+    (acks_new h ms p (holdings_after_changes h a.changes) r n fit rise
+    (each_in (IsSaid h ms) (messages.Propose p) ms said.each was) was g)
 may_answer h ms p a b n rise fit said explained was (again r e none g) =
     subst (λ (k : Holdings). MayAnswer k ms p a.reply) (sym (unmade h a.changes none))
     (subst (MayAnswer h ms p) (sym e) (acks_again h ms p r b fit said explained was g))
 may_answer h ms p a b n rise fit said explained was (refused why r e none x) =
     subst (λ (k : Holdings). MayAnswer k ms p a.reply) (sym (unmade h a.changes none))
-    (subst (MayAnswer h ms p) (sym e) (nacks h ms p why r b (each_in (IsSaid h ms) (messages.Propose p) ms said.each was) was x))
-may_answer h ms p a b n rise fit said explained was (limited e none) = subst (MayAnswer (installed h a.changes) ms p) (sym e) tt
+    (subst (MayAnswer h ms p) (sym e)
+    (nacks h ms p why r b (each_in (IsSaid h ms) (messages.Propose p) ms said.each was) was x))
+may_answer h ms p a b n rise fit said explained was (limited e none) =
+    subst (MayAnswer (holdings_after_changes h a.changes) ms p) (sym e) tt

@@ -7,8 +7,8 @@ use Rattle.smf_state.specs.declared.step.Step.TheVariants.{Start}
 use Rattle.smf_state.specs.declared.refusal.Why.{Why}
 use Rattle.smf_state.specs.declared.refusal.Why.TheVariants as whys
 use Rattle.smf_model.specs.declared.held.Instance.{Instance}
-use Rattle.smf_model.specs.History.{History, made}
-use Rattle.smf_model.specs.Holdings.{Holdings}
+use Rattle.smf_model.specs.History.{History, holdings_after_commands}
+use Rattle.smf_model.specs.Contents.{Holdings}
 use Rattle.smf_model.specs.Laws.{IsNumbered}
 use Rattle.smf_model.specs.Look.{instance, launch_of}
 use Rattle.smf_wire.specs.declared.message.Known.{Known}
@@ -22,7 +22,8 @@ use Rattle.smf_world.proofs.RowClauses.{AreAnnounced, AreExplained, AreFit, AreS
 
 -- a start's snapshot and the revision that it was decided on are not still to come
 abbrev pub IsPastStep : ℕ → ℕ → Step → Type 0
-IsPastStep next_snapshot revision (Start run snapshot duration ignore base) = (snapshot < next_snapshot) × (base ≤ revision)
+IsPastStep next_snapshot revision (Start run snapshot duration ignore base) =
+    (snapshot < next_snapshot) × (base ≤ revision)
 IsPastStep next_snapshot revision _ = Unit {0}
 
 -- a proposal: by a launch that was, and of a number that is the row's next at most
@@ -77,7 +78,8 @@ IsRowOfBut whys.Owner name r = Unit {0}
 IsRowOfBut why name None = Unit {0}
 IsRowOfBut why name (Some r) = r.owner ≡ name
 
-pub record IsNack (h : Holdings) (ms : List Message) (name : List ℕ) (launch serial n : ℕ) (why : Why) (r : Option Row) : Type 0 where
+pub record IsNack (h : Holdings) (ms : List Message) (name : List ℕ) (launch serial n : ℕ) (why : Why)
+    (r : Option Row) : Type 0 where
   pub bound : launch ≤ launch_of h name
   pub was : WasRowIf h n r
   pub told : HasRowBut why r
@@ -132,7 +134,7 @@ AllMayBeSaid h ms (m ∷ more) = MayBeSaid h ms m × AllMayBeSaid h (m ∷ ms) m
 -- the clauses on a history, its newest value, all messages and the trail hold
 pub record AreRows (y : History) (h : Holdings) (ms : List Message) (t : List Item) : Type 0 where
   pub numbered : IsNumbered h
-  pub newest : h ≡ made y.first y.past
+  pub newest : h ≡ holdings_after_commands y.first y.past
   pub fit : AreFit h
   pub were : WereRows y h
   pub announced : AreAnnounced y h

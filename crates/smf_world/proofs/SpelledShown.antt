@@ -4,34 +4,36 @@ use Rattle.std.specs.List.{AllByRecursion}
 use Rattle.std.specs.Ordering.{nat_cmp}
 use Rattle.std.specs.declared.cmp.Ordering.TheVariants.{Less}
 use Rattle.smf_fmri.specs.ByKey.{Rises, by_number}
-use Rattle.smf_fmri.proofs.Rising.{rises_filter}
-use Rattle.smf_value.specs.Reading.{body_at, decoded_first}
-use Rattle.smf_snap.specs.declared.body.Snapshot.{Snapshot as Body}
+use Rattle.smf_fmri.proofs.KeyOrder.{rises_filter}
+use Rattle.smf_value.specs.Decoder.{body_at, decoded_first}
+use Rattle.smf_snap.specs.declared.body.SnapshotBody.{SnapshotBody as Body}
 use Rattle.smf_snap.specs.Body.{IsSnapshot, decoded_snapshot}
 use Rattle.smf_snap.proofs.Bodies.{snapshot_again}
 use Rattle.smf_model.specs.declared.held.Instance.{Instance}
 use Rattle.smf_model.specs.declared.held.Snapshot.{Snapshot}
-use Rattle.smf_model.specs.declared.setting.Setting.{Setting}
-use Rattle.smf_model.specs.Holdings.{Holdings}
+use Rattle.smf_model.specs.declared.general_group.Setting.{Setting}
+use Rattle.smf_model.specs.Contents.{Holdings}
 use Rattle.smf_model.specs.Laws.{IsNumbered}
 use Rattle.smf_model.specs.Look.{by_instance, groups_of, instances}
 use Rattle.smf_model.specs.Next.{named_snapshot}
-use Rattle.smf_model.specs.Setting.{Groups, current, owned_by_setting, setting}
+use Rattle.smf_model.specs.GeneralGroup.{Groups, current, owned_by_setting, setting}
 use Rattle.smf_model.specs.Shown.{all_read, body_of, is_run_by, rows_of, view, view_item}
 use Rattle.smf_model.proofs.Entries.{rises_bare}
 use Rattle.smf_wire.specs.Lines.{HasBody, IsBody, is_body}
 use Rattle.smf_world.specs.Formed.{IsFormed, IsFormedSnapshot}
 use Rattle.smf_world.specs.Worked.{known_of}
-use Rattle.smf_world.proofs.FormedHoldings.{formed_snapshot}
+use Rattle.smf_world.proofs.FormedChanges.{formed_snapshot}
 
 -- ---- the order of numbers
 
 -- the item that is made of each item has its number
-rises_to : {X Y : Type 0} (a : X → ℕ) (b : Y → ℕ) (f : X → Y) → ((x : X) → b (f x) ≡ a x) → (xs : List X) → Rises (by_number a) xs → Rises (by_number b) (map f xs)
+rises_to : {X Y : Type 0} (a : X → ℕ) (b : Y → ℕ) (f : X → Y) → ((x : X) → b (f x) ≡ a x) → (xs : List X)
+    → Rises (by_number a) xs → Rises (by_number b) (map f xs)
 rises_to a b f same [] r = tt
 rises_to a b f same (x ∷ []) r = (tt, tt)
 rises_to a b f same (x ∷ y ∷ xs) r =
-    let below : nat_cmp (b (f x)) (b (f y)) ≡ Less = ap (λ (n : ℕ). nat_cmp n (b (f y))) (same x) ∙ (ap (nat_cmp (a x)) (same y) ∙ r.0) in
+    let below : nat_cmp (b (f x)) (b (f y)) ≡ Less =
+    ap (λ (n : ℕ). nat_cmp n (b (f y))) (same x) ∙ (ap (nat_cmp (a x)) (same y) ∙ r.0) in
     (below, rises_to a b f same (y ∷ xs) r.1)
 
 number_by : (b : Bool) (s : Setting) (i : Instance) → (owned_by_setting b s i).number ≡ i.number
@@ -47,10 +49,15 @@ instances_rise h n = rises_bare h.instances n.ordered.instances
 
 rows_rise : (h : Holdings) (name : List ℕ) → IsNumbered h → Rises by_instance (rows_of h name)
 unfolding rows_of
-rows_rise h name n = rises_filter by_instance (is_run_by name) (all_read h) (rises_to (λ i. i.number) (λ i. i.number) (current (groups_of h)) (same_number (groups_of h)) (instances h) (instances_rise h n))
+rows_rise h name n =
+    rises_filter by_instance (is_run_by name) (all_read h)
+    (rises_to (λ i. i.number) (λ i. i.number) (current (groups_of h)) (same_number (groups_of h)) (instances h)
+    (instances_rise h n))
 
-pub known_rise : (h : Holdings) (name : List ℕ) → IsNumbered h → Rises (by_number (λ k. k.instance)) (map known_of (rows_of h name))
-known_rise h name n = rises_to (λ i. i.number) (λ k. k.instance) known_of (λ i. refl) (rows_of h name) (rows_rise h name n)
+pub known_rise : (h : Holdings) (name : List ℕ) → IsNumbered h
+    → Rises (by_number (λ k. k.instance)) (map known_of (rows_of h name))
+known_rise h name n =
+    rises_to (λ i. i.number) (λ k. k.instance) known_of (λ i. refl) (rows_of h name) (rows_rise h name n)
 
 pub view_rises : (h : Holdings) → IsNumbered h → Rises (by_number (λ i. i.instance)) (view h).items
 unfolding view
@@ -75,7 +82,8 @@ snapshot_is_body s f =
 item_has_body : (h : Holdings) (i : Instance) → IsFormed h → HasBody (view_item h i)
 item_has_body h i f = by (named_snapshot h i.row.running) (λ s e. formed_snapshot h i.row.running s f e)
   where
-    by : (o : Option Snapshot) → ((s : Snapshot) → o ≡ Some s → IsFormedSnapshot s) → IfSome (option_map body_of o) IsBody
+    by : (o : Option Snapshot) → ((s : Snapshot) → o ≡ Some s → IsFormedSnapshot s)
+        → IfSome (option_map body_of o) IsBody
     by None of = tt
     by (Some s) of = snapshot_is_body s (of s refl)
 

@@ -5,9 +5,9 @@ use Rattle.smf_contract.specs.declared.contract.Holder.{Holder}
 use Rattle.smf_contract.specs.declared.contract.Holder.TheVariants.{Held, Inherited, Abandoned}
 use Rattle.smf_contract.specs.declared.cookie.Cookie.{Cookie}
 use Rattle.smf_contract.specs.declared.cookie.Method.TheVariants as methods
-use Rattle.smf_contract.specs.declared.event.Event.{Event}
+use Rattle.smf_contract.specs.declared.event.ContractEvent.{ContractEvent}
 use Rattle.smf_contract.specs.declared.event.EventKind.TheVariants as kinds
-use Rattle.smf_contract.specs.Cookies.{unpacked}
+use Rattle.smf_contract.specs.Cookies.{cookie_of_bits}
 use Rattle.smf_contract.specs.Entries.{Contracts, contract, has_members}
 use Rattle.smf_contract.specs.Laws.{IsOrdered}
 use Rattle.smf_restarter.specs.declared.known.KnownRun.{KnownRun}
@@ -43,7 +43,7 @@ tags cs = map tag_of cs
 -- C.spawned: a contract was spawned since the last boot, for what its cookie says
 pub record IsSpawned (trail : List Item) (g : Tag) : Type 0 where
   pub cookie : Cookie
-  pub unpacks : unpacked g.cookie ≡ Some cookie
+  pub unpacks : cookie_of_bits g.cookie ≡ Some cookie
   pub spawned : spawned_for g.id trail ≡ Some cookie
 
 abbrev pub AreSpawned : Contracts → List Item → Type 0
@@ -52,21 +52,22 @@ AreSpawned t trail = Each (IsSpawned trail) (tags t.contracts)
 -- C.once: two contracts of one run of an instance are one
 abbrev pub OneOfRun : Contracts → Type 0
 OneOfRun t =
-    (a b : Tag) (k l : Cookie) → IsIn a (tags t.contracts) → IsIn b (tags t.contracts) → unpacked a.cookie ≡ Some k → unpacked b.cookie ≡ Some l
+    (a b : Tag) (k l : Cookie) → IsIn a (tags t.contracts) → IsIn b (tags t.contracts)
+    → cookie_of_bits a.cookie ≡ Some k → cookie_of_bits b.cookie ≡ Some l
     → k.instance ≡ l.instance → k.run ≡ l.run → a.id ≡ b.id
 
 -- C.table: the contract of a start that lives is in the table, under its run, and has members
 pub record IsHeldLive (t : Contracts) (l : LiveRun) : Type 0 where
   pub cookie : ℕ
   pub is_there : IsIn (record { id = l.contract; cookie = cookie }) (tags t.contracts)
-  pub unpacks : unpacked cookie ≡ Some (record { instance = l.instance; run = l.run; method = methods.Start })
+  pub unpacks : cookie_of_bits cookie ≡ Some (record { instance = l.instance; run = l.run; method = methods.Start })
   pub members : has_members l.contract t.members ≡ true
 
 abbrev pub LiveInTable : Contracts → List Item → Type 0
 LiveInTable t trail = Each (IsHeldLive t) (live_runs trail)
 
 -- C.empty: a contract that was found empty has no members
-pub record EmptyIsEmpty (t : Contracts) (e : Event) : Type 0 where
+pub record EmptyIsEmpty (t : Contracts) (e : ContractEvent) : Type 0 where
   pub given : e.contract ≤ t.last_contract
   pub empty : e.kind ≡ kinds.Empty → has_members e.contract t.members ≡ false
 
@@ -110,7 +111,7 @@ pub record IsKnownIn (t : Contracts) (r : KnownRun) : Type 0 where
   pub of : Contract
   pub cookie : Cookie
   pub is_there : contract t r.contract ≡ Some of
-  pub unpacks : unpacked of.cookie ≡ Some cookie
+  pub unpacks : cookie_of_bits of.cookie ≡ Some cookie
   pub instance : cookie.instance ≡ r.key.instance
   pub run : cookie.run ≡ r.key.run
 

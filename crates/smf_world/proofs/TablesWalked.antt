@@ -10,8 +10,8 @@ use Rattle.smf_contract.specs.declared.contract.Report.{Report}
 use Rattle.smf_contract.specs.declared.cookie.CookieFault.{CookieFault}
 use Rattle.smf_contract.specs.declared.terms.Terms.{Terms}
 use Rattle.smf_contract.specs.Calls.{next_contract}
-use Rattle.smf_contract.specs.Cookies.{packed}
-use Rattle.smf_contract.specs.Entries.{Contracts, reported as report_at}
+use Rattle.smf_contract.specs.Cookies.{bits_of_cookie}
+use Rattle.smf_contract.specs.Entries.{Contracts, report_of_event as report_at}
 use Rattle.smf_method.specs.declared.command.Builtin.{Builtin}
 use Rattle.smf_method.specs.declared.command.Builtin.TheVariants as builtins
 use Rattle.smf_method.specs.Commands.{builtin}
@@ -20,12 +20,12 @@ use Rattle.smf_model.specs.declared.change.Change.{Change}
 use Rattle.smf_model.specs.declared.change.Change.TheVariants as changes
 use Rattle.smf_model.specs.declared.command.Command.{Command}
 use Rattle.smf_model.specs.declared.command.Command.TheVariants as commands
-use Rattle.smf_model.specs.declared.command.Reply.{Reply as CommandReply}
-use Rattle.smf_model.specs.declared.command.Reply.TheVariants as replies
+use Rattle.smf_model.specs.declared.command.CommandReply.{CommandReply}
+use Rattle.smf_model.specs.declared.command.CommandReply.TheVariants as replies
 use Rattle.smf_model.specs.declared.held.Instance.{Instance}
-use Rattle.smf_model.specs.Holdings.{Holdings}
+use Rattle.smf_model.specs.Contents.{Holdings}
 use Rattle.smf_model.specs.Look.{instance, launch_of}
-use Rattle.smf_model.specs.Next.{Asked, accepted, asked, asked_boot, booting, greatest, may_not_boot, refused}
+use Rattle.smf_model.specs.Next.{Asked, acceptance_with, outcome_of_command, asked_boot, changes_for_boot, greatest, may_not_boot, refusal_with}
 use Rattle.smf_wire.specs.declared.message.Known.{Known}
 use Rattle.smf_wire.specs.declared.message.Message.{Message}
 use Rattle.smf_wire.specs.declared.message.Message.TheVariants as messages
@@ -44,11 +44,11 @@ use Rattle.smf_restarter.specs.declared.reply.Begun.{Begun}
 use Rattle.smf_restarter.specs.declared.reply.Call.{Call}
 use Rattle.smf_restarter.specs.declared.reply.Call.TheVariants as asks
 use Rattle.smf_restarter.specs.declared.reply.Reply.{Reply}
-use Rattle.smf_restarter.specs.Knowledge.{Knowledge, known}
-use Rattle.smf_restarter.specs.Orders.{greatest_serial, greatest_word, proposing, proposing_if}
-use Rattle.smf_restarter.specs.Replies.{heard}
+use Rattle.smf_restarter.specs.Knowledge.{Knowledge, known_instance}
+use Rattle.smf_restarter.specs.Orders.{greatest_serial, greatest_word, reply_with_proposal, proposing_if}
+use Rattle.smf_restarter.specs.Replies.{reply_to_message}
 use Rattle.smf_restarter.specs.Runs.{known_run, orphan}
-use Rattle.smf_restarter.specs.Ticks.{adopting_or, begun_by, begun_of, drain_call, ending_by, first_call, kill_of, live_call, noted_by, own_tick, side_call, spawning_by, ticked, ticked_in, ticked_known, ticked_up}
+use Rattle.smf_restarter.specs.Ticks.{adopting_or, begun_by, begun_of, drain_call, ending_by, first_call, kill_of, live_call, noted_by, own_tick, side_call, spawning_by, reply_to_tick, ticked_in, ticked_known, ticked_up}
 use Rattle.smf_world.specs.declared.event.Event.{Event}
 use Rattle.smf_world.specs.declared.event.Event.TheVariants as events
 use Rattle.smf_world.specs.declared.event.ProcessEvent.{ProcessEvent}
@@ -59,7 +59,7 @@ use Rattle.smf_world.specs.declared.item.Item.{Item}
 use Rattle.smf_world.specs.declared.item.Item.TheVariants.{Boot, Committed, Held, Spawned}
 use Rattle.smf_world.specs.declared.work.Work.{Work}
 use Rattle.smf_world.specs.Items.{change_item, items_of, row_if, row_over}
-use Rattle.smf_world.specs.Worked.{acted, answer_of, begun_in, begun_items, booted_as, call_of, calling, commanded, crashed, delivered, delivered_if, emptied_items, heard_by, held_items, holder, is_launched, is_named, joined, launched_if, own_ticked, process_call, reported_by, reported_to, restarter, sent_at, spawn_answer, ticked_for, timed, told, worked}
+use Rattle.smf_world.specs.Worked.{work_of_turn, answer_of, begun_in, begun_items, booted_as, call_of, work_of_call, work_of_command, work_of_crash, work_of_delivery, delivered_if, emptied_items, heard_by, held_items, holder, is_launched, is_named, work_of_join, launched_if, own_ticked, process_call, reported_by, reported_to, restarter, sent_at, spawn_answer, ticked_for, work_of_timeout, work_on_message, work_of_event}
 use Rattle.smf_world.specs.World.{World}
 use Rattle.smf_world.proofs.ItemsMade.{AreMade}
 use Rattle.smf_world.proofs.LiveLists.{Each, IsIn}
@@ -90,7 +90,7 @@ pub record IsOwing (ks : List Knowledge) : Type 0 where
   pub owed : Owed
   pub is_launched : IsIn restarter ks
   pub up : restarter.stage ≡ Up
-  pub is_known : known restarter instance ≡ Some of
+  pub is_known : known_instance restarter instance ≡ Some of
   pub owes : of.phase ≡ Owes owed
 
 abbrev pub begun_as : ℕ → KnownInstance → Owed → Item
@@ -101,12 +101,14 @@ pub data IsBegun (ks : List Knowledge) (t : Contracts) (call : ContractCall) (it
   nothing : IsPlain call → items ≡ [] → IsBegun ks t call items
   at_once : (s : IsOwing ks) → IsPlain call → items ≡ begun_as 0 s.of s.owed ∷ [] → IsBegun ks t call items
   spawned : (s : IsOwing ks) (c cookie : ℕ) (terms : Terms) → next_contract t ≡ Some c
-      → packed (record { instance = s.of.instance; run = s.owed.run; method = s.owed.method }) ≡ Ok cookie
-      → call ≡ calls.Spawn s.restarter.actor cookie terms → items ≡ begun_as c s.of s.owed ∷ [] → IsBegun ks t call items
+      → bits_of_cookie (record { instance = s.of.instance; run = s.owed.run; method = s.owed.method }) ≡ Ok cookie
+      → call ≡ calls.Spawn s.restarter.actor cookie terms → items ≡ begun_as c s.of s.owed ∷ []
+      → IsBegun ks t call items
 
 pub data IsTabled (ks : List Knowledge) (t : Contracts) (items : List Item) (call : ContractCall) : Type 0 where
   passes : call ≡ calls.Nothing → Each IsRow items → IsTabled ks t items call
-  acts : (rows begun : List Item) → Each IsHeld rows → IsBegun ks t call begun → items ≡ rows ++ begun ++ emptied_items t call → IsTabled ks t items call
+  acts : (rows begun : List Item) → Each IsHeld rows → IsBegun ks t call begun
+      → items ≡ rows ++ begun ++ emptied_items t call → IsTabled ks t items call
   boots : (rows : List Item) → Each IsRow rows → items ≡ Boot ∷ rows → call ≡ calls.Reboot → IsTabled ks t items call
 
 abbrev pub Tabled : World → Work → Type 0
@@ -159,9 +161,9 @@ command_items h (commands.Propose p) cs a = change_rows h cs
 command_items h (commands.Launch name) cs a = change_rows h cs
 command_items h commands.Boot cs a = absurd a
 
-command_tabled : (w : World) (c : Command) → IsNoBoot c → Tabled w (commanded w c)
-unfolding commanded
-command_tabled w c a = passes refl (command_items w.now c (asked w.now c).changes a)
+command_tabled : (w : World) (c : Command) → IsNoBoot c → Tabled w (work_of_command w c)
+unfolding work_of_command
+command_tabled w c a = passes refl (command_items w.now c (outcome_of_command w.now c).changes a)
 
 -- ---- what a restarter asks for in its turn
 
@@ -172,13 +174,14 @@ BegunBy ks k bs = (s : IsOwing ks) × (s.restarter ≡ k) × (bs ≡ begun_of s.
 abbrev IsAsked : List Knowledge → Knowledge → Call → List Begun → Type 0
 IsAsked ks k (asks.Spawn cookie terms) bs =
     (s : IsOwing ks) × (s.restarter ≡ k) × (bs ≡ begun_of s.of s.owed ∷ [])
-    × (packed (record { instance = s.of.instance; run = s.owed.run; method = s.owed.method }) ≡ Ok cookie)
+    × (bits_of_cookie (record { instance = s.of.instance; run = s.owed.run; method = s.owed.method }) ≡ Ok cookie)
 IsAsked ks k _ bs = (bs ≡ []) ⊎ BegunBy ks k bs
 
 abbrev Asks : List Knowledge → Knowledge → Reply → Type 0
 Asks ks k r = IsAsked ks k r.call r.begun
 
-proposes : (ks : List Knowledge) (k : Knowledge) (i : KnownInstance) (step : Step) (after : After) (taken : List Known) → Asks ks k (proposing k i step after taken)
+proposes : (ks : List Knowledge) (k : Knowledge) (i : KnownInstance) (step : Step) (after : After)
+    (taken : List Known) → Asks ks k (reply_with_proposal k i step after taken)
 proposes ks k i step after taken = by (nat_lt k.serial greatest_serial && nat_lt i.row.number greatest_word)
   where
     by : (b : Bool) → Asks ks k (proposing_if b k i step after taken)
@@ -209,60 +212,77 @@ drains_kill : (k : Knowledge) (i : KnownInstance) (d : Drain) → IsKill (drain_
 drains_kill k i drains.Nothing = tt
 drains_kill k i drains.Live = kills (known_run k i.instance i.row.live)
 drains_kill k i drains.Side = kills (known_run k i.instance i.row.side)
-drains_kill k i drains.Both = first_kills (live_call k i) (side_call k i) (kills (known_run k i.instance i.row.live)) (kills (known_run k i.instance i.row.side))
+drains_kill k i drains.Both =
+    first_kills (live_call k i) (side_call k i) (kills (known_run k i.instance i.row.live))
+    (kills (known_run k i.instance i.row.side))
 
-kill_asked : (ks : List Knowledge) (k : Knowledge) (call : Call) (bs : List Begun) → IsKill call → (bs ≡ []) ⊎ BegunBy ks k bs → IsAsked ks k call bs
+kill_asked : (ks : List Knowledge) (k : Knowledge) (call : Call) (bs : List Begun) → IsKill call
+    → (bs ≡ []) ⊎ BegunBy ks k bs → IsAsked ks k call bs
 kill_asked ks k asks.Nothing bs p b = b
 kill_asked ks k (asks.Kill c) bs p b = b
 kill_asked ks k asks.List bs p b = absurd p
 kill_asked ks k (asks.Adopt c) bs p b = absurd p
 kill_asked ks k (asks.Spawn cookie terms) bs p b = absurd p
 
-ends : (ks : List Knowledge) (k : Knowledge) (i : KnownInstance) (e : Ending) (call : Call) → IsKill call → Asks ks k (ending_by k i e call)
+ends : (ks : List Knowledge) (k : Knowledge) (i : KnownInstance) (e : Ending) (call : Call) → IsKill call
+    → Asks ks k (ending_by k i e call)
 ends ks k i e asks.Nothing p = proposes ks k i _ _ []
 ends ks k i e (asks.Kill c) p = inl refl
 ends ks k i e asks.List p = absurd p
 ends ks k i e (asks.Adopt c) p = absurd p
 ends ks k i e (asks.Spawn cookie terms) p = absurd p
 
-notes : (ks : List Knowledge) (k : Knowledge) (i : KnownInstance) (live : Option KnownRun) (o : Option ℕ) → Asks ks k (noted_by k i live o)
+notes : (ks : List Knowledge) (k : Knowledge) (i : KnownInstance) (live : Option KnownRun) (o : Option ℕ)
+    → Asks ks k (noted_by k i live o)
 notes ks k i live None = inl refl
 notes ks k i live (Some bits) = proposes ks k i _ _ []
 
-adopts : (ks : List Knowledge) (k : Knowledge) (o : Option KnownRun) (r : Reply) → Asks ks k r → Asks ks k (adopting_or o r)
+adopts : (ks : List Knowledge) (k : Knowledge) (o : Option KnownRun) (r : Reply) → Asks ks k r
+    → Asks ks k (adopting_or o r)
 adopts ks k None r a = a
 adopts ks k (Some run) r a = inl refl
 
-spawns_by : (ks : List Knowledge) (s : IsOwing ks) (r : Result ℕ CookieFault) → packed (record { instance = s.of.instance; run = s.owed.run; method = s.owed.method }) ≡ r → Asks ks s.restarter (spawning_by s.of s.owed r)
+spawns_by : (ks : List Knowledge) (s : IsOwing ks) (r : Result ℕ CookieFault)
+    → bits_of_cookie (record { instance = s.of.instance; run = s.owed.run; method = s.owed.method }) ≡ r
+    → Asks ks s.restarter (spawning_by s.of s.owed r)
 spawns_by ks s (Err e) p = inl refl
 spawns_by ks s (Ok cookie) p = (s, refl, refl, p)
 
-begins : (ks : List Knowledge) (s : IsOwing ks) (b : Option Builtin) → Asks ks s.restarter (begun_by s.restarter s.of s.owed b)
-begins ks s None = spawns_by ks s (packed (record { instance = s.of.instance; run = s.owed.run; method = s.owed.method })) refl
+begins : (ks : List Knowledge) (s : IsOwing ks) (b : Option Builtin)
+    → Asks ks s.restarter (begun_by s.restarter s.of s.owed b)
+begins ks s None =
+    spawns_by ks s (bits_of_cookie (record { instance = s.of.instance; run = s.owed.run; method = s.owed.method })) refl
 begins ks s (Some builtins.True) = inr (s, refl, refl)
 begins ks s (Some builtins.Kill) =
-    kill_asked ks s.restarter (kill_of (known_run s.restarter s.of.instance s.of.row.live)) _ (kills (known_run s.restarter s.of.instance s.of.row.live)) (inr (s, refl, refl))
+    kill_asked ks s.restarter (kill_of (known_run s.restarter s.of.instance s.of.row.live)) _
+    (kills (known_run s.restarter s.of.instance s.of.row.live)) (inr (s, refl, refl))
 
-in_phase : (ks : List Knowledge) (k : Knowledge) (n : ℕ) (i : KnownInstance) (p : Phase) → IsIn k ks → k.stage ≡ Up → known k n ≡ Some i → i.phase ≡ p → Asks ks k (ticked_in k i p)
+in_phase : (ks : List Knowledge) (k : Knowledge) (n : ℕ) (i : KnownInstance) (p : Phase) → IsIn k ks → k.stage ≡ Up
+    → known_instance k n ≡ Some i → i.phase ≡ p → Asks ks k (ticked_in k i p)
 in_phase ks k n i (Waiting p after) l u e f = inl refl
 in_phase ks k n i (Running m) l u e f = inl refl
 in_phase ks k n i (Owes o) l u e f =
-    let s : IsOwing ks = record { restarter = k; instance = n; of = i; owed = o; is_launched = l; up = u; is_known = e; owes = f } in
+    let s : IsOwing ks =
+    record { restarter = k; instance = n; of = i; owed = o; is_launched = l; up = u; is_known = e; owes = f } in
     adopts ks k (orphan k i.instance) _ (begins ks s (builtin o.call.command))
-in_phase ks k n i (Ends e) l u g f = adopts ks k (orphan k i.instance) _ (ends ks k i e (drain_call k i e.drain) (drains_kill k i e.drain))
-in_phase ks k n i Idle l u e f = adopts ks k (orphan k i.instance) _ (notes ks k i (known_run k i.instance i.row.live) _)
+in_phase ks k n i (Ends e) l u g f =
+    adopts ks k (orphan k i.instance) _ (ends ks k i e (drain_call k i e.drain) (drains_kill k i e.drain))
+in_phase ks k n i Idle l u e f =
+    adopts ks k (orphan k i.instance) _ (notes ks k i (known_run k i.instance i.row.live) _)
 
-tick_known : (ks : List Knowledge) (k : Knowledge) (n : ℕ) (o : Option KnownInstance) → IsIn k ks → k.stage ≡ Up → known k n ≡ o → Asks ks k (ticked_known k o)
+tick_known : (ks : List Knowledge) (k : Knowledge) (n : ℕ) (o : Option KnownInstance) → IsIn k ks → k.stage ≡ Up
+    → known_instance k n ≡ o → Asks ks k (ticked_known k o)
 tick_known ks k n None l u e = inl refl
 tick_known ks k n (Some i) l u e = in_phase ks k n i i.phase l u e refl
 
-tick_up : (ks : List Knowledge) (k : Knowledge) (n : ℕ) (s : Stage) → IsIn k ks → k.stage ≡ s → Asks ks k (ticked_up k n s)
-tick_up ks k n Up l u = tick_known ks k n (known k n) l u refl
+tick_up : (ks : List Knowledge) (k : Knowledge) (n : ℕ) (s : Stage) → IsIn k ks → k.stage ≡ s
+    → Asks ks k (ticked_up k n s)
+tick_up ks k n Up l u = tick_known ks k n (known_instance k n) l u refl
 tick_up ks k n Joining l u = inl refl
 tick_up ks k n Listing l u = inl refl
 
-tick_asks : (ks : List Knowledge) (k : Knowledge) (n : ℕ) → IsIn k ks → Asks ks k (ticked k n)
-unfolding ticked
+tick_asks : (ks : List Knowledge) (k : Knowledge) (n : ℕ) → IsIn k ks → Asks ks k (reply_to_tick k n)
+unfolding reply_to_tick
 tick_asks ks k n l = tick_up ks k n k.stage l refl
 
 own_asks : (ks : List Knowledge) (k : Knowledge) (s : Stage) → Asks ks k (own_tick k s)
@@ -274,36 +294,45 @@ own_asks ks k Up = inl refl
 -- ---- what comes of it
 
 -- the methods that are begun besides a call that is no spawn
-begun_plain : (ks : List Knowledge) (t : Contracts) (k : Knowledge) (call : ContractCall) (bs : List Begun) → IsPlain call → (bs ≡ []) ⊎ BegunBy ks k bs → IsBegun ks t call (begun_items (Some 0) bs)
+begun_plain : (ks : List Knowledge) (t : Contracts) (k : Knowledge) (call : ContractCall) (bs : List Begun)
+    → IsPlain call → (bs ≡ []) ⊎ BegunBy ks k bs → IsBegun ks t call (begun_items (Some 0) bs)
 begun_plain ks t k call bs p (inl e) = nothing p (ap (begun_items (Some 0)) e)
 begun_plain ks t k call bs p (inr (s, f, e)) = at_once s p (ap (begun_items (Some 0)) e)
 
 -- the methods that are begun with a spawn, by its answer
-begun_spawn : (ks : List Knowledge) (t : Contracts) (k : Knowledge) (cookie : ℕ) (terms : Terms) (bs : List Begun) (spawn : SpawnAnswer) (next : Option ℕ) → next_contract t ≡ next → IsAsked ks k (asks.Spawn cookie terms) bs
-    → IsBegun ks t (call_of k.actor (asks.Spawn cookie terms) (spawn_answer spawn next)) (begun_items (begun_in (asks.Spawn cookie terms) (spawn_answer spawn next)) bs)
+begun_spawn : (ks : List Knowledge) (t : Contracts) (k : Knowledge) (cookie : ℕ) (terms : Terms) (bs : List Begun)
+    (spawn : SpawnAnswer) (next : Option ℕ) → next_contract t ≡ next → IsAsked ks k (asks.Spawn cookie terms) bs
+    → IsBegun ks t (call_of k.actor (asks.Spawn cookie terms) (spawn_answer spawn next))
+    (begun_items (begun_in (asks.Spawn cookie terms) (spawn_answer spawn next)) bs)
 unfolding call_of
 begun_spawn ks t k cookie terms bs spawns.Made (Some c) e (s, f, b, p) =
-    spawned s c cookie terms e p (ap (λ (x : Knowledge). calls.Spawn x.actor cookie terms) (sym f)) (ap (begun_items (Some c)) b)
+    spawned s c cookie terms e p (ap (λ (x : Knowledge). calls.Spawn x.actor cookie terms) (sym f))
+    (ap (begun_items (Some c)) b)
 begun_spawn ks t k cookie terms bs spawns.Made None e a = nothing tt refl
 begun_spawn ks t k cookie terms bs spawns.Refused next e a = nothing tt refl
 begun_spawn ks t k cookie terms bs spawns.NotFollowed next e a = nothing tt refl
 
-begun_of_call : (ks : List Knowledge) (t : Contracts) (k : Knowledge) (call : Call) (bs : List Begun) (spawn : SpawnAnswer) → IsAsked ks k call bs
-    → IsBegun ks t (call_of k.actor call (answer_of t k.actor spawn call)) (begun_items (begun_in call (answer_of t k.actor spawn call)) bs)
+begun_of_call : (ks : List Knowledge) (t : Contracts) (k : Knowledge) (call : Call) (bs : List Begun)
+    (spawn : SpawnAnswer) → IsAsked ks k call bs
+    → IsBegun ks t (call_of k.actor call (answer_of t k.actor spawn call))
+    (begun_items (begun_in call (answer_of t k.actor spawn call)) bs)
 unfolding call_of answer_of
 begun_of_call ks t k asks.Nothing bs spawn a = begun_plain ks t k _ bs tt a
 begun_of_call ks t k asks.List bs spawn a = begun_plain ks t k _ bs tt a
 begun_of_call ks t k (asks.Adopt c) bs spawn a = begun_plain ks t k _ bs tt a
 begun_of_call ks t k (asks.Kill c) bs spawn a = begun_plain ks t k _ bs tt a
-begun_of_call ks t k (asks.Spawn cookie terms) bs spawn a = begun_spawn ks t k cookie terms bs spawn (next_contract t) refl a
+begun_of_call ks t k (asks.Spawn cookie terms) bs spawn a =
+    begun_spawn ks t k cookie terms bs spawn (next_contract t) refl a
 
-acted_tabled : (w : World) (k : Knowledge) (n : ℕ) (spawn : SpawnAnswer) (r : Reply) → Asks w.restarters k r → Tabled w (acted w k n spawn r)
-unfolding acted
+acted_tabled : (w : World) (k : Knowledge) (n : ℕ) (spawn : SpawnAnswer) (r : Reply) → Asks w.restarters k r
+    → Tabled w (work_of_turn w k n spawn r)
+unfolding work_of_turn
 acted_tabled w k n spawn r a =
-    acts (held_items k r.taken) (begun_items (begun_in r.call (answer_of w.table k.actor spawn r.call)) r.begun) (held_held k r.taken) (begun_of_call w.restarters w.table k r.call r.begun spawn a) refl
+    acts (held_items k r.taken) (begun_items (begun_in r.call (answer_of w.table k.actor spawn r.call)) r.begun)
+    (held_held k r.taken) (begun_of_call w.restarters w.table k r.call r.begun spawn a) refl
 
-calling_tabled : (w : World) (call : ContractCall) → IsPlain call → Tabled w (calling w.table call)
-unfolding calling
+calling_tabled : (w : World) (call : ContractCall) → IsPlain call → Tabled w (work_of_call w.table call)
+unfolding work_of_call
 calling_tabled w call p = acts [] [] tt (nothing p refl) refl
 
 -- ---- a boot
@@ -321,15 +350,23 @@ boot_asked : (h : Holdings) → IsBootOf (asked_boot h).changes (asked_boot h).r
 unfolding asked_boot
 boot_asked h = by (may_not_boot h)
   where
-    fits : (b : Bool) (cs : List Change) (c : Change) (a : Asked) → a ≡ (if b then (record { changes = cs ++ c ∷ []; reply = replies.Done }) else refused replies.Limit) → IsBootOf a.changes a.reply
-    fits true cs c a e = done (subst AreMade (ap (λ (x : Asked). x.changes) (sym e)) (made_behind cs c)) (ap (λ (x : Asked). x.reply) e)
+    fits : (b : Bool) (cs : List Change) (c : Change) (a : Asked)
+        → a ≡ (if b then (record { changes = cs ++ c ∷ []; reply = replies.Done }) else refusal_with replies.Limit)
+        → IsBootOf a.changes a.reply
+    fits true cs c a e =
+        done (subst AreMade (ap (λ (x : Asked). x.changes) (sym e)) (made_behind cs c)) (ap (λ (x : Asked). x.reply) e)
     fits false cs c a e = limited (ap (λ (x : Asked). x.changes) e) (ap (λ (x : Asked). x.reply) e)
 
-    by : (b : Bool) → IsBootOf (if b then refused replies.Limit else accepted h (booting h) replies.Done).changes (if b then refused replies.Limit else accepted h (booting h) replies.Done).reply
+    by : (b : Bool)
+        → IsBootOf (if b then refusal_with replies.Limit
+        else acceptance_with h (changes_for_boot h) replies.Done).changes
+        (if b then refusal_with replies.Limit else acceptance_with h (changes_for_boot h) replies.Done).reply
     by true = limited refl refl
-    by false = fits (nat_lt h.revision greatest) (booting h) _ (accepted h (booting h) replies.Done) refl
+    by false = fits (nat_lt h.revision greatest) (changes_for_boot h) _
+        (acceptance_with h (changes_for_boot h) replies.Done) refl
 
-boot_made : (h : Holdings) (cs : List Change) → AreMade cs → items_of h commands.Boot cs ≡ Boot ∷ filter_map (change_item h) cs
+boot_made : (h : Holdings) (cs : List Change) → AreMade cs
+    → items_of h commands.Boot cs ≡ Boot ∷ filter_map (change_item h) cs
 unfolding items_of
 boot_made h [] m = absurd m
 boot_made h (c ∷ cs) m = refl
@@ -338,26 +375,31 @@ boot_unmade : (h : Holdings) → Each IsRow (items_of h commands.Boot [])
 unfolding items_of
 boot_unmade h = tt
 
-boot_by : (w : World) (rs : List CommandReply) → IsBootOf (asked w.now commands.Boot).changes (asked w.now commands.Boot).reply → rs ≡ (asked w.now commands.Boot).reply ∷ [] → Tabled w (booted_as (commanded w commands.Boot) rs)
-unfolding commanded
+boot_by : (w : World) (rs : List CommandReply)
+    → IsBootOf (outcome_of_command w.now commands.Boot).changes (outcome_of_command w.now commands.Boot).reply
+    → rs ≡ (outcome_of_command w.now commands.Boot).reply ∷ []
+    → Tabled w (booted_as (work_of_command w commands.Boot) rs)
+unfolding work_of_command
 boot_by w rs (done m r) e =
-    let cs : List Change = (asked w.now commands.Boot).changes in
+    let cs : List Change = (outcome_of_command w.now commands.Boot).changes in
     let is : rs ≡ replies.Done ∷ [] = e ∙ ap (λ (x : CommandReply). x ∷ []) r in
-    subst (λ (x : List CommandReply). Tabled w (booted_as (commanded w commands.Boot) x)) (sym is)
+    subst (λ (x : List CommandReply). Tabled w (booted_as (work_of_command w commands.Boot) x)) (sym is)
     (boots (filter_map (change_item w.now) cs) (change_rows w.now cs) (boot_made w.now cs m) refl)
 boot_by w rs (limited m r) e =
-    let cs : List Change = (asked w.now commands.Boot).changes in
+    let cs : List Change = (outcome_of_command w.now commands.Boot).changes in
     let is : rs ≡ replies.Limit ∷ [] = e ∙ ap (λ (x : CommandReply). x ∷ []) r in
-    subst (λ (x : List CommandReply). Tabled w (booted_as (commanded w commands.Boot) x)) (sym is)
+    subst (λ (x : List CommandReply). Tabled w (booted_as (work_of_command w commands.Boot) x)) (sym is)
     (passes refl (subst (λ (x : List Change). Each IsRow (items_of w.now commands.Boot x)) (sym m) (boot_unmade w.now)))
 
-boot_of : (h : Holdings) → IsBootOf (asked h commands.Boot).changes (asked h commands.Boot).reply
-unfolding asked
+boot_of : (h : Holdings)
+    → IsBootOf (outcome_of_command h commands.Boot).changes (outcome_of_command h commands.Boot).reply
+unfolding outcome_of_command
 boot_of h = boot_asked h
 
-boot_tabled : (w : World) → Tabled w (booted_as (commanded w commands.Boot) (commanded w commands.Boot).reply)
-unfolding commanded
-boot_tabled w = boot_by w ((asked w.now commands.Boot).reply ∷ []) (boot_of w.now) refl
+boot_tabled : (w : World)
+    → Tabled w (booted_as (work_of_command w commands.Boot) (work_of_command w commands.Boot).reply)
+unfolding work_of_command
+boot_tabled w = boot_by w ((outcome_of_command w.now commands.Boot).reply ∷ []) (boot_of w.now) refl
 
 -- ---- events
 
@@ -368,21 +410,23 @@ heard_tabled : (w : World) (k : Knowledge) (r : Reply) → Tabled w (heard_by k 
 unfolding heard_by
 heard_tabled w k r = passes refl (held_rows k r.taken)
 
-told_tabled : (w : World) (m : Message) (o : Option Knowledge) → Tabled w (told m o)
+told_tabled : (w : World) (m : Message) (o : Option Knowledge) → Tabled w (work_on_message m o)
 told_tabled w m None = passes refl tt
-told_tabled w m (Some k) = heard_tabled w k (heard k m)
+told_tabled w m (Some k) = heard_tabled w k (reply_to_message k m)
 
-joined_tabled : (w : World) (name : List ℕ) (launch : ℕ) (b : Bool) → Tabled w (joined w name launch b)
+joined_tabled : (w : World) (name : List ℕ) (launch : ℕ) (b : Bool) → Tabled w (work_of_join w name launch b)
 joined_tabled w name launch true = passes refl tt
 joined_tabled w name launch false = passes refl tt
 
-delivered_tabled : (w : World) (m : Message) → Tabled w (delivered w m)
-unfolding delivered
+delivered_tabled : (w : World) (m : Message) → Tabled w (work_of_delivery w m)
+unfolding work_of_delivery
 delivered_tabled w (messages.Join name launch) = joined_tabled w name launch (launch == launch_of w.now name)
 delivered_tabled w (messages.Rows name launch rows) = told_tabled w (messages.Rows name launch rows) (restarter w name)
 delivered_tabled w (messages.Propose p) = command_tabled w (commands.Propose p) tt
-delivered_tabled w (messages.Ack name launch serial i row) = told_tabled w (messages.Ack name launch serial i row) (restarter w name)
-delivered_tabled w (messages.Nack name launch serial i why row) = told_tabled w (messages.Nack name launch serial i why row) (restarter w name)
+delivered_tabled w (messages.Ack name launch serial i row) =
+    told_tabled w (messages.Ack name launch serial i row) (restarter w name)
+delivered_tabled w (messages.Nack name launch serial i why row) =
+    told_tabled w (messages.Nack name launch serial i why row) (restarter w name)
 delivered_tabled w messages.AskView = passes refl tt
 delivered_tabled w (messages.AskChange since) = passes refl tt
 delivered_tabled w (messages.View v) = passes refl tt
@@ -405,9 +449,11 @@ own_tabled : (w : World) (o : Option Knowledge) → Tabled w (own_ticked w o)
 own_tabled w None = passes refl tt
 own_tabled w (Some k) = acted_tabled w k 0 spawns.Made (own_tick k k.stage) (own_asks w.restarters k k.stage)
 
-ticked_tabled : (w : World) (n : ℕ) (spawn : SpawnAnswer) (o : Option Knowledge) → ((k : Knowledge) → o ≡ Some k → IsIn k w.restarters) → Tabled w (ticked_for w n spawn o)
+ticked_tabled : (w : World) (n : ℕ) (spawn : SpawnAnswer) (o : Option Knowledge)
+    → ((k : Knowledge) → o ≡ Some k → IsIn k w.restarters) → Tabled w (ticked_for w n spawn o)
 ticked_tabled w n spawn None l = passes refl tt
-ticked_tabled w n spawn (Some k) l = acted_tabled w k n spawn (ticked k n) (tick_asks w.restarters k n (l k refl))
+ticked_tabled w n spawn (Some k) l =
+    acted_tabled w k n spawn (reply_to_tick k n) (tick_asks w.restarters k n (l k refl))
 
 process_plain : (p : ℕ) (e : ProcessEvent) → IsPlain (process_call p e)
 process_plain p processes.Fork = tt
@@ -422,11 +468,11 @@ reported_tabled : (w : World) (o : Option Report) → Tabled w (reported_to w o)
 reported_tabled w None = passes refl tt
 reported_tabled w (Some r) = reported_by_tabled w r (holder w r.contract.holder)
 
-timed_tabled : (w : World) (n : ℕ) (o : Option Knowledge) → Tabled w (timed n o)
+timed_tabled : (w : World) (n : ℕ) (o : Option Knowledge) → Tabled w (work_of_timeout n o)
 timed_tabled w n None = passes refl tt
 timed_tabled w n (Some k) = passes refl tt
 
-crashed_tabled : (w : World) (o : Option Knowledge) → Tabled w (crashed w o)
+crashed_tabled : (w : World) (o : Option Knowledge) → Tabled w (work_of_crash w o)
 crashed_tabled w None = passes refl tt
 crashed_tabled w (Some k) = calling_tabled w (calls.Gone k.actor) tt
 
@@ -434,14 +480,15 @@ launched_tabled : (w : World) (name : List ℕ) (b : Bool) → Tabled w (launche
 launched_tabled w name true = passes refl tt
 launched_tabled w name false = command_tabled w (commands.Launch name) tt
 
-pub tabled : (w : World) (e : Event) → Tabled w (worked w e)
-unfolding worked
+pub tabled : (w : World) (e : Event) → Tabled w (work_of_event w e)
+unfolding work_of_event
 tabled w (events.Deliver place) = sent_tabled w (sent_at w place)
 tabled w (events.Client edit) = command_tabled w (commands.Edit edit) tt
 tabled w events.Ask = passes refl tt
 tabled w events.Orders = passes refl tt
 tabled w (events.OwnTick name) = own_tabled w (restarter w name)
-tabled w (events.Tick name n spawn) = ticked_tabled w n spawn (restarter w name) (λ k e. find_in (is_named name) w.restarters k e)
+tabled w (events.Tick name n spawn) =
+    ticked_tabled w n spawn (restarter w name) (λ k e. find_in (is_named name) w.restarters k e)
 tabled w (events.Process process what) = calling_tabled w (process_call process what) (process_plain process what)
 tabled w (events.Report contract number) = reported_tabled w (report_at w.table contract number)
 tabled w (events.Timeout name n) = timed_tabled w n (restarter w name)

@@ -7,17 +7,17 @@ use Rattle.std.proofs.lemmas.List.{append_assoc}
 use Rattle.std.specs.Ordering.{nat_cmp}
 use Rattle.std.specs.declared.cmp.Ordering.{Ordering}
 use Rattle.std.specs.declared.cmp.Ordering.TheVariants.{Less, Equal, Greater}
-use Rattle.smf_fmri.specs.ByKey.{has_key, lookup, put, put_by}
+use Rattle.smf_fmri.specs.ByKey.{has_key, lookup, list_with_item, put_by}
 use Rattle.smf_state.specs.declared.row.Row.{Row}
 use Rattle.smf_state.specs.declared.state.State.{State}
 use Rattle.smf_state.specs.declared.view.ViewItem.{ViewItem}
 use Rattle.smf_model.specs.declared.held.Instance.{Instance}
 use Rattle.smf_state.specs.declared.view.ChangedItem.{ChangedItem}
 use Rattle.smf_state.specs.declared.view.View.{View}
-use Rattle.smf_state.specs.Patched.{by_item, patched, with_item, with_items}
-use Rattle.smf_model.specs.Holdings.{Holdings}
+use Rattle.smf_state.specs.Patched.{by_item, view_after_changes, with_item, with_items}
+use Rattle.smf_model.specs.Contents.{Holdings}
 use Rattle.smf_model.specs.Look.{groups_of, instances}
-use Rattle.smf_model.specs.Setting.{Groups, current}
+use Rattle.smf_model.specs.GeneralGroup.{Groups, current}
 use Rattle.smf_model.specs.Shown.{is_run_by, rows_of, view, view_item}
 use Rattle.smf_model.proofs.LawOutcomes.{current_row}
 use Rattle.smf_changes.specs.Changes.{as_it_is, changes_since, is_beyond, items, together}
@@ -33,7 +33,7 @@ use Rattle.smf_world.specs.declared.item.Item.TheVariants.{Boot, Committed, Held
 use Rattle.smf_world.specs.Happens.{newest, with_patches}
 use Rattle.smf_world.specs.Worked.{changes_or_view, known_of}
 use Rattle.smf_world.specs.Safe.{HeldWereCommitted, Last, WasCommitted, behind_boot, commits, is_commit, last_of}
-use Rattle.smf_world.proofs.Noting.{AllCommit, noted, noted_more}
+use Rattle.smf_world.proofs.TrailItems.{AllCommit, noted, noted_more}
 use Rattle.smf_world.proofs.Pushed.{AreTracked, last_held}
 
 -- ---- a longer trail
@@ -50,7 +50,9 @@ grows_by Boot t i number state w = w
 
 pub grows : (xs t : List Item) → Grows t (noted xs t)
 grows [] t i number state w = w
-grows (x ∷ xs) t i number state w = subst (WasCommitted i number state) (sym (noted_more x xs t)) (grows xs (x ∷ t) i number state (grows_by x t i number state w))
+grows (x ∷ xs) t i number state w =
+    subst (WasCommitted i number state) (sym (noted_more x xs t))
+    (grows xs (x ∷ t) i number state (grows_by x t i number state w))
 
 no_commit : (b : Bool) → b ≡ true → b ≡ false → ⊥
 no_commit b e f = cc
@@ -64,7 +66,8 @@ held_past Boot t e h = h
 
 pub held_commits : (xs t : List Item) → AllCommit true xs → HeldWereCommitted t → HeldWereCommitted (noted xs t)
 held_commits [] t a h = h
-held_commits (x ∷ xs) t a h = subst HeldWereCommitted (sym (noted_more x xs t)) (held_commits xs (x ∷ t) a.1 (held_past x t a.0 h))
+held_commits (x ∷ xs) t a h =
+    subst HeldWereCommitted (sym (noted_more x xs t)) (held_commits xs (x ∷ t) a.1 (held_past x t a.0 h))
 
 -- ---- rows that are told
 
@@ -169,9 +172,11 @@ view_later t u g (Some v) a = items_later t u g v.items a
 reverse_more : (m : Message) (ms ns : List Message) → reverse (m ∷ ms) ++ ns ≡ reverse ms ++ (m ∷ ns)
 reverse_more m ms ns = ap (λ (l : List Message). l ++ ns) (reverse_onto ms m []) ∙ append_assoc (reverse ms) (m ∷ []) ns
 
-pub all_reversed : (t : List Item) (ms ns : List Message) → MessagesTold t ms → MessagesTold t ns → MessagesTold t (reverse ms ++ ns)
+pub all_reversed : (t : List Item) (ms ns : List Message) → MessagesTold t ms → MessagesTold t ns
+    → MessagesTold t (reverse ms ++ ns)
 all_reversed t [] ns a b = b
-all_reversed t (m ∷ ms) ns a b = subst (MessagesTold t) (sym (reverse_more m ms ns)) (all_reversed t ms (m ∷ ns) a.1 (a.0, b))
+all_reversed t (m ∷ ms) ns a b =
+    subst (MessagesTold t) (sym (reverse_more m ms ns)) (all_reversed t ms (m ∷ ns) a.1 (a.0, b))
 
 abbrev pub OneTold : List Item → Option Message → Type 0
 OneTold t None = Unit {0}
@@ -183,7 +188,8 @@ at_place t (m ∷ ms) zero a = a.0
 at_place t (m ∷ ms) (suc n) a = at_place t ms n a.1
 
 pub sent_told : (t : List Item) (ms : List Message) (n : ℕ) → MessagesTold t ms → OneTold t (slice_get (reverse ms) n)
-sent_told t ms n a = at_place t (reverse ms) n (subst (MessagesTold t) (append-nil (reverse ms)) (all_reversed t ms [] a tt))
+sent_told t ms n a =
+    at_place t (reverse ms) n (subst (MessagesTold t) (append-nil (reverse ms)) (all_reversed t ms [] a tt))
 
 -- ---- what the repository tells
 
@@ -192,22 +198,27 @@ pub last_was : (i : ℕ) (t : List Item) (l : Last) → last_of i t ≡ Some l �
 last_was i [] l e = absurd cc
 last_was i (Committed j n s next ∷ t) l e = by (j == i) refl e (last_was i t l)
   where
-    by : (b : Bool) → (j == i) ≡ b → cond b (Some (record { number = n; state = s; booted = false })) (last_of i t) ≡ Some l → (last_of i t ≡ Some l → WasCommitted i l.number l.state t) → ((j ≡ i) × (n ≡ l.number) × (s ≡ l.state)) ⊎ WasCommitted i l.number l.state t
+    by : (b : Bool) → (j == i) ≡ b → cond b (Some (record { number = n; state = s; booted = false })) (last_of i t)
+        ≡ Some l → (last_of i t ≡ Some l → WasCommitted i l.number l.state t)
+        → ((j ≡ i) × (n ≡ l.number) × (s ≡ l.state)) ⊎ WasCommitted i l.number l.state t
     by true is f ih = inl (eqb-true j i is, cc, cc)
     by false is f ih = inr (ih f)
 last_was i (Boot ∷ t) l e = by (last_of i t) e (last_was i t)
   where
-    by : (o : Option Last) → option_map behind_boot o ≡ Some l → ((k : Last) → o ≡ Some k → WasCommitted i k.number k.state t) → WasCommitted i l.number l.state t
+    by : (o : Option Last) → option_map behind_boot o ≡ Some l
+        → ((k : Last) → o ≡ Some k → WasCommitted i k.number k.state t) → WasCommitted i l.number l.state t
     by None g ih = absurd cc
     by (Some k) g ih =
         let number : k.number ≡ l.number = cc in
         let state : k.state ≡ l.state = cc in
-        subst (λ (n : ℕ). WasCommitted i n l.state t) number (subst (λ (s : State). WasCommitted i k.number s t) state (ih k refl))
+        subst (λ (n : ℕ). WasCommitted i n l.state t) number
+        (subst (λ (s : State). WasCommitted i k.number s t) state (ih k refl))
 last_was i (Held name launch j n s ∷ t) l e = last_was i t l e
 last_was i (Spawned c j run method revision command ∷ t) l e = last_was i t l e
 last_was i (Emptied c ∷ t) l e = last_was i t l e
 
-pub was_in : (i number : ℕ) (state : State) (t : List Item) → WasCommitted i number state (commits t) → WasCommitted i number state t
+pub was_in : (i number : ℕ) (state : State) (t : List Item) → WasCommitted i number state (commits t)
+    → WasCommitted i number state t
 was_in i number state [] w = w
 was_in i number state (Committed j n s next ∷ t) (inl e) = inl e
 was_in i number state (Committed j n s next ∷ t) (inr w) = inr (was_in i number state t w)
@@ -222,23 +233,34 @@ InstancesTold t (i ∷ is) = RowTold t i.number i.row × InstancesTold t is
 
 pub tracked_told : (t : List Item) (is : List Instance) → AreTracked (commits t) is → InstancesTold t is
 tracked_told t [] a = tt
-tracked_told t (i ∷ is) a = (was_in i.number i.row.number i.row.state t (last_was i.number (commits t) (last_held i) a.0), tracked_told t is a.1)
+tracked_told t (i ∷ is) a = (
+  was_in i.number i.row.number i.row.state t (last_was i.number (commits t) (last_held i) a.0),
+  tracked_told t is a.1,
+)
 
-row_as : (t : List Item) (i j : ℕ) (row new : Row) → j ≡ i → new.number ≡ row.number → new.state ≡ row.state → RowTold t i row → RowTold t j new
+row_as : (t : List Item) (i j : ℕ) (row new : Row) → j ≡ i → new.number ≡ row.number → new.state ≡ row.state
+    → RowTold t i row → RowTold t j new
 row_as t i j row new e f g w = rw (e, f, g) w
 
-pub current_told : (t : List Item) (gs : Groups) (i : Instance) → RowTold t i.number i.row → RowTold t i.number (current gs i).row
+pub current_told : (t : List Item) (gs : Groups) (i : Instance) → RowTold t i.number i.row
+    → RowTold t i.number (current gs i).row
 current_told t gs i w =
     let read = (current_row gs i).row.same in
-    row_as t i.number i.number i.row (current gs i).row refl (ap (λ (r : Row). r.number) read) (ap (λ (r : Row). r.state) read) w
+    row_as t i.number i.number i.row (current gs i).row refl (ap (λ (r : Row). r.number) read)
+    (ap (λ (r : Row). r.state) read) w
 
-all_current : (t : List Item) (gs : Groups) (is : List Instance) → InstancesTold t is → InstancesTold t (map (current gs) is)
+all_current : (t : List Item) (gs : Groups) (is : List Instance) → InstancesTold t is
+    → InstancesTold t (map (current gs) is)
 all_current t gs [] a = tt
 all_current t gs (i ∷ is) a =
-    let read = current_row gs i in
-    (row_as t i.number (current gs i).number i.row (current gs i).row read.number (ap (λ (r : Row). r.number) read.row.same) (ap (λ (r : Row). r.state) read.row.same) a.0, all_current t gs is a.1)
+    let read = current_row gs i in (
+      row_as t i.number (current gs i).number i.row (current gs i).row read.number
+          (ap (λ (r : Row). r.number) read.row.same) (ap (λ (r : Row). r.state) read.row.same) a.0,
+      all_current t gs is a.1,
+    )
 
-some_of : (t : List Item) (test : Instance → Bool) (is : List Instance) → InstancesTold t is → InstancesTold t (filter test is)
+some_of : (t : List Item) (test : Instance → Bool) (is : List Instance) → InstancesTold t is
+    → InstancesTold t (filter test is)
 some_of t test [] a = tt
 some_of t test (i ∷ is) a = by (test i) (some_of t test is a.1)
   where
@@ -250,11 +272,16 @@ all_known : (t : List Item) (is : List Instance) → InstancesTold t is → Rows
 all_known t [] a = tt
 all_known t (i ∷ is) a = (a.0, all_known t is a.1)
 
-pub rows_told : (t : List Item) (h : Holdings) (name : List ℕ) → InstancesTold t (instances h) → RowsTold t (map known_of (rows_of h name))
+pub rows_told : (t : List Item) (h : Holdings) (name : List ℕ) → InstancesTold t (instances h)
+    → RowsTold t (map known_of (rows_of h name))
 unfolding rows_of
-rows_told t h name a = all_known t _ (some_of t (is_run_by name) (map (current (groups_of h)) (instances h)) (all_current t (groups_of h) (instances h) a))
+rows_told t h name a =
+    all_known t _
+    (some_of t (is_run_by name) (map (current (groups_of h)) (instances h))
+    (all_current t (groups_of h) (instances h) a))
 
-all_viewed : (t : List Item) (h : Holdings) (is : List Instance) → InstancesTold t is → ItemsTold t (map (view_item h) is)
+all_viewed : (t : List Item) (h : Holdings) (is : List Instance) → InstancesTold t is
+    → ItemsTold t (map (view_item h) is)
 all_viewed t h [] a = tt
 all_viewed t h (i ∷ is) a = (current_told t (groups_of h) i a.0, all_viewed t h is a.1)
 
@@ -264,7 +291,8 @@ view_told t h a = all_viewed t h (instances h) a
 
 -- ---- what the graph tells
 
-pub newer_told : (t : List Item) (o : Option View) (v : View) → ViewTold t o → ItemsTold t v.items → ViewTold t (newer o v)
+pub newer_told : (t : List Item) (o : Option View) (v : View) → ViewTold t o → ItemsTold t v.items
+    → ViewTold t (newer o v)
 newer_told t None v a b = b
 newer_told t (Some held) v a b = by (nat_lt held.revision v.revision)
   where
@@ -272,20 +300,24 @@ newer_told t (Some held) v a b = by (nat_lt held.revision v.revision)
     by true = b
     by false = a
 
-pub newest_told : (t : List Item) (o : Option View) (vs : List View) → ViewTold t o → ViewsTold t vs → ViewTold t (newest o vs)
+pub newest_told : (t : List Item) (o : Option View) (vs : List View) → ViewTold t o → ViewsTold t vs
+    → ViewTold t (newest o vs)
 newest_told t o [] a b = a
 newest_told t o (v ∷ vs) a b = newest_told t (newer o v) vs (newer_told t o v a b.0) b.1
 
-put_told : (t : List Item) (x : ViewItem) (xs : List ViewItem) → RowTold t x.instance x.row → ItemsTold t xs → ItemsTold t (put by_item x xs)
+put_told : (t : List Item) (x : ViewItem) (xs : List ViewItem) → RowTold t x.instance x.row → ItemsTold t xs
+    → ItemsTold t (list_with_item by_item x xs)
 put_told t x [] a b = (a, tt)
 put_told t x (y ∷ ys) a b = by (nat_cmp y.instance x.instance) (put_told t x ys a b.1)
   where
-    by : (o : Ordering) → ItemsTold t (put by_item x ys) → ItemsTold t (put_by o x y ys (put by_item x ys))
+    by : (o : Ordering) → ItemsTold t (list_with_item by_item x ys)
+        → ItemsTold t (put_by o x y ys (list_with_item by_item x ys))
     by Less ih = (b.0, ih)
     by Equal ih = (a, b.1)
     by Greater ih = (a, b)
 
-items_some : (t : List Item) (test : ViewItem → Bool) (xs : List ViewItem) → ItemsTold t xs → ItemsTold t (filter test xs)
+items_some : (t : List Item) (test : ViewItem → Bool) (xs : List ViewItem) → ItemsTold t xs
+    → ItemsTold t (filter test xs)
 items_some t test [] a = tt
 items_some t test (x ∷ xs) a = by (test x) (items_some t test xs a.1)
   where
@@ -293,24 +325,28 @@ items_some t test (x ∷ xs) a = by (test x) (items_some t test xs a.1)
     by true ih = (a.0, ih)
     by false ih = ih
 
-item_told : (t : List Item) (n : ℕ) (o : Option ViewItem) (xs : List ViewItem) → ChangedTold t o → ItemsTold t xs → ItemsTold t (with_item n o xs)
+item_told : (t : List Item) (n : ℕ) (o : Option ViewItem) (xs : List ViewItem) → ChangedTold t o → ItemsTold t xs
+    → ItemsTold t (with_item n o xs)
 item_told t n None xs a b = items_some t (λ x. not (has_key by_item n x)) xs b
 item_told t n (Some x) xs a b = put_told t x xs a b
 
-all_told : (t : List Item) (cs : List ChangedItem) (xs : List ViewItem) → ChangesTold t cs → ItemsTold t xs → ItemsTold t (with_items cs xs)
+all_told : (t : List Item) (cs : List ChangedItem) (xs : List ViewItem) → ChangesTold t cs → ItemsTold t xs
+    → ItemsTold t (with_items cs xs)
 all_told t [] xs a b = b
 all_told t (c ∷ cs) xs a b = all_told t cs (with_item c.instance c.item xs) a.1 (item_told t c.instance c.item xs a.0 b)
 
-patch_told : (t : List Item) (o : Option View) (c : ViewChanges) → ViewTold t o → ChangesTold t c.items → ViewTold t (with_changes o c)
-unfolding patched
+patch_told : (t : List Item) (o : Option View) (c : ViewChanges) → ViewTold t o → ChangesTold t c.items
+    → ViewTold t (with_changes o c)
+unfolding view_after_changes
 patch_told t None c a b = tt
 patch_told t (Some v) c a b = by (goes_on v c)
   where
-    by : (d : Bool) → ViewTold t (if d then Some (patched v c.to c.items) else Some v)
+    by : (d : Bool) → ViewTold t (if d then Some (view_after_changes v c.to c.items) else Some v)
     by true = all_told t c.items v.items b a
     by false = a
 
-pub patches_told : (t : List Item) (o : Option View) (cs : List ViewChanges) → ViewTold t o → PatchesTold t cs → ViewTold t (with_patches o cs)
+pub patches_told : (t : List Item) (o : Option View) (cs : List ViewChanges) → ViewTold t o → PatchesTold t cs
+    → ViewTold t (with_patches o cs)
 patches_told t o [] a b = a
 patches_told t o (c ∷ cs) a b = patches_told t (with_changes o c) cs (patch_told t o c a b.0) b.1
 
@@ -324,14 +360,16 @@ item_of t n (x ∷ xs) a = by (has_key by_item n x) (item_of t n xs a.1)
     by true ih = a.0
     by false ih = ih
 
-all_as_they_are : (t : List Item) (h : Holdings) (ns : List ℕ) → ItemsTold t (items h) → ChangesTold t (map (as_it_is h) ns)
+all_as_they_are : (t : List Item) (h : Holdings) (ns : List ℕ) → ItemsTold t (items h)
+    → ChangesTold t (map (as_it_is h) ns)
 all_as_they_are t h [] a = tt
 all_as_they_are t h (n ∷ ns) a = (item_of t n (items h) a, all_as_they_are t h ns a)
 
 inside : {X : Type 0} (x y : X) → Some x ≡ Some y → x ≡ y
 inside x y e = cc
 
-since_told : (t : List Item) (nss : List (List ℕ)) (h : Holdings) (from : ℕ) (c : ℕ × List ChangedItem) → ItemsTold t (view h).items → changes_since nss h from ≡ Some c → ChangesTold t c.1
+since_told : (t : List Item) (nss : List (List ℕ)) (h : Holdings) (from : ℕ) (c : ℕ × List ChangedItem)
+    → ItemsTold t (view h).items → changes_since nss h from ≡ Some c → ChangesTold t c.1
 unfolding changes_since view
 since_told t nss h from c a e = by (is_beyond nss h from) e
   where
@@ -340,12 +378,15 @@ since_told t nss h from c a e = by (is_beyond nss h from) e
 
     by : (b : Bool) → (if b then None else Some given) ≡ Some c → ChangesTold t c.1
     by true f = absurd cc
-    by false f = subst (λ (p : ℕ × List ChangedItem). ChangesTold t p.1) (inside given c f) (all_as_they_are t h (together (take (h.revision - from) nss)) a)
+    by false f = subst (λ (p : ℕ × List ChangedItem). ChangesTold t p.1) (inside given c f)
+        (all_as_they_are t h (together (take (h.revision - from) nss)) a)
 
-pub changes_told : (t : List Item) (nss : List (List ℕ)) (h : Holdings) (from : ℕ) → ItemsTold t (view h).items → MessageTold t (changes_or_view h from (changes_since nss h from))
+pub changes_told : (t : List Item) (nss : List (List ℕ)) (h : Holdings) (from : ℕ) → ItemsTold t (view h).items
+    → MessageTold t (changes_or_view h from (changes_since nss h from))
 changes_told t nss h from a = by (changes_since nss h from) (λ c e. since_told t nss h from c a e)
   where
-    by : (o : Option (ℕ × List ChangedItem)) → ((c : ℕ × List ChangedItem) → o ≡ Some c → ChangesTold t c.1) → MessageTold t (changes_or_view h from o)
+    by : (o : Option (ℕ × List ChangedItem)) → ((c : ℕ × List ChangedItem) → o ≡ Some c → ChangesTold t c.1)
+        → MessageTold t (changes_or_view h from o)
     by None told = a
     by (Some c) told = told c refl
 
@@ -353,19 +394,23 @@ abbrev OrderTold : List Item → Option Order → Type 0
 OrderTold t None = Unit {0}
 OrderTold t (Some o) = RowTold t o.instance o.row
 
-order_told : (t : List Item) (revision : ℕ) (all : List ViewItem) (i : ViewItem) → RowTold t i.instance i.row → OrderTold t (order revision all i)
+order_told : (t : List Item) (revision : ℕ) (all : List ViewItem) (i : ViewItem) → RowTold t i.instance i.row
+    → OrderTold t (order revision all i)
 order_told t revision all i a = order_shape revision all i (OrderTold t) tt (λ what. a)
 
 messages_of : (t : List Item) (revision : ℕ) (all is : List ViewItem) → ItemsTold t is
     → MessagesTold t (map (λ (o : Order). messages.Order o) (filter_map (order revision all) is))
 messages_of t revision all [] a = tt
-messages_of t revision all (i ∷ is) a = by (order revision all i) (order_told t revision all i a.0) (messages_of t revision all is a.1)
+messages_of t revision all (i ∷ is) a =
+    by (order revision all i) (order_told t revision all i a.0) (messages_of t revision all is a.1)
   where
-    by : (o : Option Order) → OrderTold t o → MessagesTold t (map (λ (o : Order). messages.Order o) (filter_map (order revision all) is))
+    by : (o : Option Order) → OrderTold t o
+        → MessagesTold t (map (λ (o : Order). messages.Order o) (filter_map (order revision all) is))
         → MessagesTold t (map (λ (o : Order). messages.Order o) (cons_option o (filter_map (order revision all) is)))
     by None b ih = ih
     by (Some o) b ih = (b, ih)
 
-pub orders_told : (t : List Item) (o : Option View) → ViewTold t o → MessagesTold t (map (λ (o : Order). messages.Order o) (orders_seen o))
+pub orders_told : (t : List Item) (o : Option View) → ViewTold t o
+    → MessagesTold t (map (λ (o : Order). messages.Order o) (orders_seen o))
 orders_told t None a = tt
 orders_told t (Some v) a = messages_of t v.revision v.items v.items a

@@ -11,7 +11,7 @@ use Rattle.smf_model.specs.declared.command.PropertyChange.TheVariants as proper
 use Rattle.smf_model.specs.declared.held.InstanceEntry.{InstanceEntry}
 use Rattle.smf_model.specs.declared.held.Service.{Service}
 use Rattle.smf_model.specs.declared.held.Snapshot.{Snapshot}
-use Rattle.smf_model.specs.Holdings.{Holdings}
+use Rattle.smf_model.specs.Contents.{Holdings}
 
 abbrev pub IsFormedService : Service → Type 0
 IsFormedService s = AreGroups s.groups

@@ -2,13 +2,13 @@
 use Rattle.std.specs.Prelude.{◌≡◌, ◌≤◌, ℕ, nat_eq, List, Bool, true, false, Some, is_some}
 use Rattle.std.specs.Cmp.Lexicographic.{pointwise}
 use Rattle.std.specs.List.{Any}
-use Rattle.smf_fmri.specs.Matching.{service_of, instance_of}
+use Rattle.smf_fmri.specs.Patterns.{service_of, instance_of}
 use Rattle.smf_model.specs.declared.command.Command.{Command}
 use Rattle.smf_model.specs.declared.held.Instance.{Instance}
 use Rattle.smf_model.specs.Dates.{EventKind, ErrorStop, OtherStop, Refreshed, Started}
 use Rattle.smf_model.specs.Events.{Happened}
-use Rattle.smf_model.specs.History.{made}
-use Rattle.smf_model.specs.Holdings.{Holdings}
+use Rattle.smf_model.specs.History.{holdings_after_commands}
+use Rattle.smf_model.specs.Contents.{Holdings}
 use Rattle.smf_model.specs.Laws.{IsNumbered}
 use Rattle.smf_model.specs.Look.{instance}
 use Rattle.smf_model.specs.Shown.{view}
@@ -68,7 +68,7 @@ pub record MustStop (d : Dependency) (base : ℕ) (h : Holdings) (cs : List Comm
   pub number : ℕ
   pub held : Instance
   pub kind : EventKind
-  pub is_there : instance (made h cs) number ≡ Some held
+  pub is_there : instance (holdings_after_commands h cs) number ≡ Some held
   pub cited : IsCitedBy d held.name
   pub counted : counts d.grouping d.restart_on kind ≡ true
   pub happened : Happened kind number base h cs
@@ -77,7 +77,7 @@ pub record MustStop (d : Dependency) (base : ℕ) (h : Holdings) (cs : List Comm
 
 -- the graph of the value that the commands made of the first one says that the dependency stops
 abbrev pub stops_now : Dependency → ℕ → Holdings → List Command → Bool
-stops_now d base h cs = must_stop (members (view (made h cs)).items) d base
+stops_now d base h cs = must_stop (members (view (holdings_after_commands h cs)).items) d base
 
 abbrev pub IsTold : Dependency → ℕ → Holdings → List Command → Type 0
 IsTold d base h cs = IsNumbered h → h.revision ≤ base → stops_now d base h cs ≡ true → MustStop d base h cs

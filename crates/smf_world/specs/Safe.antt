@@ -14,8 +14,8 @@ use Rattle.smf_engine.specs.Orders.{has_fault, is_about, method_in}
 use Rattle.smf_model.specs.declared.command.Command.{Command}
 use Rattle.smf_model.specs.declared.command.Command.TheVariants as commands
 use Rattle.smf_model.specs.declared.held.Instance.{Instance}
-use Rattle.smf_model.specs.History.{History, made, value_at}
-use Rattle.smf_model.specs.Holdings.{Holdings}
+use Rattle.smf_model.specs.History.{History, holdings_after_commands, value_at}
+use Rattle.smf_model.specs.Contents.{Holdings}
 use Rattle.smf_model.specs.Look.{instance, instances}
 use Rattle.smf_model.specs.Shown.{view}
 use Rattle.smf_world.specs.declared.item.Item.{Item}
@@ -53,11 +53,12 @@ made_items c before after = boot_alone c ++ map row_item (filter (is_committed b
 -- the boots and the rows of a history, newest first
 abbrev pub commits_of : Holdings → List Command → List Item
 commits_of h [] = []
-commits_of h (c ∷ cs) = reverse (made_items c (made h cs) (made h (c ∷ cs))) ++ commits_of h cs
+commits_of h (c ∷ cs) =
+    reverse (made_items c (holdings_after_commands h cs) (holdings_after_commands h (c ∷ cs))) ++ commits_of h cs
 
 -- the commits that the trail shows are the history of the repository
 pub record CommitsFollowHistory (w : World) : Type 0 where
-  pub newest : w.now ≡ made w.history.first w.history.past
+  pub newest : w.now ≡ holdings_after_commands w.history.first w.history.past
   pub commits : commits w.trail ≡ commits_of w.history.first w.history.past
 
 -- ---- along the diagram

@@ -5,8 +5,8 @@ use Rattle.std.specs.Cmp.Lexicographic.{pointwise}
 use Rattle.std.specs.List.{list_all, list_any}
 use Rattle.smf_fmri.specs.ByKey.{By, by_text, put_all}
 use Rattle.smf_contract.specs.declared.contract.Report.{Report}
-use Rattle.smf_contract.specs.declared.event.Event.{Event as ContractEvent}
-use Rattle.smf_contract.specs.Entries.{contract, reported}
+use Rattle.smf_contract.specs.declared.event.ContractEvent.{ContractEvent}
+use Rattle.smf_contract.specs.Entries.{contract, report_of_event}
 use Rattle.smf_state.specs.OwnName.{startd}
 use Rattle.smf_model.specs.Shown.{all_read, view}
 use Rattle.smf_engine.specs.Orders.{has_no_orders}
@@ -14,7 +14,7 @@ use Rattle.smf_wire.specs.declared.message.Message.{Message}
 use Rattle.smf_restarter.specs.declared.reply.Call.{Call}
 use Rattle.smf_restarter.specs.declared.reply.Call.TheVariants as asks
 use Rattle.smf_restarter.specs.Knowledge.{Knowledge}
-use Rattle.smf_restarter.specs.Ticks.{at_rest, ticked}
+use Rattle.smf_restarter.specs.Ticks.{at_rest, reply_to_tick}
 use Rattle.smf_world.specs.declared.event.Event.{Event}
 use Rattle.smf_world.specs.declared.event.Event.TheVariants as events
 use Rattle.smf_world.specs.declared.schedule.Deed.{Deed}
@@ -44,7 +44,17 @@ pub record Progress : Type 0 where
 
 -- a world of which nothing was delivered yet
 abbrev pub begun_at : World → Progress
-begun_at w = record { world = w; delivered = []; early = []; next = 0; lost = []; refuse = 0; looked = 0; unheard = []; heard = [] }
+begun_at w = record {
+  world = w;
+  delivered = [];
+  early = [];
+  next = 0;
+  lost = [];
+  refuse = 0;
+  looked = 0;
+  unheard = [];
+  heard = [];
+}
 
 -- ---- events
 
@@ -72,11 +82,13 @@ mark_heard false key p = record p { heard = p.heard ++ key ∷ [] }
 
 -- an event is marked: a report if a holder heard it, a boot if it made a revision. At a boot the contracts are gone,
 -- and with them their events
-abbrev pub marked : Event → Bool → Bool → Progress → Progress
-marked (events.Deliver place) heard new p = record p { delivered = place ∷ p.delivered; early = early_with (nat_lt place p.next) place p.early }
-marked (events.Report c n) true new p = mark_heard (list_any (has_key (event_key c n)) p.unheard) (event_key c n) p
-marked events.Boot heard true p = record p { looked = 0; unheard = []; heard = [] }
-marked _ heard new p = p
+abbrev pub progress_with_mark : Event → Bool → Bool → Progress → Progress
+progress_with_mark (events.Deliver place) heard new p =
+    record p { delivered = place ∷ p.delivered; early = early_with (nat_lt place p.next) place p.early }
+progress_with_mark (events.Report c n) true new p =
+    mark_heard (list_any (has_key (event_key c n)) p.unheard) (event_key c n) p
+progress_with_mark events.Boot heard true p = record p { looked = 0; unheard = []; heard = [] }
+progress_with_mark _ heard new p = p
 
 -- a boot that is accepted makes a revision
 abbrev pub is_revision : World → World → Bool
@@ -88,7 +100,7 @@ is_heard_by w (Some r) = is_some (holder w r.contract.holder)
 
 -- an event of a contract is there, and the contract's holder is launched
 unfoldable pub is_heard : World → ℕ → ℕ → Bool
-is_heard w c n = is_heard_by w (reported w.table c n)
+is_heard w c n = is_heard_by w (report_of_event w.table c n)
 
 abbrev pub is_heard_in : World → Event → Bool
 is_heard_in w (events.Report c n) = is_heard w c n
@@ -96,7 +108,8 @@ is_heard_in w _ = false
 
 -- an event happens, and is marked
 abbrev pub on : Progress → Event → Progress
-on p e = marked e (is_heard_in p.world e) (is_revision p.world (happens p.world e)) (record p { world = happens p.world e })
+on p e = progress_with_mark e (is_heard_in p.world e) (is_revision p.world (happens p.world e))
+    (record p { world = happens p.world e })
 
 -- ---- deeds
 
@@ -110,13 +123,13 @@ is_skipped p = list_any (is_next p) p.lost || list_any (is_next p) p.early
 abbrev pub past_next : Progress → Progress
 past_next p = record p { next = p.next + 1 }
 
-abbrev pub delivering : Bool → Progress → Progress
-delivering true p = past_next p
-delivering false p = on (past_next p) (events.Deliver p.next)
+abbrev pub progress_after_next : Bool → Progress → Progress
+progress_after_next true p = past_next p
+progress_after_next false p = on (past_next p) (events.Deliver p.next)
 
 abbrev pub delivering_if : Option Message → Progress → Progress
 delivering_if None p = p
-delivering_if (Some m) p = delivering (is_skipped p) p
+delivering_if (Some m) p = progress_after_next (is_skipped p) p
 
 unfoldable pub deliver_next : Progress → Progress
 deliver_next p = delivering_if (sent_at p.world p.next) p
@@ -140,7 +153,7 @@ is_spawn _ = false
 -- the turn of a restarter for an instance asks for a spawn
 abbrev pub asks_spawn : Option Knowledge → ℕ → Bool
 asks_spawn None n = false
-asks_spawn (Some k) n = is_spawn (ticked k n).call
+asks_spawn (Some k) n = is_spawn (reply_to_tick k n).call
 
 abbrev pub refuses : Progress → List ℕ → ℕ → Bool
 refuses p name n = nat_lt 0 p.refuse && asks_spawn (restarter p.world name) n
@@ -172,13 +185,14 @@ abbrev pub was_heard : List EventKey → ContractEvent → Bool
 was_heard keys e = list_any (λ key. has_key key e) keys
 
 -- the events that happened since the last look at events, and were not heard early
-abbrev pub unlooked : Progress → List ContractEvent
-unlooked p = filter (λ e. not (was_heard p.heard e)) (drop p.looked p.world.table.events)
+abbrev pub new_events : Progress → List ContractEvent
+new_events p = filter (λ e. not (was_heard p.heard e)) (drop p.looked p.world.table.events)
 
 -- before reports are made, all that happened is looked at
-abbrev pub entering : Turn → Progress → Progress
-entering turns.Reports p = record p { looked = length p.world.table.events; unheard = p.unheard ++ unlooked p; heard = [] }
-entering _ p = p
+abbrev pub progress_at_turn : Turn → Progress → Progress
+progress_at_turn turns.Reports p =
+    record p { looked = length p.world.table.events; unheard = p.unheard ++ new_events p; heard = [] }
+progress_at_turn _ p = p
 
 -- the deeds of a turn that was entered
 unfoldable pub deeds_of : Progress → Turn → List Deed
@@ -231,16 +245,16 @@ is_quiet w = has_no_orders (view w.now) && list_all at_rest w.restarters
 -- ---- what is asked of a schedule
 
 -- the next so many spawns are refused, in place of what was asked before
-unfoldable pub refusing : ℕ → Progress → Progress
-refusing k p = record p { refuse = k }
+unfoldable pub progress_with_refusals : ℕ → Progress → Progress
+progress_with_refusals k p = record p { refuse = k }
 
 -- the place of the k-th message that is sent from now on; a place past the greatest is never reached
 abbrev pub lost_place : ℕ → ℕ → Option ℕ
 lost_place sent k = if nat_lt 0 k && nat_lt (sent + k) 0x8000_0000_0000_0000 then Some (sent + k - 1) else None
 
 -- the k-th message that is sent from now on is lost (0: none), in place of what was asked before
-unfoldable pub losing : ℕ → Progress → Progress
-losing k p =
+unfoldable pub progress_with_loss : ℕ → Progress → Progress
+progress_with_loss k p =
     record p {
       lost =
           filter (λ place. nat_lt place (length p.world.sent)) p.lost

@@ -8,20 +8,20 @@ use Rattle.smf_contract.specs.declared.contract.Holder.TheVariants.{Held, Inheri
 use Rattle.smf_contract.specs.declared.contract.Report.{Report}
 use Rattle.smf_contract.specs.declared.fault.ContractFault.{ContractFault}
 use Rattle.smf_contract.specs.Called.{emptied_by}
-use Rattle.smf_contract.specs.Calls.{adopted, next_contract}
-use Rattle.smf_contract.specs.Entries.{Contracts, statuses, reported as report_at}
+use Rattle.smf_contract.specs.Calls.{result_of_adoption, next_contract}
+use Rattle.smf_contract.specs.Entries.{Contracts, statuses, report_of_event as report_at}
 use Rattle.smf_state.specs.declared.step.Proposal.{Proposal}
 use Rattle.smf_state.specs.declared.view.ChangedItem.{ChangedItem}
 use Rattle.smf_model.specs.declared.change.Change.{Change}
 use Rattle.smf_model.specs.declared.command.Command.{Command}
 use Rattle.smf_model.specs.declared.command.Command.TheVariants as commands
-use Rattle.smf_model.specs.declared.command.Reply.{Reply as CommandReply}
-use Rattle.smf_model.specs.declared.command.Reply.TheVariants as replies
+use Rattle.smf_model.specs.declared.command.CommandReply.{CommandReply}
+use Rattle.smf_model.specs.declared.command.CommandReply.TheVariants as replies
 use Rattle.smf_model.specs.declared.change.Outcome.{Outcome}
 use Rattle.smf_model.specs.declared.held.Instance.{Instance}
-use Rattle.smf_model.specs.Holdings.{Holdings}
+use Rattle.smf_model.specs.Contents.{Holdings}
 use Rattle.smf_model.specs.Look.{launch_of}
-use Rattle.smf_model.specs.Next.{asked}
+use Rattle.smf_model.specs.Next.{outcome_of_command}
 use Rattle.smf_model.specs.Shown.{rows_of, view}
 use Rattle.smf_changes.specs.Changes.{changes_since, recent}
 use Rattle.smf_engine.specs.Orders.{orders_seen, question}
@@ -33,12 +33,12 @@ use Rattle.smf_restarter.specs.declared.reply.Answer.TheVariants as answers
 use Rattle.smf_restarter.specs.declared.reply.Begun.{Begun}
 use Rattle.smf_restarter.specs.declared.reply.Call.{Call}
 use Rattle.smf_restarter.specs.declared.reply.Call.TheVariants as asks
-use Rattle.smf_restarter.specs.declared.reply.Change.{Change as KnowledgeChange}
+use Rattle.smf_restarter.specs.declared.reply.KnowledgeChange.{KnowledgeChange}
 use Rattle.smf_restarter.specs.declared.reply.Reply.{Reply}
-use Rattle.smf_restarter.specs.Answers.{answered, listed, reported, timed_out}
+use Rattle.smf_restarter.specs.Answers.{change_on_answer, change_on_list, change_on_report, timed_out}
 use Rattle.smf_restarter.specs.Knowledge.{Knowledge}
-use Rattle.smf_restarter.specs.Replies.{heard}
-use Rattle.smf_restarter.specs.Ticks.{own_tick, ticked}
+use Rattle.smf_restarter.specs.Replies.{reply_to_message}
+use Rattle.smf_restarter.specs.Ticks.{own_tick, reply_to_tick}
 use Rattle.smf_world.specs.declared.event.Event.{Event}
 use Rattle.smf_world.specs.declared.event.Event.TheVariants as events
 use Rattle.smf_world.specs.declared.event.ProcessEvent.{ProcessEvent}
@@ -68,28 +68,28 @@ no_work =
       call = calls.Nothing;
     }
 
-abbrev pub saying : List Message → Work
-saying ms = record no_work { messages = ms }
+abbrev pub work_of_messages : List Message → Work
+work_of_messages ms = record no_work { messages = ms }
 
 -- ---- commands
 
 -- a command that makes changes is accepted
-abbrev pub accepted : Command → List Change → List Command
-accepted c [] = []
-accepted c (x ∷ xs) = c ∷ []
+abbrev pub accepted_command : Command → List Change → List Command
+accepted_command c [] = []
+accepted_command c (x ∷ xs) = c ∷ []
 
 abbrev pub work_of : Holdings → Command → Outcome → Work
 work_of h c r =
     record no_work {
       changes = r.changes;
-      command = accepted c r.changes;
+      command = accepted_command c r.changes;
       reply = r.reply ∷ [];
       items = items_of h c r.changes;
     }
 
 -- a command is given to the repository
-unfoldable pub commanded : World → Command → Work
-commanded w c = work_of w.now c (asked w.now c)
+unfoldable pub work_of_command : World → Command → Work
+work_of_command w c = work_of w.now c (outcome_of_command w.now c)
 
 -- ---- messages
 
@@ -101,9 +101,9 @@ abbrev pub known_of : Instance → Known
 known_of i = record { instance = i.number; name = i.name; row = i.row }
 
 -- the rows of a restarter, if the launch is its last one
-abbrev pub joined : World → List ℕ → ℕ → Bool → Work
-joined w name launch true = saying (messages.Rows name launch (map known_of (rows_of w.now name)) ∷ [])
-joined w name launch false = no_work
+abbrev pub work_of_join : World → List ℕ → ℕ → Bool → Work
+work_of_join w name launch true = work_of_messages (messages.Rows name launch (map known_of (rows_of w.now name)) ∷ [])
+work_of_join w name launch false = no_work
 
 -- the answer to a proposal; a number at its limit has none
 abbrev pub answer_to : Proposal → CommandReply → List Message
@@ -115,8 +115,8 @@ abbrev pub answers_to : Proposal → List CommandReply → List Message
 answers_to p [] = []
 answers_to p (r ∷ rs) = answer_to p r
 
-abbrev pub proposed : Proposal → Work → Work
-proposed p k = record k { messages = answers_to p k.reply }
+abbrev pub work_with_answers : Proposal → Work → Work
+work_with_answers p k = record k { messages = answers_to p k.reply }
 
 -- ---- restarters
 
@@ -133,8 +133,8 @@ is_actor actor k = k.actor == actor
 abbrev pub knows : Knowledge → KnowledgeChange → List Becomes
 knows k c = becomes.Knows k.name c ∷ []
 
-abbrev pub knowing : Knowledge → KnowledgeChange → Work
-knowing k c = record no_work { becomes = knows k c }
+abbrev pub work_of_knowledge : Knowledge → KnowledgeChange → Work
+work_of_knowledge k c = record no_work { becomes = knows k c }
 
 abbrev pub held_item : Knowledge → Known → Item
 held_item k x = HeldRow k.name k.launch x.instance x.row.number x.row.state
@@ -146,9 +146,9 @@ held_items k xs = map (held_item k) xs
 unfoldable pub heard_by : Knowledge → Reply → Work
 heard_by k r = record no_work { items = held_items k r.taken; messages = r.messages; becomes = knows k r.change }
 
-abbrev pub told : Message → Option Knowledge → Work
-told m None = no_work
-told m (Some k) = heard_by k (heard k m)
+abbrev pub work_on_message : Message → Option Knowledge → Work
+work_on_message m None = no_work
+work_on_message m (Some k) = heard_by k (reply_to_message k m)
 
 -- the repository answers with what changed since a revision, or with the view
 abbrev pub changes_or_view : Holdings → ℕ → Option (ℕ × List ChangedItem) → Message
@@ -159,22 +159,24 @@ abbrev pub answer_since : World → ℕ → Message
 answer_since w from = changes_or_view w.now from (changes_since (recent w.history.first w.history.past) w.now from)
 
 -- a message is delivered; one to an actor that is not launched does nothing
-unfoldable pub delivered : World → Message → Work
-delivered w (messages.Join name launch) = joined w name launch (launch == launch_of w.now name)
-delivered w (messages.Rows name launch rows) = told (messages.Rows name launch rows) (restarter w name)
-delivered w (messages.Propose p) = proposed p (commanded w (commands.Propose p))
-delivered w (messages.Ack name launch serial i row) = told (messages.Ack name launch serial i row) (restarter w name)
-delivered w (messages.Nack name launch serial i why row) =
-    told (messages.Nack name launch serial i why row) (restarter w name)
-delivered w messages.AskView = saying (messages.View (view w.now) ∷ [])
-delivered w (messages.View v) = record no_work { seen = v ∷ [] }
-delivered w (messages.AskChange from) = saying (answer_since w from ∷ [])
-delivered w (messages.Changes c) = record no_work { patches = c ∷ [] }
-delivered w (messages.Order o) = told (messages.Order o) (restarter w o.restarter)
+unfoldable pub work_of_delivery : World → Message → Work
+work_of_delivery w (messages.Join name launch) = work_of_join w name launch (launch == launch_of w.now name)
+work_of_delivery w (messages.Rows name launch rows) =
+    work_on_message (messages.Rows name launch rows) (restarter w name)
+work_of_delivery w (messages.Propose p) = work_with_answers p (work_of_command w (commands.Propose p))
+work_of_delivery w (messages.Ack name launch serial i row) =
+    work_on_message (messages.Ack name launch serial i row) (restarter w name)
+work_of_delivery w (messages.Nack name launch serial i why row) =
+    work_on_message (messages.Nack name launch serial i why row) (restarter w name)
+work_of_delivery w messages.AskView = work_of_messages (messages.View (view w.now) ∷ [])
+work_of_delivery w (messages.View v) = record no_work { seen = v ∷ [] }
+work_of_delivery w (messages.AskChange from) = work_of_messages (answer_since w from ∷ [])
+work_of_delivery w (messages.Changes c) = record no_work { patches = c ∷ [] }
+work_of_delivery w (messages.Order o) = work_on_message (messages.Order o) (restarter w o.restarter)
 
 abbrev pub delivered_if : World → Option Message → Work
 delivered_if w None = no_work
-delivered_if w (Some m) = delivered w m
+delivered_if w (Some m) = work_of_delivery w m
 
 -- ---- calls
 
@@ -194,7 +196,7 @@ spawn_answer spawns.NotFollowed next = answers.NotFollowed
 unfoldable pub answer_of : Contracts → ℕ → SpawnAnswer → Call → Answer
 answer_of t actor spawn asks.Nothing = answers.Nothing
 answer_of t actor spawn asks.List = answers.Nothing
-answer_of t actor spawn (asks.Adopt c) = adopt_answer c (adopted t actor c)
+answer_of t actor spawn (asks.Adopt c) = adopt_answer c (result_of_adoption t actor c)
 answer_of t actor spawn (asks.Spawn cookie terms) = spawn_answer spawn (next_contract t)
 answer_of t actor spawn (asks.Kill c) = answers.Nothing
 
@@ -214,9 +216,9 @@ call_of actor (asks.Kill c) answer = calls.Kill actor c
 -- the change of a restarter's knowledge after its call
 abbrev pub change_after : World → Knowledge → ℕ → Reply → Call → Answer → KnowledgeChange
 change_after w k n r asks.Nothing a = r.change
-change_after w k n r asks.List a = listed k (statuses w.table)
-change_after w k n r (asks.Adopt c) a = answered k n a
-change_after w k n r (asks.Spawn cookie terms) a = answered k n a
+change_after w k n r asks.List a = change_on_list k (statuses w.table)
+change_after w k n r (asks.Adopt c) a = change_on_answer k n a
+change_after w k n r (asks.Spawn cookie terms) a = change_on_answer k n a
 change_after w k n r (asks.Kill c) a = r.change
 
 abbrev pub begun_item : ℕ → Begun → Item
@@ -236,8 +238,8 @@ abbrev pub emptied_items : Contracts → ContractCall → List Item
 emptied_items t call = map (λ c. Emptied c) (emptied_by t call)
 
 -- a call is made on the table alone
-unfoldable pub calling : Contracts → ContractCall → Work
-calling t call = record no_work { items = emptied_items t call; call = call }
+unfoldable pub work_of_call : Contracts → ContractCall → Work
+work_of_call t call = record no_work { items = emptied_items t call; call = call }
 
 -- ---- ticks
 
@@ -254,16 +256,16 @@ abbrev pub acted_by : World → Knowledge → ℕ → Reply → Answer → Work
 acted_by w k n r a = acted_with w k n r a (call_of k.actor r.call a)
 
 -- the work of a restarter in its turn, for itself (0) or for an instance
-unfoldable pub acted : World → Knowledge → ℕ → SpawnAnswer → Reply → Work
-acted w k n spawn r = acted_by w k n r (answer_of w.table k.actor spawn r.call)
+unfoldable pub work_of_turn : World → Knowledge → ℕ → SpawnAnswer → Reply → Work
+work_of_turn w k n spawn r = acted_by w k n r (answer_of w.table k.actor spawn r.call)
 
 abbrev pub own_ticked : World → Option Knowledge → Work
 own_ticked w None = no_work
-own_ticked w (Some k) = acted w k 0 spawns.Made (own_tick k k.stage)
+own_ticked w (Some k) = work_of_turn w k 0 spawns.Made (own_tick k k.stage)
 
 abbrev pub ticked_for : World → ℕ → SpawnAnswer → Option Knowledge → Work
 ticked_for w n spawn None = no_work
-ticked_for w n spawn (Some k) = acted w k n spawn (ticked k n)
+ticked_for w n spawn (Some k) = work_of_turn w k n spawn (reply_to_tick k n)
 
 -- ---- processes, reports, time-outs
 
@@ -274,7 +276,7 @@ process_call p (processes.Fail failure) = calls.Fail p failure
 
 abbrev pub reported_by : Report → Option Knowledge → Work
 reported_by r None = no_work
-reported_by r (Some k) = knowing k (reported k r)
+reported_by r (Some k) = work_of_knowledge k (change_on_report k r)
 
 -- the launched restarter that holds a contract
 abbrev pub holder : World → Holder → Option Knowledge
@@ -286,28 +288,28 @@ abbrev pub reported_to : World → Option Report → Work
 reported_to w None = no_work
 reported_to w (Some r) = reported_by r (holder w r.contract.holder)
 
-abbrev pub timed : ℕ → Option Knowledge → Work
-timed n None = no_work
-timed n (Some k) = knowing k (timed_out k n)
+abbrev pub work_of_timeout : ℕ → Option Knowledge → Work
+work_of_timeout n None = no_work
+work_of_timeout n (Some k) = work_of_knowledge k (timed_out k n)
 
 -- ---- crashes, launches, boots
 
-abbrev pub crashed : World → Option Knowledge → Work
-crashed w None = no_work
-crashed w (Some k) = record (calling w.table (calls.Gone k.actor)) { becomes = becomes.Gone k.name ∷ [] }
+abbrev pub work_of_crash : World → Option Knowledge → Work
+work_of_crash w None = no_work
+work_of_crash w (Some k) = record (work_of_call w.table (calls.Gone k.actor)) { becomes = becomes.Gone k.name ∷ [] }
 
 -- a restarter begins with its launch, and the revision that this makes is the actor that holds its contracts
 abbrev pub launched_as : World → List ℕ → List CommandReply → List Becomes
 launched_as w name (replies.Made launch ∷ rs) = becomes.Launched name (w.now.revision + 1) launch ∷ []
 launched_as w name _ = []
 
-abbrev pub launched : World → List ℕ → Work → Work
-launched w name k = record k { becomes = launched_as w name k.reply }
+abbrev pub work_with_launch : World → List ℕ → Work → Work
+work_with_launch w name k = record k { becomes = launched_as w name k.reply }
 
 -- a launch of what is launched is no event
 abbrev pub launched_if : World → List ℕ → Bool → Work
 launched_if w name true = no_work
-launched_if w name false = launched w name (commanded w (commands.Launch name))
+launched_if w name false = work_with_launch w name (work_of_command w (commands.Launch name))
 
 abbrev pub is_launched : World → List ℕ → Bool
 is_launched w name = is_some (restarter w name)
@@ -317,21 +319,21 @@ abbrev pub booted_as : Work → List CommandReply → Work
 booted_as k (replies.Done ∷ rs) = record k { becomes = becomes.NoneLeft ∷ []; forgets = true; call = calls.Reboot }
 booted_as k _ = k
 
-abbrev pub booted : Work → Work
-booted k = booted_as k k.reply
+abbrev pub work_with_boot : Work → Work
+work_with_boot k = booted_as k k.reply
 
 -- ---- events
 
-unfoldable pub worked : World → Event → Work
-worked w (events.Deliver place) = delivered_if w (sent_at w place)
-worked w (events.Client edit) = commanded w (commands.Edit edit)
-worked w events.Ask = saying (question w.seen ∷ [])
-worked w events.Orders = saying (map (λ o. messages.Order o) (orders_seen w.seen))
-worked w (events.OwnTick name) = own_ticked w (restarter w name)
-worked w (events.Tick name n spawn) = ticked_for w n spawn (restarter w name)
-worked w (events.Process process what) = calling w.table (process_call process what)
-worked w (events.Report contract number) = reported_to w (report_at w.table contract number)
-worked w (events.Timeout name n) = timed n (restarter w name)
-worked w (events.Crash name) = crashed w (restarter w name)
-worked w (events.Launch name) = launched_if w name (is_launched w name)
-worked w events.Boot = booted (commanded w commands.Boot)
+unfoldable pub work_of_event : World → Event → Work
+work_of_event w (events.Deliver place) = delivered_if w (sent_at w place)
+work_of_event w (events.Client edit) = work_of_command w (commands.Edit edit)
+work_of_event w events.Ask = work_of_messages (question w.seen ∷ [])
+work_of_event w events.Orders = work_of_messages (map (λ o. messages.Order o) (orders_seen w.seen))
+work_of_event w (events.OwnTick name) = own_ticked w (restarter w name)
+work_of_event w (events.Tick name n spawn) = ticked_for w n spawn (restarter w name)
+work_of_event w (events.Process process what) = work_of_call w.table (process_call process what)
+work_of_event w (events.Report contract number) = reported_to w (report_at w.table contract number)
+work_of_event w (events.Timeout name n) = work_of_timeout n (restarter w name)
+work_of_event w (events.Crash name) = work_of_crash w (restarter w name)
+work_of_event w (events.Launch name) = launched_if w name (is_launched w name)
+work_of_event w events.Boot = work_with_boot (work_of_command w commands.Boot)

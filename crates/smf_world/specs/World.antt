@@ -4,7 +4,7 @@ use Rattle.std.specs.Prelude.{List, [], Option, None}
 use Rattle.smf_contract.specs.Entries.{Contracts, empty}
 use Rattle.smf_state.specs.declared.view.View.{View}
 use Rattle.smf_model.specs.History.{History}
-use Rattle.smf_model.specs.Holdings.{Holdings}
+use Rattle.smf_model.specs.Contents.{Holdings}
 use Rattle.smf_restarter.specs.Knowledge.{Knowledge}
 use Rattle.smf_wire.specs.declared.message.Message.{Message}
 use Rattle.smf_world.specs.declared.item.Item.{Item}
@@ -21,8 +21,8 @@ pub record World : Type 0 where
   pub table : Contracts
 
 -- the world round a value that was found, before anything happens
-abbrev pub found : Holdings → World
-found h =
+abbrev pub initial_world : Holdings → World
+initial_world h =
     record {
       history = record { first = h; past = [] };
       now = h;

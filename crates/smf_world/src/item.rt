@@ -1,6 +1,6 @@
 use smf_contract::Method;
 use smf_fmri::InstanceFmri;
-use smf_method::Command;
+use smf_method::CommandText;
 use smf_state::State;
 
 /// An item of the trail, which shows things in the order in which they happened.
@@ -29,7 +29,7 @@ pub enum Item {
         method: Method,
         /// The revision that its order was decided on.
         revision: u64,
-        command: Command,
+        command: CommandText,
     },
     /// A contract was first found empty.
     Emptied(u64),

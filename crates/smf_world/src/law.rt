@@ -1,10 +1,10 @@
 ghost use Rattle.std.specs.List.{AllByRecursion};
 ghost use Rattle.std.specs.Prelude.{◌≡◌, ℕ, IfSome, List, None, Some, true};
-ghost use Rattle.smf_contract.specs.declared.event.Event.{Event as AnyContractEvent};
+ghost use Rattle.smf_contract.specs.declared.event.ContractEvent.{ContractEvent as AnyContractEvent};
 ghost use Rattle.smf_engine.specs.Orders.{order};
-ghost use Rattle.smf_model.specs.Holdings.{Holdings};
+ghost use Rattle.smf_model.specs.Contents.{Holdings};
 ghost use Rattle.smf_model.specs.Laws.{IsNumbered};
-ghost use Rattle.smf_model.specs.Look.{empty, installed};
+ghost use Rattle.smf_model.specs.Look.{empty, holdings_after_changes};
 ghost use Rattle.smf_model.specs.Next.{next};
 ghost use Rattle.smf_model.specs.Shown.{view};
 ghost use Rattle.smf_restarter.specs.Ticks.{at_rest};
@@ -23,8 +23,8 @@ ghost use Rattle.smf_world.specs.Safe.{AlongTheDiagram, CommitsFollowHistory as 
 ghost use Rattle.smf_world.specs.Safe.{IsReady, IsSafe, OneLive, StartsDecided};
 ghost use Rattle.smf_world.specs.Schedule.{Progress, deliver_next, delivered_again, is_quiet, on, report_one, turn_of_messages, waiting_count};
 ghost use Rattle.smf_world.specs.Spelled.{AreFormedEvents, AreInOrder, AreSpelled, HasBodies, IsFormedEvent, IsInOrder};
-ghost use Rattle.smf_world.specs.Worked.{sent_at, worked};
-ghost use Rattle.smf_world.specs.World.{World, found};
+ghost use Rattle.smf_world.specs.Worked.{sent_at, work_of_event};
+ghost use Rattle.smf_world.specs.World.{World, initial_world};
 
 /// The revisions in the rows of a view tell which dependencies stop an instance. A dependency stops it exactly if an
 /// event that counts happened after the base. This event happened to an instance that is there and that the dependency
@@ -39,7 +39,7 @@ pub fn rows_tell_what_stops()
 pub fn commits_follow_history()
     ensures numbered { (w : World) (e : AnyEvent) → IsNumbered w.now → IsNumbered (happens w e).now }
     ensures kept { (w : World) (e : AnyEvent) → IsNumbered w.now → FollowsHistory w → FollowsHistory (happens w e) }
-    ensures always { (h : Holdings) (es : List AnyEvent) → IsNumbered h → FollowsHistory (run es (found h)) }
+    ensures always { (h : Holdings) (es : List AnyEvent) → IsNumbered h → FollowsHistory (run es (initial_world h)) }
 {}
 
 /// After a boot of the value that was found, whatever happens, an instance is first uninitialized. Then it goes along
@@ -83,8 +83,10 @@ pub fn whatever_happens_is_safe()
 
 /// An event changes the repository by the changes of its work, and these leave the repository numbered.
 pub fn changes_keep_numbers()
-    ensures kept { (w : World) (e : AnyEvent) → IsNumbered w.now → IsNumbered (installed w.now (worked w e).changes) }
-    ensures made { (w : World) (e : AnyEvent) → (happens w e).now ≡ installed w.now (worked w e).changes }
+    ensures kept { (w : World) (e : AnyEvent) → IsNumbered w.now
+        → IsNumbered (holdings_after_changes w.now (work_of_event w e).changes) }
+    ensures made { (w : World) (e : AnyEvent)
+        → (happens w e).now ≡ holdings_after_changes w.now (work_of_event w e).changes }
 {}
 
 /// Each message that is ever sent has a line that is read again as that message. This holds whatever happens, even if
@@ -92,8 +94,10 @@ pub fn changes_keep_numbers()
 /// the edits that clients ask for. Without this condition the same holds of each reached world, but for the bodies of a
 /// view and of changes.
 pub fn messages_are_spelled()
-    ensures always { (h : Holdings) (es : List AnyEvent) → IsNumbered h → IsFormed h → AreFormedEvents es → AreSpelled (run es (found h)) }
-    ensures kept { (w : World) (e : AnyEvent) → IsNumbered w.now → IsFormed w.now → IsFormedEvent e → AreSpelled w → AreSpelled (happens w e) }
+    ensures always { (h : Holdings) (es : List AnyEvent) → IsNumbered h → IsFormed h → AreFormedEvents es
+        → AreSpelled (run es (initial_world h)) }
+    ensures kept { (w : World) (e : AnyEvent) → IsNumbered w.now → IsFormed w.now → IsFormedEvent e → AreSpelled w
+        → AreSpelled (happens w e) }
     ensures each { (w : World) (place : ℕ) (m : AnyMessage) → AreSpelled w → sent_at w place ≡ Some m → IsSpelled m }
     ensures reached { (w : World) → IsReached w → AreInOrder w }
     ensures whole { (m : AnyMessage) → IsInOrder m → HasBodies m → IsSpelled m }
@@ -105,7 +109,8 @@ pub fn messages_are_spelled()
 pub fn held_groups_are_formed()
     ensures first { IsFormed empty }
     ensures commands { (h : Holdings) (c : AnyCommand) → IsFormed h → IsFormedCommand c → IsFormed (next h c).0 }
-    ensures events { (w : World) (e : AnyEvent) → IsNumbered w.now → IsFormed w.now → IsFormedEvent e → IsFormed (happens w e).now }
+    ensures events { (w : World) (e : AnyEvent) → IsNumbered w.now → IsFormed w.now → IsFormedEvent e
+        → IsFormed (happens w e).now }
 {}
 
 /// A list of events makes each world that a schedule makes, apart from the turns of restarters for instances.
@@ -125,7 +130,9 @@ pub fn no_message_waits_after_deliveries()
 /// In a quiet world nothing is left to start: no enabled instance is offline with nothing under way, no fault, and each
 /// dependency group met. Nothing is left to order, and restarters wait for nothing but methods that run.
 pub fn quiet_leaves_nothing_to_do()
-    ensures start { (w : World) (i : ℕ) (row : AnyRow) (command : List ℕ) → is_quiet w ≡ true → IsReady w.now i row command → ⊥ }
-    ensures orders { (w : World) → is_quiet w ≡ true → AllByRecursion (λ i. order w.now.revision (view w.now).items i ≡ None) (view w.now).items }
+    ensures start { (w : World) (i : ℕ) (row : AnyRow) (command : List ℕ) → is_quiet w ≡ true
+        → IsReady w.now i row command → ⊥ }
+    ensures orders { (w : World) → is_quiet w ≡ true
+        → AllByRecursion (λ i. order w.now.revision (view w.now).items i ≡ None) (view w.now).items }
     ensures rest { (w : World) → is_quiet w ≡ true → AllByRecursion (λ k. at_rest k ≡ true) w.restarters }
 {}

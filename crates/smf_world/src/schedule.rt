@@ -1,4 +1,4 @@
-use smf_contract::Event as ContractEvent;
+use smf_contract::ContractEvent;
 use smf_fmri::{InstanceFmri, Number};
 
 /// The end of a number of rounds.

@@ -1,7 +1,7 @@
 use crate::item::Item;
 use smf_contract::ContractCall;
 use smf_fmri::{InstanceFmri, Items};
-use smf_model::{Command, Reply};
+use smf_model::{Command, CommandReply};
 use smf_state::View;
 use smf_wire::{Message, ViewChanges};
 
@@ -11,7 +11,7 @@ pub enum Becomes {
     /// A launched one knows more.
     Knows {
         name: InstanceFmri,
-        change: smf_restarter::Change,
+        change: smf_restarter::KnowledgeChange,
     },
     Launched {
         name: InstanceFmri,
@@ -31,7 +31,7 @@ pub struct Work {
     /// The command that was accepted, if one was.
     pub command: Items<Command>,
     /// The reply to the command, if one was given.
-    pub reply: Items<Reply>,
+    pub reply: Items<CommandReply>,
     /// The items of the trail, in order.
     pub items: Items<Item>,
     /// The messages that are sent, in order.

@@ -1,7 +1,7 @@
 use Rattle.std.proofs.Common.{refl}
 use Rattle.clap.proofs.OnLiterals.{clap_on_literals}
-use Rattle.smf_admin.specs.Asking.{read_words}
-use Rattle.smf_admin.specs.Choosing.{options_of}
+use Rattle.smf_admin.specs.Requests.{read_words}
+use Rattle.smf_admin.specs.ListOptions.{options_of}
 use Rattle.smf_admin.specs.Words.{svcadm_app, svcs_app}
 use Rattle.smf_admin.proofs.law.words_are_read_so.Goals as goal
 

@@ -9,5 +9,6 @@ returns-in-None c = c.new.ensures ∙ operands_are (found_of c.args.matches.now)
 
 pub returns-in-Some : goal.returns-in-Some
 returns-in-Some c =
-    let P : List (List ℕ) → Type 0 = λ l. IfOk c.owned.result (λ all. all ≡ l) in
-    subst P (operands_are (found_of c.args.matches.now) (Some (map (λ w. w.now) c.in-Some.words.now)) c.in-Some.ensures) c.owned.ensures
+    let P : List (List ℕ) → Type 0 = λ l. IfOk c.word_copies.result (λ all. all ≡ l) in
+    subst P (operands_are (found_of c.args.matches.now)
+    (Some (map (λ w. w.now) c.in-Some.words.now)) c.in-Some.ensures) c.word_copies.ensures

@@ -8,4 +8,5 @@ unfolding svcadm_app
 returns c =
     c.in_ok-command.ensures.shape c.operands.ensures.local
     ∙ ap₂ with_rule (c.in_ok-arg-2.ensures.shape c.flag-2.ensures.local
-    ∙ ap₂ with_rule (c.in_ok-arg.ensures.shape c.flag.ensures.local ∙ ap₂ with_rule c.no_flags.ensures c.flag.ensures.rule) c.flag-2.ensures.rule) c.operands.ensures.rule
+    ∙ ap₂ with_rule (c.in_ok-arg.ensures.shape c.flag.ensures.local
+    ∙ ap₂ with_rule c.no_flags.ensures c.flag.ensures.rule) c.flag-2.ensures.rule) c.operands.ensures.rule

@@ -7,4 +7,5 @@ use Rattle.smf_changes.proofs.candidates.put_named.Given as goal
 
 abbrev pub invariant-loop-change : goal.invariant-loop-change
 invariant-loop-change g l =
-    put_all by_itself (flat_map (named_by l.plain.held) (drop l.change-index l.changes)) l.all ≡ put_all by_itself (flat_map (named_by l.plain.held) l.changes) l.fn.all
+    put_all by_itself (flat_map (named_by l.plain.held) (drop l.change-index l.changes)) l.all
+    ≡ put_all by_itself (flat_map (named_by l.plain.held) l.changes) l.fn.all

@@ -1,4 +1,4 @@
-use Rattle.smf_changes.proofs.Patching.{view_patched}
+use Rattle.smf_changes.proofs.Patches.{view_patched}
 use Rattle.smf_changes.proofs.changes.a_view_is_patched.Goals as goal
 
 pub returns : goal.returns

@@ -1,4 +1,4 @@
-use Rattle.smf_changes.proofs.Patching.{beyond_none, changes_rise, kept_lists, none_beyond}
+use Rattle.smf_changes.proofs.Patches.{beyond_none, changes_rise, kept_lists, none_beyond}
 use Rattle.smf_changes.proofs.changes.changes_are_exact.Goals as goal
 
 pub returns-clause-none : goal.returns-clause-none

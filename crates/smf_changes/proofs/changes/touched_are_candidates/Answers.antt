@@ -1,4 +1,4 @@
-use Rattle.smf_changes.proofs.Touching.{touched_found, touched_named, touched_within}
+use Rattle.smf_changes.proofs.Touches.{touched_found, touched_named, touched_within}
 use Rattle.smf_changes.proofs.changes.touched_are_candidates.Goals as goal
 
 pub returns-clause-within : goal.returns-clause-within

@@ -2,7 +2,7 @@ use Rattle.std.proofs.Common.{◌≤◌, ◌<◌, ℕ, List, Option, length, tak
 use Rattle.smf_fmri.specs.ByKey.{put_all}
 use Rattle.smf_changes.specs.Changes.{by_itself, together}
 use Rattle.smf_changes.specs.Recorded.{with_stale}
-use Rattle.smf_changes.proofs.Recording.{enough, newest_taken}
+use Rattle.smf_changes.proofs.Records.{enough, newest_taken}
 use Rattle.smf_changes.proofs.lists.newest_together.Goals as goal
 
 pub slice_bounds-together-length : goal.slice_bounds-together-length

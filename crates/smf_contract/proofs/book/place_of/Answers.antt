@@ -11,4 +11,5 @@ pub returns-in-Ok-clause-in_range : goal.returns-in-Ok-clause-in_range
 returns-in-Ok-clause-in_range c = stands_within by_id c.args.id c.in-Ok.at c.args.contracts.now c.in-Ok.ensures.found
 
 pub returns-in-Err-clause-exact : goal.returns-in-Err-clause-exact
-returns-in-Err-clause-exact c = sym (not_placed c.args.id c.in-Err.field-0 c.args.contracts.now c.requires c.in-Err.ensures.absent)
+returns-in-Err-clause-exact c =
+    sym (not_placed c.args.id c.in-Err.field-0 c.args.contracts.now c.requires c.in-Err.ensures.absent)

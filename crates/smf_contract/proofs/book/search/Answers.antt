@@ -10,5 +10,7 @@ use Rattle.smf_contract.proofs.book.search.Goals as goal
 pub returns : goal.returns
 returns c =
     let facts = c.binary_search_by.ensures in
-    let compared = facts.position (λ (x : Contract). nat_cmp x.id c.args.id) (always_returns_same _ _ _ (λ a r f' called. search rules)) in
+    let compared =
+    facts.position (λ (x : Contract). nat_cmp x.id c.args.id)
+    (always_returns_same _ _ _ (λ a r f' called. search rules)) in
     search_is_placed by_id c.args.id _ c.requires _ facts.bound compared

@@ -4,6 +4,8 @@ use Rattle.smf_contract.proofs.change.end_with.Given as goal
 
 abbrev pub invariant-loop-c : goal.invariant-loop-c
 invariant-loop-c l = record {
-  rest : ended_with l.actor (drop l.c-index l.contracts) (record { members = l.members.items; events = l.events.events }) ≡ ended_with l.actor l.contracts (record { members = l.initial.members.items; events = l.initial.events.events });
+  rest : ended_with l.actor (drop l.c-index l.contracts)
+      (record { members = l.members.items; events = l.events.events })
+      ≡ ended_with l.actor l.contracts (record { members = l.initial.members.items; events = l.initial.events.events });
   room : length l.events.events + 2 * vec_len l.members < l.events.fit;
 }

@@ -5,5 +5,6 @@ use Rattle.smf_contract.proofs.change.give_up.Goals as goal
 
 pub loop-c-preserved : goal.loop-c-preserved
 loop-c-preserved c =
-    let step = map_over_more (given_up c.args.actor) c.args.contracts.now c.loop-c.contracts c.loop-c.c-index c.c-item.result (omega arith) c.loop-c.invariant c.c-item.is in
+    let step = map_over_more (given_up c.args.actor) c.args.contracts.now c.loop-c.contracts c.loop-c.c-index
+    c.c-item.result (omega arith) c.loop-c.invariant c.c-item.is in
     cc

@@ -7,7 +7,8 @@ abbrev pub invariant-loop-at : goal.invariant-loop-at
 invariant-loop-at l = record {
   within : l.at ≤ length l.events;
   fixed : l.at ≡ until l.id (take l.at l.events);
-  so_far : filter (is_given l.id l.number l.acknowledged) (take l.at l.events) ++ reverse l.found.items ≡ filter (is_given l.id l.number l.acknowledged) l.events;
+  so_far : filter (is_given l.id l.number l.acknowledged) (take l.at l.events) ++ reverse l.found.items
+      ≡ filter (is_given l.id l.number l.acknowledged) l.events;
 }
 
 abbrev pub decreases-loop-at : goal.decreases-loop-at

@@ -10,5 +10,7 @@ use Rattle.smf_contract.proofs.past.place_of_last.Goals as goal
 pub returns : goal.returns
 returns c =
     let facts = c.binary_search_by.ensures in
-    let compared = facts.position (λ (l : Last). nat_cmp l.contract c.args.contract) (always_returns_same _ _ _ (λ a r f' called. search rules)) in
+    let compared =
+    facts.position (λ (l : Last). nat_cmp l.contract c.args.contract)
+    (always_returns_same _ _ _ (λ a r f' called. search rules)) in
     search_is_placed by_contract c.args.contract _ c.requires _ facts.bound compared

@@ -15,4 +15,5 @@ returns-in-Ok-clause-put c =
 
 pub returns-in-Err-clause-put : goal.returns-in-Err-clause-put
 returns-in-Err-clause-put c =
-    rw (c.insert.ensures.items, c.unwrap.ensures) (sym (put_before by_contract c.args.last _ _ (rw c.deref.ensures.value at c.in-Err.ensures.absent)))
+    rw (c.insert.ensures.items, c.unwrap.ensures)
+    (sym (put_before by_contract c.args.last _ _ (rw c.deref.ensures.value at c.in-Err.ensures.absent)))

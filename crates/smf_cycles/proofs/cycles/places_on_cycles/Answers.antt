@@ -8,8 +8,11 @@ use Rattle.smf_cycles.proofs.cycles.places_on_cycles.Goals as goal
 pub loop-place-preserved : goal.loop-place-preserved
 loop-place-preserved c =
     let before = c.loop-place.invariant in record {
-      as_long = ap length c.in_ok-push.ensures.items ∙ length_push c.loop-place.flags.items c.in_ok-flag.flag ∙ ap (λ (n : ℕ). n + 1) before.as_long;
-      exact = rw c.in_ok-push.ensures.items (flags_more (λ (a : ℕ). IsOnCycle c.args.edges.now a) c.loop-place.flags.items c.in_ok-flag.flag c.loop-place.place before.as_long before.exact c.in_ok-flag.ensures);
+      as_long = ap length c.in_ok-push.ensures.items ∙ length_push c.loop-place.flags.items c.in_ok-flag.flag
+          ∙ ap (λ (n : ℕ). n + 1) before.as_long;
+      exact = rw c.in_ok-push.ensures.items
+          (flags_more (λ (a : ℕ). IsOnCycle c.args.edges.now a) c.loop-place.flags.items c.in_ok-flag.flag
+          c.loop-place.place before.as_long before.exact c.in_ok-flag.ensures);
     }
 
 pub returns-clause-exact : goal.returns-clause-exact

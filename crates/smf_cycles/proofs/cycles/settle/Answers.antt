@@ -1,4 +1,4 @@
-use Rattle.smf_cycles.proofs.Falling.{on_no_cycle}
+use Rattle.smf_cycles.proofs.Descents.{on_no_cycle}
 use Rattle.smf_cycles.proofs.cycles.settle.Goals as goal
 
 pub returns-then-all_below : goal.returns-then-all_below

@@ -12,6 +12,7 @@ loop-place-preserved c =
       | then-is_flagged w ↦
           let flagged = rw c.as_slice.ensures.value at w.if-is_flagged.ensures in
           let spread = rw (w.number_at.ensures, w.edges_of.ensures) at w.spread.ensures in
-          rw w.flags-is (says_spread c.args.edges.now c.args.roots.now _ _ _ c.loop-place.invariant (sym flagged) spread)
+          rw w.flags-is
+          (says_spread c.args.edges.now c.args.roots.now _ _ _ c.loop-place.invariant (sym flagged) spread)
       | else-is_flagged w ↦ rw w.flags-is c.loop-place.invariant
     ]

@@ -6,7 +6,8 @@ use Rattle.smf_cycles.proofs.members.led_to.Goals.{then-has_way, else-has_way}
 
 pub loop-place-init : goal.loop-place-init
 loop-place-init c =
-    says_none (λ a. Comes c.args.edges.now a (slice_index c.args.targets.now a)) c.in_ok-flags.flags.items _ (c.in_ok-flags.ensures.items_if_clones_equal (λ y e. e))
+    says_none (λ a. Comes c.args.edges.now a (slice_index c.args.targets.now a)) c.in_ok-flags.flags.items _
+    (c.in_ok-flags.ensures.items_if_clones_equal (λ y e. e))
 
 pub loop-place-preserved : goal.loop-place-preserved
 loop-place-preserved c =
@@ -14,7 +15,10 @@ loop-place-preserved c =
     let P : ℕ → Type 0 = λ a. Comes edges a (slice_index targets a) in
     elim c.if-has_way.branch [
       | then-has_way w ↦
-          let test = rw (c.as_slice.ensures.value, c.number_at-target.ensures, c.edges_of.ensures) at w.if-has_way.ensures in
-          rw (w.flags-is, w.set_flag.ensures) (says_set P _ _ c.loop-place.invariant (inr (way_leads edges _ targets _ _ c.loop-place.invariant (sym test))))
+          let test = rw (c.as_slice.ensures.value, c.number_at-target.ensures, c.edges_of.ensures) at
+          w.if-has_way.ensures in
+          rw (w.flags-is, w.set_flag.ensures)
+          (says_set P _ _ c.loop-place.invariant
+          (inr (way_leads edges _ targets _ _ c.loop-place.invariant (sym test))))
       | else-has_way w ↦ rw w.flags-is c.loop-place.invariant
     ]

@@ -1,5 +1,5 @@
 use Rattle.std.proofs.Common.{arith}
-use Rattle.smf_cycles.proofs.Falling.{rises_nowhere}
+use Rattle.smf_cycles.proofs.Descents.{rises_nowhere}
 use Rattle.smf_cycles.proofs.ranks.never_rises.Goals as goal
 
 pub returns : goal.returns

@@ -5,4 +5,5 @@ use Rattle.smf_cycles.proofs.ranks.never_rises.Given as goal
 
 abbrev pub invariant-loop-place : goal.invariant-loop-place
 invariant-loop-place l =
-    (k : ℕ) → k < l.place → list_all (λ q. nat_le (slice_index l.ranks q) (slice_index l.ranks k)) (edges_at l.edges k) ≡ true
+    (k : ℕ) → k < l.place
+    → list_all (λ q. nat_le (slice_index l.ranks q) (slice_index l.ranks k)) (edges_at l.edges k) ≡ true

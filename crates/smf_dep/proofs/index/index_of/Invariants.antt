@@ -1,4 +1,4 @@
-use Rattle.smf_dep.proofs.Noting.{IsBegun}
+use Rattle.smf_dep.proofs.Citations.{IsBegun}
 use Rattle.smf_dep.proofs.index.index_of.Given as goal
 
 abbrev pub invariant-loop-at : goal.invariant-loop-at

@@ -1,6 +1,6 @@
 use Rattle.std.proofs.Common.{drop}
 use Rattle.smf_dep.specs.Stamps.{Avoid}
-use Rattle.smf_dep.proofs.Noting.{Leads}
+use Rattle.smf_dep.proofs.Citations.{Leads}
 use Rattle.smf_dep.proofs.index.note_links.Given as goal
 
 abbrev pub invariant-loop-link : goal.invariant-loop-link

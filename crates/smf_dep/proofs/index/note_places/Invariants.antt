@@ -1,6 +1,6 @@
 use Rattle.std.proofs.Common.{drop}
-use Rattle.smf_dep.specs.Parking.{IsOut}
-use Rattle.smf_dep.proofs.Noting.{Leads}
+use Rattle.smf_dep.specs.Blockage.{IsOut}
+use Rattle.smf_dep.proofs.Citations.{Leads}
 use Rattle.smf_dep.proofs.index.note_places.Given as goal
 
 abbrev pub invariant-loop-place : goal.invariant-loop-place

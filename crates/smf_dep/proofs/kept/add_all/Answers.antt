@@ -1,5 +1,5 @@
 use Rattle.std.proofs.Common.{ℕ, ◌∷◌, [], List, length, ap, subst, arith, length-append}
-use Rattle.smf_dep.specs.Parking.{IsOut}
+use Rattle.smf_dep.specs.Blockage.{IsOut}
 use Rattle.smf_dep.proofs.Work.{all_more}
 use Rattle.smf_dep.proofs.kept.add_all.Goals as goal
 
@@ -7,8 +7,10 @@ pub loop-place-preserved : goal.loop-place-preserved
 loop-place-preserved c =
     let put = c.add_one.ensures.items in
     record {
-      size = let l = ap length put in let m = length-append c.loop-place.work.items (c.loop-place.place ∷ []) in let n = c.loop-place.invariant.size in omega arith;
-      each = λ a out. let P : List ℕ → Type 0 = IsOut a in all_more c.loop-place.work.items c.loop-place.place c.loop-place.invariant.each a (subst P put out);
+      size = let l = ap length put in let m = length-append c.loop-place.work.items (c.loop-place.place ∷ []) in
+          let n = c.loop-place.invariant.size in omega arith;
+      each = λ a out. let P : List ℕ → Type 0 = IsOut a in
+          all_more c.loop-place.work.items c.loop-place.place c.loop-place.invariant.each a (subst P put out);
       room = omega (arith, c.loop-place.invariant.room, c.add_one.ensures.capacity);
     }
 

@@ -1,6 +1,6 @@
 use Rattle.std.proofs.Common.{◌≡◌, ◌≤◌, ℕ, length}
 use Rattle.std.specs.Vec.{vec_capacity}
-use Rattle.smf_dep.specs.Parking.{IsOut}
+use Rattle.smf_dep.specs.Blockage.{IsOut}
 use Rattle.smf_dep.proofs.kept.add_all.Given as goal
 
 abbrev pub invariant-loop-place : goal.invariant-loop-place

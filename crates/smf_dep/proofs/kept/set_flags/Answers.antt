@@ -1,5 +1,5 @@
 use Rattle.std.proofs.Common.{◌≤◌, ◌<◌, length, sym, arith}
-use Rattle.smf_dep.proofs.Keeping.{with_flags_past, with_flags_read}
+use Rattle.smf_dep.proofs.FlagChanges.{with_flags_past, with_flags_read}
 use Rattle.smf_dep.proofs.kept.set_flags.Goals as goal
 
 pub returns-then-place-len : goal.returns-then-place-len

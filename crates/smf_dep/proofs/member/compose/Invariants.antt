@@ -5,4 +5,5 @@ use Rattle.smf_value.specs.Groups.{by_group}
 use Rattle.smf_dep.proofs.member.compose.Given as goal
 
 abbrev pub invariant-loop-group : goal.invariant-loop-group
-invariant-loop-group l = put_all by_group (into_iter_items l.group-iterator) l.groups ≡ put_all by_group l.fn.snapshot.instance l.fn.snapshot.service
+invariant-loop-group l = put_all by_group (into_iter_items l.group-iterator) l.groups
+    ≡ put_all by_group l.fn.snapshot.instance l.fn.snapshot.service

@@ -10,5 +10,6 @@ invariant-loop-item l =
       at_index : l.place ≡ l.item-index;
       as_long : length l.kept ≡ length l.items;
       alike : AllZip IsOfItem (drop l.item-index l.items) (drop l.item-index l.kept) → AllZip IsOfItem l.items l.kept;
-      same : l.standing ≡ Same → drop l.item-index l.kept ≡ map member_of (drop l.item-index l.items) → l.kept ≡ map member_of l.items;
+      same : l.standing ≡ Same → drop l.item-index l.kept ≡ map member_of (drop l.item-index l.items)
+          → l.kept ≡ map member_of l.items;
     }

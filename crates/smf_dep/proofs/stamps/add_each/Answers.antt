@@ -13,7 +13,8 @@ loop-place-preserved c =
     record {
       adds =
           subst P (sym (take_more c.args.places.now c.loop-place.place-index 0 c.loop-place-test.true))
-          (adds_then c.args.next (take c.loop-place.place-index c.args.places.now) (get_or c.args.places.now c.loop-place.place-index 0 ∷ []) c.args.work.now.items c.loop-place.work.items
+          (adds_then c.args.next (take c.loop-place.place-index c.args.places.now)
+          (get_or c.args.places.now c.loop-place.place-index 0 ∷ []) c.args.work.now.items c.loop-place.work.items
           c.add_new.new.work.items c.requires.next c.loop-place.invariant.adds c.add_new.ensures.adds);
       room = omega (arith, c.loop-place.invariant.room, c.add_new.ensures.capacity);
     }

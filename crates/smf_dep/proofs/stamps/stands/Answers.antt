@@ -7,4 +7,5 @@ use Rattle.smf_dep.proofs.stamps.stands.Goals as goal
 pub returns-then-slot-work : goal.returns-then-slot-work
 returns-then-slot-work c = λ e.
     let le : c.args.next ≤ c.args.slot = omega arith in
-    stands_in c.args.work.now c.args.next c.args.slot c.args.place le c.if-slot-work.true (eqb-true (slice_index c.args.work.now c.args.slot) c.args.place e)
+    stands_in c.args.work.now c.args.next c.args.slot c.args.place le c.if-slot-work.true
+    (eqb-true (slice_index c.args.work.now c.args.slot) c.args.place e)

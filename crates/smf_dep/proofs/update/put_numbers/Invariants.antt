@@ -6,7 +6,8 @@ use Rattle.smf_dep.proofs.update.put_numbers.Given as goal
 abbrev pub invariant-loop-place : goal.invariant-loop-place
 invariant-loop-place l =
     record {
-      rest : l.numbers.items ++ map (number_at l.members) (drop l.place-index l.places) ≡ map (number_at l.members) l.places;
+      rest : l.numbers.items ++ map (number_at l.members) (drop l.place-index l.places)
+          ≡ map (number_at l.members) l.places;
       size : length l.numbers.items ≡ l.place-index;
       room : length l.places ≤ vec_capacity l.numbers;
     }

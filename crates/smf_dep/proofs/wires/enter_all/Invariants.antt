@@ -1,6 +1,6 @@
 use Rattle.std.proofs.Common.{length}
 use Rattle.smf_dep.specs.Wires.{links_at}
-use Rattle.smf_dep.proofs.Wiring.{AreEnteredTo}
+use Rattle.smf_dep.proofs.LinkNumbers.{AreEnteredTo}
 use Rattle.smf_dep.proofs.wires.enter_all.Given as goal
 
 abbrev pub invariant-loop-at : goal.invariant-loop-at

@@ -1,4 +1,4 @@
-use Rattle.smf_dep.proofs.Wiring.{AreNumberedTo}
+use Rattle.smf_dep.proofs.LinkNumbers.{AreNumberedTo}
 use Rattle.smf_dep.proofs.wires.number_all.Given as goal
 
 abbrev pub invariant-loop-at : goal.invariant-loop-at

@@ -1,5 +1,5 @@
 use Rattle.std.proofs.Common.{◌≡◌, length}
-use Rattle.smf_dep.proofs.Wiring.{Grown, HasNumbers}
+use Rattle.smf_dep.proofs.LinkNumbers.{Grown, HasNumbers}
 use Rattle.smf_dep.proofs.wires.number_links.Given as goal
 
 abbrev pub invariant-loop-link : goal.invariant-loop-link

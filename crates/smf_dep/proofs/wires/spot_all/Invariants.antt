@@ -1,5 +1,5 @@
 use Rattle.smf_dep.specs.Wires.{links_at}
-use Rattle.smf_dep.proofs.Wiring.{AreSpottedTo}
+use Rattle.smf_dep.proofs.LinkNumbers.{AreSpottedTo}
 use Rattle.smf_dep.proofs.wires.spot_all.Given as goal
 
 abbrev pub invariant-loop-at : goal.invariant-loop-at

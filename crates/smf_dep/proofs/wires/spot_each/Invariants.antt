@@ -1,4 +1,4 @@
-use Rattle.smf_dep.proofs.Wiring.{Grown, HaveSpots}
+use Rattle.smf_dep.proofs.LinkNumbers.{Grown, HaveSpots}
 use Rattle.smf_dep.proofs.wires.spot_each.Given as goal
 
 abbrev pub invariant-loop-entity : goal.invariant-loop-entity

@@ -1,9 +1,10 @@
 use Rattle.std.proofs.Common.{sym, ◌∙◌, inl, inr}
-use Rattle.smf_edge.proofs.Seeing.{done_if_no_err, told}
+use Rattle.smf_edge.proofs.Places.{done_if_no_err, told}
 use Rattle.smf_edge.proofs.child.end.Goals as goal
 
 pub returns-then-not-cleared-clause-failed : goal.returns-then-not-cleared-clause-failed
-returns-then-not-cleared-clause-failed g c = λ _. inr (inl (c.in_ok-killer.killer, c.in_ok-killer.ensures, c.in_ok-cleared.ensures.failed c.if-not-cleared.true))
+returns-then-not-cleared-clause-failed g c =
+    λ _. inr (inl (c.in_ok-killer.killer, c.in_ok-killer.ensures, c.in_ok-cleared.ensures.failed c.if-not-cleared.true))
 
 pub returns-clause-ended : goal.returns-clause-ended
 returns-clause-ended g c = λ done.

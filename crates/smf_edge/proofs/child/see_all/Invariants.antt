@@ -1,6 +1,6 @@
 use Rattle.std.proofs.Common.{◌≡◌, drop}
-use Rattle.smf_edge.specs.Running.{roles}
-use Rattle.smf_edge.proofs.Seeing.{SeenUpTo}
+use Rattle.smf_edge.specs.Processes.{roles}
+use Rattle.smf_edge.proofs.Places.{SeenUpTo}
 use Rattle.smf_edge.proofs.child.see_all.Given as goal
 
 abbrev pub invariant-loop-kid : goal.invariant-loop-kid

@@ -8,11 +8,13 @@ bounds-items-at g c = stands_within (by_text g.T.TextKeyed.text) _ _ _ c.in-Ok.e
 
 pub offset_bounds-items-at : goal.offset_bounds-items-at
 offset_bounds-items-at g c =
-    let h : c.in-Ok.at < length c.args.items.now = stands_within (by_text g.T.TextKeyed.text) _ _ _ c.in-Ok.ensures.found in
+    let h : c.in-Ok.at < length c.args.items.now =
+    stands_within (by_text g.T.TextKeyed.text) _ _ _ c.in-Ok.ensures.found in
     omega arith
 
 pub returns-in-Ok : goal.returns-in-Ok
-returns-in-Ok g c = ap Some c.index-items-at.is ∙ sym (lookup_at (by_text g.T.TextKeyed.text) _ _ _ _ c.in-Ok.ensures.found)
+returns-in-Ok g c = ap Some c.index-items-at.is
+    ∙ sym (lookup_at (by_text g.T.TextKeyed.text) _ _ _ _ c.in-Ok.ensures.found)
 
 pub returns-in-Err : goal.returns-in-Err
 returns-in-Err g c = sym (lookup_before (by_text g.T.TextKeyed.text) _ _ _ c.requires c.in-Err.ensures.absent)

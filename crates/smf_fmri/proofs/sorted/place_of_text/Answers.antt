@@ -9,5 +9,7 @@ pub returns : goal.returns
 returns g c =
     let facts = c.binary_search_by.ensures in
     let by = by_text g.T.TextKeyed.text in
-    let compared = facts.position (λ item. by.cmp (by.key item) c.args.text.now) (always_returns_same _ _ _ (λ a r f' called. search rules)) in
+    let compared =
+    facts.position (λ item. by.cmp (by.key item) c.args.text.now)
+    (always_returns_same _ _ _ (λ a r f' called. search rules)) in
     search_is_placed by c.args.text.now _ c.requires _ facts.bound compared

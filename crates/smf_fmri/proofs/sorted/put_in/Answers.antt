@@ -14,4 +14,5 @@ returns-in-Ok-clause-put g c =
 
 pub returns-in-Err-clause-put : goal.returns-in-Err-clause-put
 returns-in-Err-clause-put g c =
-    rw (c.insert.ensures.items, c.unwrap.ensures) (sym (put_before g.T.Keyed.by _ _ _ (rw (c.key.ensures, c.deref.ensures.value) at c.in-Err.ensures.absent)))
+    rw (c.insert.ensures.items, c.unwrap.ensures)
+    (sym (put_before g.T.Keyed.by _ _ _ (rw (c.key.ensures, c.deref.ensures.value) at c.in-Err.ensures.absent)))

@@ -7,7 +7,8 @@ remove-requires g c = rw (← c.deref.ensures.len) (stands_within g.T.Keyed.by _
 
 pub returns-in-Ok-clause-removed : goal.returns-in-Ok-clause-removed
 returns-in-Ok-clause-removed g c =
-    c.remove.ensures.items ∙ sym (without_at g.T.Keyed.by _ _ _ c.requires (rw c.deref.ensures.value at c.in-Ok.ensures.found))
+    c.remove.ensures.items
+    ∙ sym (without_at g.T.Keyed.by _ _ _ c.requires (rw c.deref.ensures.value at c.in-Ok.ensures.found))
 
 pub returns-in_default-clause-removed : goal.returns-in_default-clause-removed
 returns-in_default-clause-removed g c =

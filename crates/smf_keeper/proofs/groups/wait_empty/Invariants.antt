@@ -1,4 +1,4 @@
-use Rattle.smf_keeper.specs.Tellings.{IsLater}
+use Rattle.smf_keeper.specs.Replies.{IsLater}
 use Rattle.smf_keeper.proofs.groups.wait_empty.Given as goal
 
 abbrev pub invariant-loop : goal.invariant-loop

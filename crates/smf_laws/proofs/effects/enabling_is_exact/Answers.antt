@@ -1,4 +1,4 @@
-use Rattle.smf_laws.proofs.Enabling.{enabled_good, enabled_now}
+use Rattle.smf_laws.proofs.EnableEdits.{enabled_good, enabled_now}
 use Rattle.smf_laws.proofs.effects.enabling_is_exact.Goals as goal
 
 pub returns-clause-for_good : goal.returns-clause-for_good

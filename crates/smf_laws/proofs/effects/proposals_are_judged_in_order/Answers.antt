@@ -1,4 +1,4 @@
-use Rattle.smf_laws.proofs.Judging.{is_judged, of_no_such}
+use Rattle.smf_laws.proofs.Judgments.{is_judged, of_no_such}
 use Rattle.smf_laws.proofs.effects.proposals_are_judged_in_order.Goals as goal
 
 pub returns-clause-no_such : goal.returns-clause-no_such

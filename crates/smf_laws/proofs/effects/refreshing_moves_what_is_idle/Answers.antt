@@ -1,4 +1,4 @@
-use Rattle.smf_laws.proofs.Refreshing.{after_refresh, not_moved}
+use Rattle.smf_laws.proofs.Refreshes.{after_refresh, not_moved}
 use Rattle.smf_laws.proofs.effects.refreshing_moves_what_is_idle.Goals as goal
 
 pub returns-clause-done : goal.returns-clause-done

@@ -1,4 +1,4 @@
-use Rattle.smf_laws.proofs.Reverting.{brought_back, of_nothing}
+use Rattle.smf_laws.proofs.Reverts.{brought_back, of_nothing}
 use Rattle.smf_laws.proofs.effects.reverting_brings_back.Goals as goal
 
 pub returns-clause-back : goal.returns-clause-back

@@ -1,4 +1,4 @@
-use Rattle.smf_laws.proofs.Beginning.{begins_or_stays}
+use Rattle.smf_laws.proofs.RowResets.{begins_or_stays}
 use Rattle.smf_laws.proofs.effects.rows_count_or_begin_anew.Goals as goal
 
 pub returns : goal.returns

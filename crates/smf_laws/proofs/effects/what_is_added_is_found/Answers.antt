@@ -1,4 +1,4 @@
-use Rattle.smf_laws.proofs.Coming.{instance_added, service_added}
+use Rattle.smf_laws.proofs.Additions.{instance_added, service_added}
 use Rattle.smf_laws.proofs.effects.what_is_added_is_found.Goals as goal
 
 pub returns-clause-service : goal.returns-clause-service

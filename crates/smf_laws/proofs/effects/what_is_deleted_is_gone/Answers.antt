@@ -1,4 +1,4 @@
-use Rattle.smf_laws.proofs.Coming.{instance_deleted, service_deleted}
+use Rattle.smf_laws.proofs.Additions.{instance_deleted, service_deleted}
 use Rattle.smf_laws.proofs.effects.what_is_deleted_is_gone.Goals as goal
 
 pub returns-clause-service : goal.returns-clause-service

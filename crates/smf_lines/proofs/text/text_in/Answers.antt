@@ -6,7 +6,8 @@ use Rattle.smf_lines.proofs.Texts.{none_long, none_of_bytes, text_short}
 use Rattle.smf_lines.proofs.text.text_in.Goals as goal
 
 pub returns-in-Ok : goal.returns-in-Ok
-returns-in-Ok c = ap Some c.in-Ok.ensures.cases.0 ∙ text_short c.args.line.now (omega arith) (is_utf8-from_IsUtf8 _ c.in-Ok.ensures.cases.1)
+returns-in-Ok c = ap Some c.in-Ok.ensures.cases.0
+    ∙ text_short c.args.line.now (omega arith) (is_utf8-from_IsUtf8 _ c.in-Ok.ensures.cases.1)
 
 pub returns-in-Err : goal.returns-in-Err
 returns-in-Err c =

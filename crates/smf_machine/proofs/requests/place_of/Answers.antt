@@ -9,5 +9,7 @@ use Rattle.smf_machine.proofs.requests.place_of.Goals as goal
 pub returns : goal.returns
 returns c =
     let facts = c.binary_search_by.ensures in
-    let compared = facts.position (λ known. nat_cmp known.instance c.args.instance) (always_returns_same _ _ _ (λ a r f' called. search rules)) in
+    let compared =
+    facts.position (λ known. nat_cmp known.instance c.args.instance)
+    (always_returns_same _ _ _ (λ a r f' called. search rules)) in
     search_is_placed by_instance c.args.instance _ c.requires _ facts.bound compared

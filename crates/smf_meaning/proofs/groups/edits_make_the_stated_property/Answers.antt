@@ -1,4 +1,4 @@
-use Rattle.smf_meaning.proofs.Editing.{is_added, is_deleted, is_less, is_set}
+use Rattle.smf_meaning.proofs.Edits.{is_added, is_deleted, is_less, is_set}
 use Rattle.smf_meaning.proofs.groups.edits_make_the_stated_property.Goals as goal
 
 pub returns-clause-set : goal.returns-clause-set

@@ -1,4 +1,4 @@
-use Rattle.smf_meaning.proofs.Ignoring.{reads, said}
+use Rattle.smf_meaning.proofs.Failures.{reads, said}
 use Rattle.smf_meaning.proofs.methods.ignored_failures_are_words.Goals as goal
 
 pub returns-clause-said : goal.returns-clause-said

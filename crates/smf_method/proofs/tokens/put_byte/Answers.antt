@@ -8,7 +8,8 @@ returns-then-is_behind_percent c =
     let names = names_of c.args.restarter.now c.args.method c.args.instance.now in
     let old = string_bytes c.args.text.now in
     rw c.if-is_behind_percent.true
-    (puts_token names c.args.b old (string_bytes c.push_str.new.self) (c.in_ok-push_str.ensures.bytes ∙ ap (λ (l : List ℕ). old ++ l) c.token_text.ensures))
+    (puts_token names c.args.b old (string_bytes c.push_str.new.self)
+    (c.in_ok-push_str.ensures.bytes ∙ ap (λ (l : List ℕ). old ++ l) c.token_text.ensures))
 
 pub returns : goal.returns
 returns c =
@@ -18,4 +19,5 @@ returns c =
     let low : c.from.result < 128 = omega arith in
     rw c.if-is_behind_percent.false
     (puts_bare names c.args.b old (string_bytes c.push.new.self) (ne_eqb c.args.b 37 c.if-b-eq37.false)
-    (c.in_ok-push.ensures.bytes ∙ ap (λ (l : List ℕ). old ++ l) (c.in_ok-push.ensures.ascii low ∙ ap (λ (k : ℕ). k ∷ []) same)))
+    (c.in_ok-push.ensures.bytes
+    ∙ ap (λ (l : List ℕ). old ++ l) (c.in_ok-push.ensures.ascii low ∙ ap (λ (k : ℕ). k ∷ []) same)))

@@ -1,4 +1,4 @@
-use Rattle.smf_node.proofs.Giving.{later_edited}
+use Rattle.smf_node.proofs.Edits.{later_edited}
 use Rattle.smf_node.proofs.client.edits_are_events.Goals as goal
 
 pub returns : goal.returns

@@ -7,8 +7,10 @@ use Rattle.smf_program.proofs.task.check_in.Goals as goal
 
 pub returns-in-Some : goal.returns-in-Some
 returns-in-Some c =
-    ap (λ (database : Option (List ℕ)). option_map Check database) (c.in-Some.ensures ∙ first_value-rows (found_of c.args.found.now) (codes "DB"))
+    ap (λ (database : Option (List ℕ)). option_map Check database)
+    (c.in-Some.ensures ∙ first_value-rows (found_of c.args.found.now) (codes "DB"))
 
 pub returns-in-None : goal.returns-in-None
 returns-in-None c =
-    ap (λ (database : Option (List ℕ)). option_map Check database) (c.in-None.ensures ∙ first_value-rows (found_of c.args.found.now) (codes "DB"))
+    ap (λ (database : Option (List ℕ)). option_map Check database)
+    (c.in-None.ensures ∙ first_value-rows (found_of c.args.found.now) (codes "DB"))

@@ -8,8 +8,10 @@ use Rattle.smf_program.proofs.task.is_set.Goals as goal
 pub returns-in-Some : goal.returns-in-Some
 returns-in-Some c =
     c.eq.ensures
-    ∙ ap (λ (o : Option (List ℕ)). option_map_or (λ t. bytes_eq t (codes "true")) o false) (c.in-Some.ensures ∙ first_value-rows (found_of c.args.found.now) c.args.id.now)
+    ∙ ap (λ (o : Option (List ℕ)). option_map_or (λ t. bytes_eq t (codes "true")) o false)
+    (c.in-Some.ensures ∙ first_value-rows (found_of c.args.found.now) c.args.id.now)
 
 pub returns-in-None : goal.returns-in-None
 returns-in-None c =
-    ap (λ (o : Option (List ℕ)). option_map_or (λ t. bytes_eq t (codes "true")) o false) (c.in-None.ensures ∙ first_value-rows (found_of c.args.found.now) c.args.id.now)
+    ap (λ (o : Option (List ℕ)). option_map_or (λ t. bytes_eq t (codes "true")) o false)
+    (c.in-None.ensures ∙ first_value-rows (found_of c.args.found.now) c.args.id.now)

@@ -7,10 +7,12 @@ use Rattle.smf_program.proofs.task.why_in.Goals as goal
 
 pub returns-in-Some : goal.returns-in-Some
 returns-in-Some c =
-    ap₂ (λ (words : List (List ℕ)) (database : Option (List ℕ)). option_map (λ d. Why d words) database) c.in_ok-words.ensures
+    ap₂ (λ (words : List (List ℕ)) (database : Option (List ℕ)). option_map (λ d. Why d words) database)
+    c.in_ok-words.ensures
     (c.in-Some.ensures ∙ first_value-rows (found_of c.args.found.now) (codes "DB"))
 
 pub returns : goal.returns
 returns c =
-    ap₂ (λ (words : List (List ℕ)) (database : Option (List ℕ)). option_map (λ d. Why d words) database) c.in_ok-words.ensures
+    ap₂ (λ (words : List (List ℕ)) (database : Option (List ℕ)). option_map (λ d. Why d words) database)
+    c.in_ok-words.ensures
     (c.in-None.ensures ∙ first_value-rows (found_of c.args.found.now) (codes "DB"))

@@ -13,7 +13,8 @@ returns c =
     ∙ ap₂ with_subcommand (c.in_ok-subcommand-3.ensures.shape c.in_ok-cfg.ensures.local
     ∙ ap₂ with_subcommand (c.in_ok-subcommand-2.ensures.shape c.in_ok-run.ensures.local
     ∙ ap₂ with_subcommand (c.in_ok-subcommand.ensures.shape c.in_ok-sim.ensures.local
-    ∙ ap₂ with_subcommand c.bare_command.ensures (ap (λ (a : App). a.top) c.in_ok-sim.ensures.app)) (ap (λ (a : App). a.top) c.in_ok-run.ensures.app))
+    ∙ ap₂ with_subcommand c.bare_command.ensures (ap (λ (a : App). a.top) c.in_ok-sim.ensures.app))
+    (ap (λ (a : App). a.top) c.in_ok-run.ensures.app))
     (ap (λ (a : App). a.top) c.in_ok-cfg.ensures.app)) (ap (λ (a : App). a.top) c.in_ok-serve.ensures.app))
     (ap (λ (a : App). a.top) c.in_ok-why.ensures.app))
     (ap (λ (a : App). a.top) c.in_ok-check.ensures.app))

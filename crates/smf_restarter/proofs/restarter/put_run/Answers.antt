@@ -1,4 +1,4 @@
-use Rattle.smf_restarter.proofs.Judging.{but_run}
+use Rattle.smf_restarter.proofs.Judgments.{but_run}
 use Rattle.smf_restarter.proofs.restarter.put_run.Goals as goal
 
 pub judge-requires-clause-others : goal.judge-requires-clause-others

@@ -1,5 +1,5 @@
 use Rattle.std.proofs.Common.{refl}
-use Rattle.smf_restarter.proofs.Judging.{but_turned}
+use Rattle.smf_restarter.proofs.Judgments.{but_turned}
 use Rattle.smf_restarter.proofs.restarter.turn_in.Goals as goal
 
 pub judge-requires-clause-others : goal.judge-requires-clause-others

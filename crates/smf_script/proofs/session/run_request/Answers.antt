@@ -9,7 +9,8 @@ pub returns-in-Refuse-clause-later : goal.returns-in-Refuse-clause-later
 returns-in-Refuse-clause-later g c = later_refusing _ c.args.node.now c.refuse.new.self c.refuse.ensures
 
 pub returns-in_ok-lose-in-Lose-clause-later : goal.returns-in_ok-lose-in-Lose-clause-later
-returns-in_ok-lose-in-Lose-clause-later g c = later_losing _ c.args.node.now c.lose.new.self c.in_ok-lose-in-Lose.ensures.ok
+returns-in_ok-lose-in-Lose-clause-later g c =
+    later_losing _ c.args.node.now c.lose.new.self c.in_ok-lose-in-Lose.ensures.ok
 
 pub returns-in_ok-again-in-Again-clause-later : goal.returns-in_ok-again-in-Again-clause-later
 returns-in_ok-again-in-Again-clause-later g c =

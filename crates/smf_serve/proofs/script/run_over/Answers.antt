@@ -1,5 +1,5 @@
 use Rattle.std.proofs.Common.{refl, subst}
-use Rattle.smf_model.specs.Holdings.{Holdings}
+use Rattle.smf_model.specs.Contents.{Holdings}
 use Rattle.smf_serve.specs.Runs.IsCutOff.{unbooted}
 use Rattle.smf_serve.proofs.Ended.{are_ended, cut_off, ran_over}
 use Rattle.smf_serve.proofs.script.run_over.Goals as goal
@@ -9,26 +9,31 @@ returns-in-Err-clause-cut g c =
     unbooted c.in-Err.fault refl
     (record {
       why = c.in-Err.ensures.fault;
-      stands_so = subst (λ (h : Holdings). g.J.Journal.stands c.into_journal.result h) c.in-Err.ensures.err c.into_journal.ensures.stands;
+      stands_so = subst (λ (h : Holdings). g.J.Journal.stands c.into_journal.result h) c.in-Err.ensures.err
+          c.into_journal.ensures.stands;
       unasked = refl;
       silent = refl;
     })
 
 pub returns-clause-ran : goal.returns-clause-ran
 returns-clause-ran g c =
-    ran_over _ (g.J.Journal.stands c.into_journal-journal.result) c.args.repository.held c.in-Ok.node c.run_script-end.new.node _ _ _ _ _ _ c.run_script-end.result
+    ran_over _ (g.J.Journal.stands c.into_journal-journal.result) c.args.repository.held c.in-Ok.node
+    c.run_script-end.new.node _ _ _ _ _ _ c.run_script-end.result
     c.in-Ok.ensures.ok c.run_script-end.ensures.ran
     (are_ended c.end_all-is_listed.result _ _ _ c.end_all-is_listed.ensures.ended c.end_all-is_listed.ensures.unlisted)
     c.run_script-end.ensures.safe
-    (subst (λ (h : Holdings). g.J.Journal.stands c.into_journal-journal.result h) c.into_repository.ensures c.into_journal-journal.ensures.stands)
+    (subst (λ (h : Holdings). g.J.Journal.stands c.into_journal-journal.result h) c.into_repository.ensures
+    c.into_journal-journal.ensures.stands)
     c.run_script-end.ensures.agrees
 
 pub returns-clause-cut : goal.returns-clause-cut
 returns-clause-cut g c =
-    cut_off _ g.J.Journal.write_fails (g.J.Journal.stands c.into_journal-journal.result) g.R.LineReader.read_fails g.W.TextWriter.write_fails c.args.repository.held
+    cut_off _ g.J.Journal.write_fails (g.J.Journal.stands c.into_journal-journal.result) g.R.LineReader.read_fails
+    g.W.TextWriter.write_fails c.args.repository.held
     c.in-Ok.node c.run_script-end.new.node _ _ _ _ _ _ c.run_script-end.result c.in-Ok.ensures.ok
     c.run_script-end.ensures.err c.run_script-end.ensures.fault
     (are_ended c.end_all-is_listed.result _ _ _ c.end_all-is_listed.ensures.ended c.end_all-is_listed.ensures.unlisted)
     c.run_script-end.ensures.safe
-    (subst (λ (h : Holdings). g.J.Journal.stands c.into_journal-journal.result h) c.into_repository.ensures c.into_journal-journal.ensures.stands)
+    (subst (λ (h : Holdings). g.J.Journal.stands c.into_journal-journal.result h) c.into_repository.ensures
+    c.into_journal-journal.ensures.stands)
     c.run_script-end.ensures.dropped

@@ -13,4 +13,5 @@ returns-clause-ok g c = λ fine.
 pub returns-clause-fault : goal.returns-clause-fault
 returns-clause-fault g c = λ three.
     ended_after _ _ _ c.serve-served.result.conn c.serve-served.result.status c.close.result.files _ _
-    (λ other. c.serve-served.ensures.ok other) (λ faulted. c.serve-served.ensures.fault faulted) (c.close.ensures.fault three)
+    (λ other. c.serve-served.ensures.ok other) (λ faulted. c.serve-served.ensures.fault faulted)
+    (c.close.ensures.fault three)

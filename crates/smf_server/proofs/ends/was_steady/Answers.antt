@@ -4,5 +4,7 @@ use Rattle.smf_server.proofs.ends.was_steady.Goals as goal
 
 pub loop-place-preserved : goal.loop-place-preserved
 loop-place-preserved c =
-    steady_past c.args.trail.now c.args.instance c.args.state (c.loop-place.place - 1) c.loop-place.place c.steady_at.result _ (omega (arith, c.loop-place-test.true)) c.steady_at.ensures
+    steady_past c.args.trail.now c.args.instance c.args.state
+    (c.loop-place.place - 1) c.loop-place.place c.steady_at.result _
+    (omega (arith, c.loop-place-test.true)) c.steady_at.ensures
     c.in_default.is c.loop-place.invariant

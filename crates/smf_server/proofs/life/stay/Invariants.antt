@@ -1,4 +1,4 @@
-use Rattle.smf_edge.specs.Answers.{seen}
+use Rattle.smf_edge.specs.Answers.{children_state}
 use Rattle.smf_server.specs.Life.{AreTurns}
 use Rattle.smf_server.specs.Turns.{between, standing}
 use Rattle.smf_world.specs.Reached.{IsLater}
@@ -8,6 +8,9 @@ use Rattle.smf_server.proofs.life.stay.Given as goal
 abbrev pub invariant-loop : goal.invariant-loop
 invariant-loop g l =
     AreTurns g.K.Kids.skills (g.T.Timer.says l.timer) l.counter (g.D.Desk.passed l.fn.desk) (g.D.Desk.passed l.desk)
-    (between (standing l.fn.server.node (seen (g.K.Kids.ledger l.fn.server.kids) (g.K.Kids.failures l.fn.server.kids)) l.fn.server.busy) l.fn.server.ends)
-    (between (standing l.server.node (seen (g.K.Kids.ledger l.server.kids) (g.K.Kids.failures l.server.kids)) l.server.busy) l.server.ends)
+    (between (standing l.fn.server.node
+    (children_state (g.K.Kids.ledger l.fn.server.kids) (g.K.Kids.failures l.fn.server.kids)) l.fn.server.busy)
+    l.fn.server.ends)
+    (between (standing l.server.node
+    (children_state (g.K.Kids.ledger l.server.kids) (g.K.Kids.failures l.server.kids)) l.server.busy) l.server.ends)
     × (IsLater l.fn.server.node.world l.server.node.world × IsSafe l.server.node.world)

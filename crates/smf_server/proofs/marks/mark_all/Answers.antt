@@ -6,7 +6,8 @@ loop-number-init g c = none_marked _ _
 
 pub loop-number-preserved : goal.loop-number-preserved
 loop-number-preserved g c =
-    one_marked c.args.numbers.now c.loop-number.number-index _ _ _ _ c.loop-number-test.true c.in_ok-mark.ensures.ok c.loop-number.invariant
+    one_marked c.args.numbers.now c.loop-number.number-index _ _ _ _ c.loop-number-test.true c.in_ok-mark.ensures.ok
+    c.loop-number.invariant
 
 pub returns-in_err-mark-clause-later : goal.returns-in_err-mark-clause-later
 returns-in_err-mark-clause-later g c = marked_still _ _ _ _ _ c.loop-number.invariant c.in_err-mark.ensures.err

@@ -1,5 +1,5 @@
 use Rattle.smf_state.proofs.OwnName.{startd_is_instance}
 use Rattle.smf_state.proofs.own_name.startd.Goals as goal
 
-pub known-requires : goal.known-requires
-known-requires c = startd_is_instance
+pub from_valid_text-requires : goal.from_valid_text-requires
+from_valid_text-requires c = startd_is_instance

@@ -1,5 +1,5 @@
 use Rattle.std.proofs.Common.{sym, subst}
-use Rattle.smf_model.specs.Holdings.{Holdings}
+use Rattle.smf_model.specs.Contents.{Holdings}
 use Rattle.smf_store.specs.Opens.{IsOpenedAs}
 use Rattle.smf_store.proofs.repository.open_repository.Goals as goal
 

@@ -13,7 +13,10 @@ loop-group-preserved g c =
     record {
       same = c.insert_group.ensures.same_reference ∙ c.loop-group.invariant.same;
       inside = λ clean. (c.in_ok-insert_group.ensures.ok clean).shows.mode;
-      growing = λ clean. growing_more c.args.service.now c.args.number _ _ (take (c.loop-group.group-index + 1) c.args.groups.now) old mid new
-          (c.loop-group.invariant.growing (omega (arith, c.insert_group.ensures.crash.clean))) (grind (arith, common_steps)) (c.in_ok-insert_group.ensures.ok clean);
-      crash = survives_then old mid new _ _ (λ _. ⊥) (λ _ db none. none) (λ _ db none. none) c.loop-group.invariant.crash c.insert_group.ensures.crash;
+      growing = λ clean. growing_more c.args.service.now c.args.number _ _
+          (take (c.loop-group.group-index + 1) c.args.groups.now) old mid new
+          (c.loop-group.invariant.growing (omega (arith, c.insert_group.ensures.crash.clean)))
+          (grind (arith, common_steps)) (c.in_ok-insert_group.ensures.ok clean);
+      crash = survives_then old mid new _ _ (λ _. ⊥) (λ _ db none. none)
+          (λ _ db none. none) c.loop-group.invariant.crash c.insert_group.ensures.crash;
     }

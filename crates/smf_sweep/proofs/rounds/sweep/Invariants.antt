@@ -1,4 +1,4 @@
-use Rattle.smf_sweep.specs.Sweeping.{Rounds}
+use Rattle.smf_sweep.specs.Sweeps.{Rounds}
 use Rattle.smf_sweep.proofs.rounds.sweep.Given as goal
 
 abbrev pub invariant-loop : goal.invariant-loop

@@ -7,8 +7,11 @@ pub returns : goal.returns
 unfolding digits
 returns c = (
   λ _.
-      five_are c.args.indexes.now c.a-item.result c.b-item.result c.c-item.result c.d-item.result c.e-item.result (omega arith) (omega arith) c.a-item.is c.b-item.is c.c-item.is c.d-item.is c.e-item.is
-      ∙ λ j. c.if-not-is_index.ensures.0 refl j ∷ c.if-not-is_index-2.ensures.0 refl j ∷ c.if-not-is_index-3.ensures.0 refl j ∷ c.if-not-is_index-4.ensures.0 refl j ∷ c.if-not-is_index-5.ensures.0 refl j ∷ [],
+      five_are c.args.indexes.now c.a-item.result c.b-item.result c.c-item.result c.d-item.result c.e-item.result
+      (omega arith) (omega arith) c.a-item.is c.b-item.is c.c-item.is c.d-item.is c.e-item.is
+      ∙ λ j. c.if-not-is_index.ensures.0 refl j ∷ c.if-not-is_index-2.ensures.0 refl j
+      ∷ c.if-not-is_index-3.ensures.0 refl j ∷ c.if-not-is_index-4.ensures.0 refl j
+      ∷ c.if-not-is_index-5.ensures.0 refl j ∷ [],
   λ _. refl,
 )
 

@@ -6,6 +6,7 @@ pub returns : goal.returns
 returns c = (
   λ _.
       let same : c.as_slice.result.now ≡ c.args.unique.now = search rules in
-      single_is c.args.uniques.now c.only-item.result c.args.unique.now (omega arith) (omega arith) (sym c.only-item.is ∙ sym c.as_slice.ensures ∙ same),
+      single_is c.args.uniques.now c.only-item.result c.args.unique.now (omega arith) (omega arith)
+      (sym c.only-item.is ∙ sym c.as_slice.ensures ∙ same),
   λ _. refl,
 )

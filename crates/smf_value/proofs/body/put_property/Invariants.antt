@@ -6,6 +6,7 @@ use Rattle.smf_value.proofs.body.put_property.Given as goal
 
 abbrev pub invariant-loop-value : goal.invariant-loop-value
 invariant-loop-value l = record {
-  put : l.out.items ++ flat_map spelled_value (drop l.value-index l.value-items) ≡ l.fn.out.items ++ spelled_property l.property;
+  put : l.out.items ++ flat_map spelled_value (drop l.value-index l.value-items)
+      ≡ l.fn.out.items ++ spelled_property l.property;
   formed : AllByRecursion IsValue (take l.value-index l.value-items);
 }

@@ -3,8 +3,8 @@ use Rattle.std.specs.Option.{option_copied}
 use Rattle.smf_value.proofs.Limits.{is_found, over_by, room}
 use Rattle.smf_value.proofs.group.is_one_too_many.Goals as goal
 
-pub returns-then-as_slice-lt-MAX_PROPERTIES : goal.returns-then-as_slice-lt-MAX_PROPERTIES
-returns-then-as_slice-lt-MAX_PROPERTIES c =
+pub returns-then-as_slice-lt-MAX_PARTS : goal.returns-then-as_slice-lt-MAX_PARTS
+returns-then-as_slice-lt-MAX_PARTS c =
     room c.args.property.now c.args.properties.now (omega (arith, ap length c.as_slice.ensures.all))
 
 pub returns : goal.returns

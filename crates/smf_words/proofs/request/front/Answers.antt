@@ -3,7 +3,8 @@ use Rattle.smf_words.proofs.Fronts.{front_all, front_more}
 use Rattle.smf_words.proofs.request.front.Goals as goal
 
 pub loop-behind-preserved : goal.loop-behind-preserved
-loop-behind-preserved c = record { text = search rules; same = sym (front_more _ _ c.in-Some.ensures).0 ∙ c.loop-behind.invariant.same }
+loop-behind-preserved c =
+    record { text = search rules; same = sym (front_more _ _ c.in-Some.ensures).0 ∙ c.loop-behind.invariant.same }
 
 pub loop-behind-smaller : goal.loop-behind-smaller
 loop-behind-smaller c = (front_more _ _ c.in-Some.ensures).1

@@ -4,4 +4,5 @@ use Rattle.smf_words.specs.Text.{item_text}
 use Rattle.smf_words.proofs.text.put_items.Given as goal
 
 abbrev pub invariant-loop-item : goal.invariant-loop-item
-invariant-loop-item l = string_bytes l.out ++ flat_map item_text (drop l.item-index l.items) ≡ string_bytes l.fn.out ++ flat_map item_text l.items
+invariant-loop-item l = string_bytes l.out ++ flat_map item_text (drop l.item-index l.items)
+    ≡ string_bytes l.fn.out ++ flat_map item_text l.items

@@ -1,4 +1,4 @@
-use Rattle.smf_world.proofs.Reaching.{reached_later}
+use Rattle.smf_world.proofs.LaterWorlds.{reached_later}
 use Rattle.smf_world.proofs.Safely.{reached_safe, run_safe}
 use Rattle.smf_world.proofs.law.whatever_happens_is_safe.Goals as goal
 

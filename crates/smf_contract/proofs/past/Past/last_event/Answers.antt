@@ -5,5 +5,6 @@ use Rattle.smf_contract.proofs.past.Past.last_event.Goals as goal
 
 pub returns-clause-bound : goal.returns-clause-bound
 returns-clause-bound c =
-    let low : last_event c.get.result c.args.self.now.events ≤ length c.args.self.now.events = count_by-le-length (is_event_of c.get.result) c.args.self.now.events in
+    let low : last_event c.get.result c.args.self.now.events ≤ length c.args.self.now.events =
+    count_by-le-length (is_event_of c.get.result) c.args.self.now.events in
     omega (arith, low, c.last-last.ensures.count, c.count-count.ensures.exact, c.count-count.ensures.bound)

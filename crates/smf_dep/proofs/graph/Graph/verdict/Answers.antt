@@ -9,5 +9,6 @@ returns c =
     let d = c.args.dependency.now in
     let inside = c.self.inside in
     c.verdict_by.ensures ∙ (λ i. verdict_by (c.is_met-met.ensures i) (c.is_blocked-blocked.ensures i))
-    ∙ verdict_is inside.members.items inside.kept d c.in_ok-link.link c.self.invariant.linked (c.in_ok-link.ensures ∙ ap (λ ms. link_of ms d) (c.in_ok-names.ensures ∙ c.as_slice.ensures.value))
+    ∙ verdict_is inside.members.items inside.kept d c.in_ok-link.link c.self.invariant.linked
+    (c.in_ok-link.ensures ∙ ap (λ ms. link_of ms d) (c.in_ok-names.ensures ∙ c.as_slice.ensures.value))
     ∙ ap (λ ms. verdict ms d) c.self.view_is

@@ -7,4 +7,5 @@ pub returns-then-has_state_of : goal.returns-then-has_state_of
 returns-then-has_state_of c = λ e.
     sym c.self.view_is
     ∙ of_state c.args.item.now c.self.inside.member (subst (IsOfItem c.args.item.now) (sym c.self.view_is) c.requires)
-    (c.has_state_of.ensures c.if-has_state_of.true) (subst (λ r. HasNumbersOf r c.self.inside.member) c.deref.ensures (c.has_numbers_of.ensures e))
+    (c.has_state_of.ensures c.if-has_state_of.true)
+    (subst (λ r. HasNumbersOf r c.self.inside.member) c.deref.ensures (c.has_numbers_of.ensures e))

@@ -1,8 +1,9 @@
 use Rattle.std.proofs.Common.{rules}
 use Rattle.smf_edge.specs.Books.{ledger_of}
-use Rattle.smf_edge.specs.Running.{contracts}
+use Rattle.smf_edge.specs.Processes.{contracts}
 use Rattle.smf_edge.proofs.Manned.{kept_empty}
 use Rattle.smf_edge.proofs.os_kids.OsKids.new.Goals as goal
 
 pub invariant_of-result : goal.invariant_of-result
-invariant_of-result g c = kept_empty (ledger_of c.new.result) (contracts c.new-2.result.items) c.new.ensures (search rules)
+invariant_of-result g c =
+    kept_empty (ledger_of c.new.result) (contracts c.new-2.result.items) c.new.ensures (search rules)

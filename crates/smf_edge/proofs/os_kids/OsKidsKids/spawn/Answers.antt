@@ -1,8 +1,8 @@
 use Rattle.std.proofs.Common.{rules, ◌≡◌, [], ◌∷◌, ◌++◌, ap, refl, sym, ◌∙◌}
 use Rattle.smf_edge.specs.Books.{ledger_of}
-use Rattle.smf_edge.specs.Running.{contracts}
+use Rattle.smf_edge.specs.Processes.{contracts}
 use Rattle.smf_edge.proofs.Manned.{manned_along, manned_spawned}
-use Rattle.smf_edge.proofs.Seeing.{kid_is, more_contracts}
+use Rattle.smf_edge.proofs.Places.{kid_is, more_contracts}
 use Rattle.smf_edge.proofs.os_kids.OsKidsKids.spawn.Goals as goal
 
 pub returns-clause-started : goal.returns-clause-started
@@ -11,7 +11,16 @@ returns-clause-started g c =
     let items : c.push.new.self.items ≡ c.self.inside.children.items ++ c.in_ok-kid.kid ∷ [] = search rules in
     record {
       program = c.in_ok-program.program;
-      run = record { clears = run.clears; program = run.program; args = run.args; path = run.path; fmri = run.fmri; method = run.method; restarter = run.restarter; alone = run.alone };
+      run = record {
+        clears = run.clears;
+        program = run.program;
+        args = run.args;
+        path = run.path;
+        fmri = run.fmri;
+        method = run.method;
+        restarter = run.restarter;
+        alone = run.alone;
+      };
       child = c.in_ok-kid.kid.child;
       of = c.in_ok-kid.ensures.of;
       group = c.in_ok-kid.kid.group;
@@ -19,16 +28,20 @@ returns-clause-started g c =
       is =
           items
           ∙ ap (λ h. h.2 ++ c.in_ok-kid.kid ∷ []) c.self.view_is
-          ∙ ap (λ kid. c.args.self.now.2 ++ kid ∷ []) (kid_is c.in_ok-kid.kid c.args.id c.args.style c.in_ok-kid.ensures.contract c.in_ok-kid.ensures.style);
+          ∙ ap (λ kid. c.args.self.now.2 ++ kid ∷ [])
+          (kid_is c.in_ok-kid.kid c.args.id c.args.style c.in_ok-kid.ensures.contract c.in_ok-kid.ensures.style);
     }
 
 pub invariant_of-self-2 : goal.invariant_of-self-2
 invariant_of-self-2 g c =
     let items : c.push.new.self.items ≡ c.self.inside.children.items ++ c.in_ok-kid.kid ∷ [] = search rules in
-    let before = manned_along _ (ledger_of c.prepare.new.self) _ _ (sym c.prepare.ensures.same) refl c.self.invariant.manned in
-    let after = manned_spawned _ (ledger_of c.prepare.new.self) (ledger_of c.make.new.self) (contracts c.self.inside.children.items) before c.make.ensures.made in
+    let before = manned_along _ (ledger_of c.prepare.new.self) _ _
+    (sym c.prepare.ensures.same) refl c.self.invariant.manned in
+    let after = manned_spawned _ (ledger_of c.prepare.new.self) (ledger_of c.make.new.self)
+    (contracts c.self.inside.children.items) before c.make.ensures.made in
     let more = more_contracts c.self.inside.children.items c.push.new.self.items c.in_ok-kid.kid items in
     record {
       sound = c.make.ensures.sound;
-      manned = manned_along _ _ _ _ refl (sym (more ∙ ap (λ n. contracts c.self.inside.children.items ++ n ∷ []) c.in_ok-kid.ensures.contract)) after;
+      manned = manned_along _ _ _ _ refl
+          (sym (more ∙ ap (λ n. contracts c.self.inside.children.items ++ n ∷ []) c.in_ok-kid.ensures.contract)) after;
     }

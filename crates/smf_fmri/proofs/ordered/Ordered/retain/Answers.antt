@@ -1,4 +1,4 @@
-use Rattle.smf_fmri.proofs.Rising.{rises_kept}
+use Rattle.smf_fmri.proofs.KeyOrder.{rises_kept}
 use Rattle.smf_fmri.proofs.ordered.Ordered.retain.Goals as goal
 
 pub invariant_of-self : goal.invariant_of-self

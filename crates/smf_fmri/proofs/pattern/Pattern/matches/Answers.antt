@@ -1,4 +1,4 @@
-use Rattle.smf_fmri.proofs.Matching.{matches_decides}
+use Rattle.smf_fmri.proofs.Patterns.{matches_decides}
 use Rattle.smf_fmri.proofs.Whole.{read_is_pattern}
 use Rattle.smf_fmri.proofs.pattern.Pattern.matches.Goals as goal
 

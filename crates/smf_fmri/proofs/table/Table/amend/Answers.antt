@@ -1,4 +1,4 @@
-use Rattle.smf_fmri.proofs.Rising.{rises_amend}
+use Rattle.smf_fmri.proofs.KeyOrder.{rises_amend}
 use Rattle.smf_fmri.proofs.table.Table.amend.Goals as goal
 
 -- a part leaves the keys

@@ -1,8 +1,8 @@
 use Rattle.std.proofs.Common.{rules, ◌≡◌, [], ◌∷◌, ◌++◌, ap, refl, sym, ◌∙◌}
 use Rattle.smf_follow.specs.Books.{ledger_of}
 use Rattle.smf_follow.specs.Phases.{posts}
-use Rattle.smf_follow.proofs.Following.{followed_along, followed_spawned}
-use Rattle.smf_follow.proofs.Starting.{kid_is, more_posts}
+use Rattle.smf_follow.proofs.Preservation.{followed_along, followed_spawned}
+use Rattle.smf_follow.proofs.Starts.{kid_is, more_posts}
 use Rattle.smf_follow.proofs.followed.FollowedKidsKids.spawn.Goals as goal
 
 pub returns-clause-started : goal.returns-clause-started
@@ -14,15 +14,19 @@ returns-clause-started g c =
       is =
           items
           ∙ ap (λ h. h.2 ++ c.in_ok-kid.kid ∷ []) c.self.view_is
-          ∙ ap (λ kid. c.args.self.now.2 ++ kid ∷ []) (kid_is c.in_ok-kid.kid c.args.id c.in_ok-kid.ensures.contract c.in_ok-kid.ensures.phase);
+          ∙ ap (λ kid. c.args.self.now.2 ++ kid ∷ [])
+          (kid_is c.in_ok-kid.kid c.args.id c.in_ok-kid.ensures.contract c.in_ok-kid.ensures.phase);
     }
 
 pub invariant_of-self-2 : goal.invariant_of-self-2
 invariant_of-self-2 g c =
     let items : c.push.new.self.items ≡ c.self.inside.kids.items ++ c.in_ok-kid.kid ∷ [] = search rules in
-    let before = followed_along _ (ledger_of c.prepare.new.self) _ _ (sym c.prepare.ensures.same) refl c.self.invariant.followed in
-    let more = more_posts c.self.inside.kids.items c.push.new.self.items c.in_ok-kid.kid c.args.id items c.in_ok-kid.ensures.contract c.in_ok-kid.ensures.phase in
+    let before = followed_along _ (ledger_of c.prepare.new.self) _ _
+    (sym c.prepare.ensures.same) refl c.self.invariant.followed in
+    let more = more_posts c.self.inside.kids.items c.push.new.self.items c.in_ok-kid.kid c.args.id items
+    c.in_ok-kid.ensures.contract c.in_ok-kid.ensures.phase in
     record {
       sound = c.make.ensures.sound;
-      followed = followed_spawned _ (ledger_of c.prepare.new.self) (ledger_of c.make.new.self) (posts c.self.inside.kids.items) _ before c.make.ensures.made more;
+      followed = followed_spawned _ (ledger_of c.prepare.new.self) (ledger_of c.make.new.self)
+          (posts c.self.inside.kids.items) _ before c.make.ensures.made more;
     }

@@ -7,5 +7,7 @@ use Rattle.smf_machine.proofs.parts.System.has_no_orders.Goals as goal
 pub returns-clause-nothing : goal.returns-clause-nothing
 unfolding world_of
 returns-clause-nothing g c =
-    nothing_ahead c.args.self.now c.self.inside.parts.engine c.in-Some.from c.in-Some-2.to c.in-Some-2.items c.as_slice.result.now c.would_order_nothing.result c.requires
-    (ap (λ (w : World). w.seen) c.self.view_is) (sym c.revision.ensures ∙ c.in-Some.is) (sym c.in_ok-to.ensures ∙ c.in-Some-2.is) c.as_slice.ensures c.would_order_nothing.ensures.nothing
+    nothing_ahead c.args.self.now c.self.inside.parts.engine c.in-Some.from c.in-Some-2.to c.in-Some-2.items
+    c.as_slice.result.now c.would_order_nothing.result c.requires
+    (ap (λ (w : World). w.seen) c.self.view_is) (sym c.revision.ensures ∙ c.in-Some.is)
+    (sym c.in_ok-to.ensures ∙ c.in-Some-2.is) c.as_slice.ensures c.would_order_nothing.ensures.nothing

@@ -1,4 +1,4 @@
-use Rattle.smf_machine.proofs.Booting.{installs_worked}
+use Rattle.smf_machine.proofs.Boots.{installs_worked}
 use Rattle.smf_machine.proofs.parts.System.make.Goals as goal
 
 pub take-requires : goal.take-requires

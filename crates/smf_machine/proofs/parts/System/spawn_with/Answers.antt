@@ -15,5 +15,6 @@ spawn_with-requires-clause-single g c = λ any. record {
 
 pub invariant_of-self : goal.invariant_of-self
 invariant_of-self g c =
-    linked_turned c.self.inside.repository.held c.self.inside.repository.recent c.self.inside.parts c.spawn_with.new.parts c.spawn_with.result (work_with c.args.works) c.self.invariant c.requires.command
+    linked_turned c.self.inside.repository.held c.self.inside.repository.recent c.self.inside.parts
+    c.spawn_with.new.parts c.spawn_with.result (work_with c.args.works) c.self.invariant c.requires.command
     (c.spawn_with.ensures.made c.self.inside.repository.held) (c.spawn_with.ensures.err c.self.inside.repository.held)

@@ -10,28 +10,41 @@ returns-then-not-is_there c =
     let h = c.args.self.now in
     let owner = c.args.owner.now in
     let name = c.args.name.now in
-    rw (absent_refused h (if_general owner name) owner name (changed_group h owner c.args.change.now (group h owner name)) (sym c.is_there.ensures ∙ c.if-not-is_there.true)) at c.refused.ensures
+    rw (absent_refused h (if_general owner name) owner name
+    (changed_group h owner c.args.change.now (group h owner name))
+    (sym c.is_there.ensures ∙ c.if-not-is_there.true)) at c.refusal_with.ensures
 
 pub returns-then-is_made : goal.returns-then-is_made
 returns-then-is_made c =
     let h = c.args.self.now in
     let owner = c.args.owner.now in
     let name = c.args.name.now in
-    rw (made_refused h (if_general owner name) owner name (changed_group h owner c.args.change.now (group h owner name)) (sym c.is_there.ensures ∙ c.if-not-is_there.false) (sym c.is_made.ensures ∙ c.if-is_made.true)) at c.refused-then-is_made.ensures
+    rw (made_refused h (if_general owner name) owner name
+    (changed_group h owner c.args.change.now (group h owner name))
+    (sym c.is_there.ensures ∙ c.if-not-is_there.false) (sym c.is_made.ensures ∙ c.if-is_made.true)) at
+    c.refusal_with-then-is_made.ensures
 
 pub returns-in_default : goal.returns-in_default
 returns-in_default c =
     let h = c.args.self.now in
     let owner = c.args.owner.now in
     let name = c.args.name.now in
-    let none : group h owner name ≡ None = ap (group h owner) (sym c.as_str.ensures.value) ∙ (sym c.group_of.ensures ∙ ap option_copied c.in_default.is) in
-    rw (group_absent h owner name (if_general owner name) (changed_group h owner c.args.change.now) (group h owner name) (sym c.is_there.ensures ∙ c.if-not-is_there.false) (sym c.is_made.ensures ∙ c.if-is_made.false) refl none) at c.refused-in_default.ensures
+    let none : group h owner name ≡ None = ap (group h owner) (sym c.as_str.ensures.value)
+    ∙ (sym c.group_of.ensures ∙ ap option_copied c.in_default.is) in
+    rw (group_absent h owner name (if_general owner name) (changed_group h owner c.args.change.now)
+    (group h owner name) (sym c.is_there.ensures ∙ c.if-not-is_there.false)
+    (sym c.is_made.ensures ∙ c.if-is_made.false) refl none) at c.refusal_with-in_default.ensures
 
 pub returns-in_ok-fault-in-Err : goal.returns-in_ok-fault-in-Err
 returns-in_ok-fault-in-Err c =
     let h = c.args.self.now in
     let owner = c.args.owner.now in
     let name = c.args.name.now in
-    let there : group h owner name ≡ Some c.in_ok-clone.field-0 = ap (group h owner) (sym c.as_str.ensures.value) ∙ (sym c.group_of.ensures ∙ (ap option_copied c.in-Some.is ∙ ap Some (sym c.in_ok-clone.ensures.cases))) in
-    let told : property_changed c.args.change.now c.in_ok-clone.field-0 ≡ Err c.in_ok-fault-in-Err.fault = told_fault c.in_ok-fault-in-Err.fault c.in-Err.fault _ c.in-Err.ensures c.in_ok-fault-in-Err.ensures in
-    rw (change_denied h owner name (if_general owner name) c.args.change.now c.in_ok-clone.field-0 c.in_ok-fault-in-Err.fault (sym c.is_there.ensures ∙ c.if-not-is_there.false) (sym c.is_made.ensures ∙ c.if-is_made.false) there told) at c.refused-in-Err.ensures
+    let there : group h owner name ≡ Some c.in_ok-clone.field-0 =
+    ap (group h owner) (sym c.as_str.ensures.value)
+    ∙ (sym c.group_of.ensures ∙ (ap option_copied c.in-Some.is ∙ ap Some (sym c.in_ok-clone.ensures.cases))) in
+    let told : property_changed c.args.change.now c.in_ok-clone.field-0 ≡ Err c.in_ok-fault-in-Err.fault =
+    told_fault c.in_ok-fault-in-Err.fault c.in-Err.fault _ c.in-Err.ensures c.in_ok-fault-in-Err.ensures in
+    rw (change_denied h owner name (if_general owner name) c.args.change.now c.in_ok-clone.field-0
+    c.in_ok-fault-in-Err.fault (sym c.is_there.ensures ∙ c.if-not-is_there.false)
+    (sym c.is_made.ensures ∙ c.if-is_made.false) there told) at c.refusal_with-in-Err.ensures

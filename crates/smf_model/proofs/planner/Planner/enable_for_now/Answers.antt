@@ -1,6 +1,6 @@
 use Rattle.std.proofs.Common.{◌≡◌, true, ◌∙◌, ap}
 use Rattle.smf_model.specs.Next.{group_or_new}
-use Rattle.smf_model.specs.Setting.{general_ovr}
+use Rattle.smf_model.specs.GeneralGroup.{general_ovr}
 use Rattle.smf_model.proofs.planner.Planner.enable_for_now.Goals as goal
 
 pub returns : goal.returns

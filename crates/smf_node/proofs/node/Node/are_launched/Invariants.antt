@@ -4,4 +4,5 @@ use Rattle.smf_world.specs.Worked.{is_launched}
 use Rattle.smf_node.proofs.node.Node.are_launched.Given as goal
 
 abbrev pub invariant-loop-name : goal.invariant-loop-name
-invariant-loop-name g l = list_all (is_launched l.self.world) (drop l.name-index l.names) ≡ list_all (is_launched l.self.world) l.names
+invariant-loop-name g l = list_all (is_launched l.self.world) (drop l.name-index l.names)
+    ≡ list_all (is_launched l.self.world) l.names

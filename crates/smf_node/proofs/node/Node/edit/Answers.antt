@@ -1,4 +1,4 @@
-use Rattle.smf_node.proofs.Marking.{no_reply, the_reply}
+use Rattle.smf_node.proofs.EventMarks.{no_reply, the_reply}
 use Rattle.smf_node.proofs.node.Node.edit.Goals as goal
 
 pub unreachable-requires : goal.unreachable-requires

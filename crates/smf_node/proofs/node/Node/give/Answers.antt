@@ -1,4 +1,4 @@
-use Rattle.smf_node.proofs.Giving.{edit_exact}
+use Rattle.smf_node.proofs.Edits.{edit_exact}
 use Rattle.smf_node.proofs.node.Node.give.Goals as goal
 
 pub returns-in-Ok-clause-exact : goal.returns-in-Ok-clause-exact

@@ -1,4 +1,4 @@
-use Rattle.smf_node.proofs.Marking.{actor_is}
+use Rattle.smf_node.proofs.EventMarks.{actor_is}
 use Rattle.smf_node.proofs.node.Node.is_actor.Goals as goal
 
 pub returns : goal.returns

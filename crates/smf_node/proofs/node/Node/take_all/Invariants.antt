@@ -1,5 +1,5 @@
 use Rattle.std.specs.Vec.Iter.{into_iter_items}
-use Rattle.smf_node.proofs.Running.{RanTo}
+use Rattle.smf_node.proofs.Runs.{RanTo}
 use Rattle.smf_node.proofs.node.Node.take_all.Given as goal
 
 abbrev pub invariant-loop-event : goal.invariant-loop-event

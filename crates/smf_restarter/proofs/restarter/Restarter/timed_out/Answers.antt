@@ -1,8 +1,8 @@
 use Rattle.std.proofs.Common.{sym, subst}
-use Rattle.smf_restarter.specs.declared.reply.Change.{Change}
+use Rattle.smf_restarter.specs.declared.reply.KnowledgeChange.{KnowledgeChange}
 use Rattle.smf_restarter.specs.Room.{HasPlace}
 use Rattle.smf_restarter.proofs.Rooms.{timed_out_place}
 use Rattle.smf_restarter.proofs.restarter.Restarter.timed_out.Goals as goal
 
 pub returns-clause-room : goal.returns-clause-room
-returns-clause-room c = subst (λ (x : Change). HasPlace x 0 1) (sym c.timed_out.ensures) (timed_out_place _ _)
+returns-clause-room c = subst (λ (x : KnowledgeChange). HasPlace x 0 1) (sym c.timed_out.ensures) (timed_out_place _ _)

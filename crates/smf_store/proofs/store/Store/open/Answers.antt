@@ -13,18 +13,22 @@ returns-in-Ok-read_store-clause-crash g c =
 
 pub returns-in-Err-read_store-clause-crash_err : goal.returns-in-Err-read_store-clause-crash_err
 returns-in-Err-read_store-clause-crash_err g c =
-    leaves_failing c.in-Err-read_store.fault (state g.S.Store c.args.conn) (state g.S.Store c.read_store.new.conn) c.in-Err-read_store.ensures.crash_err
+    leaves_failing c.in-Err-read_store.fault (state g.S.Store c.args.conn)
+    (state g.S.Store c.read_store.new.conn) c.in-Err-read_store.ensures.crash_err
 
 pub returns-in-Err-read_store-clause-opens_again : goal.returns-in-Err-read_store-clause-opens_again
 returns-in-Err-read_store-clause-opens_again g c = λ clean h stands consistent.
-    refused_alone (state g.S.Store c.args.conn).now c.in-Err-read_store.fault h stands consistent (c.in-Err-read_store.ensures.refused clean)
+    refused_alone (state g.S.Store c.args.conn).now c.in-Err-read_store.fault h stands consistent
+    (c.in-Err-read_store.ensures.refused clean)
 
 pub returns-in-Err-clause-opens_again : goal.returns-in-Err-clause-opens_again
-returns-in-Err-clause-opens_again g c = λ clean h stands consistent. failed_alone c.in-Err.fault c.from.result c.from.ensures
+returns-in-Err-clause-opens_again g c =
+    λ clean h stands consistent. failed_alone c.in-Err.fault c.from.result c.from.ensures
 
 pub returns-in-Ok-clause-consistent : goal.returns-in-Ok-clause-consistent
 returns-in-Ok-clause-consistent g c = λ clean unlaunched. subst IsConsistent (sym c.new.ensures) consistent_first
 
 pub returns-in-Ok-read_store-clause-consistent : goal.returns-in-Ok-read_store-clause-consistent
 returns-in-Ok-read_store-clause-consistent g c = λ clean unlaunched.
-    consistent_read (state g.S.Store c.args.conn).now.trees c.in-Ok-read_store.tables (c.in-Ok-read_store.ensures.ok clean).says unlaunched
+    consistent_read (state g.S.Store c.args.conn).now.trees c.in-Ok-read_store.tables
+    (c.in-Ok-read_store.ensures.ok clean).says unlaunched

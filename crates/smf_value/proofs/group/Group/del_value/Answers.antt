@@ -10,7 +10,8 @@ unfolding del_value
 returns-in_err-property c =
     let p = err_from_is_err_and c.from_residual.result c.from_residual.ensures.1 in
     let made = present_less c.args.text.now (property_of c.args.name.now c.args.self.now) in
-    let h : Fails c.in_err-property.field-0.0 made = rw (c.find.ensures, c.as_str.ensures.value) at c.in_err-property.ensures in
+    let h : Fails c.in_err-property.field-0.0 made =
+    rw (c.find.ensures, c.as_str.ensures.value) at c.in_err-property.ensures in
     rw (p.1, p.2) (fails_bind c.in_err-property.field-0.0 made (λ q. put_property q c.args.self.now) h, refl)
 
 pub returns : goal.returns
@@ -18,4 +19,5 @@ unfolding del_value
 returns c =
     let made = present_less c.args.text.now (property_of c.args.name.now c.args.self.now) in
     let h = rw (c.find.ensures, c.as_str.ensures.value) at c.in_ok-property.ensures in
-    leaves_bind c.put.result made c.in_ok-property.property (λ q. put_property q c.args.self.now) c.args.self.now c.put.new.self h c.put.ensures
+    leaves_bind c.put.result made c.in_ok-property.property
+    (λ q. put_property q c.args.self.now) c.args.self.now c.put.new.self h c.put.ensures

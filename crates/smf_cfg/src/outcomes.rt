@@ -1,0 +1,93 @@
+ghost use Rattle.std.specs.Prelude.{◌≡◌, ◌≢◌, ◌++◌, ◌∷◌, [], IfErr, IfSome, OnOk};
+ghost use Rattle.std.specs.Io.KnownBytes.{Appends};
+ghost use Rattle.smf_cfg.specs.Runs.{Ends, start_place, run};
+ghost use Rattle.smf_cfg.specs.Outcomes.{IsFaulted, IsTold, fault_text, read_text, repo_text};
+ghost use Rattle.smf_lines.specs.Lines.{lines_of};
+ghost use Rattle.smf_repo.specs.Clients.{IsEditedAlone};
+
+use crate::fault::RunFault;
+use crate::run::run_cfg;
+use smf_lines::{LineReader, ReadFault, TextWriter};
+use smf_model::RepoFault;
+use smf_repo::Client;
+use std::alloc::Global;
+use std::io;
+
+/// The status of a run that was ended by a fault.
+const FAULT: u8 = 3;
+
+/// The message if lines could not be read.
+pub fn read_text(fault: &ReadFault) -> &'static str
+    ensures { result.now ≡ read_text fault.now }
+{
+    match fault {
+        ReadFault::Memory => "smf: no memory",
+        ReadFault::Input(_) => "smf: input failed",
+        ReadFault::TooManyLines(_) => "smf: too many lines",
+    }
+}
+
+fn repo_text(fault: RepoFault) -> &'static str
+    ensures { result.now ≡ repo_text fault }
+{
+    match fault {
+        RepoFault::Memory => "smf: no memory",
+        RepoFault::Database => "smf: store: database failed",
+    }
+}
+
+fn fault_text(fault: &RunFault) -> &'static str
+    ensures { result.now ≡ fault_text fault.now }
+{
+    match fault {
+        RunFault::Lines(fault) => read_text(fault),
+        RunFault::Repo(fault) => repo_text(*fault),
+        RunFault::Output(_) => "smf: output failed",
+        RunFault::Errors(_) => "smf: output failed",
+    }
+}
+
+/// Writes a line.
+fn say<E: TextWriter>(errors: &mut E, text: &str) -> io::Result<()>
+    ensures ok { OnOk result (Appends (E.contents errors.old) (E.contents errors.new) (text.now ++ 10 ∷ [])) }
+    ensures fault { IfErr result (λ e. E.write_fails e) }
+{
+    errors.write_text(text.as_bytes())?;
+    errors.write_text(b"\n")
+}
+
+/// Says why a run was ended, as far as that can be written, and gives the status of such a run.
+pub fn tell<E: TextWriter>(errors: &mut E, text: &str) -> u8
+    ensures status { result ≡ 3 }
+    ensures told { IsTold E.write_fails (E.contents errors.old) (E.contents errors.new) text.now }
+{
+    match say(errors, text) {
+        Ok(()) => FAULT,
+        Err(_) => FAULT,
+    }
+}
+
+/// Does lines of svccfg, and says why if a fault ended the run. Gives the status: 0, 1 if a line failed, or 3 for a
+/// fault.
+pub fn serve_cfg<R: LineReader, W: TextWriter, E: TextWriter, C: Client>(
+    alloc: Global,
+    reader: &mut R,
+    out: &mut W,
+    errors: &mut E,
+    client: &mut C,
+) -> u8
+    // If no fault ended it and the bytes are known, the holdings, the written texts and the status are those of all
+    // lines.
+    ensures ok { result ≢ 3 → IfSome (R.remaining reader.old) (λ input.
+        Ends (run (start_place (C.held client.old)) (lines_of input)) (C.held client.new) (W.contents out.old) (W.contents out.new) (E.contents errors.old) (E.contents errors.new) result) }
+    ensures fault { result ≡ 3
+        → IsFaulted R.read_fails C.edit_fails W.write_fails E.write_fails (C.held client.old) (C.held client.new)
+        (R.remaining reader.old) (W.contents out.old) (W.contents out.new) (E.contents errors.old) (E.contents errors.new) }
+    // Edits were given to the client, and nothing else was done to it.
+    ensures edits { IsEditedAlone C.held C.follows client.old client.new }
+{
+    match run_cfg(alloc, reader, out, errors, client) {
+        Ok(status) => status,
+        Err(fault) => tell(errors, fault_text(&fault)),
+    }
+}

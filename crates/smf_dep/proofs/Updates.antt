@@ -1,0 +1,499 @@
+-- Findings that stay if an instance gets another state, and all findings if instances come or go.
+use Rattle.std.proofs.Common.{◌≡◌, ℕ, zero, suc, ◌+◌, ◌<◌, ◌≤◌, List, [], ◌∷◌, ◌++◌, map, length, drop, get_or, Bool, false, ◌||◌, ◌&&◌, not, Option, Some, None, refl, sym, ap, ◌∙◌, subst, inl, inr, arith}
+use Rattle.std.specs.Prelude.{is_some, slice_get, slice_set}
+use Rattle.std.specs.List.{list_any}
+use Rattle.std.specs.Option.{option_map_or}
+use Rattle.std.proofs.Math.Path.{fun_ext}
+use Rattle.std.proofs.lemmas.Bool.{cases_eq}
+use Rattle.std.proofs.lemmas.List.{append-nil, drop_all, length-map}
+use Rattle.std.proofs.lemmas.Option.{get_or_from_slice_get, slice_get_within}
+use Rattle.smf_fmri.specs.ByKey.{BelongsAt, Rises, StandsAt, lookup, list_with_item}
+use Rattle.smf_fmri.proofs.Places.{lookup_before, put_at}
+use Rattle.smf_state.specs.declared.view.ChangedItem.{ChangedItem}
+use Rattle.smf_state.specs.declared.view.ViewItem.{ViewItem}
+use Rattle.smf_dep.specs.declared.dependency.Dependency.{Dependency}
+use Rattle.smf_dep.specs.declared.link.Flags.{Flags}
+use Rattle.smf_dep.specs.declared.link.Link.{Link}
+use Rattle.smf_dep.specs.declared.link.GraphNode.{GraphNode}
+use Rattle.smf_dep.specs.declared.member.GraphMember.{GraphMember}
+use Rattle.smf_dep.specs.Cycles.{asked_for, asks_for, cites, excludes, leads, on_cycle}
+use Rattle.smf_dep.specs.Members.{IsOfItem, by_member, member_of, wires}
+use Rattle.smf_dep.specs.Blockage.{IsOut, met_at, with_flags}
+use Rattle.smf_dep.specs.Places.{event_at, finding_of, flags_of, link_stops, links_of, node_of, nodes_of}
+use Rattle.smf_dep.specs.Stamps.{AreOut, Avoid, Reaches}
+use Rattle.smf_dep.specs.Updates.{AreAlike, IsAlike, IsAlikeAt, IsAlikeChange, OthersStay, Stays, number, number_at, number_in, with_member, with_members}
+use Rattle.smf_dep.specs.Verdicts.{all_met, any_must_stop, is_cited, stops_by}
+use Rattle.smf_dep.proofs.Alike.{Wires, alike, cited_same, links_by, name_same, needs_same, places_same, rest_same}
+use Rattle.smf_dep.proofs.ByNumber.{at_found, found_at, stands, stood}
+use Rattle.smf_dep.proofs.Found.{met_is, node_got, stops_in}
+use Rattle.smf_dep.proofs.OfItems.{same_number}
+use Rattle.smf_dep.proofs.Work.{left_at, out_left, out_right}
+
+-- ---- one member in the place of another
+
+same_some : {X : Type 0} (x y : X) → Some x ≡ Some y → x ≡ y
+same_some x y e = cc
+
+set_here : (ms : List GraphMember) (p : ℕ) (m x : GraphMember) → slice_get ms p ≡ Some m
+    → slice_get (slice_set ms p x) p ≡ Some x
+set_here [] p m x e = absurd cc
+set_here (y ∷ ms) zero m x e = refl
+set_here (y ∷ ms) (suc p) m x e = set_here ms p m x e
+
+set_other : (ms : List GraphMember) (p a : ℕ) (x : GraphMember) → (p ≡ a → ⊥)
+    → slice_get (slice_set ms p x) a ≡ slice_get ms a
+set_other [] p a x ne = refl
+set_other (y ∷ ms) zero zero x ne = absurd (ne refl)
+set_other (y ∷ ms) zero (suc a) x ne = refl
+set_other (y ∷ ms) (suc p) zero x ne = refl
+set_other (y ∷ ms) (suc p) (suc a) x ne = set_other ms p a x (λ e. ne (ap suc e))
+
+map_set : {Y : Type 0} (f : GraphMember → Y) (ms : List GraphMember) (p : ℕ) (m x : GraphMember)
+    → slice_get ms p ≡ Some m → f x ≡ f m → map f (slice_set ms p x) ≡ map f ms
+map_set f [] p m x e same = refl
+map_set f (y ∷ ms) zero m x e same = ap (λ z. z ∷ map f ms) (same ∙ ap f (sym (same_some y m e)))
+map_set f (y ∷ ms) (suc p) m x e same = ap (λ l. f y ∷ l) (map_set f ms p m x e same)
+
+-- ---- the instance is there as before
+
+pub taken : (i : ViewItem) (m : GraphMember) → IsOfItem i m → IsOfItem i (member_of i)
+unfolding member_of
+taken i m h = record { name = refl; groups = refl; needs = refl }
+
+still_of : (i j : ViewItem) (m : GraphMember) → IsOfItem i m → IsOfItem j m → IsOfItem j (member_of i)
+unfolding member_of
+still_of i j m h g =
+    record { name = sym h.name ∙ g.name; groups = sym h.groups ∙ g.groups; needs = sym h.needs ∙ g.needs }
+
+alike_stays : (i j : ViewItem) (ms : List GraphMember) (p : ℕ) → IsAlikeAt i ms p → IsAlike j ms
+    → IsAlike j (slice_set ms p (member_of i))
+alike_stays i j ms p h g =
+    elim (cases_eq p g.0) [
+      | inl e ↦
+          let other = g.1 in
+          let same : other.member ≡ h.member = same_some _ _ (sym other.at ∙ ap (slice_get ms) (sym e) ∙ h.at) in
+          let Q : GraphMember → Type 0 = λ z. IsOfItem j z in (
+            p,
+            record {
+              member = member_of i;
+              at = set_here ms p h.member (member_of i) h.at;
+              numbered = same_number i ∙ sym h.numbered ∙ ap (λ (z : GraphMember). z.instance) (sym same)
+                  ∙ other.numbered;
+              of_item = still_of i j h.member h.of_item (subst Q same other.of_item);
+            },
+          )
+      | inr ne ↦
+          let other = g.1 in (
+            g.0,
+            record {
+              member = other.member;
+              at = set_other ms p g.0 (member_of i) ne ∙ other.at;
+              numbered = other.numbered;
+              of_item = other.of_item;
+            },
+          )
+    ]
+
+change_stays : (i : ViewItem) (o : Option ViewItem) (ms : List GraphMember) (p : ℕ) → IsAlikeAt i ms p
+    → IsAlikeChange o ms → IsAlikeChange o (slice_set ms p (member_of i))
+change_stays i None ms p h g = g
+change_stays i (Some j) ms p h g = alike_stays i j ms p h g
+
+changes_stay : (i : ViewItem) (cs : List ChangedItem) (ms : List GraphMember) (p : ℕ) → IsAlikeAt i ms p
+    → AreAlike cs ms → AreAlike cs (slice_set ms p (member_of i))
+changes_stay i [] ms p h g = tt
+changes_stay i (c ∷ cs) ms p h g = (change_stays i c.item ms p h g.0, changes_stay i cs ms p h g.1)
+
+-- an item whose number a search finds, and that is read from the same
+pub found_alike : (i : ViewItem) (ms : List GraphMember) (p : ℕ) (r : GraphMember)
+    → StandsAt by_member i.instance p ms → r ≡ get_or ms p r → IsOfItem i r → IsAlike i ms
+found_alike i ms p r s is h =
+    let at = stood by_member i.instance p ms s in
+    let P : GraphMember → Type 0 = IsOfItem i in (
+      p,
+      record {
+        member = at.0;
+        at = at.1;
+        numbered = at.2;
+        of_item = subst P (is ∙ get_or_from_slice_get ms p at.0 r at.1) h;
+      },
+    )
+
+-- the place that a search finds is that of the item
+pub same_place : (i : ViewItem) (ms : List GraphMember) (p : ℕ) → Rises by_member ms → IsAlike i ms
+    → StandsAt by_member i.instance p ms → IsAlikeAt i ms p
+same_place i ms p r h s =
+    let at = stood by_member i.instance p ms s in
+    let P : ℕ → Type 0 = λ n. lookup by_member ms n ≡ Some at.0 in
+    let Q : ℕ → Type 0 = λ n. lookup by_member ms n ≡ Some h.1.member in
+    let here : lookup by_member ms i.instance ≡ Some at.0 = subst P at.2 (found_at by_member ms p at.0 r at.1) in
+    let there : lookup by_member ms i.instance ≡ Some h.1.member =
+    subst Q h.1.numbered (found_at by_member ms h.0 h.1.member r h.1.at) in
+    let same : h.1.member ≡ at.0 = same_some _ _ (sym there ∙ here) in
+    let R : GraphMember → Type 0 = IsOfItem i in
+    record { member = at.0; at = at.1; numbered = at.2; of_item = subst R same h.1.of_item }
+
+pub is_found : (i : ViewItem) (ms : List GraphMember) (p : ℕ) → Rises by_member ms → IsAlike i ms
+    → BelongsAt by_member i.instance p ms → ⊥
+is_found i ms p r h s =
+    let Q : ℕ → Type 0 = λ n. lookup by_member ms n ≡ Some h.1.member in
+    none_is (sym (lookup_before by_member i.instance p ms r s)
+    ∙ subst Q h.1.numbered (found_at by_member ms h.0 h.1.member r h.1.at))
+  where
+    none_is : None ≡ Some h.1.member → ⊥
+    none_is g = cc
+
+-- it is put at its own place
+pub set_is_put : (i : ViewItem) (ms : List GraphMember) (p : ℕ) → Rises by_member ms → IsAlikeAt i ms p
+    → slice_set ms p (member_of i) ≡ list_with_item by_member (member_of i) ms
+set_is_put i ms p r h =
+    let P : ℕ → Type 0 = λ n. StandsAt by_member n p ms in
+    sym (put_at by_member (member_of i) p ms
+    (subst P (h.numbered ∙ sym (same_number i)) (stands by_member ms p h.member r h.at)))
+
+pub rest_alike : (o : Option ViewItem) (n : ℕ) (cs : List ChangedItem) (ms : List GraphMember) → Rises by_member ms
+    → IsAlikeChange o ms → AreAlike cs ms → AreAlike cs (with_member n o ms)
+rest_alike None n cs ms r h g = absurd h
+rest_alike (Some i) n cs ms r h g =
+    let P : List GraphMember → Type 0 = AreAlike cs in
+    subst P (set_is_put i ms h.0 r h.1) (changes_stay i cs ms h.0 h.1 g)
+
+-- ---- by places
+
+nodes_set : (all ms : List GraphMember) (p : ℕ) (m x : GraphMember) → slice_get ms p ≡ Some m
+    → x.dependencies ≡ m.dependencies
+    → map (node_of all) (slice_set ms p x) ≡ with_flags (map (node_of all) ms) p (flags_of x)
+nodes_set all [] p m x e same = refl
+nodes_set all (y ∷ ms) zero m x e same =
+    λ i. record {
+      flags = flags_of x;
+      links = links_of all ((same ∙ ap (λ (z : GraphMember). z.dependencies) (sym (same_some y m e))) i);
+    } ∷ map
+    (node_of all) ms
+nodes_set all (y ∷ ms) (suc p) m x e same = ap (λ l. node_of all y ∷ l) (nodes_set all ms p m x e same)
+
+node_alike : (ms ks : List GraphMember) → map wires ms ≡ map wires ks → node_of ms ≡ node_of ks
+node_alike ms ks h =
+    fun_ext (λ (m : GraphMember). ap (λ l. record { flags = flags_of m; links = l })
+    (links_by ms ks (places_same ms ks h) m.dependencies))
+
+pub nodes_are_set : (ms ms' : List GraphMember) (p : ℕ) (m x : GraphMember) → slice_get ms p ≡ Some m
+    → wires x ≡ wires m → ms' ≡ slice_set ms p x
+    → with_flags (nodes_of ms) p (flags_of x) ≡ nodes_of ms'
+nodes_are_set ms ms' p m x e same is =
+    let wired : map wires ms' ≡ map wires ms = ap (map wires) is ∙ map_set wires ms p m x e same in
+    sym (nodes_set ms ms p m x e (ap (λ (w : Wires). w.1) same)) ∙ ap (map (node_of ms)) (sym is)
+    ∙ ap (λ (f : GraphMember → GraphNode). map f ms') (sym (node_alike ms' ms wired))
+
+-- ---- events of cited instances
+
+module _ (ms ks : List GraphMember) (p : ℕ) (apart : (a : ℕ) → (p ≡ a → ⊥) → slice_get ks a ≡ slice_get ms a) where
+  events_stay : (f : GraphMember → Bool) (ps : List ℕ) → IsOut p ps
+      → list_any (event_at f ks) ps ≡ list_any (event_at f ms) ps
+  events_stay f [] out = refl
+  events_stay f (q ∷ ps) out =
+      λ i. option_map_or f (apart q (λ e. out.0 (sym e)) i) false || events_stay f ps out.1 i
+
+  any_stay : (f : GraphMember → Bool) (es : List (List ℕ)) → AreOut p es
+      → list_any (λ ps. list_any (event_at f ks) ps) es ≡ list_any (λ ps. list_any (event_at f ms) ps) es
+  any_stay f [] out = refl
+  any_stay f (ps ∷ es) out = λ i. events_stay f ps out.0 i || any_stay f es out.1 i
+
+  stops_stay : (base : ℕ) (ls : List Link) → Avoid p ls
+      → list_any (link_stops ks base) ls ≡ list_any (link_stops ms base) ls
+  stops_stay base [] out = refl
+  stops_stay base (l ∷ ls) out = λ i. any_stay (stops_by l.grouping l.restart_on base) l.cited out.0 i
+      || stops_stay base ls out.1 i
+
+-- ---- cycles
+
+asks_alike : (a b : GraphMember) → a.name ≡ b.name → (es : List (List ℕ))
+    → list_any (λ e. is_cited e a) es ≡ list_any (λ e. is_cited e b) es
+asks_alike a b h [] = refl
+asks_alike a b h (e ∷ es) = λ i. cited_same e a b h i || asks_alike a b h es i
+
+any_asks : (a b : GraphMember) → a.name ≡ b.name → (ds : List Dependency)
+    → list_any (asks_for a) ds ≡ list_any (asks_for b) ds
+any_asks a b h [] = refl
+any_asks a b h (d ∷ ds) = λ i. (not (excludes d.grouping) && asks_alike a b h d.entities i) || any_asks a b h ds i
+
+asked_alike : (ds : Option (List Dependency)) (a b : GraphMember) → a.name ≡ b.name → asked_for ds a ≡ asked_for ds b
+asked_alike None a b h = refl
+asked_alike (Some ds) a b h = any_asks a b h ds
+
+cites_alike : (a k b l : GraphMember) → wires a ≡ wires k → wires b ≡ wires l → cites a b ≡ cites k l
+cites_alike a k b l e f = ap (λ (w : Wires). asked_for w.1 b) e
+    ∙ asked_alike k.dependencies b l (ap (λ (w : Wires). w.0) f)
+
+leads_alike : (ms ks : List GraphMember) → map wires ms ≡ map wires ks → (a k b l : GraphMember) → wires a ≡ wires k
+    → wires b ≡ wires l → leads ms a b ≡ leads ks k l
+unfolding leads
+leads_alike [] [] h a k b l e f = cites_alike a k b l e f
+leads_alike [] (y ∷ ks) h a k b l e f = absurd cc
+leads_alike (x ∷ ms) [] h a k b l e f = absurd cc
+leads_alike (x ∷ ms) (y ∷ ks) h a k b l e f =
+    let rest = rest_same x y ms ks h in
+    let first : wires x ≡ wires y = λ j. (name_same x y ms ks h j, needs_same x y ms ks h j) in
+    λ i. leads_alike ms ks rest a k b l e f i
+    || (leads_alike ms ks rest a k x y e first i && leads_alike ms ks rest x y b l first f i)
+
+pub cycles_alike : (ms ks : List GraphMember) (m : GraphMember) → map wires ms ≡ map wires ks
+    → on_cycle ms m ≡ on_cycle ks m
+unfolding on_cycle
+cycles_alike ms ks m h = leads_alike ms ks h m m m m refl refl
+
+-- ---- one instance gets another state
+
+found_same : (ms ks : List GraphMember) (n : GraphMember) → all_met ks n ≡ all_met ms n
+    → any_must_stop ks n.base n.dependencies ≡ any_must_stop ms n.base n.dependencies
+    → on_cycle ks n ≡ on_cycle ms n → finding_of ks n ≡ finding_of ms n
+unfolding finding_of
+found_same ms ks n e f g =
+    λ i. record { readable = is_some n.dependencies; all_met = e i; must_stop = f i; on_cycle = g i }
+
+pub state_taken : (i : ViewItem) (ms ms' : List GraphMember) (ns ns' : List GraphNode) (p : ℕ) (was touched : List ℕ)
+    → IsAlikeAt i ms p → ms' ≡ slice_set ms p (member_of i)
+    → ns ≡ nodes_of ms → ns' ≡ nodes_of ms' → Reaches ns ns' p was touched → Stays ms ms' was touched
+state_taken i ms ms' ns ns' p was touched h is linked linked' far =
+    let wired : map wires ms' ≡ map wires ms = ap (map wires) is
+    ∙ map_set wires ms p h.member (member_of i) h.at (alike i h.member h.of_item) in
+    let size : length ns ≡ length ms = ap length linked ∙ length-map ms (node_of ms) in
+    let apart : (a : ℕ) → (p ≡ a → ⊥) → slice_get ms' a ≡ slice_get ms a =
+    λ a ne. ap (λ l. slice_get l a) is ∙ set_other ms p a (member_of i) ne in
+    let node : (a : ℕ) (n : GraphMember) → slice_get ms a ≡ Some n → slice_get ns a ≡ Some (node_of ms n) =
+    λ a n at. ap (λ l. slice_get l a) linked ∙ node_got ms ms a n at in
+    let there : (a : ℕ) (n : GraphMember) → IsOut a touched → slice_get ms a ≡ Some n → slice_get ms' a ≡ Some n =
+    λ a n out at. apart a (far.apart a (node_of ms n) out (node a n at)).0 ∙ at in
+    record {
+      numbers = ap (map number) is ∙ map_set number ms p h.member (member_of i) h.at (same_number i ∙ sym h.numbered);
+      wired = wired;
+      grown = λ a out less. let within : a < length ns = omega arith in far.grown a out within;
+      member = there;
+      finding = λ a n out at.
+          let within : a < length ns = let less = slice_get_within ms a n at in omega arith in
+          found_same ms ms' n
+          (sym (met_is ms' a n (there a n out at))
+          ∙ ap (λ b. is_some n.dependencies && b)
+          (ap (λ l. met_at l a) (sym linked') ∙ far.met a out within ∙ ap (λ l. met_at l a) linked)
+          ∙ met_is ms a n at)
+          (sym (stops_in ms' n.base n.dependencies)
+          ∙ ap (list_any (link_stops ms' n.base)) (links_by ms' ms (places_same ms' ms wired) n.dependencies)
+          ∙ stops_stay ms ms' p apart n.base (links_of ms n.dependencies)
+          (far.apart a (node_of ms n) out (node a n at)).1
+          ∙ stops_in ms n.base n.dependencies)
+          (cycles_alike ms' ms n wired);
+    }
+
+pub linked_again : (i : ViewItem) (ms ms' : List GraphMember) (ns ns' : List GraphNode) (p : ℕ) (f : Flags)
+    → IsAlikeAt i ms p → ms' ≡ slice_set ms p (member_of i) → f ≡ flags_of (member_of i)
+    → ns ≡ nodes_of ms → ns' ≡ with_flags ns p f → ns' ≡ nodes_of ms'
+linked_again i ms ms' ns ns' p f h is same linked set =
+    set ∙ (λ j. with_flags (linked j) p (same j))
+    ∙ nodes_are_set ms ms' p h.member (member_of i) h.at (alike i h.member h.of_item) is
+
+pub place_within : (i : ViewItem) (ms : List GraphMember) (ns : List GraphNode) (p : ℕ) → IsAlikeAt i ms p
+    → ns ≡ nodes_of ms → p < length ns
+place_within i ms ns p h linked =
+    let size : length ns ≡ length ms = ap length linked ∙ length-map ms (node_of ms) in
+    let within = slice_get_within ms p h.member h.at in omega arith
+
+pub as_many : (ms : List GraphMember) (ns : List GraphNode) (capacity : ℕ) → ns ≡ nodes_of ms → length ms ≤ capacity
+    → length ns ≤ capacity
+as_many ms ns capacity linked le =
+    let size : length ns ≡ length ms = ap length linked ∙ length-map ms (node_of ms) in omega arith
+
+pub whole : {X : Type 0} (done all : List X) (i : ℕ) → length all ≤ i → done ++ drop i all ≡ all → done ≡ all
+whole done all i le h = sym (append-nil done) ∙ ap (λ l. done ++ l) (sym (drop_all i all le)) ∙ h
+
+-- ---- one change after another
+
+pub with_more : (cs : List ChangedItem) (i : ℕ) (c : ChangedItem) (ms ms' first : List GraphMember) → i < length cs
+    → c ≡ get_or cs i c → ms' ≡ with_member c.instance c.item ms
+    → with_members (drop i cs) ms ≡ with_members cs first → with_members (drop (i + 1) cs) ms' ≡ with_members cs first
+with_more cs i c ms ms' first lt is e h =
+    ap (with_members (drop (i + 1) cs)) e ∙ ap (λ l. with_members l ms) (sym (left_at cs i c lt is)) ∙ h
+
+pub with_all : (cs : List ChangedItem) (i : ℕ) (ms first : List GraphMember) → length cs ≤ i
+    → with_members (drop i cs) ms ≡ with_members cs first → ms ≡ with_members cs first
+with_all cs i ms first le h = ap (λ l. with_members l ms) (sym (drop_all i cs le)) ∙ h
+
+pub next_alike : (cs : List ChangedItem) (i : ℕ) (c : ChangedItem) (ms : List GraphMember) → i < length cs
+    → c ≡ get_or cs i c → AreAlike (drop i cs) ms
+    → IsAlikeChange c.item ms × AreAlike (drop (i + 1) cs) ms
+next_alike cs i c ms lt is h = let P : List ChangedItem → Type 0 = λ l. AreAlike l ms in
+    subst P (left_at cs i c lt is) h
+
+pub more_alike : (cs : List ChangedItem) (i : ℕ) (c : ChangedItem) (ms ms' : List GraphMember) → i < length cs
+    → c ≡ get_or cs i c → ms' ≡ with_member c.instance c.item ms → Rises by_member ms
+    → AreAlike (drop i cs) ms → AreAlike (drop (i + 1) cs) ms'
+more_alike cs i c ms ms' lt is e r h =
+    let two = next_alike cs i c ms lt is h in
+    let P : List GraphMember → Type 0 = AreAlike (drop (i + 1) cs) in
+    subst P (sym e) (rest_alike c.item c.instance (drop (i + 1) cs) ms r two.0 two.1)
+
+pub one_alike : (cs : List ChangedItem) (i : ℕ) (c : ChangedItem) (ms : List GraphMember) → i < length cs
+    → c ≡ get_or cs i c → IsAlikeChange c.item ms
+    → (AreAlike (drop i cs) ms → AreAlike cs ms) → AreAlike (drop (i + 1) cs) ms → AreAlike cs ms
+one_alike cs i c ms lt is h before rest = let P : List ChangedItem → Type 0 = λ l. AreAlike l ms in
+    before (subst P (sym (left_at cs i c lt is)) (h, rest))
+
+pub all_alike : (cs : List ChangedItem) (i : ℕ) (ms : List GraphMember) → length cs ≤ i
+    → (AreAlike (drop i cs) ms → AreAlike cs ms) → AreAlike cs ms
+all_alike cs i ms le before = let P : List ChangedItem → Type 0 = λ l. AreAlike l ms in
+    before (subst P (sym (drop_all i cs le)) tt)
+
+pub stays_size : (a b : List GraphMember) (was touched : List ℕ) → Stays a b was touched → length b ≡ length a
+stays_size a b was touched f = sym (length-map b number) ∙ ap length f.numbers ∙ length-map a number
+
+pub stays_none : (ms : List GraphMember) (was : List ℕ) → Stays ms ms was was
+stays_none ms was =
+    record {
+      numbers = refl;
+      wired = refl;
+      grown = λ a out less. out;
+      member = λ a m out at. at;
+      finding = λ a m out at. refl;
+    }
+
+pub stays_then : (a b c : List GraphMember) (was between touched : List ℕ) → Stays a b was between
+    → Stays b c between touched → Stays a c was touched
+stays_then a b c was between touched f g =
+    let size = stays_size a b was between f in
+    let within : (x : ℕ) → x < length a → x < length b = λ x less. omega arith in
+    record {
+      numbers = g.numbers ∙ f.numbers;
+      wired = g.wired ∙ f.wired;
+      grown = λ x out less. f.grown x (g.grown x out (within x less)) less;
+      member = λ x m out at.
+          let before = g.grown x out (within x (slice_get_within a x m at)) in
+          g.member x m out (f.member x m before at);
+      finding = λ x m out at.
+          let before = g.grown x out (within x (slice_get_within a x m at)) in
+          g.finding x m out (f.member x m before at) ∙ f.finding x m before at;
+    }
+
+-- ---- by numbers
+
+number_of : (ms ks : List GraphMember) (a : ℕ) (m : GraphMember) → map number ms ≡ map number ks
+    → slice_get ms a ≡ Some m → (k : GraphMember) × (slice_get ks a ≡ Some k) × (k.instance ≡ m.instance)
+number_of [] ks a m h e = absurd cc
+number_of (x ∷ ms) [] a m h e = absurd cc
+number_of (x ∷ ms) (y ∷ ks) zero m h e =
+    let first : x.instance ≡ y.instance = cc in
+    (y, refl, sym first ∙ ap (λ (z : GraphMember). z.instance) (same_some x m e))
+number_of (x ∷ ms) (y ∷ ks) (suc a) m h e = let rest : map number ms ≡ map number ks = cc in number_of ms ks a m rest e
+
+pub by_numbers : (ms ks : List GraphMember) (was touched numbers : List ℕ) → Rises by_member ms → Rises by_member ks
+    → Stays ms ks was touched
+    → ((a : ℕ) (m : GraphMember) → slice_get ks a ≡ Some m → IsOut m.instance numbers → IsOut a touched)
+    → OthersStay ms ks numbers
+by_numbers ms ks was touched numbers r r' h named =
+    record {
+      member = λ n out. by n out (lookup by_member ms n) refl (lookup by_member ks n) refl;
+      finding = λ n m out e. found n m out e;
+    }
+  where
+    -- an instance that is looked up afterwards was there before, if it is not touched
+    back : (n : ℕ) (m : GraphMember) → IsOut n numbers → lookup by_member ks n ≡ Some m
+        → (a : ℕ) × (slice_get ms a ≡ Some m) × IsOut a touched
+    back n m out e =
+        let at = at_found by_member ks n m e in
+        let P : ℕ → Type 0 = λ k. IsOut k numbers in
+        let free = named at.0 m at.1 (subst P (sym at.2) out) in
+        let was_there = number_of ks ms at.0 m h.numbers at.1 in
+        let stayed = h.member at.0 was_there.0 free was_there.1 in
+        (at.0, was_there.1 ∙ ap (λ z. Some z) (same_some _ _ (sym stayed ∙ at.1)), free)
+
+    forth : (n : ℕ) (m : GraphMember) → IsOut n numbers → lookup by_member ms n ≡ Some m
+        → lookup by_member ks n ≡ Some m
+    forth n m out e =
+        let at = at_found by_member ms n m e in
+        let is_there = number_of ms ks at.0 m (sym h.numbers) at.1 in
+        let P : ℕ → Type 0 = λ k. IsOut k numbers in
+        let free = named at.0 is_there.0 is_there.1 (subst P (sym (is_there.2 ∙ at.2)) out) in
+        let stayed = h.member at.0 m free at.1 in
+        let Q : ℕ → Type 0 = λ k. lookup by_member ks k ≡ Some m in
+        subst Q at.2 (found_at by_member ks at.0 m r' stayed)
+
+    by : (n : ℕ) → IsOut n numbers → (o : Option GraphMember) → lookup by_member ms n ≡ o → (q : Option GraphMember)
+        → lookup by_member ks n ≡ q → lookup by_member ks n ≡ lookup by_member ms n
+    by n out (Some m) e q f = forth n m out e ∙ sym e
+    by n out None e None f = f ∙ sym e
+    by n out None e (Some m) f =
+        let at = back n m out f in
+        let there = found_at by_member ms at.0 m r at.1 in
+        let here = (at_found by_member ks n m f).2 in
+        let Q : ℕ → Type 0 = λ k. lookup by_member ms k ≡ Some m in
+        let both : None ≡ Some m = sym e ∙ subst Q here there in absurd (none_is both)
+      where
+        none_is : None ≡ Some m → ⊥
+        none_is g = cc
+
+    found : (n : ℕ) (m : GraphMember) → IsOut n numbers → lookup by_member ks n ≡ Some m
+        → finding_of ks m ≡ finding_of ms m
+    found n m out e = let at = back n m out e in h.finding at.0 m at.2 at.1
+
+-- the same over what a call names
+pub by_touched : (ms ks shown : List GraphMember) (was touched places numbers given : List ℕ) → Rises by_member ms
+    → Rises by_member ks → Stays ms ks was touched
+    → shown ≡ ks → places ≡ touched → given ≡ numbers
+    → ((a : ℕ) (m : GraphMember) → slice_get shown a ≡ Some m → IsOut m.instance numbers → IsOut a places)
+    → OthersStay ms ks given
+by_touched ms ks shown was touched places numbers given r r' h es et eg named =
+    by_numbers ms ks was touched given r r' h
+    (λ a m at out.
+    let P : List ℕ → Type 0 = IsOut a in
+    let Q : List ℕ → Type 0 = IsOut m.instance in
+    subst P et (named a m (ap (λ l. slice_get l a) es ∙ at) (subst Q eg out)))
+
+-- ---- if all numbers are named
+
+not_there : (ms : List GraphMember) (n : ℕ) → IsOut n (map number ms) → (o : Option GraphMember)
+    → lookup by_member ms n ≡ o → o ≡ None
+not_there ms n out None e = refl
+not_there ms n out (Some m) e = let at = at_found by_member ms n m e in absurd (named ms at.0 m out at.1 at.2)
+  where
+    named : (ms : List GraphMember) (a : ℕ) (m : GraphMember) → IsOut n (map number ms) → slice_get ms a ≡ Some m
+        → m.instance ≡ n → ⊥
+    named [] a m out at is = cc
+    named (x ∷ ms) zero m out at is = out.0 (ap (λ (z : GraphMember). z.instance) (same_some x m at) ∙ is)
+    named (x ∷ ms) (suc a) m out at is = named ms a m out.1 at is
+
+pub all_named : (ms ks : List GraphMember) (numbers : List ℕ) → numbers ≡ map number ks ++ map number ms
+    → OthersStay ms ks numbers
+all_named ms ks numbers e =
+    let gone : (n : ℕ) → IsOut n numbers → lookup by_member ks n ≡ None =
+    λ n out. let P : List ℕ → Type 0 = IsOut n in
+    not_there ks n (out_left n (map number ks) (map number ms) (subst P e out)) (lookup by_member ks n) refl in
+    record {
+      member = λ n out.
+          let P : List ℕ → Type 0 = IsOut n in
+          gone n out ∙ sym (not_there ms n (out_right n (map number ks) (map number ms) (subst P e out))
+          (lookup by_member ms n) refl);
+      finding = λ n m out f. absurd (none_is m (sym (gone n out) ∙ f));
+    }
+  where
+    none_is : (m : GraphMember) → None ≡ Some m → ⊥
+    none_is m g = cc
+
+-- ---- numbers of places
+
+number_here : (ms : List GraphMember) (a : ℕ) (m : GraphMember) → slice_get ms a ≡ Some m → number_at ms a ≡ m.instance
+number_here ms a m e = ap (λ (o : Option GraphMember). number_in o) e
+
+pub named_by : (ms : List GraphMember) (places : List ℕ) (a : ℕ) (m : GraphMember) → slice_get ms a ≡ Some m
+    → IsOut m.instance (map (number_at ms) places) → IsOut a places
+named_by ms [] a m e out = tt
+named_by ms (p ∷ places) a m e out =
+    ((λ same. out.0 (ap (number_at ms) same ∙ number_here ms a m e)), named_by ms places a m e out.1)
+
+pub named_by_all : (ms : List GraphMember) (places : List ℕ) (a : ℕ) (m : GraphMember) → slice_get ms a ≡ Some m
+    → IsOut m.instance (map number ms) → IsOut a places
+named_by_all [] places a m e out = absurd cc
+named_by_all (x ∷ ms) places zero m e out = absurd (out.0 (ap (λ (z : GraphMember). z.instance) (same_some x m e)))
+named_by_all (x ∷ ms) places (suc a) m e out = absurd (gone ms a e out.1)
+  where
+    gone : (ms : List GraphMember) (a : ℕ) → slice_get ms a ≡ Some m → IsOut m.instance (map number ms) → ⊥
+    gone [] a e out = cc
+    gone (y ∷ ms) zero e out = out.0 (ap (λ (z : GraphMember). z.instance) (same_some y m e))
+    gone (y ∷ ms) (suc a) e out = gone ms a e out.1

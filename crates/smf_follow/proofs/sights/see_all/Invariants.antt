@@ -1,0 +1,11 @@
+use Rattle.std.proofs.Common.{◌≡◌, drop}
+use Rattle.smf_follow.specs.Phases.{posts}
+use Rattle.smf_follow.proofs.Places.{SeenUpTo}
+use Rattle.smf_follow.proofs.sights.see_all.Given as goal
+
+abbrev pub invariant-loop-kid : goal.invariant-loop-kid
+invariant-loop-kid g l = record {
+  same : posts l.kid-items ≡ posts l.initial.kid-items;
+  left : drop l.kid-index l.kid-items ≡ drop l.kid-index l.initial.kid-items;
+  seen : SeenUpTo g.C.Contracts.facts l.kid-index l.sight l.initial.kid-items;
+}

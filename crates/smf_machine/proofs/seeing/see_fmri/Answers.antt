@@ -1,5 +1,0 @@
-use Rattle.smf_machine.proofs.Seen.{short_seen}
-use Rattle.smf_machine.proofs.seeing.see_fmri.Goals as goal
-
-pub returns : goal.returns
-returns c = short_seen c.args.name.now (rw c.print-text.ensures.text at c.print-text.utf8) c.print-text.ensures.again

@@ -1,0 +1,9 @@
+-- A fault that a `?` passes on keeps what holds of it.
+use Rattle.std.proofs.Common.{◌≡◌, Result, Ok, Err, IfErr, sym, subst}
+use Rattle.std.specs.Result.{IsErrAnd}
+use Rattle.smf_node.specs.declared.fault.NodeFault.{NodeFault}
+
+pub passed_on : {X : Type 0} (r : Result X NodeFault) (e : NodeFault) (P : NodeFault → Type 0)
+    → IsErrAnd r (λ y. y ≡ e) → P e → IfErr r P
+passed_on (Ok x) e P q p = tt
+passed_on (Err y) e P q p = subst P (sym q) p

@@ -1,8 +1,0 @@
-use Rattle.std.proofs.Common.{◌≡◌, ◌++◌, map, drop}
-use Rattle.std.specs.Prelude.{filter}
-use Rattle.smf_dep.specs.Verdicts.{is_cited}
-use Rattle.smf_reasons.specs.Reasons.{stood}
-use Rattle.smf_reasons.proofs.standing.cited.Given as goal
-
-abbrev pub invariant-loop-member : goal.invariant-loop-member
-invariant-loop-member l = l.all ++ map stood (filter (is_cited l.entity) (drop l.member-index l.members)) ≡ map stood (filter (is_cited l.entity) l.members)

@@ -1,0 +1,9 @@
+use Rattle.std.proofs.Common.{sym, subst}
+use Rattle.smf_restarter.specs.declared.reply.KnowledgeChange.{KnowledgeChange}
+use Rattle.smf_restarter.specs.Room.{HasPlace}
+use Rattle.smf_restarter.proofs.Rooms.{answered_place}
+use Rattle.smf_restarter.proofs.restarter.Restarter.change_on_answer.Goals as goal
+
+pub returns-clause-room : goal.returns-clause-room
+returns-clause-room c =
+    subst (λ (x : KnowledgeChange). HasPlace x 0 1) (sym c.change_on_answer.ensures) (answered_place _ _ _)

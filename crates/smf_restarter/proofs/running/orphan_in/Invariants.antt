@@ -1,7 +1,0 @@
-use Rattle.std.proofs.Common.{◌≡◌, drop}
-use Rattle.std.specs.Prelude.{find}
-use Rattle.smf_restarter.specs.Runs.{is_orphan}
-use Rattle.smf_restarter.proofs.running.orphan_in.Given as goal
-
-abbrev pub invariant-loop-run : goal.invariant-loop-run
-invariant-loop-run l = find (is_orphan l.instance) (drop l.run-index l.runs) ≡ find (is_orphan l.instance) l.runs

@@ -1,0 +1,23 @@
+use Rattle.smf_serve.proofs.copies.serve_copy.Goals as goal
+
+pub returns-in-Ok-clause-ok : goal.returns-in-Ok-clause-ok
+returns-in-Ok-clause-ok g c = λ fine.
+    record {
+      conn = c.in-Ok.conn;
+      after = c.serve-status.result.conn;
+      found = c.in-Ok.ensures.found;
+      opened = c.in-Ok.ensures.opened;
+      fresh = c.in-Ok.ensures.fresh;
+      ran = c.serve-status.ensures.ok fine;
+    }
+
+pub returns-in-Ok-clause-fault : goal.returns-in-Ok-clause-fault
+returns-in-Ok-clause-fault g c = λ faulted.
+    record {
+      conn = c.in-Ok.conn;
+      after = c.serve-status.result.conn;
+      found = c.in-Ok.ensures.found;
+      opened = c.in-Ok.ensures.opened;
+      fresh = c.in-Ok.ensures.fresh;
+      ran = c.serve-status.ensures.fault faulted;
+    }

@@ -1,9 +1,0 @@
-use Rattle.smf_edge.specs.Answers.{seen}
-use Rattle.smf_node.specs.Rounds.{course}
-use Rattle.smf_server.proofs.Hears.{HaveGiven}
-use Rattle.smf_server.proofs.hearing.hear_all.Given as goal
-
-abbrev pub invariant-loop : goal.invariant-loop
-invariant-loop g l =
-    HaveGiven g.K.Kids.skills l.counter (course l.fn.node (seen (g.K.Kids.ledger l.fn.kids) (g.K.Kids.failures l.fn.kids)))
-    (course l.node (seen (g.K.Kids.ledger l.kids) (g.K.Kids.failures l.kids))) l.any

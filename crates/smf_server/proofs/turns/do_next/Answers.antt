@@ -1,0 +1,18 @@
+use Rattle.std.proofs.Common.{sym}
+use Rattle.smf_server.proofs.Turned.{tick_cut, ticked}
+use Rattle.smf_server.proofs.turns.do_next.Goals as goal
+
+pub returns-in-Ok-clause-ok : goal.returns-in-Ok-clause-ok
+returns-in-Ok-clause-ok g c =
+    ticked g.K.Kids.skills _ _ _ _ _ _ _ c.in-Tick.ensures c.tell_each.ensures c.in-Ok.ensures.ticked
+
+pub returns-in-Tick-clause-err : goal.returns-in-Tick-clause-err
+returns-in-Tick-clause-err g c = tick_cut g.K.Kids.skills g.J.Journal.write_fails _ _ _ _ _ c.in-Tick.ensures
+
+pub returns-in-Ok-clause-agrees : goal.returns-in-Ok-clause-agrees
+returns-in-Ok-clause-agrees g c = c.in-Ok.ensures.agrees
+
+pub returns-in-Request-clause-err : goal.returns-in-Request-clause-err
+returns-in-Request-clause-err g c =
+    c.in-Err-answer.ensures.err (g.D.Desk.passed c.args.desk.now)
+    (rw (sym c.as_slice.ensures.value) at c.in-Request.ensures)

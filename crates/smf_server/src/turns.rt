@@ -1,0 +1,515 @@
+ghost use Rattle.std.specs.Prelude.{◌≡◌, ◌≤◌, ◌||◌, ◌&&◌, not, List, [], ◌∷◌, Option, Some, length, map, nat_lt, false, true, IfErr, IfOk, OnOk};
+ghost use Rattle.smf_drive.specs.Agrees.{Agrees};
+ghost use Rattle.smf_drive.specs.Moves.{Moves};
+ghost use Rattle.smf_edge.specs.Answers.{children_state};
+ghost use Rattle.smf_node.specs.Rounds.{course};
+ghost use Rattle.smf_server.specs.Traffic.{Asked, Passed, Told, traffic_with};
+ghost use Rattle.smf_server.specs.Stops.{is_new, stops_of, stop_lists_if};
+ghost use Rattle.smf_server.specs.Turns.{GoesBy, GoesIf, HasGone, HasLooked, HasPassed, HasTried, HasTurned, IsFailed, IsTick, IsTurn, LooksIf, between, is_busy, is_same, shown_of, size_of, standing};
+ghost use Rattle.smf_world.specs.Reached.{IsLater};
+ghost use Rattle.smf_world.specs.Safe.{IsSafe};
+
+use crate::ask::{Onward, ServerInput};
+use crate::child_events::hear_all;
+use crate::desk::Desk;
+use crate::marks::{lines_of, mark_all};
+use crate::server::Server;
+use crate::size::Size;
+use crate::stops::{Ender, Noted};
+use crate::timer::Timer;
+use crate::watch::owners;
+use smf_drive::drive;
+use smf_edge::Kids;
+use smf_fmri::{Items, Text};
+use smf_model::Journal;
+use smf_node::{Node, NodeFault};
+use smf_run::run_script;
+use smf_script::ScriptFault;
+use smf_world::Settled;
+use std::alloc::{AllocError, Global};
+
+/// The most rounds before it is looked what comes next.
+const ROUNDS: u64 = 20;
+
+/// The status of a request that was ended by a fault.
+const FAULT: u8 = 3;
+
+fn is_busy(how: Settled) -> bool
+    ensures { result ≡ is_busy how }
+{
+    match how {
+        Settled::Quiet => false,
+        Settled::Busy => true,
+    }
+}
+
+/// Lets at most so many rounds happen, and looks which methods run then.
+fn go<T: Timer, J: Journal, K: Kids>(
+    timer: &T,
+    server: &mut Server<J, K>,
+    rounds: u64,
+) -> Result<(), NodeFault>
+    ensures gone { OnOk result (HasGone K.skills rounds
+        (course server.old.node (children_state (K.ledger server.old.kids) (K.failures server.old.kids)))
+        (standing server.new.node (children_state (K.ledger server.new.kids) (K.failures server.new.kids)) server.new.busy)) }
+    ensures moves { Moves server.old.node.world server.new.node.world (K.ledger server.old.kids)
+        (K.ledger server.new.kids) }
+    ensures kept { server.new.ends ≡ server.old.ends }
+{
+    let how = drive(&mut server.node, &mut server.kids, rounds)?;
+    server.busy = is_busy(how);
+    server.watch.see(timer.now(), &server.node)?;
+    Ok(())
+}
+
+/// Rounds happen if they are wanted.
+fn go_if<T: Timer, J: Journal, K: Kids>(
+    timer: &T,
+    server: &mut Server<J, K>,
+    wanted: bool,
+) -> Result<(), NodeFault>
+    ensures gone { OnOk result (GoesIf wanted K.skills
+        (course server.old.node (children_state (K.ledger server.old.kids) (K.failures server.old.kids))) server.old.busy
+        (standing server.new.node (children_state (K.ledger server.new.kids) (K.failures server.new.kids)) server.new.busy)) }
+    ensures moves { Moves server.old.node.world server.new.node.world (K.ledger server.old.kids)
+        (K.ledger server.new.kids) }
+    ensures kept { server.new.ends ≡ server.old.ends }
+{
+    if wanted {
+        go(timer, server, ROUNDS)
+    } else {
+        Ok(())
+    }
+}
+
+/// True if more rounds are wanted, and a round came to anything.
+fn wants_more(busy: bool, before: &Size, after: &Size) -> bool
+    ensures { result ≡ (busy && not (is_same before.now after.now)) }
+{
+    busy && !is_same(before, after)
+}
+
+/// One round happens, and more if they are wanted and it came to anything. A kill that is owed comes to nothing until
+/// it is done.
+fn go_on<T: Timer, J: Journal, K: Kids>(
+    timer: &T,
+    server: &mut Server<J, K>,
+) -> Result<(), NodeFault>
+    ensures gone { OnOk result (HasTried K.skills
+        (course server.old.node (children_state (K.ledger server.old.kids) (K.failures server.old.kids)))
+        (standing server.new.node (children_state (K.ledger server.new.kids) (K.failures server.new.kids)) server.new.busy)) }
+    ensures moves { Moves server.old.node.world server.new.node.world (K.ledger server.old.kids)
+        (K.ledger server.new.kids) }
+    ensures kept { server.new.ends ≡ server.old.ends }
+{
+    let before = size(&server.node);
+    go(timer, server, 1)?;
+    let after = size(&server.node);
+    let wanted = wants_more(server.busy, &before, &after);
+    go_if(timer, server, wanted)?;
+    Ok(())
+}
+
+/// Rounds happen if anything happened, or if more were wanted.
+fn go_by<T: Timer, J: Journal, K: Kids>(
+    timer: &T,
+    server: &mut Server<J, K>,
+    happened: bool,
+) -> Result<(), NodeFault>
+    ensures gone { OnOk result (GoesBy happened server.old.busy K.skills
+        (course server.old.node (children_state (K.ledger server.old.kids) (K.failures server.old.kids)))
+        (standing server.new.node (children_state (K.ledger server.new.kids) (K.failures server.new.kids)) server.new.busy)) }
+    ensures moves { Moves server.old.node.world server.new.node.world (K.ledger server.old.kids)
+        (K.ledger server.new.kids) }
+    ensures kept { server.new.ends ≡ server.old.ends }
+{
+    if happened {
+        return go(timer, server, ROUNDS);
+    }
+    if server.busy {
+        return go_on(timer, server);
+    }
+    Ok(())
+}
+
+/// True if anything happened: children told something, or methods timed out.
+fn has_happened(any: bool, late: bool) -> bool
+    ensures { result ≡ (any || late) }
+{
+    any || late
+}
+
+/// Time has passed: children tell what happened, and methods that take too long time out. Rounds happen only if there
+/// was anything of this, or if more were wanted.
+fn pass<T: Timer, J: Journal, K: Kids>(
+    timer: &T,
+    server: &mut Server<J, K>,
+) -> Result<(), NodeFault>
+    ensures passed { OnOk result (HasPassed K.skills
+        (standing server.old.node (children_state (K.ledger server.old.kids) (K.failures server.old.kids)) server.old.busy)
+        (standing server.new.node (children_state (K.ledger server.new.kids) (K.failures server.new.kids)) server.new.busy)) }
+    ensures moves { OnOk result (Moves server.old.node.world server.new.node.world
+        (K.ledger server.old.kids) (K.ledger server.new.kids)) }
+    ensures later { IsLater server.old.node.world server.new.node.world }
+    ensures kept { server.new.ends ≡ server.old.ends }
+{
+    let any = hear_all(&mut server.node, &mut server.kids)?;
+    let late = server.watch.time_out(timer.now(), &mut server.node)?;
+    let happened = has_happened(any, late);
+    go_by(timer, server, happened)?;
+    Ok(())
+}
+
+/// True if rounds were wanted before, or if instances are marked.
+fn is_busy_with(busy: bool, numbers: &[u64]) -> bool
+    ensures { result ≡ (busy || nat_lt 0 (length numbers.now)) }
+{
+    busy || 0 < numbers.len()
+}
+
+/// Looks at what is new in the trail, and marks the instances that ended too often for maintenance. Gives what is told
+/// of them.
+fn look<T: Timer, J: Journal, K: Kids>(
+    alloc: Global,
+    timer: &T,
+    server: &mut Server<J, K>,
+) -> Result<Items<Text>, NodeFault>
+    requires { server.old.ends.looked ≤ length (shown_of server.old.node.world) }
+    ensures looked { IfOk result (λ lines. HasLooked (T.says timer.now)
+        (between
+        (standing server.old.node (children_state (K.ledger server.old.kids) (K.failures server.old.kids)) server.old.busy)
+        server.old.ends)
+        (between
+        (standing server.new.node (children_state (K.ledger server.new.kids) (K.failures server.new.kids)) server.new.busy)
+        server.new.ends) lines) }
+    ensures later { IsLater server.old.node.world server.new.node.world }
+{
+    let now = timer.now();
+    let numbers = server.ends.look(alloc, now, server.node.trail())?;
+    let hasty = numbers.as_slice();
+    let lines = lines_of(alloc, &server.node, hasty)?;
+    mark_all(&mut server.node, hasty)?;
+    server.busy = is_busy_with(server.busy, hasty);
+    Ok(lines)
+}
+
+/// True if the trail shows anything new.
+fn has_more<J: Journal, K: Kids>(server: &Server<J, K>) -> bool
+    ensures { result ≡ nat_lt server.now.ends.looked (length (shown_of server.now.node.world)) }
+{
+    server.ends.looked < server.node.trail().len()
+}
+
+/// Looks at the trail, if it shows anything new.
+fn look_if<T: Timer, J: Journal, K: Kids>(
+    alloc: Global,
+    timer: &T,
+    server: &mut Server<J, K>,
+) -> Result<Items<Text>, NodeFault>
+    ensures looked { IfOk result (λ lines. LooksIf
+        (nat_lt server.old.ends.looked (length (shown_of server.old.node.world)))
+        (T.says timer.now)
+        (between
+        (standing server.old.node (children_state (K.ledger server.old.kids) (K.failures server.old.kids)) server.old.busy)
+        server.old.ends)
+        (between
+        (standing server.new.node (children_state (K.ledger server.new.kids) (K.failures server.new.kids)) server.new.busy)
+        server.new.ends) lines) }
+    ensures later { IsLater server.old.node.world server.new.node.world }
+{
+    if has_more(server) {
+        look(alloc, timer, server)
+    } else {
+        Ok(Items::new(alloc))
+    }
+}
+
+/// Time has passed: what happened is done, and the instances that ended too often are marked for maintenance. Gives
+/// what is told of them.
+fn tick<T: Timer, J: Journal, K: Kids>(
+    alloc: Global,
+    timer: &T,
+    server: &mut Server<J, K>,
+) -> Result<Items<Text>, NodeFault>
+    ensures ticked { IfOk result (λ lines. IsTick K.skills (T.says timer.now)
+        (between
+        (standing server.old.node (children_state (K.ledger server.old.kids) (K.failures server.old.kids)) server.old.busy)
+        server.old.ends)
+        (between
+        (standing server.new.node (children_state (K.ledger server.new.kids) (K.failures server.new.kids)) server.new.busy)
+        server.new.ends) lines) }
+    ensures agrees { OnOk result (
+        Agrees server.old.node.world (K.ledger server.old.kids)
+        → Agrees server.new.node.world (K.ledger server.new.kids)) }
+    ensures later { IsLater server.old.node.world server.new.node.world }
+{
+    pass(timer, server)?;
+    let lines = look_if(alloc, timer, server)?;
+    Ok(lines)
+}
+
+/// Tells lines to whoever runs the server.
+fn tell_all<D: Desk>(desk: &mut D, lines: &[Text])
+    ensures { D.passed desk.new ≡ traffic_with (map Told lines.now) (D.passed desk.old) }
+{
+    for line in lines {
+        desk.tell(line.as_str());
+    }
+}
+
+/// Tells all of these.
+fn tell_each<D: Desk>(desk: &mut D, lines: &Items<Text>)
+    ensures { D.passed desk.new ≡ traffic_with (map Told lines.now) (D.passed desk.old) }
+{
+    tell_all(desk, lines.as_slice());
+}
+
+/// How much the trail shows.
+fn trail_length<J: Journal>(node: &Node<J>) -> usize
+    ensures { result ≡ length node.now.world.trail }
+{
+    node.trail().len()
+}
+
+/// How many messages were sent.
+fn message_count<J: Journal>(node: &Node<J>) -> usize
+    ensures { result ≡ length node.now.world.sent }
+{
+    node.messages().len()
+}
+
+/// How much has happened.
+pub(crate) fn size<J: Journal>(node: &Node<J>) -> Size
+    ensures { result ≡ size_of node.now.world }
+{
+    let revision = node.repository().revision().get();
+    let shown = trail_length(node);
+    let sent = message_count(node);
+    Size {
+        revision,
+        shown,
+        sent,
+    }
+}
+
+/// True if two sizes are the same.
+pub(crate) fn is_same(one: &Size, other: &Size) -> bool
+    ensures { result ≡ is_same one.now other.now }
+{
+    one.revision == other.revision && one.shown == other.shown && one.sent == other.sent
+}
+
+/// True if all restarters are launched and wait for nothing but methods that run.
+fn rests<J: Journal>(alloc: Global, node: &Node<J>) -> Result<bool, AllocError> {
+    let names = owners(alloc, node.repository().entries())?;
+    for name in names.as_slice() {
+        match node.restarter(name) {
+            Some(restarter) => {
+                if !restarter.is_at_rest() {
+                    return Ok(false);
+                }
+            }
+            None => return Ok(false),
+        }
+    }
+    Ok(true)
+}
+
+/// True if rounds are wanted after a request: if anything came of it, or restarters have something to do.
+fn wants_rounds<J: Journal>(alloc: Global, node: &Node<J>, before: &Size) -> bool
+    ensures { is_same before.now (size_of node.now.world) ≡ false → result ≡ true }
+{
+    let after = size(node);
+    if !is_same(before, &after) {
+        return true;
+    }
+    match rests(alloc, node) {
+        Ok(rests) => !rests,
+        Err(_) => true,
+    }
+}
+
+/// A request is done, and replied to; then rounds happen, if anything came of it.
+fn answer<D: Desk, T: Timer, J: Journal, K: Kids>(
+    alloc: Global,
+    desk: &mut D,
+    timer: &T,
+    server: &mut Server<J, K>,
+    request: &[u8],
+) -> Result<(), ScriptFault>
+    ensures ok { OnOk result ((before : Option (List Passed))
+        → D.passed desk.old ≡ traffic_with (Asked request.now ∷ []) before
+        → IsTurn K.skills (T.says timer.now) before (D.passed desk.new)
+        (between
+        (standing server.old.node (children_state (K.ledger server.old.kids) (K.failures server.old.kids)) server.old.busy)
+        server.old.ends)
+        (between
+        (standing server.new.node (children_state (K.ledger server.new.kids) (K.failures server.new.kids)) server.new.busy)
+        server.new.ends)) }
+    ensures err { IfErr result (λ e. (before : Option (List Passed))
+        → D.passed desk.old ≡ traffic_with (Asked request.now ∷ []) before
+        → IsFailed K.skills J.write_fails e before (D.passed desk.new)
+        (between
+        (standing server.old.node (children_state (K.ledger server.old.kids) (K.failures server.old.kids)) server.old.busy)
+        server.old.ends)
+        (between
+        (standing server.new.node (children_state (K.ledger server.new.kids) (K.failures server.new.kids)) server.new.busy)
+        server.new.ends)) }
+    ensures agrees { OnOk result (
+        Agrees server.old.node.world (K.ledger server.old.kids)
+        → Agrees server.new.node.world (K.ledger server.new.kids)) }
+    ensures later { IsLater server.old.node.world server.new.node.world }
+{
+    let before = size(&server.node);
+    let mut text: Vec<u8> = Vec::new(alloc);
+    let mut lines = request;
+    match run_script(
+        alloc,
+        &mut lines,
+        &mut text,
+        &mut server.node,
+        &mut server.kids,
+    ) {
+        Ok(status) => {
+            let _is_written = desk.reply(&text, status);
+            let wanted = wants_rounds(alloc, &server.node, &before);
+            match go_if(timer, server, wanted) {
+                Ok(()) => Ok(()),
+                Err(fault) => Err(ScriptFault::Node(fault)),
+            }
+        }
+        Err(fault) => {
+            let _is_written = desk.reply(&text, FAULT);
+            Err(fault)
+        }
+    }
+}
+
+/// Does the next ask of the desk.
+fn do_next<D: Desk, T: Timer, J: Journal, K: Kids>(
+    alloc: Global,
+    desk: &mut D,
+    timer: &T,
+    server: &mut Server<J, K>,
+) -> Result<Onward, ScriptFault>
+    ensures ok { IfOk result
+        (λ onward. HasTurned K.skills (T.says timer.now) onward (D.passed desk.old) (D.passed desk.new)
+        (between
+        (standing server.old.node (children_state (K.ledger server.old.kids) (K.failures server.old.kids)) server.old.busy)
+        server.old.ends)
+        (between
+        (standing server.new.node (children_state (K.ledger server.new.kids) (K.failures server.new.kids)) server.new.busy)
+        server.new.ends)) }
+    ensures err { IfErr result (λ e. IsFailed K.skills J.write_fails e (D.passed desk.old) (D.passed desk.new)
+        (between
+        (standing server.old.node (children_state (K.ledger server.old.kids) (K.failures server.old.kids)) server.old.busy)
+        server.old.ends)
+        (between
+        (standing server.new.node (children_state (K.ledger server.new.kids) (K.failures server.new.kids)) server.new.busy)
+        server.new.ends)) }
+    ensures agrees { OnOk result (
+        Agrees server.old.node.world (K.ledger server.old.kids)
+        → Agrees server.new.node.world (K.ledger server.new.kids)) }
+    ensures later { IsLater server.old.node.world server.new.node.world }
+{
+    match desk.next() {
+        ServerInput::Tick => match tick(alloc, timer, server) {
+            Ok(lines) => {
+                tell_each(desk, &lines);
+                Ok(Onward::Goes)
+            }
+            Err(fault) => Err(ScriptFault::Node(fault)),
+        },
+        ServerInput::Request(request) => match answer(
+            alloc,
+            desk,
+            timer,
+            server,
+            request.as_slice(),
+        ) {
+            Ok(()) => Ok(Onward::Goes),
+            Err(fault) => Err(fault),
+        },
+        ServerInput::End => Ok(Onward::Ends),
+    }
+}
+
+/// Does the next ask of the desk, and looks at the trail.
+fn take<D: Desk, T: Timer, J: Journal, K: Kids>(
+    alloc: Global,
+    desk: &mut D,
+    timer: &T,
+    server: &mut Server<J, K>,
+) -> Result<Onward, ScriptFault>
+    ensures ok { IfOk result
+        (λ onward. HasTurned K.skills (T.says timer.now) onward (D.passed desk.old) (D.passed desk.new)
+        (between
+        (standing server.old.node (children_state (K.ledger server.old.kids) (K.failures server.old.kids)) server.old.busy)
+        server.old.ends)
+        (between
+        (standing server.new.node (children_state (K.ledger server.new.kids) (K.failures server.new.kids)) server.new.busy)
+        server.new.ends)) }
+    ensures err { IfErr result (λ e. IsFailed K.skills J.write_fails e (D.passed desk.old) (D.passed desk.new)
+        (between
+        (standing server.old.node (children_state (K.ledger server.old.kids) (K.failures server.old.kids)) server.old.busy)
+        server.old.ends)
+        (between
+        (standing server.new.node (children_state (K.ledger server.new.kids) (K.failures server.new.kids)) server.new.busy)
+        server.new.ends)) }
+    ensures agrees { OnOk result (
+        Agrees server.old.node.world (K.ledger server.old.kids)
+        → Agrees server.new.node.world (K.ledger server.new.kids)) }
+    ensures later { IsLater server.old.node.world server.new.node.world }
+    ensures safe { IsSafe server.new.node.world }
+{
+    let onward = do_next(alloc, desk, timer, server);
+    let _shown = server.node.trail();
+    onward
+}
+
+/// Tells how contracts are ended, and then does the next ask of the desk: a tick, or a request, which gets a reply.
+pub fn turn<D: Desk, T: Timer, E: Ender, J: Journal, K: Kids>(
+    alloc: Global,
+    desk: &mut D,
+    timer: &T,
+    ender: &mut E,
+    noted: &mut Noted,
+    server: &mut Server<J, K>,
+) -> Result<Onward, ScriptFault>
+    // One request came in, its lines were done, and its one reply went out; or time passed, and lines were told.
+    ensures ok { IfOk result
+        (λ onward. HasTurned K.skills (T.says timer.now) onward (D.passed desk.old) (D.passed desk.new)
+        (between
+        (standing server.old.node (children_state (K.ledger server.old.kids) (K.failures server.old.kids)) server.old.busy)
+        server.old.ends)
+        (between
+        (standing server.new.node (children_state (K.ledger server.new.kids) (K.failures server.new.kids)) server.new.busy)
+        server.new.ends)) }
+    ensures err { IfErr result (λ e. IsFailed K.skills J.write_fails e (D.passed desk.old) (D.passed desk.new)
+        (between
+        (standing server.old.node (children_state (K.ledger server.old.kids) (K.failures server.old.kids)) server.old.busy)
+        server.old.ends)
+        (between
+        (standing server.new.node (children_state (K.ledger server.new.kids) (K.failures server.new.kids)) server.new.busy)
+        server.new.ends)) }
+    // First it was told how what start methods began is ended, if anything happened since that was told.
+    ensures told { OnOk result
+        (E.told ender.new ≡ stop_lists_if (is_new noted.old.size (size_of server.old.node.world))
+        (stops_of server.old.node.world.now) (E.told ender.old)) }
+    ensures known { OnOk result (noted.new.size ≡ Some (size_of server.old.node.world)) }
+    // If children and the node agreed, they agree.
+    ensures agrees { OnOk result (
+        Agrees server.old.node.world (K.ledger server.old.kids)
+        → Agrees server.new.node.world (K.ledger server.new.kids)) }
+    // However it ends, what is held is what some events make of what was, and what the trail shows is what happened.
+    ensures later { IsLater server.old.node.world server.new.node.world }
+    ensures safe { IsSafe server.new.node.world }
+{
+    match noted.tell(alloc, ender, &server.node) {
+        Ok(()) => take(alloc, desk, timer, server),
+        Err(_) => {
+            let _shown = server.node.trail();
+            Err(ScriptFault::Node(NodeFault::Memory))
+        }
+    }
+}

@@ -1,7 +1,0 @@
-use Rattle.smf_snap.proofs.Rising.{rises_taken}
-use Rattle.smf_snap.proofs.taking.take.Goals as goal
-
-pub from_vec-requires : goal.from_vec-requires
-from_vec-requires c =
-    rw (c.into_vec.ensures, c.in_ok-taken.ensures, c.as_slice.ensures.all)
-    (rises_taken c.args.groups.now c.as_slice.ensures.rises)

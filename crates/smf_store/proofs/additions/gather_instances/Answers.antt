@@ -1,0 +1,39 @@
+use Rattle.std.proofs.Common.{◌∙◌, ◌++◌, ◌∷◌, [], sym, ap, subst, take, take_all}
+use Rattle.std.proofs.lemmas.List.{take_more}
+use Rattle.smf_store.specs.Gathered.{AreRead, GathersInstances}
+use Rattle.smf_store.specs.Judged.{Takes, add_instance}
+use Rattle.smf_store.proofs.Adds.{add_more, add_none, add_end}
+use Rattle.smf_store.proofs.additions.gather_instances.Goals as goal
+
+pub loop-row-preserved : goal.loop-row-preserved
+loop-row-preserved c = record {
+  exact = add_more add_instance c.args.rows.now c.args.tables.now c.loop-row.tables c.add_instance.new.tables
+      c.loop-row.row-index c.row-item.result c.loop-row-test.true c.row-item.is c.loop-row.invariant.exact
+      (subst (λ b. Takes b (add_instance c.loop-row.tables c.row-item.result) c.add_instance.new.tables)
+      c.if-not-taken.false c.in_ok-taken.ensures.exact);
+  gathered = λ rows none a.
+      let all = c.args.rows.now in
+      let at = c.loop-row.row-index in
+      let one = c.in_ok-taken.ensures.added c.if-not-taken.false (record rows { instances = take at all })
+      (c.loop-row.invariant.gathered rows none a) in
+      let is = take_more all at c.row-item.result c.loop-row-test.true
+      ∙ ap (λ r. take at all ++ r ∷ []) (sym c.row-item.is) in
+      subst (λ l. AreRead (record rows { instances = l }) c.add_instance.new.tables) (sym is) one;
+}
+
+pub returns-then-not-taken-clause-exact : goal.returns-then-not-taken-clause-exact
+returns-then-not-taken-clause-exact c =
+    add_none add_instance c.args.rows.now c.args.tables.now c.loop-row.tables c.loop-row.row-index c.row-item.result
+    c.loop-row-test.true c.row-item.is c.loop-row.invariant.exact
+    (subst (λ b. Takes b (add_instance c.loop-row.tables c.row-item.result) c.add_instance.new.tables)
+    c.if-not-taken.true c.in_ok-taken.ensures.exact)
+
+pub returns-clause-exact : goal.returns-clause-exact
+returns-clause-exact c =
+    add_end add_instance c.args.rows.now c.args.tables.now c.loop-row.tables c.loop-row.row-index
+    c.loop-row-test.false c.loop-row.invariant.exact
+
+pub returns-clause-gathered : goal.returns-clause-gathered
+returns-clause-gathered c =
+    λ _. subst (λ l. GathersInstances l c.args.tables.now c.loop-row.tables)
+    (take_all _ _ c.loop-row-test.false) c.loop-row.invariant.gathered

@@ -1,6 +1,0 @@
-use Rattle.smf_store.specs.Judged.{judged}
-use Rattle.smf_store.proofs.Verdicts.{broken_none}
-use Rattle.smf_store.proofs.judging.find_broken.Goals as goal
-
-pub returns-in-Ok : goal.returns-in-Ok
-returns-in-Ok c = rw c.told_for.ensures (broken_none c.args.other c.in-Ok.field-0.tables (judged c.args.rows.now) c.in-Ok.ensures.exact)

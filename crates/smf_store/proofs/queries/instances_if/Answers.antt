@@ -1,0 +1,17 @@
+use Rattle.std.proofs.Common.{sym, subst, refl}
+use Rattle.sqlite.specs.Held.{state}
+use Rattle.smf_tables.specs.Scans.{LooksAtInstances}
+use Rattle.smf_store.specs.Stages.{LooksIf}
+use Rattle.smf_store.proofs.queries.instances_if.Goals as goal
+
+pub returns-in_ok-all_instances-in-true-clause-ok : goal.returns-in_ok-all_instances-in-true-clause-ok
+returns-in_ok-all_instances-in-true-clause-ok g c clean =
+    subst (λ b. LooksIf b LooksAtInstances (state g.S.Store c.args.tx.now.conn.now)
+    (state g.S.Store c.all_instances.new.tx.conn.now) c.in_ok-all_instances-in-true.field-0.items)
+    (sym c.in-true.is) (c.in_ok-all_instances-in-true.ensures.ok clean)
+
+pub returns-in-false-clause-ok : goal.returns-in-false-clause-ok
+returns-in-false-clause-ok g c clean =
+    subst (λ b. LooksIf b LooksAtInstances (state g.S.Store c.args.tx.now.conn.now)
+    (state g.S.Store c.args.tx.now.conn.now) c.new.result.items) (sym c.in-false.is)
+    (refl, λ o. o, c.new.ensures.items)

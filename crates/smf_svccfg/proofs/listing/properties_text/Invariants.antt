@@ -1,7 +1,0 @@
-use Rattle.std.proofs.Common.{◌≡◌, ◌++◌, drop, string_bytes}
-use Rattle.std.specs.List.{flat_map}
-use Rattle.smf_svccfg.specs.Listed.{group_lines}
-use Rattle.smf_svccfg.proofs.listing.properties_text.Given as goal
-
-abbrev pub invariant-loop-group : goal.invariant-loop-group
-invariant-loop-group l = string_bytes l.out ++ flat_map group_lines (drop l.group-index l.groups) ≡ flat_map group_lines l.groups

@@ -1,6 +1,0 @@
-use Rattle.smf_svccfg.proofs.Escapes.{escaped_is_text}
-use Rattle.smf_svccfg.proofs.quoting.quoted.Goals as goal
-
-pub unreachable-requires : goal.unreachable-requires
-unreachable-requires c =
-    c.in_default.ensures.cases.0 (rw (c.as_slice.ensures.value, c.in_ok-bytes.ensures, c.as_bytes.ensures.value) (escaped_is_text c.args.text.now c.utf8.text))

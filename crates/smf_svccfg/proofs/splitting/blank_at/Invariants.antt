@@ -1,7 +1,0 @@
-use Rattle.std.proofs.Common.{◌≡◌, ◌+◌, drop}
-use Rattle.std.specs.List.{position_or_len}
-use Rattle.smf_svccfg.specs.Words.{is_blank}
-use Rattle.smf_svccfg.proofs.splitting.blank_at.Given as goal
-
-abbrev pub invariant-loop-b : goal.invariant-loop-b
-invariant-loop-b l = record { at_index : l.at ≡ l.b-index; rest : l.at + position_or_len is_blank (drop l.b-index l.bytes) ≡ position_or_len is_blank l.bytes }

@@ -1,0 +1,13 @@
+use Rattle.std.proofs.Common.{IsTrue, arith, to_z-of_z}
+use Rattle.sqlite.specs.State.{HasCleanDisk}
+use Rattle.sqlite.specs.Held.{state}
+use Rattle.smf_tables.proofs.Steps.{drop_snapshots}
+use Rattle.smf_tables.proofs.edits.drop_snapshots.Goals as goal
+
+pub returns-clause-ok : goal.returns-clause-ok
+returns-clause-ok g c clean =
+    let old = state g.S.Store c.args.tx.now.conn.now in
+    let early : HasCleanDisk old = omega (arith, c.execute.ensures.survives.clean) in
+    let on : IsTrue old.in_transaction = c.requires early in
+    drop_snapshots old (state g.S.Store c.execute.new.self.conn.now) c.in_ok-execute.field-0 c.args.id
+    (rw (c.params-to_sql.ensures, to_z-of_z c.ranges.id) at (c.in_ok-execute.ensures.runs clean on))

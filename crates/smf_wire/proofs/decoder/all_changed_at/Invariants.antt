@@ -1,0 +1,10 @@
+use Rattle.std.proofs.Common.{◌≡◌, ◌-◌, None}
+use Rattle.smf_state.specs.Fields.{text_of_borrow}
+use Rattle.smf_wire.specs.Grammar.{all_changed_at, last_changed}
+use Rattle.smf_wire.proofs.Loops.{with_front}
+use Rattle.smf_wire.proofs.decoder.all_changed_at.Given as goal
+
+abbrev pub invariant-loop : goal.invariant-loop
+invariant-loop l =
+    with_front l.items (all_changed_at (last_changed l.items) (l.count - l.counter) (text_of_borrow l.left))
+    ≡ all_changed_at None l.count (text_of_borrow l.rest)

@@ -1,0 +1,122 @@
+ghost use Rattle.std.specs.Prelude.{◌≡◌, Err, false, true};
+ghost use Rattle.smf_edge.specs.Answers.{HasFailed};
+
+use smf_contract::{ContractEvent, Method, Terms};
+use smf_edge::{Happening, Kids, KidsFault, Note, TableKids};
+use smf_fmri::{InstanceFmri, Items, Number};
+use smf_method::CommandText;
+use smf_state::Duration;
+use std::alloc::Global;
+
+/// Children that a contract table simulates. One call that does something fails, by its number: a spawn is refused, and
+/// with any other the device fails.
+#[derive(Drop)]
+pub struct FailingKids {
+    kids: TableKids,
+    /// The number of the call that fails among those to come; 0 if none does.
+    next: u64,
+    failures: u64,
+}
+
+impl FailingKids {
+    pub fn new(alloc: Global, call: u64) -> FailingKids {
+        FailingKids {
+            kids: TableKids::new(alloc),
+            next: call,
+            failures: 0,
+        }
+    }
+
+    /// Counts a call, and gives back whether it fails.
+    fn fails(&mut self) -> bool
+        ensures kept { self.new.kids ≡ self.old.kids }
+        ensures failed { result ≡ true → HasFailed self.old.failures self.new.failures }
+        ensures same { result ≡ false → self.new.failures ≡ self.old.failures }
+    {
+        if self.next == 0 {
+            return false;
+        }
+        self.next -= 1;
+        if self.next > 0 {
+            return false;
+        }
+        self.failures = self.failures.saturating_add(1);
+        true
+    }
+}
+
+impl Kids for FailingKids {
+    ghost use Rattle.std.specs.Prelude.{false, true};
+
+    ghost ledger = { λ s. s.kids };
+
+    ghost failures = { λ s. s.failures };
+
+    ghost skills = { record { follows = λ _. true; acts = true; joins = false; has_device = true; may_refuse = λ _ _. Unit {0} } };
+
+    fn spawn(
+        &mut self,
+        id: Number,
+        cookie: u64,
+        style: Duration,
+        terms: Terms,
+        command: &CommandText,
+        restarter: &InstanceFmri,
+        method: Method,
+        instance: &InstanceFmri,
+    ) -> Result<(), KidsFault> {
+        if self.fails() {
+            return Err(KidsFault::Refused);
+        }
+        self.kids.spawn(
+            id, cookie, style, terms, command, restarter, method, instance,
+        )
+    }
+
+    fn poll(&mut self) -> Result<Option<ContractEvent>, KidsFault> {
+        if self.fails() {
+            return Err(KidsFault::Device);
+        }
+        self.kids.poll()
+    }
+
+    fn join(&mut self, _id: Number) -> Result<(), KidsFault> {
+        Err(KidsFault::NotHere)
+    }
+
+    fn kill(&mut self, id: Number) -> Result<(), KidsFault> {
+        if self.fails() {
+            return Err(KidsFault::Device);
+        }
+        self.kids.kill(id)
+    }
+
+    fn act(&mut self, id: Number, happening: Happening) -> Result<(), KidsFault> {
+        if self.fails() {
+            return Err(KidsFault::Device);
+        }
+        self.kids.act(id, happening)
+    }
+
+    fn reboot(&mut self) -> Result<(), KidsFault> {
+        if self.fails() {
+            return Err(KidsFault::Device);
+        }
+        self.kids.reboot()
+    }
+
+    fn list(&mut self) -> Result<Items<Number>, KidsFault> {
+        if self.fails() {
+            return Err(KidsFault::Device);
+        }
+        self.kids.list()
+    }
+
+    fn faults(&self) -> u64 {
+        self.failures
+    }
+
+    fn notes(&self) -> &[Note] {
+        self.kids.notes()
+    }
+}

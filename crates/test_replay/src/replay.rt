@@ -1,0 +1,228 @@
+use crate::event::event_of;
+use crate::fault::fault_text;
+use crate::safety::first_broken;
+use crate::traces::{trace_event, trace_line};
+use log::Log;
+use smf_fmri::Text;
+use smf_model::{NoJournal, Plain};
+use smf_node::{Node, NodeFault};
+use smf_script::{asks_children, run_request, settled_text};
+use smf_svccfg::{Selection, words};
+use smf_wire::{Message, encode};
+use smf_words::{Request, request_of, trail_text};
+use smf_world::Event;
+use std::alloc::{AllocError, Global};
+use std::fmt::Write;
+use std::str;
+
+/// The text for a line that is none of a replay.
+const BAD_LINE: &str = "smf: bad line\n";
+
+/// A node over a repository in memory, and what svccfg has selected. Only `end` drops it.
+pub(crate) struct Replay {
+    node: Node<NoJournal>,
+    selection: Selection,
+}
+
+/// Says whether a line is one of a script too. Such a line shows or changes what the node holds, or lets the schedule
+/// run.
+fn is_of_a_script(first: &str) -> bool {
+    let is_of_a_program = first == "svccfg" || first == "svcadm" || first == "svcs";
+    is_of_a_program || first == "trail" || first == "settle"
+}
+
+/// A line without the end that it was read with.
+fn without_end(line: &[u8]) -> &[u8] {
+    match line {
+        [front @ .., b'\n'] => front,
+        _ => line,
+    }
+}
+
+fn is_comment(line: &[u8]) -> bool {
+    match line {
+        [first, ..] => *first == b'#',
+        [] => false,
+    }
+}
+
+impl Replay {
+    /// Begins after the boot of a repository that holds nothing.
+    pub(crate) fn new(alloc: Global) -> Result<Replay, NodeFault> {
+        let selection = Selection::Nothing;
+        match Node::new(alloc, Plain::new(alloc, NoJournal {})) {
+            Ok(node) => Ok(Replay { node, selection }),
+            Err((fault, repository)) => {
+                let NoJournal {} = repository.into_journal();
+                Err(fault)
+            }
+        }
+    }
+
+    /// Ends the node.
+    pub(crate) fn end(self) {
+        let Replay { node, selection: _ } = self;
+        let NoJournal {} = node.into_repository().into_journal();
+    }
+
+    /// The rows that are held: the number of the instance and the text of its row.
+    fn put_rows(&self, out: &mut String) -> Result<(), AllocError> {
+        let view = self.node.repository().view()?;
+        for item in view.items.as_slice() {
+            let number = item.instance;
+            write!(out, "{number} ")?;
+            item.row.print_onto(out)?;
+            out.push_str("\n")?;
+        }
+        Ok(())
+    }
+
+    /// The messages that were ever sent: the place of each and its line.
+    fn put_messages(&self, alloc: Global, out: &mut String) -> Result<(), AllocError> {
+        let messages = self.node.messages();
+        for place in 0..messages.len() {
+            let line = encode(alloc, &messages[place])?;
+            let line = line.as_str();
+            writeln!(out, "{place} {line}")?;
+        }
+        Ok(())
+    }
+
+    /// The view of what is held, as a message's line.
+    fn put_view(&self, alloc: Global, out: &mut String) -> Result<(), AllocError> {
+        let view = self.node.repository().view()?;
+        let line = encode(alloc, &Message::View(view))?;
+        let line = line.as_str();
+        writeln!(out, "{line}")?;
+        Ok(())
+    }
+
+    /// The safety of the trail: `ok`, or the rule that is broken, and the first item that breaks it.
+    fn put_check(&self, alloc: Global, out: &mut String) -> Result<(), AllocError> {
+        let trail = self.node.trail();
+        let Some((place, broken)) = first_broken(trail) else {
+            return out.push_str("ok\n");
+        };
+        out.push_str(broken.text())?;
+        out.push_str(": ")?;
+        let item = trail_text(alloc, &trail[place..place + 1])?;
+        out.push_str(item.as_str())
+    }
+
+    /// An event happens, or is refused.
+    fn put_step(&mut self, event: Event, out: &mut String) -> Result<(), NodeFault> {
+        match self.node.step(event) {
+            Ok(_) => Ok(()),
+            Err(NodeFault::Memory) => Err(NodeFault::Memory),
+            Err(fault) => {
+                out.push_str(fault_text(fault))?;
+                out.push_str("\n")?;
+                Ok(())
+            }
+        }
+    }
+
+    fn put_event<L: Log>(
+        &mut self,
+        alloc: Global,
+        log: &L,
+        words: &[Text],
+        out: &mut String,
+    ) -> Result<(), NodeFault> {
+        match event_of(alloc, words)? {
+            Some(event) => {
+                trace_event(log, &event);
+                self.put_step(event, out)
+            }
+            None => {
+                out.push_str(BAD_LINE)?;
+                Ok(())
+            }
+        }
+    }
+
+    /// A line that is one of a script too. One that asks something of children, except `settle`, is no line of a
+    /// replay, since nobody runs methods.
+    fn put_request(
+        &mut self,
+        alloc: Global,
+        text: &str,
+        out: &mut String,
+    ) -> Result<(), NodeFault> {
+        let request = request_of(alloc, text.as_bytes())?;
+        if let Request::Settle(rounds) = &request {
+            let how = self.node.settle(*rounds)?;
+            out.push_str(settled_text(how))?;
+            return Ok(());
+        }
+        if asks_children(&request) {
+            out.push_str(BAD_LINE)?;
+            return Ok(());
+        }
+        run_request(alloc, &mut self.node, &mut self.selection, &request, out)?;
+        Ok(())
+    }
+
+    fn put_words<L: Log>(
+        &mut self,
+        alloc: Global,
+        log: &L,
+        text: &str,
+        words: &[Text],
+        out: &mut String,
+    ) -> Result<(), NodeFault> {
+        match words {
+            [] => Ok(()),
+            [first, ..] if is_of_a_script(first.as_str()) => {
+                trace_line(log, text);
+                self.put_request(alloc, text, out)
+            }
+            [first] if first.as_str() == "rows" => {
+                self.put_rows(out)?;
+                Ok(())
+            }
+            [first] if first.as_str() == "messages" => {
+                self.put_messages(alloc, out)?;
+                Ok(())
+            }
+            [first] if first.as_str() == "view" => {
+                self.put_view(alloc, out)?;
+                Ok(())
+            }
+            [first] if first.as_str() == "check" => {
+                self.put_check(alloc, out)?;
+                Ok(())
+            }
+            _ => self.put_event(alloc, log, words, out),
+        }
+    }
+
+    fn put_text<L: Log>(
+        &mut self,
+        alloc: Global,
+        log: &L,
+        text: &str,
+        out: &mut String,
+    ) -> Result<(), NodeFault> {
+        if is_comment(text.as_bytes()) {
+            return Ok(());
+        }
+        let words = words(alloc, text)?;
+        self.put_words(alloc, log, text, words.as_slice(), out)
+    }
+
+    /// Does a line, traces what it gives to the node, and gives what it prints. Only want of memory ends a replay.
+    pub(crate) fn text_of<L: Log>(
+        &mut self,
+        alloc: Global,
+        log: &L,
+        line: &[u8],
+    ) -> Result<String, NodeFault> {
+        let mut out = String::new(alloc);
+        match str::from_utf8(without_end(line)) {
+            Ok(text) => self.put_text(alloc, log, text, &mut out)?,
+            Err(_) => out.push_str(BAD_LINE)?,
+        }
+        Ok(out)
+    }
+}
