@@ -1,12 +1,10 @@
-//! A program for tests: lines of standard input are done to children in contracts that are followed. Its words are the
-//! folder of the contracts, the folder of the keepers' programs, and the form: `keepers` or `groups`.
-//! With no words it asks contracts whose commands say what they answer.
+//! A program for tests: lines of standard input are done to children in contracts that are followed. The command of a
+//! contract says what it answers.
 //!   `spawn ID COMMAND`    starts a command in the next contract, which a failure ends.
 //!   `ignore ID COMMAND`   does the same, and no failure ends it.
 //!   `poll`                prints all that is found.
 //!   `kill ID`             ends a contract.
 //!   `list`                prints the contracts with members.
-//!   `wait MS`             does nothing for so many milliseconds.
 //! Modules: `scripted` (contracts whose answers are written down), `texts` (the texts that are printed).
 #![tactic(auto)]
 
@@ -16,22 +14,17 @@ mod texts;
 use crate::scripted::Scripted;
 use crate::texts::{fault_text, print_event};
 use smf_contract::{EventSet, Method, Terms};
-use smf_edge::{Kids, KidsFault};
+use smf_edge::Kids;
 use smf_fmri::{InstanceFmri, Number};
 use smf_follow::FollowedKids;
-use smf_keeper::{Groups, Keepers, Room, RoomFault};
 use smf_method::CommandText;
-use smf_state::Duration as Style;
+use smf_state::Duration;
+use std::io;
 use std::io::{BufRead, BufReader};
 use std::process::ExitCode;
-use std::time::Duration;
-use std::{env, io, thread};
 
-/// The status if the program could not begin.
+/// The status if the program could not go on.
 const FAULT: u8 = 3;
-
-/// The status for words that are not these.
-const BAD_USAGE: u8 = 2;
 
 /// The terms of a contract. Failures are fatal to it, unless the service ignores failures.
 fn terms(fatal: bool) -> Terms {
@@ -66,7 +59,7 @@ fn spawn<K: Kids>(
     match kids.spawn(
         id,
         0,
-        Style::Contract,
+        Duration::Contract,
         terms(fatal),
         &command,
         &name,
@@ -126,73 +119,24 @@ fn act<K: Kids>(rt: &HostRuntime, kids: &mut K, line: &str) -> io::Result<()> {
         "poll" => poll(rt, kids),
         "kill" => kill(rt, kids, number),
         "list" => list(rt, kids),
-        "wait" => {
-            thread::sleep(rt, Duration::from_millis(number));
-            Ok(())
-        }
         _ => println!(rt; "what"),
     }
 }
 
-/// Ends all contracts.
-fn end_all<K: Kids>(kids: &mut K) {
-    if let Ok(left) = kids.list() {
-        for id in left.as_slice() {
-            let _: Result<(), KidsFault> = kids.kill(*id);
-        }
-    }
-}
-
-/// Does all lines, and ends what is left.
-fn run_over<K: Kids>(rt: &HostRuntime, kids: &mut K) -> io::Result<u8> {
+/// Does all lines.
+fn run(rt: &HostRuntime) -> io::Result<()> {
     let alloc = rt.alloc();
+    let mut kids = FollowedKids::new(alloc, Scripted::new(alloc));
     let reader = BufReader::new(alloc, rt.reader())?;
     for line in reader.lines(alloc) {
-        act(rt, kids, line?.as_str())?;
+        act(rt, &mut kids, line?.as_str())?;
     }
-    end_all(kids);
-    Ok(0)
-}
-
-fn run_in(rt: &HostRuntime, room: &str, libexec: &str, form: &str) -> io::Result<u8> {
-    let alloc = rt.alloc();
-    let path = format!(in alloc; "{room}")?;
-    let room = match Room::take(alloc, rt, path, libexec) {
-        Ok(room) => room,
-        Err(RoomFault::Taken) => {
-            eprintln!(rt; "taken")?;
-            return Ok(FAULT);
-        }
-        Err(_) => return Ok(FAULT),
-    };
-    if form == "keepers" {
-        let keepers = Keepers::new(alloc, rt, room, rt.stderr());
-        return run_over(rt, &mut FollowedKids::new(alloc, keepers));
-    }
-    match Groups::make(alloc, rt, room, rt.stderr()) {
-        Ok(groups) => run_over(rt, &mut FollowedKids::new(alloc, groups)),
-        Err(_) => {
-            eprintln!(rt; "no groups")?;
-            Ok(FAULT)
-        }
-    }
-}
-
-fn run(rt: &HostRuntime) -> io::Result<u8> {
-    let words: Vec<String> = env::args(rt)?.collect(rt.alloc())?;
-    match words.as_slice() {
-        [_] => run_over(
-            rt,
-            &mut FollowedKids::new(rt.alloc(), Scripted::new(rt.alloc())),
-        ),
-        [_, room, libexec, form] => run_in(rt, room.as_str(), libexec.as_str(), form.as_str()),
-        _ => Ok(BAD_USAGE),
-    }
+    Ok(())
 }
 
 fn main(rt: HostRuntime) -> ExitCode {
     match run(&rt) {
-        Ok(status) => ExitCode::from(status),
+        Ok(()) => ExitCode::SUCCESS,
         Err(_) => ExitCode::from(FAULT),
     }
 }
