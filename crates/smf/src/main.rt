@@ -1,7 +1,7 @@
 //! `smf`: does scripts of a service manager on standard input, and lines of svccfg over a database. A script runs over
 //! a repository in memory, a copy in memory of a database, or a database and the processes of its services. This crate
-//! opens files, and the crates below decide all else.
-//! Modules: `files` (the files that words name), `contracts` (contracts that are followed through forks), `processes`
+//! joins what the system has with what the crates below decide.
+//! Modules: `files` (databases in files), `contracts` (contracts that are followed through forks), `processes`
 //! (processes of the system), `server` (a service manager that stays).
 #![tactic(auto)]
 
@@ -11,10 +11,11 @@ mod processes;
 mod server;
 
 use crate::contracts::follow_over;
-use crate::files::{Hold, cfg_over, check_over, sim_over, take_alone, why_over};
+use crate::files::{cfg_over, check_over, sim_over, why_over};
 use crate::processes::run_over;
-use crate::server::{serve_over, tick_into};
+use crate::server::serve_over;
 use smf_edge::TableKids;
+use smf_host::{Hold, take_alone, tick_into};
 use smf_lines::NotedReader;
 use smf_program::{Task, read_task, refusal_of_words, refuse, tell_no_memory};
 use smf_serve::serve_sim;

@@ -8,9 +8,9 @@ use Rattle.smf_fmri.specs.Patterns.{service_of}
 use Rattle.smf_state.specs.declared.row.Row.{Row}
 use Rattle.smf_state.specs.declared.view.ViewItem.{ViewItem}
 use Rattle.smf_value.proofs.EditLoops.{left_at}
+use Rattle.smf_links.specs.declared.link.Link.{Link}
+use Rattle.smf_links.specs.declared.link.GraphNode.{GraphNode}
 use Rattle.smf_dep.specs.declared.dependency.Dependency.{Dependency}
-use Rattle.smf_dep.specs.declared.link.Link.{Link}
-use Rattle.smf_dep.specs.declared.link.GraphNode.{GraphNode}
 use Rattle.smf_dep.specs.declared.member.GraphMember.{GraphMember}
 use Rattle.smf_dep.specs.Members.{HasNumbersOf, HasStateOf, IsOfItem, IsReadFrom, composed_in, dependencies_in, member_of, member_with, members, snapshot_in, wires}
 use Rattle.smf_dep.specs.Methods.{has_unfit_methods}

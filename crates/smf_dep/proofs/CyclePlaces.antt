@@ -8,9 +8,9 @@ use Rattle.std.proofs.lemmas.List.Folds.{list_any-append}
 use Rattle.std.proofs.lemmas.Option.{slice_get_within}
 use Rattle.std.proofs.lemmas.List.{length-map}
 use Rattle.smf_cycles.specs.Paths as places
+use Rattle.smf_links.specs.declared.link.Link.{Link}
+use Rattle.smf_links.specs.declared.link.GraphNode.{GraphNode}
 use Rattle.smf_dep.specs.declared.dependency.Dependency.{Dependency}
-use Rattle.smf_dep.specs.declared.link.Link.{Link}
-use Rattle.smf_dep.specs.declared.link.GraphNode.{GraphNode}
 use Rattle.smf_dep.specs.declared.member.GraphMember.{GraphMember}
 use Rattle.smf_dep.specs.Cycles.{IsAmong, IsPath, asked_for, asks_for, cites, excludes, on_cycle}
 use Rattle.smf_dep.specs.Places.{AreCycles, edges_in, edges_of, flag_at, places_in_lists, link_of, links_of, node_of, nodes_of, places, places_from}

@@ -7,14 +7,14 @@ use Rattle.std.proofs.Math.Path.{fun_ext}
 use Rattle.std.proofs.lemmas.Bool.{ltb-true}
 use Rattle.std.proofs.lemmas.List.{length-map}
 use Rattle.std.proofs.lemmas.Option.{slice_get-get_or, slice_get-map}
+use Rattle.smf_links.specs.declared.link.Link.{Link}
+use Rattle.smf_links.specs.declared.link.GraphNode.{GraphNode}
+use Rattle.smf_links.specs.Blockage.{blocked_by, met_at, met_by, node_is, off_at, parks_by, runs_at}
+use Rattle.smf_links.specs.Blockage as places
 use Rattle.smf_dep.specs.declared.dependency.Dependency.{Dependency}
 use Rattle.smf_dep.specs.declared.graph.Finding.{Finding}
-use Rattle.smf_dep.specs.declared.link.Link.{Link}
-use Rattle.smf_dep.specs.declared.link.GraphNode.{GraphNode}
 use Rattle.smf_dep.specs.declared.member.GraphMember.{GraphMember}
 use Rattle.smf_dep.specs.Cycles.{on_cycle}
-use Rattle.smf_dep.specs.Blockage.{blocked_by, met_at, met_by, node_is, off_at, parks_by, runs_at}
-use Rattle.smf_dep.specs.Blockage as places
 use Rattle.smf_dep.specs.Places.{IsGraph, finding_at, edges_of, finding_of, flag_at, link_of, link_stops, links_of, node_of, node_stops, nodes_of}
 use Rattle.smf_dep.specs.Verdicts.{all_met, all_met_in, any_blocked, any_must_stop, is_blocked, is_idle, is_met, is_off, is_parked, is_running, is_waiting, must_stop, parked_in, verdict, verdict_by}
 use Rattle.smf_dep.proofs.Looked.{all_mapped, any_mapped, link_blocked, link_met, link_stops_is, look}

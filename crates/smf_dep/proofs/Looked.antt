@@ -4,11 +4,11 @@ use Rattle.std.specs.Prelude.{slice_get}
 use Rattle.std.specs.List.{list_all, list_any}
 use Rattle.std.specs.Option.{option_map_or}
 use Rattle.std.proofs.Math.Numerals.{suc-eq-add-one}
+use Rattle.smf_links.specs.declared.grouping.Grouping.{Grouping}
+use Rattle.smf_links.specs.declared.grouping.Grouping.TheVariants.{RequireAll, RequireAny, OptionalAll, ExcludeAll}
+use Rattle.smf_links.specs.Blockage.{blocked_by, blocks_at, meets_at, met_by}
 use Rattle.smf_dep.specs.declared.dependency.Dependency.{Dependency}
-use Rattle.smf_dep.specs.declared.dependency.Grouping.{Grouping}
-use Rattle.smf_dep.specs.declared.dependency.Grouping.TheVariants.{RequireAll, RequireAny, OptionalAll, ExcludeAll}
 use Rattle.smf_dep.specs.declared.member.GraphMember.{GraphMember}
-use Rattle.smf_dep.specs.Blockage.{blocked_by, blocks_at, meets_at, met_by}
 use Rattle.smf_dep.specs.Places.{link_of, link_stops, places, places_from}
 use Rattle.smf_dep.specs.Verdicts.{blocks, has_all, has_one, is_blocked, is_cited, is_met, is_off, is_parked, is_running, meets, must_stop, runs_or_parked, stops_by}
 

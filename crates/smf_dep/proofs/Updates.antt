@@ -11,23 +11,23 @@ use Rattle.smf_fmri.specs.ByKey.{BelongsAt, Rises, StandsAt, lookup, list_with_i
 use Rattle.smf_fmri.proofs.Places.{lookup_before, put_at}
 use Rattle.smf_state.specs.declared.view.ChangedItem.{ChangedItem}
 use Rattle.smf_state.specs.declared.view.ViewItem.{ViewItem}
+use Rattle.smf_links.specs.declared.link.Flags.{Flags}
+use Rattle.smf_links.specs.declared.link.Link.{Link}
+use Rattle.smf_links.specs.declared.link.GraphNode.{GraphNode}
+use Rattle.smf_links.specs.Blockage.{IsOut, met_at, with_flags}
+use Rattle.smf_links.specs.Stamps.{AreOut, Avoid, Reaches}
+use Rattle.smf_links.proofs.Work.{left_at, out_left, out_right}
 use Rattle.smf_dep.specs.declared.dependency.Dependency.{Dependency}
-use Rattle.smf_dep.specs.declared.link.Flags.{Flags}
-use Rattle.smf_dep.specs.declared.link.Link.{Link}
-use Rattle.smf_dep.specs.declared.link.GraphNode.{GraphNode}
 use Rattle.smf_dep.specs.declared.member.GraphMember.{GraphMember}
 use Rattle.smf_dep.specs.Cycles.{asked_for, asks_for, cites, excludes, leads, on_cycle}
 use Rattle.smf_dep.specs.Members.{IsOfItem, by_member, member_of, wires}
-use Rattle.smf_dep.specs.Blockage.{IsOut, met_at, with_flags}
 use Rattle.smf_dep.specs.Places.{event_at, finding_of, flags_of, link_stops, links_of, node_of, nodes_of}
-use Rattle.smf_dep.specs.Stamps.{AreOut, Avoid, Reaches}
 use Rattle.smf_dep.specs.Updates.{AreAlike, IsAlike, IsAlikeAt, IsAlikeChange, OthersStay, Stays, number, number_at, number_in, with_member, with_members}
 use Rattle.smf_dep.specs.Verdicts.{all_met, any_must_stop, is_cited, stops_by}
 use Rattle.smf_dep.proofs.Alike.{Wires, alike, cited_same, links_by, name_same, needs_same, places_same, rest_same}
 use Rattle.smf_dep.proofs.ByNumber.{at_found, found_at, stands, stood}
 use Rattle.smf_dep.proofs.Found.{met_is, node_got, stops_in}
 use Rattle.smf_dep.proofs.OfItems.{same_number}
-use Rattle.smf_dep.proofs.Work.{left_at, out_left, out_right}
 
 -- ---- one member in the place of another
 

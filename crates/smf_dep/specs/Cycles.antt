@@ -1,9 +1,9 @@
 -- Which instances depend on themselves.
 use Rattle.std.specs.Prelude.{◌≡◌, ◌⊎◌, List, [], ◌∷◌, Bool, true, false, not, ◌&&◌, ◌||◌, Option, Some, None}
 use Rattle.std.specs.List.{list_any}
+use Rattle.smf_links.specs.declared.grouping.Grouping.{Grouping}
+use Rattle.smf_links.specs.declared.grouping.Grouping.TheVariants.{ExcludeAll}
 use Rattle.smf_dep.specs.declared.dependency.Dependency.{Dependency}
-use Rattle.smf_dep.specs.declared.dependency.Grouping.{Grouping}
-use Rattle.smf_dep.specs.declared.dependency.Grouping.TheVariants.{ExcludeAll}
 use Rattle.smf_dep.specs.declared.member.GraphMember.{GraphMember}
 use Rattle.smf_dep.specs.Verdicts.{is_cited}
 

@@ -5,8 +5,4 @@ pub mod Verdicts
 pub mod Cycles
 pub mod Places
 pub mod Names
-pub mod Blockage
-pub mod Stamps
 pub mod Updates
-pub mod Tallies
-pub mod Wires

@@ -10,9 +10,9 @@ use Rattle.smf_snap.specs.declared.body.SnapshotBody.{SnapshotBody}
 use Rattle.smf_snap.specs.Body.{decoded_snapshot}
 use Rattle.smf_snap.specs.Composed.{composition}
 use Rattle.smf_state.specs.OwnName.{startd}
+use Rattle.smf_links.specs.declared.grouping.Grouping.TheVariants.{RequireAll}
+use Rattle.smf_links.specs.declared.grouping.RestartOn.TheVariants as restarts
 use Rattle.smf_dep.specs.declared.dependency.Dependency.{Dependency}
-use Rattle.smf_dep.specs.declared.dependency.Grouping.TheVariants.{RequireAll}
-use Rattle.smf_dep.specs.declared.dependency.RestartOn.TheVariants as restarts
 use Rattle.smf_dep.specs.declared.fault.DependencyFault.{DependencyFault}
 use Rattle.smf_dep.specs.declared.member.GraphMember.{GraphMember}
 use Rattle.smf_dep.specs.Methods.{has_unfit_methods}

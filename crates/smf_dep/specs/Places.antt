@@ -2,16 +2,16 @@
 use Rattle.std.specs.Prelude.{◌≡◌, ℕ, ◌+◌, List, [], ◌∷◌, ◌++◌, map, Bool, false, ◌&&◌, if◌then◌else◌, Option, Some, None, unwrap_or, is_some, slice_get}
 use Rattle.std.specs.List.{list_any}
 use Rattle.std.specs.Option.{option_map_or}
+use Rattle.smf_links.specs.declared.link.Link.{Link}
+use Rattle.smf_links.specs.declared.link.GraphNode.{GraphNode}
+use Rattle.smf_links.specs.declared.link.Flags.{Flags}
+use Rattle.smf_links.specs.Blockage.{met_at}
 use Rattle.smf_dep.specs.declared.dependency.Dependency.{Dependency}
 use Rattle.smf_fmri.specs.ByKey.{Rises}
 use Rattle.smf_dep.specs.declared.graph.Finding.{Finding}
-use Rattle.smf_dep.specs.declared.link.Link.{Link}
-use Rattle.smf_dep.specs.declared.link.GraphNode.{GraphNode}
-use Rattle.smf_dep.specs.declared.link.Flags.{Flags}
 use Rattle.smf_dep.specs.declared.member.GraphMember.{GraphMember}
 use Rattle.smf_dep.specs.Cycles.{excludes, on_cycle}
 use Rattle.smf_dep.specs.Members.{by_member}
-use Rattle.smf_dep.specs.Blockage.{met_at}
 use Rattle.smf_dep.specs.Verdicts.{all_met, any_must_stop, is_cited, is_idle, is_off, is_running, is_waiting, stops_by}
 
 -- the places, counted from at, of the instances that an entity stands for

@@ -8,11 +8,10 @@ use Rattle.smf_value.specs.declared.kind.Kind.TheVariants as kinds
 use Rattle.smf_value.specs.declared.value.Value.{Value}
 use Rattle.smf_value.specs.declared.value.Value.TheVariants.{Astring, Fmri}
 use Rattle.smf_value.specs.Groups.{PropertyRecord, GroupRecord, property_of, text_in, text_of}
+use Rattle.smf_links.specs.declared.grouping.Grouping.{Grouping}
+use Rattle.smf_links.specs.declared.grouping.RestartOn.{RestartOn}
+use Rattle.smf_links.specs.Groupings.{grouping_by, restart_by}
 use Rattle.smf_dep.specs.declared.dependency.Dependency.{Dependency}
-use Rattle.smf_dep.specs.declared.dependency.Grouping.{Grouping}
-use Rattle.smf_dep.specs.declared.dependency.Grouping.TheVariants.{RequireAll, RequireAny, OptionalAll, ExcludeAll}
-use Rattle.smf_dep.specs.declared.dependency.RestartOn.{RestartOn}
-use Rattle.smf_dep.specs.declared.dependency.RestartOn.TheVariants as restarts
 use Rattle.smf_dep.specs.declared.fault.DependencyFault.{DependencyFault}
 use Rattle.smf_dep.specs.declared.fault.DependencyFault.TheVariants.{Memory, BadGrouping, BadRestartOn, PathType, BadEntity}
 
@@ -31,22 +30,6 @@ abbrev pub ◌>>=◌ : {A B : Type 0} → Result A DependencyFault → (A → Re
 (Err e) >>= f = Err e
 
 -- ---- properties
-
-abbrev pub grouping_by : List ℕ → Option Grouping
-grouping_by text =
-    if pointwise nat_eq text (codes "require_all") then Some RequireAll
-    else if pointwise nat_eq text (codes "require_any") then Some RequireAny
-    else if pointwise nat_eq text (codes "optional_all") then Some OptionalAll
-    else if pointwise nat_eq text (codes "exclude_all") then Some ExcludeAll
-    else None
-
-abbrev pub restart_by : List ℕ → Option RestartOn
-restart_by text =
-    if pointwise nat_eq text (codes "none") then Some restarts.Nothing
-    else if pointwise nat_eq text (codes "error") then Some restarts.Error
-    else if pointwise nat_eq text (codes "restart") then Some restarts.Restart
-    else if pointwise nat_eq text (codes "refresh") then Some restarts.Refresh
-    else None
 
 abbrev pub grouping_in : Option (List ℕ) → Option Grouping
 grouping_in None = None

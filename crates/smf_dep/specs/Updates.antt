@@ -3,9 +3,9 @@ use Rattle.std.specs.Prelude.{◌≡◌, ℕ, ◌<◌, List, [], ◌∷◌, map,
 use Rattle.smf_fmri.specs.ByKey.{lookup, list_with_item, without}
 use Rattle.smf_state.specs.declared.view.ChangedItem.{ChangedItem}
 use Rattle.smf_state.specs.declared.view.ViewItem.{ViewItem}
+use Rattle.smf_links.specs.Blockage.{IsOut}
 use Rattle.smf_dep.specs.declared.member.GraphMember.{GraphMember}
 use Rattle.smf_dep.specs.Members.{IsOfItem, by_member, member_of, wires}
-use Rattle.smf_dep.specs.Blockage.{IsOut}
 use Rattle.smf_dep.specs.Places.{finding_of}
 
 -- an instance whose number is not touched is as before, and so is its finding

@@ -6,11 +6,11 @@ use Rattle.smf_fmri.specs.Patterns.{service_of, instance_of}
 use Rattle.smf_state.specs.declared.state.State.TheVariants.{Disabled, Offline, Maintenance}
 use Rattle.smf_state.specs.Rows.{same_state}
 use Rattle.smf_state.specs.States.{runs}
+use Rattle.smf_links.specs.declared.grouping.Grouping.{Grouping}
+use Rattle.smf_links.specs.declared.grouping.Grouping.TheVariants.{RequireAll, RequireAny, OptionalAll, ExcludeAll}
+use Rattle.smf_links.specs.declared.grouping.RestartOn.{RestartOn}
+use Rattle.smf_links.specs.declared.grouping.RestartOn.TheVariants as restarts
 use Rattle.smf_dep.specs.declared.dependency.Dependency.{Dependency}
-use Rattle.smf_dep.specs.declared.dependency.Grouping.{Grouping}
-use Rattle.smf_dep.specs.declared.dependency.Grouping.TheVariants.{RequireAll, RequireAny, OptionalAll, ExcludeAll}
-use Rattle.smf_dep.specs.declared.dependency.RestartOn.{RestartOn}
-use Rattle.smf_dep.specs.declared.dependency.RestartOn.TheVariants as restarts
 use Rattle.smf_dep.specs.declared.member.GraphMember.{GraphMember}
 use Rattle.smf_dep.specs.declared.graph.Verdict.{Verdict}
 use Rattle.smf_dep.specs.declared.graph.Verdict.TheVariants.{Met, Waiting, Blocked}

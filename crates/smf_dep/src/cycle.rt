@@ -1,10 +1,9 @@
 ghost use Rattle.std.specs.Prelude.{◌≡◌, ◌++◌, IfOk};
 ghost use Rattle.smf_dep.specs.Places.{AreCyclesOf, edges_in, edges_of, places_in_lists};
 
-use crate::dependency::Grouping;
-use crate::link::{GraphNode, Link};
 use smf_cycles::{Places, places_on_cycles};
 use smf_fmri::Items;
+use smf_links::{GraphNode, Grouping, Link};
 use std::alloc::{AllocError, Global};
 
 /// Puts places after others.

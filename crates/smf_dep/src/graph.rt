@@ -10,15 +10,15 @@ ghost use Rattle.smf_dep.specs.Verdicts.{must_stop, stops_by, verdict, verdict_b
 ghost use Rattle.smf_dep.specs.Updates.{AreAlike, OthersStay, with_members};
 
 use crate::cycle::on_cycles;
-use crate::dependency::{Dependency, Grouping, RestartOn};
-use crate::kept::KeptVerdicts;
-use crate::link::{GraphNode, Link, link_of, nodes_of};
+use crate::dependency::Dependency;
+use crate::link::{link_of, nodes_of};
 use crate::member::{
     GraphMember, ReadMember, Standing, members_again, renewed_members, standing_of,
 };
 use crate::names::Names;
 use crate::update::{are_alike, changed_members, numbers_of, place_in, put_touched, take_changes};
 use smf_fmri::Items;
+use smf_links::{GraphNode, Grouping, KeptVerdicts, Link, RestartOn};
 use smf_state::{ChangedItem, ViewItem};
 use std::alloc::{AllocError, Global};
 use std::marker::Model;

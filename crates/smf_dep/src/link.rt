@@ -2,40 +2,13 @@ ghost use Rattle.std.specs.Prelude.{◌≡◌, IfOk, IfSome, List, map};
 ghost use Rattle.smf_dep.specs.Places.{IsBeginning, all_links, flags_of, link_of, links_among, links_of, node_of, nodes_of, places};
 ghost use Rattle.smf_dep.specs.declared.member.GraphMember.{GraphMember as AnyMember};
 
-use crate::dependency::{Dependency, Grouping, RestartOn};
+use crate::dependency::Dependency;
 use crate::member::{GraphMember, ReadMember};
 use crate::names::Names;
-use crate::room::with_room;
 use crate::shared::Shared;
 use smf_fmri::{Fmri, Items};
+use smf_links::{Flags, GraphNode, Link, with_room};
 use std::alloc::{AllocError, Global};
-
-/// A dependency, with the places of the instances that each of its entities stands for.
-#[derive(Drop)]
-pub struct Link {
-    pub grouping: Grouping,
-    pub restart_on: RestartOn,
-    pub cited: Items<Items<usize>>,
-}
-
-/// The flags of an instance, by its state.
-#[derive(Clone, Copy)]
-pub struct Flags {
-    pub running: bool,
-    /// Disabled, or in maintenance.
-    pub off: bool,
-    /// Not enabled, or in maintenance.
-    pub idle: bool,
-    /// Enabled and offline, with nothing under way.
-    pub waiting: bool,
-}
-
-/// An instance, with what it depends on: nothing if a group can't be read.
-#[derive(Drop)]
-pub struct GraphNode {
-    pub flags: Flags,
-    pub links: Items<Link>,
-}
 
 fn places_by_entity(
     alloc: Global,

@@ -6,13 +6,13 @@ ghost use Rattle.smf_dep.specs.Members.{HasNumbersOf, HasStateOf, IsOfItem, by_m
 ghost use Rattle.smf_dep.specs.Methods.{has_unfit_methods};
 ghost use Rattle.smf_dep.specs.Verdicts.{cites_by, is_cited, is_idle, is_off, is_running, is_waiting};
 
-use crate::dependency::{Dependency, Grouping, RestartOn};
+use crate::dependency::Dependency;
 use crate::fault::DependencyFault;
 use crate::methods::has_unfit_methods;
 use crate::requirements::read_groups;
-use crate::room::with_room;
 use crate::shared::Shared;
 use smf_fmri::{Bytes, ExactClone, Fmri, InstanceFmri, Items, Keyed, Ordered};
+use smf_links::{Grouping, RestartOn, with_room};
 use smf_snap::{SnapshotBody, decode_snapshot};
 use smf_state::{Row, State, ViewItem, is_startd};
 use smf_value::{BodyFault, Group};

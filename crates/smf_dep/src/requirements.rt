@@ -4,9 +4,10 @@ ghost use Rattle.smf_dep.specs.Requirements.{Gives, dependency_of, entities_in, 
 ghost use Rattle.smf_dep.specs.declared.fault.DependencyFault.TheVariants.{BadGrouping, BadRestartOn};
 ghost use Rattle.smf_value.specs.Groups.{property_of, text_in};
 
-use crate::dependency::{Dependency, Grouping, RestartOn};
+use crate::dependency::Dependency;
 use crate::fault::DependencyFault;
 use smf_fmri::{Fmri, FmriFault, Items, Ordered};
+use smf_links::{Grouping, RestartOn};
 use smf_value::{Group, Kind, Property, Value};
 use std::alloc::Global;
 

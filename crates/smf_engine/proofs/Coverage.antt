@@ -15,10 +15,10 @@ use Rattle.smf_state.specs.declared.view.ChangedItem.{ChangedItem}
 use Rattle.smf_state.specs.declared.view.View.{View}
 use Rattle.smf_state.specs.declared.view.ViewItem.{ViewItem}
 use Rattle.smf_state.specs.Patched.{by_item, view_after_changes, with_item, with_items}
+use Rattle.smf_links.specs.Blockage.{IsOut}
 use Rattle.smf_dep.specs.declared.graph.Finding.{Finding}
 use Rattle.smf_dep.specs.declared.member.GraphMember.{GraphMember}
 use Rattle.smf_dep.specs.Members.{by_member, member_of, members}
-use Rattle.smf_dep.specs.Blockage.{IsOut}
 use Rattle.smf_dep.specs.Places.{finding_of}
 use Rattle.smf_dep.specs.Updates.{OthersStay}
 use Rattle.smf_dep.proofs.OfItems.{at_no_place, at_place, lookup_of}

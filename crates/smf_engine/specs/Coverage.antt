@@ -6,9 +6,9 @@ use Rattle.smf_state.specs.declared.view.ChangedItem.{ChangedItem}
 use Rattle.smf_state.specs.declared.view.View.{View}
 use Rattle.smf_state.specs.declared.view.ViewItem.{ViewItem}
 use Rattle.smf_state.specs.Patched.{by_item}
+use Rattle.smf_links.specs.Blockage.{IsOut}
 use Rattle.smf_dep.specs.declared.member.GraphMember.{GraphMember}
 use Rattle.smf_dep.specs.Members.{members}
-use Rattle.smf_dep.specs.Blockage.{IsOut}
 use Rattle.smf_wire.specs.declared.order.Order.{Order}
 use Rattle.smf_engine.specs.Orders.{order, order_in}
 

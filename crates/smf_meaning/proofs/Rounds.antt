@@ -2,9 +2,9 @@
 use Rattle.std.proofs.Common.{◌≡◌, ◌⊎◌, inl, inr, ℕ, zero, suc, ◌+◌, ◌-◌, ◌≤◌, ◌<◌, List, [], ◌∷◌, length, filter, Bool, true, false, ◌||◌, ◌&&◌, not, if◌then◌else◌, Option, Some, None, refl, sym, ap, ◌∙◌, subst, arith}
 use Rattle.std.specs.List.{list_all, list_any}
 use Rattle.std.proofs.lemmas.Bool.{and_from, and_parts, or_cases, or_left, or_right}
+use Rattle.smf_links.specs.declared.grouping.Grouping.{Grouping}
+use Rattle.smf_links.specs.declared.grouping.Grouping.TheVariants.{RequireAll, RequireAny, OptionalAll, ExcludeAll}
 use Rattle.smf_dep.specs.declared.dependency.Dependency.{Dependency}
-use Rattle.smf_dep.specs.declared.dependency.Grouping.{Grouping}
-use Rattle.smf_dep.specs.declared.dependency.Grouping.TheVariants.{RequireAll, RequireAny, OptionalAll, ExcludeAll}
 use Rattle.smf_dep.specs.declared.member.GraphMember.{GraphMember}
 use Rattle.smf_dep.specs.Cycles.{IsAmong}
 use Rattle.smf_dep.specs.Verdicts.{any_blocked, blocks, members_of_entity, has_all, has_one, is_blocked, is_cited, is_idle, is_parked, is_running, is_waiting, parked_in}

@@ -13,11 +13,11 @@ use Rattle.smf_value.specs.declared.kind.Kind.TheVariants as kinds
 use Rattle.smf_value.specs.declared.value.Value.{Value}
 use Rattle.smf_value.specs.declared.value.Value.TheVariants.{Boolean, Count, Integer, Time, Astring, Ustring, Fmri}
 use Rattle.smf_value.specs.Groups.{GroupRecord, PropertyRecord, property_of, text_in, text_of}
+use Rattle.smf_links.specs.declared.grouping.Grouping.{Grouping}
+use Rattle.smf_links.specs.declared.grouping.Grouping.TheVariants.{RequireAll, RequireAny, OptionalAll, ExcludeAll}
+use Rattle.smf_links.specs.declared.grouping.RestartOn.{RestartOn}
+use Rattle.smf_links.specs.declared.grouping.RestartOn.TheVariants as restarts
 use Rattle.smf_dep.specs.declared.dependency.Dependency.{Dependency}
-use Rattle.smf_dep.specs.declared.dependency.Grouping.{Grouping}
-use Rattle.smf_dep.specs.declared.dependency.Grouping.TheVariants.{RequireAll, RequireAny, OptionalAll, ExcludeAll}
-use Rattle.smf_dep.specs.declared.dependency.RestartOn.{RestartOn}
-use Rattle.smf_dep.specs.declared.dependency.RestartOn.TheVariants as restarts
 use Rattle.smf_dep.specs.declared.fault.DependencyFault.{DependencyFault}
 use Rattle.smf_dep.specs.declared.fault.DependencyFault.TheVariants.{BadGrouping, BadRestartOn, PathType, BadEntity}
 use Rattle.smf_dep.specs.Requirements.{◌>>=◌, before, dependency_of, entities_by, entities_in, entities_of, entity_of, value_or_fault, grouping_in, is_dependency, is_of_names, is_of_services, is_service_text, name_or_bad_entity, of_services, read_groups, restart_in, with_group}

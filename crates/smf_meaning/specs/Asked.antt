@@ -7,11 +7,11 @@ use Rattle.smf_value.specs.declared.kind.Kind.TheVariants as kinds
 use Rattle.smf_value.specs.declared.value.Value.{Value}
 use Rattle.smf_value.specs.declared.value.Value.TheVariants.{Astring, Fmri}
 use Rattle.smf_value.specs.Groups.{GroupRecord, PropertyRecord, property_of, text_in}
+use Rattle.smf_links.specs.declared.grouping.Grouping.{Grouping}
+use Rattle.smf_links.specs.declared.grouping.Grouping.TheVariants.{RequireAll, RequireAny, OptionalAll, ExcludeAll}
+use Rattle.smf_links.specs.declared.grouping.RestartOn.{RestartOn}
+use Rattle.smf_links.specs.declared.grouping.RestartOn.TheVariants as restarts
 use Rattle.smf_dep.specs.declared.dependency.Dependency.{Dependency}
-use Rattle.smf_dep.specs.declared.dependency.Grouping.{Grouping}
-use Rattle.smf_dep.specs.declared.dependency.Grouping.TheVariants.{RequireAll, RequireAny, OptionalAll, ExcludeAll}
-use Rattle.smf_dep.specs.declared.dependency.RestartOn.{RestartOn}
-use Rattle.smf_dep.specs.declared.dependency.RestartOn.TheVariants as restarts
 use Rattle.smf_dep.specs.declared.fault.DependencyFault.{DependencyFault}
 use Rattle.smf_dep.specs.declared.fault.DependencyFault.TheVariants.{Memory, BadGrouping, BadRestartOn, PathType, BadEntity}
 

@@ -5,8 +5,8 @@ use Rattle.std.specs.List.{AllZip}
 use Rattle.smf_state.specs.declared.view.View.{View}
 use Rattle.smf_state.specs.declared.view.ViewItem.{ViewItem}
 use Rattle.smf_value.specs.Groups.{GroupRecord}
+use Rattle.smf_links.specs.declared.grouping.Grouping.{Grouping}
 use Rattle.smf_dep.specs.declared.dependency.Dependency.{Dependency}
-use Rattle.smf_dep.specs.declared.dependency.Grouping.{Grouping}
 use Rattle.smf_dep.specs.declared.fault.DependencyFault.{DependencyFault}
 use Rattle.smf_dep.specs.declared.member.GraphMember.{GraphMember}
 use Rattle.smf_dep.specs.Members.{implicit, member_of, members}

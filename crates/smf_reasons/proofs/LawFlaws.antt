@@ -11,9 +11,9 @@ use Rattle.smf_state.specs.OwnName.{startd}
 use Rattle.smf_value.specs.declared.fault.BodyFault.{BodyFault}
 use Rattle.smf_value.specs.Groups.{GroupRecord}
 use Rattle.smf_snap.specs.declared.body.SnapshotBody.{SnapshotBody}
+use Rattle.smf_links.specs.declared.grouping.Grouping.TheVariants.{RequireAll}
+use Rattle.smf_links.specs.declared.grouping.RestartOn.TheVariants as restarts
 use Rattle.smf_dep.specs.declared.dependency.Dependency.{Dependency}
-use Rattle.smf_dep.specs.declared.dependency.Grouping.TheVariants.{RequireAll}
-use Rattle.smf_dep.specs.declared.dependency.RestartOn.TheVariants as restarts
 use Rattle.smf_dep.specs.declared.fault.DependencyFault.{DependencyFault}
 use Rattle.smf_dep.specs.declared.member.GraphMember.{GraphMember}
 use Rattle.smf_dep.specs.Cycles.{IsCycle, on_cycle}

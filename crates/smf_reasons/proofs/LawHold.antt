@@ -16,9 +16,9 @@ use Rattle.smf_snap.specs.declared.body.SnapshotBody.{SnapshotBody}
 use Rattle.smf_wire.specs.declared.order.Order.{Order}
 use Rattle.smf_wire.specs.declared.order.What.{What}
 use Rattle.smf_wire.specs.declared.order.What.TheVariants as whats
+use Rattle.smf_links.specs.declared.grouping.Grouping.TheVariants.{RequireAll}
+use Rattle.smf_links.specs.declared.grouping.RestartOn.TheVariants as restarts
 use Rattle.smf_dep.specs.declared.dependency.Dependency.{Dependency}
-use Rattle.smf_dep.specs.declared.dependency.Grouping.TheVariants.{RequireAll}
-use Rattle.smf_dep.specs.declared.dependency.RestartOn.TheVariants as restarts
 use Rattle.smf_dep.specs.declared.fault.DependencyFault.{DependencyFault}
 use Rattle.smf_dep.specs.Members.{implicit, member_of, members, snapshot_in}
 use Rattle.smf_dep.specs.Methods.{MethodRead, method_by}

@@ -6,8 +6,8 @@ use Rattle.smf_state.specs.States.{state_text}
 use Rattle.smf_method.specs.declared.fault.MethodFault.{MethodFault}
 use Rattle.smf_method.specs.declared.fault.MethodFault.TheVariants as method_faults
 use Rattle.smf_method.specs.Tokens.{method_text}
-use Rattle.smf_dep.specs.declared.dependency.Grouping.{Grouping}
-use Rattle.smf_dep.specs.declared.dependency.Grouping.TheVariants.{RequireAll, RequireAny, OptionalAll, ExcludeAll}
+use Rattle.smf_links.specs.declared.grouping.Grouping.{Grouping}
+use Rattle.smf_links.specs.declared.grouping.Grouping.TheVariants.{RequireAll, RequireAny, OptionalAll, ExcludeAll}
 use Rattle.smf_dep.specs.declared.fault.DependencyFault.{DependencyFault}
 use Rattle.smf_dep.specs.declared.fault.DependencyFault.TheVariants.{Memory, BadGrouping, BadRestartOn, PathType, BadEntity}
 use Rattle.smf_reasons.specs.declared.reason.Reason.{Reason}

@@ -1,7 +1,1 @@
-pub mod Told
 pub mod Ended
-pub mod Closes
-pub mod Copied
-pub mod Excused
-pub mod Asked
-pub mod Taken

@@ -1,13 +1,12 @@
 ghost use Rattle.std.specs.Prelude.{◌≡◌, ◌≢◌, ◌≤◌, IfErr, IfOk};
 ghost use Rattle.smf_edge.specs.Answers.{children_state};
 ghost use Rattle.sqlite.specs.Files.{over_files};
-ghost use Rattle.smf_serve.specs.Closed.{IsClosedAfter, IsEndedAfter};
+ghost use Rattle.smf_database.specs.Closed.{IsClosedAfter, IsEndedAfter};
 ghost use Rattle.smf_serve.specs.Runs.{HasRunOver, IsCut, IsCutOff, IsDone, IsEnded};
 
-use crate::database_close::close;
-use crate::fault_texts::{fault_text, tell_open};
-use crate::served::{Closed, Served};
+use crate::fault_texts::fault_text;
 use smf_cfg::tell;
+use smf_database::{Closed, Served, close, tell_open};
 use smf_edge::Kids;
 use smf_lines::{LineReader, TextWriter};
 use smf_model::{Journal, Plain};

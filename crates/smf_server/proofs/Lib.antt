@@ -1,8 +1,6 @@
-pub mod Hasty
 pub mod Hears
 pub mod Late
 pub mod Lives
 pub mod Marked
 pub mod Served
-pub mod Stopped
 pub mod Turned

@@ -7,10 +7,10 @@ use Rattle.smf_model.specs.declared.journal.RepoFault.{RepoFault}
 use Rattle.smf_run.specs.Ends.{HasEnded, IsUnlisted}
 use Rattle.smf_script.specs.declared.fault.ScriptFault.{ScriptFault}
 use Rattle.smf_server.specs.Life.{AreLeft, AreTurns, HasLasted, HasStayed, IsBroken}
-use Rattle.smf_server.specs.Traffic.{Passed}
+use Rattle.smf_watch.specs.Traffic.{Passed}
 use Rattle.smf_server.specs.Turns.{Between, HasTurned}
-use Rattle.smf_server.specs.declared.ask.Onward.{Onward}
-use Rattle.smf_server.specs.declared.ask.Onward.TheVariants.{Goes}
+use Rattle.smf_watch.specs.declared.ask.Onward.{Onward}
+use Rattle.smf_watch.specs.declared.ask.Onward.TheVariants.{Goes}
 use Rattle.smf_server.proofs.Served.{one_turn_more}
 
 pub goes_on : (k : Skills) (clock : Duration → Type 0) (n : ℕ) (o : Onward) (was now is : Option (List Passed))

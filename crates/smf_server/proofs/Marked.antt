@@ -1,5 +1,5 @@
--- Instances that are marked for maintenance, one after another.
-use Rattle.std.proofs.Common.{◌≡◌, ◌<◌, ◌+◌, ℕ, List, [], ◌∷◌, ◌++◌, length, get_or, drop, Bool, true, false, refl, sym, ap, ◌∙◌, subst, append_assoc}
+-- Marks and looks at the trail, in which children have no part.
+use Rattle.std.proofs.Common.{◌≡◌, ℕ, List, [], ◌∷◌, length, Bool, true, false, sym, subst}
 use Rattle.std.specs.Prelude.{nat_lt}
 use Rattle.std.specs.declared.time.Duration.{Duration}
 use Rattle.smf_drive.specs.Agrees.{Agrees}
@@ -8,54 +8,15 @@ use Rattle.smf_edge.specs.Ledgers.{Ledger}
 use Rattle.smf_model.specs.declared.command.Edit.{Edit}
 use Rattle.smf_model.specs.declared.command.Edit.TheVariants.{Mark}
 use Rattle.smf_model.specs.declared.command.Mark.TheVariants.{Maintenance}
-use Rattle.smf_model.specs.Contents.{Holdings}
-use Rattle.smf_model.specs.Next.{current_instance}
 use Rattle.smf_node.specs.Rounds.{Course}
-use Rattle.smf_server.specs.declared.ends.Ends.{Ends as SeenEnds}
-use Rattle.smf_server.specs.Loops.{line_of, lines_of, mark_of, marks}
+use Rattle.smf_watch.specs.declared.ends.Ends.{Ends as SeenEnds}
+use Rattle.smf_watch.specs.Loops.{mark_of, marks}
 use Rattle.smf_server.specs.Turns.{Between, LooksIf, Standing, between, has_more, shown_of}
-use Rattle.smf_server.proofs.Hasty.{left_from}
 use Rattle.smf_world.specs.declared.event.Event.TheVariants.{Client}
-use Rattle.smf_world.specs.Reached.{IsLater}
 use Rattle.smf_world.specs.Schedule.{Progress, on}
 use Rattle.smf_world.specs.Worked.{work_of_command, work_of_event}
 use Rattle.smf_world.specs.World.{World}
-use Rattle.smf_world.proofs.LaterWorlds.{later_by, later_self, later_then}
 use Rattle.smf_world.proofs.Scheduled.{on_world}
-
--- ---- lines
-
-pub one_line : (h : Holdings) (ns : List ℕ) (i d : ℕ) (lines new all : List (List ℕ)) → i < length ns
-    → new ≡ lines ++ line_of (current_instance h (get_or ns i d)) → lines ++ lines_of h (drop i ns) ≡ all
-    → new ++ lines_of h (drop (i + 1) ns) ≡ all
-one_line h ns i d lines new all low made so_far =
-    ap (λ (xs : List (List ℕ)). xs ++ lines_of h (drop (i + 1) ns)) made
-    ∙ append_assoc lines (line_of (current_instance h (get_or ns i d))) (lines_of h (drop (i + 1) ns))
-    ∙ ap (λ (xs : List ℕ). lines ++ lines_of h xs) (sym (left_from ns i d low))
-    ∙ so_far
-
--- ---- marks
-
--- so many are marked, and these are left
-pub record HaveMarked (all left : List ℕ) (p q : Progress) : Type 0 where
-  pub made : marks left q ≡ marks all p
-  pub later : IsLater p.world q.world
-
-pub none_marked : (all : List ℕ) (p : Progress) → HaveMarked all all p p
-none_marked all p = record { made = refl; later = later_self p.world }
-
-pub one_marked : (all : List ℕ) (i d : ℕ) (p q r : Progress) → i < length all → r ≡ on q (mark_of (get_or all i d))
-    → HaveMarked all (drop i all) p q → HaveMarked all (drop (i + 1) all) p r
-one_marked all i d p q r low is h =
-    record {
-      made = ap (marks (drop (i + 1) all)) is ∙ ap (λ (xs : List ℕ). marks xs q) (sym (left_from all i d low)) ∙ h.made;
-      later = later_then p.world q.world r.world h.later
-          (later_by q.world r.world (mark_of (get_or all i d))
-          (ap (λ (x : Progress). x.world) is ∙ on_world q (mark_of (get_or all i d))));
-    }
-
-pub marked_still : (all left : List ℕ) (p q r : Progress) → HaveMarked all left p q → r ≡ q → IsLater p.world r.world
-marked_still all left p q r h is = subst (λ (x : Progress). IsLater p.world x.world) (sym is) h.later
 
 -- ---- children have no part in it
 

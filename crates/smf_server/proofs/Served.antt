@@ -6,9 +6,9 @@ use Rattle.smf_edge.specs.Answers.{Skills}
 use Rattle.smf_model.specs.declared.journal.RepoFault.{RepoFault}
 use Rattle.smf_script.specs.declared.fault.ScriptFault.{ScriptFault}
 use Rattle.smf_server.specs.Life.{AreTurns, IsBroken, IsClosed}
-use Rattle.smf_server.specs.Traffic.{Passed, Asked, Closed, Told, traffic_with, reply_in}
+use Rattle.smf_watch.specs.Traffic.{Passed, Asked, Closed, Told, traffic_with, reply_in}
 use Rattle.smf_server.specs.Turns.{Between, Doing, IsFailed, IsServed, IsTurn, Step, Steps, TurnsFollow, passed_in}
-use Rattle.smf_server.proofs.Hasty.{left_at}
+use Rattle.smf_watch.proofs.Hasty.{left_at}
 
 -- ---- what passed
 

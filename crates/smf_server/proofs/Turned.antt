@@ -13,9 +13,10 @@ use Rattle.smf_run.specs.Scripts.{Stops}
 use Rattle.smf_script.specs.declared.fault.ScriptFault.{ScriptFault}
 use Rattle.smf_script.specs.declared.fault.ScriptFault.TheVariants.{Node}
 use Rattle.smf_script.specs.Script.{first_session}
-use Rattle.smf_server.specs.declared.ends.Ends.{Ends as SeenEnds}
-use Rattle.smf_server.specs.Traffic.{Passed, Asked, Told, traffic_with, reply_in}
-use Rattle.smf_server.specs.Turns.{Answer, Answered, Between, GoesIf, HasAnswered, IsFailed, IsTick, IsTurn, Standing, Ticked, between, is_same, request_failed, rounds_failed, size_of, tick_failed}
+use Rattle.smf_watch.specs.declared.ends.Ends.{Ends as SeenEnds}
+use Rattle.smf_watch.specs.Traffic.{Passed, Asked, Told, traffic_with, reply_in}
+use Rattle.smf_server.specs.Turns.{Answer, Answered, Between, GoesIf, HasAnswered, IsFailed, IsTick, IsTurn, Standing, Ticked, between, request_failed, rounds_failed, tick_failed}
+use Rattle.smf_watch.specs.Sizes.{is_same, size_of}
 use Rattle.smf_server.proofs.Served.{asked_replied, passing_nothing}
 use Rattle.smf_world.specs.Reached.{IsLater}
 use Rattle.smf_world.specs.World.{World}

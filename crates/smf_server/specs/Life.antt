@@ -13,10 +13,10 @@ use Rattle.smf_world.specs.declared.event.Event.TheVariants as events
 use Rattle.smf_world.specs.Schedule.{begun_at}
 use Rattle.smf_world.specs.Happens.{happens}
 use Rattle.smf_world.specs.World.{initial_world}
-use Rattle.smf_server.specs.Traffic.{Passed, Closed, traffic_with}
+use Rattle.smf_watch.specs.Traffic.{Passed, Closed, traffic_with}
 use Rattle.smf_server.specs.Turns.{Between, IsFailed, IsServed, standing}
-use Rattle.smf_server.specs.declared.ask.Onward.{Onward}
-use Rattle.smf_server.specs.declared.ask.Onward.TheVariants.{Goes, Ends}
+use Rattle.smf_watch.specs.declared.ask.Onward.{Onward}
+use Rattle.smf_watch.specs.declared.ask.Onward.TheVariants.{Goes, Ends}
 
 -- ---- turns
 

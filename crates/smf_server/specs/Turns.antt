@@ -1,33 +1,28 @@
 -- The state of a server, turn by turn.
-use Rattle.std.specs.Prelude.{◌≡◌, ℕ, nat_lt, ◌==◌, ◌||◌, ◌&&◌, not, List, [], ◌∷◌, length, filter, flat_map, map, reverse, Bool, true, false, Option, Some, is_some, slice_get}
+use Rattle.std.specs.Prelude.{◌≡◌, ℕ, nat_lt, ◌||◌, ◌&&◌, not, List, [], ◌∷◌, length, filter, flat_map, map, reverse, Bool, true, false, Option, Some}
 use Rattle.std.specs.declared.time.Duration.{Duration}
 use Rattle.smf_edge.specs.Answers.{Seen, Skills}
 use Rattle.smf_machine.specs.Runners.{rules_of}
 use Rattle.smf_model.specs.declared.journal.RepoFault.{RepoFault}
 use Rattle.smf_node.specs.declared.fault.NodeFault.{NodeFault}
-use Rattle.smf_node.specs.Rounds.{Course, HasLearned, HasSettled, at, course}
-use Rattle.smf_restarter.specs.declared.known.KnownInstance.{KnownInstance}
-use Rattle.smf_restarter.specs.declared.known.Phase.{Phase}
-use Rattle.smf_restarter.specs.declared.known.Phase.TheVariants.{Running}
-use Rattle.smf_restarter.specs.Knowledge.{Knowledge}
+use Rattle.smf_node.specs.Rounds.{Course, HasSettled, at, course}
 use Rattle.smf_run.specs.Scripts.{HasRun, Stops}
 use Rattle.smf_script.specs.declared.fault.ScriptFault.{ScriptFault}
 use Rattle.smf_script.specs.declared.fault.ScriptFault.TheVariants.{Node}
 use Rattle.smf_script.specs.Script.{first_session}
-use Rattle.smf_world.specs.declared.event.Event.TheVariants as events
 use Rattle.smf_world.specs.declared.item.Item.{Item}
 use Rattle.smf_world.specs.declared.schedule.Settled.{Settled}
 use Rattle.smf_world.specs.declared.schedule.Settled.TheVariants.{Quiet, Busy}
-use Rattle.smf_world.specs.Schedule.{Progress, on}
-use Rattle.smf_world.specs.Worked.{restarter}
+use Rattle.smf_world.specs.Schedule.{Progress}
 use Rattle.smf_world.specs.World.{World}
-use Rattle.smf_server.specs.Loops.{hasty, is_kept, lines_of, marks, seen_by}
-use Rattle.smf_server.specs.Traffic.{Passed, Asked, Closed, Told, traffic_with, reply_in}
-use Rattle.smf_server.specs.declared.ask.Onward.{Onward}
-use Rattle.smf_server.specs.declared.ends.End.{End}
-use Rattle.smf_server.specs.declared.ends.Ends.{Ends as SeenEnds}
-use Rattle.smf_server.specs.declared.size.Size.{Size}
-use Rattle.smf_server.specs.declared.ask.Onward.TheVariants.{Goes, Ends}
+use Rattle.smf_watch.specs.Loops.{hasty, is_kept, lines_of, marks, seen_by}
+use Rattle.smf_watch.specs.Sizes.{size_of, is_same}
+use Rattle.smf_watch.specs.Traffic.{Passed, Asked, Closed, Told, traffic_with, reply_in}
+use Rattle.smf_watch.specs.Watched.{HasHeard, HaveTimedOut}
+use Rattle.smf_watch.specs.declared.ask.Onward.{Onward}
+use Rattle.smf_watch.specs.declared.ends.End.{End}
+use Rattle.smf_watch.specs.declared.ends.Ends.{Ends as SeenEnds}
+use Rattle.smf_watch.specs.declared.ask.Onward.TheVariants.{Goes, Ends}
 
 -- ---- what stands between turns
 
@@ -49,13 +44,6 @@ abbrev pub between : Standing → SeenEnds → Between
 between s ends = record { standing = s; looked = ends.looked; ends = ends.seen.items }
 
 -- ---- rounds
-
--- by what it is seen that something happened
-abbrev pub size_of : World → Size
-size_of w = record { revision = w.now.revision; shown = length w.trail; sent = length w.sent }
-
-abbrev pub is_same : Size → Size → Bool
-is_same s t = s.revision == t.revision && s.shown == t.shown && s.sent == t.sent
 
 -- the most rounds before it is looked what comes next
 abbrev pub max_rounds : ℕ
@@ -91,44 +79,6 @@ GoesBy false true k c t = HasTried k c t
 GoesBy false false k c t = t ≡ record { course = c; busy = false }
 
 -- ---- a tick
-
--- children told what happened, until they had no more to tell; this is whether they told anything
-pub record HasHeard (k : Skills) (c d : Course) (any : Bool) : Type 0 where
-  pub learned : HasLearned (rules_of k) c d
-  pub told : any ≡ nat_lt 0 learned.count
-
-abbrev pub MayTimeOut : Phase → Type 0
-MayTimeOut (Running m) = is_some m.timeout ≡ true
-MayTimeOut _ = ⊥
-
--- a method runs for an instance, which has a time-out
-pub record IsTimedIn (all : List KnownInstance) (n : ℕ) : Type 0 where
-  pub place : ℕ
-  pub one : KnownInstance
-  pub at : slice_get all place ≡ Some one
-  pub numbered : one.instance ≡ n
-  pub runs : MayTimeOut one.phase
-
--- a restarter runs such a method
-pub record IsTimed (known : Option Knowledge) (n : ℕ) : Type 0 where
-  pub all : Knowledge
-  pub here : known ≡ Some all
-  pub runs : IsTimedIn all.instances n
-
--- the method of an instance took too long, or nothing happened
-abbrev pub TimesOutIf : Bool → List ℕ × ℕ → Progress → Progress → Type 0
-TimesOutIf true one p q = IsTimed (restarter p.world one.0) one.1 × (q ≡ on p (events.Timeout one.0 one.1))
-TimesOutIf false one p q = q ≡ p
-
--- methods of these instances took too long
-abbrev pub AreLate : List (List ℕ × ℕ) → Progress → Progress → Type 0
-AreLate [] p q = q ≡ p
-AreLate (one ∷ more) p q = (mid : Progress) × TimesOutIf true one p mid × AreLate more mid q
-
-pub record HaveTimedOut (p q : Progress) (any : Bool) : Type 0 where
-  pub late : List (List ℕ × ℕ)
-  pub are : AreLate late p q
-  pub told : any ≡ nat_lt 0 (length late)
 
 -- children told what happened, methods timed out, and rounds were made if there was anything of this, or if more were
 -- wanted

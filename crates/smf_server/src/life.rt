@@ -7,17 +7,14 @@ ghost use Rattle.smf_server.specs.declared.life.TheConstants.{MOST_TURNS};
 ghost use Rattle.smf_world.specs.Reached.{IsLater};
 ghost use Rattle.smf_world.specs.Safe.{IsSafe};
 
-use crate::ask::Onward;
-use crate::desk::Desk;
 use crate::server::Server;
-use crate::stops::{Ender, Noted};
-use crate::timer::Timer;
 use crate::turns::turn;
 use smf_edge::Kids;
 use smf_model::{Journal, Plain};
 use smf_node::Node;
 use smf_run::end_all;
 use smf_script::ScriptFault;
+use smf_watch::{Desk, Ender, Noted, Onward, Timer};
 use std::alloc::Global;
 
 /// The most turns that a server takes, one of each microsecond of half a million years.

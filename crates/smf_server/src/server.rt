@@ -1,8 +1,7 @@
-use crate::ends::Ends;
-use crate::watch::Watch;
 use smf_edge::Kids;
 use smf_model::Journal;
 use smf_node::Node;
+use smf_watch::{Ends, Watch};
 use std::alloc::Global;
 
 /// A node, the children of its services, and what is noted of them between turns.

@@ -3,21 +3,14 @@ ghost use Rattle.smf_drive.specs.Agrees.{Agrees};
 ghost use Rattle.smf_drive.specs.Moves.{Moves};
 ghost use Rattle.smf_edge.specs.Answers.{children_state};
 ghost use Rattle.smf_node.specs.Rounds.{course};
-ghost use Rattle.smf_server.specs.Traffic.{Asked, Passed, Told, traffic_with};
-ghost use Rattle.smf_server.specs.Stops.{is_new, stops_of, stop_lists_if};
-ghost use Rattle.smf_server.specs.Turns.{GoesBy, GoesIf, HasGone, HasLooked, HasPassed, HasTried, HasTurned, IsFailed, IsTick, IsTurn, LooksIf, between, is_busy, is_same, shown_of, size_of, standing};
+ghost use Rattle.smf_server.specs.Turns.{GoesBy, GoesIf, HasGone, HasLooked, HasPassed, HasTried, HasTurned, IsFailed, IsTick, IsTurn, LooksIf, between, is_busy, shown_of, standing};
+ghost use Rattle.smf_watch.specs.Sizes.{is_same, size_of};
+ghost use Rattle.smf_watch.specs.Stops.{is_new, stops_of, stop_lists_if};
+ghost use Rattle.smf_watch.specs.Traffic.{Asked, Passed, Told, traffic_with};
 ghost use Rattle.smf_world.specs.Reached.{IsLater};
 ghost use Rattle.smf_world.specs.Safe.{IsSafe};
 
-use crate::ask::{Onward, ServerInput};
-use crate::child_events::hear_all;
-use crate::desk::Desk;
-use crate::marks::{lines_of, mark_all};
 use crate::server::Server;
-use crate::size::Size;
-use crate::stops::{Ender, Noted};
-use crate::timer::Timer;
-use crate::watch::owners;
 use smf_drive::drive;
 use smf_edge::Kids;
 use smf_fmri::{Items, Text};
@@ -25,6 +18,10 @@ use smf_model::Journal;
 use smf_node::{Node, NodeFault};
 use smf_run::run_script;
 use smf_script::ScriptFault;
+use smf_watch::{
+    Desk, Ender, Noted, Onward, ServerInput, Size, Timer, hear_all, is_same, lines_of, mark_all,
+    owners, size_of,
+};
 use smf_world::Settled;
 use std::alloc::{AllocError, Global};
 
@@ -102,9 +99,9 @@ fn go_on<T: Timer, J: Journal, K: Kids>(
         (K.ledger server.new.kids) }
     ensures kept { server.new.ends ≡ server.old.ends }
 {
-    let before = size(&server.node);
+    let before = size_of(&server.node);
     go(timer, server, 1)?;
-    let after = size(&server.node);
+    let after = size_of(&server.node);
     let wanted = wants_more(server.busy, &before, &after);
     go_if(timer, server, wanted)?;
     Ok(())
@@ -264,41 +261,6 @@ fn tell_each<D: Desk>(desk: &mut D, lines: &Items<Text>)
     tell_all(desk, lines.as_slice());
 }
 
-/// How much the trail shows.
-fn trail_length<J: Journal>(node: &Node<J>) -> usize
-    ensures { result ≡ length node.now.world.trail }
-{
-    node.trail().len()
-}
-
-/// How many messages were sent.
-fn message_count<J: Journal>(node: &Node<J>) -> usize
-    ensures { result ≡ length node.now.world.sent }
-{
-    node.messages().len()
-}
-
-/// How much has happened.
-pub(crate) fn size<J: Journal>(node: &Node<J>) -> Size
-    ensures { result ≡ size_of node.now.world }
-{
-    let revision = node.repository().revision().get();
-    let shown = trail_length(node);
-    let sent = message_count(node);
-    Size {
-        revision,
-        shown,
-        sent,
-    }
-}
-
-/// True if two sizes are the same.
-pub(crate) fn is_same(one: &Size, other: &Size) -> bool
-    ensures { result ≡ is_same one.now other.now }
-{
-    one.revision == other.revision && one.shown == other.shown && one.sent == other.sent
-}
-
 /// True if all restarters are launched and wait for nothing but methods that run.
 fn rests<J: Journal>(alloc: Global, node: &Node<J>) -> Result<bool, AllocError> {
     let names = owners(alloc, node.repository().entries())?;
@@ -319,7 +281,7 @@ fn rests<J: Journal>(alloc: Global, node: &Node<J>) -> Result<bool, AllocError> 
 fn wants_rounds<J: Journal>(alloc: Global, node: &Node<J>, before: &Size) -> bool
     ensures { is_same before.now (size_of node.now.world) ≡ false → result ≡ true }
 {
-    let after = size(node);
+    let after = size_of(node);
     if !is_same(before, &after) {
         return true;
     }
@@ -360,7 +322,7 @@ fn answer<D: Desk, T: Timer, J: Journal, K: Kids>(
         → Agrees server.new.node.world (K.ledger server.new.kids)) }
     ensures later { IsLater server.old.node.world server.new.node.world }
 {
-    let before = size(&server.node);
+    let before = size_of(&server.node);
     let mut text: Vec<u8> = Vec::new(alloc);
     let mut lines = request;
     match run_script(

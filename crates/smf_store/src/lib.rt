@@ -6,7 +6,7 @@
 //! Judgements: `agreement` (the agreement of a table with the earlier ones), `judgements` (the rows of all tables).
 //! Opens: `places` (the order of the tables), `queries` (their queries), `opens` (all of a store, in either version),
 //! `refusal` (why a store is not opened).
-//! The whole: `store` (the journal), `repository` (the repository over a store).
+//! The whole: `store` (the journal), `repository` (the repository over a store), `file_bytes` (the bytes of its file).
 #![tactic(auto)]
 
 mod additions;
@@ -17,6 +17,7 @@ mod counter_rows;
 mod creation;
 mod fault;
 mod fields;
+mod file_bytes;
 mod judgements;
 mod opens;
 mod places;
@@ -27,6 +28,7 @@ mod rows;
 mod store;
 mod writes;
 
+pub use file_bytes::FileBytes;
 pub use refusal::{OpenFault, StoreTable};
 pub use repository::open_repository;
 pub use store::Store;

@@ -21,11 +21,11 @@ use Rattle.smf_model.specs.Shown.{view, view_item}
 use Rattle.smf_model.proofs.LawEvents.{event_dated, event_told, numbered_made}
 use Rattle.smf_model.proofs.LawLists.{no_such, some_same}
 use Rattle.smf_model.proofs.LawOutcomes.{apart}
+use Rattle.smf_links.specs.declared.grouping.Grouping.{Grouping}
+use Rattle.smf_links.specs.declared.grouping.Grouping.TheVariants.{RequireAll, RequireAny, OptionalAll, ExcludeAll}
+use Rattle.smf_links.specs.declared.grouping.RestartOn.{RestartOn}
+use Rattle.smf_links.specs.declared.grouping.RestartOn.TheVariants as restarts
 use Rattle.smf_dep.specs.declared.dependency.Dependency.{Dependency}
-use Rattle.smf_dep.specs.declared.dependency.Grouping.{Grouping}
-use Rattle.smf_dep.specs.declared.dependency.Grouping.TheVariants.{RequireAll, RequireAny, OptionalAll, ExcludeAll}
-use Rattle.smf_dep.specs.declared.dependency.RestartOn.{RestartOn}
-use Rattle.smf_dep.specs.declared.dependency.RestartOn.TheVariants as restarts
 use Rattle.smf_dep.specs.declared.member.GraphMember.{GraphMember}
 use Rattle.smf_dep.specs.Members.{member_of, members}
 use Rattle.smf_world.specs.MustStop.{MustStop, counts, counts_where_asked, counts_where_excluded, is_named_by, stands_for}

@@ -1,5 +1,5 @@
 use Rattle.std.proofs.Common.{◌≡◌, ◌++◌, map, drop}
-use Rattle.smf_dep.specs.declared.link.GraphNode.{GraphNode}
+use Rattle.smf_links.specs.declared.link.GraphNode.{GraphNode}
 use Rattle.smf_dep.specs.Places.{edges_in}
 use Rattle.smf_dep.proofs.cycle.edges_of.Given as goal
 

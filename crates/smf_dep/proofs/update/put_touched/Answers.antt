@@ -1,5 +1,5 @@
 use Rattle.std.proofs.Common.{ℕ, List, subst}
-use Rattle.smf_dep.specs.Blockage.{IsOut}
+use Rattle.smf_links.specs.Blockage.{IsOut}
 use Rattle.smf_dep.proofs.Updates.{named_by, named_by_all}
 use Rattle.smf_dep.proofs.update.put_touched.Goals as goal
 

@@ -1,5 +1,5 @@
 use Rattle.std.proofs.Common.{sym, ◌∙◌}
-use Rattle.smf_serve.proofs.Closes.{ended_after}
+use Rattle.smf_database.proofs.Closes.{ended_after}
 use Rattle.smf_serve.proofs.script.serve_file.Goals as goal
 
 pub returns-clause-ok : goal.returns-clause-ok

@@ -23,7 +23,7 @@ returns-in-Ok-go_if-clause-ok g c =
     (children_state (g.K.Kids.ledger c.run_script.new.kids) (g.K.Kids.failures c.run_script.new.kids)))
     c.wants_rounds-wanted.result came
     (rw c.deref.ensures.value at c.reply-is_written.ensures) (rw c.new-text.ensures.items at c.in-Ok.ensures.ran)
-    (rw c.size-before.ensures at c.wants_rounds-wanted.ensures) c.in-Ok-go_if.ensures.gone
+    (rw c.size_of-before.ensures at c.wants_rounds-wanted.ensures) c.in-Ok-go_if.ensures.gone
     c.go_if.ensures.kept
 
 pub returns-in-Ok-clause-err : goal.returns-in-Ok-clause-err

@@ -10,7 +10,7 @@ returns-clause-gone g c =
           (children_state (g.K.Kids.ledger c.go.new.server.kids) (g.K.Kids.failures c.go.new.server.kids))
           c.go.new.server.busy;
       first = c.in_ok-go.ensures.gone;
-      more = rw (c.wants_more-wanted.ensures, c.size-before.ensures, c.size-after.ensures) at
+      more = rw (c.wants_more-wanted.ensures, c.size_of-before.ensures, c.size_of-after.ensures) at
           c.in_ok-go_if.ensures.gone;
     }
 

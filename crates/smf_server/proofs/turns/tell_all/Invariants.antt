@@ -1,5 +1,5 @@
 use Rattle.std.proofs.Common.{◌≡◌, drop, map}
-use Rattle.smf_server.specs.Traffic.{Told, traffic_with}
+use Rattle.smf_watch.specs.Traffic.{Told, traffic_with}
 use Rattle.smf_server.proofs.turns.tell_all.Given as goal
 
 abbrev pub invariant-loop-line : goal.invariant-loop-line

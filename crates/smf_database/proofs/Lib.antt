@@ -1,0 +1,6 @@
+pub mod Told
+pub mod Closes
+pub mod Copied
+pub mod Excused
+pub mod Asked
+pub mod Taken

@@ -1,0 +1,5 @@
+pub mod FaultTexts
+pub mod Cfgs
+pub mod Closed
+pub mod Copies
+pub mod Reasons

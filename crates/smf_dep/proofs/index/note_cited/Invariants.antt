@@ -1,7 +1,0 @@
-use Rattle.std.proofs.Common.{drop}
-use Rattle.smf_dep.specs.Stamps.{AreOut}
-use Rattle.smf_dep.proofs.Citations.{Leads}
-use Rattle.smf_dep.proofs.index.note_cited.Given as goal
-
-abbrev pub invariant-loop-places : goal.invariant-loop-places
-invariant-loop-places l = Leads AreOut l.at (drop l.places-index l.cited) l.cited l.fn.citing.items l.citing.items

@@ -1,7 +1,0 @@
-use Rattle.std.proofs.Common.{drop}
-use Rattle.smf_dep.specs.Blockage.{IsOut}
-use Rattle.smf_dep.proofs.Citations.{Leads}
-use Rattle.smf_dep.proofs.index.note_places.Given as goal
-
-abbrev pub invariant-loop-place : goal.invariant-loop-place
-invariant-loop-place l = Leads IsOut l.at (drop l.place-index l.places) l.places l.fn.citing.items l.citing.items

@@ -1,6 +1,0 @@
-use Rattle.std.proofs.Common.{◌≡◌, ◌+◌, drop}
-use Rattle.smf_dep.specs.Stamps.{total}
-use Rattle.smf_dep.proofs.index.total_of.Given as goal
-
-abbrev pub invariant-loop-places : goal.invariant-loop-places
-invariant-loop-places l = l.total + total (drop l.places-index l.citing) ≡ total l.citing

@@ -1,6 +1,0 @@
-use Rattle.std.proofs.Common.{drop}
-use Rattle.smf_dep.specs.Wires.{IsTalliedBut}
-use Rattle.smf_dep.proofs.tallies.retally.Given as goal
-
-abbrev pub invariant-loop-number : goal.invariant-loop-number
-invariant-loop-number l = IsTalliedBut l.nodes l.stamps l.wires (drop l.number-index l.numbers) l.tallies

@@ -1,0 +1,11 @@
+pub mod Counted
+pub mod Growth
+pub mod FlagChanges
+pub mod Least
+pub mod Citations
+pub mod Reach
+pub mod Steps
+pub mod Counts
+pub mod TallyUpdates
+pub mod LinkNumbers
+pub mod Work

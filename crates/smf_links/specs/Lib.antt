@@ -1,0 +1,5 @@
+pub mod Groupings
+pub mod Blockage
+pub mod Stamps
+pub mod Tallies
+pub mod Wires

@@ -1,6 +1,0 @@
-use Rattle.std.proofs.Common.{◌≡◌, drop}
-use Rattle.smf_server.specs.Loops.{hasty, hasty_among}
-use Rattle.smf_server.proofs.ends.hasty.Given as goal
-
-abbrev pub invariant-loop-end : goal.invariant-loop-end
-invariant-loop-end l = hasty_among l.ends l.found (drop l.end-index l.ends) ≡ hasty l.ends

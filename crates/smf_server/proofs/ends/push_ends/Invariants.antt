@@ -1,6 +1,0 @@
-use Rattle.std.proofs.Common.{◌≡◌}
-use Rattle.smf_server.specs.Loops.{ends_after_items}
-use Rattle.smf_server.proofs.ends.push_ends.Given as goal
-
-abbrev pub invariant-loop-passed : goal.invariant-loop-passed
-invariant-loop-passed l = l.ends.items ≡ ends_after_items l.fn.ends.items l.trail l.at l.first l.passed

@@ -1,0 +1,5 @@
+pub mod Hasty
+pub mod Hears
+pub mod Late
+pub mod Marked
+pub mod Stopped

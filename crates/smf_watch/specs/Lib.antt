@@ -1,0 +1,5 @@
+pub mod Loops
+pub mod Sizes
+pub mod Stops
+pub mod Traffic
+pub mod Watched

@@ -1,0 +1,26 @@
+//! The desk and the clock of a server, and all that it watches: the events of its children, methods that may take too
+//! long, and instances that end again and again. It tells how contracts are ended. Nothing here knows scripts.
+//! Modules: `ask` (the next ask), `desk` (requests and replies), `timer` (the clock), `child_events` (the events of
+//! children), `watch` (methods that may take too long); `ends` (ends of instances that nobody asked for), `marks`
+//! (instances that are marked for maintenance), `size` (how much has happened), `stops` (how contracts are ended).
+#![tactic(auto)]
+
+mod ask;
+mod child_events;
+mod desk;
+mod ends;
+mod marks;
+mod size;
+mod stops;
+mod timer;
+mod watch;
+
+pub use ask::{Onward, ServerInput};
+pub use child_events::hear_all;
+pub use desk::Desk;
+pub use ends::{End, Ends, MOST_ENDS, PERIOD};
+pub use marks::{lines_of, mark_all};
+pub use size::{Size, is_same, size_of};
+pub use stops::{Ender, Noted, Stop};
+pub use timer::Timer;
+pub use watch::{Watch, owners};
