@@ -1,4 +1,4 @@
-use Rattle.smf_world.proofs.Safely.{reached_safe}
+use Rattle.smf_safety.proofs.Safely.{reached_safe}
 use Rattle.smf_machine.proofs.Soundness.{sound_after}
 use Rattle.smf_machine.proofs.machine.Machine.happen.Goals as goal
 

@@ -1,7 +1,7 @@
 use Rattle.std.proofs.Common.{◌∙◌, subst, sym}
 use Rattle.smf_world.specs.Formed.{IsFormed}
 use Rattle.smf_model.specs.Laws.{IsNumbered}
-use Rattle.smf_world.proofs.Safely.{reached_safe}
+use Rattle.smf_safety.proofs.Safely.{reached_safe}
 use Rattle.smf_machine.proofs.Soundness.{now_same, sound_new}
 use Rattle.smf_machine.proofs.Linked.{linked_first}
 use Rattle.smf_machine.proofs.machine.Machine.new.Goals as goal

@@ -1,5 +1,5 @@
 use Rattle.std.proofs.Common.{subst}
-use Rattle.smf_world.proofs.Safely.{reached_safe}
+use Rattle.smf_safety.proofs.Safely.{reached_safe}
 use Rattle.smf_world.specs.Reached.{IsReached}
 use Rattle.smf_world.specs.Safe.{IsSafe}
 use Rattle.smf_world.specs.Spelled.{AreSpelled}

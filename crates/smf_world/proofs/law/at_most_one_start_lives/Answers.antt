@@ -1,5 +1,0 @@
-use Rattle.smf_world.proofs.LiveAll.{run_lives}
-use Rattle.smf_world.proofs.law.at_most_one_start_lives.Goals as goal
-
-pub returns : goal.returns
-returns c = run_lives
