@@ -341,7 +341,7 @@ fresh_is xs ys ns none alike r s = same_lists by_item xs ys r s (λ n. alike n (
 pub beside_noted : (v : View) (l k : Option LookedAt) (ns : List ℕ) → IsBeside (Some v) l → IsNoted l ns k
     → IsBeside (Some v) k
 beside_noted v None None ns b noted = tt
-beside_noted v (Some l) None ns b noted = tt
+beside_noted v (Some l) None ns b noted = absurd noted
 beside_noted v None (Some k) ns b noted = absurd noted
 beside_noted v (Some l) (Some k) ns b noted = λ n out.
     ap (λ (xs : List ViewItem). lookup by_item xs n) noted.0
@@ -351,7 +351,7 @@ pub beside_patched : (v u : View) (l k : Option LookedAt) (cs : List ChangedItem
     → IsNoted l (map number_put cs) k → u ≡ view_after_changes v to cs → IsBeside (Some u) k
 unfolding view_after_changes
 beside_patched v u None None cs to b noted e = tt
-beside_patched v u (Some l) None cs to b noted e = tt
+beside_patched v u (Some l) None cs to b noted e = absurd noted
 beside_patched v u None (Some k) cs to b noted e = absurd noted
 beside_patched v u (Some l) (Some k) cs to b noted e = λ n out.
     let both = out_of_both n l.stale (map number_put cs) (subst (IsOut n) noted.1 out) in

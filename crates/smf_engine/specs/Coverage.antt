@@ -65,8 +65,14 @@ abbrev pub IsBeside : Option View → Option LookedAt → Type 0
 IsBeside (Some v) (Some l) = AreAlikeBut l.stale l.items v.items
 IsBeside _ _ = Unit {0}
 
--- the items looked at are dropped, or the numbers of those that changed are noted with them
+-- the numbers of those that changed are noted with the items looked at, if any were
 abbrev pub IsNoted : Option LookedAt → List ℕ → Option LookedAt → Type 0
-IsNoted l ns None = Unit {0}
-IsNoted None ns (Some after) = ⊥
+IsNoted None ns None = Unit {0}
 IsNoted (Some l) ns (Some after) = (after.items ≡ l.items) × (after.stale ≡ l.stale ++ ns)
+IsNoted _ ns _ = ⊥
+
+-- the items looked at are still known, maybe with more numbers noted
+abbrev pub IsKept : Option LookedAt → Option LookedAt → Type 0
+IsKept None None = Unit {0}
+IsKept (Some l) (Some after) = after.items ≡ l.items
+IsKept _ _ = ⊥

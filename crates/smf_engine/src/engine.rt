@@ -1,5 +1,5 @@
 ghost use Rattle.std.specs.Prelude.{◌≡◌, IfOk, None, OnErr, OnOk, Some, [], find, map, option_map};
-ghost use Rattle.smf_engine.specs.Coverage.{IsBeside, IsNoted, number_put};
+ghost use Rattle.smf_engine.specs.Coverage.{IsBeside, IsKept, IsNoted, number_put};
 ghost use Rattle.smf_engine.specs.Orders.{order_by_view, has_no_orders, is_about, is_none_left, newer, order_in, orders, orders_seen, question, with_changes};
 ghost use Rattle.smf_state.specs.declared.view.View.{View as AnyView};
 ghost use Rattle.smf_state.specs.Patched.{view_after_changes};
@@ -43,19 +43,23 @@ fn graph_left(looked: Option<Looked>, last: Option<Graph>) -> Option<Graph> {
     }
 }
 
-/// Notes what changed in the view that is held. If memory runs out, nothing is known of what was looked at.
-fn note(looked: &mut Option<Looked>, changes: &[ChangedItem])
-    ensures { IsNoted looked.old (map number_put changes.now) looked.new }
+/// Notes what changed in the view that is held. If memory runs out, nothing is noted.
+fn note(
+    alloc: Global,
+    looked: &mut Option<Looked>,
+    changes: &[ChangedItem],
+) -> Result<(), AllocError>
+    ensures ok { OnOk result (IsNoted looked.old (map number_put changes.now) looked.new) }
+    ensures err { OnErr result (looked.new ≡ looked.old) }
 {
-    let Some(kept) = looked else {
-        return;
-    };
-    if kept.note(changes).is_err() {
-        *looked = None;
+    match looked {
+        None => Ok(()),
+        Some(kept) => kept.note(alloc, changes),
     }
 }
 
-/// Brings a view up to date, and notes what changed. If memory runs out the view is as it was.
+/// Brings a view up to date, and notes what changed. If memory runs out the view is as it was, and so is what was looked
+/// at.
 fn take_in(
     alloc: Global,
     held: &mut HeldView,
@@ -66,9 +70,10 @@ fn take_in(
     ensures ok { OnOk result (held.new ≡ view_after_changes held.old changes.now.to changes.now.items) }
     ensures err { OnErr result (held.new ≡ held.old) }
     ensures beside { IsBeside (Some held.new) looked.new }
+    ensures kept { OnErr result (IsKept looked.old looked.new) }
 {
     let items = changes.items.as_slice();
-    note(looked, items);
+    note(alloc, looked, items)?;
     held.patch(alloc, changes.to, items)
 }
 

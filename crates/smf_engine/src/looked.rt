@@ -1,4 +1,4 @@
-ghost use Rattle.std.specs.Prelude.{◌≡◌, ◌++◌, [], ℕ, IfOk, None, OnOk, Some, false, map, true};
+ghost use Rattle.std.specs.Prelude.{◌≡◌, ◌++◌, [], ℕ, IfOk, None, OnErr, OnOk, Some, false, map, true};
 ghost use Rattle.smf_dep.specs.Members.{members};
 ghost use Rattle.smf_engine.specs.Coverage.{AreAlikeBut, Covers, CoversBut, IsJudged, as_seen, number_put, order_for};
 ghost use Rattle.smf_engine.specs.Orders.{order, orders};
@@ -223,12 +223,15 @@ impl Looked {
         self.stale.is_empty()
     }
 
-    /// The view that is held shows something else of these instances.
-    pub(crate) fn note(&mut self, changes: &[ChangedItem]) -> Result<(), AllocError>
+    /// The view that is held shows something else of these instances. If memory runs out, nothing is noted.
+    pub(crate) fn note(&mut self, alloc: Global, changes: &[ChangedItem]) -> Result<(), AllocError>
         ensures items { OnOk result (self.new.items ≡ self.old.items) }
         ensures stale { OnOk result (self.new.stale ≡ self.old.stale ++ map number_put changes.now) }
+        ensures err { OnErr result (self.new ≡ self.old) }
     {
-        push_numbers(&mut self.stale, changes)
+        let mut numbers = Vec::with_capacity(alloc, changes.len())?;
+        push_numbers(&mut numbers, changes)?;
+        self.stale.append(&mut numbers)
     }
 
     /// Looks at items that changed, and at no others.
@@ -279,7 +282,7 @@ impl Looked {
         ensures stale { IfOk result (λ l. l.stale ≡ map number_put changes.now) }
     {
         let mut looked = self.with(alloc, to, changes)?;
-        looked.note(changes)?;
+        looked.note(alloc, changes)?;
         Ok(looked)
     }
 
