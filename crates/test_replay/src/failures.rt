@@ -27,6 +27,11 @@ impl FailingKids {
         }
     }
 
+    /// True if the call that is to fail did not come.
+    pub fn waits(&self) -> bool {
+        self.next > 0
+    }
+
     /// Counts a call, and gives back whether it fails.
     fn fails(&mut self) -> bool
         ensures kept { self.new.kids ≡ self.old.kids }

@@ -113,7 +113,11 @@ pub(crate) fn do_script(rt: &HostRuntime, words: &[String]) -> io::Result<u8> {
     let mut reader = NotedReader::new(BufReader::new(alloc, input)?);
     let mut writer = FailingWriter::new(io::writer(rt), writes);
     let mut kids = FailingKids::new(alloc, plan.children);
-    match run_over(alloc, &mut reader, &mut writer, &mut kids) {
+    let end = run_over(alloc, &mut reader, &mut writer, &mut kids);
+    if kids.waits() {
+        let _ = eprintln!(rt; "test_replay: no call failed");
+    }
+    match end {
         Ok(status) => Ok(status),
         Err(why) => {
             let _ = eprintln!(rt; "test_replay: {why}");
