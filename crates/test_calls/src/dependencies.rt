@@ -4,7 +4,7 @@ use crate::answers::Answer;
 use crate::groups::alone;
 use crate::names::names_of;
 use crate::views::{Views, item_of};
-use crate::words::split_word;
+use crate::words::{split_two, split_word, truth};
 use smf_dep::{
     Dependency, DependencyFault, Finding, Graph, Grouping, RestartOn, Verdict, read_groups,
 };
@@ -25,6 +25,7 @@ pub(crate) fn answer(
     match call {
         "dependency" => read(alloc, group, out),
         "verdict" => answer_verdict(alloc, &views.items, out, text),
+        "must_stop" => answer_must_stop(alloc, &views.items, out, text),
         "found" => answer_findings(alloc, &views.items, out),
         "keep" => keep(alloc, views, out),
         "change" => change(alloc, views, out, text),
@@ -110,6 +111,32 @@ fn answer_verdict(alloc: Global, items: &Ordered<ViewItem>, out: &mut Answer, te
         && let Some(graph) = out.value_or_no_memory(Graph::of(alloc, items.as_slice()))
     {
         put_verdict(out, graph.verdict(alloc, &dependency));
+    }
+}
+
+/// `GROUPING RESTART_ON ENTITY..`.
+fn stopping_of(alloc: Global, out: &mut Answer, text: &str) -> Option<Dependency> {
+    let (grouping, restart_on, entities) = split_two(text);
+    let grouping = out.value_or_bad_line(Grouping::parse(grouping))?;
+    let restart_on = out.value_or_bad_line(RestartOn::parse(restart_on))?;
+    let entities = names_of(alloc, out, entities)?;
+    Some(Dependency {
+        grouping,
+        restart_on,
+        entities,
+    })
+}
+
+/// `BASE GROUPING RESTART_ON ENTITY..`: whether such a group, over the view, stops an instance whose last start was
+/// decided on this revision.
+fn answer_must_stop(alloc: Global, items: &Ordered<ViewItem>, out: &mut Answer, text: &str) {
+    let (base, text) = split_word(text);
+    if let Some(base) = out.value_or_bad_line(read_count(base))
+        && let Some(dependency) = stopping_of(alloc, out, text)
+        && let Some(graph) = out.value_or_no_memory(Graph::of(alloc, items.as_slice()))
+        && let Some(stops) = out.value_or_no_memory(graph.must_stop(alloc, &dependency, base))
+    {
+        out.put(truth(stops));
     }
 }
 

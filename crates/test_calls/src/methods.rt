@@ -7,7 +7,10 @@ use crate::groups::alone;
 use crate::names::instance_of;
 use crate::words::{split_two, split_word};
 use smf_contract::{Exit, Method};
-use smf_method::{MethodFault, MethodOutcome, ReadMethod, judge};
+use smf_method::{
+    MethodCall, MethodDefinition, MethodFault, MethodOutcome, ReadMethod, Timeout, judge,
+    method_text,
+};
 use smf_value::Group;
 use std::alloc::Global;
 
@@ -22,6 +25,8 @@ pub(crate) fn answer(
     match call {
         "judge" => answer_judge(out, text),
         "method" => read(alloc, group, out, text),
+        "definition" => define(alloc, group, out, text),
+        "method_call" => call_definition(alloc, group, out, text),
         _ => return false,
     }
     true
@@ -49,14 +54,22 @@ fn answer_judge(out: &mut Answer, text: &str) {
     }
 }
 
-fn put_method(out: &mut Answer, read: &ReadMethod) {
-    let (command, duration) = (&read.call.command, read.duration);
-    let ignored = read.ignore.bits();
-    write!(out, "runs {command}");
-    if let Some(timeout) = read.call.timeout {
+fn put_timeout(out: &mut Answer, timeout: Option<Timeout>) {
+    if let Some(timeout) = timeout {
         let seconds = timeout.seconds();
         write!(out, " for {seconds}");
     }
+}
+
+fn put_call(out: &mut Answer, call: &MethodCall) {
+    let command = &call.command;
+    write!(out, "runs {command}");
+    put_timeout(out, call.timeout);
+}
+
+fn put_method(out: &mut Answer, read: &ReadMethod) {
+    let (duration, ignored) = (read.duration, read.ignore.bits());
+    put_call(out, &read.call);
     write!(out, ", {duration}, ignores {ignored}");
 }
 
@@ -80,5 +93,49 @@ fn read(alloc: Global, group: &Option<Group>, out: &mut Answer, text: &str) {
             out,
             ReadMethod::of(alloc, &groups, method, &restarter, &instance),
         );
+    }
+}
+
+/// The definition of a method by the group that lines made. If there is none, that is the answer.
+fn definition_of(
+    alloc: Global,
+    group: &Option<Group>,
+    out: &mut Answer,
+    method: &str,
+) -> Option<MethodDefinition> {
+    let method = out.value_or_bad_line(method_of(method))?;
+    let groups = out.value_or_no_memory(alone(alloc, group))?;
+    let definition = out.value_or_refusal(MethodDefinition::of(alloc, &groups, method))?;
+    if definition.is_none() {
+        out.put("none");
+    }
+    definition
+}
+
+/// The method, its command before the tokens are replaced, and what else the definition says.
+fn put_definition(out: &mut Answer, definition: &MethodDefinition) {
+    let (method, exec) = (method_text(definition.method()), definition.exec());
+    let (duration, ignored) = (definition.duration(), definition.ignore().bits());
+    write!(out, "{method} runs {exec}");
+    put_timeout(out, definition.timeout());
+    write!(out, ", {duration}, ignores {ignored}");
+}
+
+/// `METHOD`: the definition that the group that lines made is.
+fn define(alloc: Global, group: &Option<Group>, out: &mut Answer, method: &str) {
+    if let Some(definition) = definition_of(alloc, group, out, method) {
+        put_definition(out, &definition);
+    }
+}
+
+/// `METHOD RESTARTER INSTANCE`: the call of that definition.
+fn call_definition(alloc: Global, group: &Option<Group>, out: &mut Answer, text: &str) {
+    let (method, restarter, instance) = split_two(text);
+    if let Some(restarter) = instance_of(alloc, out, restarter)
+        && let Some(instance) = instance_of(alloc, out, instance)
+        && let Some(definition) = definition_of(alloc, group, out, method)
+        && let Some(call) = out.value_or_refusal(definition.call(alloc, &restarter, &instance))
+    {
+        put_call(out, &call);
     }
 }

@@ -11,7 +11,7 @@ use smf_changes::Repository;
 use smf_fmri::{Items, Ordered, ServiceFmri, Text, read_count};
 use smf_model::{
     Command, CommandReply, Edit, Instance, Mark, NoJournal, Outcome, Owner, Plain, PropertyChange,
-    RepoFault,
+    RepoFault, Tables,
 };
 use smf_snap::SnapshotName;
 use smf_state::{View, ViewItem};
@@ -310,6 +310,7 @@ fn answer_holdings(alloc: Global, repository: &Plain<NoJournal>, out: &mut Answe
         "children" => children(alloc, repository, out, text),
         "view" if text.is_empty() => put_view(out, repository.view()),
         "number" => snapshot_number(repository, out, text),
+        "copy" if text.is_empty() => put_copy(out, repository.copy()),
         _ => match read_count(text) {
             Some(number) => answer_by_number(alloc, repository, out, what, number),
             None => out.bad_line(),
@@ -434,6 +435,39 @@ fn put_view(out: &mut Answer, view: Result<View, AllocError>) {
         write!(out, "{revision}:");
         for item in view.items.as_slice() {
             put_item(out, item);
+        }
+    }
+}
+
+/// How many there are of each kind, and the numbers that come next.
+fn put_counts(out: &mut Answer, copy: &Tables) {
+    let (services, instances) = (copy.services().len(), copy.entries().len());
+    let (names, snapshots) = (copy.names().len(), copy.snapshots().len());
+    let launches = copy.launches().len();
+    let (instance, snapshot) = (copy.next_instance().get(), copy.next_snapshot().get());
+    write!(
+        out,
+        "services {services}, instances {instances}, names {names}"
+    );
+    write!(out, ", snapshots {snapshots}, launches {launches}");
+    write!(out, ", next {instance} {snapshot}");
+}
+
+/// An instance's number and its restarter, and the number and the state of its row.
+fn put_owned(out: &mut Answer, instance: &Instance) {
+    let (number, owner) = (instance.number.get(), instance.row.owner.print());
+    let (row, state) = (instance.row.number, instance.row.state);
+    write!(out, ", {number} {owner} {row} {state}");
+}
+
+/// A copy of all that is held: its revision, its counts, and each instance.
+fn put_copy(out: &mut Answer, copy: Result<Tables, AllocError>) {
+    if let Some(copy) = out.value_or_no_memory(copy) {
+        let revision = copy.revision().get();
+        write!(out, "{revision}: ");
+        put_counts(out, &copy);
+        for entry in copy.entries() {
+            put_owned(out, &entry.instance);
         }
     }
 }

@@ -118,14 +118,18 @@ fn item_of(name: InstanceFmri, row: SharedRow) -> ViewItem {
     }
 }
 
+/// `NAME ROW`: the item of instance 1, which is enabled and has no snapshot.
+pub(crate) fn item_by_row(alloc: Global, out: &mut Answer, text: &str) -> Option<ViewItem> {
+    let (name, row) = split_word(text);
+    let name = instance_of(alloc, out, name)?;
+    let row = row_of(alloc, out, row)?;
+    let row = out.value_or_no_memory(SharedRow::of(alloc, row))?;
+    Some(item_of(name, row))
+}
+
 /// The name and the row of a copy of a view's item.
 fn copied_item(alloc: Global, out: &mut Answer, text: &str) {
-    let (name, row) = split_word(text);
-    if let Some(name) = instance_of(alloc, out, name)
-        && let Some(row) = row_of(alloc, out, row)
-        && let Some(row) = out.value_or_no_memory(SharedRow::of(alloc, row))
-    {
-        let item = item_of(name, row);
+    if let Some(item) = item_by_row(alloc, out, text) {
         put_item(alloc, out, item.clone());
     }
 }

@@ -3,6 +3,7 @@
 use crate::answers::Answer;
 use crate::bytes::bytes_of;
 use crate::names::instance_of;
+use crate::rows::item_by_row;
 use crate::steps::STARTD;
 use crate::words::{number_of, split_two, texts_of};
 use smf_admin::{
@@ -49,7 +50,14 @@ pub(crate) fn answer(
             views.items = Ordered::new(alloc);
             out.put("done");
         }
-        "view_item" => add_item(alloc, views, out, text),
+        "view_item" => {
+            let item = item_of(alloc, out, text);
+            add_item(views, out, item);
+        }
+        "view_row" => {
+            let item = item_by_row(alloc, out, text);
+            add_item(views, out, item);
+        }
         "take_view" => take_view(alloc, views, out, text),
         "hear" => hear(alloc, &mut views.engine, out, text),
         "question" if text.is_empty() => put_question(alloc, &views.engine, out),
@@ -138,8 +146,8 @@ pub(crate) fn item_of(alloc: Global, out: &mut Answer, text: &str) -> Option<Vie
     })
 }
 
-fn add_item(alloc: Global, views: &mut Views, out: &mut Answer, text: &str) {
-    if let Some(item) = item_of(alloc, out, text)
+fn add_item(views: &mut Views, out: &mut Answer, item: Option<ViewItem>) {
+    if let Some(item) = item
         && out.value_or_no_memory(views.items.put(item)).is_some()
     {
         out.put("done");
