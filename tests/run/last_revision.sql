@@ -1,0 +1,1 @@
+UPDATE meta SET v = 9223372036854775804 WHERE k = 'revision';
