@@ -122,10 +122,10 @@ other_run r rs n (Some run) e =
     ∙ with_answer_other by_run (lookup by_run rs) r.key (Some r) key
     (other_key (nat_cmp r.key.instance n) (nat_cmp r.key.run run) e)
 
-no_orphan : (n : ℕ) (r : KnownRun) → (r.key.instance == n) ≡ false → is_orphan n r ≡ false
+pub no_orphan : (n : ℕ) (r : KnownRun) → (r.key.instance == n) ≡ false → is_orphan n r ≡ false
 no_orphan n r e = rw e refl
 
-passed_over : (n : ℕ) (r : KnownRun) (rs : List KnownRun) → is_orphan n r ≡ false
+pub passed_over : (n : ℕ) (r : KnownRun) (rs : List KnownRun) → is_orphan n r ≡ false
     → find (is_orphan n) (r ∷ rs) ≡ find (is_orphan n) rs
 passed_over n r rs e = rw e refl
 

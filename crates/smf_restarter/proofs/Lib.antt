@@ -1,4 +1,5 @@
 mod Judgments
+mod RunPlaces
 pub mod OtherInstances
 pub mod IdleTicks
 mod RestlessList

@@ -26,6 +26,10 @@ abbrev pub is_empty : Option KnownRun → Bool
 is_empty None = true
 is_empty (Some r) = r.empty
 
+-- the instance of a run
+abbrev pub instance_of : KnownRun → ℕ
+instance_of r = r.key.instance
+
 -- a run of an instance has members, and the restarter does not hold it
 abbrev pub is_orphan : ℕ → KnownRun → Bool
 is_orphan n r = r.key.instance == n && not r.empty && not r.held

@@ -1,5 +1,5 @@
 -- The turns of a restarter, for itself and for an instance, and when it has nothing left to do.
-use Rattle.std.specs.Prelude.{ℕ, ◌&&◌, ◌||◌, not, List, [], Bool, true, false, if◌then◌else◌, Option, Some, None, is_none, is_some, Result, Ok, Err}
+use Rattle.std.specs.Prelude.{ℕ, ◌&&◌, ◌||◌, not, [], Bool, true, false, if◌then◌else◌, Option, Some, None, is_none, is_some, Result, Ok, Err}
 use Rattle.std.specs.List.{list_all}
 use Rattle.smf_state.specs.declared.row.Row.{Row}
 use Rattle.smf_state.specs.declared.state.State.{State}

@@ -27,7 +27,7 @@ fn rests_idle(runs: &Table<KnownRun>, known: &KnownInstance) -> bool
     ensures { result ≡ rests_idle (among runs.now.items) known.now }
 {
     let live = run_among(runs, known.instance, known.row.live);
-    orphan_in(runs.as_slice(), known.instance).is_none() && note_due(&known.row, live).is_none()
+    orphan_in(runs, known.instance).is_none() && note_due(&known.row, live).is_none()
 }
 
 fn rests_in(runs: &Table<KnownRun>, known: &KnownInstance, phase: &Phase) -> bool

@@ -1,14 +1,15 @@
 //! The runs that have a contract, as a restarter knows them.
 
-ghost use Rattle.std.specs.List.{list_any};
+ghost use Rattle.std.specs.List.{AllWithin, list_any};
+ghost use Rattle.std.specs.List.Sorted.{IsNonDecreasingBy};
 ghost use Rattle.std.specs.Option.{option_copied};
-ghost use Rattle.std.specs.Prelude.{◌≡◌, find, option_to_list};
-ghost use Rattle.smf_restarter.specs.Runs.{has_none, ignore_of, ignores_core, ignores_signal, is_empty, is_exit_of, is_failure, is_held_by, is_orphan, known_run, listed_as, listed_run, orphan, run_at};
+ghost use Rattle.std.specs.Prelude.{◌≡◌, ◌<◌, ◌≤◌, find, length, option_to_list};
+ghost use Rattle.smf_restarter.specs.Runs.{has_none, ignore_of, ignores_core, ignores_signal, instance_of, is_empty, is_exit_of, is_failure, is_held_by, is_orphan, known_run, listed_as, listed_run, orphan, run_at};
 
 use crate::known::{KnownInstance, KnownRun, RunKey};
 use crate::restarter::Restarter;
 use smf_contract::{ContractEvent, Cookie, EventKind, Holder, Status};
-use smf_fmri::Number;
+use smf_fmri::{Number, Table};
 use smf_state::Ignore;
 
 /// A run of an instance.
@@ -45,7 +46,7 @@ fn is_orphan(instance: u64, run: &KnownRun) -> bool
     run.key.instance == instance && !run.empty && !run.held
 }
 
-pub(crate) fn orphan_in(runs: &[KnownRun], instance: u64) -> Option<&KnownRun>
+fn orphan_among(runs: &[KnownRun], instance: u64) -> Option<&KnownRun>
     ensures { option_copied result ≡ find (is_orphan instance) runs.now }
 {
     for run in runs {
@@ -56,11 +57,39 @@ pub(crate) fn orphan_in(runs: &[KnownRun], instance: u64) -> Option<&KnownRun>
     None
 }
 
+/// How many runs have a lower instance.
+fn count_below(runs: &[KnownRun], instance: u64) -> usize
+    requires { IsNonDecreasingBy instance_of runs.now }
+    ensures bound { result ≤ length runs.now }
+    ensures below { AllWithin (λ r. instance_of r < instance) runs.now 0 result }
+{
+    runs.partition_point(|run| run.key.instance < instance)
+}
+
+/// How many runs have this instance or a lower one.
+fn count_up_to(runs: &[KnownRun], instance: u64) -> usize
+    requires { IsNonDecreasingBy instance_of runs.now }
+    ensures bound { result ≤ length runs.now }
+    ensures above { AllWithin (λ r. instance < instance_of r) runs.now result (length runs.now) }
+{
+    runs.partition_point(|run| run.key.instance <= instance)
+}
+
+/// The first orphan of an instance. Only the runs of the instance are looked at.
+pub(crate) fn orphan_in(runs: &Table<KnownRun>, instance: u64) -> Option<&KnownRun>
+    ensures { option_copied result ≡ find (is_orphan instance) runs.now.items }
+{
+    let all = runs.as_slice();
+    let (_, left) = all.split_at(count_below(all, instance));
+    let (own, _) = left.split_at(count_up_to(left, instance));
+    orphan_among(own, instance)
+}
+
 /// The first such run.
 pub(crate) fn orphan(restarter: &Restarter, instance: u64) -> Option<&KnownRun>
     ensures { option_copied result ≡ orphan restarter.now.known instance }
 {
-    orphan_in(restarter.runs.as_slice(), instance)
+    orphan_in(&restarter.runs, instance)
 }
 
 pub(crate) fn ignores_core(ignore: Ignore) -> bool
