@@ -5,7 +5,6 @@ use Rattle.std.specs.List.{AllZip}
 use Rattle.std.specs.Prelude.{nat_eq}
 use Rattle.std.specs.Cmp.Lexicographic.{pointwise}
 use Rattle.smf_fmri.specs.Patterns.{service_of}
-use Rattle.smf_state.specs.declared.row.Row.{Row}
 use Rattle.smf_state.specs.declared.view.ViewItem.{ViewItem}
 use Rattle.smf_value.proofs.EditLoops.{left_at}
 use Rattle.smf_links.specs.declared.link.Link.{Link}
@@ -63,36 +62,6 @@ of_state i m h s n =
       stop = n.stop j;
       refresh = n.refresh j;
       start = n.start j;
-      composed = h.groups j;
-      dependencies = h.needs j;
-    }
-
--- with the state of the item it is what is read of the item
-pub took : (i : ViewItem) (r : Row) (m : GraphMember) → IsOfItem i m → r ≡ i.row
-    → record m {
-      instance = i.instance;
-      enabled = i.enabled;
-      state = r.state;
-      next = r.next;
-      base = r.base;
-      err = r.err;
-      stop = r.stop;
-      refresh = r.refresh;
-      start = r.start;
-    } ≡ member_of i
-unfolding member_of
-took i r m h e =
-    λ j. record {
-      instance = i.instance;
-      name = h.name j;
-      enabled = i.enabled;
-      state = (e j).state;
-      next = (e j).next;
-      base = (e j).base;
-      err = (e j).err;
-      stop = (e j).stop;
-      refresh = (e j).refresh;
-      start = (e j).start;
       composed = h.groups j;
       dependencies = h.needs j;
     }

@@ -1,13 +1,13 @@
--- Findings that stay if an instance gets another state, and all findings if instances come or go.
-use Rattle.std.proofs.Common.{◌≡◌, ℕ, zero, suc, ◌+◌, ◌<◌, ◌≤◌, List, [], ◌∷◌, ◌++◌, map, length, drop, get_or, Bool, false, ◌||◌, ◌&&◌, not, Option, Some, None, refl, sym, ap, ◌∙◌, subst, inl, inr, arith}
-use Rattle.std.specs.Prelude.{is_some, slice_get, slice_set}
+-- Findings that stay if a member takes the place of another, and all findings if instances come or go.
+use Rattle.std.proofs.Common.{◌≡◌, ℕ, zero, suc, ◌+◌, ◌<◌, ◌≤◌, List, [], ◌∷◌, ◌++◌, map, length, drop, get_or, Bool, false, ◌||◌, ◌&&◌, not, Option, Some, None, Result, Ok, Err, refl, sym, ap, ◌∙◌, subst, inl, inr, arith}
+use Rattle.std.specs.Prelude.{IfOk, IfSome, is_some, slice_get, slice_set}
 use Rattle.std.specs.List.{list_any}
 use Rattle.std.specs.Option.{option_map_or}
 use Rattle.std.proofs.Math.Path.{fun_ext}
 use Rattle.std.proofs.lemmas.Bool.{cases_eq}
 use Rattle.std.proofs.lemmas.List.{append-nil, drop_all, length-map}
 use Rattle.std.proofs.lemmas.Option.{get_or_from_slice_get, slice_get_within}
-use Rattle.smf_fmri.specs.ByKey.{BelongsAt, Rises, StandsAt, lookup, list_with_item}
+use Rattle.smf_fmri.specs.ByKey.{BelongsAt, Rises, StandsAt, lookup, list_with_item, put_all}
 use Rattle.smf_fmri.proofs.Places.{lookup_before, put_at}
 use Rattle.smf_state.specs.declared.view.ChangedItem.{ChangedItem}
 use Rattle.smf_state.specs.declared.view.ViewItem.{ViewItem}
@@ -20,11 +20,11 @@ use Rattle.smf_links.proofs.Work.{left_at, out_left, out_right}
 use Rattle.smf_dep.specs.declared.dependency.Dependency.{Dependency}
 use Rattle.smf_dep.specs.declared.member.GraphMember.{GraphMember}
 use Rattle.smf_dep.specs.Cycles.{asked_for, asks_for, cites, excludes, leads, on_cycle}
-use Rattle.smf_dep.specs.Members.{IsOfItem, by_member, member_of, wires}
+use Rattle.smf_dep.specs.Members.{by_member, member_of, wires}
 use Rattle.smf_dep.specs.Places.{event_at, finding_of, flags_of, link_stops, links_of, node_of, nodes_of}
-use Rattle.smf_dep.specs.Updates.{AreAlike, IsAlike, IsAlikeAt, IsAlikeChange, OthersStay, Stays, number, number_at, number_in, with_member, with_members}
+use Rattle.smf_dep.specs.Updates.{AllFit, AreSuccessors, Fits, FitsAt, IsSuccessor, OthersStay, Stays, number, number_at, number_in, with_member, with_members}
 use Rattle.smf_dep.specs.Verdicts.{all_met, any_must_stop, is_cited, stops_by}
-use Rattle.smf_dep.proofs.Alike.{Wires, alike, cited_same, links_by, name_same, needs_same, places_same, rest_same}
+use Rattle.smf_dep.proofs.Alike.{Wires, cited_same, links_by, name_same, needs_same, places_same, rest_same}
 use Rattle.smf_dep.proofs.ByNumber.{at_found, found_at, stands, stood}
 use Rattle.smf_dep.proofs.Found.{met_is, node_got, stops_in}
 use Rattle.smf_dep.proofs.OfItems.{same_number}
@@ -54,109 +54,136 @@ map_set f [] p m x e same = refl
 map_set f (y ∷ ms) zero m x e same = ap (λ z. z ∷ map f ms) (same ∙ ap f (sym (same_some y m e)))
 map_set f (y ∷ ms) (suc p) m x e same = ap (λ l. f y ∷ l) (map_set f ms p m x e same)
 
--- ---- the instance is there as before
+-- ---- members that fit
 
-pub taken : (i : ViewItem) (m : GraphMember) → IsOfItem i m → IsOfItem i (member_of i)
-unfolding member_of
-taken i m h = record { name = refl; groups = refl; needs = refl }
-
-still_of : (i j : ViewItem) (m : GraphMember) → IsOfItem i m → IsOfItem j m → IsOfItem j (member_of i)
-unfolding member_of
-still_of i j m h g =
-    record { name = sym h.name ∙ g.name; groups = sym h.groups ∙ g.groups; needs = sym h.needs ∙ g.needs }
-
-alike_stays : (i j : ViewItem) (ms : List GraphMember) (p : ℕ) → IsAlikeAt i ms p → IsAlike j ms
-    → IsAlike j (slice_set ms p (member_of i))
-alike_stays i j ms p h g =
+fits_stays : (x y : GraphMember) (ms : List GraphMember) (p : ℕ) → FitsAt x ms p → Fits y ms → Fits y (slice_set ms p x)
+fits_stays x y ms p h g =
     elim (cases_eq p g.0) [
       | inl e ↦
           let other = g.1 in
-          let same : other.member ≡ h.member = same_some _ _ (sym other.at ∙ ap (slice_get ms) (sym e) ∙ h.at) in
-          let Q : GraphMember → Type 0 = λ z. IsOfItem j z in (
+          let same : other.before ≡ h.before = same_some _ _ (sym other.at ∙ ap (slice_get ms) (sym e) ∙ h.at) in (
             p,
             record {
-              member = member_of i;
-              at = set_here ms p h.member (member_of i) h.at;
-              numbered = same_number i ∙ sym h.numbered ∙ ap (λ (z : GraphMember). z.instance) (sym same)
-                  ∙ other.numbered;
-              of_item = still_of i j h.member h.of_item (subst Q same other.of_item);
+              before = x;
+              at = set_here ms p h.before x h.at;
+              numbered = sym h.numbered ∙ ap (λ (z : GraphMember). z.instance) (sym same) ∙ other.numbered;
+              alike = other.alike ∙ ap wires same ∙ sym h.alike;
             },
           )
       | inr ne ↦
           let other = g.1 in (
             g.0,
             record {
-              member = other.member;
-              at = set_other ms p g.0 (member_of i) ne ∙ other.at;
+              before = other.before;
+              at = set_other ms p g.0 x ne ∙ other.at;
               numbered = other.numbered;
-              of_item = other.of_item;
+              alike = other.alike;
             },
           )
     ]
 
-change_stays : (i : ViewItem) (o : Option ViewItem) (ms : List GraphMember) (p : ℕ) → IsAlikeAt i ms p
-    → IsAlikeChange o ms → IsAlikeChange o (slice_set ms p (member_of i))
-change_stays i None ms p h g = g
-change_stays i (Some j) ms p h g = alike_stays i j ms p h g
+all_stay : (x : GraphMember) (ys ms : List GraphMember) (p : ℕ) → FitsAt x ms p → AllFit ys ms
+    → AllFit ys (slice_set ms p x)
+all_stay x [] ms p h g = tt
+all_stay x (y ∷ ys) ms p h g = (fits_stays x y ms p h g.0, all_stay x ys ms p h g.1)
 
-changes_stay : (i : ViewItem) (cs : List ChangedItem) (ms : List GraphMember) (p : ℕ) → IsAlikeAt i ms p
-    → AreAlike cs ms → AreAlike cs (slice_set ms p (member_of i))
-changes_stay i [] ms p h g = tt
-changes_stay i (c ∷ cs) ms p h g = (change_stays i c.item ms p h g.0, changes_stay i cs ms p h g.1)
-
--- an item whose number a search finds, and that is read from the same
-pub found_alike : (i : ViewItem) (ms : List GraphMember) (p : ℕ) (r : GraphMember)
-    → StandsAt by_member i.instance p ms → r ≡ get_or ms p r → IsOfItem i r → IsAlike i ms
-found_alike i ms p r s is h =
-    let at = stood by_member i.instance p ms s in
-    let P : GraphMember → Type 0 = IsOfItem i in (
+-- the member that is found by the number of an item, if it has its name and dependencies
+pub found_fits : (i : ViewItem) (x : GraphMember) (ms : List GraphMember) (p : ℕ) (r : GraphMember)
+    → StandsAt by_member i.instance p ms → r ≡ get_or ms p r → x ≡ member_of i → wires x ≡ wires r → Fits x ms
+found_fits i x ms p r s is e h =
+    let at = stood by_member i.instance p ms s in (
       p,
       record {
-        member = at.0;
+        before = at.0;
         at = at.1;
-        numbered = at.2;
-        of_item = subst P (is ∙ get_or_from_slice_get ms p at.0 r at.1) h;
+        numbered = at.2 ∙ sym (ap (λ (z : GraphMember). z.instance) e ∙ same_number i);
+        alike = h ∙ ap wires (is ∙ get_or_from_slice_get ms p at.0 r at.1);
       },
     )
 
--- the place that a search finds is that of the item
-pub same_place : (i : ViewItem) (ms : List GraphMember) (p : ℕ) → Rises by_member ms → IsAlike i ms
-    → StandsAt by_member i.instance p ms → IsAlikeAt i ms p
-same_place i ms p r h s =
-    let at = stood by_member i.instance p ms s in
-    let P : ℕ → Type 0 = λ n. lookup by_member ms n ≡ Some at.0 in
-    let Q : ℕ → Type 0 = λ n. lookup by_member ms n ≡ Some h.1.member in
-    let here : lookup by_member ms i.instance ≡ Some at.0 = subst P at.2 (found_at by_member ms p at.0 r at.1) in
-    let there : lookup by_member ms i.instance ≡ Some h.1.member =
-    subst Q h.1.numbered (found_at by_member ms h.0 h.1.member r h.1.at) in
-    let same : h.1.member ≡ at.0 = same_some _ _ (sym there ∙ here) in
-    let R : GraphMember → Type 0 = IsOfItem i in
-    record { member = at.0; at = at.1; numbered = at.2; of_item = subst R same h.1.of_item }
+pub fits_if : {E : Type 0} (o : Result (Option GraphMember) E) (i : ViewItem) (ms : List GraphMember) (p : ℕ) (r : GraphMember)
+    → StandsAt by_member i.instance p ms → r ≡ get_or ms p r
+    → IfOk o (λ q. IfSome q (λ x. (x ≡ member_of i) × (wires x ≡ wires r)))
+    → IfOk o (λ q. IfSome q (λ x. (x ≡ member_of i) × Fits x ms))
+fits_if (Ok (Some x)) i ms p r s is h = (h.0, found_fits i x ms p r s is h.0 h.1)
+fits_if (Ok None) i ms p r s is h = tt
+fits_if (Err e) i ms p r s is h = tt
 
-pub is_found : (i : ViewItem) (ms : List GraphMember) (p : ℕ) → Rises by_member ms → IsAlike i ms
-    → BelongsAt by_member i.instance p ms → ⊥
-is_found i ms p r h s =
-    let Q : ℕ → Type 0 = λ n. lookup by_member ms n ≡ Some h.1.member in
-    none_is (sym (lookup_before by_member i.instance p ms r s)
-    ∙ subst Q h.1.numbered (found_at by_member ms h.0 h.1.member r h.1.at))
+-- the place that a search finds is that of the member
+pub same_place : (x : GraphMember) (ms : List GraphMember) (p : ℕ) → Rises by_member ms → Fits x ms
+    → StandsAt by_member x.instance p ms → FitsAt x ms p
+same_place x ms p r h s =
+    let at = stood by_member x.instance p ms s in
+    let P : ℕ → Type 0 = λ n. lookup by_member ms n ≡ Some at.0 in
+    let Q : ℕ → Type 0 = λ n. lookup by_member ms n ≡ Some h.1.before in
+    let here : lookup by_member ms x.instance ≡ Some at.0 = subst P at.2 (found_at by_member ms p at.0 r at.1) in
+    let there : lookup by_member ms x.instance ≡ Some h.1.before =
+    subst Q h.1.numbered (found_at by_member ms h.0 h.1.before r h.1.at) in
+    let same : h.1.before ≡ at.0 = same_some _ _ (sym there ∙ here) in
+    record { before = at.0; at = at.1; numbered = at.2; alike = h.1.alike ∙ ap wires same }
+
+pub is_found : (x : GraphMember) (ms : List GraphMember) (p : ℕ) → Rises by_member ms → Fits x ms
+    → BelongsAt by_member x.instance p ms → ⊥
+is_found x ms p r h s =
+    let Q : ℕ → Type 0 = λ n. lookup by_member ms n ≡ Some h.1.before in
+    none_is (sym (lookup_before by_member x.instance p ms r s)
+    ∙ subst Q h.1.numbered (found_at by_member ms h.0 h.1.before r h.1.at))
   where
-    none_is : None ≡ Some h.1.member → ⊥
+    none_is : None ≡ Some h.1.before → ⊥
     none_is g = cc
 
 -- it is put at its own place
-pub set_is_put : (i : ViewItem) (ms : List GraphMember) (p : ℕ) → Rises by_member ms → IsAlikeAt i ms p
-    → slice_set ms p (member_of i) ≡ list_with_item by_member (member_of i) ms
-set_is_put i ms p r h =
+pub set_is_put : (x : GraphMember) (ms : List GraphMember) (p : ℕ) → Rises by_member ms → FitsAt x ms p
+    → slice_set ms p x ≡ list_with_item by_member x ms
+set_is_put x ms p r h =
     let P : ℕ → Type 0 = λ n. StandsAt by_member n p ms in
-    sym (put_at by_member (member_of i) p ms
-    (subst P (h.numbered ∙ sym (same_number i)) (stands by_member ms p h.member r h.at)))
+    sym (put_at by_member x p ms (subst P h.numbered (stands by_member ms p h.before r h.at)))
 
-pub rest_alike : (o : Option ViewItem) (n : ℕ) (cs : List ChangedItem) (ms : List GraphMember) → Rises by_member ms
-    → IsAlikeChange o ms → AreAlike cs ms → AreAlike cs (with_member n o ms)
-rest_alike None n cs ms r h g = absurd h
-rest_alike (Some i) n cs ms r h g =
-    let P : List GraphMember → Type 0 = AreAlike cs in
-    subst P (set_is_put i ms h.0 r h.1) (changes_stay i cs ms h.0 h.1 g)
+rest_fits : (x : GraphMember) (ys ms : List GraphMember) → Rises by_member ms → Fits x ms → AllFit ys ms
+    → AllFit ys (list_with_item by_member x ms)
+rest_fits x ys ms r h g =
+    let P : List GraphMember → Type 0 = AllFit ys in
+    subst P (set_is_put x ms h.0 r h.1) (all_stay x ys ms h.0 h.1 g)
+
+pub fits_within : (x : GraphMember) (ms : List GraphMember) (p : ℕ) → FitsAt x ms p → p < length ms
+fits_within x ms p h = slice_get_within ms p h.before h.at
+
+-- ---- successors, one after another
+
+pub all_with : (xs ys ms : List GraphMember) → put_all by_member (xs ++ ys) ms ≡ put_all by_member ys (put_all by_member xs ms)
+all_with [] ys ms = refl
+all_with (x ∷ xs) ys ms = all_with xs ys (list_with_item by_member x ms)
+
+all_fit : (xs : List GraphMember) (x : GraphMember) (ms : List GraphMember) → AllFit xs ms → Fits x ms
+    → AllFit (xs ++ x ∷ []) ms
+all_fit [] x ms h g = (g, tt)
+all_fit (y ∷ xs) x ms h g = (h.0, all_fit xs x ms h.1 g)
+
+pub more_fit : (xs ys : List GraphMember) (x : GraphMember) (ms : List GraphMember) → ys ≡ xs ++ x ∷ [] → AllFit xs ms
+    → Fits x ms → AllFit ys ms
+more_fit xs ys x ms e h g = let P : List GraphMember → Type 0 = λ l. AllFit l ms in subst P (sym e) (all_fit xs x ms h g)
+
+put_by : (c : ChangedItem) (x : GraphMember) (ms : List GraphMember) → IsSuccessor c.item x
+    → with_member c.instance c.item ms ≡ list_with_item by_member x ms
+put_by c x ms h = by c.item h
+  where
+    by : (o : Option ViewItem) → IsSuccessor o x → with_member c.instance o ms ≡ list_with_item by_member x ms
+    by None g = absurd g
+    by (Some i) g = ap (λ y. list_with_item by_member y ms) (sym g)
+
+pub more_put : (cs : List ChangedItem) (i : ℕ) (c : ChangedItem) (xs ys : List GraphMember) (x : GraphMember)
+    (ms : List GraphMember) → i < length cs → c ≡ get_or cs i c → ys ≡ xs ++ x ∷ [] → IsSuccessor c.item x
+    → with_members (drop i cs) (put_all by_member xs ms) ≡ with_members cs ms
+    → with_members (drop (i + 1) cs) (put_all by_member ys ms) ≡ with_members cs ms
+more_put cs i c xs ys x ms lt is e s h =
+    ap (with_members (drop (i + 1) cs))
+    (ap (λ l. put_all by_member l ms) e ∙ all_with xs (x ∷ []) ms ∙ sym (put_by c x (put_all by_member xs ms) s))
+    ∙ ap (λ l. with_members l (put_all by_member xs ms)) (sym (left_at cs i c lt is)) ∙ h
+
+pub are_successors : (cs : List ChangedItem) (i : ℕ) (xs ms : List GraphMember) → length cs ≤ i → AllFit xs ms
+    → with_members (drop i cs) (put_all by_member xs ms) ≡ with_members cs ms → AreSuccessors cs xs ms
+are_successors cs i xs ms le f h =
+    record { fit = f; put = ap (λ l. with_members l (put_all by_member xs ms)) (sym (drop_all i cs le)) ∙ h }
 
 -- ---- by places
 
@@ -242,7 +269,7 @@ pub cycles_alike : (ms ks : List GraphMember) (m : GraphMember) → map wires ms
 unfolding on_cycle
 cycles_alike ms ks m h = leads_alike ms ks h m m m m refl refl
 
--- ---- one instance gets another state
+-- ---- one member takes the place of another
 
 found_same : (ms ks : List GraphMember) (n : GraphMember) → all_met ks n ≡ all_met ms n
     → any_must_stop ks n.base n.dependencies ≡ any_must_stop ms n.base n.dependencies
@@ -251,21 +278,20 @@ unfolding finding_of
 found_same ms ks n e f g =
     λ i. record { readable = is_some n.dependencies; all_met = e i; must_stop = f i; on_cycle = g i }
 
-pub state_taken : (i : ViewItem) (ms ms' : List GraphMember) (ns ns' : List GraphNode) (p : ℕ) (was touched : List ℕ)
-    → IsAlikeAt i ms p → ms' ≡ slice_set ms p (member_of i)
+pub member_taken : (x : GraphMember) (ms ms' : List GraphMember) (ns ns' : List GraphNode) (p : ℕ) (was touched : List ℕ)
+    → FitsAt x ms p → ms' ≡ slice_set ms p x
     → ns ≡ nodes_of ms → ns' ≡ nodes_of ms' → Reaches ns ns' p was touched → Stays ms ms' was touched
-state_taken i ms ms' ns ns' p was touched h is linked linked' far =
-    let wired : map wires ms' ≡ map wires ms = ap (map wires) is
-    ∙ map_set wires ms p h.member (member_of i) h.at (alike i h.member h.of_item) in
+member_taken x ms ms' ns ns' p was touched h is linked linked' far =
+    let wired : map wires ms' ≡ map wires ms = ap (map wires) is ∙ map_set wires ms p h.before x h.at h.alike in
     let size : length ns ≡ length ms = ap length linked ∙ length-map ms (node_of ms) in
     let apart : (a : ℕ) → (p ≡ a → ⊥) → slice_get ms' a ≡ slice_get ms a =
-    λ a ne. ap (λ l. slice_get l a) is ∙ set_other ms p a (member_of i) ne in
+    λ a ne. ap (λ l. slice_get l a) is ∙ set_other ms p a x ne in
     let node : (a : ℕ) (n : GraphMember) → slice_get ms a ≡ Some n → slice_get ns a ≡ Some (node_of ms n) =
     λ a n at. ap (λ l. slice_get l a) linked ∙ node_got ms ms a n at in
     let there : (a : ℕ) (n : GraphMember) → IsOut a touched → slice_get ms a ≡ Some n → slice_get ms' a ≡ Some n =
     λ a n out at. apart a (far.apart a (node_of ms n) out (node a n at)).0 ∙ at in
     record {
-      numbers = ap (map number) is ∙ map_set number ms p h.member (member_of i) h.at (same_number i ∙ sym h.numbered);
+      numbers = ap (map number) is ∙ map_set number ms p h.before x h.at (sym h.numbered);
       wired = wired;
       grown = λ a out less. let within : a < length ns = omega arith in far.grown a out within;
       member = there;
@@ -284,18 +310,17 @@ state_taken i ms ms' ns ns' p was touched h is linked linked' far =
           (cycles_alike ms' ms n wired);
     }
 
-pub linked_again : (i : ViewItem) (ms ms' : List GraphMember) (ns ns' : List GraphNode) (p : ℕ) (f : Flags)
-    → IsAlikeAt i ms p → ms' ≡ slice_set ms p (member_of i) → f ≡ flags_of (member_of i)
+pub linked_again : (x : GraphMember) (ms ms' : List GraphMember) (ns ns' : List GraphNode) (p : ℕ) (f : Flags)
+    → FitsAt x ms p → ms' ≡ slice_set ms p x → f ≡ flags_of x
     → ns ≡ nodes_of ms → ns' ≡ with_flags ns p f → ns' ≡ nodes_of ms'
-linked_again i ms ms' ns ns' p f h is same linked set =
-    set ∙ (λ j. with_flags (linked j) p (same j))
-    ∙ nodes_are_set ms ms' p h.member (member_of i) h.at (alike i h.member h.of_item) is
+linked_again x ms ms' ns ns' p f h is same linked set =
+    set ∙ (λ j. with_flags (linked j) p (same j)) ∙ nodes_are_set ms ms' p h.before x h.at h.alike is
 
-pub place_within : (i : ViewItem) (ms : List GraphMember) (ns : List GraphNode) (p : ℕ) → IsAlikeAt i ms p
+pub place_within : (x : GraphMember) (ms : List GraphMember) (ns : List GraphNode) (p : ℕ) → FitsAt x ms p
     → ns ≡ nodes_of ms → p < length ns
-place_within i ms ns p h linked =
+place_within x ms ns p h linked =
     let size : length ns ≡ length ms = ap length linked ∙ length-map ms (node_of ms) in
-    let within = slice_get_within ms p h.member h.at in omega arith
+    let within = slice_get_within ms p h.before h.at in omega arith
 
 pub as_many : (ms : List GraphMember) (ns : List GraphNode) (capacity : ℕ) → ns ≡ nodes_of ms → length ms ≤ capacity
     → length ns ≤ capacity
@@ -305,42 +330,23 @@ as_many ms ns capacity linked le =
 pub whole : {X : Type 0} (done all : List X) (i : ℕ) → length all ≤ i → done ++ drop i all ≡ all → done ≡ all
 whole done all i le h = sym (append-nil done) ∙ ap (λ l. done ++ l) (sym (drop_all i all le)) ∙ h
 
--- ---- one change after another
+-- ---- one member after another
 
-pub with_more : (cs : List ChangedItem) (i : ℕ) (c : ChangedItem) (ms ms' first : List GraphMember) → i < length cs
-    → c ≡ get_or cs i c → ms' ≡ with_member c.instance c.item ms
-    → with_members (drop i cs) ms ≡ with_members cs first → with_members (drop (i + 1) cs) ms' ≡ with_members cs first
-with_more cs i c ms ms' first lt is e h =
-    ap (with_members (drop (i + 1) cs)) e ∙ ap (λ l. with_members l ms) (sym (left_at cs i c lt is)) ∙ h
+pub with_more : (xs : List GraphMember) (x : GraphMember) (rest ms ms' first : List GraphMember)
+    → rest ≡ x ∷ xs → ms' ≡ list_with_item by_member x ms
+    → put_all by_member rest ms ≡ first → put_all by_member xs ms' ≡ first
+with_more xs x rest ms ms' first is e h = ap (put_all by_member xs) e ∙ ap (λ l. put_all by_member l ms) (sym is) ∙ h
 
-pub with_all : (cs : List ChangedItem) (i : ℕ) (ms first : List GraphMember) → length cs ≤ i
-    → with_members (drop i cs) ms ≡ with_members cs first → ms ≡ with_members cs first
-with_all cs i ms first le h = ap (λ l. with_members l ms) (sym (drop_all i cs le)) ∙ h
+pub next_fits : (xs : List GraphMember) (x : GraphMember) (rest ms : List GraphMember) → rest ≡ x ∷ xs
+    → AllFit rest ms → Fits x ms × AllFit xs ms
+next_fits xs x rest ms is h = let P : List GraphMember → Type 0 = λ l. AllFit l ms in subst P is h
 
-pub next_alike : (cs : List ChangedItem) (i : ℕ) (c : ChangedItem) (ms : List GraphMember) → i < length cs
-    → c ≡ get_or cs i c → AreAlike (drop i cs) ms
-    → IsAlikeChange c.item ms × AreAlike (drop (i + 1) cs) ms
-next_alike cs i c ms lt is h = let P : List ChangedItem → Type 0 = λ l. AreAlike l ms in
-    subst P (left_at cs i c lt is) h
-
-pub more_alike : (cs : List ChangedItem) (i : ℕ) (c : ChangedItem) (ms ms' : List GraphMember) → i < length cs
-    → c ≡ get_or cs i c → ms' ≡ with_member c.instance c.item ms → Rises by_member ms
-    → AreAlike (drop i cs) ms → AreAlike (drop (i + 1) cs) ms'
-more_alike cs i c ms ms' lt is e r h =
-    let two = next_alike cs i c ms lt is h in
-    let P : List GraphMember → Type 0 = AreAlike (drop (i + 1) cs) in
-    subst P (sym e) (rest_alike c.item c.instance (drop (i + 1) cs) ms r two.0 two.1)
-
-pub one_alike : (cs : List ChangedItem) (i : ℕ) (c : ChangedItem) (ms : List GraphMember) → i < length cs
-    → c ≡ get_or cs i c → IsAlikeChange c.item ms
-    → (AreAlike (drop i cs) ms → AreAlike cs ms) → AreAlike (drop (i + 1) cs) ms → AreAlike cs ms
-one_alike cs i c ms lt is h before rest = let P : List ChangedItem → Type 0 = λ l. AreAlike l ms in
-    before (subst P (sym (left_at cs i c lt is)) (h, rest))
-
-pub all_alike : (cs : List ChangedItem) (i : ℕ) (ms : List GraphMember) → length cs ≤ i
-    → (AreAlike (drop i cs) ms → AreAlike cs ms) → AreAlike cs ms
-all_alike cs i ms le before = let P : List ChangedItem → Type 0 = λ l. AreAlike l ms in
-    before (subst P (sym (drop_all i cs le)) tt)
+pub more_fits : (xs : List GraphMember) (x : GraphMember) (rest ms ms' : List GraphMember) → rest ≡ x ∷ xs
+    → ms' ≡ list_with_item by_member x ms → Rises by_member ms → AllFit rest ms → AllFit xs ms'
+more_fits xs x rest ms ms' is e r h =
+    let two = next_fits xs x rest ms is h in
+    let P : List GraphMember → Type 0 = AllFit xs in
+    subst P (sym e) (rest_fits x xs ms r two.0 two.1)
 
 pub stays_size : (a b : List GraphMember) (was touched : List ℕ) → Stays a b was touched → length b ≡ length a
 stays_size a b was touched f = sym (length-map b number) ∙ ap length f.numbers ∙ length-map a number

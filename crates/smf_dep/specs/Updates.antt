@@ -1,11 +1,11 @@
 -- Members that are brought up to date by items that changed, and the findings that stay.
 use Rattle.std.specs.Prelude.{◌≡◌, ℕ, ◌<◌, List, [], ◌∷◌, map, length, Option, Some, None, slice_get}
-use Rattle.smf_fmri.specs.ByKey.{lookup, list_with_item, without}
+use Rattle.smf_fmri.specs.ByKey.{lookup, list_with_item, put_all, without}
 use Rattle.smf_state.specs.declared.view.ChangedItem.{ChangedItem}
 use Rattle.smf_state.specs.declared.view.ViewItem.{ViewItem}
 use Rattle.smf_links.specs.Blockage.{IsOut}
 use Rattle.smf_dep.specs.declared.member.GraphMember.{GraphMember}
-use Rattle.smf_dep.specs.Members.{IsOfItem, by_member, member_of, wires}
+use Rattle.smf_dep.specs.Members.{by_member, member_of, wires}
 use Rattle.smf_dep.specs.Places.{finding_of}
 
 -- an instance whose number is not touched is as before, and so is its finding
@@ -26,25 +26,30 @@ abbrev pub with_members : List ChangedItem → List GraphMember → List GraphMe
 with_members [] ms = ms
 with_members (c ∷ cs) ms = with_members cs (with_member c.instance c.item ms)
 
--- ---- items of which a state alone may have changed
+-- ---- members in the places of others
 
--- the instance at the place has the number of the item, and its groups are read from the same
-pub record IsAlikeAt (i : ViewItem) (ms : List GraphMember) (place : ℕ) : Type 0 where
-  pub member : GraphMember
-  pub at : slice_get ms place ≡ Some member
-  pub numbered : member.instance ≡ i.instance
-  pub of_item : IsOfItem i member
+-- the member at the place has the number, the name and the dependencies of this one
+pub record FitsAt (m : GraphMember) (ms : List GraphMember) (place : ℕ) : Type 0 where
+  pub before : GraphMember
+  pub at : slice_get ms place ≡ Some before
+  pub numbered : before.instance ≡ m.instance
+  pub alike : wires m ≡ wires before
 
-abbrev pub IsAlike : ViewItem → List GraphMember → Type 0
-IsAlike i ms = (place : ℕ) × IsAlikeAt i ms place
+abbrev pub Fits : GraphMember → List GraphMember → Type 0
+Fits m ms = (place : ℕ) × FitsAt m ms place
 
-abbrev pub IsAlikeChange : Option ViewItem → List GraphMember → Type 0
-IsAlikeChange None ms = ⊥
-IsAlikeChange (Some i) ms = IsAlike i ms
+abbrev pub AllFit : List GraphMember → List GraphMember → Type 0
+AllFit [] ms = Unit
+AllFit (x ∷ xs) ms = Fits x ms × AllFit xs ms
 
-abbrev pub AreAlike : List ChangedItem → List GraphMember → Type 0
-AreAlike [] ms = Unit
-AreAlike (c ∷ cs) ms = IsAlikeChange c.item ms × AreAlike cs ms
+abbrev pub IsSuccessor : Option ViewItem → GraphMember → Type 0
+IsSuccessor None m = ⊥
+IsSuccessor (Some i) m = m ≡ member_of i
+
+-- the members of items that changed, of which each fits
+pub record AreSuccessors (cs : List ChangedItem) (xs ms : List GraphMember) : Type 0 where
+  pub fit : AllFit xs ms
+  pub put : put_all by_member xs ms ≡ with_members cs ms
 
 -- ---- instances that such a change leaves alone
 

@@ -1,4 +1,4 @@
-ghost use Rattle.std.specs.Prelude.{◌≡◌, IfOk};
+ghost use Rattle.std.specs.Prelude.{◌≡◌, IfOk, true};
 
 use smf_fmri::{Fmri, Items};
 use smf_links::{Grouping, RestartOn};
@@ -31,4 +31,35 @@ impl Clone for Dependency {
             entities,
         })
     }
+}
+
+fn are_same_names(names: &[Fmri], others: &[Fmri]) -> bool
+    ensures { result ≡ true → names.now ≡ others.now }
+{
+    names == others
+}
+
+fn is_same(dependency: &Dependency, other: &Dependency) -> bool
+    ensures { result ≡ true → dependency.now ≡ other.now }
+{
+    dependency.grouping == other.grouping
+        && dependency.restart_on == other.restart_on
+        && are_same_names(dependency.entities.as_slice(), other.entities.as_slice())
+}
+
+/// True if the one list asks for what the other does.
+pub(crate) fn are_same(dependencies: &[Dependency], others: &[Dependency]) -> bool
+    ensures { result ≡ true → dependencies.now ≡ others.now }
+{
+    if dependencies.len() != others.len() {
+        return false;
+    }
+    let mut place = 0;
+    for other in others {
+        if !is_same(&dependencies[place], other) {
+            return false;
+        }
+        place += 1;
+    }
+    true
 }

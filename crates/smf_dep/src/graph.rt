@@ -1,13 +1,13 @@
 ghost use Rattle.std.specs.List.{AllZip, list_any, position};
 ghost use Rattle.std.specs.Option.{option_copied};
 ghost use Rattle.std.specs.Prelude.{◌≡◌, IfOk, List, OnErr, OnOk, option_map, slice_get};
-ghost use Rattle.smf_fmri.specs.ByKey.{Rises, has_key};
+ghost use Rattle.smf_fmri.specs.ByKey.{Rises, has_key, put_all};
 ghost use Rattle.smf_state.specs.Patched.{by_item, with_items};
 ghost use Rattle.smf_state.specs.declared.view.ViewItem.{ViewItem as AnyItem};
 ghost use Rattle.smf_dep.specs.Members.{IsOfItem, by_member, members};
 ghost use Rattle.smf_dep.specs.Places.{AreCyclesOf, event_at, finding_at, finding_of, flag_at, link_stops, node_stops, nodes_of};
 ghost use Rattle.smf_dep.specs.Verdicts.{must_stop, stops_by, verdict, verdict_by};
-ghost use Rattle.smf_dep.specs.Updates.{AreAlike, OthersStay, with_members};
+ghost use Rattle.smf_dep.specs.Updates.{AllFit, OthersStay, with_members};
 
 use crate::cycle::on_cycles;
 use crate::dependency::Dependency;
@@ -16,7 +16,7 @@ use crate::member::{
     GraphMember, ReadMember, Standing, members_again, renewed_members, standing_of,
 };
 use crate::names::Names;
-use crate::update::{are_alike, changed_members, numbers_of, place_in, put_touched, take_changes};
+use crate::update::{changed_members, numbers_of, place_in, put_touched, successors, take_members};
 use smf_fmri::Items;
 use smf_links::{GraphNode, Grouping, KeptVerdicts, Link, RestartOn};
 use smf_state::{ChangedItem, ViewItem};
@@ -244,27 +244,26 @@ impl Graph {
         ensures others { IfOk result (λ touched. OthersStay self.old self.new touched) }
         ensures err { OnErr result (self.new ≡ self.old) }
     {
-        if are_alike(self.members.as_slice(), changes) {
-            return self.update_states(alloc, changes);
+        match successors(alloc, self.members.as_slice(), changes)? {
+            Some(successors) => self.update_in_place(alloc, successors),
+            None => self.update_all(alloc, changes),
         }
-        self.update_all(alloc, changes)
     }
 
-    /// Takes changes of instances that are there, and whose groups are read from the same. All that may fail goes
-    /// first.
-    fn update_states(
+    /// Puts members in the places of those with their numbers. All that may fail goes first.
+    fn update_in_place(
         &mut self,
         alloc: Global,
-        changes: &[ChangedItem],
+        successors: Vec<ReadMember>,
     ) -> Result<Items<u64>, AllocError>
-        requires { AreAlike changes.now self.old }
-        ensures with { OnOk result (self.new ≡ with_members changes.now self.old) }
+        requires { AllFit successors.items self.old }
+        ensures with { OnOk result (self.new ≡ put_all by_member successors.items self.old) }
         ensures others { IfOk result (λ touched. OthersStay self.old self.new touched) }
         ensures err { OnErr result (self.new ≡ self.old) }
     {
         let mut touched = Vec::with_capacity(alloc, self.members.len())?;
         let mut numbers = Vec::with_capacity(alloc, self.members.len())?;
-        take_changes(&mut self.members, &mut self.kept, changes, &mut touched);
+        take_members(&mut self.members, &mut self.kept, successors, &mut touched);
         put_touched(&mut numbers, self.members.as_slice(), touched.as_slice());
         Ok(Items::from_vec(numbers))
     }

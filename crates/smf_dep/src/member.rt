@@ -1,12 +1,12 @@
 ghost use Rattle.std.specs.List.{AllZip};
-ghost use Rattle.std.specs.Prelude.{◌≡◌, true, IfOk, refl};
+ghost use Rattle.std.specs.Prelude.{◌≡◌, true, IfOk, IfSome, refl};
 ghost use Rattle.smf_value.specs.Decoder.{Gives};
 ghost use Rattle.smf_dep.specs.Requirements.{read_groups};
-ghost use Rattle.smf_dep.specs.Members.{HasNumbersOf, HasStateOf, IsOfItem, by_member, groups_of_snapshot, implicit, member_of, member_with, members, snapshot_in, when_there, with_implicit};
+ghost use Rattle.smf_dep.specs.Members.{HasNumbersOf, HasStateOf, IsOfItem, by_member, groups_of_snapshot, implicit, member_of, member_with, members, snapshot_in, when_there, wires, with_implicit};
 ghost use Rattle.smf_dep.specs.Methods.{has_unfit_methods};
 ghost use Rattle.smf_dep.specs.Verdicts.{cites_by, is_cited, is_idle, is_off, is_running, is_waiting};
 
-use crate::dependency::Dependency;
+use crate::dependency::{Dependency, are_same};
 use crate::fault::DependencyFault;
 use crate::methods::has_unfit_methods;
 use crate::requirements::read_groups;
@@ -281,6 +281,21 @@ fn copy_of_dependencies(
     }
 }
 
+fn has_same_dependencies(
+    kept: &Option<Shared<Items<Dependency>>>,
+    other: &Option<Shared<Items<Dependency>>>,
+) -> bool
+    ensures { result ≡ true → kept.now ≡ other.now }
+{
+    match kept {
+        None => other.is_none(),
+        Some(kept) => match other {
+            None => false,
+            Some(other) => are_same(kept.as_slice(), other.as_slice()),
+        },
+    }
+}
+
 /// A copy, which shares what was read.
 fn copy_of_member(member: &GraphMember) -> Result<GraphMember, AllocError>
     ensures { IfOk result (λ copy. copy ≡ member.now) }
@@ -302,23 +317,6 @@ fn copy_of_member(member: &GraphMember) -> Result<GraphMember, AllocError>
         composed,
         dependencies,
     })
-}
-
-/// Gives a member the state of an item from which its groups would be read the same.
-fn take_state(member: &mut GraphMember, item: &ViewItem, row: &Row)
-    requires alike { IsOfItem item.now member.old }
-    requires row { row.now ≡ item.now.row }
-    ensures { member.new ≡ member_of item.now }
-{
-    member.instance = item.instance;
-    member.enabled = item.enabled;
-    member.state = row.state;
-    member.next = row.next;
-    member.base = row.base;
-    member.err = row.err;
-    member.stop = row.stop;
-    member.refresh = row.refresh;
-    member.start = row.start;
 }
 
 impl ReadMember {
@@ -368,6 +366,33 @@ impl ReadMember {
             && is_body(&self.body, &item.body)
     }
 
+    /// True if it has the name and the dependencies of another.
+    fn has_wires_of(&self, other: &ReadMember) -> bool
+        ensures { result ≡ true → wires self.now ≡ wires other.now }
+    {
+        self.member.name == other.member.name
+            && has_same_dependencies(&self.member.dependencies, &other.member.dependencies)
+    }
+
+    /// The member of an item, if that has the name and the dependencies of this one.
+    pub(crate) fn successor(
+        &self,
+        alloc: Global,
+        item: &ViewItem,
+    ) -> Result<Option<ReadMember>, AllocError>
+        ensures { IfOk result (λ o. IfSome o (λ m. (m ≡ member_of item.now) × (wires m ≡ wires self.now))) }
+    {
+        if self.is_read_from(item) {
+            let kept = self.clone()?;
+            return Ok(Some(kept.again(item)));
+        }
+        let member = ReadMember::read(alloc, item)?;
+        if !member.has_wires_of(self) {
+            return Ok(None);
+        }
+        Ok(Some(member))
+    }
+
     /// True if its state is that of an item from which its groups would be read the same.
     fn has_state_of(&self, item: &ViewItem) -> bool
         requires { IsOfItem item.now self.now }
@@ -393,14 +418,6 @@ impl ReadMember {
             body,
             has_unfit_methods,
         }
-    }
-
-    /// Gives it the state of an item from which its groups would be read the same.
-    pub(crate) fn take_state(&mut self, item: &ViewItem)
-        requires { IsOfItem item.now self.old }
-        ensures { self.new ≡ member_of item.now }
-    {
-        take_state(&mut self.member, item, &item.row);
     }
 }
 

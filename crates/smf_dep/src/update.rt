@@ -2,18 +2,18 @@
 
 ghost use Rattle.std.specs.List.{position};
 ghost use Rattle.std.specs.Ordering.{nat_cmp};
-ghost use Rattle.std.specs.Prelude.{◌≡◌, ◌<◌, ◌≤◌, ◌++◌, ◌∷◌, ℕ, [], Some, IfOk, OnOk, length, map, slice_get, slice_set, true, vec_capacity};
-ghost use Rattle.smf_fmri.specs.ByKey.{IsPlaced, Rises, has_key};
+ghost use Rattle.std.specs.Prelude.{◌≡◌, ◌<◌, ◌≤◌, ◌++◌, ◌∷◌, ℕ, [], Some, IfOk, IfSome, OnOk, length, map, slice_get, slice_set, vec_capacity};
+ghost use Rattle.smf_fmri.specs.ByKey.{IsPlaced, Rises, has_key, list_with_item, put_all};
 ghost use Rattle.smf_links.specs.Blockage.{IsOut};
 ghost use Rattle.smf_dep.specs.declared.member.GraphMember.{GraphMember as AnyMember};
 ghost use Rattle.smf_dep.specs.Members.{by_member, member_of};
-ghost use Rattle.smf_dep.specs.Places.{flags_of, nodes_of};
-ghost use Rattle.smf_dep.specs.Updates.{AreAlike, IsAlike, IsAlikeAt, IsAlikeChange, Stays, number, number_at, with_member, with_members};
+ghost use Rattle.smf_dep.specs.Places.{nodes_of};
+ghost use Rattle.smf_dep.specs.Updates.{AllFit, AreSuccessors, Fits, FitsAt, IsSuccessor, Stays, number, number_at, with_member, with_members};
 
 use crate::link::flags_of;
 use crate::member::ReadMember;
 use smf_fmri::{Items, Ordered};
-use smf_links::{Flags, KeptVerdicts, with_room};
+use smf_links::{KeptVerdicts, with_room};
 use smf_state::{ChangedItem, ViewItem};
 use std::alloc::{AllocError, Global};
 use std::cmp::Ordering;
@@ -44,123 +44,115 @@ pub(crate) fn place_in(members: &[ReadMember], instance: u64) -> Option<usize>
     }
 }
 
-// ---- items of which a state alone may have changed
+// ---- items by which nothing comes, goes or depends on other things
 
-fn is_alike(members: &[ReadMember], item: &ViewItem) -> bool
+/// The member of an item, if its instance is there, with that name and these dependencies.
+fn successor_in(
+    alloc: Global,
+    members: &[ReadMember],
+    item: &ViewItem,
+) -> Result<Option<ReadMember>, AllocError>
     requires { Rises by_member members.now }
-    ensures { result ≡ true → IsAlike item.now members.now }
+    ensures { IfOk result (λ o. IfSome o (λ m. (m ≡ member_of item.now) × Fits m members.now)) }
 {
     match search(members, item.instance) {
-        Ok(place) => members[place].is_read_from(item),
-        Err(_) => false,
+        Ok(place) => members[place].successor(alloc, item),
+        Err(_) => Ok(None),
     }
 }
 
-fn is_alike_change(members: &[ReadMember], change: &ChangedItem) -> bool
+fn successor_by(
+    alloc: Global,
+    members: &[ReadMember],
+    change: &ChangedItem,
+) -> Result<Option<ReadMember>, AllocError>
     requires { Rises by_member members.now }
-    ensures { result ≡ true → IsAlikeChange change.now.item members.now }
+    ensures { IfOk result (λ o. IfSome o (λ m. IsSuccessor change.now.item m × Fits m members.now)) }
 {
     match &change.item {
-        None => false,
-        Some(item) => is_alike(members, item),
+        None => Ok(None),
+        Some(item) => successor_in(alloc, members, item),
     }
 }
 
-/// True if each item that changed is that of an instance which is there, and its groups would be read from the same.
-pub(crate) fn are_alike(members: &[ReadMember], changes: &[ChangedItem]) -> bool
+/// The members of items that changed. None if an instance comes, goes or depends on other things.
+pub(crate) fn successors(
+    alloc: Global,
+    members: &[ReadMember],
+    changes: &[ChangedItem],
+) -> Result<Option<Vec<ReadMember>>, AllocError>
     requires { Rises by_member members.now }
-    ensures { result ≡ true → AreAlike changes.now members.now }
+    ensures { IfOk result (λ o. IfSome o (λ all. AreSuccessors changes.now all.items members.now)) }
 {
+    let mut all = Vec::with_capacity(alloc, changes.len())?;
     for change in changes {
-        if !is_alike_change(members, change) {
-            return false;
-        }
+        let Some(member) = successor_by(alloc, members, change)? else {
+            return Ok(None);
+        };
+        all.push(member)?;
     }
-    true
+    Ok(Some(all))
 }
 
-fn place_alike(members: &[ReadMember], item: &ViewItem) -> usize
-    requires alike { IsAlike item.now members.now }
+fn place_of(members: &[ReadMember], member: &ReadMember) -> usize
+    requires fits { Fits member.now members.now }
     requires rises { Rises by_member members.now }
-    ensures { IsAlikeAt item.now members.now result }
+    ensures { FitsAt member.now members.now result }
 {
-    match search(members, item.instance) {
+    match search(members, member.member().instance) {
         Ok(place) => place,
         Err(_) => unreachable!(),
     }
 }
 
-/// Gives the instance at a place the state of an item, and says what it is by that.
-fn set_member(members: &mut Vec<ReadMember>, place: usize, item: &ViewItem) -> Flags
-    requires { IsAlikeAt item.now members.old.items place }
-    ensures set { members.new.items ≡ slice_set members.old.items place (member_of item.now) }
-    ensures flags { result ≡ flags_of (member_of item.now) }
+/// Puts a member in the place of another.
+fn put_member(members: &mut Vec<ReadMember>, place: usize, member: ReadMember)
+    requires { place < length members.old.items }
+    ensures { members.new.items ≡ slice_set members.old.items place member }
 {
-    let member = &mut members[place];
-    member.take_state(item);
-    flags_of(member.member())
+    members[place] = member;
 }
 
-/// Gives an instance the state of an item.
-fn take_item(
+/// Puts a member in the place of that with its number.
+fn take_member(
     members: &mut Vec<ReadMember>,
     kept: &mut KeptVerdicts,
-    item: &ViewItem,
+    member: ReadMember,
     touched: &mut Vec<usize>,
 )
-    requires alike { IsAlike item.now members.old.items }
+    requires fits { Fits member members.old.items }
     requires rises { Rises by_member members.old.items }
     requires linked { kept.old ≡ nodes_of members.old.items }
     requires room { length members.old.items ≤ vec_capacity touched.old }
-    ensures put { members.new.items ≡ with_member item.now.instance (Some item.now) members.old.items }
+    ensures put { members.new.items ≡ list_with_item by_member member members.old.items }
     ensures linked { kept.new ≡ nodes_of members.new.items }
     ensures stays { Stays members.old.items members.new.items touched.old.items touched.new.items }
     ensures room { vec_capacity touched.old ≤ vec_capacity touched.new }
 {
-    let place = place_alike(members.as_slice(), item);
-    let flags = set_member(members, place, item);
+    let place = place_of(members.as_slice(), &member);
+    let flags = flags_of(member.member());
+    put_member(members, place, member);
     kept.set(place, flags, touched);
 }
 
-fn take_change(
+/// Puts members in the places of those with their numbers. Puts the places of all instances whose finding may have
+/// changed among those that are touched.
+pub(crate) fn take_members(
     members: &mut Vec<ReadMember>,
     kept: &mut KeptVerdicts,
-    change: &ChangedItem,
+    successors: Vec<ReadMember>,
     touched: &mut Vec<usize>,
 )
-    requires alike { IsAlikeChange change.now.item members.old.items }
+    requires fit { AllFit successors.items members.old.items }
     requires rises { Rises by_member members.old.items }
     requires linked { kept.old ≡ nodes_of members.old.items }
     requires room { length members.old.items ≤ vec_capacity touched.old }
-    ensures put { members.new.items ≡ with_member change.now.instance change.now.item members.old.items }
-    ensures linked { kept.new ≡ nodes_of members.new.items }
-    ensures stays { Stays members.old.items members.new.items touched.old.items touched.new.items }
-    ensures room { vec_capacity touched.old ≤ vec_capacity touched.new }
-{
-    match &change.item {
-        None => unreachable!(),
-        Some(item) => take_item(members, kept, item, touched),
-    }
-}
-
-/// Gives instances the states of items. Puts the places of all instances whose finding may have changed among those
-/// that are touched.
-pub(crate) fn take_changes(
-    members: &mut Vec<ReadMember>,
-    kept: &mut KeptVerdicts,
-    changes: &[ChangedItem],
-    touched: &mut Vec<usize>,
-)
-    requires alike { AreAlike changes.now members.old.items }
-    requires rises { Rises by_member members.old.items }
-    requires linked { kept.old ≡ nodes_of members.old.items }
-    requires room { length members.old.items ≤ vec_capacity touched.old }
-    ensures with { members.new.items ≡ with_members changes.now members.old.items }
+    ensures with { members.new.items ≡ put_all by_member successors.items members.old.items }
     ensures linked { kept.new ≡ nodes_of members.new.items }
     ensures stays { Stays members.old.items members.new.items touched.old.items touched.new.items }
 {
-    for change in changes {
-        take_change(members, kept, change, touched);
+    for member in successors {
+        take_member(members, kept, member, touched);
     }
 }
 

@@ -4,35 +4,35 @@ use Rattle.smf_dep.specs.declared.member.GraphMember.{GraphMember}
 use Rattle.smf_dep.specs.Members.{by_member}
 use Rattle.smf_dep.specs.Updates.{OthersStay}
 use Rattle.smf_dep.proofs.Alike.{cycles_kept}
-use Rattle.smf_dep.proofs.OfItems.{rises_all}
+use Rattle.smf_fmri.proofs.KeyOrder.{rises_put_all}
 use Rattle.smf_dep.proofs.Updates.{by_touched}
-use Rattle.smf_dep.proofs.graph.Graph.update_states.Goals as goal
+use Rattle.smf_dep.proofs.graph.Graph.update_in_place.Goals as goal
 
 pub invariant_of-self : goal.invariant_of-self
 invariant_of-self c =
     let was = c.self.inside in
-    let now = c.take_changes.new.members.items in
+    let now = c.take_members.new.members.items in
     let P : List GraphMember → Type 0 = Rises by_member in
     record {
-      linked = c.take_changes.ensures.linked;
+      linked = c.take_members.ensures.linked;
       turning =
-          cycles_kept now was.members.items was.kept c.take_changes.new.kept was.cycles.items c.self.invariant.linked
-          c.take_changes.ensures.linked
-          c.take_changes.ensures.stays.wired c.self.invariant.turning;
-      rises = subst P (sym c.take_changes.ensures.with)
-          (rises_all c.args.changes.now was.members.items c.self.invariant.rises);
+          cycles_kept now was.members.items was.kept c.take_members.new.kept was.cycles.items c.self.invariant.linked
+          c.take_members.ensures.linked
+          c.take_members.ensures.stays.wired c.self.invariant.turning;
+      rises = subst P (sym c.take_members.ensures.with)
+          (rises_put_all by_member c.args.successors.items was.members.items c.self.invariant.rises);
     }
 
 pub returns-clause-others : goal.returns-clause-others
 returns-clause-others c =
     let was = c.self.inside.members.items in
-    let now = c.take_changes.new.members.items in
+    let now = c.take_members.new.members.items in
     let P : List GraphMember → Type 0 = λ l. OthersStay l now c.from_vec.result in
     let R : List GraphMember → Type 0 = Rises by_member in
     subst P c.self.view_is
-    (by_touched was now c.as_slice.result.now c.in_ok-touched.touched.items c.take_changes.new.touched.items
+    (by_touched was now c.as_slice.result.now c.in_ok-touched.touched.items c.take_members.new.touched.items
     c.as_slice-2.result.now c.put_touched.new.numbers.items c.from_vec.result
     c.self.invariant.rises
-    (subst R (sym c.take_changes.ensures.with) (rises_all c.args.changes.now was c.self.invariant.rises))
-    c.take_changes.ensures.stays
+    (subst R (sym c.take_members.ensures.with) (rises_put_all by_member c.args.successors.items was c.self.invariant.rises))
+    c.take_members.ensures.stays
     c.as_slice.ensures.value c.as_slice-2.ensures.value c.from_vec.ensures c.put_touched.ensures)

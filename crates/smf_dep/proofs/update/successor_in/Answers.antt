@@ -1,8 +1,8 @@
 use Rattle.std.proofs.Common.{◌<◌, length, arith}
 use Rattle.smf_fmri.proofs.Places.{stands_within}
 use Rattle.smf_dep.specs.Members.{by_member}
-use Rattle.smf_dep.proofs.Updates.{found_alike}
-use Rattle.smf_dep.proofs.update.is_alike.Goals as goal
+use Rattle.smf_dep.proofs.Updates.{fits_if}
+use Rattle.smf_dep.proofs.update.successor_in.Goals as goal
 
 pub bounds-members-place : goal.bounds-members-place
 bounds-members-place c =
@@ -15,6 +15,6 @@ offset_bounds-members-place c =
     omega arith
 
 pub returns-in-Ok : goal.returns-in-Ok
-returns-in-Ok c = λ e.
-    found_alike c.args.item.now c.args.members.now c.in-Ok.place c.index-members-place.result c.in-Ok.ensures.found
-    c.index-members-place.is (c.is_read_from.ensures e)
+returns-in-Ok c =
+    fits_if c.successor.result c.args.item.now c.args.members.now c.in-Ok.place c.index-members-place.result
+    c.in-Ok.ensures.found c.index-members-place.is c.successor.ensures
