@@ -138,15 +138,19 @@ has_homes p j [] = refl
 has_homes p j (m ∷ ms) =
     home_more (is_process p m) j m (filter (is_process p) ms) (without p ms) (has_members j ms) (has_homes p j ms)
 
-other_more : (a : Bool) (id : ℕ) (m : Member) (ws : List Member) (r : Bool) → r ≡ has_members id ws
-    → (not a && is_in id m || r) ≡ has_members id (cond (not a) (m ∷ ws) ws)
-other_more true id m ws r k = k
-other_more false id m ws r k = ap (λ x. is_in id m || x) k
+other_more : (a b : Bool) (id p : ℕ) (m : Member) (own ws : List Member) → is_in id m ≡ a → is_process p m ≡ b
+    → list_any (is_other p) own ≡ has_members id ws
+    → list_any (is_other p) (cond a (m ∷ own) own) ≡ has_members id (cond (not b) (m ∷ ws) ws)
+other_more true true id p m own ws e f k = rw f k
+other_more true false id p m own ws e f k = rw (e, f) refl
+other_more false true id p m own ws e f k = k
+other_more false false id p m own ws e f k = rw e k
 
-pub others : (id p : ℕ) (ms : List Member) → list_any (is_other id p) ms ≡ has_members id (without p ms)
-unfolding is_other
+pub others : (id p : ℕ) (ms : List Member)
+    → list_any (is_other p) (filter (is_in id) ms) ≡ has_members id (without p ms)
 others id p [] = refl
-others id p (m ∷ ms) = other_more (is_process p m) id m (without p ms) (list_any (is_other id p) ms) (others id p ms)
+others id p (m ∷ ms) =
+    other_more (is_in id m) (is_process p m) id p m (filter (is_in id) ms) (without p ms) refl refl (others id p ms)
 
 -- the calls that empty nothing
 none_between : (ms ns : List Member) → ((j : ℕ) → has_members j ms ≡ true → has_members j ns ≡ true)
@@ -241,6 +245,41 @@ pub exit_empties : (t : Contracts) (p : ℕ) (e : ends.Exit)
     → emptied_by t (calls.Exit p e) ≡ ids_exited t p (home t.members p)
 unfolding emptied_by table_after_contract_call Calls.result_of_exit
 exit_empties t p e = by_exit t p e _
+
+-- a process that is in one contract alone empties no other
+one_or : (takes_all h : Bool) → (takes_all && true || (true || false) && not h) ≡ (takes_all || not h)
+one_or true h = refl
+one_or false h = refl
+
+none_or : (takes_all h : Bool) → (takes_all && false || (false || false) && h) ≡ false
+none_or true h = refl
+none_or false h = refl
+
+alone_by : (b takes_all : Bool) (id p : ℕ) (ms : List Member) (c : Contract) → (c.id == id) ≡ b
+    → is_ended_by takes_all id p (id ∷ []) ms c ≡ (b && (takes_all || not (has_members id (without p ms))))
+unfolding is_ended_by
+alone_by true takes_all id p ms c e =
+    let same : c.id ≡ id = eqb-true c.id id e in
+    let back : (id == c.id) ≡ true = turned id c.id ∙ e in
+    let has : has_members c.id (without p ms) ≡ has_members id (without p ms) =
+    ap (λ n. has_members n (without p ms)) same in
+    rw (e, back, has) (one_or takes_all (has_members id (without p ms)))
+alone_by false takes_all id p ms c e =
+    let back : (id == c.id) ≡ false = turned id c.id ∙ e in
+    rw (e, back) (none_or takes_all (not (has_members c.id (without p ms))))
+
+by_alone : (b : Bool) (id : ℕ) (cs : List Contract)
+    → ids_of (filter (λ c. c.id == id && b) cs) ≡ cond b (ids_of (filter (has_id id) cs)) []
+by_alone true id cs = same_ids _ _ (λ c. and_true (c.id == id)) cs
+by_alone false id cs = no_ids _ (λ c. and_false (c.id == id)) cs
+
+pub ended_alone : (cs : List Contract) (ms : List Member) (takes_all : Bool) (id p : ℕ) → homes p ms ≡ id ∷ []
+    → ended_ids cs ms takes_all id p
+    ≡ cond (takes_all || not (has_members id (without p ms))) (ids_of (filter (has_id id) cs)) []
+ended_alone cs ms takes_all id p one =
+    ap (λ ns. ids_of (filter (is_ended_by takes_all id p ns ms) cs)) one
+    ∙ same_ids _ _ (λ c. alone_by (c.id == id) takes_all id p ms c refl) cs
+    ∙ by_alone (takes_all || not (has_members id (without p ms))) id cs
 
 -- a failure
 all_are : (t : Contracts) (p id : ℕ) → has_members id t.members ≡ true

@@ -1,6 +1,7 @@
 pub mod After
 pub mod EmptiedBy
 pub mod Ended
+pub mod Grouped
 pub mod Halves
 pub mod Lost
 pub mod Numbered

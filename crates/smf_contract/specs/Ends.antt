@@ -3,7 +3,7 @@ use Rattle.std.specs.Prelude.{ℕ, List, [], Bool, false, ◌==◌, ◌&&◌, �
 use Rattle.smf_contract.specs.declared.contract.Contract.{Contract}
 use Rattle.smf_contract.specs.declared.contract.Member.{Member}
 use Rattle.smf_contract.specs.declared.event.Failure.{Failure}
-use Rattle.smf_contract.specs.Entries.{Contracts, contract_in, has_id, has_members, is_in, is_process, without}
+use Rattle.smf_contract.specs.Entries.{Contracts, contract_in, has_id, has_members, is_process, without}
 use Rattle.smf_contract.specs.Calls.{ends_with, is_fatal}
 use Rattle.smf_contract.specs.Called.{ids_by}
 use Rattle.smf_contract.specs.Laws.{is_among}
@@ -12,9 +12,9 @@ use Rattle.smf_contract.specs.Laws.{is_among}
 abbrev pub homes : ℕ → List Member → List ℕ
 homes p ms = map (λ m. m.contract) (filter (is_process p) ms)
 
--- a member of a contract, but not this process
-unfoldable pub is_other : ℕ → ℕ → Member → Bool
-is_other id p m = not (is_process p m) && is_in id m
+-- a member, but not this process
+abbrev pub is_other : ℕ → Member → Bool
+is_other p m = not (is_process p m)
 
 -- the exit of a process with these homes empties the contract: it takes all members of this id along, or was the last
 -- one

@@ -1,10 +1,13 @@
--- The table keeps places beside its lists, so that one contract is found without the others, and its events without theirs.
-use Rattle.std.specs.Prelude.{◌≡◌, ℕ, zero, suc, ◌+◌, ◌<◌, List, [], ◌∷◌, length, get_or, take, Bool, true, false, Option, Some, None}
-use Rattle.smf_fmri.specs.ByKey.{By, Rises, by_number, lookup}
+-- The table keeps places and a second order beside its lists, so that one contract, its events and its members are found
+-- without the others.
+use Rattle.std.specs.Prelude.{◌≡◌, ℕ, zero, suc, ◌+◌, ◌<◌, List, [], ◌∷◌, length, get_or, take, filter, map, Bool, true, false, Option, Some, None}
+use Rattle.smf_fmri.specs.ByKey.{By, Rises, by_number, by_pair, lookup}
 use Rattle.smf_contract.specs.declared.contract.Contract.{Contract}
+use Rattle.smf_contract.specs.declared.contract.Member.{Member}
 use Rattle.smf_contract.specs.declared.event.ContractEvent.{ContractEvent}
 use Rattle.smf_contract.specs.declared.past.Last.{Last}
-use Rattle.smf_contract.specs.Entries.{is_event_of, last_event}
+use Rattle.smf_contract.specs.Entries.{is_event_of, is_in, last_event}
+use Rattle.smf_contract.specs.Laws.{Ascends}
 
 -- the events, and how many fit
 pub record Happenings : Type 0 where
@@ -14,6 +17,12 @@ pub record Happenings : Type 0 where
 -- the contracts, the last id that was given, and how many contracts fit
 pub record Holdings : Type 0 where
   pub contracts : List Contract
+  pub last : ℕ
+  pub fit : ℕ
+
+-- the processes of all contracts, the last number that was given, and how many processes fit
+pub record Memberships : Type 0 where
+  pub members : List Member
   pub last : ℕ
   pub fit : ℕ
 
@@ -59,3 +68,16 @@ pub record AreTraced (es : List ContractEvent) (before : List ℕ) (lasts : List
   pub events : AreTied es before
   pub counts : (id : ℕ) → count_of (lookup by_contract lasts id) ≡ last_event id es
   pub untils : (id : ℕ) → until_of (lookup by_contract lasts id) ≡ until id es
+
+abbrev pub by_process : By Member ℕ
+by_process = by_number (λ m. m.process)
+
+-- by contract, and then by process
+abbrev pub by_home : By Member (ℕ × ℕ)
+by_home = by_pair (by_number (λ m. m.contract)) by_process
+
+-- processes ascend, and a second list of them goes by contract
+pub record AreGrouped (ms gs : List Member) (last : ℕ) : Type 0 where
+  pub ascends : Ascends 0 (map (λ m. m.process) ms) last
+  pub rises : Rises by_home gs
+  pub same : (id : ℕ) → filter (is_in id) gs ≡ filter (is_in id) ms

@@ -1,7 +1,8 @@
 // The contracts, in which one is found by halves.
-ghost use Rattle.std.specs.Prelude.{◌≡◌, ◌+◌, ◌<◌, ◌≤◌, IfSome, OnOk, OnErr, [], ◌∷◌, ◌++◌, length, map, position};
+ghost use Rattle.std.specs.Prelude.{◌≡◌, ◌+◌, ◌<◌, ◌≤◌, IfOk, IfSome, OnOk, OnErr, [], ◌∷◌, ◌++◌, length, map, position};
 ghost use Rattle.std.specs.Ordering.{nat_cmp};
 ghost use Rattle.smf_contract.specs.Calls.{changed_at, given_up, later};
+ghost use Rattle.smf_contract.specs.Called.{ids_by};
 ghost use Rattle.smf_contract.specs.Entries.{contract_in, has_id};
 ghost use Rattle.smf_contract.specs.Trail.{by_id};
 ghost use Rattle.smf_fmri.specs.ByKey.{IsPlaced, Rises};
@@ -58,6 +59,20 @@ fn place_of(contracts: &[Contract], id: u64) -> Option<usize>
     }
 }
 
+/// The id, if there is a contract of it.
+fn ids_at(alloc: Global, contracts: &[Contract], id: Number) -> Result<Vec<Number>, AllocError>
+    requires { Rises by_id contracts.now }
+    ensures { IfOk result (λ ids. ids.items ≡ ids_by (has_id id) contracts.now) }
+{
+    match search(contracts, id.get()) {
+        Ok(_) => {
+            let ids = vec![in alloc; id]?;
+            Ok(ids)
+        }
+        Err(_) => Ok(Vec::new(alloc)),
+    }
+}
+
 impl Book {
     pub(crate) fn new(alloc: Global) -> Book
         ensures contracts { result.contracts ≡ [] }
@@ -97,6 +112,13 @@ impl Book {
         ensures in_range { IfSome result (λ k. k < length self.now.contracts) }
     {
         place_of(&self.contracts, id.get())
+    }
+
+    /// The ids of the contracts of this id: the id, or nothing.
+    pub(crate) fn ids_at(&self, alloc: Global, id: Number) -> Result<Vec<Number>, AllocError>
+        ensures { IfOk result (λ ids. ids.items ≡ ids_by (has_id id) self.now.contracts) }
+    {
+        ids_at(alloc, &self.contracts, id)
     }
 
     /// The contract of any number, if there is one.

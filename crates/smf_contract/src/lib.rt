@@ -1,7 +1,7 @@
 //! Process contracts: who holds which, what processes are in it, and what happened to them.
 //! Modules: `terms` (event sets), `event`, `contract` (the entries of the table), `call`, `table` (the calls) over
-//! `lookup` and `change`; `ends` (the contracts that a call empties), `book` (the contracts by their ids), `past` (the
-//! events of each contract); `law`, `cookie`, `fault`.
+//! `lookup` and `change`; `ends` (the contracts that a call empties), `book` (the contracts by their ids), `members`
+//! (the processes of each contract), `past` (its events); `law`, `cookie`, `fault`.
 #![tactic(auto)]
 
 mod book;
@@ -14,6 +14,7 @@ mod event;
 mod fault;
 mod law;
 mod lookup;
+mod members;
 mod past;
 mod table;
 mod terms;

@@ -1,5 +1,5 @@
-ghost use Rattle.std.specs.Prelude.{◌≡◌, IfOk, MatchResult, OnOk, OnErr, true, false};
-ghost use Rattle.smf_contract.specs.Entries.{contract, empty, first_member, has_members, home, report_of_event, status, status_of, statuses, events_from};
+ghost use Rattle.std.specs.Prelude.{◌≡◌, ◌<◌, IfOk, MatchResult, OnOk, OnErr, length, true, false};
+ghost use Rattle.smf_contract.specs.Entries.{contract, empty, first_member, has_members, home, processes, report_of_event, status, status_of, statuses, events_from};
 ghost use Rattle.smf_contract.specs.Calls.{Leaves, Makes, result_of_spawn, result_of_fork, result_of_exit, result_of_failure, result_of_core, result_of_signal, failed_by_hardware, table_without_actor, result_of_adoption, result_of_abandonment, result_of_kill, result_of_acknowledgement, next_contract, table_after_reboot};
 ghost use Rattle.smf_contract.specs.Called.{table_after_contract_call, emptied_by};
 ghost use Rattle.smf_contract.specs.declared.call.ContractCall.TheVariants as calls;
@@ -11,10 +11,8 @@ use crate::contract::{Contract, Holder, Member, Report, Status};
 use crate::ends::{ended_ids, failed_ids, ids_left, killed_ids};
 use crate::event::{ContractEvent, EventKind, Exit, Failure};
 use crate::fault::ContractFault;
-use crate::lookup::{
-    acknowledged_at, contract_held_by, first_member, has_members, home, is_fatal, is_held,
-    processes, report,
-};
+use crate::lookup::{acknowledged_at, contract_held_by, is_fatal, is_held, report};
+use crate::members::Members;
 use crate::past::Past;
 use crate::terms::Terms;
 use smf_fmri::{Items, Number};
@@ -33,18 +31,17 @@ pub struct Made {
 pub struct ContractTable {
     alloc: Global,
     book: Book,
-    members: Vec<Member>,
+    members: Members,
     past: Past,
-    last_process: Number,
 }
 
 impl Model for ContractTable {
-    ghost use Rattle.std.specs.Prelude.{length, vec_len, vec_capacity};
+    ghost use Rattle.std.specs.Prelude.{length};
     ghost use Rattle.smf_contract.specs.Entries.{Kept, has_room};
 
     ghost Value = { Kept };
 
-    ghost view = { λ t. record { table = record { contracts = t.book.contracts; members = t.members.items; events = t.past.events; last_contract = t.book.last; last_process = t.last_process }; room = has_room (length t.book.contracts) t.book.fit (vec_len t.members) (vec_capacity t.members) (length t.past.events) t.past.fit } };
+    ghost view = { λ t. record { table = record { contracts = t.book.contracts; members = t.members.members; events = t.past.events; last_contract = t.book.last; last_process = t.members.last }; room = has_room (length t.book.contracts) t.book.fit (length t.members.members) t.members.fit (length t.past.events) t.past.fit } };
 }
 
 impl ContractTable {
@@ -54,9 +51,8 @@ impl ContractTable {
         ContractTable {
             alloc,
             book: Book::new(alloc),
-            members: Vec::new(alloc),
+            members: Members::new(alloc),
             past: Past::new(alloc),
-            last_process: Number::zero(),
         }
     }
 
@@ -79,7 +75,7 @@ impl ContractTable {
         let Some(contract) = self.book.last().next() else {
             return Err(ContractFault::Full);
         };
-        let Some(process) = self.last_process.next() else {
+        let Some(process) = self.members.last().next() else {
             return Err(ContractFault::Full);
         };
         make_room(&mut self.book, &mut self.members, &mut self.past)?;
@@ -92,8 +88,7 @@ impl ContractTable {
             first: process,
             acknowledged: Number::zero(),
         });
-        self.members.push(Member { process, contract }).unwrap();
-        self.last_process = process;
+        self.members.push(Member { process, contract });
         Ok(Made { contract, process })
     }
 
@@ -104,10 +99,10 @@ impl ContractTable {
         ensures err { OnErr result (self.new.table ≡ self.old.table) }
         ensures memory { result ≡ Err ContractFault.Memory → self.old.room ≡ false }
     {
-        let Some(contract) = home(&self.members, process) else {
+        let Some(contract) = self.members.home(process) else {
             return Err(ContractFault::NoSuchProcess);
         };
-        let Some(child) = self.last_process.next() else {
+        let Some(child) = self.members.last().next() else {
             return Err(ContractFault::Full);
         };
         make_room(&mut self.book, &mut self.members, &mut self.past)?;
@@ -115,9 +110,8 @@ impl ContractTable {
             process: child,
             contract,
         };
-        self.members.push(member).unwrap();
+        self.members.push(member);
         self.past.note(contract, EventKind::Fork(child), true);
-        self.last_process = child;
         Ok(child)
     }
 
@@ -128,7 +122,7 @@ impl ContractTable {
         ensures err { OnErr result (self.new.table ≡ self.old.table) }
         ensures memory { result ≡ Err ContractFault.Memory → self.old.room ≡ false }
     {
-        let Some(contract) = home(&self.members, process) else {
+        let Some(contract) = self.members.home(process) else {
             return Err(ContractFault::NoSuchProcess);
         };
         make_room(&mut self.book, &mut self.members, &mut self.past)?;
@@ -170,7 +164,7 @@ impl ContractTable {
         ensures err { OnErr result (self.new.table ≡ self.old.table) }
         ensures memory { result ≡ Err ContractFault.Memory → self.old.room ≡ false }
     {
-        let Some(contract) = home(&self.members, process) else {
+        let Some(contract) = self.members.home(process) else {
             return Err(ContractFault::NoSuchProcess);
         };
         make_room(&mut self.book, &mut self.members, &mut self.past)?;
@@ -352,7 +346,7 @@ impl ContractTable {
         if !is_held(&self.book, actor, id) {
             return Ok(Items::new(self.alloc));
         }
-        let ids = killed_ids(self.alloc, self.book.as_slice(), &self.members, id)?;
+        let ids = killed_ids(self.alloc, &self.book, &self.members, id)?;
         Ok(Items::from_vec(ids))
     }
 
@@ -368,17 +362,10 @@ impl ContractTable {
     fn emptied_by_exit(&self, process: Number, exit: Exit) -> Result<Items<Number>, AllocError>
         ensures { IfOk result (λ ids. ids ≡ emptied_by self.now.table (calls.Exit process exit)) }
     {
-        let Some(id) = home(&self.members, process) else {
+        let Some(id) = self.members.home(process) else {
             return Ok(Items::new(self.alloc));
         };
-        let ids = ended_ids(
-            self.alloc,
-            self.book.as_slice(),
-            &self.members,
-            false,
-            id,
-            process,
-        )?;
+        let ids = ended_ids(self.alloc, &self.book, &self.members, false, id, process)?;
         Ok(Items::from_vec(ids))
     }
 
@@ -390,7 +377,7 @@ impl ContractTable {
     ) -> Result<Items<Number>, AllocError>
         ensures { IfOk result (λ ids. ids ≡ emptied_by self.now.table (calls.Fail process failure)) }
     {
-        let Some(id) = home(&self.members, process) else {
+        let Some(id) = self.members.home(process) else {
             return Ok(Items::new(self.alloc));
         };
         let ids = failed_ids(self.alloc, &self.book, &self.members, failure, id, process)?;
@@ -421,7 +408,7 @@ impl ContractTable {
     fn status_of(&self, contract: &Contract) -> Result<Status, AllocError>
         ensures { IfOk result (λ found. found ≡ status_of self.now.table contract.now) }
     {
-        let members = processes(self.alloc, &self.members, contract.id)?;
+        let members = self.members.processes(self.alloc, contract.id)?;
         let events = self.past.events_of(self.alloc, contract.id)?;
         Ok(Status {
             contract: *contract,
@@ -460,7 +447,7 @@ impl ContractTable {
         ensures { result ≡ next_contract self.now.table }
     {
         let contract = self.book.last().next()?;
-        self.last_process.next()?;
+        self.members.last().next()?;
         Some(contract)
     }
 
@@ -475,21 +462,36 @@ impl ContractTable {
     pub fn home(&self, process: Number) -> Option<Number>
         ensures { result ≡ home self.now.table.members process }
     {
-        home(&self.members, process)
+        self.members.home(process)
     }
 
     /// True if a contract has a member; false if there is no such contract.
     pub fn has_members(&self, id: Number) -> bool
         ensures { result ≡ has_members id self.now.table.members }
     {
-        has_members(&self.members, id)
+        self.members.has_members(id)
     }
 
     /// The lowest process of a contract; none if it is empty.
     pub fn first_member(&self, id: Number) -> Option<Number>
         ensures { result ≡ first_member id self.now.table.members }
     {
-        first_member(&self.members, id)
+        self.members.first_member(id)
+    }
+
+    /// How many members a contract has.
+    pub fn count_members(&self, id: Number) -> usize
+        ensures value { result ≡ length (processes id self.now.table.members) }
+        ensures bound { result < 0x7fff_ffff_ffff_ffff }
+    {
+        self.members.count(id)
+    }
+
+    /// The processes of a contract, in the order of their numbers.
+    pub fn processes(&self, alloc: Global, id: Number) -> Result<Vec<Number>, AllocError>
+        ensures { IfOk result (λ found. found.items ≡ processes id self.now.table.members) }
+    {
+        self.members.processes(alloc, id)
     }
 
     /// All contracts, in the order of their ids.
@@ -503,7 +505,7 @@ impl ContractTable {
     pub fn members(&self) -> &[Member]
         ensures { result.now ≡ self.now.table.members }
     {
-        &self.members
+        self.members.as_slice()
     }
 
     /// The events of all contracts, in the order in which they happened.
@@ -524,6 +526,6 @@ impl ContractTable {
     pub fn last_process(&self) -> Number
         ensures { result ≡ self.now.table.last_process }
     {
-        self.last_process
+        self.members.last()
     }
 }

@@ -8,7 +8,7 @@ ghost use Rattle.smf_edge.specs.Sound.{IsSound};
 ghost use Rattle.smf_edge.specs.Steps.{IsGiven, IsKilled, IsPolled, IsSpawned, ledger_with_member_event, live_contracts, ledger_after_boot};
 ghost use Rattle.smf_edge.specs.declared.fault.KidsFault.TheVariants.{Memory, NoChild, Refused};
 
-use crate::counts::{count_left, processes_of};
+use crate::counts::count_left;
 use crate::deed::{Happening, MemberEvent};
 use crate::edits::{behind, drop_deeds, drop_events, first_deed, note_all, take_deed, take_first};
 use crate::fault::KidsFault;
@@ -54,7 +54,8 @@ impl Book {
         ensures { result ≡ members_left (ledger_of self.now) id }
     {
         let contract = self.table.contract(id);
-        count_left(&contract, self.table.members(), &self.pending, id)
+        let count = self.table.count_members(id);
+        count_left(&contract, count, &self.pending, id)
     }
 
     /// Makes room for a run in the next contract, which is this one.
@@ -200,7 +201,7 @@ impl Book {
         if self.members_left(id) == 0 {
             return Err(KidsFault::NoChild);
         }
-        let ends = processes_of(self.alloc, self.table.members(), id)?;
+        let ends = self.table.processes(self.alloc, id)?;
         self.notes.reserve(1)?;
         self.table.reserve()?;
         Ok(Kill {

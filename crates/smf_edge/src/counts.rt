@@ -1,14 +1,12 @@
-// How many members a contract has, and which.
-ghost use Rattle.std.specs.Prelude.{◌≡◌, ◌+◌, ◌<◌, ◌≤◌, IfOk, length, count_by};
+// How many members a contract has left.
+ghost use Rattle.std.specs.Prelude.{◌≡◌, ◌+◌, ◌<◌, ◌≤◌};
 ghost use Rattle.smf_contract.specs.Calls.{is_fatal};
-ghost use Rattle.smf_contract.specs.Entries.{is_in, processes};
 ghost use Rattle.smf_edge.specs.Ledgers.{left_after, left_by, left_of};
 
 use crate::deed::{Happening, MemberEvent};
 use bitflags::Flags;
-use smf_contract::{Contract, EventSet, Failure, Member};
+use smf_contract::{Contract, EventSet, Failure};
 use smf_fmri::Number;
-use std::alloc::{AllocError, Global};
 
 /// Says whether a failure of one member of a contract ends them all.
 fn is_fatal(contract: &Option<Contract>, failure: Failure) -> bool
@@ -54,49 +52,19 @@ fn left_of(contract: &Option<Contract>, id: Number, deed: &MemberEvent, count: u
     count
 }
 
-fn count_in(members: &[Member], id: Number) -> usize
-    ensures value { result ≡ count_by (is_in id) members.now }
-    ensures bound { result < 0x7fff_ffff_ffff_ffff }
-{
-    members.iter().filter(|m| m.contract == id).count()
-}
-
-/// How many members a contract has in the table.
-#[tactic(auto, using(smf_contract::proofs::Parts::counted_in))]
-fn count_members(members: &[Member], id: Number) -> usize
-    ensures value { result ≡ length (processes id members.now) }
-    ensures bound { result < 0x7fff_ffff_ffff_ffff }
-{
-    count_in(members, id)
-}
-
-/// How many members a contract has once all that is pending is told.
+/// How many members a contract has once all that is pending is told, of so many in the table.
 pub(crate) fn count_left(
     contract: &Option<Contract>,
-    members: &[Member],
+    count: usize,
     pending: &[MemberEvent],
     id: Number,
 ) -> usize
-    ensures { result ≡ left_after contract.now id pending.now (length (processes id members.now)) }
+    requires { count < 0x7fff_ffff_ffff_ffff }
+    ensures { result ≡ left_after contract.now id pending.now count }
 {
-    let mut count = count_members(members, id);
+    let mut left = count;
     for d in pending {
-        count = left_of(contract, id, d, count);
+        left = left_of(contract, id, d, left);
     }
-    count
-}
-
-/// The processes of a contract in the table, in number order.
-pub(crate) fn processes_of(
-    alloc: Global,
-    members: &[Member],
-    id: Number,
-) -> Result<Vec<Number>, AllocError>
-    ensures { IfOk result (λ found. found.items ≡ processes id members.now) }
-{
-    members
-        .iter()
-        .filter(|m| m.contract == id)
-        .map(|m| m.process)
-        .collect(alloc)
+    left
 }

@@ -1,7 +1,7 @@
 // The notes of runs, and the contract table that follows from them.
-ghost use Rattle.std.specs.Prelude.{◌≡◌, ◌≢◌, ◌<◌, ◌⊎◌, [], Some, None, true, IfErr, IfOk, IfSome, IfNone, OnErr, OnOk, count_by, filter, length, option_to_list, vec_len, vec_capacity};
+ghost use Rattle.std.specs.Prelude.{◌≡◌, ◌≢◌, ◌<◌, ◌⊎◌, [], Some, None, true, IfErr, IfOk, IfSome, IfNone, OnErr, OnOk, filter, length, option_to_list, vec_len, vec_capacity};
 ghost use Rattle.smf_contract.specs.Calls.{is_fatal, next_contract};
-ghost use Rattle.smf_contract.specs.Entries.{contract, empty, first_member, home, is_in, processes};
+ghost use Rattle.smf_contract.specs.Entries.{contract, empty, first_member, home, processes};
 ghost use Rattle.smf_edge.specs.Books.{IsTold};
 ghost use Rattle.smf_edge.specs.Ledgers.{call_of, contracts_of, members_left, lives};
 ghost use Rattle.smf_edge.specs.Processes.{HasTold};
@@ -14,9 +14,7 @@ ghost use Rattle.smf_follow.specs.Phases.{is_fatal_end};
 use crate::edits::{after, drop_events, note_all, take_first};
 use crate::stand::FirstEnd;
 use bitflags::Flags;
-use smf_contract::{
-    Contract, ContractCall, ContractEvent, ContractTable, EventSet, Failure, Member,
-};
+use smf_contract::{Contract, ContractCall, ContractEvent, ContractTable, EventSet, Failure};
 use smf_edge::{Happening, KidsFault, Kill, Note, Run};
 use smf_fmri::{Items, Number};
 use std::alloc::{AllocError, Global};
@@ -59,33 +57,6 @@ fn is_fatal(contract: &Option<Contract>, failure: Failure) -> bool
     }
 }
 
-fn count_in(members: &[Member], id: Number) -> usize
-    ensures value { result ≡ count_by (is_in id) members.now }
-    ensures bound { result < 0x7fff_ffff_ffff_ffff }
-{
-    members.iter().filter(|m| m.contract == id).count()
-}
-
-/// How many members a contract has in the table.
-#[tactic(auto, using(smf_contract::proofs::Parts::counted_in))]
-fn count_members(members: &[Member], id: Number) -> usize
-    ensures value { result ≡ length (processes id members.now) }
-    ensures bound { result < 0x7fff_ffff_ffff_ffff }
-{
-    count_in(members, id)
-}
-
-/// The processes of a contract in the table, in number order.
-fn processes_of(alloc: Global, members: &[Member], id: Number) -> Result<Vec<Number>, AllocError>
-    ensures { IfOk result (λ found. found.items ≡ processes id members.now) }
-{
-    members
-        .iter()
-        .filter(|m| m.contract == id)
-        .map(|m| m.process)
-        .collect(alloc)
-}
-
 impl Book {
     pub(crate) fn new(alloc: Global) -> Book
         ensures { ledger_of result ≡ record { notes = []; table = empty; due = []; pending = [] } }
@@ -108,7 +79,7 @@ impl Book {
     fn members_left(&self, id: Number) -> usize
         ensures { result ≡ members_left (ledger_of self.now) id }
     {
-        count_members(self.table.members(), id)
+        self.table.count_members(id)
     }
 
     /// Says whether an end of the first process ends all of its contract.
@@ -225,7 +196,7 @@ impl Book {
         if self.members_left(id) == 0 {
             return Err(KidsFault::NoChild);
         }
-        let ends = processes_of(self.alloc, self.table.members(), id)?;
+        let ends = self.table.processes(self.alloc, id)?;
         self.notes.reserve(1)?;
         self.table.reserve()?;
         Ok(Kill {

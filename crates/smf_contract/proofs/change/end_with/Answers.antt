@@ -7,4 +7,5 @@ loop-c-preserved c = record {
   rest = ended_more c.args.actor c.args.contracts.now c.loop-c.c-index c.c-item.result _ _
       (omega arith) c.c-item.is c.end_one_with.ensures.ended ∙ c.loop-c.invariant.rest;
   room = omega arith;
+  last = c.end_one_with.ensures.last ∙ c.loop-c.invariant.last;
 }

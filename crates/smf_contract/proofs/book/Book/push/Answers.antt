@@ -13,4 +13,4 @@ invariant_of-self c =
     let above : c.self.inside.last < c.args.contract.id =
     omega (arith, c.requires.next, ap (λ (h : Holdings). h.last) c.self.view_is) in
     subst (λ (cs : List Contract). Ascends 0 (map (λ (x : Contract). x.id) cs) c.args.contract.id) (sym pushed)
-    (ascends_push old c.args.contract c.self.inside.last above c.self.invariant)
+    (ascends_push (λ (c : Contract). c.id) old c.args.contract c.self.inside.last above c.self.invariant)

@@ -1,0 +1,8 @@
+use Rattle.smf_contract.specs.declared.contract.Contract.{Contract}
+use Rattle.smf_contract.proofs.Halves.{rises_from}
+use Rattle.smf_contract.proofs.book.Book.ids_at.Goals as goal
+
+pub ids_at-requires : goal.ids_at-requires
+ids_at-requires c =
+    rw c.deref.ensures.value
+    (rises_from (λ (c : Contract). c.id) 0 c.self.inside.contracts.items c.self.inside.last c.self.invariant)
