@@ -17,7 +17,7 @@ says_set P flags p f here =
 
 -- ---- to a place
 
-edge_then : (edges : List (List ℕ)) (a b c : ℕ) → cites edges a b ≡ true → Comes edges b c → Leads edges a c
+pub edge_then : (edges : List (List ℕ)) (a b c : ℕ) → cites edges a b ≡ true → Comes edges b c → Leads edges a c
 edge_then edges a b c h way =
     let P : ℕ → Type 0 = λ n. Leads edges a n in
     elim way [ inl e ↦ subst P e (leads_edge edges a b h) | inr k ↦ leads_on edges a b c (leads_edge edges a b h) k ]

@@ -4,3 +4,5 @@ pub mod Flags
 pub mod Descents
 pub mod Searches
 pub mod Components
+pub mod Edits
+pub mod Elsewhere

@@ -1,9 +1,10 @@
 //! Finds if one place is on a cycle, by a search for all places that can be reached from it.
 
-ghost use Rattle.std.specs.Prelude.{◌∷◌, ◌↔◌, [], IfOk, IsTrue, OnOk};
+ghost use Rattle.std.specs.Prelude.{◌∷◌, ◌↔◌, [], IfOk, IsTrue, OnOk, slice_set};
 ghost use Rattle.smf_cycles.specs.Paths.{IsOnCycle};
 ghost use Rattle.smf_cycles.specs.Searches.{IsGrown, IsSearch};
 
+use crate::change::ChangedEdges;
 use crate::graph::{edges_of, is_flagged};
 use crate::places::Places;
 use std::alloc::{AllocError, Global};
@@ -33,21 +34,35 @@ fn note_all(seen: &mut Vec<bool>, work: &mut Vec<usize>, places: &[usize]) -> Re
 }
 
 /// Flags of the places that can be reached from a place by one edge or more.
-fn reached_from(alloc: Global, edges: &[Places], from: usize) -> Result<Vec<bool>, AllocError>
+fn reached_from(alloc: Global, edges: &ChangedEdges, from: usize) -> Result<Vec<bool>, AllocError>
     ensures { IfOk result (λ seen. IsSearch edges.now from seen.items []) }
 {
     let mut seen = vec![in alloc; false; edges.len()]?;
     let mut work = Vec::new(alloc);
-    note_all(&mut seen, &mut work, edges_of(edges, from))?;
+    note_all(&mut seen, &mut work, edges.at(from))?;
     while let Some(place) = work.pop() {
-        note_all(&mut seen, &mut work, edges_of(edges, place))?;
+        note_all(&mut seen, &mut work, edges.at(place))?;
     }
     Ok(seen)
+}
+
+/// True if a place is on a cycle once it has these edges in place of its own. It looks at what can be reached alone.
+/// A place that is not there stays without edges.
+pub fn is_on_cycle_with(
+    alloc: Global,
+    edges: &[Places],
+    place: usize,
+    others: &[usize],
+) -> Result<bool, AllocError>
+    ensures { IfOk result (λ answer. IsTrue answer ↔ IsOnCycle (slice_set edges.now place others.now) place) }
+{
+    let changed = ChangedEdges::over(edges, place, others);
+    let seen = reached_from(alloc, &changed, place)?;
+    Ok(is_flagged(seen.as_slice(), place))
 }
 
 pub(crate) fn is_on_cycle(alloc: Global, edges: &[Places], place: usize) -> Result<bool, AllocError>
     ensures { IfOk result (λ answer. IsTrue answer ↔ IsOnCycle edges.now place) }
 {
-    let seen = reached_from(alloc, edges, place)?;
-    Ok(is_flagged(seen.as_slice(), place))
+    is_on_cycle_with(alloc, edges, place, edges_of(edges, place))
 }
