@@ -1,5 +1,5 @@
 -- The index before and after places are noted in it.
-use Rattle.std.proofs.Common.{◌≡◌, ℕ, zero, suc, ◌+◌, ◌<◌, ◌≤◌, List, [], ◌∷◌, ◌++◌, length, drop, get_or, Some, refl, sym, ap, ◌∙◌, subst, inl, inr, arith, length-set}
+use Rattle.std.proofs.Common.{◌≡◌, ℕ, zero, suc, ◌+◌, ◌<◌, ◌≤◌, List, [], ◌∷◌, ◌++◌, length, drop, get_or, Some, refl, sym, ap, ◌∙◌, subst, inl, inr, arith, length-append, length-set}
 use Rattle.std.specs.Prelude.{slice_get, slice_set}
 use Rattle.std.proofs.lemmas.Bool.{cases_eq, cases_lt}
 use Rattle.std.proofs.lemmas.List.{drop_all}
@@ -7,7 +7,7 @@ use Rattle.std.proofs.lemmas.Option.{slice_get_within, get_or_from_slice_get}
 use Rattle.smf_links.specs.declared.link.Link.{Link}
 use Rattle.smf_links.specs.declared.link.GraphNode.{GraphNode}
 use Rattle.smf_links.specs.Blockage.{IsOut}
-use Rattle.smf_links.specs.Stamps.{AreOut, Avoid, IsIndex, Notes, citing_at, with_citation, total}
+use Rattle.smf_links.specs.Stamps.{AreOut, Avoid, IsIndex, KeepsPlaces, Notes, citations, citing_at, with_citation, total}
 use Rattle.smf_links.proofs.Work.{left_at, out_left, out_right}
 
 -- ---- one place
@@ -112,20 +112,55 @@ leads_end P none at all i cs0 cs le h =
     h.leads cs (notes_weaker Nothing (λ p. P p (drop i all)) at cs cs
     (λ p u. subst (P p) (sym (drop_all i all le)) (none p)) (notes_none at cs))
 
--- ---- places, entities and links
+-- ---- one place is noted, or stands there
 
-pub places_more : (at : ℕ) (all : List ℕ) (i x : ℕ) (cs0 cs ds : List (List ℕ)) → i < length all → x ≡ get_or all i x
-    → ds ≡ with_citation cs at x
-    → Leads IsOut at (drop i all) all cs0 cs → Leads IsOut at (drop (i + 1) all) all cs0 ds
-places_more at all i x cs0 cs ds lt is e h =
+pub noted_one : (cs ds : List (List ℕ)) (at x : ℕ) → ds ≡ with_citation cs at x → Notes (λ p. x ≡ p → ⊥) at cs ds
+noted_one cs ds at x e =
     let step : Notes (λ p. x ≡ p → ⊥) at cs (with_citation cs at x) =
     record {
       size = length-set cs x (citing_at cs x ++ at ∷ []);
       stays = note_stays cs at x;
       notes = note_notes cs at x;
     } in
-    let F : List (List ℕ) → Type 0 = Notes (λ p. x ≡ p → ⊥) at cs in
-    leads_more IsOut (λ p y. y ≡ p → ⊥) (λ p y ys both. both) at all i x cs0 cs ds lt is (subst F (sym e) step) h
+    let F : List (List ℕ) → Type 0 = Notes (λ p. x ≡ p → ⊥) at cs in subst F (sym e) step
+
+pub noted_before : (cs : List (List ℕ)) (at x : ℕ) → (IsOut at (citing_at cs x) → ⊥) → Notes (λ p. x ≡ p → ⊥) at cs cs
+noted_before cs at x has =
+    record {
+      size = refl;
+      stays = λ p a out. out;
+      notes = λ p lt out same. let Q : ℕ → Type 0 = λ q. IsOut at (citing_at cs q) in has (subst Q (sym same) out);
+    }
+
+pub keeps_same : (cs ds : List (List ℕ)) → ds ≡ cs → KeepsPlaces cs ds
+keeps_same cs ds e =
+    let F : List (List ℕ) → Type 0 = KeepsPlaces cs in let same : KeepsPlaces cs cs =
+    record { size = refl; stays = λ p a out. out } in subst F (sym e) same
+
+pub keeps_one : (cs ds : List (List ℕ)) (at x : ℕ) → ds ≡ with_citation cs at x → KeepsPlaces cs ds
+keeps_one cs ds at x e = let h = noted_one cs ds at x e in record { size = h.size; stays = h.stays }
+
+pub keeps_then : (cs ds es : List (List ℕ)) → KeepsPlaces cs ds → KeepsPlaces ds es → KeepsPlaces cs es
+keeps_then cs ds es f g = record { size = g.size ∙ f.size; stays = λ p a out. f.stays p a (g.stays p a out) }
+
+total_set : (cs : List (List ℕ)) (p : ℕ) (c : List ℕ)
+    → total (slice_set cs p c) + length (citing_at cs p) ≤ total cs + length c
+total_set [] p c = omega arith
+total_set (x ∷ cs) zero c = omega arith
+total_set (x ∷ cs) (suc p) c = let le = total_set cs p c in omega arith
+
+pub total_one : (cs ds : List (List ℕ)) (at x : ℕ) → ds ≡ with_citation cs at x → total ds ≤ total cs + 1
+total_one cs ds at x e =
+    let le = total_set cs x (citing_at cs x ++ at ∷ []) in let l = length-append (citing_at cs x) (at ∷ []) in
+    let same = ap total e in omega arith
+
+-- ---- places, entities and links
+
+pub places_more : (at : ℕ) (all : List ℕ) (i x : ℕ) (cs0 cs ds : List (List ℕ)) → i < length all → x ≡ get_or all i x
+    → Notes (λ p. x ≡ p → ⊥) at cs ds
+    → Leads IsOut at (drop i all) all cs0 cs → Leads IsOut at (drop (i + 1) all) all cs0 ds
+places_more at all i x cs0 cs ds lt is step h =
+    leads_more IsOut (λ p y. y ≡ p → ⊥) (λ p y ys both. both) at all i x cs0 cs ds lt is step h
 
 pub places_end : (at : ℕ) (all : List ℕ) (i : ℕ) (cs0 cs : List (List ℕ)) → length all ≤ i
     → Leads IsOut at (drop i all) all cs0 cs → Notes (λ p. IsOut p all) at cs0 cs
@@ -193,3 +228,18 @@ begun_all ns cs count le h =
 pub total_more : (all : List (List ℕ)) (i n : ℕ) (x : List ℕ) (sum : ℕ) → i < length all → x ≡ get_or all i x
     → sum + total (drop i all) ≡ n → sum + length x + total (drop (i + 1) all) ≡ n
 total_more all i n x sum lt is h = let e = ap total (left_at all i x lt is) in omega arith
+
+pub citations_more : (all : List Link) (i n : ℕ) (x : Link) (sum : ℕ) → i < length all → x ≡ get_or all i x
+    → sum + citations (drop i all) ≡ n → sum + total x.cited + citations (drop (i + 1) all) ≡ n
+citations_more all i n x sum lt is h = let e = ap citations (left_at all i x lt is) in omega arith
+
+-- ---- room for a total
+
+pub total_room : (all : List (List ℕ)) (i : ℕ) (x : List ℕ) (t t0 t' : ℕ) → i < length all → x ≡ get_or all i x
+    → t' ≤ t + length x → t + total (drop i all) ≤ t0 + total all → t' + total (drop (i + 1) all) ≤ t0 + total all
+total_room all i x t t0 t' lt is step h = let e = ap total (left_at all i x lt is) in omega arith
+
+pub citations_room : (all : List Link) (i : ℕ) (x : Link) (t t0 t' : ℕ) → i < length all → x ≡ get_or all i x
+    → t' ≤ t + total x.cited → t + citations (drop i all) ≤ t0 + citations all
+    → t' + citations (drop (i + 1) all) ≤ t0 + citations all
+citations_room all i x t t0 t' lt is step h = let e = ap citations (left_at all i x lt is) in omega arith

@@ -8,11 +8,11 @@ use Rattle.std.proofs.lemmas.Option.{slice_get_read}
 use Rattle.smf_links.specs.declared.link.Link.{Link}
 use Rattle.smf_links.specs.declared.link.GraphNode.{GraphNode}
 use Rattle.smf_links.specs.declared.tally.Entity.{Entity}
-use Rattle.smf_links.specs.declared.wires.Wires.{Wires}
+use Rattle.smf_links.specs.declared.wires.Spot.{Spot}
 use Rattle.smf_links.specs.Blockage.{blocked_by, met_by, off_at, runs_at}
-use Rattle.smf_links.specs.Stamps.{before, citing_at, has_stamp}
+use Rattle.smf_links.specs.Stamps.{before, has_stamp}
 use Rattle.smf_links.specs.Tallies.{entities_block, entities_meet, entity_of}
-use Rattle.smf_links.specs.Wires.{AreTold, IsTallied, tally_at}
+use Rattle.smf_links.specs.Wires.{AreTold, IsTallied, tallies_at, tally_in}
 use Rattle.smf_links.proofs.Growth.{blocks_up}
 use Rattle.smf_links.proofs.Least.{before_all}
 use Rattle.smf_links.proofs.TallyUpdates.{told}
@@ -24,7 +24,7 @@ found_at xs i x lt is = slice_get_read xs (length xs) i x refl lt is
 
 -- the list's tally at a number
 pub tally_found : (ts : List (List Entity)) (number : ℕ) (t es : List Entity) → number < length ts
-    → t ≡ get_or ts number t → tally_at ts number ≡ es → t ≡ es
+    → t ≡ get_or ts number t → tally_in ts number ≡ es → t ≡ es
 tally_found ts number t es lt at is =
     sym (ap (λ (o : Option (List Entity)). unwrap_or o []) (found_at ts number t lt at)) ∙ is
 
@@ -77,17 +77,16 @@ all_found f xs i x b lt is free h = (λ j. sym free j && list_all f (drop (i + 1
     ∙ sym (ap (list_all f) (left_at xs i x lt is)) ∙ h
 
 -- if the tallies are right for all links, they are right for the next
-pub told_next : (runs off parked : ℕ → Bool) (numbers : List ℕ) (ts : List (List Entity)) (ls : List Link) (i : ℕ)
+pub told_next : (runs off parked : ℕ → Bool) (ts : List (List Entity)) (ls : List Link) (i : ℕ)
     (l : Link) → i < length ls → l ≡ get_or ls i l
-    → AreTold runs off parked numbers ts ls
-    → tally_at ts (slice_index numbers i) ≡ map (entity_of runs off parked) l.cited
-told_next runs off parked numbers ts ls i l lt is h = h i l (found_at ls i l lt is)
+    → AreTold runs off parked ts ls → tally_in ts i ≡ map (entity_of runs off parked) l.cited
+told_next runs off parked ts ls i l lt is h = h i l (found_at ls i l lt is)
 
 -- ---- below a limit of all stamps
 
-pub told_before : (ns : List GraphNode) (ss : List ℕ) (w : Wires) (ts : List (List Entity)) (limit a : ℕ)
-    (n : GraphNode) → slice_get ns a ≡ Some n → ((p : ℕ) → slice_index ss p < limit) → IsTallied ns ss w ts
-    → AreTold (runs_at ns) (off_at ns) (before ss limit) (citing_at w.numbers a) ts n.links
-told_before ns ss w ts limit a n at low h =
-    let F : (ℕ → Bool) → Type 0 = λ P. AreTold (runs_at ns) (off_at ns) P (citing_at w.numbers a) ts n.links in
-    subst F (sym (before_all ss limit low)) (told ns ss w ts a n at h)
+pub told_before : (ns : List GraphNode) (ss : List ℕ) (ws : List (List Spot)) (tss : List (List (List Entity)))
+    (limit a : ℕ) (n : GraphNode) → slice_get ns a ≡ Some n → ((p : ℕ) → slice_index ss p < limit)
+    → IsTallied ns ss ws tss → AreTold (runs_at ns) (off_at ns) (before ss limit) (tallies_at tss a) n.links
+told_before ns ss ws tss limit a n at low h =
+    let F : (ℕ → Bool) → Type 0 = λ P. AreTold (runs_at ns) (off_at ns) P (tallies_at tss a) n.links in
+    subst F (sym (before_all ss limit low)) (told ns ss ws tss a n at h)

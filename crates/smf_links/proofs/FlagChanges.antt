@@ -44,6 +44,18 @@ others_stay (n ∷ ns) zero f (suc a) ne = refl
 others_stay (n ∷ ns) (suc p) f zero ne = refl
 others_stay (n ∷ ns) (suc p) f (suc a) ne = others_stay ns p f a (λ e. ne (ap suc e))
 
+-- only the instance at one place is another
+pub record Differs (ns ns' : List GraphNode) (p : ℕ) : Type 0 where
+  pub size : length ns' ≡ length ns
+  pub others : (a : ℕ) → (a ≡ p → ⊥) → slice_get ns' a ≡ slice_get ns a
+
+pub flags_differ : (ns ns' : List GraphNode) (p : ℕ) (f : Flags) → ns' ≡ with_flags ns p f → Differs ns ns' p
+flags_differ ns ns' p f e =
+    let F : List GraphNode → Type 0 = λ l. Differs ns l p in
+    let d : F (with_flags ns p f) =
+    record { size = length-with_flags ns p f; others = λ a ne. others_stay ns p f a ne } in
+    subst F (sym e) d
+
 -- the links of each instance stay
 record Was (ns : List GraphNode) (a : ℕ) (n : GraphNode) : Type 0 where
   was : GraphNode
@@ -75,33 +87,31 @@ index_stays ns cs p f h =
     }
 
 -- an instance that neither changed nor cites the changed one is parked by the same as before
-parks_stay : (ns : List GraphNode) (cs : List (List ℕ)) (p : ℕ) (f : Flags) (P : ℕ → Bool) (a : ℕ) → IsIndex ns cs
-    → p < length ns → (p ≡ a → ⊥) → IsOut a (citing_at cs p)
-    → parks (with_flags ns p f) P a ≡ parks ns P a
-parks_stay ns cs p f P a index lt ne out =
-    let ns' = with_flags ns p f in
+parks_stay : (ns ns' : List GraphNode) (cs : List (List ℕ)) (p : ℕ) (P : ℕ → Bool) (a : ℕ) → Differs ns ns' p
+    → IsIndex ns cs → p < length ns → (p ≡ a → ⊥) → IsOut a (citing_at cs p) → parks ns' P a ≡ parks ns P a
+parks_stay ns ns' cs p P a d index lt ne out =
     ap (λ (o : Option GraphNode). option_map_or (parks_by (runs_at ns') (off_at ns') P) o false)
-    (others_stay ns p f a (λ e. ne (sym e)))
+    (d.others a (λ e. ne (sym e)))
     ∙ option_same (parks_by (runs_at ns') (off_at ns') P) (parks_by (runs_at ns) (off_at ns) P) (slice_get ns a)
     (λ (n : GraphNode) at.
     by_same p (runs_at ns') (runs_at ns) (off_at ns') (off_at ns) P P
     (λ q apart. ap (λ (o : Option GraphNode). option_map_or (λ (m : GraphNode). m.flags.running) o false)
-    (others_stay ns p f q apart))
+    (d.others q apart))
     (λ q apart. ap (λ (o : Option GraphNode). option_map_or (λ (m : GraphNode). m.flags.off) o false)
-    (others_stay ns p f q apart))
+    (d.others q apart))
     (λ q apart. refl) n (index.cites p a n lt at out))
 
-touched_within : (ns : List GraphNode) (ss : List ℕ) (cs : List (List ℕ)) (next capacity p : ℕ) (f : Flags)
-    → p < length ns → IsKept ns ss cs next capacity
-    → IsTouched (with_flags ns p f) ss cs next capacity p
-touched_within ns ss cs next capacity p f lt h =
+pub touched_by : (ns ns' : List GraphNode) (ss : List ℕ) (cs : List (List ℕ)) (next capacity p : ℕ)
+    → Differs ns ns' p → p < length ns → IsIndex ns' cs → IsKept ns ss cs next capacity
+    → IsTouched ns' ss cs next capacity p
+touched_by ns ns' ss cs next capacity p d lt index h =
     record {
-      index = index_stays ns cs p f h.index;
-      size = h.size ∙ sym (length-with_flags ns p f);
+      index = index;
+      size = h.size ∙ sym d.size;
       low = h.low;
-      sound = λ a ne out st. parks_stay ns cs p f (before ss (slice_index ss a)) a h.index lt ne out ∙ h.sound a st;
-      complete = λ a ne out st. parks_stay ns cs p f (has_stamp ss) a h.index lt ne out ∙ h.complete a st;
-      space = let e = length-with_flags ns p f in let space = h.space in omega arith;
+      sound = λ a ne out st. parks_stay ns ns' cs p (before ss (slice_index ss a)) a d h.index lt ne out ∙ h.sound a st;
+      complete = λ a ne out st. parks_stay ns ns' cs p (has_stamp ss) a d h.index lt ne out ∙ h.complete a st;
+      space = let e = d.size in let space = h.space in omega arith;
     }
 
 touched_past : (ns : List GraphNode) (ss : List ℕ) (cs : List (List ℕ)) (next capacity p : ℕ)
@@ -121,7 +131,9 @@ pub touched : (ns : List GraphNode) (ss : List ℕ) (cs : List (List ℕ)) (next
     → IsTouched (with_flags ns p f) ss cs next capacity p
 touched ns ss cs next capacity p f h =
     elim (cases_lt p (length ns)) [
-      | inl lt ↦ touched_within ns ss cs next capacity p f lt h
+      | inl lt ↦
+          touched_by ns (with_flags ns p f) ss cs next capacity p (flags_differ ns (with_flags ns p f) p f refl) lt
+          (index_stays ns cs p f h.index) h
       | inr le ↦
           let F : List GraphNode → Type 0 = λ l. IsTouched l ss cs next capacity p in
           subst F (sym (with_flags_past ns p f le)) (touched_past ns ss cs next capacity p h)

@@ -7,5 +7,7 @@ pub mod Reach
 pub mod Steps
 pub mod Counts
 pub mod TallyUpdates
-pub mod LinkNumbers
+pub mod SetItems
+pub mod Spots
 pub mod Work
+pub mod Relinks

@@ -5,18 +5,17 @@ use Rattle.std.specs.List.{list_all, list_any}
 use Rattle.std.specs.Option.{option_map_or}
 use Rattle.std.proofs.lemmas.Bool.{cases_eq, cases_lt}
 use Rattle.std.proofs.lemmas.Option.{slice_get_within}
-use Rattle.smf_links.specs.declared.link.Flags.{Flags}
 use Rattle.smf_links.specs.declared.grouping.Grouping.{Grouping}
 use Rattle.smf_links.specs.declared.grouping.Grouping.TheVariants.{RequireAll, RequireAny, OptionalAll, ExcludeAll}
 use Rattle.smf_links.specs.declared.link.Link.{Link}
 use Rattle.smf_links.specs.declared.link.GraphNode.{GraphNode}
-use Rattle.smf_links.specs.Blockage.{IsOut, met_at, is_parked, meets_at, met_by, node_is, off_at, runs_at, with_flags}
+use Rattle.smf_links.specs.Blockage.{IsOut, met_at, is_parked, meets_at, met_by, node_is, off_at, runs_at}
 use Rattle.smf_links.specs.Stamps.{AddsBy, AreOut, Avoid, Begins, IsIndex, IsKept, Reaches, Spreads, Touches, citing_at, has_stamp, stamps_by}
 use Rattle.smf_links.proofs.Growth.{option_same}
 use Rattle.smf_links.proofs.Least.{least, past_rounds}
 use Rattle.smf_links.proofs.Work.{adds_whole, out_drop, out_next}
 use Rattle.smf_links.proofs.Steps.{other}
-use Rattle.smf_links.proofs.FlagChanges.{length-with_flags, others_stay}
+use Rattle.smf_links.proofs.FlagChanges.{Differs}
 
 -- ---- a list of places on which two tests agree
 
@@ -148,18 +147,16 @@ touches ns cs ss ss1 ss' work1 work place b h =
       }
     ]
 
-within_stay : (ns : List GraphNode) (cs : List (List ℕ)) (ss ss' work : List ℕ) (p : ℕ) (f : Flags) → IsIndex ns cs
-    → p < length ns
-    → has_stamp ss ≡ is_parked ns → has_stamp ss' ≡ is_parked (with_flags ns p f)
-    → Touches (with_flags ns p f) cs ss ss' work p
-    → (a : ℕ) → IsOut a work → a < length ns → met_at (with_flags ns p f) a ≡ met_at ns a
-within_stay ns cs ss ss' work p f index lt was now t a out low =
-    let ns' = with_flags ns p f in
-    let inside : a < length ns' = let e = length-with_flags ns p f in omega arith in
+within_stay : (ns ns' : List GraphNode) (cs : List (List ℕ)) (ss ss' work : List ℕ) (p : ℕ) → Differs ns ns' p
+    → IsIndex ns cs → p < length ns → has_stamp ss ≡ is_parked ns → has_stamp ss' ≡ is_parked ns'
+    → Touches ns' cs ss ss' work p
+    → (a : ℕ) → IsOut a work → a < length ns → met_at ns' a ≡ met_at ns a
+within_stay ns ns' cs ss ss' work p d index lt was now t a out low =
+    let inside : a < length ns' = let e = d.size in omega arith in
     let begun = t.begun a out inside in
     ap (λ (o : Option GraphNode). option_map_or
     (λ (n : GraphNode). list_all (met_by (runs_at ns') (off_at ns') (is_parked ns')) n.links) o false)
-    (others_stay ns p f a (λ e. begun.0 (sym e)))
+    (d.others a (λ e. begun.0 (sym e)))
     ∙ option_same (λ (n : GraphNode). list_all (met_by (runs_at ns') (off_at ns') (is_parked ns')) n.links)
     (λ (n : GraphNode). list_all (met_by (runs_at ns) (off_at ns) (is_parked ns)) n.links)
     (slice_get ns a)
@@ -167,7 +164,7 @@ within_stay ns cs ss ss' work p f index lt was now t a out low =
     let flags : (g : GraphNode → Bool) → Agrees (node_is g ns') (node_is g ns) n.links =
     λ g q. elim (cases_eq q p) [
       | inl e ↦ let P : ℕ → Type 0 = λ z. Avoid z n.links in inr (subst P (sym e) (index.cites p a n lt at begun.1))
-      | inr ne ↦ inl (ap (λ (o : Option GraphNode). option_map_or g o false) (others_stay ns p f q ne))
+      | inr ne ↦ inl (ap (λ (o : Option GraphNode). option_map_or g o false) (d.others q ne))
     ] in
     let parked : Agrees (is_parked ns') (is_parked ns) n.links =
     λ q. elim (cases_lt q (length ns)) [
@@ -175,7 +172,7 @@ within_stay ns cs ss ss' work p f index lt was now t a out low =
         | inl e ↦ inl ((λ i. sym now i q) ∙ e ∙ (λ i. was i q))
         | inr far ↦ inr (index.cites q a n less at (far a out inside))
       ]
-      | inr le ↦ let past : length ns' ≤ q = let e = length-with_flags ns p f in omega arith in
+      | inr le ↦ let past : length ns' ≤ q = let e = d.size in omega arith in
           inl (past_rounds ns' (length ns') q past ∙ sym (past_rounds ns (length ns) q le))
     ] in
     all_met_agree (runs_at ns') (runs_at ns) (off_at ns') (off_at ns) (is_parked ns') (is_parked ns) n.links
@@ -183,22 +180,17 @@ within_stay ns cs ss ss' work p f index lt was now t a out low =
 
 -- an instance that a change did not reach is found to be as before
 pub reaches : (ns ns' : List GraphNode) (cs : List (List ℕ)) (ss ss' work was touched : List ℕ)
-    (next next' capacity capacity' p : ℕ) (f : Flags) → ns' ≡ with_flags ns p f → p < length ns
+    (next next' capacity capacity' p : ℕ) → Differs ns ns' p → p < length ns
     → IsKept ns ss cs next capacity → IsKept ns' ss' cs next' capacity' → Touches ns' cs ss ss' work p
     → ((a : ℕ) → IsOut a touched → a < length ns → IsOut a was × IsOut a work) → Reaches ns ns' p was touched
-reaches ns ns' cs ss ss' work was touched next next' capacity capacity' p f e lt k k' t more =
-    let F : List GraphNode → Type 0 = λ l. has_stamp ss' ≡ is_parked l in
-    let G : List GraphNode → Type 0 = λ l. Touches l cs ss ss' work p in
-    let H : List GraphNode → Type 0 = λ l. (a : ℕ) → IsOut a work → a < length ns → met_at l a ≡ met_at ns a in
-    let met : H ns' =
-    subst H (sym e)
-    (within_stay ns cs ss ss' work p f k.index lt (least ns ss k.sound k.complete)
-    (subst F e (least ns' ss' k'.sound k'.complete)) (subst G e t)) in
+reaches ns ns' cs ss ss' work was touched next next' capacity capacity' p d lt k k' t more =
+    let met = within_stay ns ns' cs ss ss' work p d k.index lt (least ns ss k.sound k.complete)
+    (least ns' ss' k'.sound k'.complete) t in
     record {
       grown = λ a out less. (more a out less).0;
       apart = λ a n out at.
           let less : a < length ns = slice_get_within ns a n at in
-          let inside : a < length ns' = let size = ap length e ∙ length-with_flags ns p f in omega arith in
+          let inside : a < length ns' = let size = d.size in omega arith in
           let begun = t.begun a (more a out less).1 inside in
           (begun.0, k.index.cites p a n lt at begun.1);
       met = λ a out less. met a (more a out less).1 less;
@@ -206,23 +198,23 @@ reaches ns ns' cs ss ss' work was touched next next' capacity capacity' p f e lt
 
 -- the same over what a call names
 pub reached : (ns shown ns1 ns' : List GraphNode) (cs cs1 : List (List ℕ))
-    (ss ss1 ss' work work1 was touched : List ℕ) (next next' capacity capacity' p count : ℕ) (f : Flags)
-    → ns ≡ shown → ns1 ≡ ns' → cs1 ≡ cs → ss1 ≡ ss → work1 ≡ work → ns' ≡ with_flags ns p f → p < length shown
+    (ss ss1 ss' work work1 was touched : List ℕ) (next next' capacity capacity' p count : ℕ)
+    → ns ≡ shown → ns1 ≡ ns' → cs1 ≡ cs → ss1 ≡ ss → work1 ≡ work → Differs ns ns' p → p < length shown
     → count ≡ length ns' → IsKept ns ss cs next capacity → IsKept ns1 ss' cs1 next' capacity'
     → Touches ns1 cs1 ss1 ss' work p → ((a : ℕ) → IsOut a touched → a < count → IsOut a was × IsOut a work1)
     → Reaches shown ns' p was touched
-reached ns shown ns1 ns' cs cs1 ss ss1 ss' work work1 was touched next next' capacity capacity' p count f es en ec et
-    ew e lt size k k' t more =
+reached ns shown ns1 ns' cs cs1 ss ss1 ss' work work1 was touched next next' capacity capacity' p count es en ec et
+    ew d lt size k k' t more =
     let A : List GraphNode → Type 0 = λ l. Reaches l ns' p was touched in
     let B : List GraphNode → Type 0 = λ l. IsKept l ss' cs1 next' capacity' in
     let C : List (List ℕ) → Type 0 = λ l. IsKept ns' ss' l next' capacity' in
     let D : List GraphNode → Type 0 = λ l. Touches l cs1 ss1 ss' work p in
     let E : List (List ℕ) → Type 0 = λ l. Touches ns' l ss1 ss' work p in
     let F : List ℕ → Type 0 = λ l. Touches ns' cs l ss' work p in
-    let same : length ns' ≡ length ns = ap length e ∙ length-with_flags ns p f in
+    let same : length ns' ≡ length ns = d.size in
     let within : p < length ns = let l = ap length es in omega arith in
     subst A es
-    (reaches ns ns' cs ss ss' work was touched next next' capacity capacity' p f e within k
+    (reaches ns ns' cs ss ss' work was touched next next' capacity capacity' p d within k
     (subst C ec (subst B en k')) (subst F et (subst E ec (subst D en t)))
     (λ a out less.
     let low : a < count = omega arith in

@@ -53,11 +53,21 @@ pub record Notes (P : ℕ → Type 0) (at : ℕ) (cs cs' : List (List ℕ)) : Ty
   pub stays : (p a : ℕ) → IsOut a (citing_at cs' p) → IsOut a (citing_at cs p)
   pub notes : (p : ℕ) → p < length cs → IsOut at (citing_at cs' p) → P p
 
+-- no entry goes
+pub record KeepsPlaces (before after : List (List ℕ)) : Type 0 where
+  pub size : length after ≡ length before
+  pub stays : (p a : ℕ) → IsOut a (citing_at after p) → IsOut a (citing_at before p)
+
 -- ---- how much work there can be
 
 abbrev pub total : List (List ℕ) → ℕ
 total [] = 0
 total (c ∷ cs) = length c + total cs
+
+-- how many places links cite
+abbrev pub citations : List Link → ℕ
+citations [] = 0
+citations (l ∷ ls) = total l.cited + citations ls
 
 -- the total over the places that have a stamp
 abbrev pub weight : List ℕ → List (List ℕ) → ℕ
@@ -119,7 +129,7 @@ pub record IsKept (ns : List GraphNode) (ss : List ℕ) (cs : List (List ℕ)) (
   pub complete : (a : ℕ) → IsComplete ns ss a
   pub space : length ns + 1 + 3 * total cs ≤ capacity
 
--- the same if the flags of one instance changed
+-- the same if the flags or the links of one instance changed
 pub record IsTouched (ns : List GraphNode) (ss : List ℕ) (cs : List (List ℕ)) (next capacity place : ℕ) : Type 0 where
   pub index : IsIndex ns cs
   pub size : length ss ≡ length ns
@@ -136,7 +146,7 @@ pub record Spreads (ns : List GraphNode) (cs : List (List ℕ)) (ss work ss' wor
   pub same : (a : ℕ) → IsOut a work' → has_stamp ss' a ≡ has_stamp ss a
   pub reached : (x : ℕ) → (has_stamp ss' x ≡ has_stamp ss x) ⊎ ((a : ℕ) → IsOut a work' → IsOut a (citing_at cs x))
 
--- the same of instances that are there, if the flags of a place changed
+-- the same of instances that are there, if one place changed
 pub record Touches (ns : List GraphNode) (cs : List (List ℕ)) (ss ss' work : List ℕ) (place : ℕ) : Type 0 where
   pub begun : (a : ℕ) → IsOut a work → a < length ns → (place ≡ a → ⊥) × IsOut a (citing_at cs place)
   pub same : (a : ℕ) → IsOut a work → a < length ns → has_stamp ss' a ≡ has_stamp ss a
@@ -147,8 +157,8 @@ pub record Touches (ns : List GraphNode) (cs : List (List ℕ)) (ss ss' work : L
 pub record Begins (ns : List GraphNode) (cs : List (List ℕ)) (ss ss' work : List ℕ) (place : ℕ) : Type 0 where
   pub begins : ((ss' ≡ ss) × (work ≡ place ∷ citing_at cs place)) ⊎ ((a : ℕ) → IsOut a work → length ns ≤ a)
 
--- The flags of a place changed. If an instance's own place is not touched, it does not cite that place, and its links
--- are met as before.
+-- The flags of a place changed, or its links. If an instance's own place is not touched, it does not cite that place,
+-- and its links are met as before.
 pub record Reaches (before after : List GraphNode) (place : ℕ) (was touched : List ℕ) : Type 0 where
   pub grown : (a : ℕ) → IsOut a touched → a < length before → IsOut a was
   pub apart : (a : ℕ) (n : GraphNode) → IsOut a touched → slice_get before a ≡ Some n

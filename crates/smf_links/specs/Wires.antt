@@ -1,14 +1,12 @@
--- Which tally and which of its entities each place stands in, and tallies that say what the places of each entity are.
-use Rattle.std.specs.Prelude.{◌≡◌, ℕ, ◌<◌, List, [], length, map, slice_get, slice_index, slice_set, Bool, Some}
+-- Which entities of links stand for each place, and tallies that say what the places of each entity are.
+use Rattle.std.specs.Prelude.{◌≡◌, ℕ, ◌<◌, List, [], ◌∷◌, ◌++◌, length, map, slice_get, slice_set, Bool, Option, Some}
 use Rattle.std.specs.Option.{option_map, option_map_or, unwrap_or}
 use Rattle.smf_links.specs.declared.link.Link.{Link}
 use Rattle.smf_links.specs.declared.link.GraphNode.{GraphNode}
 use Rattle.smf_links.specs.declared.tally.Entity.{Entity}
-use Rattle.smf_links.specs.declared.wires.LinkOwner.{LinkOwner}
 use Rattle.smf_links.specs.declared.wires.Spot.{Spot}
-use Rattle.smf_links.specs.declared.wires.Wires.{Wires}
-use Rattle.smf_links.specs.Blockage.{IsOut, off_at, runs_at}
-use Rattle.smf_links.specs.Stamps.{citing_at, has_stamp}
+use Rattle.smf_links.specs.Blockage.{off_at, runs_at}
+use Rattle.smf_links.specs.Stamps.{has_stamp}
 use Rattle.smf_links.specs.Tallies.{entity_of}
 
 -- ---- links and their entities, none if there is no such instance or link
@@ -16,90 +14,101 @@ use Rattle.smf_links.specs.Tallies.{entity_of}
 abbrev pub links_at : List GraphNode → ℕ → List Link
 links_at ns a = option_map_or (λ (n : GraphNode). n.links) (slice_get ns a) []
 
-abbrev pub cited_at : (ℕ → List Link) → ℕ → ℕ → List (List ℕ)
-cited_at links a j = option_map_or (λ (l : Link). l.cited) (slice_get (links a) j) []
+-- the places that a link cites
+abbrev pub cited_in : List Link → ℕ → List (List ℕ)
+cited_in ls j = option_map_or (λ (l : Link). l.cited) (slice_get ls j) []
 
--- the places that the link of a tally cites
-abbrev pub cited_of : (ℕ → List Link) → List LinkOwner → ℕ → List (List ℕ)
-cited_of links os t = option_map_or (λ (o : LinkOwner). cited_at links o.node o.link) (slice_get os t) []
+abbrev pub spot_of : ℕ → ℕ → ℕ → Spot
+spot_of a j e = record { node = a; link = j; entity = e }
 
-abbrev pub places_of : (ℕ → List Link) → List LinkOwner → Spot → List ℕ
-places_of links os s = unwrap_or (slice_get (cited_of links os s.tally) s.entity) []
+abbrev pub places_at : (ℕ → List Link) → Spot → Option (List ℕ)
+places_at links s = slice_get (cited_in (links s.node) s.link) s.entity
 
-abbrev pub tally_at : List (List Entity) → ℕ → List Entity
-tally_at ts t = unwrap_or (slice_get ts t) []
+-- ---- the entities that stand for each place
 
--- ---- each link has a tally, and each entity a number, by which it is found from its places
+abbrev pub IsAbsent : Spot → List Spot → Type 0
+IsAbsent s [] = Unit
+IsAbsent s (x ∷ xs) = (x ≡ s → ⊥) × IsAbsent s xs
 
-abbrev pub owner_of : ℕ → ℕ → LinkOwner
-owner_of a j = record { node = a; link = j }
+abbrev pub spots_at : List (List Spot) → ℕ → List Spot
+spots_at ws p = unwrap_or (slice_get ws p) []
 
-abbrev pub spot_of : ℕ → ℕ → Spot
-spot_of t e = record { tally = t; entity = e }
+abbrev pub with_spot : List (List Spot) → Spot → ℕ → List (List Spot)
+with_spot ws s p = slice_set ws p (spots_at ws p ++ s ∷ [])
 
-pub record HasSpot (spots : List Spot) (t e : ℕ) : Type 0 where
-  pub number : ℕ
-  pub at : slice_get spots number ≡ Some (spot_of t e)
+-- no entity goes
+pub record KeepsSpots (before after : List (List Spot)) : Type 0 where
+  pub size : length after ≡ length before
+  pub stays : (p : ℕ) (s : Spot) → IsAbsent s (spots_at after p) → IsAbsent s (spots_at before p)
 
-abbrev pub AreNumbered : (ℕ → List Link) → List LinkOwner → List (List ℕ) → Type 0
-AreNumbered links os numbers =
-    (a j : ℕ) (l : Link) → slice_get (links a) j ≡ Some l
-    → slice_get os (slice_index (citing_at numbers a) j) ≡ Some (owner_of a j)
+abbrev pub HasSpot : List (List Spot) → Spot → ℕ → Type 0
+HasSpot ws s p = p < length ws → IsAbsent s (spots_at ws p) → ⊥
 
-abbrev pub AreSpotted : (ℕ → List Link) → List LinkOwner → List Spot → Type 0
-AreSpotted links os spots = (t e : ℕ) (ps : List ℕ) → slice_get (cited_of links os t) e ≡ Some ps → HasSpot spots t e
+abbrev pub EntersPlaces : List (List Spot) → Spot → List ℕ → Type 0
+EntersPlaces ws s ps = (k p : ℕ) → slice_get ps k ≡ Some p → HasSpot ws s p
 
--- an entity that is not among those of a place does not stand for it
-pub record AreEntered (links : ℕ → List Link) (count : ℕ) (os : List LinkOwner) (spots : List Spot)
-    (entries : List (List ℕ)) : Type 0 where
-  pub size : length entries ≡ count
-  pub cites : (p k : ℕ) (s : Spot) → p < count → slice_get spots k ≡ Some s → IsOut k (citing_at entries p)
-      → IsOut p (places_of links os s)
+abbrev pub EntersCited : List (List Spot) → ℕ → ℕ → List (List ℕ) → Type 0
+EntersCited ws a j es = (e : ℕ) (ps : List ℕ) → slice_get es e ≡ Some ps → EntersPlaces ws (spot_of a j e) ps
 
-pub record IsWired (links : ℕ → List Link) (count : ℕ) (w : Wires) : Type 0 where
-  pub numbered : AreNumbered links w.owners w.numbers
-  pub spotted : AreSpotted links w.owners w.spots
-  pub entered : AreEntered links count w.owners w.spots w.entries
+abbrev pub EntersLinks : List (List Spot) → ℕ → List Link → Type 0
+EntersLinks ws a ls = (j : ℕ) (l : Link) → slice_get ls j ≡ Some l → EntersCited ws a j l.cited
 
--- ---- tallies
+-- each entity is among those of each of its places
+pub record AreEntered (links : ℕ → List Link) (count : ℕ) (ws : List (List Spot)) : Type 0 where
+  pub size : length ws ≡ count
+  pub entered : (a : ℕ) → EntersLinks ws a (links a)
 
-abbrev pub put_at : List (List Entity) → ℕ → ℕ → Entity → List (List Entity)
-put_at ts t e x = slice_set ts t (slice_set (tally_at ts t) e x)
+-- ---- tallies of an instance, and of all
+
+abbrev pub tally_in : List (List Entity) → ℕ → List Entity
+tally_in ts j = unwrap_or (slice_get ts j) []
+
+abbrev pub tallies_at : List (List (List Entity)) → ℕ → List (List Entity)
+tallies_at tss a = unwrap_or (slice_get tss a) []
+
+abbrev pub entity_at : List (List (List Entity)) → Spot → Option Entity
+entity_at tss s = slice_get (tally_in (tallies_at tss s.node) s.link) s.entity
+
+abbrev pub put_in : List (List Entity) → ℕ → ℕ → Entity → List (List Entity)
+put_in ts j e x = slice_set ts j (slice_set (tally_in ts j) e x)
+
+abbrev pub put_at : List (List (List Entity)) → Spot → Entity → List (List (List Entity))
+put_at tss s x = slice_set tss s.node (put_in (tallies_at tss s.node) s.link s.entity x)
 
 -- an entity is worked out anew
-abbrev pub put_spot : (ℕ → List Link) → (ℕ → Bool) → (ℕ → Bool) → (ℕ → Bool) → List LinkOwner → List (List Entity)
-    → Spot → List (List Entity)
-put_spot links runs off parked os ts s =
-    option_map_or (λ (ps : List ℕ). put_at ts s.tally s.entity (entity_of runs off parked ps))
-    (slice_get (cited_of links os s.tally) s.entity) ts
+abbrev pub put_spot : (ℕ → List Link) → (ℕ → Bool) → (ℕ → Bool) → (ℕ → Bool) → List (List (List Entity)) → Spot
+    → List (List (List Entity))
+put_spot links runs off parked tss s =
+    option_map_or (λ (ps : List ℕ). put_at tss s (entity_of runs off parked ps)) (places_at links s) tss
 
-abbrev pub put_number : (ℕ → List Link) → (ℕ → Bool) → (ℕ → Bool) → (ℕ → Bool) → Wires → List (List Entity) → ℕ
-    → List (List Entity)
-put_number links runs off parked w ts k =
-    option_map_or (put_spot links runs off parked w.owners ts) (slice_get w.spots k) ts
+abbrev pub tally_of : (ℕ → Bool) → (ℕ → Bool) → (ℕ → Bool) → Link → List Entity
+tally_of runs off parked l = map (entity_of runs off parked) l.cited
 
--- the tally of a link
-abbrev pub tally_of : (ℕ → List Link) → (ℕ → Bool) → (ℕ → Bool) → (ℕ → Bool) → LinkOwner → List Entity
-tally_of links runs off parked o = map (entity_of runs off parked) (cited_at links o.node o.link)
+abbrev pub tallies_of : (ℕ → Bool) → (ℕ → Bool) → (ℕ → Bool) → List Link → List (List Entity)
+tallies_of runs off parked ls = map (tally_of runs off parked) ls
 
--- each entity but those of some numbers is what its places make it
-pub record AreTalliedBut (links : ℕ → List Link) (runs off parked : ℕ → Bool) (w : Wires) (left : List ℕ)
-    (ts : List (List Entity)) : Type 0 where
-  pub sizes : (t : ℕ) → length (tally_at ts t) ≡ length (cited_of links w.owners t)
-  pub right : (t e : ℕ) → ((k : ℕ) → slice_get w.spots k ≡ Some (spot_of t e) → IsOut k left)
-      → slice_get (tally_at ts t) e ≡ option_map (entity_of runs off parked) (slice_get (cited_of links w.owners t) e)
+abbrev pub node_tallies : (ℕ → Bool) → (ℕ → Bool) → (ℕ → Bool) → GraphNode → List (List Entity)
+node_tallies runs off parked n = tallies_of runs off parked n.links
 
-abbrev pub IsTalliedBut : List GraphNode → List ℕ → Wires → List ℕ → List (List Entity) → Type 0
-IsTalliedBut ns ss w left ts = AreTalliedBut (links_at ns) (runs_at ns) (off_at ns) (has_stamp ss) w left ts
+-- each entity but some is what its places make it
+pub record AreTalliedBut (links : ℕ → List Link) (many : ℕ) (runs off parked : ℕ → Bool) (left : List Spot)
+    (tss : List (List (List Entity))) : Type 0 where
+  pub count : length tss ≡ many
+  pub sizes : (a j : ℕ) → length (tally_in (tallies_at tss a) j) ≡ length (cited_in (links a) j)
+  pub right : (s : Spot) → IsAbsent s left
+      → entity_at tss s ≡ option_map (entity_of runs off parked) (places_at links s)
+
+abbrev pub IsTalliedBut : List GraphNode → List ℕ → List Spot → List (List (List Entity)) → Type 0
+IsTalliedBut ns ss left tss = AreTalliedBut (links_at ns) (length ns) (runs_at ns) (off_at ns) (has_stamp ss) left tss
 
 -- the data kept beside the instances and their stamps
-pub record IsTallied (ns : List GraphNode) (ss : List ℕ) (w : Wires) (ts : List (List Entity)) : Type 0 where
-  pub wired : IsWired (links_at ns) (length ns) w
+pub record IsTallied (ns : List GraphNode) (ss : List ℕ) (ws : List (List Spot))
+    (tss : List (List (List Entity))) : Type 0 where
+  pub wired : AreEntered (links_at ns) (length ns) ws
   pub size : length ss ≡ length ns
-  pub tallied : IsTalliedBut ns ss w [] ts
+  pub tallied : IsTalliedBut ns ss [] tss
 
--- the tallies of an instance's links are what these make them
-abbrev pub AreTold : (ℕ → Bool) → (ℕ → Bool) → (ℕ → Bool) → List ℕ → List (List Entity) → List Link → Type 0
-AreTold runs off parked numbers ts ls =
-    (j : ℕ) (l : Link) → slice_get ls j ≡ Some l
-    → tally_at ts (slice_index numbers j) ≡ map (entity_of runs off parked) l.cited
+-- the tallies of links are what these make them
+abbrev pub AreTold : (ℕ → Bool) → (ℕ → Bool) → (ℕ → Bool) → List (List Entity) → List Link → Type 0
+AreTold runs off parked ts ls =
+    (j : ℕ) (l : Link) → slice_get ls j ≡ Some l → tally_in ts j ≡ map (entity_of runs off parked) l.cited

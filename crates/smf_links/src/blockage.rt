@@ -5,13 +5,13 @@ ghost use Rattle.std.specs.Prelude.{◌≡◌, ◌||◌, map, slice_index};
 ghost use Rattle.smf_links.specs.Blockage.{blocked_by, met_by, off_at, parks, parks_by, runs_at};
 ghost use Rattle.smf_links.specs.Stamps.{before, has_stamp};
 ghost use Rattle.smf_links.specs.Tallies.{entity_of};
-ghost use Rattle.smf_links.specs.Wires.{AreTold, IsTallied, tally_at};
+ghost use Rattle.smf_links.specs.Wires.{AreTold, IsTallied, tally_in};
 
 use crate::grouping::Grouping;
-use crate::index::citing_of;
 use crate::link::{GraphNode, Link};
-use crate::tally::Tally;
-use crate::wires::Wires;
+use crate::tallies::tallies_at;
+use crate::tally::{NodeTallies, Tally};
+use crate::wires::Spot;
 use smf_fmri::Items;
 
 pub(crate) fn runs_at(nodes: &[GraphNode], place: usize) -> bool
@@ -158,7 +158,7 @@ fn is_blocked_by(
     number: usize,
     link: &Link,
 ) -> bool
-    requires { tally_at tallies.now number
+    requires { tally_in tallies.now number
         ≡ map (entity_of (runs_at nodes.now) (off_at nodes.now) (has_stamp stamps.now)) link.now.cited }
     ensures { result ≡ blocked_by (runs_at nodes.now) (off_at nodes.now) (before stamps.now limit) link.now }
 {
@@ -177,7 +177,7 @@ fn is_met_by(
     number: usize,
     link: &Link,
 ) -> bool
-    requires { tally_at tallies.now number
+    requires { tally_in tallies.now number
         ≡ map (entity_of (runs_at nodes.now) (off_at nodes.now) (before stamps.now limit)) link.now.cited }
     ensures { result ≡ met_by (runs_at nodes.now) (off_at nodes.now) (before stamps.now limit) link.now }
 {
@@ -192,16 +192,14 @@ fn any_blocked(
     stamps: &[usize],
     limit: usize,
     tallies: &[Tally],
-    numbers: &[usize],
     links: &[Link],
 ) -> bool
-    requires { AreTold (runs_at nodes.now) (off_at nodes.now) (has_stamp stamps.now) numbers.now tallies.now links.now }
+    requires { AreTold (runs_at nodes.now) (off_at nodes.now) (has_stamp stamps.now) tallies.now links.now }
     ensures { result ≡ list_any (blocked_by (runs_at nodes.now) (off_at nodes.now) (before stamps.now limit))
         links.now }
 {
     for (at, link) in links.iter().enumerate() {
-        let number = stamp_at(numbers, at);
-        if is_blocked_by(nodes, stamps, limit, tallies, number, link) {
+        if is_blocked_by(nodes, stamps, limit, tallies, at, link) {
             return true;
         }
     }
@@ -213,16 +211,14 @@ pub(crate) fn each_met(
     stamps: &[usize],
     limit: usize,
     tallies: &[Tally],
-    numbers: &[usize],
     links: &[Link],
 ) -> bool
     requires { AreTold (runs_at nodes.now) (off_at nodes.now)
-        (before stamps.now limit) numbers.now tallies.now links.now }
+        (before stamps.now limit) tallies.now links.now }
     ensures { result ≡ list_all (met_by (runs_at nodes.now) (off_at nodes.now) (before stamps.now limit)) links.now }
 {
     for (at, link) in links.iter().enumerate() {
-        let number = stamp_at(numbers, at);
-        if !is_met_by(nodes, stamps, limit, tallies, number, link) {
+        if !is_met_by(nodes, stamps, limit, tallies, at, link) {
             return false;
         }
     }
@@ -234,40 +230,31 @@ fn parks_by(
     stamps: &[usize],
     limit: usize,
     tallies: &[Tally],
-    numbers: &[usize],
     node: &GraphNode,
 ) -> bool
     requires { AreTold (runs_at nodes.now) (off_at nodes.now)
-        (has_stamp stamps.now) numbers.now tallies.now node.now.links }
+        (has_stamp stamps.now) tallies.now node.now.links }
     ensures { result ≡ parks_by (runs_at nodes.now) (off_at nodes.now) (before stamps.now limit) node.now }
 {
     node.flags.idle
-        || (node.flags.waiting
-            && any_blocked(
-                nodes,
-                stamps,
-                limit,
-                tallies,
-                numbers,
-                node.links.as_slice(),
-            ))
+        || (node.flags.waiting && any_blocked(nodes, stamps, limit, tallies, node.links.as_slice()))
 }
 
 /// True if an instance is idle, or waits and is blocked by those with a stamp below the limit.
 pub(crate) fn parks(
     nodes: &[GraphNode],
     stamps: &[usize],
-    wires: &Wires,
-    tallies: &[Tally],
+    entries: &[Items<Spot>],
+    tallies: &[NodeTallies],
     limit: usize,
     place: usize,
 ) -> bool
-    requires { IsTallied nodes.now stamps.now wires.now tallies.now }
+    requires { IsTallied nodes.now stamps.now entries.now tallies.now }
     ensures { result ≡ parks nodes.now (before stamps.now limit) place }
 {
-    let numbers = citing_of(wires.numbers.as_slice(), place);
+    let own = tallies_at(tallies, place);
     match nodes.get(place) {
-        Some(node) => parks_by(nodes, stamps, limit, tallies, numbers, node),
+        Some(node) => parks_by(nodes, stamps, limit, own, node),
         None => false,
     }
 }

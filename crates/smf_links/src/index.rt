@@ -1,8 +1,8 @@
 //! Which instances cite each place.
 
-ghost use Rattle.std.specs.Prelude.{◌≡◌, IfOk, OnOk, length};
+ghost use Rattle.std.specs.Prelude.{◌≡◌, ◌+◌, ◌≤◌, IfOk, OnErr, OnOk, length, true};
 ghost use Rattle.smf_links.specs.Blockage.{IsOut};
-ghost use Rattle.smf_links.specs.Stamps.{AreOut, Avoid, IsIndex, Notes, citing_at, with_citation, total};
+ghost use Rattle.smf_links.specs.Stamps.{AreOut, Avoid, IsIndex, KeepsPlaces, Notes, citations, citing_at, with_citation, total};
 
 use crate::link::{GraphNode, Link};
 use smf_fmri::Items;
@@ -17,8 +17,20 @@ pub(crate) fn citing_of(citing: &[Items<usize>], place: usize) -> &[usize]
     }
 }
 
-fn note(citing: &mut Vec<Items<usize>>, at: usize, place: usize) -> Result<(), AllocError>
-    ensures { OnOk result (citing.new.items ≡ with_citation citing.old.items at place) }
+fn has_place(places: &[usize], place: usize) -> bool
+    ensures { result ≡ true → IsOut place places.now → ⊥ }
+{
+    for other in places {
+        if *other == place {
+            return true;
+        }
+    }
+    false
+}
+
+fn push_place(citing: &mut Vec<Items<usize>>, at: usize, place: usize) -> Result<(), AllocError>
+    ensures ok { OnOk result (citing.new.items ≡ with_citation citing.old.items at place) }
+    ensures err { OnErr result (citing.new.items ≡ citing.old.items) }
 {
     if place < citing.len() {
         let places = &mut citing[place];
@@ -27,15 +39,36 @@ fn note(citing: &mut Vec<Items<usize>>, at: usize, place: usize) -> Result<(), A
     Ok(())
 }
 
-pub(crate) fn note_places(
+/// Notes at a place that an instance cites it. If it is to look, it notes none that is there.
+fn note(
     citing: &mut Vec<Items<usize>>,
     at: usize,
+    looks: bool,
+    place: usize,
+) -> Result<(), AllocError>
+    ensures keeps { KeepsPlaces citing.old.items citing.new.items }
+    ensures space { total citing.new.items ≤ total citing.old.items + 1 }
+    ensures notes { OnOk result (Notes (λ p. place ≡ p → ⊥) at citing.old.items citing.new.items) }
+{
+    if looks && has_place(citing_of(citing.as_slice(), place), at) {
+        return Ok(());
+    }
+    push_place(citing, at, place)?;
+    Ok(())
+}
+
+fn note_places(
+    citing: &mut Vec<Items<usize>>,
+    at: usize,
+    looks: bool,
     places: &[usize],
 ) -> Result<(), AllocError>
-    ensures { OnOk result (Notes (λ p. IsOut p places.now) at citing.old.items citing.new.items) }
+    ensures keeps { KeepsPlaces citing.old.items citing.new.items }
+    ensures space { total citing.new.items ≤ total citing.old.items + length places.now }
+    ensures notes { OnOk result (Notes (λ p. IsOut p places.now) at citing.old.items citing.new.items) }
 {
     for place in places {
-        note(citing, at, *place)?;
+        note(citing, at, looks, *place)?;
     }
     Ok(())
 }
@@ -43,30 +76,37 @@ pub(crate) fn note_places(
 fn note_cited(
     citing: &mut Vec<Items<usize>>,
     at: usize,
+    looks: bool,
     cited: &[Items<usize>],
 ) -> Result<(), AllocError>
-    ensures { OnOk result (Notes (λ p. AreOut p cited.now) at citing.old.items citing.new.items) }
+    ensures keeps { KeepsPlaces citing.old.items citing.new.items }
+    ensures space { total citing.new.items ≤ total citing.old.items + total cited.now }
+    ensures notes { OnOk result (Notes (λ p. AreOut p cited.now) at citing.old.items citing.new.items) }
 {
     for places in cited {
-        note_places(citing, at, places.as_slice())?;
+        note_places(citing, at, looks, places.as_slice())?;
     }
     Ok(())
 }
 
+/// Notes an instance at each place that its links cite. If it is to look, it notes none that is there.
 pub(crate) fn note_links(
     citing: &mut Vec<Items<usize>>,
     at: usize,
+    looks: bool,
     links: &[Link],
 ) -> Result<(), AllocError>
-    ensures { OnOk result (Notes (λ p. Avoid p links.now) at citing.old.items citing.new.items) }
+    ensures keeps { KeepsPlaces citing.old.items citing.new.items }
+    ensures space { total citing.new.items ≤ total citing.old.items + citations links.now }
+    ensures notes { OnOk result (Notes (λ p. Avoid p links.now) at citing.old.items citing.new.items) }
 {
     for link in links {
-        note_cited(citing, at, link.cited.as_slice())?;
+        note_cited(citing, at, looks, link.cited.as_slice())?;
     }
     Ok(())
 }
 
-pub(crate) fn empty(alloc: Global, count: usize) -> Result<Vec<Items<usize>>, AllocError>
+fn empty(alloc: Global, count: usize) -> Result<Vec<Items<usize>>, AllocError>
     ensures { IfOk result (λ cs. length cs.items ≡ count) }
 {
     let mut citing = Vec::with_capacity(alloc, count)?;
@@ -81,7 +121,7 @@ pub(crate) fn index_of(alloc: Global, nodes: &[GraphNode]) -> Result<Vec<Items<u
 {
     let mut citing = empty(alloc, nodes.len())?;
     for (at, node) in nodes.iter().enumerate() {
-        note_links(&mut citing, at, node.links.as_slice())?;
+        note_links(&mut citing, at, false, node.links.as_slice())?;
     }
     Ok(citing)
 }
@@ -92,6 +132,18 @@ pub(crate) fn total_of(citing: &[Items<usize>]) -> Result<usize, AllocError>
     let mut total: usize = 0;
     for places in citing {
         total = total.checked_add(places.len()).ok_or(AllocError)?;
+    }
+    Ok(total)
+}
+
+/// How many places links cite.
+pub(crate) fn citations_of(links: &[Link]) -> Result<usize, AllocError>
+    ensures { IfOk result (λ n. n ≡ citations links.now) }
+{
+    let mut total: usize = 0;
+    for link in links {
+        let own = total_of(link.cited.as_slice())?;
+        total = total.checked_add(own).ok_or(AllocError)?;
     }
     Ok(total)
 }

@@ -1,18 +1,19 @@
 ghost use Rattle.std.specs.List.{list_all};
 ghost use Rattle.std.specs.Option.{option_copied};
-ghost use Rattle.std.specs.Prelude.{◌≡◌, ◌<◌, ◌≤◌, ◌+◌, ◌*◌, ◌^◌, IfOk, [], ◌∷◌, length, slice_get, slice_index, vec_capacity, ℕ};
+ghost use Rattle.std.specs.Prelude.{◌≡◌, ◌<◌, ◌≤◌, ◌+◌, ◌^◌, IfOk, OnErr, OnOk, [], ◌∷◌, length, slice_get, slice_index, slice_set, vec_capacity, ℕ};
 ghost use Rattle.smf_links.specs.declared.link.GraphNode.{GraphNode};
 ghost use Rattle.smf_links.specs.Blockage.{IsOut, met_at, blocked_by, is_parked, met_by, node_is, off_at, runs_at, with_flags};
-ghost use Rattle.smf_links.specs.Stamps.{Begins, IsKept, IsLoosening, IsTouched, Reaches, Touches, before, citing_at, total};
+ghost use Rattle.smf_links.specs.Stamps.{Begins, IsKept, IsLoosening, IsTouched, Reaches, Touches, before, citing_at};
 ghost use Rattle.smf_links.specs.Wires.{IsTallied};
 
 use crate::blockage::{each_met, is_blocked, is_met, stamp_at};
 use crate::index::{citing_of, index_of, total_of};
 use crate::link::{Flags, GraphNode, Link};
+use crate::rewire::{change_node, prepare, room_for};
 use crate::stamps::{add, add_one, settle};
-use crate::tallies::{put_stamp, retally, tallies_of};
-use crate::tally::Tally;
-use crate::wires::{Wires, wires_of};
+use crate::tallies::{all_tallies, put_stamp, retally, tallies_at};
+use crate::tally::NodeTallies;
+use crate::wires::{Spot, enter_all};
 use smf_fmri::Items;
 use std::alloc::{AllocError, Global};
 use std::marker::Model;
@@ -26,25 +27,30 @@ pub struct KeptVerdicts {
     nodes: Vec<GraphNode>,
     stamps: Vec<usize>,
     citing: Vec<Items<usize>>,
+    /// At least as many as the entries of `citing`.
+    note_count: usize,
     next: usize,
     work: Vec<usize>,
     /// For each place, its index in the work. This is a hint.
     slots: Vec<usize>,
-    wires: Wires,
-    tallies: Vec<Tally>,
+    /// For each place, the entities that stand for it.
+    entries: Vec<Items<Spot>>,
+    tallies: Vec<NodeTallies>,
 }
 
 impl Model for KeptVerdicts {
-    ghost use Rattle.std.specs.Prelude.{List, vec_capacity, ◌≡◌, ◌<◌};
+    ghost use Rattle.std.specs.Prelude.{List, vec_capacity, ◌≡◌, ◌<◌, ◌≤◌};
     ghost use Rattle.smf_links.specs.declared.link.GraphNode.{GraphNode};
-    ghost use Rattle.smf_links.specs.Stamps.{IsKept};
+    ghost use Rattle.smf_links.specs.Stamps.{IsKept, total};
     ghost use Rattle.smf_links.specs.Wires.{IsTallied};
 
     ghost Value = { List GraphNode };
 
     ghost view = { λ k. k.nodes.items };
 
-    ghost invariant = { λ k. IsKept k.nodes.items k.stamps.items k.citing.items k.next (vec_capacity k.work) × (0 < k.next) × IsTallied k.nodes.items k.stamps.items k.wires k.tallies.items };
+    ghost invariant = { λ k. IsKept k.nodes.items k.stamps.items k.citing.items k.next (vec_capacity k.work)
+        × (0 < k.next) × IsTallied k.nodes.items k.stamps.items k.entries.items k.tallies.items
+        × (total k.citing.items ≤ k.note_count) };
 }
 
 fn set_flags(nodes: &mut Vec<GraphNode>, place: usize, flags: Flags)
@@ -59,29 +65,34 @@ fn set_flags(nodes: &mut Vec<GraphNode>, place: usize, flags: Flags)
 fn change_flags(
     nodes: &mut Vec<GraphNode>,
     stamps: &[usize],
-    wires: &Wires,
-    tallies: &mut [Tally],
+    entries: &[Items<Spot>],
+    tallies: &mut [NodeTallies],
     place: usize,
     flags: Flags,
 )
     requires within { place < length nodes.old.items }
-    requires tallied { IsTallied nodes.old.items stamps.now wires.now tallies.old }
+    requires tallied { IsTallied nodes.old.items stamps.now entries.now tallies.old }
     ensures nodes { nodes.new.items ≡ with_flags nodes.old.items place flags }
-    ensures tallied { IsTallied nodes.new.items stamps.now wires.now tallies.new }
+    ensures tallied { IsTallied nodes.new.items stamps.now entries.now tallies.new }
 {
     set_flags(nodes, place, flags);
-    retally(nodes.as_slice(), stamps, wires, tallies, place);
+    retally(nodes.as_slice(), stamps, entries, tallies, place);
 }
 
 /// Takes all stamps away.
-fn clear(nodes: &[GraphNode], wires: &Wires, tallies: &mut [Tally], stamps: &mut [usize])
-    requires { IsTallied nodes.now stamps.old wires.now tallies.old }
+fn clear(
+    nodes: &[GraphNode],
+    entries: &[Items<Spot>],
+    tallies: &mut [NodeTallies],
+    stamps: &mut [usize],
+)
+    requires { IsTallied nodes.now stamps.old entries.now tallies.old }
     ensures size { length stamps.new ≡ length stamps.old }
     ensures none { (a : ℕ) → slice_index stamps.new a ≡ 0 }
-    ensures tallied { IsTallied nodes.now stamps.new wires.now tallies.new }
+    ensures tallied { IsTallied nodes.now stamps.new entries.now tallies.new }
 {
     for place in 0..stamps.len() {
-        put_stamp(nodes, stamps, wires, tallies, place, 0);
+        put_stamp(nodes, stamps, entries, tallies, place, 0);
     }
 }
 
@@ -132,39 +143,30 @@ fn add_touched(work: &mut Vec<usize>, citing: &[Items<usize>], place: usize)
     add(work, citing_of(citing, place));
 }
 
-/// How much work there can be at once.
-fn room_for(count: usize, total: usize) -> Result<usize, AllocError>
-    ensures { IfOk result (λ n. n ≡ count + 1 + 3 * total) }
-{
-    let triple = total.checked_mul(3).ok_or(AllocError)?;
-    let more = count.checked_add(1).ok_or(AllocError)?;
-    more.checked_add(triple).ok_or(AllocError)
-}
-
 /// Puts what may be wrong into the work: what the change of a place touches, or all if the numbers run out. Gives
 /// the number from which on stamps are free.
 fn begin(
     nodes: &[GraphNode],
     citing: &[Items<usize>],
-    wires: &Wires,
-    tallies: &mut [Tally],
+    entries: &[Items<Spot>],
+    tallies: &mut [NodeTallies],
     stamps: &mut [usize],
     work: &mut Vec<usize>,
     next: usize,
     place: usize,
 ) -> usize
     requires next { 0 < next }
-    requires tallied { IsTallied nodes.now stamps.old wires.now tallies.old }
+    requires tallied { IsTallied nodes.now stamps.old entries.now tallies.old }
     requires touched { IsTouched nodes.now stamps.old citing.now next (vec_capacity work.old) place }
     ensures begun { IsLoosening nodes.now citing.now result (vec_capacity work.new) stamps.new work.new.items 0 }
     ensures base { (0 < result) × (result ≤ 2 ^ 62) }
-    ensures tallied { IsTallied nodes.now stamps.new wires.now tallies.new }
+    ensures tallied { IsTallied nodes.now stamps.new entries.now tallies.new }
     ensures work { Begins nodes.now citing.now stamps.old stamps.new work.new.items place }
     ensures capacity { vec_capacity work.old ≤ vec_capacity work.new }
 {
     work.clear();
     if next > LAST {
-        clear(nodes, wires, tallies, stamps);
+        clear(nodes, entries, tallies, stamps);
         add_all(work, nodes.len());
         return 1;
     }
@@ -176,8 +178,8 @@ fn begin(
 fn settle_touched(
     nodes: &[GraphNode],
     citing: &[Items<usize>],
-    wires: &Wires,
-    tallies: &mut [Tally],
+    entries: &[Items<Spot>],
+    tallies: &mut [NodeTallies],
     stamps: &mut [usize],
     work: &mut Vec<usize>,
     slots: &mut [usize],
@@ -185,42 +187,35 @@ fn settle_touched(
     place: usize,
 ) -> usize
     requires next { 0 < next }
-    requires tallied { IsTallied nodes.now stamps.old wires.now tallies.old }
+    requires tallied { IsTallied nodes.now stamps.old entries.now tallies.old }
     requires touched { IsTouched nodes.now stamps.old citing.now next (vec_capacity work.old) place }
     ensures kept { IsKept nodes.now stamps.new citing.now result (vec_capacity work.new) }
     ensures next { 0 < result }
-    ensures tallied { IsTallied nodes.now stamps.new wires.now tallies.new }
+    ensures tallied { IsTallied nodes.now stamps.new entries.now tallies.new }
     ensures touches { Touches nodes.now citing.now stamps.old stamps.new work.new.items place }
 {
-    let base = begin(nodes, citing, wires, tallies, stamps, work, next, place);
-    settle(nodes, citing, wires, tallies, stamps, work, slots, base);
+    let base = begin(nodes, citing, entries, tallies, stamps, work, next, place);
+    settle(nodes, citing, entries, tallies, stamps, work, slots, base);
     base + work.len()
 }
 
 fn all_met_at(
     nodes: &[GraphNode],
     stamps: &[usize],
-    wires: &Wires,
-    tallies: &[Tally],
+    entries: &[Items<Spot>],
+    tallies: &[NodeTallies],
     limit: usize,
     place: usize,
 ) -> bool
-    requires tallied { IsTallied nodes.now stamps.now wires.now tallies.now }
+    requires tallied { IsTallied nodes.now stamps.now entries.now tallies.now }
     requires low { (a : ℕ) → slice_index stamps.now a < limit }
     ensures { result
         ≡ node_is (λ (n : GraphNode). list_all
         (met_by (runs_at nodes.now) (off_at nodes.now) (before stamps.now limit)) n.links) nodes.now place }
 {
-    let numbers = citing_of(wires.numbers.as_slice(), place);
+    let own = tallies_at(tallies, place);
     match nodes.get(place) {
-        Some(node) => each_met(
-            nodes,
-            stamps,
-            limit,
-            tallies,
-            numbers,
-            node.links.as_slice(),
-        ),
+        Some(node) => each_met(nodes, stamps, limit, own, node.links.as_slice()),
         None => false,
     }
 }
@@ -236,13 +231,18 @@ impl KeptVerdicts {
         let mut work = Vec::with_capacity(alloc, room)?;
         let mut stamps = zeros(alloc, nodes.len())?;
         let mut slots = zeros(alloc, nodes.len())?;
-        let wires = wires_of(alloc, nodes.as_slice())?;
-        let mut tallies = tallies_of(alloc, nodes.as_slice(), stamps.as_slice(), &wires)?;
+        let entries = enter_all(alloc, nodes.as_slice())?;
+        let mut tallies = all_tallies(
+            alloc,
+            nodes.as_slice(),
+            stamps.as_slice(),
+            entries.as_slice(),
+        )?;
         add_all(&mut work, nodes.len());
         settle(
             nodes.as_slice(),
             citing.as_slice(),
-            &wires,
+            entries.as_slice(),
             tallies.as_mut_slice(),
             stamps.as_mut_slice(),
             &mut work,
@@ -254,10 +254,11 @@ impl KeptVerdicts {
             nodes,
             stamps,
             citing,
+            note_count: total,
             next,
             work,
             slots,
-            wires,
+            entries,
             tallies,
         })
     }
@@ -274,7 +275,7 @@ impl KeptVerdicts {
         change_flags(
             &mut self.nodes,
             self.stamps.as_slice(),
-            &self.wires,
+            self.entries.as_slice(),
             self.tallies.as_mut_slice(),
             place,
             flags,
@@ -282,7 +283,7 @@ impl KeptVerdicts {
         self.next = settle_touched(
             self.nodes.as_slice(),
             self.citing.as_slice(),
-            &self.wires,
+            self.entries.as_slice(),
             self.tallies.as_mut_slice(),
             self.stamps.as_mut_slice(),
             &mut self.work,
@@ -291,6 +292,59 @@ impl KeptVerdicts {
             place,
         );
         note(touched, self.work.as_slice(), self.nodes.len());
+    }
+
+    /// Gives other flags and other links to the instance at a place. Adds the places of all instances whose finding may
+    /// have changed to those that are touched. If memory runs out, nothing changes.
+    pub fn relink(
+        &mut self,
+        alloc: Global,
+        place: usize,
+        node: GraphNode,
+        touched: &mut Vec<usize>,
+    ) -> Result<(), AllocError>
+        requires within { place < length self.old }
+        requires room { length self.old ≤ vec_capacity touched.old }
+        ensures set { OnOk result (self.new ≡ slice_set self.old place node) }
+        ensures reaches { OnOk result (Reaches self.old self.new place touched.old.items touched.new.items) }
+        ensures room { vec_capacity touched.old ≤ vec_capacity touched.new }
+        ensures err { OnErr result (self.new ≡ self.old) }
+        ensures untouched { OnErr result (touched.new.items ≡ touched.old.items) }
+    {
+        let own = prepare(
+            alloc,
+            self.nodes.as_slice(),
+            self.stamps.as_slice(),
+            &mut self.citing,
+            &mut self.entries,
+            &mut self.note_count,
+            &mut self.work,
+            place,
+            node.links.as_slice(),
+        )?;
+        change_node(
+            &mut self.nodes,
+            self.stamps.as_slice(),
+            self.entries.as_slice(),
+            self.tallies.as_mut_slice(),
+            place,
+            node,
+            own,
+        );
+        self.next = settle_touched(
+            self.nodes.as_slice(),
+            self.citing.as_slice(),
+            self.entries.as_slice(),
+            self.tallies.as_mut_slice(),
+            self.stamps.as_mut_slice(),
+            &mut self.work,
+            self.slots.as_mut_slice(),
+            self.next,
+            place,
+        );
+        let count = self.nodes.len();
+        note(touched, self.work.as_slice(), count);
+        Ok(())
     }
 
     /// The instances alone.
@@ -338,7 +392,7 @@ impl KeptVerdicts {
         all_met_at(
             self.nodes.as_slice(),
             self.stamps.as_slice(),
-            &self.wires,
+            self.entries.as_slice(),
             self.tallies.as_slice(),
             self.next,
             place,

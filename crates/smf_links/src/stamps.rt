@@ -9,39 +9,39 @@ use crate::blockage::{parks, stamp_at};
 use crate::index::citing_of;
 use crate::link::GraphNode;
 use crate::tallies::put_stamp;
-use crate::tally::Tally;
-use crate::wires::Wires;
+use crate::tally::NodeTallies;
+use crate::wires::Spot;
 use smf_fmri::Items;
 
 #[tactic(auto, unfolding(crate::specs::Stamps::drops))]
 fn drops(
     nodes: &[GraphNode],
     stamps: &[usize],
-    wires: &Wires,
-    tallies: &[Tally],
+    entries: &[Items<Spot>],
+    tallies: &[NodeTallies],
     place: usize,
 ) -> bool
-    requires { IsTallied nodes.now stamps.now wires.now tallies.now }
+    requires { IsTallied nodes.now stamps.now entries.now tallies.now }
     ensures { result ≡ drops nodes.now stamps.now place }
 {
     let stamp = stamp_at(stamps, place);
-    0 < stamp && !parks(nodes, stamps, wires, tallies, stamp, place)
+    0 < stamp && !parks(nodes, stamps, entries, tallies, stamp, place)
 }
 
 #[tactic(auto, unfolding(crate::specs::Stamps::gains))]
 fn gains(
     nodes: &[GraphNode],
     stamps: &[usize],
-    wires: &Wires,
-    tallies: &[Tally],
+    entries: &[Items<Spot>],
+    tallies: &[NodeTallies],
     limit: usize,
     place: usize,
 ) -> bool
-    requires { IsTallied nodes.now stamps.now wires.now tallies.now }
+    requires { IsTallied nodes.now stamps.now entries.now tallies.now }
     ensures { result ≡ gains nodes.now stamps.now limit place }
 {
     let stamp = stamp_at(stamps, place);
-    !(0 < stamp) && parks(nodes, stamps, wires, tallies, limit, place)
+    !(0 < stamp) && parks(nodes, stamps, entries, tallies, limit, place)
 }
 
 fn set_stamp(stamps: &mut [usize], place: usize, stamp: usize)
@@ -110,28 +110,28 @@ fn add_each(work: &mut Vec<usize>, slots: &mut [usize], next: usize, places: &[u
 fn loosen(
     nodes: &[GraphNode],
     citing: &[Items<usize>],
-    wires: &Wires,
-    tallies: &mut [Tally],
+    entries: &[Items<Spot>],
+    tallies: &mut [NodeTallies],
     stamps: &mut [usize],
     work: &mut Vec<usize>,
     slots: &mut [usize],
     at: usize,
 )
-    requires tallied { IsTallied nodes.now stamps.old wires.now tallies.old }
+    requires tallied { IsTallied nodes.now stamps.old entries.now tallies.old }
     requires at { at < length work.old.items }
     requires room { drops nodes.now stamps.old (slice_index work.old.items at) ≡ true
         → length work.old.items + length (citing_at citing.now (slice_index work.old.items at)) ≤ vec_capacity
         work.old }
     ensures stamps { stamps.new ≡ stamps_by (drops nodes.now stamps.old (slice_index work.old.items at)) stamps.old
         (slice_index work.old.items at) 0 }
-    ensures tallied { IsTallied nodes.now stamps.new wires.now tallies.new }
+    ensures tallied { IsTallied nodes.now stamps.new entries.now tallies.new }
     ensures work { AddsBy (drops nodes.now stamps.old (slice_index work.old.items at)) (at + 1)
         (citing_at citing.now (slice_index work.old.items at)) work.old.items work.new.items }
     ensures capacity { vec_capacity work.old ≤ vec_capacity work.new }
 {
     let place = work[at];
-    if drops(nodes, stamps, wires, tallies, place) {
-        put_stamp(nodes, stamps, wires, tallies, place, 0);
+    if drops(nodes, stamps, entries, tallies, place) {
+        put_stamp(nodes, stamps, entries, tallies, place, 0);
         add_each(work, slots, at + 1, citing_of(citing, place));
     }
 }
@@ -140,15 +140,15 @@ fn loosen(
 fn spread(
     nodes: &[GraphNode],
     citing: &[Items<usize>],
-    wires: &Wires,
-    tallies: &mut [Tally],
+    entries: &[Items<Spot>],
+    tallies: &mut [NodeTallies],
     stamps: &mut [usize],
     work: &mut Vec<usize>,
     slots: &mut [usize],
     stamp: usize,
     at: usize,
 )
-    requires tallied { IsTallied nodes.now stamps.old wires.now tallies.old }
+    requires tallied { IsTallied nodes.now stamps.old entries.now tallies.old }
     requires at { at < length work.old.items }
     requires room { gains nodes.now stamps.old stamp (slice_index work.old.items at) ≡ true
         → length work.old.items + length (citing_at citing.now (slice_index work.old.items at)) ≤ vec_capacity
@@ -156,14 +156,14 @@ fn spread(
     ensures stamps { stamps.new
         ≡ stamps_by (gains nodes.now stamps.old stamp (slice_index work.old.items at)) stamps.old
         (slice_index work.old.items at) stamp }
-    ensures tallied { IsTallied nodes.now stamps.new wires.now tallies.new }
+    ensures tallied { IsTallied nodes.now stamps.new entries.now tallies.new }
     ensures work { AddsBy (gains nodes.now stamps.old stamp (slice_index work.old.items at)) (at + 1)
         (citing_at citing.now (slice_index work.old.items at)) work.old.items work.new.items }
     ensures capacity { vec_capacity work.old ≤ vec_capacity work.new }
 {
     let place = work[at];
-    if gains(nodes, stamps, wires, tallies, stamp, place) {
-        put_stamp(nodes, stamps, wires, tallies, place, stamp);
+    if gains(nodes, stamps, entries, tallies, stamp, place) {
+        put_stamp(nodes, stamps, entries, tallies, place, stamp);
         add_each(work, slots, at + 1, citing_of(citing, place));
     }
 }
@@ -172,27 +172,27 @@ fn spread(
 pub(crate) fn settle(
     nodes: &[GraphNode],
     citing: &[Items<usize>],
-    wires: &Wires,
-    tallies: &mut [Tally],
+    entries: &[Items<Spot>],
+    tallies: &mut [NodeTallies],
     stamps: &mut [usize],
     work: &mut Vec<usize>,
     slots: &mut [usize],
     base: usize,
 )
-    requires tallied { IsTallied nodes.now stamps.old wires.now tallies.old }
+    requires tallied { IsTallied nodes.now stamps.old entries.now tallies.old }
     requires base { (0 < base) × (base ≤ 2 ^ 62) }
     requires begun { IsLoosening nodes.now citing.now base (vec_capacity work.old) stamps.old work.old.items 0 }
     ensures size { length stamps.new ≡ length nodes.now }
     ensures low { (a : ℕ) → slice_index stamps.new a < base + length work.new.items }
     ensures sound { (a : ℕ) → IsSound nodes.now stamps.new a }
     ensures complete { (a : ℕ) → IsComplete nodes.now stamps.new a }
-    ensures tallied { IsTallied nodes.now stamps.new wires.now tallies.new }
+    ensures tallied { IsTallied nodes.now stamps.new entries.now tallies.new }
     ensures spread { Spreads nodes.now citing.now stamps.old work.old.items stamps.new work.new.items }
     ensures capacity { vec_capacity work.old ≤ vec_capacity work.new }
 {
     let mut at = 0;
     'loosening: while at < work.len() {
-        loosen(nodes, citing, wires, tallies, stamps, work, slots, at);
+        loosen(nodes, citing, entries, tallies, stamps, work, slots, at);
         at += 1;
     }
     let mut done = 0;
@@ -200,7 +200,7 @@ pub(crate) fn settle(
         spread(
             nodes,
             citing,
-            wires,
+            entries,
             tallies,
             stamps,
             work,

@@ -3,15 +3,14 @@
 ghost use Rattle.std.specs.List.{list_all};
 ghost use Rattle.std.specs.Prelude.{◌≡◌, ◌<◌, ◌||◌, IfOk, [], length, map, slice_set};
 ghost use Rattle.smf_links.specs.Blockage.{off_at, runs_at};
-ghost use Rattle.smf_links.specs.Stamps.{citing_at, has_stamp};
+ghost use Rattle.smf_links.specs.Stamps.{has_stamp};
 ghost use Rattle.smf_links.specs.Tallies.{entity_of};
-ghost use Rattle.smf_links.specs.Wires.{IsTallied, IsTalliedBut, IsWired, links_at, put_at, put_number, put_spot, tally_of};
+ghost use Rattle.smf_links.specs.Wires.{AreEntered, IsTallied, IsTalliedBut, links_at, node_tallies, put_at, put_spot, spots_at, tallies_at, tallies_of, tally_of};
 
 use crate::blockage::{all_off, any_runs, runs_at, stamp_at};
-use crate::index::citing_of;
-use crate::link::GraphNode;
-use crate::tally::{Entity, Tally};
-use crate::wires::{LinkOwner, Spot, Wires, cited_at, cited_by};
+use crate::link::{GraphNode, Link};
+use crate::tally::{Entity, NodeTallies, Tally};
+use crate::wires::{Spot, places_at, spots_of};
 use smf_fmri::Items;
 use std::alloc::{AllocError, Global};
 
@@ -72,86 +71,100 @@ fn tally_of(
     alloc: Global,
     nodes: &[GraphNode],
     stamps: &[usize],
-    owner: &LinkOwner,
+    link: &Link,
 ) -> Result<Tally, AllocError>
-    ensures { IfOk result
-        (λ t. t ≡ tally_of (links_at nodes.now) (runs_at nodes.now) (off_at nodes.now)
-        (has_stamp stamps.now) owner.now) }
+    ensures { IfOk result (λ t. t ≡ tally_of (runs_at nodes.now) (off_at nodes.now) (has_stamp stamps.now) link.now) }
 {
-    let cited = cited_at(nodes, owner.node, owner.link);
-    let entities = entities_of(alloc, nodes, stamps, cited)?;
+    let entities = entities_of(alloc, nodes, stamps, link.cited.as_slice())?;
     Ok(Tally::of(entities))
 }
 
-fn all_tallies(
-    alloc: Global,
-    nodes: &[GraphNode],
-    stamps: &[usize],
-    owners: &[LinkOwner],
-) -> Result<Vec<Tally>, AllocError>
-    ensures { IfOk result
-        (λ ts. ts.items
-        ≡ map (tally_of (links_at nodes.now) (runs_at nodes.now) (off_at nodes.now) (has_stamp stamps.now))
-        owners.now) }
-{
-    let mut tallies = Vec::new(alloc);
-    for owner in owners {
-        tallies.push(tally_of(alloc, nodes, stamps, owner)?)?;
-    }
-    Ok(tallies)
-}
-
-/// A tally for each link.
+/// A tally for each link of an instance.
 pub(crate) fn tallies_of(
     alloc: Global,
     nodes: &[GraphNode],
     stamps: &[usize],
-    wires: &Wires,
-) -> Result<Vec<Tally>, AllocError>
-    requires wired { IsWired (links_at nodes.now) (length nodes.now) wires.now }
-    requires size { length stamps.now ≡ length nodes.now }
-    ensures { IfOk result (λ ts. IsTallied nodes.now stamps.now wires.now ts.items) }
+    links: &[Link],
+) -> Result<NodeTallies, AllocError>
+    ensures { IfOk result
+        (λ ts. ts ≡ tallies_of (runs_at nodes.now) (off_at nodes.now) (has_stamp stamps.now) links.now) }
 {
-    let tallies = all_tallies(alloc, nodes, stamps, wires.owners.as_slice())?;
+    let mut tallies = Vec::new(alloc);
+    for link in links {
+        tallies.push(tally_of(alloc, nodes, stamps, link)?)?;
+    }
+    Ok(NodeTallies::of(tallies))
+}
+
+fn node_tallies(
+    alloc: Global,
+    nodes: &[GraphNode],
+    stamps: &[usize],
+    node: &GraphNode,
+) -> Result<NodeTallies, AllocError>
+    ensures { IfOk result
+        (λ ts. ts ≡ node_tallies (runs_at nodes.now) (off_at nodes.now) (has_stamp stamps.now) node.now) }
+{
+    let tallies = tallies_of(alloc, nodes, stamps, node.links.as_slice())?;
     Ok(tallies)
 }
 
-fn put(tallies: &mut [Tally], tally: usize, entity: usize, is: Entity)
-    ensures { tallies.new ≡ put_at tallies.old tally entity is }
+fn each_tallies(
+    alloc: Global,
+    nodes: &[GraphNode],
+    stamps: &[usize],
+) -> Result<Vec<NodeTallies>, AllocError>
+    ensures { IfOk result
+        (λ tss. tss.items
+        ≡ map (node_tallies (runs_at nodes.now) (off_at nodes.now) (has_stamp stamps.now)) nodes.now) }
 {
-    if tally < tallies.len() {
-        tallies[tally].set(entity, is);
+    let mut tallies = Vec::new(alloc);
+    for node in nodes {
+        tallies.push(node_tallies(alloc, nodes, stamps, node)?)?;
+    }
+    Ok(tallies)
+}
+
+/// A tally for each link of each instance.
+pub(crate) fn all_tallies(
+    alloc: Global,
+    nodes: &[GraphNode],
+    stamps: &[usize],
+    entries: &[Items<Spot>],
+) -> Result<Vec<NodeTallies>, AllocError>
+    requires wired { AreEntered (links_at nodes.now) (length nodes.now) entries.now }
+    requires size { length stamps.now ≡ length nodes.now }
+    ensures { IfOk result (λ tss. IsTallied nodes.now stamps.now entries.now tss.items) }
+{
+    let tallies = each_tallies(alloc, nodes, stamps)?;
+    Ok(tallies)
+}
+
+/// The tallies of an instance's links.
+pub(crate) fn tallies_at(tallies: &[NodeTallies], place: usize) -> &[Tally]
+    ensures { result.now ≡ tallies_at tallies.now place }
+{
+    match tallies.get(place) {
+        Some(own) => own.as_slice(),
+        None => &[],
     }
 }
 
-fn put_spot(
-    nodes: &[GraphNode],
-    stamps: &[usize],
-    owners: &[LinkOwner],
-    tallies: &mut [Tally],
-    spot: &Spot,
-)
+fn put(tallies: &mut [NodeTallies], spot: &Spot, is: Entity)
+    ensures { tallies.new ≡ put_at tallies.old spot.now is }
+{
+    if spot.node < tallies.len() {
+        tallies[spot.node].set(spot.link, spot.entity, is);
+    }
+}
+
+fn put_spot(nodes: &[GraphNode], stamps: &[usize], tallies: &mut [NodeTallies], spot: &Spot)
     ensures { tallies.new ≡ put_spot (links_at nodes.now) (runs_at nodes.now) (off_at nodes.now)
-        (has_stamp stamps.now) owners.now tallies.old spot.now }
+        (has_stamp stamps.now) tallies.old spot.now }
 {
-    if let Some(places) = cited_by(nodes, owners, spot.tally, spot.entity) {
+    if let Some(places) = places_at(nodes, spot) {
         let entity = entity_of(nodes, stamps, places.as_slice());
-        put(tallies, spot.tally, spot.entity, entity);
-    }
-}
-
-fn put_number(
-    nodes: &[GraphNode],
-    stamps: &[usize],
-    wires: &Wires,
-    tallies: &mut [Tally],
-    number: usize,
-)
-    ensures { tallies.new ≡ put_number (links_at nodes.now) (runs_at nodes.now) (off_at nodes.now)
-        (has_stamp stamps.now) wires.now tallies.old number }
-{
-    if let Some(spot) = wires.spots.as_slice().get(number) {
-        put_spot(nodes, stamps, wires.owners.as_slice(), tallies, spot);
+        put(tallies, spot, entity);
     }
 }
 
@@ -159,17 +172,16 @@ fn put_number(
 pub(crate) fn retally(
     nodes: &[GraphNode],
     stamps: &[usize],
-    wires: &Wires,
-    tallies: &mut [Tally],
+    entries: &[Items<Spot>],
+    tallies: &mut [NodeTallies],
     place: usize,
 )
-    requires wired { IsWired (links_at nodes.now) (length nodes.now) wires.now }
-    requires but { IsTalliedBut nodes.now stamps.now wires.now (citing_at wires.now.entries place) tallies.old }
-    ensures { IsTalliedBut nodes.now stamps.now wires.now [] tallies.new }
+    requires { IsTalliedBut nodes.now stamps.now (spots_at entries.now place) tallies.old }
+    ensures { IsTalliedBut nodes.now stamps.now [] tallies.new }
 {
-    let numbers = citing_of(wires.entries.as_slice(), place);
-    for number in numbers {
-        put_number(nodes, stamps, wires, tallies, *number);
+    let spots = spots_of(entries, place);
+    for spot in spots {
+        put_spot(nodes, stamps, tallies, spot);
     }
 }
 
@@ -177,17 +189,17 @@ pub(crate) fn retally(
 pub(crate) fn put_stamp(
     nodes: &[GraphNode],
     stamps: &mut [usize],
-    wires: &Wires,
-    tallies: &mut [Tally],
+    entries: &[Items<Spot>],
+    tallies: &mut [NodeTallies],
     place: usize,
     stamp: usize,
 )
-    requires { IsTallied nodes.now stamps.old wires.now tallies.old }
+    requires { IsTallied nodes.now stamps.old entries.now tallies.old }
     ensures stamps { stamps.new ≡ slice_set stamps.old place stamp }
-    ensures tallied { IsTallied nodes.now stamps.new wires.now tallies.new }
+    ensures tallied { IsTallied nodes.now stamps.new entries.now tallies.new }
 {
     if place < stamps.len() {
         stamps[place] = stamp;
-        retally(nodes, stamps, wires, tallies, place);
+        retally(nodes, stamps, entries, tallies, place);
     }
 }

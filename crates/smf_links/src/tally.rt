@@ -3,6 +3,7 @@
 ghost use Rattle.std.specs.List.{list_all, list_any};
 ghost use Rattle.std.specs.Prelude.{◌≡◌, ◌+◌, ◌<◌, ◌^◌, if◌then◌else◌, slice_set, count_by};
 ghost use Rattle.smf_links.specs.Tallies.{entities_block, entities_meet, off, is_parked_entity, runs, is_settled_entity};
+ghost use Rattle.smf_links.specs.Wires.{put_in};
 
 use crate::grouping::Grouping;
 use std::marker::Model;
@@ -36,6 +37,21 @@ impl Model for Tally {
     ghost view = { λ t. t.entities.items };
 
     ghost invariant = { λ t. AreCounted t.entities.items t.run t.park t.off t.settle };
+}
+
+/// The tallies of the links of an instance.
+#[derive(Drop)]
+pub struct NodeTallies {
+    tallies: Vec<Tally>,
+}
+
+impl Model for NodeTallies {
+    ghost use Rattle.std.specs.Prelude.{List};
+    ghost use Rattle.smf_links.specs.declared.tally.Entity.{Entity};
+
+    ghost Value = { List (List Entity) };
+
+    ghost view = { λ t. t.tallies.items };
 }
 
 /// A count, after one of those that are counted changed.
@@ -162,6 +178,29 @@ impl Tally {
             Grouping::RequireAny => self.any_runs(),
             Grouping::OptionalAll => self.all_settled(),
             Grouping::ExcludeAll => self.all_off(),
+        }
+    }
+}
+
+impl NodeTallies {
+    pub fn of(tallies: Vec<Tally>) -> NodeTallies
+        ensures { result ≡ tallies.items }
+    {
+        NodeTallies { tallies }
+    }
+
+    pub fn as_slice(&self) -> &[Tally]
+        ensures { result.now ≡ self.now }
+    {
+        self.tallies.as_slice()
+    }
+
+    /// Replaces an entity of a link, if there is one.
+    pub fn set(&mut self, link: usize, place: usize, entity: Entity)
+        ensures { self.new ≡ put_in self.old link place entity }
+    {
+        if link < self.tallies.len() {
+            self.tallies[link].set(place, entity);
         }
     }
 }

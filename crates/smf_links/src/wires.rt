@@ -1,42 +1,22 @@
-//! The tallies of links by numbers, and which of their entities stand for each place.
+//! Which entities of links stand for each place.
 
 ghost use Rattle.std.specs.Option.{option_copied};
-ghost use Rattle.std.specs.Prelude.{◌≡◌, ◌<◌, ℕ, IfOk, OnOk, Some, length, slice_get, slice_index};
-ghost use Rattle.smf_links.specs.Wires.{AreEntered, AreNumbered, AreSpotted, HasSpot, IsWired, cited_at, cited_of, links_at, owner_of, places_of};
+ghost use Rattle.std.specs.Prelude.{◌≡◌, IfOk, OnErr, OnOk, length, true};
+ghost use Rattle.smf_links.specs.Wires.{AreEntered, EntersCited, EntersLinks, EntersPlaces, HasSpot, IsAbsent, KeepsSpots, cited_in, links_at, places_at, spots_at, with_spot};
 
-use crate::index::{empty, note_places};
 use crate::link::{GraphNode, Link};
 use smf_fmri::Items;
 use std::alloc::{AllocError, Global};
 
-/// The instance and the link that a tally is of.
-#[derive(Clone, Copy)]
-pub struct LinkOwner {
-    pub node: usize,
-    pub link: usize,
-}
-
-/// An entity of a tally.
+/// An entity of a link of an instance.
 #[derive(Clone, Copy)]
 pub struct Spot {
-    pub tally: usize,
+    pub node: usize,
+    pub link: usize,
     pub entity: usize,
 }
 
-/// Tallies and entities by their numbers.
-#[derive(Drop)]
-pub struct Wires {
-    /// For each tally whose it is.
-    pub owners: Items<LinkOwner>,
-    /// For each instance the tallies of its links.
-    pub numbers: Items<Items<usize>>,
-    /// Each entity of each tally.
-    pub spots: Items<Spot>,
-    /// For each place the entities that stand for it.
-    pub entries: Items<Items<usize>>,
-}
-
-fn links_of(nodes: &[GraphNode], node: usize) -> &[Link]
+pub(crate) fn links_of(nodes: &[GraphNode], node: usize) -> &[Link]
     ensures { result.now ≡ links_at nodes.now node }
 {
     match nodes.get(node) {
@@ -45,139 +25,143 @@ fn links_of(nodes: &[GraphNode], node: usize) -> &[Link]
     }
 }
 
-pub(crate) fn cited_at(nodes: &[GraphNode], node: usize, link: usize) -> &[Items<usize>]
-    ensures { result.now ≡ cited_at (links_at nodes.now) node link }
+fn cited_in(links: &[Link], link: usize) -> &[Items<usize>]
+    ensures { result.now ≡ cited_in links.now link }
 {
-    match links_of(nodes, node).get(link) {
+    match links.get(link) {
         Some(link) => link.cited.as_slice(),
         None => &[],
     }
 }
 
-fn cited_of<'a>(nodes: &'a [GraphNode], owners: &[LinkOwner], tally: usize) -> &'a [Items<usize>]
-    ensures { result.now ≡ cited_of (links_at nodes.now) owners.now tally }
-{
-    match owners.get(tally) {
-        Some(owner) => cited_at(nodes, owner.node, owner.link),
-        None => &[],
-    }
-}
-
 /// The places that an entity stands for.
-pub(crate) fn cited_by<'a>(
-    nodes: &'a [GraphNode],
-    owners: &[LinkOwner],
-    tally: usize,
-    entity: usize,
-) -> Option<&'a Items<usize>>
-    ensures { option_copied result ≡ slice_get (cited_of (links_at nodes.now) owners.now tally) entity }
+pub(crate) fn places_at<'a>(nodes: &'a [GraphNode], spot: &Spot) -> Option<&'a Items<usize>>
+    ensures { option_copied result ≡ places_at (links_at nodes.now) spot.now }
 {
-    cited_of(nodes, owners, tally).get(entity)
+    let links = links_of(nodes, spot.node);
+    cited_in(links, spot.link).get(spot.entity)
 }
 
-fn places_of<'a>(nodes: &'a [GraphNode], owners: &[LinkOwner], spot: &Spot) -> &'a [usize]
-    ensures { result.now ≡ places_of (links_at nodes.now) owners.now spot.now }
+/// The entities that stand for a place.
+pub(crate) fn spots_of(entries: &[Items<Spot>], place: usize) -> &[Spot]
+    ensures { result.now ≡ spots_at entries.now place }
 {
-    match cited_by(nodes, owners, spot.tally, spot.entity) {
-        Some(places) => places.as_slice(),
+    match entries.get(place) {
+        Some(spots) => spots.as_slice(),
         None => &[],
     }
 }
 
-/// Numbers the links of an instance after others.
-fn number_links(
-    alloc: Global,
-    owners: &mut Vec<LinkOwner>,
-    node: usize,
-    count: usize,
-) -> Result<Items<usize>, AllocError>
-    ensures kept { OnOk result ((k : ℕ) (o : LinkOwner) → slice_get owners.old.items k ≡ Some o
-        → slice_get owners.new.items k ≡ Some o) }
-    ensures numbered { IfOk result (λ own. (j : ℕ) → j < count
-        → slice_get owners.new.items (slice_index own j) ≡ Some (owner_of node j)) }
+fn is_same(one: &Spot, other: &Spot) -> bool
+    ensures { result ≡ true → one.now ≡ other.now }
 {
-    let mut own = Items::new(alloc);
-    for link in 0..count {
-        own.push(owners.len())?;
-        owners.push(LinkOwner { node, link })?;
-    }
-    Ok(own)
+    one.node == other.node && one.link == other.link && one.entity == other.entity
 }
 
-/// Numbers the links of all instances.
-fn number_all(
-    alloc: Global,
-    nodes: &[GraphNode],
-    owners: &mut Vec<LinkOwner>,
-) -> Result<Vec<Items<usize>>, AllocError>
-    ensures { IfOk result (λ numbers. AreNumbered (links_at nodes.now) owners.new.items numbers.items) }
+fn has_spot(spots: &[Spot], spot: &Spot) -> bool
+    ensures { result ≡ true → IsAbsent spot.now spots.now → ⊥ }
 {
-    let mut numbers = Vec::new(alloc);
-    for (at, node) in nodes.iter().enumerate() {
-        let own = number_links(alloc, owners, at, node.links.len())?;
-        numbers.push(own)?;
+    for other in spots {
+        if is_same(other, spot) {
+            return true;
+        }
     }
-    Ok(numbers)
+    false
 }
 
-/// Puts each entity of a tally after others.
-fn spot_each(spots: &mut Vec<Spot>, tally: usize, count: usize) -> Result<(), AllocError>
-    ensures kept { OnOk result ((k : ℕ) (s : Spot) → slice_get spots.old.items k ≡ Some s
-        → slice_get spots.new.items k ≡ Some s) }
-    ensures each { OnOk result ((e : ℕ) → e < count → HasSpot spots.new.items tally e) }
+fn push_spot(entries: &mut Vec<Items<Spot>>, spot: &Spot, place: usize) -> Result<(), AllocError>
+    ensures ok { OnOk result (entries.new.items ≡ with_spot entries.old.items spot.now place) }
+    ensures err { OnErr result (entries.new.items ≡ entries.old.items) }
 {
-    for entity in 0..count {
-        spots.push(Spot { tally, entity })?;
+    if place < entries.len() {
+        let spots = &mut entries[place];
+        spots.push(*spot)?;
     }
     Ok(())
 }
 
-fn spot_all(
-    alloc: Global,
-    nodes: &[GraphNode],
-    owners: &[LinkOwner],
-) -> Result<Vec<Spot>, AllocError>
-    ensures { IfOk result (λ spots. AreSpotted (links_at nodes.now) owners.now spots.items) }
+/// Enters an entity at a place. If it is to look, it enters none that is there.
+fn enter(
+    entries: &mut Vec<Items<Spot>>,
+    spot: &Spot,
+    looks: bool,
+    place: usize,
+) -> Result<(), AllocError>
+    ensures keeps { KeepsSpots entries.old.items entries.new.items }
+    ensures enters { OnOk result (HasSpot entries.new.items spot.now place) }
 {
-    let mut spots = Vec::new(alloc);
-    for (at, owner) in owners.iter().enumerate() {
-        spot_each(
-            &mut spots,
-            at,
-            cited_at(nodes, owner.node, owner.link).len(),
-        )?;
+    if looks && has_spot(spots_of(entries.as_slice(), place), spot) {
+        return Ok(());
     }
-    Ok(spots)
+    push_spot(entries, spot, place)?;
+    Ok(())
 }
 
-fn enter_all(
-    alloc: Global,
-    nodes: &[GraphNode],
-    owners: &[LinkOwner],
-    spots: &[Spot],
-) -> Result<Vec<Items<usize>>, AllocError>
-    ensures { IfOk result
-        (λ entries. AreEntered (links_at nodes.now) (length nodes.now) owners.now spots.now entries.items) }
+fn enter_places(
+    entries: &mut Vec<Items<Spot>>,
+    spot: &Spot,
+    looks: bool,
+    places: &[usize],
+) -> Result<(), AllocError>
+    ensures keeps { KeepsSpots entries.old.items entries.new.items }
+    ensures enters { OnOk result (EntersPlaces entries.new.items spot.now places.now) }
 {
-    let mut entries = empty(alloc, nodes.len())?;
-    for (at, spot) in spots.iter().enumerate() {
-        note_places(&mut entries, at, places_of(nodes, owners, spot))?;
+    for place in places {
+        enter(entries, spot, looks, *place)?;
+    }
+    Ok(())
+}
+
+fn enter_cited(
+    entries: &mut Vec<Items<Spot>>,
+    node: usize,
+    link: usize,
+    looks: bool,
+    cited: &[Items<usize>],
+) -> Result<(), AllocError>
+    ensures keeps { KeepsSpots entries.old.items entries.new.items }
+    ensures enters { OnOk result (EntersCited entries.new.items node link cited.now) }
+{
+    for (entity, places) in cited.iter().enumerate() {
+        let spot = Spot { node, link, entity };
+        enter_places(entries, &spot, looks, places.as_slice())?;
+    }
+    Ok(())
+}
+
+/// Enters the entities of the links of an instance. If it is to look, it enters none that is there.
+pub(crate) fn enter_links(
+    entries: &mut Vec<Items<Spot>>,
+    node: usize,
+    looks: bool,
+    links: &[Link],
+) -> Result<(), AllocError>
+    ensures keeps { KeepsSpots entries.old.items entries.new.items }
+    ensures enters { OnOk result (EntersLinks entries.new.items node links.now) }
+{
+    for (at, link) in links.iter().enumerate() {
+        enter_cited(entries, node, at, looks, link.cited.as_slice())?;
+    }
+    Ok(())
+}
+
+fn no_spots(alloc: Global, count: usize) -> Result<Vec<Items<Spot>>, AllocError>
+    ensures { IfOk result (λ ws. length ws.items ≡ count) }
+{
+    let mut entries = Vec::with_capacity(alloc, count)?;
+    for _ in 0..count {
+        entries.push(Items::new(alloc))?;
     }
     Ok(entries)
 }
 
-/// Numbers all links and entities.
-pub(crate) fn wires_of(alloc: Global, nodes: &[GraphNode]) -> Result<Wires, AllocError>
-    ensures { IfOk result (λ w. IsWired (links_at nodes.now) (length nodes.now) w) }
+/// For each place the entities that stand for it.
+pub(crate) fn enter_all(alloc: Global, nodes: &[GraphNode]) -> Result<Vec<Items<Spot>>, AllocError>
+    ensures { IfOk result (λ ws. AreEntered (links_at nodes.now) (length nodes.now) ws.items) }
 {
-    let mut owners = Vec::new(alloc);
-    let numbers = number_all(alloc, nodes, &mut owners)?;
-    let spots = spot_all(alloc, nodes, owners.as_slice())?;
-    let entries = enter_all(alloc, nodes, owners.as_slice(), spots.as_slice())?;
-    Ok(Wires {
-        owners: Items::from_vec(owners),
-        numbers: Items::from_vec(numbers),
-        spots: Items::from_vec(spots),
-        entries: Items::from_vec(entries),
-    })
+    let mut entries = no_spots(alloc, nodes.len())?;
+    for (at, node) in nodes.iter().enumerate() {
+        enter_links(&mut entries, at, false, node.links.as_slice())?;
+    }
+    Ok(entries)
 }

@@ -8,7 +8,7 @@ pub loop-at-preserved : goal.loop-at-preserved
 loop-at-preserved c =
     let P : List Link → Type 0 =
     λ l. Notes (λ p. Avoid p l) c.loop-at.at c.loop-at.citing.items c.note_links.new.citing.items in
-    let step : P c.index-nodes-at.result.links = subst P c.as_slice.ensures c.in_ok-note_links.ensures in
+    let step : P c.index-nodes-at.result.links = subst P c.as_slice.ensures c.in_ok-note_links.ensures.notes in
     begun_more c.args.nodes.now c.loop-at.citing.items c.note_links.new.citing.items c.loop-at.at
     c.index-nodes-at.result c.index-nodes-at.is step c.loop-at.invariant
 

@@ -7,5 +7,5 @@ abbrev pub invariant-loop-place : goal.invariant-loop-place
 invariant-loop-place l = record {
   size : length l.stamps ≡ length l.fn.stamps;
   none : (k : ℕ) → k < l.place → slice_index l.stamps k ≡ 0;
-  tallied : IsTallied l.nodes l.stamps l.wires l.tallies;
+  tallied : IsTallied l.nodes l.stamps l.entries l.tallies;
 }

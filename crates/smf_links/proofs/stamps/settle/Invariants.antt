@@ -9,7 +9,7 @@ invariant-loosening l = record {
   loose : IsLoosening l.nodes l.citing l.base (vec_capacity l.fn.work) l.stamps l.work.items l.at;
   spread : Spreads l.nodes l.citing l.fn.stamps l.fn.work.items l.stamps l.work.items;
   room : vec_capacity l.fn.work ≤ vec_capacity l.work;
-  tallied : IsTallied l.nodes l.stamps l.wires l.tallies;
+  tallied : IsTallied l.nodes l.stamps l.entries l.tallies;
 }
 
 abbrev pub decreases-loosening : goal.decreases-loosening
@@ -21,7 +21,7 @@ invariant-spreading l = record {
   within : l.done ≤ length l.work.items;
   spread : Spreads l.nodes l.citing l.fn.stamps l.fn.work.items l.stamps l.work.items;
   room : vec_capacity l.fn.work ≤ vec_capacity l.work;
-  tallied : IsTallied l.nodes l.stamps l.wires l.tallies;
+  tallied : IsTallied l.nodes l.stamps l.entries l.tallies;
 }
 
 abbrev pub decreases-spreading : goal.decreases-spreading

@@ -1,30 +1,29 @@
-use Rattle.std.proofs.Common.{◌∙◌, ℕ, List, ap, get_or, subst, sym}
+use Rattle.std.proofs.Common.{List, get_or, length, subst, sym}
 use Rattle.std.proofs.lemmas.List.{get_or_default}
+use Rattle.smf_links.specs.declared.wires.Spot.{Spot}
 use Rattle.smf_links.specs.Blockage.{off_at, runs_at}
-use Rattle.smf_links.specs.Stamps.{citing_at, has_stamp}
-use Rattle.smf_links.specs.Wires.{IsTalliedBut, links_at}
+use Rattle.smf_links.specs.Stamps.{has_stamp}
+use Rattle.smf_links.specs.Wires.{IsTalliedBut, links_at, spot_of}
 use Rattle.smf_links.proofs.TallyUpdates.{tallied_end, tallied_more}
 use Rattle.smf_links.proofs.tallies.retally.Goals as goal
 
-pub loop-number-init : goal.loop-number-init
-loop-number-init c =
-    let F : List ℕ → Type 0 =
-    λ l. IsTalliedBut c.args.nodes.now c.args.stamps.now c.args.wires.now l c.args.tallies.now in
-    subst F (sym (c.citing_of-numbers.ensures
-    ∙ ap (λ (es : List (List ℕ)). citing_at es c.args.place) c.as_slice.ensures)) c.requires.but
+pub loop-spot-init : goal.loop-spot-init
+loop-spot-init c =
+    let F : List Spot → Type 0 = λ l. IsTalliedBut c.args.nodes.now c.args.stamps.now l c.args.tallies.now in
+    subst F (sym c.spots_of-spots.ensures) c.requires
 
-pub loop-number-preserved : goal.loop-number-preserved
-loop-number-preserved c =
-    let left = c.citing_of-numbers.result.now in
-    let k = get_or left c.loop-number.number-index 0 in
-    tallied_more (links_at c.args.nodes.now) (runs_at c.args.nodes.now) (off_at c.args.nodes.now)
-    (has_stamp c.args.stamps.now) c.args.wires.now c.loop-number.tallies c.put_number.new.tallies
-    left c.loop-number.number-index k c.loop-number-test.true
-    (get_or_default left c.loop-number.number-index 0 k c.loop-number-test.true) c.put_number.ensures
-    c.loop-number.invariant
+pub loop-spot-preserved : goal.loop-spot-preserved
+loop-spot-preserved c =
+    let left = c.spots_of-spots.result.now in
+    let spot = get_or left c.loop-spot.spot-index (spot_of 0 0 0) in
+    tallied_more (links_at c.args.nodes.now) (length c.args.nodes.now) (runs_at c.args.nodes.now)
+    (off_at c.args.nodes.now) (has_stamp c.args.stamps.now) c.loop-spot.tallies c.put_spot.new.tallies
+    left c.loop-spot.spot-index spot c.loop-spot-test.true
+    (get_or_default left c.loop-spot.spot-index (spot_of 0 0 0) spot c.loop-spot-test.true) c.put_spot.ensures
+    c.loop-spot.invariant
 
 pub returns : goal.returns
 returns c =
-    tallied_end (links_at c.args.nodes.now) (runs_at c.args.nodes.now) (off_at c.args.nodes.now)
-    (has_stamp c.args.stamps.now) c.args.wires.now c.loop-number.tallies
-    c.citing_of-numbers.result.now c.loop-number.number-index c.loop-number-test.false c.loop-number.invariant
+    tallied_end (links_at c.args.nodes.now) (length c.args.nodes.now) (runs_at c.args.nodes.now)
+    (off_at c.args.nodes.now) (has_stamp c.args.stamps.now) c.loop-spot.tallies
+    c.spots_of-spots.result.now c.loop-spot.spot-index c.loop-spot-test.false c.loop-spot.invariant

@@ -1,7 +1,11 @@
-use Rattle.std.proofs.Common.{length}
-use Rattle.smf_links.specs.Wires.{links_at}
-use Rattle.smf_links.proofs.LinkNumbers.{AreEnteredTo}
+use Rattle.std.proofs.Common.{◌≡◌, length}
+use Rattle.smf_links.specs.declared.link.GraphNode.{GraphNode}
+use Rattle.smf_links.specs.Wires.{EntersLinks}
+use Rattle.smf_links.proofs.Spots.{Each}
 use Rattle.smf_links.proofs.wires.enter_all.Given as goal
 
 abbrev pub invariant-loop-at : goal.invariant-loop-at
-invariant-loop-at l = AreEnteredTo (links_at l.nodes) (length l.nodes) l.owners l.spots l.entries.items l.at
+invariant-loop-at l = record {
+  size : length l.entries.items ≡ length l.nodes;
+  enters : Each (λ a (n : GraphNode). EntersLinks l.entries.items a n.links) l.nodes l.at;
+}
