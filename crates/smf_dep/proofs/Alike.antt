@@ -13,7 +13,8 @@ use Rattle.smf_dep.specs.declared.dependency.Dependency.{Dependency}
 use Rattle.smf_dep.specs.declared.member.GraphMember.{GraphMember}
 use Rattle.smf_dep.specs.Members.{HasNumbersOf, HasStateOf, IsOfItem, IsReadFrom, composed_in, dependencies_in, member_of, member_with, members, snapshot_in, wires}
 use Rattle.smf_dep.specs.Methods.{has_unfit_methods}
-use Rattle.smf_dep.specs.Places.{AreCyclesOf, IsBeginning, all_links, edges_in, edges_of, links_among, links_of, node_of, nodes_of, places, places_from}
+use Rattle.smf_dep.specs.Names.{instance_name}
+use Rattle.smf_dep.specs.Places.{IsBeginning, all_links, edges_in, edges_of, links_among, links_of, node_of, nodes_of, places, places_from}
 use Rattle.smf_dep.specs.Verdicts.{cites_by, is_cited}
 use Rattle.smf_dep.proofs.Behind.{drop_all}
 
@@ -132,18 +133,29 @@ cites_same false e m k h = ap (λ n. pointwise nat_eq (service_of n) (service_of
 pub cited_same : (e : List ℕ) (m k : GraphMember) → m.name ≡ k.name → is_cited e m ≡ is_cited e k
 cited_same e m k h = cites_same _ e m k h
 
-from_same : (e : List ℕ) (at : ℕ) (ms ks : List GraphMember) → map wires ms ≡ map wires ks
+from_named : (e : List ℕ) (at : ℕ) (ms ks : List GraphMember) → map instance_name ms ≡ map instance_name ks
     → places_from at e ms ≡ places_from at e ks
-from_same e at [] [] h = refl
-from_same e at [] (k ∷ ks) h = absurd cc
-from_same e at (m ∷ ms) [] h = absurd cc
-from_same e at (m ∷ ms) (k ∷ ks) h =
-    λ i. if cited_same e m k (name_same m k ms ks h) i then at ∷ from_same e (at + 1) ms ks (rest_same m k ms ks h) i
-    else from_same e (at + 1) ms ks (rest_same m k ms ks h) i
+from_named e at [] [] h = refl
+from_named e at [] (k ∷ ks) h = absurd cc
+from_named e at (m ∷ ms) [] h = absurd cc
+from_named e at (m ∷ ms) (k ∷ ks) h =
+    let first : m.name ≡ k.name = cc in
+    let rest : map instance_name ms ≡ map instance_name ks = cc in
+    λ i. if cited_same e m k first i then at ∷ from_named e (at + 1) ms ks rest i
+    else from_named e (at + 1) ms ks rest i
+
+pub places_named : (ms ks : List GraphMember) → map instance_name ms ≡ map instance_name ks → places ms ≡ places ks
+unfolding places
+places_named ms ks h = fun_ext (λ e. from_named e 0 ms ks h)
+
+names_in : (ms ks : List GraphMember) → map wires ms ≡ map wires ks → map instance_name ms ≡ map instance_name ks
+names_in [] [] h = refl
+names_in [] (k ∷ ks) h = absurd cc
+names_in (m ∷ ms) [] h = absurd cc
+names_in (m ∷ ms) (k ∷ ks) h = λ i. name_same m k ms ks h i ∷ names_in ms ks (rest_same m k ms ks h) i
 
 pub places_same : (ms ks : List GraphMember) → map wires ms ≡ map wires ks → places ms ≡ places ks
-unfolding places
-places_same ms ks h = fun_ext (λ e. from_same e 0 ms ks h)
+places_same ms ks h = places_named ms ks (names_in ms ks h)
 
 pub links_by : (ms ks : List GraphMember) → places ms ≡ places ks → (ds : Option (List Dependency))
     → links_of ms ds ≡ links_of ks ds
@@ -189,11 +201,8 @@ by_links : (ns : List GraphNode) → edges_of ns ≡ map edges_in (all_links ns)
 by_links [] = refl
 by_links (n ∷ ns) = ap (λ l. edges_in n.links ∷ l) (by_links ns)
 
-pub cycles_kept : (ms ks : List GraphMember) (ns now : List GraphNode) (flags : List Bool) → ns ≡ nodes_of ks
-    → now ≡ nodes_of ms → map wires ms ≡ map wires ks
-    → AreCyclesOf ns flags → AreCyclesOf now flags
-cycles_kept ms ks ns now flags e g h are =
-    let same : edges_of ns ≡ edges_of now =
-    by_links ns ∙ ap (map edges_in) (links_alike ms ks ns e h ∙ sym (links_in ms ms) ∙ ap all_links (sym g))
-    ∙ sym (by_links now) in
-    record { cycles = λ l t. are.cycles l (same ∙ t) }
+pub edges_kept : (ms ks : List GraphMember) (ns now : List GraphNode) (es : List (List ℕ)) → ns ≡ nodes_of ks
+    → now ≡ nodes_of ms → map wires ms ≡ map wires ks → es ≡ edges_of ns → es ≡ edges_of now
+edges_kept ms ks ns now es e g h are =
+    are ∙ by_links ns ∙ ap (map edges_in) (links_alike ms ks ns e h ∙ sym (links_in ms ms) ∙ ap all_links (sym g))
+    ∙ sym (by_links now)

@@ -13,7 +13,7 @@ use Rattle.smf_links.specs.declared.link.GraphNode.{GraphNode}
 use Rattle.smf_dep.specs.declared.dependency.Dependency.{Dependency}
 use Rattle.smf_dep.specs.declared.member.GraphMember.{GraphMember}
 use Rattle.smf_dep.specs.Cycles.{IsAmong, IsPath, asked_for, asks_for, cites, excludes, on_cycle}
-use Rattle.smf_dep.specs.Places.{AreCycles, edges_in, edges_of, flag_at, places_in_lists, link_of, links_of, node_of, nodes_of, places, places_from}
+use Rattle.smf_dep.specs.Places.{AreCycles, AreCyclesOf, edges_in, edges_of, flag_at, places_in_lists, link_of, links_of, node_of, nodes_of, places, places_from}
 use Rattle.smf_dep.specs.Verdicts.{is_cited}
 use Rattle.smf_dep.proofs.Looked.{any_mapped}
 use Rattle.smf_dep.proofs.LawCycles.{found, listed}
@@ -247,3 +247,8 @@ flags_are ms es flags e exact =
           (exact a (subst (λ x. a < length x) (sym e)
           (subst (λ n. a < n) (sym (edges_length ms)) (slice_get_within ms a m h)))));
     }
+
+-- the same of edges whose flags are known
+pub cycles_by : (ms : List GraphMember) (es : List (List ℕ)) (flags : List Bool) → es ≡ edges_of (nodes_of ms)
+    → AreCyclesOf es flags → AreCycles ms flags
+cycles_by ms es flags e h = flags_are ms es flags e h.exact

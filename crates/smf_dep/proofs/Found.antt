@@ -17,6 +17,7 @@ use Rattle.smf_dep.specs.declared.member.GraphMember.{GraphMember}
 use Rattle.smf_dep.specs.Cycles.{on_cycle}
 use Rattle.smf_dep.specs.Places.{IsGraph, finding_at, edges_of, finding_of, flag_at, link_of, link_stops, links_of, node_of, node_stops, nodes_of}
 use Rattle.smf_dep.specs.Verdicts.{all_met, all_met_in, any_blocked, any_must_stop, is_blocked, is_idle, is_met, is_off, is_parked, is_running, is_waiting, must_stop, parked_in, verdict, verdict_by}
+use Rattle.smf_dep.proofs.CyclePlaces.{cycles_by}
 use Rattle.smf_dep.proofs.Looked.{all_mapped, any_mapped, link_blocked, link_met, link_stops_is, look}
 
 -- ---- an instance at a place
@@ -114,23 +115,23 @@ found_of ms cycles a m h e =
     }
 
 -- the finding at a place is that of the instance there
-pub finding_is : (ms : List GraphMember) (ns : List GraphNode) (cycles : List Bool) (a : ℕ) (m : GraphMember)
-    → IsGraph ms ns cycles → slice_get ms a ≡ Some m
+pub finding_is : (ms : List GraphMember) (ns : List GraphNode) (es : List (List ℕ)) (cycles : List Bool) (a : ℕ)
+    (m : GraphMember) → IsGraph ms ns es cycles → slice_get ms a ≡ Some m
     → finding_at ms ns cycles m a ≡ finding_of ms m
-finding_is ms ns cycles a m g h =
+finding_is ms ns es cycles a m g h =
     ap (λ (l : List GraphNode). finding_at ms l cycles m a) g.linked
-    ∙ found_of ms cycles a m h ((g.turning.cycles ms (ap edges_of g.linked)).flag a m h)
+    ∙ found_of ms cycles a m h ((cycles_by ms es cycles (g.edged ∙ ap edges_of g.linked) g.turning).flag a m h)
 
 pub got_at : (ms : List GraphMember) (place : ℕ) (m : GraphMember) → true ≡ nat_lt place (length ms)
     → m ≡ get_or ms place m → Some m ≡ slice_get ms place
 got_at ms place m lt is = ap (λ (z : GraphMember). Some z) is
     ∙ sym (slice_get-get_or ms place m (ltb-true place (length ms) (sym lt)))
 
-pub found_at_place : (ms : List GraphMember) (ns : List GraphNode) (cycles : List Bool) (place : ℕ) (m : GraphMember)
-    (f : Finding) → IsGraph ms ns cycles → Some m ≡ slice_get ms place
+pub found_at_place : (ms : List GraphMember) (ns : List GraphNode) (es : List (List ℕ)) (cycles : List Bool) (place : ℕ)
+    (m : GraphMember) (f : Finding) → IsGraph ms ns es cycles → Some m ≡ slice_get ms place
     → f ≡ finding_at ms ns cycles m place → Some f ≡ option_map (finding_of ms) (slice_get ms place)
-found_at_place ms ns cycles place m f g h e =
-    ap (λ (z : Finding). Some z) (e ∙ finding_is ms ns cycles place m g (sym h)) ∙ ap (option_map (finding_of ms)) h
+found_at_place ms ns es cycles place m f g h e =
+    ap (λ (z : Finding). Some z) (e ∙ finding_is ms ns es cycles place m g (sym h)) ∙ ap (option_map (finding_of ms)) h
 
 -- ---- verdicts
 

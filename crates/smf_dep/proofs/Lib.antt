@@ -7,4 +7,6 @@ pub mod LawCycles
 pub mod Looked
 pub mod PlacesByName
 pub mod OfItems
+pub mod Relinked
+pub mod Turning
 pub mod Updates

@@ -22,7 +22,7 @@ use Rattle.smf_dep.specs.declared.member.GraphMember.{GraphMember}
 use Rattle.smf_dep.specs.Cycles.{asked_for, asks_for, cites, excludes, leads, on_cycle}
 use Rattle.smf_dep.specs.Members.{by_member, member_of, wires}
 use Rattle.smf_dep.specs.Places.{event_at, finding_of, flags_of, link_stops, links_of, node_of, nodes_of}
-use Rattle.smf_dep.specs.Updates.{AllFit, AreSuccessors, Fits, FitsAt, IsSuccessor, OthersStay, Stays, number, number_at, number_in, with_member, with_members}
+use Rattle.smf_dep.specs.Updates.{AllFit, AreSuccessors, Fits, FitsAt, IsSuccessor, OthersStay, Remains, Stays, number, number_at, number_in, with_member, with_members}
 use Rattle.smf_dep.specs.Verdicts.{all_met, any_must_stop, is_cited, stops_by}
 use Rattle.smf_dep.proofs.Alike.{Wires, cited_same, links_by, name_same, needs_same, places_same, rest_same}
 use Rattle.smf_dep.proofs.ByNumber.{at_found, found_at, stands, stood}
@@ -40,7 +40,7 @@ set_here [] p m x e = absurd cc
 set_here (y ∷ ms) zero m x e = refl
 set_here (y ∷ ms) (suc p) m x e = set_here ms p m x e
 
-set_other : (ms : List GraphMember) (p a : ℕ) (x : GraphMember) → (p ≡ a → ⊥)
+pub set_other : (ms : List GraphMember) (p a : ℕ) (x : GraphMember) → (p ≡ a → ⊥)
     → slice_get (slice_set ms p x) a ≡ slice_get ms a
 set_other [] p a x ne = refl
 set_other (y ∷ ms) zero zero x ne = absurd (ne refl)
@@ -48,7 +48,7 @@ set_other (y ∷ ms) zero (suc a) x ne = refl
 set_other (y ∷ ms) (suc p) zero x ne = refl
 set_other (y ∷ ms) (suc p) (suc a) x ne = set_other ms p a x (λ e. ne (ap suc e))
 
-map_set : {Y : Type 0} (f : GraphMember → Y) (ms : List GraphMember) (p : ℕ) (m x : GraphMember)
+pub map_set : {Y : Type 0} (f : GraphMember → Y) (ms : List GraphMember) (p : ℕ) (m x : GraphMember)
     → slice_get ms p ≡ Some m → f x ≡ f m → map f (slice_set ms p x) ≡ map f ms
 map_set f [] p m x e same = refl
 map_set f (y ∷ ms) zero m x e same = ap (λ z. z ∷ map f ms) (same ∙ ap f (sym (same_some y m e)))
@@ -133,11 +133,16 @@ is_found x ms p r h s =
     none_is g = cc
 
 -- it is put at its own place
+pub set_at_key : (x : GraphMember) (ms : List GraphMember) (p : ℕ) (before : GraphMember) → Rises by_member ms
+    → slice_get ms p ≡ Some before → before.instance ≡ x.instance
+    → slice_set ms p x ≡ list_with_item by_member x ms
+set_at_key x ms p before r at same =
+    let P : ℕ → Type 0 = λ n. StandsAt by_member n p ms in
+    sym (put_at by_member x p ms (subst P same (stands by_member ms p before r at)))
+
 pub set_is_put : (x : GraphMember) (ms : List GraphMember) (p : ℕ) → Rises by_member ms → FitsAt x ms p
     → slice_set ms p x ≡ list_with_item by_member x ms
-set_is_put x ms p r h =
-    let P : ℕ → Type 0 = λ n. StandsAt by_member n p ms in
-    sym (put_at by_member x p ms (subst P h.numbered (stands by_member ms p h.before r h.at)))
+set_is_put x ms p r h = set_at_key x ms p h.before r h.at h.numbered
 
 rest_fits : (x : GraphMember) (ys ms : List GraphMember) → Rises by_member ms → Fits x ms → AllFit ys ms
     → AllFit ys (list_with_item by_member x ms)
@@ -163,7 +168,7 @@ pub more_fit : (xs ys : List GraphMember) (x : GraphMember) (ms : List GraphMemb
     → Fits x ms → AllFit ys ms
 more_fit xs ys x ms e h g = let P : List GraphMember → Type 0 = λ l. AllFit l ms in subst P (sym e) (all_fit xs x ms h g)
 
-put_by : (c : ChangedItem) (x : GraphMember) (ms : List GraphMember) → IsSuccessor c.item x
+pub put_by : (c : ChangedItem) (x : GraphMember) (ms : List GraphMember) → IsSuccessor c.item x
     → with_member c.instance c.item ms ≡ list_with_item by_member x ms
 put_by c x ms h = by c.item h
   where
@@ -226,7 +231,7 @@ module _ (ms ks : List GraphMember) (p : ℕ) (apart : (a : ℕ) → (p ≡ a �
   any_stay f [] out = refl
   any_stay f (ps ∷ es) out = λ i. events_stay f ps out.0 i || any_stay f es out.1 i
 
-  stops_stay : (base : ℕ) (ls : List Link) → Avoid p ls
+  pub stops_stay : (base : ℕ) (ls : List Link) → Avoid p ls
       → list_any (link_stops ks base) ls ≡ list_any (link_stops ms base) ls
   stops_stay base [] out = refl
   stops_stay base (l ∷ ls) out = λ i. any_stay (stops_by l.grouping l.restart_on base) l.cited out.0 i
@@ -271,7 +276,7 @@ cycles_alike ms ks m h = leads_alike ms ks h m m m m refl refl
 
 -- ---- one member takes the place of another
 
-found_same : (ms ks : List GraphMember) (n : GraphMember) → all_met ks n ≡ all_met ms n
+pub found_same : (ms ks : List GraphMember) (n : GraphMember) → all_met ks n ≡ all_met ms n
     → any_must_stop ks n.base n.dependencies ≡ any_must_stop ms n.base n.dependencies
     → on_cycle ks n ≡ on_cycle ms n → finding_of ks n ≡ finding_of ms n
 unfolding finding_of
@@ -291,23 +296,25 @@ member_taken x ms ms' ns ns' p was touched h is linked linked' far =
     let there : (a : ℕ) (n : GraphMember) → IsOut a touched → slice_get ms a ≡ Some n → slice_get ms' a ≡ Some n =
     λ a n out at. apart a (far.apart a (node_of ms n) out (node a n at)).0 ∙ at in
     record {
-      numbers = ap (map number) is ∙ map_set number ms p h.before x h.at (sym h.numbered);
       wired = wired;
       grown = λ a out less. let within : a < length ns = omega arith in far.grown a out within;
-      member = there;
-      finding = λ a n out at.
-          let within : a < length ns = let less = slice_get_within ms a n at in omega arith in
-          found_same ms ms' n
-          (sym (met_is ms' a n (there a n out at))
-          ∙ ap (λ b. is_some n.dependencies && b)
-          (ap (λ l. met_at l a) (sym linked') ∙ far.met a out within ∙ ap (λ l. met_at l a) linked)
-          ∙ met_is ms a n at)
-          (sym (stops_in ms' n.base n.dependencies)
-          ∙ ap (list_any (link_stops ms' n.base)) (links_by ms' ms (places_same ms' ms wired) n.dependencies)
-          ∙ stops_stay ms ms' p apart n.base (links_of ms n.dependencies)
-          (far.apart a (node_of ms n) out (node a n at)).1
-          ∙ stops_in ms n.base n.dependencies)
-          (cycles_alike ms' ms n wired);
+      remains = record {
+        numbers = ap (map number) is ∙ map_set number ms p h.before x h.at (sym h.numbered);
+        member = there;
+        finding = λ a n out at.
+            let within : a < length ns = let less = slice_get_within ms a n at in omega arith in
+            found_same ms ms' n
+            (sym (met_is ms' a n (there a n out at))
+            ∙ ap (λ b. is_some n.dependencies && b)
+            (ap (λ l. met_at l a) (sym linked') ∙ far.met a out within ∙ ap (λ l. met_at l a) linked)
+            ∙ met_is ms a n at)
+            (sym (stops_in ms' n.base n.dependencies)
+            ∙ ap (list_any (link_stops ms' n.base)) (links_by ms' ms (places_same ms' ms wired) n.dependencies)
+            ∙ stops_stay ms ms' p apart n.base (links_of ms n.dependencies)
+            (far.apart a (node_of ms n) out (node a n at)).1
+            ∙ stops_in ms n.base n.dependencies)
+            (cycles_alike ms' ms n wired);
+      };
     }
 
 pub linked_again : (x : GraphMember) (ms ms' : List GraphMember) (ns ns' : List GraphNode) (p : ℕ) (f : Flags)
@@ -349,16 +356,14 @@ more_fits xs x rest ms ms' is e r h =
     subst P (sym e) (rest_fits x xs ms r two.0 two.1)
 
 pub stays_size : (a b : List GraphMember) (was touched : List ℕ) → Stays a b was touched → length b ≡ length a
-stays_size a b was touched f = sym (length-map b number) ∙ ap length f.numbers ∙ length-map a number
+stays_size a b was touched f = sym (length-map b number) ∙ ap length f.remains.numbers ∙ length-map a number
 
 pub stays_none : (ms : List GraphMember) (was : List ℕ) → Stays ms ms was was
 stays_none ms was =
     record {
-      numbers = refl;
       wired = refl;
       grown = λ a out less. out;
-      member = λ a m out at. at;
-      finding = λ a m out at. refl;
+      remains = record { numbers = refl; member = λ a m out at. at; finding = λ a m out at. refl };
     }
 
 pub stays_then : (a b c : List GraphMember) (was between touched : List ℕ) → Stays a b was between
@@ -367,15 +372,17 @@ stays_then a b c was between touched f g =
     let size = stays_size a b was between f in
     let within : (x : ℕ) → x < length a → x < length b = λ x less. omega arith in
     record {
-      numbers = g.numbers ∙ f.numbers;
       wired = g.wired ∙ f.wired;
       grown = λ x out less. f.grown x (g.grown x out (within x less)) less;
-      member = λ x m out at.
-          let before = g.grown x out (within x (slice_get_within a x m at)) in
-          g.member x m out (f.member x m before at);
-      finding = λ x m out at.
-          let before = g.grown x out (within x (slice_get_within a x m at)) in
-          g.finding x m out (f.member x m before at) ∙ f.finding x m before at;
+      remains = record {
+        numbers = g.remains.numbers ∙ f.remains.numbers;
+        member = λ x m out at.
+            let before = g.grown x out (within x (slice_get_within a x m at)) in
+            g.remains.member x m out (f.remains.member x m before at);
+        finding = λ x m out at.
+            let before = g.grown x out (within x (slice_get_within a x m at)) in
+            g.remains.finding x m out (f.remains.member x m before at) ∙ f.remains.finding x m before at;
+      };
     }
 
 -- ---- by numbers
@@ -389,11 +396,11 @@ number_of (x ∷ ms) (y ∷ ks) zero m h e =
     (y, refl, sym first ∙ ap (λ (z : GraphMember). z.instance) (same_some x m e))
 number_of (x ∷ ms) (y ∷ ks) (suc a) m h e = let rest : map number ms ≡ map number ks = cc in number_of ms ks a m rest e
 
-pub by_numbers : (ms ks : List GraphMember) (was touched numbers : List ℕ) → Rises by_member ms → Rises by_member ks
-    → Stays ms ks was touched
+pub by_numbers : (ms ks : List GraphMember) (touched numbers : List ℕ) → Rises by_member ms → Rises by_member ks
+    → Remains ms ks touched
     → ((a : ℕ) (m : GraphMember) → slice_get ks a ≡ Some m → IsOut m.instance numbers → IsOut a touched)
     → OthersStay ms ks numbers
-by_numbers ms ks was touched numbers r r' h named =
+by_numbers ms ks touched numbers r r' h named =
     record {
       member = λ n out. by n out (lookup by_member ms n) refl (lookup by_member ks n) refl;
       finding = λ n m out e. found n m out e;
@@ -440,13 +447,13 @@ by_numbers ms ks was touched numbers r r' h named =
     found n m out e = let at = back n m out e in h.finding at.0 m at.2 at.1
 
 -- the same over what a call names
-pub by_touched : (ms ks shown : List GraphMember) (was touched places numbers given : List ℕ) → Rises by_member ms
-    → Rises by_member ks → Stays ms ks was touched
+pub by_touched : (ms ks shown : List GraphMember) (touched places numbers given : List ℕ) → Rises by_member ms
+    → Rises by_member ks → Remains ms ks touched
     → shown ≡ ks → places ≡ touched → given ≡ numbers
     → ((a : ℕ) (m : GraphMember) → slice_get shown a ≡ Some m → IsOut m.instance numbers → IsOut a places)
     → OthersStay ms ks given
-by_touched ms ks shown was touched places numbers given r r' h es et eg named =
-    by_numbers ms ks was touched given r r' h
+by_touched ms ks shown touched places numbers given r r' h es et eg named =
+    by_numbers ms ks touched given r r' h
     (λ a m at out.
     let P : List ℕ → Type 0 = IsOut a in
     let Q : List ℕ → Type 0 = IsOut m.instance in

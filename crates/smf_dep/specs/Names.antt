@@ -1,5 +1,5 @@
 -- Instances by their names, and by the names of their services.
-use Rattle.std.specs.Prelude.{◌≡◌, ℕ, ◌+◌, List, [], ◌∷◌, if◌then◌else◌, Vec}
+use Rattle.std.specs.Prelude.{◌≡◌, ℕ, ◌+◌, List, [], ◌∷◌, if◌then◌else◌, Option, Some, None, Vec}
 use Rattle.std.specs.Option.{option_map_or}
 use Rattle.std.specs.Str.{bytes_eq}
 use Rattle.smf_fmri.specs.Patterns.{service_of}
@@ -7,6 +7,7 @@ use Rattle.std.specs.Borrow.{Bor}
 use Rattle.std.specs.HashMap as hash
 use Rattle.std.specs.HashMap.{HashMap}
 use Rattle.smf_dep.specs.declared.member.GraphMember.{GraphMember}
+use Rattle.smf_dep.specs.declared.names.NameIndex.{NameIndex}
 
 -- the places that a name has in a map
 abbrev pub found_at : {Y S : Type 0} → HashMap (Bor (List ℕ)) (Vec ℕ Y) S → List ℕ → List ℕ
@@ -28,3 +29,8 @@ named_from name at q (m ∷ ms) = if bytes_eq q (name m) then at ∷ named_from 
 abbrev pub AreAt : {Y S : Type 0} → (GraphMember → List ℕ) → HashMap (Bor (List ℕ)) (Vec ℕ Y) S → List GraphMember
     → Type 0
 AreAt name m ms = (q : List ℕ) → found_at m q ≡ named_from name 0 q ms
+
+-- the same of both maps of an index, if there is one
+abbrev pub AreIndexed : Option NameIndex → List GraphMember → Type 0
+AreIndexed None ms = Unit
+AreIndexed (Some i) ms = AreAt instance_name i.instances ms × AreAt service_name i.services ms

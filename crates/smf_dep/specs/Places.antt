@@ -1,7 +1,8 @@
 -- Dependencies by the places of instances in a list, so that a name is looked for once.
-use Rattle.std.specs.Prelude.{◌≡◌, ℕ, ◌+◌, List, [], ◌∷◌, ◌++◌, map, Bool, false, ◌&&◌, if◌then◌else◌, Option, Some, None, unwrap_or, is_some, slice_get}
+use Rattle.std.specs.Prelude.{◌≡◌, ◌↔◌, ◌<◌, ℕ, ◌+◌, List, [], ◌∷◌, ◌++◌, map, length, Bool, false, IsTrue, Vec, ◌&&◌, if◌then◌else◌, Option, Some, None, unwrap_or, is_some, slice_get}
 use Rattle.std.specs.List.{list_any}
 use Rattle.std.specs.Option.{option_map_or}
+use Rattle.smf_cycles.specs.Paths as paths
 use Rattle.smf_links.specs.declared.link.Link.{Link}
 use Rattle.smf_links.specs.declared.link.GraphNode.{GraphNode}
 use Rattle.smf_links.specs.declared.link.Flags.{Flags}
@@ -104,9 +105,14 @@ finding_at ms ns cycles m place =
       on_cycle = flag_at cycles place;
     }
 
--- the same of all instances with these edges
-pub record AreCyclesOf (nodes : List GraphNode) (flags : List Bool) : Type 0 where
-  pub cycles : (ms : List GraphMember) → edges_of nodes ≡ edges_of (nodes_of ms) → AreCycles ms flags
+-- flags that say of each place with these edges whether it is on a cycle
+pub record AreCyclesOf (edges : List (List ℕ)) (flags : List Bool) : Type 0 where
+  pub exact : (a : ℕ) → a < length edges → IsTrue (paths.flag_at flags a) ↔ paths.IsOnCycle edges a
+
+-- other flags, if there are any
+abbrev pub flags_after : {Z : Type 0} → List Bool → Option (Vec Bool Z) → List Bool
+flags_after flags None = flags
+flags_after flags (Some others) = others.items
 
 -- the one is what the other begins with
 abbrev pub IsBeginning : List (List Link) → List (List Link) → Type 0
@@ -115,7 +121,9 @@ IsBeginning (x ∷ xs) [] = ⊥
 IsBeginning (x ∷ xs) (y ∷ ys) = (x ≡ y) × IsBeginning xs ys
 
 -- the data that a graph keeps beside its instances
-pub record IsGraph (ms : List GraphMember) (ns : List GraphNode) (cycles : List Bool) : Type 0 where
+pub record IsGraph (ms : List GraphMember) (ns : List GraphNode) (edges : List (List ℕ)) (cycles : List Bool)
+    : Type 0 where
   pub linked : ns ≡ nodes_of ms
-  pub turning : AreCyclesOf ns cycles
+  pub edged : edges ≡ edges_of ns
+  pub turning : AreCyclesOf edges cycles
   pub rises : Rises by_member ms

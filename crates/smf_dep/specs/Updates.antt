@@ -1,5 +1,5 @@
 -- Members that are brought up to date by items that changed, and the findings that stay.
-use Rattle.std.specs.Prelude.{◌≡◌, ℕ, ◌<◌, List, [], ◌∷◌, map, length, Option, Some, None, slice_get}
+use Rattle.std.specs.Prelude.{◌≡◌, ℕ, ◌<◌, List, [], ◌∷◌, map, length, Option, Some, None, slice_get, slice_set}
 use Rattle.smf_fmri.specs.ByKey.{lookup, list_with_item, put_all, without}
 use Rattle.smf_state.specs.declared.view.ChangedItem.{ChangedItem}
 use Rattle.smf_state.specs.declared.view.ViewItem.{ViewItem}
@@ -51,6 +51,20 @@ pub record AreSuccessors (cs : List ChangedItem) (xs ms : List GraphMember) : Ty
   pub fit : AllFit xs ms
   pub put : put_all by_member xs ms ≡ with_members cs ms
 
+-- ---- a member that may depend on other things
+
+-- the member at the place has the number and the name of this one
+pub record IsNamedAt (m : GraphMember) (ms : List GraphMember) (place : ℕ) : Type 0 where
+  pub before : GraphMember
+  pub at : slice_get ms place ≡ Some before
+  pub numbered : before.instance ≡ m.instance
+  pub named : m.name ≡ before.name
+
+-- the changes are the one that puts the member in that place
+pub record IsPlaced (cs : List ChangedItem) (ms : List GraphMember) (m : GraphMember) (place : ℕ) : Type 0 where
+  pub named : IsNamedAt m ms place
+  pub put : slice_set ms place m ≡ with_members cs ms
+
 -- ---- instances that such a change leaves alone
 
 abbrev pub number : GraphMember → ℕ
@@ -64,11 +78,15 @@ number_in (Some m) = m.instance
 abbrev pub number_at : List GraphMember → ℕ → ℕ
 number_at ms place = number_in (slice_get ms place)
 
--- the instances and what they depend on are as before, and so is all that is found at a place that is not touched
-pub record Stays (before after : List GraphMember) (was touched : List ℕ) : Type 0 where
+-- the instances have their numbers, and at a place that is not touched all is as before, with what is found there
+pub record Remains (before after : List GraphMember) (touched : List ℕ) : Type 0 where
   pub numbers : map number after ≡ map number before
-  pub wired : map wires after ≡ map wires before
-  pub grown : (a : ℕ) → IsOut a touched → a < length before → IsOut a was
   pub member : (a : ℕ) (m : GraphMember) → IsOut a touched → slice_get before a ≡ Some m → slice_get after a ≡ Some m
   pub finding : (a : ℕ) (m : GraphMember) → IsOut a touched → slice_get before a ≡ Some m
       → finding_of after m ≡ finding_of before m
+
+-- the instances depend on the same besides
+pub record Stays (before after : List GraphMember) (was touched : List ℕ) : Type 0 where
+  pub wired : map wires after ≡ map wires before
+  pub grown : (a : ℕ) → IsOut a touched → a < length before → IsOut a was
+  pub remains : Remains before after touched

@@ -1,21 +1,22 @@
 ghost use Rattle.std.specs.List.{AllZip, list_any, position};
 ghost use Rattle.std.specs.Option.{option_copied};
-ghost use Rattle.std.specs.Prelude.{◌≡◌, IfOk, List, OnErr, OnOk, option_map, slice_get};
+ghost use Rattle.std.specs.Prelude.{◌≡◌, IfOk, List, OnErr, OnOk, option_map, slice_get, slice_set};
 ghost use Rattle.smf_fmri.specs.ByKey.{Rises, has_key, put_all};
 ghost use Rattle.smf_state.specs.Patched.{by_item, with_items};
 ghost use Rattle.smf_state.specs.declared.view.ViewItem.{ViewItem as AnyItem};
 ghost use Rattle.smf_dep.specs.Members.{IsOfItem, by_member, members};
-ghost use Rattle.smf_dep.specs.Places.{AreCyclesOf, event_at, finding_at, finding_of, flag_at, link_stops, node_stops, nodes_of};
+ghost use Rattle.smf_dep.specs.Places.{AreCyclesOf, edges_of, event_at, finding_at, finding_of, flag_at, link_stops, node_stops, node_of, nodes_of};
 ghost use Rattle.smf_dep.specs.Verdicts.{must_stop, stops_by, verdict, verdict_by};
-ghost use Rattle.smf_dep.specs.Updates.{AllFit, OthersStay, with_members};
+ghost use Rattle.smf_dep.specs.Updates.{AllFit, IsNamedAt, IsPlaced, OthersStay, with_members};
 
-use crate::cycle::on_cycles;
+use crate::cycle::{Cycles, cycles_of, flag_at, turn_of};
 use crate::dependency::Dependency;
-use crate::link::{link_of, nodes_of};
+use crate::link::{has_few_entities, link_of, node_of, nodes_of};
 use crate::member::{
     GraphMember, ReadMember, Standing, members_again, renewed_members, standing_of,
 };
 use crate::names::Names;
+use crate::relink::{PlacedMember, member_for_one, put_turned, set_member};
 use crate::update::{changed_members, numbers_of, place_in, put_touched, successors, take_members};
 use smf_fmri::Items;
 use smf_links::{GraphNode, Grouping, KeptVerdicts, Link, RestartOn};
@@ -50,7 +51,7 @@ pub struct Finding {
 pub struct Graph {
     members: Vec<ReadMember>,
     kept: KeptVerdicts,
-    cycles: Vec<bool>,
+    cycles: Cycles,
 }
 
 impl Model for Graph {
@@ -62,7 +63,7 @@ impl Model for Graph {
 
     ghost view = { λ g. g.members.items };
 
-    ghost invariant = { λ g. IsGraph g.members.items g.kept g.cycles.items };
+    ghost invariant = { λ g. IsGraph g.members.items g.kept g.cycles.edges.items g.cycles.flags.items };
 }
 
 /// True if the events of a cited instance after a revision stop the one that cites it.
@@ -118,15 +119,6 @@ fn node_stops(members: &[ReadMember], node: Option<&GraphNode>, base: u64) -> bo
 {
     match node {
         Some(node) => any_stops(members, node.links.as_slice(), base),
-        None => false,
-    }
-}
-
-fn flag_at(flags: &[bool], place: usize) -> bool
-    ensures { result ≡ flag_at flags.now place }
-{
-    match flags.get(place) {
-        Some(flag) => *flag,
         None => false,
     }
 }
@@ -208,7 +200,7 @@ impl Graph {
         ensures { IfOk result (λ g. g ≡ members.items) }
     {
         let nodes = nodes_of(alloc, members.as_slice(), Items::new(alloc))?;
-        let cycles = on_cycles(alloc, nodes.as_slice())?;
+        let cycles = cycles_of(alloc, nodes.as_slice())?;
         Graph::of_nodes(alloc, members, nodes, cycles)
     }
 
@@ -217,10 +209,11 @@ impl Graph {
         alloc: Global,
         members: Vec<ReadMember>,
         nodes: Items<GraphNode>,
-        cycles: Vec<bool>,
+        cycles: Cycles,
     ) -> Result<Graph, AllocError>
         requires nodes { nodes ≡ nodes_of members.items }
-        requires cycles { AreCyclesOf nodes cycles.items }
+        requires edges { cycles.edges.items ≡ edges_of nodes }
+        requires cycles { AreCyclesOf cycles.edges.items cycles.flags.items }
         requires rises { Rises by_member members.items }
         ensures { IfOk result (λ g. g ≡ members.items) }
     {
@@ -244,10 +237,46 @@ impl Graph {
         ensures others { IfOk result (λ touched. OthersStay self.old self.new touched) }
         ensures err { OnErr result (self.new ≡ self.old) }
     {
-        match successors(alloc, self.members.as_slice(), changes)? {
-            Some(successors) => self.update_in_place(alloc, successors),
+        if let Some(successors) = successors(alloc, self.members.as_slice(), changes)? {
+            return self.update_in_place(alloc, successors);
+        }
+        match member_for_one(alloc, self.members.as_slice(), changes)? {
+            Some(placed) => self.relink(alloc, placed),
             None => self.update_all(alloc, changes),
         }
+    }
+
+    /// Gives one instance other dependencies. All that may fail goes first.
+    fn relink(&mut self, alloc: Global, placed: PlacedMember) -> Result<Items<u64>, AllocError>
+        requires { IsNamedAt placed.member self.old placed.place }
+        ensures with { OnOk result (self.new ≡ slice_set self.old placed.place placed.member) }
+        ensures others { IfOk result (λ touched. OthersStay self.old self.new touched) }
+        ensures err { OnErr result (self.new ≡ self.old) }
+    {
+        let PlacedMember { member, place } = placed;
+        let node = self.node_for(alloc, member.member())?;
+        let turn = turn_of(alloc, &self.cycles, place, node.links.as_slice())?;
+        let mut touched = Vec::with_capacity(alloc, self.members.len())?;
+        let mut numbers = Vec::with_capacity(alloc, self.members.len())?;
+        let count = self.members.len();
+        put_turned(&mut touched, self.cycles.flags.as_slice(), &turn, count);
+        self.kept.relink(alloc, place, node, &mut touched)?;
+        set_member(&mut self.members, place, member);
+        self.cycles.install(place, turn);
+        put_touched(&mut numbers, self.members.as_slice(), touched.as_slice());
+        Ok(Items::from_vec(numbers))
+    }
+
+    /// A member with what it depends on by the places of the instances that are there.
+    fn node_for(&self, alloc: Global, member: &GraphMember) -> Result<GraphNode, AllocError>
+        ensures { IfOk result (λ n. n ≡ node_of self.now member.now) }
+    {
+        if has_few_entities(&member.dependencies) {
+            let names = Names::over(self.members.as_slice());
+            return node_of(alloc, &names, member, None);
+        }
+        let names = Names::of(alloc, self.members.as_slice())?;
+        node_of(alloc, &names, member, None)
     }
 
     /// Puts members in the places of those with their numbers. All that may fail goes first.
@@ -268,8 +297,8 @@ impl Graph {
         Ok(Items::from_vec(numbers))
     }
 
-    /// Takes changes by which instances come or go, or depend on other things. It does not read again what did not
-    /// change.
+    /// Takes changes by which instances come or go, or several depend on other things. It does not read again what did
+    /// not change.
     fn update_all(
         &mut self,
         alloc: Global,
@@ -308,7 +337,7 @@ impl Graph {
             Some(member) => Some(finding_at(
                 self.members.as_slice(),
                 &self.kept,
-                self.cycles.as_slice(),
+                self.cycles.flags.as_slice(),
                 member.member(),
                 place,
             )),

@@ -3,7 +3,8 @@
 //! Modules: `dependency` has dependencies, and `requirements` reads groups as such, with a `fault` if one can't be read.
 //! `member` is an instance as a verdict looks at it, and `methods` finds if its methods let it be run. `names` has
 //! places by names, and `link` finds dependencies by places. `cycle` finds which instances depend on themselves. `graph`
-//! is a graph of instances, and `update` brings it up to date by items that changed. `law` has laws of the definitions,
+//! is a graph of instances, and `update` brings it up to date by items that changed,
+//! `relink` by one that depends on other things. `law` has laws of the definitions,
 //! `shared` values that copies share. `smf_links` has what is found by places alone.
 #![tactic(auto)]
 
@@ -16,6 +17,7 @@ mod link;
 mod member;
 mod methods;
 mod names;
+mod relink;
 mod requirements;
 mod shared;
 mod update;

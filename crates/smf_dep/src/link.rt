@@ -67,6 +67,20 @@ fn links_of(
     }
 }
 
+/// As many looks over all names cost less than an index of the names.
+const FEW: usize = 16;
+
+/// True if an index of the names would cost more than a look over all names for each entity.
+pub(crate) fn has_few_entities(dependencies: &Option<Shared<Items<Dependency>>>) -> bool {
+    let mut count: usize = 0;
+    if let Some(dependencies) = dependencies {
+        for dependency in dependencies.as_slice() {
+            count = count.saturating_add(dependency.entities.len());
+        }
+    }
+    count <= FEW
+}
+
 /// The flags of an instance, by its state.
 pub(crate) fn flags_of(member: &GraphMember) -> Flags
     ensures { result ≡ flags_of member.now }
@@ -90,7 +104,7 @@ fn node_with(member: &GraphMember, links: Items<Link>) -> GraphNode
 }
 
 /// An instance with what it depends on by places. It looks for these if none were kept.
-fn node_of(
+pub(crate) fn node_of(
     alloc: Global,
     names: &Names<'_>,
     member: &GraphMember,

@@ -366,6 +366,13 @@ impl ReadMember {
             && is_body(&self.body, &item.body)
     }
 
+    /// True if it has the name of an item.
+    pub(crate) fn has_name_of(&self, item: &ViewItem) -> bool
+        ensures { result ≡ true → item.now.name ≡ self.now.name }
+    {
+        item.name == self.member.name
+    }
+
     /// True if it has the name and the dependencies of another.
     fn has_wires_of(&self, other: &ReadMember) -> bool
         ensures { result ≡ true → wires self.now ≡ wires other.now }

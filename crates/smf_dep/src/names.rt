@@ -14,22 +14,28 @@ use std::marker::Model;
 
 /// The places of instances by their names, and by those of their services.
 #[derive(Drop)]
-pub(crate) struct Names<'a> {
-    members: &'a [ReadMember],
+pub(crate) struct NameIndex<'a> {
     instances: HashMap<&'a str, Vec<usize>>,
     services: HashMap<&'a str, Vec<usize>>,
 }
 
+/// Instances that are looked for by their names. Without an index, each look goes over all names.
+#[derive(Drop)]
+pub(crate) struct Names<'a> {
+    members: &'a [ReadMember],
+    index: Option<NameIndex<'a>>,
+}
+
 impl<'a> Model for Names<'a> {
     ghost use Rattle.smf_dep.specs.declared.member.GraphMember.{GraphMember};
-    ghost use Rattle.smf_dep.specs.Names.{AreAt, instance_name, service_name};
+    ghost use Rattle.smf_dep.specs.Names.{AreIndexed};
     ghost use Rattle.std.specs.Prelude.{List};
 
     ghost Value = { List GraphMember };
 
     ghost view = { λ n. n.members.now };
 
-    ghost invariant = { λ n. AreAt instance_name n.instances n.members.now × AreAt service_name n.services n.members.now };
+    ghost invariant = { λ n. AreIndexed n.index n.members.now };
 }
 
 /// Puts a place after those of a name.
@@ -102,7 +108,47 @@ fn found_in(
     }
 }
 
+/// The places of the instances that an entity stands for, by a look at each name.
+fn places_in(
+    alloc: Global,
+    members: &[ReadMember],
+    entity: &Fmri,
+) -> Result<Items<usize>, AllocError>
+    ensures { IfOk result (λ ps. ps ≡ places members.now entity.now) }
+{
+    let is_instance = entity.instance().is_some();
+    let mut found = Items::new(alloc);
+    let mut place = 0;
+    for member in members {
+        if member.member().is_cited_by(is_instance, entity) {
+            found.push(place)?;
+        }
+        place += 1;
+    }
+    Ok(found)
+}
+
+/// The same, by an index.
+#[tactic(auto, using(crate::proofs::PlacesByName::of_instance, crate::proofs::PlacesByName::of_service))]
+fn places_by(
+    alloc: Global,
+    index: &NameIndex<'_>,
+    members: &[ReadMember],
+    entity: &Fmri,
+) -> Result<Items<usize>, AllocError>
+    requires instances { AreAt instance_name index.now.instances members.now }
+    requires services { AreAt service_name index.now.services members.now }
+    ensures { IfOk result (λ ps. ps ≡ places members.now entity.now) }
+{
+    if entity.instance().is_some() {
+        found_in(alloc, &index.instances, entity.print())
+    } else {
+        found_in(alloc, &index.services, entity.service())
+    }
+}
+
 impl<'a> Names<'a> {
+    /// With an index, for many looks.
     pub(crate) fn of(alloc: Global, members: &'a [ReadMember]) -> Result<Names<'a>, AllocError>
         ensures { IfOk result (λ n. n ≡ members.entry.now) }
     {
@@ -110,20 +156,30 @@ impl<'a> Names<'a> {
         let services = by_service(alloc, members)?;
         Ok(Names {
             members,
-            instances,
-            services,
+            index: Some(NameIndex {
+                instances,
+                services,
+            }),
         })
     }
 
+    /// Without an index, for few looks.
+    pub(crate) fn over(members: &'a [ReadMember]) -> Names<'a>
+        ensures { result ≡ members.entry.now }
+    {
+        Names {
+            members,
+            index: None,
+        }
+    }
+
     /// The places of the instances that an entity stands for.
-    #[tactic(auto, using(crate::proofs::PlacesByName::of_instance, crate::proofs::PlacesByName::of_service))]
     pub(crate) fn places(&self, alloc: Global, entity: &Fmri) -> Result<Items<usize>, AllocError>
         ensures { IfOk result (λ ps. ps ≡ places self.now entity.now) }
     {
-        if entity.instance().is_some() {
-            found_in(alloc, &self.instances, entity.print())
-        } else {
-            found_in(alloc, &self.services, entity.service())
+        match &self.index {
+            None => places_in(alloc, self.members, entity),
+            Some(index) => places_by(alloc, index, self.members, entity),
         }
     }
 }

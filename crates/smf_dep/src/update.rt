@@ -26,7 +26,7 @@ fn compare(member: &ReadMember, instance: u64) -> Ordering
     member.member().instance.cmp(&instance)
 }
 
-fn search(members: &[ReadMember], instance: u64) -> Result<usize, usize>
+pub(crate) fn search(members: &[ReadMember], instance: u64) -> Result<usize, usize>
     requires { Rises by_member members.now }
     ensures { IsPlaced by_member instance members.now result }
 {

@@ -7,7 +7,7 @@ use Rattle.smf_dep.proofs.graph.Graph.finding.Goals as goal
 pub returns-in-Some : goal.returns-in-Some
 returns-in-Some c =
     let inside = c.self.inside in
-    found_at_place inside.members.items inside.kept inside.cycles.items c.args.place c.in-Some.member.now
+    found_at_place inside.members.items inside.kept inside.cycles.edges.items inside.cycles.flags.items c.args.place c.in-Some.member.now
     c.finding_at.result c.self.invariant
     (got_at c.as_slice.result.now c.args.place c.in-Some.member.now c.in-Some.ensures.lookup.0
     c.in-Some.ensures.lookup.1 ∙ ap (λ l. slice_get l c.args.place) c.as_slice.ensures.value)

@@ -3,7 +3,8 @@ use Rattle.std.specs.Prelude.{IfSome}
 use Rattle.std.proofs.lemmas.Result.{on_ok_weaker}
 use Rattle.smf_dep.specs.declared.member.GraphMember.{GraphMember}
 use Rattle.smf_dep.specs.declared.member.ReadMember.{ReadMember}
-use Rattle.smf_dep.specs.Updates.{AreSuccessors}
+use Rattle.smf_dep.specs.declared.relink.PlacedMember.{PlacedMember}
+use Rattle.smf_dep.specs.Updates.{AreSuccessors, IsPlaced}
 use Rattle.smf_dep.proofs.OfItems.{shown}
 use Rattle.smf_dep.proofs.graph.Graph.update.Goals as goal
 
@@ -21,3 +22,14 @@ pub returns-in-None-clause-shown : goal.returns-in-None-clause-shown
 returns-in-None-clause-shown c =
     on_ok_weaker c.update_all.result (λ e. shown c.args.changes.now c.args.self.now c.update_all.new.self e)
     c.update_all.ensures.with
+
+pub returns-in-Some-2-clause-shown : goal.returns-in-Some-2-clause-shown
+returns-in-Some-2-clause-shown c =
+    let P : Option PlacedMember → Type 0 = λ o. IfSome o
+    (λ p. IsPlaced c.args.changes.now c.as_slice-2.result.now p.member p.place) in
+    let ready = subst P c.in-Some-2.is c.in_ok-placed.ensures in
+    let Q : List GraphMember → Type 0 = λ l. IsPlaced c.args.changes.now l c.in-Some-2.placed.member
+    c.in-Some-2.placed.place in
+    let put = (subst Q (c.as_slice-2.ensures.value ∙ c.self.view_is) ready).put in
+    on_ok_weaker c.relink.result (λ e. shown c.args.changes.now c.args.self.now c.relink.new.self (e ∙ put))
+    c.relink.ensures.with

@@ -3,7 +3,7 @@ use Rattle.smf_fmri.specs.ByKey.{Rises}
 use Rattle.smf_dep.specs.declared.member.GraphMember.{GraphMember}
 use Rattle.smf_dep.specs.Members.{by_member}
 use Rattle.smf_dep.specs.Updates.{OthersStay}
-use Rattle.smf_dep.proofs.Alike.{cycles_kept}
+use Rattle.smf_dep.proofs.Alike.{edges_kept}
 use Rattle.smf_fmri.proofs.KeyOrder.{rises_put_all}
 use Rattle.smf_dep.proofs.Updates.{by_touched}
 use Rattle.smf_dep.proofs.graph.Graph.update_in_place.Goals as goal
@@ -15,10 +15,11 @@ invariant_of-self c =
     let P : List GraphMember → Type 0 = Rises by_member in
     record {
       linked = c.take_members.ensures.linked;
-      turning =
-          cycles_kept now was.members.items was.kept c.take_members.new.kept was.cycles.items c.self.invariant.linked
-          c.take_members.ensures.linked
-          c.take_members.ensures.stays.wired c.self.invariant.turning;
+      edged =
+          edges_kept now was.members.items was.kept c.take_members.new.kept was.cycles.edges.items
+          c.self.invariant.linked c.take_members.ensures.linked
+          c.take_members.ensures.stays.wired c.self.invariant.edged;
+      turning = c.self.invariant.turning;
       rises = subst P (sym c.take_members.ensures.with)
           (rises_put_all by_member c.args.successors.items was.members.items c.self.invariant.rises);
     }
@@ -30,9 +31,9 @@ returns-clause-others c =
     let P : List GraphMember → Type 0 = λ l. OthersStay l now c.from_vec.result in
     let R : List GraphMember → Type 0 = Rises by_member in
     subst P c.self.view_is
-    (by_touched was now c.as_slice.result.now c.in_ok-touched.touched.items c.take_members.new.touched.items
+    (by_touched was now c.as_slice.result.now c.take_members.new.touched.items
     c.as_slice-2.result.now c.put_touched.new.numbers.items c.from_vec.result
     c.self.invariant.rises
     (subst R (sym c.take_members.ensures.with) (rises_put_all by_member c.args.successors.items was c.self.invariant.rises))
-    c.take_members.ensures.stays
+    c.take_members.ensures.stays.remains
     c.as_slice.ensures.value c.as_slice-2.ensures.value c.from_vec.ensures c.put_touched.ensures)
