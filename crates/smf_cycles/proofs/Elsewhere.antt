@@ -7,8 +7,8 @@ use Rattle.smf_cycles.proofs.Components.{edge_then, round}
 use Rattle.smf_cycles.proofs.Edits.{edges_elsewhere}
 
 -- two graphs have the same edges at every place but one
-record IsSameBut (p : ℕ) (old new : List (List ℕ)) : Type 0 where
-  same : (a : ℕ) → (a ≡ p → ⊥) → edges_at old a ≡ edges_at new a
+pub record IsSameBut (p : ℕ) (old new : List (List ℕ)) : Type 0 where
+  pub same : (a : ℕ) → (a ≡ p → ⊥) → edges_at old a ≡ edges_at new a
 
 -- a way comes to a place, and goes on from there
 record Passes (edges : List (List ℕ)) (p a b : ℕ) : Type 0 where
@@ -44,7 +44,7 @@ stays_or_passes p old new a b (c ∷ cs) s way =
     ]
 
 -- from the place on to where the way began, and back to the place
-cycle_stays : (p : ℕ) (old new : List (List ℕ)) (a : ℕ) → IsSameBut p old new → (IsOnCycle old p → ⊥)
+pub cycle_stays : (p : ℕ) (old new : List (List ℕ)) (a : ℕ) → IsSameBut p old new → (IsOnCycle old p → ⊥)
     → IsOnCycle old a → IsOnCycle new a
 cycle_stays p old new a s none way =
     elim (stays_or_passes p old new a a way.0 s way.1) [

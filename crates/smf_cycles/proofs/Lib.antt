@@ -6,3 +6,4 @@ pub mod Searches
 pub mod Components
 pub mod Edits
 pub mod Elsewhere
+pub mod Arrival

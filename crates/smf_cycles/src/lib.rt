@@ -2,7 +2,7 @@
 //! Modules: `places` is a list of places, `graph` has lookups, `change` gives one place other edges. `walk` is a search
 //! whose answers are only hints. `ranks` has hints by which a place is on no cycle, `members` hints by which it is on
 //! one. `search` finds without a hint if one place is on a cycle, with its own edges or with others. `cycles` answers
-//! for all places, and `law` has a law of the definitions.
+//! for all places, and `law` has laws of the definitions.
 #![tactic(auto)]
 
 mod change;
@@ -16,6 +16,6 @@ mod search;
 mod walk;
 
 pub use cycles::places_on_cycles;
-pub use law::cycles_stay_elsewhere;
+pub use law::{cycles_stay_before, cycles_stay_elsewhere};
 pub use places::Places;
 pub use search::is_on_cycle_with;
