@@ -148,7 +148,7 @@ cites_in : (ms : List GraphMember) (b : ℕ) (m : GraphMember) → slice_get ms 
 cites_in ms b m h None = refl
 cites_in ms b m h (Some ds) = cited_in ms b m h ds
 
-cites_none : (ms : List GraphMember) (b : ℕ) → slice_get ms b ≡ None → (ds : Option (List Dependency))
+pub cites_none : (ms : List GraphMember) (b : ℕ) → slice_get ms b ≡ None → (ds : Option (List Dependency))
     → list_any (λ q. q == b) (edges_in (links_of ms ds)) ≡ false
 cites_none ms b h None = refl
 cites_none ms b h (Some ds) = uncited_in ms b h ds

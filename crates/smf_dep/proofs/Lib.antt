@@ -5,6 +5,7 @@ pub mod CyclePlaces
 pub mod Found
 pub mod LawCycles
 pub mod Looked
+pub mod Newcomers
 pub mod PlacesByName
 pub mod OfItems
 pub mod Relinked

@@ -1,29 +1,34 @@
--- Findings that stay if an instance depends on other things.
-use Rattle.std.proofs.Common.{◌≡◌, ℕ, zero, suc, ◌<◌, ◌≤◌, List, [], ◌∷◌, map, length, get_or, Bool, ◌&&◌, Option, Some, None, Result, Ok, Err, refl, sym, ap, ◌∙◌, subst, arith}
-use Rattle.std.specs.Prelude.{IfOk, IfSome, is_some, slice_get, slice_set}
+-- Findings that stay if instances depend on other things.
+use Rattle.std.proofs.Common.{◌≡◌, ℕ, zero, suc, ◌+◌, ◌<◌, ◌≤◌, List, [], ◌∷◌, ◌++◌, map, length, drop, get_or, Bool, ◌&&◌, Some, refl, sym, ap, ◌∙◌, subst, inl, inr, arith}
+use Rattle.std.specs.Prelude.{is_some, slice_get, slice_set}
 use Rattle.std.specs.List.{list_any}
 use Rattle.std.proofs.Math.Path.{fun_ext}
-use Rattle.std.proofs.lemmas.List.{length-map}
+use Rattle.std.proofs.lemmas.Bool.{cases_eq}
+use Rattle.std.proofs.lemmas.List.{drop_all, length-map, length-set}
 use Rattle.std.proofs.lemmas.Option.{get_or_from_slice_get, slice_get_within}
 use Rattle.smf_fmri.specs.ByKey.{Rises, StandsAt}
 use Rattle.smf_fmri.proofs.KeyOrder.{rises_put}
 use Rattle.smf_links.specs.declared.link.GraphNode.{GraphNode}
 use Rattle.smf_links.specs.declared.link.Link.{Link}
 use Rattle.smf_links.specs.Blockage.{IsOut, met_at}
-use Rattle.smf_links.specs.Stamps.{Reaches}
+use Rattle.smf_links.specs.declared.link.Relink.{Relink}
+use Rattle.smf_links.specs.Relinks.{AreApart, AreWithin, ReachesAll, with_relinks}
+use Rattle.smf_links.proofs.Work.{left_at}
 use Rattle.smf_state.specs.declared.view.ChangedItem.{ChangedItem}
 use Rattle.smf_state.specs.declared.view.ViewItem.{ViewItem}
 use Rattle.smf_dep.specs.declared.member.GraphMember.{GraphMember}
 use Rattle.smf_dep.specs.Members.{by_member, member_of}
 use Rattle.smf_dep.specs.Names.{instance_name}
-use Rattle.smf_dep.specs.Places.{AreCyclesOf, IsGraph, edges_in, edges_of, flag_at, flags_of, link_stops, links_of, node_of, nodes_of}
-use Rattle.smf_dep.specs.Updates.{IsNamedAt, IsPlaced, IsSuccessor, Remains, number}
+use Rattle.smf_dep.specs.Places.{AreCyclesOf, AreInside, IsGraph, LeavesOthers, edges_by, edges_in, edges_of, flag_at, flags_of, link_stops, links_of, node_of, nodes_of, with_edges}
+use Rattle.smf_dep.specs.Updates.{AreNamed, ArePlaced, IsNamedAt, IsSuccessor, Remains, number, relink_of, with_members, with_placed}
+use Rattle.smf_dep.specs.declared.cycle.PlacedEdges.{PlacedEdges}
+use Rattle.smf_dep.specs.declared.relink.PlacedMember.{PlacedMember}
 use Rattle.smf_dep.proofs.Alike.{links_by, places_named}
 use Rattle.smf_dep.proofs.ByNumber.{stood}
 use Rattle.smf_dep.proofs.CyclePlaces.{cycles_by}
 use Rattle.smf_dep.proofs.Found.{met_is, node_got, stops_in}
 use Rattle.smf_dep.proofs.OfItems.{same_number}
-use Rattle.smf_dep.proofs.Updates.{found_same, map_set, put_by, set_at_key, set_other, stops_stay}
+use Rattle.smf_dep.proofs.Updates.{found_same, map_set, put_by, same_some, set_at_key, set_here, set_other, stops_stay}
 
 -- ---- one item in the place of another
 
@@ -62,21 +67,115 @@ rises_still x ms ms' p r h is =
     let P : List GraphMember → Type 0 = Rises by_member in
     subst P (sym (is ∙ set_at_key x ms p h.before r h.at h.numbered)) (rises_put by_member x ms r)
 
-pub relinked_remains : (x : GraphMember) (ms ms' : List GraphMember) (ns ns' : List GraphNode) (es es' : List (List ℕ))
-    (cs cs' : List Bool) (p : ℕ) (was touched : List ℕ) → IsNamedAt x ms p → ms' ≡ slice_set ms p x → IsGraph ms ns es cs → IsGraph ms' ns' es' cs'
-    → Reaches ns ns' p was touched
-    → ((a : ℕ) → IsOut a was → a < length ms → flag_at cs' a ≡ flag_at cs a) → Remains ms ms' touched
-relinked_remains x ms ms' ns ns' es es' cs cs' p was touched h is g g' far turned =
-    let named : map instance_name ms' ≡ map instance_name ms = names_stay x ms ms' p h is in
+-- ---- several, one after another
+
+named_stays : (x y : GraphMember) (ms : List GraphMember) (p q : ℕ) → IsNamedAt x ms p → IsNamedAt y ms q
+    → IsNamedAt y (slice_set ms p x) q
+named_stays x y ms p q h g =
+    elim (cases_eq p q) [
+      | inl e ↦
+          let same : g.before ≡ h.before = same_some _ _ (sym g.at ∙ ap (slice_get ms) (sym e) ∙ h.at) in
+          let P : ℕ → Type 0 = λ n. slice_get (slice_set ms p x) n ≡ Some x in
+          record {
+            before = x;
+            at = subst P e (set_here ms p h.before x h.at);
+            numbered = sym h.numbered ∙ ap (λ (z : GraphMember). z.instance) (sym same) ∙ g.numbered;
+            named = g.named ∙ ap (λ (z : GraphMember). z.name) same ∙ sym h.named;
+          }
+      | inr ne ↦ record {
+        before = g.before;
+        at = set_other ms p q x ne ∙ g.at;
+        numbered = g.numbered;
+        named = g.named;
+      }
+    ]
+
+pub all_stay_named : (x : GraphMember) (ps : List PlacedMember) (ms : List GraphMember) (p : ℕ) → IsNamedAt x ms p
+    → AreNamed ps ms → AreNamed ps (slice_set ms p x)
+all_stay_named x [] ms p h g = tt
+all_stay_named x (y ∷ ps) ms p h g =
+    (named_stays x y.member ms p y.place h g.0, all_stay_named x ps ms p h g.1)
+
+names_of_all : (ps : List PlacedMember) (ms : List GraphMember) → AreNamed ps ms
+    → map instance_name (with_placed ps ms) ≡ map instance_name ms
+names_of_all [] ms h = refl
+names_of_all (p ∷ ps) ms h =
+    names_of_all ps (slice_set ms p.place p.member) (all_stay_named p.member ps ms p.place h.0 h.1)
+    ∙ names_stay p.member ms (slice_set ms p.place p.member) p.place h.0 refl
+
+numbers_of_all : (ps : List PlacedMember) (ms : List GraphMember) → AreNamed ps ms
+    → map number (with_placed ps ms) ≡ map number ms
+numbers_of_all [] ms h = refl
+numbers_of_all (p ∷ ps) ms h =
+    numbers_of_all ps (slice_set ms p.place p.member) (all_stay_named p.member ps ms p.place h.0 h.1)
+    ∙ map_set number ms p.place h.0.before p.member h.0.at (sym h.0.numbered)
+
+pub rises_of_all : (ps : List PlacedMember) (ms : List GraphMember) → Rises by_member ms → AreNamed ps ms
+    → Rises by_member (with_placed ps ms)
+rises_of_all [] ms r h = r
+rises_of_all (p ∷ ps) ms r h =
+    rises_of_all ps (slice_set ms p.place p.member)
+    (rises_still p.member ms (slice_set ms p.place p.member) p.place r h.0 refl)
+    (all_stay_named p.member ps ms p.place h.0 h.1)
+
+relinks_still : (ps : List PlacedMember) (ms ks : List GraphMember) → map instance_name ms ≡ map instance_name ks
+    → map (relink_of ms) ps ≡ map (relink_of ks) ps
+relinks_still ps ms ks h =
+    ap (λ (f : GraphMember → GraphNode). map (λ (p : PlacedMember). record { place = p.place; node = f p.member }) ps)
+    (node_by ms ks h)
+
+nodes_of_all : (ps : List PlacedMember) (ms : List GraphMember) → AreNamed ps ms
+    → with_relinks (nodes_of ms) (map (relink_of ms) ps) ≡ nodes_of (with_placed ps ms)
+nodes_of_all [] ms h = refl
+nodes_of_all (p ∷ ps) ms h =
+    let now = slice_set ms p.place p.member in
+    let first : slice_set (nodes_of ms) p.place (node_of ms p.member) ≡ nodes_of now =
+    nodes_relinked p.member ms now (nodes_of ms) (slice_set (nodes_of ms) p.place (node_of ms p.member)) p.place h.0
+    refl refl refl in
+    let rest = relinks_still ps ms now (sym (names_stay p.member ms now p.place h.0 refl)) in
+    (λ i. with_relinks (first i) (rest i)) ∙ nodes_of_all ps now (all_stay_named p.member ps ms p.place h.0 h.1)
+
+edges_of_all : (ns : List GraphNode) (rs : List Relink)
+    → with_edges (edges_of ns) (map edges_by rs) ≡ edges_of (with_relinks ns rs)
+edges_of_all ns [] = refl
+edges_of_all ns (r ∷ rs) =
+    ap (λ l. with_edges l (map edges_by rs)) (edges_set ns r.place r.node r.node.links refl)
+    ∙ edges_of_all (slice_set ns r.place r.node) rs
+
+-- an instance that is none of them, and cites none
+apart_stays : (all ms : List GraphMember) (ps : List PlacedMember) (a : ℕ) (ls : List Link)
+    → AreApart a ls (map (relink_of all) ps) → slice_get (with_placed ps ms) a ≡ slice_get ms a
+apart_stays all ms [] a ls h = refl
+apart_stays all ms (p ∷ ps) a ls h =
+    apart_stays all (slice_set ms p.place p.member) ps a ls h.2 ∙ set_other ms p.place a p.member h.0
+
+stops_of_all : (all ms : List GraphMember) (ps : List PlacedMember) (a base : ℕ) (ls : List Link)
+    → AreApart a ls (map (relink_of all) ps)
+    → list_any (link_stops (with_placed ps ms) base) ls ≡ list_any (link_stops ms base) ls
+stops_of_all all ms [] a base ls h = refl
+stops_of_all all ms (p ∷ ps) a base ls h =
+    stops_of_all all (slice_set ms p.place p.member) ps a base ls h.2
+    ∙ stops_stay ms (slice_set ms p.place p.member) p.place (λ q ne. set_other ms p.place q p.member ne) base ls h.1
+
+pub relinked_remains : (ps : List PlacedMember) (ms ms' : List GraphMember) (rs : List Relink) (ns ns' : List GraphNode)
+    (es es' : List (List ℕ)) (cs cs' : List Bool) (touched : List ℕ) → AreNamed ps ms → ms' ≡ with_placed ps ms
+    → rs ≡ map (relink_of ms) ps → IsGraph ms ns es cs → IsGraph ms' ns' es' cs'
+    → LeavesOthers ns ns' rs cs cs' touched → Remains ms ms' touched
+relinked_remains ps ms ms' rs ns ns' es es' cs cs' touched h is e g g' far =
+    let named : map instance_name ms' ≡ map instance_name ms = ap (map instance_name) is ∙ names_of_all ps ms h in
     let size : length ns ≡ length ms = ap length g.linked ∙ length-map ms (node_of ms) in
-    let apart : (a : ℕ) → (p ≡ a → ⊥) → slice_get ms' a ≡ slice_get ms a =
-    λ a ne. ap (λ l. slice_get l a) is ∙ set_other ms p a x ne in
     let node : (a : ℕ) (n : GraphMember) → slice_get ms a ≡ Some n → slice_get ns a ≡ Some (node_of ms n) =
     λ a n at. ap (λ l. slice_get l a) g.linked ∙ node_got ms ms a n at in
+    let apart : (a : ℕ) (n : GraphMember) → IsOut a touched → slice_get ms a ≡ Some n
+    → AreApart a (links_of ms n.dependencies) (map (relink_of ms) ps) =
+    λ a n out at.
+    let P : List Relink → Type 0 = AreApart a (links_of ms n.dependencies) in
+    subst P e (far.apart a (node_of ms n) out (node a n at)) in
     let there : (a : ℕ) (n : GraphMember) → IsOut a touched → slice_get ms a ≡ Some n → slice_get ms' a ≡ Some n =
-    λ a n out at. apart a (far.apart a (node_of ms n) out (node a n at)).0 ∙ at in
+    λ a n out at.
+    ap (λ l. slice_get l a) is ∙ apart_stays ms ms ps a (links_of ms n.dependencies) (apart a n out at) ∙ at in
     record {
-      numbers = ap (map number) is ∙ map_set number ms p h.before x h.at (sym h.numbered);
+      numbers = ap (map number) is ∙ numbers_of_all ps ms h;
       member = there;
       finding = λ a n out at.
           let less = slice_get_within ms a n at in
@@ -88,11 +187,11 @@ relinked_remains x ms ms' ns ns' es es' cs cs' p was touched h is g g' far turne
           ∙ met_is ms a n at)
           (sym (stops_in ms' n.base n.dependencies)
           ∙ ap (list_any (link_stops ms' n.base)) (links_by ms' ms (places_named ms' ms named) n.dependencies)
-          ∙ stops_stay ms ms' p apart n.base (links_of ms n.dependencies)
-          (far.apart a (node_of ms n) out (node a n at)).1
+          ∙ ap (λ l. list_any (link_stops l n.base) (links_of ms n.dependencies)) is
+          ∙ stops_of_all ms ms ps a n.base (links_of ms n.dependencies) (apart a n out at)
           ∙ stops_in ms n.base n.dependencies)
           (sym ((cycles_by ms' es' cs' (g'.edged ∙ ap edges_of g'.linked) g'.turning).flag a n (there a n out at))
-          ∙ turned a (far.grown a out within) less
+          ∙ far.flags a out within
           ∙ (cycles_by ms es cs (g.edged ∙ ap edges_of g.linked) g.turning).flag a n at);
     }
 
@@ -115,20 +214,45 @@ found_named i x ms p r s is e h =
           ∙ ap (λ (z : GraphMember). z.name) (is ∙ get_or_from_slice_get ms p at.0 r at.1);
     }
 
-pub one_placed : (c : ChangedItem) (x : GraphMember) (ms : List GraphMember) (p : ℕ) → Rises by_member ms
-    → IsSuccessor c.item x → IsNamedAt x ms p → IsPlaced (c ∷ []) ms x p
-one_placed c x ms p r s h =
-    record { named = h; put = set_at_key x ms p h.before r h.at h.numbered ∙ sym (put_by c x ms s) }
+-- one more of the changes
+pub more_named : (ps qs : List PlacedMember) (p : PlacedMember) (ms : List GraphMember) → qs ≡ ps ++ p ∷ []
+    → AreNamed ps ms → IsNamedAt p.member ms p.place → AreNamed qs ms
+more_named ps qs p ms e h g = let P : List PlacedMember → Type 0 = λ l. AreNamed l ms in subst P (sym e) (joined ps h)
+  where
+    joined : (ps : List PlacedMember) → AreNamed ps ms → AreNamed (ps ++ p ∷ []) ms
+    joined [] h = (g, tt)
+    joined (q ∷ ps) h = (h.0, joined ps h.1)
 
-pub placed_if : {E X : Type 0} (view : X → GraphMember × ℕ) (o : Result (Option X) E) (cs : List ChangedItem) (c : ChangedItem)
-    (ms : List GraphMember) → Rises by_member ms → cs ≡ c ∷ []
-    → IfOk o (λ q. IfSome q (λ x. IsSuccessor c.item (view x).0 × IsNamedAt (view x).0 ms (view x).1))
-    → IfOk o (λ q. IfSome q (λ x. IsPlaced cs ms (view x).0 (view x).1))
-placed_if view (Ok (Some x)) cs c ms r is h =
-    let P : List ChangedItem → Type 0 = λ l. IsPlaced l ms (view x).0 (view x).1 in
-    subst P (sym is) (one_placed c (view x).0 ms (view x).1 r h.0 h.1)
-placed_if view (Ok None) cs c ms r is h = tt
-placed_if view (Err e) cs c ms r is h = tt
+placed_after : (ps : List PlacedMember) (p : PlacedMember) (ms : List GraphMember)
+    → with_placed (ps ++ p ∷ []) ms ≡ slice_set (with_placed ps ms) p.place p.member
+placed_after [] p ms = refl
+placed_after (q ∷ ps) p ms = placed_after ps p (slice_set ms q.place q.member)
+
+named_after : (ps : List PlacedMember) (x : GraphMember) (q : ℕ) (ms : List GraphMember) → AreNamed ps ms
+    → IsNamedAt x ms q → IsNamedAt x (with_placed ps ms) q
+named_after [] x q ms h g = g
+named_after (p ∷ ps) x q ms h g =
+    named_after ps x q (slice_set ms p.place p.member) (all_stay_named p.member ps ms p.place h.0 h.1)
+    (named_stays p.member x ms p.place q h.0 g)
+
+pub more_placed : (cs : List ChangedItem) (i : ℕ) (c : ChangedItem) (ps qs : List PlacedMember) (p : PlacedMember)
+    (ms : List GraphMember) → Rises by_member ms → AreNamed ps ms → i < length cs → c ≡ get_or cs i c
+    → qs ≡ ps ++ p ∷ [] → IsSuccessor c.item p.member → IsNamedAt p.member ms p.place
+    → with_members (drop i cs) (with_placed ps ms) ≡ with_members cs ms
+    → with_members (drop (i + 1) cs) (with_placed qs ms) ≡ with_members cs ms
+more_placed cs i c ps qs p ms r named lt is e s g h =
+    let now = with_placed ps ms in
+    let there = named_after ps p.member p.place ms named g in
+    ap (with_members (drop (i + 1) cs))
+    (ap (λ l. with_placed l ms) e ∙ placed_after ps p ms
+    ∙ set_at_key p.member now p.place there.before (rises_of_all ps ms r named) there.at there.numbered
+    ∙ sym (put_by c p.member now s))
+    ∙ ap (λ l. with_members l now) (sym (left_at cs i c lt is)) ∙ h
+
+pub are_placed : (cs : List ChangedItem) (i : ℕ) (ps : List PlacedMember) (ms : List GraphMember) → length cs ≤ i
+    → AreNamed ps ms → with_members (drop i cs) (with_placed ps ms) ≡ with_members cs ms → ArePlaced cs ps ms
+are_placed cs i ps ms le n h =
+    record { named = n; put = ap (λ l. with_members l (with_placed ps ms)) (sym (drop_all i cs le)) ∙ h }
 
 pub alone : (cs : List ChangedItem) (c : ChangedItem) → 1 ≤ length cs → length cs < 2 → c ≡ get_or cs 0 c → cs ≡ c ∷ []
 alone [] c least below is = absurd (omega (arith, least))
@@ -137,24 +261,62 @@ alone (x ∷ y ∷ cs) c least below is = absurd (omega (arith, below))
 
 -- ---- the graph after it
 
-pub graph_relinked : (x : GraphMember) (ms ms' : List GraphMember) (ns ns' : List GraphNode) (node : GraphNode)
-    (es es' others : List (List ℕ)) (cs cs' : List Bool) (p : ℕ) (links : List Link) → IsNamedAt x ms p → ms' ≡ slice_set ms p x
-    → IsGraph ms ns es cs → node ≡ node_of ms x → ns' ≡ slice_set ns p node → links ≡ node.links
-    → es' ≡ slice_set es p (edges_in links) → others ≡ es' → AreCyclesOf others cs' → IsGraph ms' ns' es' cs'
-graph_relinked x ms ms' ns ns' node es es' others cs cs' p links h is g e set same put turned turning =
-    let P : List (List ℕ) → Type 0 = λ l. AreCyclesOf l cs' in
+pub graph_relinked : (ps : List PlacedMember) (ms ms' : List GraphMember) (rs : List Relink) (ns ns' : List GraphNode)
+    (es es' : List (List ℕ)) (cs cs' : List Bool) → AreNamed ps ms → ms' ≡ with_placed ps ms
+    → rs ≡ map (relink_of ms) ps → IsGraph ms ns es cs → ns' ≡ with_relinks ns rs → es' ≡ edges_of ns'
+    → AreCyclesOf es' cs' → IsGraph ms' ns' es' cs'
+graph_relinked ps ms ms' rs ns ns' es es' cs cs' h is e g set edged turning =
+    let Q : List GraphMember → Type 0 = Rises by_member in
     record {
-      linked = nodes_relinked x ms ms' ns ns' p h is g.linked (set ∙ ap (slice_set ns p) e);
-      edged = put ∙ ap (λ l. slice_set l p (edges_in links)) g.edged ∙ edges_set ns p node links (sym same)
-          ∙ ap edges_of (sym set);
-      turning = subst P turned turning;
-      rises = rises_still x ms ms' p g.rises h is;
+      linked = set ∙ (λ i. with_relinks (g.linked i) (e i)) ∙ nodes_of_all ps ms h ∙ ap nodes_of (sym is);
+      edged = edged;
+      turning = turning;
+      rises = subst Q (sym is) (rises_of_all ps ms g.rises h);
     }
 
-pub within_edges : (x : GraphMember) (ms : List GraphMember) (ns : List GraphNode) (es : List (List ℕ)) (cs : List Bool)
-    (p : ℕ) → IsNamedAt x ms p → IsGraph ms ns es cs → p < length es
-within_edges x ms ns es cs p h g =
-    let less = slice_get_within ms p h.before h.at in
+within_count : (all ms : List GraphMember) (ps : List PlacedMember) (count : ℕ) → count ≡ length ms → AreNamed ps ms
+    → AreWithin count (map (relink_of all) ps)
+within_count all ms [] count e h = tt
+within_count all ms (p ∷ ps) count e h =
+    let less = slice_get_within ms p.place h.0.before h.0.at in
+    ((omega arith), within_count all ms ps count e h.1)
+
+pub within_nodes : (ps : List PlacedMember) (ms : List GraphMember) (rs : List Relink) (ns : List GraphNode)
+    (es : List (List ℕ)) (cs : List Bool) → AreNamed ps ms → rs ≡ map (relink_of ms) ps → IsGraph ms ns es cs
+    → AreWithin (length ns) rs
+within_nodes ps ms rs ns es cs h e g =
     let as_nodes : length ns ≡ length ms = ap length g.linked ∙ length-map ms (node_of ms) in
-    let as_edges : length es ≡ length ns = ap length g.edged ∙ length-map ns (λ (n : GraphNode). edges_in n.links) in
-    omega arith
+    let P : List Relink → Type 0 = AreWithin (length ns) in
+    subst P (sym e) (within_count ms ms ps (length ns) as_nodes h)
+
+pub room_for_nodes : (ms : List GraphMember) (ns : List GraphNode) (es : List (List ℕ)) (cs : List Bool) (room : ℕ)
+    → IsGraph ms ns es cs → length ms ≤ room → length ns ≤ room
+room_for_nodes ms ns es cs room g le =
+    let as_nodes : length ns ≡ length ms = ap length g.linked ∙ length-map ms (node_of ms) in omega arith
+
+-- ---- links and cycles after instances get other links
+
+pub edges_after : (ns ns' : List GraphNode) (rs : List Relink) (ts : List PlacedEdges) (es es' : List (List ℕ))
+    → es ≡ edges_of ns → ts ≡ map edges_by rs → es' ≡ with_edges es ts → ns' ≡ with_relinks ns rs → es' ≡ edges_of ns'
+edges_after ns ns' rs ts es es' e et put set =
+    put ∙ (λ i. with_edges (e i) (et i)) ∙ edges_of_all ns rs ∙ ap edges_of (sym set)
+
+pub leaves_others : (ns ns' : List GraphNode) (rs : List Relink) (cs cs' : List Bool) (was touched : List ℕ)
+    → ReachesAll ns ns' rs was touched → ((a : ℕ) → IsOut a was → a < length ns → flag_at cs' a ≡ flag_at cs a)
+    → LeavesOthers ns ns' rs cs cs' touched
+leaves_others ns ns' rs cs cs' was touched far turned =
+    record { apart = far.apart; met = far.met; flags = λ a out less. turned a (far.grown a out less) less }
+
+pub all_inside : (count : ℕ) (rs : List Relink) → AreWithin count rs → AreInside count (map edges_by rs)
+all_inside count [] h = tt
+all_inside count (r ∷ rs) h = (h.0, all_inside count rs h.1)
+
+-- the same over what a call names
+pub are_inside : (count : ℕ) (rs : List Relink) (ts : List PlacedEdges) → AreWithin count rs → ts ≡ map edges_by rs
+    → AreInside count ts
+are_inside count rs ts h e =
+    let P : List PlacedEdges → Type 0 = AreInside count in subst P (sym e) (all_inside count rs h)
+
+pub length_placed : (ps : List PlacedMember) (ms : List GraphMember) → length (with_placed ps ms) ≡ length ms
+length_placed [] ms = refl
+length_placed (p ∷ ps) ms = length_placed ps (slice_set ms p.place p.member) ∙ length-set ms p.place p.member

@@ -23,6 +23,7 @@ flags_stay edges p others flags was on within h is e f searched =
     λ way. not_true (paths.flag_at flags p) (sym (is ∙ same_flag flags p) ∙ e) ((h.exact p within).1 way) in
     let after : paths.IsOnCycle (slice_set edges p others) p → ⊥ = λ way. not_true on f (searched.1 way) in
     record {
+      size = h.size ∙ sym (length-set edges p others);
       exact = λ a less.
           let lower : a < length edges = subst (λ n. a < n) (length-set edges p others) less in
           let stays = cycles_elsewhere edges p others before after a in

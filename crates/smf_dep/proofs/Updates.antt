@@ -31,10 +31,10 @@ use Rattle.smf_dep.proofs.OfItems.{same_number}
 
 -- ---- one member in the place of another
 
-same_some : {X : Type 0} (x y : X) → Some x ≡ Some y → x ≡ y
+pub same_some : {X : Type 0} (x y : X) → Some x ≡ Some y → x ≡ y
 same_some x y e = cc
 
-set_here : (ms : List GraphMember) (p : ℕ) (m x : GraphMember) → slice_get ms p ≡ Some m
+pub set_here : (ms : List GraphMember) (p : ℕ) (m x : GraphMember) → slice_get ms p ≡ Some m
     → slice_get (slice_set ms p x) p ≡ Some x
 set_here [] p m x e = absurd cc
 set_here (y ∷ ms) zero m x e = refl

@@ -1,12 +1,15 @@
 -- Dependencies by the places of instances in a list, so that a name is looked for once.
-use Rattle.std.specs.Prelude.{◌≡◌, ◌↔◌, ◌<◌, ℕ, ◌+◌, List, [], ◌∷◌, ◌++◌, map, length, Bool, false, IsTrue, Vec, ◌&&◌, if◌then◌else◌, Option, Some, None, unwrap_or, is_some, slice_get}
+use Rattle.std.specs.Prelude.{◌≡◌, ◌↔◌, ◌<◌, ℕ, ◌+◌, List, [], ◌∷◌, ◌++◌, map, length, Bool, false, IsTrue, Vec, ◌&&◌, if◌then◌else◌, Option, Some, None, unwrap_or, is_some, slice_get, slice_set}
 use Rattle.std.specs.List.{list_any}
 use Rattle.std.specs.Option.{option_map_or}
 use Rattle.smf_cycles.specs.Paths as paths
 use Rattle.smf_links.specs.declared.link.Link.{Link}
 use Rattle.smf_links.specs.declared.link.GraphNode.{GraphNode}
 use Rattle.smf_links.specs.declared.link.Flags.{Flags}
-use Rattle.smf_links.specs.Blockage.{met_at}
+use Rattle.smf_links.specs.declared.link.Relink.{Relink}
+use Rattle.smf_links.specs.Blockage.{IsOut, met_at}
+use Rattle.smf_links.specs.Relinks.{AreApart}
+use Rattle.smf_dep.specs.declared.cycle.PlacedEdges.{PlacedEdges}
 use Rattle.smf_dep.specs.declared.dependency.Dependency.{Dependency}
 use Rattle.smf_fmri.specs.ByKey.{Rises}
 use Rattle.smf_dep.specs.declared.graph.Finding.{Finding}
@@ -84,6 +87,30 @@ edges_of nodes = map (λ n. edges_in n.links) nodes
 pub record AreCycles (ms : List GraphMember) (flags : List Bool) : Type 0 where
   pub flag : (a : ℕ) (m : GraphMember) → slice_get ms a ≡ Some m → flag_at flags a ≡ on_cycle ms m
 
+-- ---- some places get other edges
+
+-- the edges of an instance that gets other links
+abbrev pub edges_by : Relink → PlacedEdges
+edges_by r = record { place = r.place; edges = edges_in r.node.links }
+
+-- one after another
+abbrev pub with_edges : List (List ℕ) → List PlacedEdges → List (List ℕ)
+with_edges edges [] = edges
+with_edges edges (t ∷ ts) = with_edges (slice_set edges t.place t.edges) ts
+
+-- each of these places is below the count
+abbrev pub AreInside : ℕ → List PlacedEdges → Type 0
+AreInside count [] = Unit
+AreInside count (t ∷ ts) = (t.place < count) × AreInside count ts
+
+-- Some instances got other links. At a place that is not touched, an instance cites none of them, and its links and
+-- its cycles are as before.
+pub record LeavesOthers (ns ns' : List GraphNode) (relinks : List Relink) (cycles cycles' : List Bool)
+    (touched : List ℕ) : Type 0 where
+  pub apart : (a : ℕ) (n : GraphNode) → IsOut a touched → slice_get ns a ≡ Some n → AreApart a n.links relinks
+  pub met : (a : ℕ) → IsOut a touched → a < length ns → met_at ns' a ≡ met_at ns a
+  pub flags : (a : ℕ) → IsOut a touched → a < length ns → flag_at cycles' a ≡ flag_at cycles a
+
 -- ---- the finding of each instance
 
 unfoldable pub finding_of : List GraphMember → GraphMember → Finding
@@ -107,6 +134,7 @@ finding_at ms ns cycles m place =
 
 -- flags that say of each place with these edges whether it is on a cycle
 pub record AreCyclesOf (edges : List (List ℕ)) (flags : List Bool) : Type 0 where
+  pub size : length flags ≡ length edges
   pub exact : (a : ℕ) → a < length edges → IsTrue (paths.flag_at flags a) ↔ paths.IsOnCycle edges a
 
 -- other flags, if there are any

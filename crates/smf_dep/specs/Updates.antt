@@ -1,12 +1,19 @@
 -- Members that are brought up to date by items that changed, and the findings that stay.
-use Rattle.std.specs.Prelude.{◌≡◌, ℕ, ◌<◌, List, [], ◌∷◌, map, length, Option, Some, None, slice_get, slice_set}
+use Rattle.std.specs.Prelude.{◌≡◌, ℕ, ◌<◌, List, [], ◌∷◌, ◌++◌, ◌+◌, ◌||◌, nat_eq, if◌then◌else◌, map, length, Bool, false, Option, Some, None, slice_get, slice_set}
+use Rattle.std.specs.List.{list_any}
+use Rattle.std.specs.Option.{option_map_or}
 use Rattle.smf_fmri.specs.ByKey.{lookup, list_with_item, put_all, without}
 use Rattle.smf_state.specs.declared.view.ChangedItem.{ChangedItem}
 use Rattle.smf_state.specs.declared.view.ViewItem.{ViewItem}
+use Rattle.smf_links.specs.declared.link.GraphNode.{GraphNode}
+use Rattle.smf_links.specs.declared.link.Relink.{Relink}
 use Rattle.smf_links.specs.Blockage.{IsOut}
+use Rattle.smf_dep.specs.declared.dependency.Dependency.{Dependency}
 use Rattle.smf_dep.specs.declared.member.GraphMember.{GraphMember}
+use Rattle.smf_dep.specs.declared.relink.PlacedMember.{PlacedMember}
 use Rattle.smf_dep.specs.Members.{by_member, member_of, wires}
-use Rattle.smf_dep.specs.Places.{finding_of}
+use Rattle.smf_dep.specs.Places.{finding_of, flags_of, node_of, nodes_of}
+use Rattle.smf_dep.specs.Verdicts.{is_cited}
 
 -- an instance whose number is not touched is as before, and so is its finding
 pub record OthersStay (before after : List GraphMember) (touched : List ℕ) : Type 0 where
@@ -51,7 +58,7 @@ pub record AreSuccessors (cs : List ChangedItem) (xs ms : List GraphMember) : Ty
   pub fit : AllFit xs ms
   pub put : put_all by_member xs ms ≡ with_members cs ms
 
--- ---- a member that may depend on other things
+-- ---- members that may depend on other things
 
 -- the member at the place has the number and the name of this one
 pub record IsNamedAt (m : GraphMember) (ms : List GraphMember) (place : ℕ) : Type 0 where
@@ -60,10 +67,63 @@ pub record IsNamedAt (m : GraphMember) (ms : List GraphMember) (place : ℕ) : T
   pub numbered : before.instance ≡ m.instance
   pub named : m.name ≡ before.name
 
--- the changes are the one that puts the member in that place
-pub record IsPlaced (cs : List ChangedItem) (ms : List GraphMember) (m : GraphMember) (place : ℕ) : Type 0 where
-  pub named : IsNamedAt m ms place
-  pub put : slice_set ms place m ≡ with_members cs ms
+abbrev pub AreNamed : List PlacedMember → List GraphMember → Type 0
+AreNamed [] ms = Unit
+AreNamed (p ∷ ps) ms = IsNamedAt p.member ms p.place × AreNamed ps ms
+
+-- each in its place, one after another
+abbrev pub with_placed : List PlacedMember → List GraphMember → List GraphMember
+with_placed [] ms = ms
+with_placed (p ∷ ps) ms = with_placed ps (slice_set ms p.place p.member)
+
+-- the changes put these members in their places
+pub record ArePlaced (cs : List ChangedItem) (ps : List PlacedMember) (ms : List GraphMember) : Type 0 where
+  pub named : AreNamed ps ms
+  pub put : with_placed ps ms ≡ with_members cs ms
+
+-- the same members, with what they depend on by the places of these instances
+abbrev pub relink_of : List GraphMember → PlacedMember → Relink
+relink_of ms p = record { place = p.place; node = node_of ms p.member }
+
+-- ---- a member that comes
+
+-- its number is above all others
+abbrev pub IsAbove : GraphMember → List GraphMember → Type 0
+IsAbove m ms = list_with_item by_member m ms ≡ ms ++ m ∷ []
+
+-- the changes are the one by which the member comes
+pub record Arrives (cs : List ChangedItem) (ms : List GraphMember) (m : GraphMember) : Type 0 where
+  pub above : IsAbove m ms
+  pub put : ms ++ m ∷ [] ≡ with_members cs ms
+
+-- an entity of a group stands for an instance
+abbrev pub names : GraphMember → Dependency → Bool
+names m d = list_any (λ e. is_cited e m) d.entities
+
+-- a group of an instance names another
+abbrev pub is_named_by : GraphMember → GraphMember → Bool
+is_named_by m a = option_map_or (list_any (names m)) a.dependencies false
+
+-- an instance is the one that came, or names that
+abbrev pub is_linked_to : GraphMember → GraphMember → Bool
+is_linked_to m a = nat_eq a.instance m.instance || is_named_by m a
+
+-- these instances, with what they depend on by the places of all; their own places are counted from at
+abbrev pub relinks_from : List GraphMember → GraphMember → ℕ → List GraphMember → List Relink
+relinks_from all m at [] = []
+relinks_from all m at (x ∷ xs) =
+    if is_linked_to m x then record { place = at; node = node_of all x } ∷ relinks_from all m (at + 1) xs
+    else relinks_from all m (at + 1) xs
+
+-- an instance that is there without what it depends on
+abbrev pub blank_of : GraphMember → GraphNode
+blank_of m = record { flags = flags_of m; links = [] }
+
+-- the instances, of which the last is blank, and no other knows it yet
+pub record IsJoined (all : List GraphMember) (m : GraphMember) (ns : List GraphNode) : Type 0 where
+  pub before : List GraphMember
+  pub members : all ≡ before ++ m ∷ []
+  pub nodes : ns ≡ nodes_of before ++ blank_of m ∷ []
 
 -- ---- instances that such a change leaves alone
 

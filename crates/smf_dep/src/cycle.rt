@@ -1,9 +1,10 @@
-ghost use Rattle.std.specs.Prelude.{◌≡◌, ◌<◌, ◌++◌, IfOk, length, slice_set};
-ghost use Rattle.smf_dep.specs.Places.{AreCyclesOf, edges_in, edges_of, flag_at, flags_after, places_in_lists};
+ghost use Rattle.std.specs.Prelude.{◌≡◌, ◌<◌, ◌-◌, ◌++◌, ◌∷◌, [], false, map, take, IfOk, OnOk, length, slice_set, vec_capacity};
+ghost use Rattle.smf_links.specs.Relinks.{AreWithin};
+ghost use Rattle.smf_dep.specs.Places.{AreCyclesOf, AreInside, edges_by, edges_in, edges_of, flag_at, flags_after, places_in_lists, with_edges};
 
 use smf_cycles::{Places, is_on_cycle_with, places_on_cycles};
 use smf_fmri::Items;
-use smf_links::{GraphNode, Grouping, Link};
+use smf_links::{GraphNode, Grouping, Link, Relink};
 use std::alloc::{AllocError, Global};
 
 /// Puts places after others.
@@ -50,10 +51,17 @@ pub(crate) struct Cycles {
     pub flags: Vec<bool>,
 }
 
-/// The edges that a place gets, and the flags of all places if some are others then.
+/// The edges that a place gets.
+#[derive(Drop)]
+pub(crate) struct PlacedEdges {
+    pub place: usize,
+    pub edges: Places,
+}
+
+/// The edges that some places get, and the flags of all places if some are others then.
 #[derive(Drop)]
 pub(crate) struct Turn {
-    pub edges: Places,
+    pub edges: Vec<PlacedEdges>,
     pub flags: Option<Vec<bool>>,
 }
 
@@ -120,18 +128,17 @@ fn flags_with(
 /// neither before nor after, changes no flag.
 fn changed_flags(
     alloc: Global,
-    cycles: &Cycles,
+    edges: &[Places],
+    flags: &[bool],
     place: usize,
     others: &[usize],
 ) -> Result<Option<Vec<bool>>, AllocError>
-    requires within { place < length cycles.now.edges.items }
-    requires turning { AreCyclesOf cycles.now.edges.items cycles.now.flags.items }
+    requires within { place < length edges.now }
+    requires turning { AreCyclesOf edges.now flags.now }
     ensures { IfOk result
-        (λ o. AreCyclesOf (slice_set cycles.now.edges.items place others.now)
-        (flags_after cycles.now.flags.items o)) }
+        (λ o. AreCyclesOf (slice_set edges.now place others.now) (flags_after flags.now o)) }
 {
-    let edges = cycles.edges.as_slice();
-    if flag_at(cycles.flags.as_slice(), place) {
+    if flag_at(flags, place) {
         let flags = flags_with(alloc, edges, place, others)?;
         return Ok(Some(flags));
     }
@@ -142,36 +149,163 @@ fn changed_flags(
     Ok(None)
 }
 
-/// What becomes of the cycles if an instance has these links.
+/// The newest flags: others, if there are any.
+fn newest<'a>(flags: &'a [bool], others: &'a Option<Vec<bool>>) -> &'a [bool]
+    ensures { result.now ≡ flags_after flags.now others.now }
+{
+    match others {
+        None => flags,
+        Some(others) => others.as_slice(),
+    }
+}
+
+/// The same after one more place gets other edges.
+fn flags_by_one(
+    alloc: Global,
+    edges: &[Places],
+    flags: &[bool],
+    others: Option<Vec<bool>>,
+    turn: &PlacedEdges,
+) -> Result<Option<Vec<bool>>, AllocError>
+    requires within { turn.now.place < length edges.now }
+    requires turning { AreCyclesOf edges.now (flags_after flags.now others) }
+    ensures { IfOk result
+        (λ o. AreCyclesOf (slice_set edges.now turn.now.place turn.now.edges) (flags_after flags.now o)) }
+{
+    let before = newest(flags, &others);
+    match changed_flags(alloc, edges, before, turn.place, turn.edges.as_slice())? {
+        None => Ok(others),
+        Some(changed) => Ok(Some(changed)),
+    }
+}
+
+/// The flags of all places if some get these edges, one after another.
+fn flags_by_turns(
+    alloc: Global,
+    cycles: &Cycles,
+    turns: &[PlacedEdges],
+) -> Result<Option<Vec<bool>>, AllocError>
+    requires within { AreInside (length cycles.now.edges.items) turns.now }
+    requires turning { AreCyclesOf cycles.now.edges.items cycles.now.flags.items }
+    ensures { IfOk result
+        (λ o. AreCyclesOf (with_edges cycles.now.edges.items turns.now) (flags_after cycles.now.flags.items o)) }
+{
+    let mut all = copies(alloc, cycles.edges.as_slice())?;
+    let mut others: Option<Vec<bool>> = None;
+    for turn in turns {
+        let edges = copy_of(alloc, turn.edges.as_slice())?;
+        others = flags_by_one(alloc, all.as_slice(), cycles.flags.as_slice(), others, turn)?;
+        put_edges(&mut all, turn.place, edges);
+    }
+    Ok(others)
+}
+
+/// The flags of all places if some get these edges, or none if they stay as they are.
+fn flags_of_turn(
+    alloc: Global,
+    cycles: &Cycles,
+    turns: &[PlacedEdges],
+) -> Result<Option<Vec<bool>>, AllocError>
+    requires within { AreInside (length cycles.now.edges.items) turns.now }
+    requires turning { AreCyclesOf cycles.now.edges.items cycles.now.flags.items }
+    ensures { IfOk result
+        (λ o. AreCyclesOf (with_edges cycles.now.edges.items turns.now) (flags_after cycles.now.flags.items o)) }
+{
+    match turns {
+        [turn] => changed_flags(
+            alloc,
+            cycles.edges.as_slice(),
+            cycles.flags.as_slice(),
+            turn.place,
+            turn.edges.as_slice(),
+        ),
+        _ => flags_by_turns(alloc, cycles, turns),
+    }
+}
+
+/// The edges of instances that get other links.
+fn edges_by(alloc: Global, relinks: &[Relink]) -> Result<Vec<PlacedEdges>, AllocError>
+    ensures { IfOk result (λ all. all.items ≡ map edges_by relinks.now) }
+{
+    let mut all = Vec::with_capacity(alloc, relinks.len())?;
+    for relink in relinks {
+        let edges = edges_in(alloc, relink.node.links.as_slice())?;
+        all.push(PlacedEdges {
+            place: relink.place,
+            edges: Places::from_vec(edges),
+        })?;
+    }
+    Ok(all)
+}
+
+/// What becomes of the cycles if some instances have these links.
 pub(crate) fn turn_of(
     alloc: Global,
     cycles: &Cycles,
-    place: usize,
-    links: &[Link],
+    relinks: &[Relink],
 ) -> Result<Turn, AllocError>
-    requires within { place < length cycles.now.edges.items }
+    requires within { AreWithin (length cycles.now.edges.items) relinks.now }
     requires turning { AreCyclesOf cycles.now.edges.items cycles.now.flags.items }
-    ensures edges { IfOk result (λ t. t.edges ≡ edges_in links.now) }
+    ensures edges { IfOk result (λ t. t.edges.items ≡ map edges_by relinks.now) }
     ensures flags { IfOk result
-        (λ t. AreCyclesOf (slice_set cycles.now.edges.items place t.edges)
+        (λ t. AreCyclesOf (with_edges cycles.now.edges.items t.edges.items)
         (flags_after cycles.now.flags.items t.flags)) }
 {
-    let others = edges_in(alloc, links)?;
-    let flags = changed_flags(alloc, cycles, place, others.as_slice())?;
-    let edges = Places::from_vec(others);
+    let edges = edges_by(alloc, relinks)?;
+    let flags = flags_of_turn(alloc, cycles, edges.as_slice())?;
     Ok(Turn { edges, flags })
 }
 
+/// Gives places other edges, one after another.
+fn put_all_edges(edges: &mut Vec<Places>, turns: Vec<PlacedEdges>)
+    ensures { edges.new.items ≡ with_edges edges.old.items turns.items }
+{
+    for turn in turns {
+        put_edges(edges, turn.place, turn.edges);
+    }
+}
+
 impl Cycles {
-    pub(crate) fn install(&mut self, place: usize, turn: Turn)
-        ensures edges { self.new.edges.items ≡ slice_set self.old.edges.items place turn.edges }
+    pub(crate) fn install(&mut self, turn: Turn)
+        ensures edges { self.new.edges.items ≡ with_edges self.old.edges.items turn.edges.items }
         ensures flags { self.new.flags.items ≡ flags_after self.old.flags.items turn.flags }
     {
         let Turn { edges, flags } = turn;
-        put_edges(&mut self.edges, place, edges);
+        put_all_edges(&mut self.edges, edges);
         if let Some(flags) = flags {
             self.flags = flags;
         }
+    }
+
+    /// Makes room for one more place.
+    pub(crate) fn reserve(&mut self) -> Result<(), AllocError>
+        ensures edges { self.new.edges.items ≡ self.old.edges.items }
+        ensures flags { self.new.flags.items ≡ self.old.flags.items }
+        ensures room { OnOk result ((length self.new.edges.items < vec_capacity self.new.edges)
+            × (length self.new.flags.items < vec_capacity self.new.flags)) }
+    {
+        self.edges.reserve(1)?;
+        self.flags.reserve(1)
+    }
+
+    /// Puts a place after the others, which is on no cycle.
+    pub(crate) fn push(&mut self, edges: Places)
+        requires { (length self.old.edges.items < vec_capacity self.old.edges)
+            × (length self.old.flags.items < vec_capacity self.old.flags) }
+        ensures edges { self.new.edges.items ≡ self.old.edges.items ++ edges ∷ [] }
+        ensures flags { self.new.flags.items ≡ self.old.flags.items ++ false ∷ [] }
+    {
+        let _ = self.edges.push(edges);
+        let _ = self.flags.push(false);
+    }
+
+    /// Takes the last place out.
+    pub(crate) fn pop(&mut self)
+        ensures edges { self.new.edges.items ≡ take (length self.old.edges.items - 1) self.old.edges.items }
+        ensures flags { self.new.flags.items ≡ take (length self.old.flags.items - 1) self.old.flags.items }
+    {
+        let _ = self.edges.pop();
+        let _ = self.flags.pop();
     }
 }
 

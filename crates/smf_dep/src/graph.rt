@@ -1,22 +1,23 @@
 ghost use Rattle.std.specs.List.{AllZip, list_any, position};
 ghost use Rattle.std.specs.Option.{option_copied};
-ghost use Rattle.std.specs.Prelude.{◌≡◌, IfOk, List, OnErr, OnOk, option_map, slice_get, slice_set};
+ghost use Rattle.std.specs.Prelude.{◌≡◌, ◌++◌, ◌∷◌, [], IfOk, List, OnErr, OnOk, option_map, slice_get};
 ghost use Rattle.smf_fmri.specs.ByKey.{Rises, has_key, put_all};
 ghost use Rattle.smf_state.specs.Patched.{by_item, with_items};
 ghost use Rattle.smf_state.specs.declared.view.ViewItem.{ViewItem as AnyItem};
 ghost use Rattle.smf_dep.specs.Members.{IsOfItem, by_member, members};
 ghost use Rattle.smf_dep.specs.Places.{AreCyclesOf, edges_of, event_at, finding_at, finding_of, flag_at, link_stops, node_stops, node_of, nodes_of};
 ghost use Rattle.smf_dep.specs.Verdicts.{must_stop, stops_by, verdict, verdict_by};
-ghost use Rattle.smf_dep.specs.Updates.{AllFit, IsNamedAt, IsPlaced, OthersStay, with_members};
+ghost use Rattle.smf_dep.specs.Updates.{AllFit, AreNamed, IsAbove, OthersStay, with_members, with_placed};
 
-use crate::cycle::{Cycles, cycles_of, flag_at, turn_of};
+use crate::arrival::{arrival_in, join, leave, link_last};
+use crate::cycle::{Cycles, cycles_of, flag_at};
 use crate::dependency::Dependency;
-use crate::link::{has_few_entities, link_of, node_of, nodes_of};
+use crate::link::{link_of, nodes_of};
 use crate::member::{
     GraphMember, ReadMember, Standing, members_again, renewed_members, standing_of,
 };
 use crate::names::Names;
-use crate::relink::{PlacedMember, member_for_one, put_turned, set_member};
+use crate::relink::{PlacedMember, placed_members, relinks_for, rewire, set_members};
 use crate::update::{changed_members, numbers_of, place_in, put_touched, successors, take_members};
 use smf_fmri::Items;
 use smf_links::{GraphNode, Grouping, KeptVerdicts, Link, RestartOn};
@@ -240,43 +241,74 @@ impl Graph {
         if let Some(successors) = successors(alloc, self.members.as_slice(), changes)? {
             return self.update_in_place(alloc, successors);
         }
-        match member_for_one(alloc, self.members.as_slice(), changes)? {
+        if let Some(member) = arrival_in(alloc, self.members.as_slice(), changes)? {
+            return self.grow(alloc, member);
+        }
+        match placed_members(alloc, self.members.as_slice(), changes)? {
             Some(placed) => self.relink(alloc, placed),
             None => self.update_all(alloc, changes),
         }
     }
 
-    /// Gives one instance other dependencies. All that may fail goes first.
-    fn relink(&mut self, alloc: Global, placed: PlacedMember) -> Result<Items<u64>, AllocError>
-        requires { IsNamedAt placed.member self.old placed.place }
-        ensures with { OnOk result (self.new ≡ slice_set self.old placed.place placed.member) }
+    /// Gives some instances other dependencies. All that may fail goes first.
+    fn relink(&mut self, alloc: Global, placed: Vec<PlacedMember>) -> Result<Items<u64>, AllocError>
+        requires { AreNamed placed.items self.old }
+        ensures with { OnOk result (self.new ≡ with_placed placed.items self.old) }
         ensures others { IfOk result (λ touched. OthersStay self.old self.new touched) }
         ensures err { OnErr result (self.new ≡ self.old) }
     {
-        let PlacedMember { member, place } = placed;
-        let node = self.node_for(alloc, member.member())?;
-        let turn = turn_of(alloc, &self.cycles, place, node.links.as_slice())?;
+        let relinks = relinks_for(alloc, self.members.as_slice(), placed.as_slice())?;
         let mut touched = Vec::with_capacity(alloc, self.members.len())?;
         let mut numbers = Vec::with_capacity(alloc, self.members.len())?;
-        let count = self.members.len();
-        put_turned(&mut touched, self.cycles.flags.as_slice(), &turn, count);
-        self.kept.relink(alloc, place, node, &mut touched)?;
-        set_member(&mut self.members, place, member);
-        self.cycles.install(place, turn);
+        rewire(
+            alloc,
+            &mut self.kept,
+            &mut self.cycles,
+            relinks,
+            &mut touched,
+        )?;
+        set_members(&mut self.members, placed);
         put_touched(&mut numbers, self.members.as_slice(), touched.as_slice());
         Ok(Items::from_vec(numbers))
     }
 
-    /// A member with what it depends on by the places of the instances that are there.
-    fn node_for(&self, alloc: Global, member: &GraphMember) -> Result<GraphNode, AllocError>
-        ensures { IfOk result (λ n. n ≡ node_of self.now member.now) }
+    /// Puts an instance after the others, and links it with those that name it. If that fails, it is taken out again.
+    fn grow(&mut self, alloc: Global, member: ReadMember) -> Result<Items<u64>, AllocError>
+        requires { IsAbove member self.old }
+        ensures with { OnOk result (self.new ≡ self.old ++ member ∷ []) }
+        ensures others { IfOk result (λ touched. OthersStay self.old self.new touched) }
+        ensures err { OnErr result (self.new ≡ self.old) }
     {
-        if has_few_entities(&member.dependencies) {
-            let names = Names::over(self.members.as_slice());
-            return node_of(alloc, &names, member, None);
+        let place = self.members.len();
+        let count = place.checked_add(1).ok_or(AllocError)?;
+        let mut touched = Vec::with_capacity(alloc, count)?;
+        let mut numbers = Vec::with_capacity(alloc, count)?;
+        join(
+            alloc,
+            &mut self.members,
+            &mut self.kept,
+            &mut self.cycles,
+            member,
+        )?;
+        let members = self.members.as_slice();
+        let last = members[place].member();
+        match link_last(
+            alloc,
+            members,
+            last,
+            &mut self.kept,
+            &mut self.cycles,
+            &mut touched,
+        ) {
+            Ok(()) => {
+                put_touched(&mut numbers, self.members.as_slice(), touched.as_slice());
+                Ok(Items::from_vec(numbers))
+            }
+            Err(fault) => {
+                leave(&mut self.members, &mut self.kept, &mut self.cycles);
+                Err(fault)
+            }
         }
-        let names = Names::of(alloc, self.members.as_slice())?;
-        node_of(alloc, &names, member, None)
     }
 
     /// Puts members in the places of those with their numbers. All that may fail goes first.

@@ -4,10 +4,11 @@
 //! `member` is an instance as a verdict looks at it, and `methods` finds if its methods let it be run. `names` has
 //! places by names, and `link` finds dependencies by places. `cycle` finds which instances depend on themselves. `graph`
 //! is a graph of instances, and `update` brings it up to date by items that changed,
-//! `relink` by one that depends on other things. `law` has laws of the definitions,
+//! `relink` by some that depend on other things, `arrival` by one that comes. `law` has laws of the definitions,
 //! `shared` values that copies share. `smf_links` has what is found by places alone.
 #![tactic(auto)]
 
+mod arrival;
 mod cycle;
 mod dependency;
 mod fault;

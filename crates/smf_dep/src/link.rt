@@ -67,18 +67,15 @@ fn links_of(
     }
 }
 
-/// As many looks over all names cost less than an index of the names.
-const FEW: usize = 16;
-
-/// True if an index of the names would cost more than a look over all names for each entity.
-pub(crate) fn has_few_entities(dependencies: &Option<Shared<Items<Dependency>>>) -> bool {
+/// How many entities dependencies have.
+pub(crate) fn count_entities(dependencies: &Option<Shared<Items<Dependency>>>) -> usize {
     let mut count: usize = 0;
     if let Some(dependencies) = dependencies {
         for dependency in dependencies.as_slice() {
             count = count.saturating_add(dependency.entities.len());
         }
     }
-    count <= FEW
+    count
 }
 
 /// The flags of an instance, by its state.

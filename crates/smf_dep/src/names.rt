@@ -12,6 +12,9 @@ use std::alloc::{AllocError, Global};
 use std::collections::HashMap;
 use std::marker::Model;
 
+/// As many looks over all names cost less than an index of the names.
+const FEW_LOOKS: usize = 16;
+
 /// The places of instances by their names, and by those of their services.
 #[derive(Drop)]
 pub(crate) struct NameIndex<'a> {
@@ -171,6 +174,20 @@ impl<'a> Names<'a> {
             members,
             index: None,
         }
+    }
+
+    /// For so many looks.
+    pub(crate) fn for_looks(
+        alloc: Global,
+        members: &'a [ReadMember],
+        count: usize,
+    ) -> Result<Names<'a>, AllocError>
+        ensures { IfOk result (λ n. n ≡ members.entry.now) }
+    {
+        if count <= FEW_LOOKS {
+            return Ok(Names::over(members));
+        }
+        Names::of(alloc, members)
     }
 
     /// The places of the instances that an entity stands for.

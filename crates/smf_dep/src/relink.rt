@@ -1,19 +1,24 @@
-//! An instance that depends on other things than before.
+//! Instances that depend on other things than before.
 
-ghost use Rattle.std.specs.Prelude.{◌≡◌, ◌<◌, ◌≤◌, ◌+◌, ◌++◌, ◌∷◌, ℕ, [], IfOk, IfSome, length, slice_set, vec_capacity};
+ghost use Rattle.std.specs.Prelude.{◌≡◌, ◌<◌, ◌≤◌, ◌+◌, ◌++◌, ◌∷◌, ℕ, [], map, IfOk, IfSome, OnErr, OnOk, length, slice_set, vec_capacity};
 ghost use Rattle.smf_fmri.specs.ByKey.{Rises};
 ghost use Rattle.smf_links.specs.Blockage.{IsOut};
+ghost use Rattle.smf_links.specs.Relinks.{AreWithin, with_relinks};
 ghost use Rattle.smf_dep.specs.Members.{by_member, member_of};
-ghost use Rattle.smf_dep.specs.Places.{flag_at, flags_after};
-ghost use Rattle.smf_dep.specs.Updates.{IsNamedAt, IsPlaced, IsSuccessor};
+ghost use Rattle.smf_dep.specs.Places.{AreCyclesOf, LeavesOthers, edges_of, flag_at, flags_after};
+ghost use Rattle.smf_dep.specs.Updates.{ArePlaced, IsNamedAt, IsSuccessor, relink_of, with_placed};
 
-use crate::cycle::{Turn, flag_at};
+use crate::cycle::{Cycles, Turn, flag_at, turn_of};
+use crate::link::{count_entities, node_of};
 use crate::member::ReadMember;
+use crate::names::Names;
 use crate::update::search;
+use smf_links::{KeptVerdicts, Relink};
 use smf_state::{ChangedItem, ViewItem};
 use std::alloc::{AllocError, Global};
 
 /// A member, and the place of that with its number and its name.
+#[derive(Drop)]
 pub(crate) struct PlacedMember {
     pub member: ReadMember,
     pub place: usize,
@@ -62,27 +67,76 @@ fn member_for_change(
     }
 }
 
-/// The same of changes, if there is one alone.
-pub(crate) fn member_for_one(
+/// So many instances may get other dependencies in place. If there are more, the graph is made anew.
+pub(crate) const MOST_RELINKS: usize = 16;
+
+/// The members of changes, each with its place. None if an instance comes, goes or has another name, or if there are
+/// many changes.
+pub(crate) fn placed_members(
     alloc: Global,
     members: &[ReadMember],
     changes: &[ChangedItem],
-) -> Result<Option<PlacedMember>, AllocError>
+) -> Result<Option<Vec<PlacedMember>>, AllocError>
     requires { Rises by_member members.now }
-    ensures { IfOk result (λ o. IfSome o (λ p. IsPlaced changes.now members.now p.member p.place)) }
+    ensures { IfOk result (λ o. IfSome o (λ all. ArePlaced changes.now all.items members.now)) }
 {
-    match changes {
-        [change] => member_for_change(alloc, members, change),
-        _ => Ok(None),
+    if changes.len() > MOST_RELINKS {
+        return Ok(None);
     }
+    let mut all = Vec::with_capacity(alloc, changes.len())?;
+    for change in changes {
+        let Some(placed) = member_for_change(alloc, members, change)? else {
+            return Ok(None);
+        };
+        all.push(placed)?;
+    }
+    Ok(Some(all))
+}
+
+fn entity_count(placed: &[PlacedMember]) -> usize {
+    let mut count: usize = 0;
+    for one in placed {
+        count = count.saturating_add(count_entities(&one.member.member().dependencies));
+    }
+    count
+}
+
+/// Members with what they depend on by the places of the instances that are there.
+pub(crate) fn relinks_for(
+    alloc: Global,
+    members: &[ReadMember],
+    placed: &[PlacedMember],
+) -> Result<Vec<Relink>, AllocError>
+    ensures { IfOk result (λ all. all.items ≡ map (relink_of members.now) placed.now) }
+{
+    let names = Names::for_looks(alloc, members, entity_count(placed))?;
+    let mut all = Vec::with_capacity(alloc, placed.len())?;
+    for one in placed {
+        let node = node_of(alloc, &names, one.member.member(), None)?;
+        all.push(Relink {
+            place: one.place,
+            node,
+        })?;
+    }
+    Ok(all)
 }
 
 /// Puts a member in the place of another.
-pub(crate) fn set_member(members: &mut Vec<ReadMember>, place: usize, member: ReadMember)
-    requires { place < length members.old.items }
+fn set_member(members: &mut Vec<ReadMember>, place: usize, member: ReadMember)
     ensures { members.new.items ≡ slice_set members.old.items place member }
 {
-    members[place] = member;
+    if place < members.len() {
+        members[place] = member;
+    }
+}
+
+/// Puts members in the places of others, one after another.
+pub(crate) fn set_members(members: &mut Vec<ReadMember>, placed: Vec<PlacedMember>)
+    ensures { members.new.items ≡ with_placed placed.items members.old.items }
+{
+    for one in placed {
+        set_member(members, one.place, one.member);
+    }
 }
 
 fn put_if_turned(touched: &mut Vec<usize>, place: usize, before: bool, after: bool)
@@ -115,7 +169,7 @@ fn put_others(touched: &mut Vec<usize>, before: &[bool], after: &[bool], count: 
 }
 
 /// Puts each place whose flag is another after a turn.
-pub(crate) fn put_turned(touched: &mut Vec<usize>, before: &[bool], turn: &Turn, count: usize)
+fn put_turned(touched: &mut Vec<usize>, before: &[bool], turn: &Turn, count: usize)
     requires empty { touched.old.items ≡ [] }
     requires room { count ≤ vec_capacity touched.old }
     ensures stays { (a : ℕ) → IsOut a touched.new.items → a < count
@@ -126,4 +180,35 @@ pub(crate) fn put_turned(touched: &mut Vec<usize>, before: &[bool], turn: &Turn,
         None => {}
         Some(after) => put_others(touched, before, after.as_slice(), count),
     }
+}
+
+/// Gives some instances other links. Puts each place of which something may be found otherwise in an empty list. If
+/// memory runs out, nothing but that list changes.
+pub(crate) fn rewire(
+    alloc: Global,
+    kept: &mut KeptVerdicts,
+    cycles: &mut Cycles,
+    relinks: Vec<Relink>,
+    touched: &mut Vec<usize>,
+) -> Result<(), AllocError>
+    requires within { AreWithin (length kept.old) relinks.items }
+    requires edged { cycles.old.edges.items ≡ edges_of kept.old }
+    requires turning { AreCyclesOf cycles.old.edges.items cycles.old.flags.items }
+    requires empty { touched.old.items ≡ [] }
+    requires room { length kept.old ≤ vec_capacity touched.old }
+    ensures set { OnOk result (kept.new ≡ with_relinks kept.old relinks.items) }
+    ensures edged { OnOk result (cycles.new.edges.items ≡ edges_of kept.new) }
+    ensures turning { OnOk result (AreCyclesOf cycles.new.edges.items cycles.new.flags.items) }
+    ensures others { OnOk result (LeavesOthers kept.old kept.new relinks.items cycles.old.flags.items
+        cycles.new.flags.items touched.new.items) }
+    ensures err { OnErr result (kept.new ≡ kept.old) }
+    ensures same_edges { OnErr result (cycles.new.edges.items ≡ cycles.old.edges.items) }
+    ensures same_flags { OnErr result (cycles.new.flags.items ≡ cycles.old.flags.items) }
+{
+    let turn = turn_of(alloc, cycles, relinks.as_slice())?;
+    let count = cycles.edges.len();
+    put_turned(touched, cycles.flags.as_slice(), &turn, count);
+    kept.relink(alloc, relinks, touched)?;
+    cycles.install(turn);
+    Ok(())
 }

@@ -147,13 +147,17 @@ steady_at : (ns : List GraphNode) (j k : ℕ) → j ≤ k → parked_in j ns ≡
 steady_at ns j k le same = let e : k ≡ (k - j) + j = omega arith in
     ap (λ i. parked_in i ns) e ∙ steady ns j (k - j) same
 
+-- more rounds than there are instances change nothing
+pub rounds_end : (ns : List GraphNode) (k : ℕ) → length ns ≤ k → parked_in k ns ≡ is_parked ns
+rounds_end ns k le =
+    let end = ends ns in let low : end.0 ≤ length ns = end.1 in let lower : end.0 ≤ k = omega arith in
+    steady_at ns end.0 k lower end.2 ∙ sym (steady_at ns end.0 (length ns) low end.2)
+
 -- an instance that any number of rounds parks is parked
 pub all_in : (ns : List GraphNode) (k p : ℕ) → parked_in k ns p ≡ true → is_parked ns p ≡ true
 all_in ns k p h =
-    let end = ends ns in let low : end.0 ≤ length ns = end.1 in let lower : end.0 ≤ length ns + k = omega arith in
-    let same : parked_in (length ns + k) ns ≡ parked_in (length ns) ns =
-    steady_at ns end.0 (length ns + k) lower end.2 ∙ sym (steady_at ns end.0 (length ns) low end.2) in
-    ap (λ (P : ℕ → Bool). P p) (sym same) ∙ rises ns k (length ns) p h
+    let le : length ns ≤ length ns + k = omega arith in
+    ap (λ (P : ℕ → Bool). P p) (sym (rounds_end ns (length ns + k) le)) ∙ rises ns k (length ns) p h
 
 -- Lemma 1
 pub least : (ns : List GraphNode) (ss : List ℕ) → ((a : ℕ) → IsSound ns ss a) → ((a : ℕ) → IsComplete ns ss a)

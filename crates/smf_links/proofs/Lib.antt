@@ -11,3 +11,9 @@ pub mod SetItems
 pub mod Spots
 pub mod Work
 pub mod Relinks
+pub mod PushedItems
+pub mod Arrivals
+pub mod Departures
+pub mod Shapes
+pub mod Prepared
+pub mod Turns

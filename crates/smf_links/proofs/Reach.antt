@@ -69,7 +69,7 @@ meets_agree r r' o o' P P' OptionalAll es ar ao ap' =
     all_all (λ p. r p || P p) (λ p. r' p || P' p) es (either_agree r r' P P' es ar ap')
 meets_agree r r' o o' P P' ExcludeAll es ar ao ap' = all_all o o' es ao
 
-abbrev Agrees : (ℕ → Bool) → (ℕ → Bool) → List Link → Type 0
+abbrev pub Agrees : (ℕ → Bool) → (ℕ → Bool) → List Link → Type 0
 Agrees P Q ls = (p : ℕ) → (P p ≡ Q p) ⊎ Avoid p ls
 
 agrees_first : (P Q : ℕ → Bool) (l : Link) (ls : List Link) → Agrees P Q (l ∷ ls) → Agree P Q l.cited
@@ -78,7 +78,7 @@ agrees_first P Q l ls h p = elim (h p) [ inl e ↦ inl e | inr out ↦ inr out.0
 agrees_rest : (P Q : ℕ → Bool) (l : Link) (ls : List Link) → Agrees P Q (l ∷ ls) → Agrees P Q ls
 agrees_rest P Q l ls h p = elim (h p) [ inl e ↦ inl e | inr out ↦ inr out.1 ]
 
-all_met_agree : (r r' o o' P P' : ℕ → Bool) (ls : List Link) → Agrees r r' ls → Agrees o o' ls → Agrees P P' ls
+pub all_met_agree : (r r' o o' P P' : ℕ → Bool) (ls : List Link) → Agrees r r' ls → Agrees o o' ls → Agrees P P' ls
     → list_all (met_by r o P) ls ≡ list_all (met_by r' o' P') ls
 all_met_agree r r' o o' P P' [] ar ao ap' = refl
 all_met_agree r r' o o' P P' (l ∷ ls) ar ao ap' =

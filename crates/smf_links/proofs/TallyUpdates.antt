@@ -23,7 +23,7 @@ use Rattle.smf_links.proofs.Steps.{other}
 
 -- ---- one entity of one tally
 
-in_same : (ts : List (List Entity)) (j : ℕ) (y : List Entity) → j < length ts → tally_in (slice_set ts j y) j ≡ y
+pub in_same : (ts : List (List Entity)) (j : ℕ) (y : List Entity) → j < length ts → tally_in (slice_set ts j y) j ≡ y
 in_same ts j y lt = ap (λ (o : Option (List Entity)). unwrap_or o []) (get_set ts j y lt)
 
 in_other : (ts : List (List Entity)) (j u : ℕ) (y : List Entity) → (u ≡ j → ⊥)
@@ -212,7 +212,7 @@ tallied_end links many r o P tss left i le h =
 
 -- ---- if one place changed, all but its entities are right
 
-entity_same : (x : ℕ) (r r' o o' P P' : ℕ → Bool) → Away x r r' → Away x o o' → Away x P P' → (ps : List ℕ)
+pub entity_same : (x : ℕ) (r r' o o' P P' : ℕ → Bool) → Away x r r' → Away x o o' → Away x P P' → (ps : List ℕ)
     → IsOut x ps → entity_of r o P ps ≡ entity_of r' o' P' ps
 entity_same x r r' o o' P P' ar ao ap' ps out =
     λ i. record {

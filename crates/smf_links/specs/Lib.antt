@@ -3,3 +3,4 @@ pub mod Blockage
 pub mod Stamps
 pub mod Tallies
 pub mod Wires
+pub mod Relinks

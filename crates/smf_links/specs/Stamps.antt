@@ -36,6 +36,22 @@ Avoid p (l ∷ ls) = AreOut p l.cited × Avoid p ls
 abbrev pub citing_at : List (List ℕ) → ℕ → List ℕ
 citing_at cs p = unwrap_or (slice_get cs p) []
 
+-- no link of these instances, nor of the one that comes, cites the place after them
+pub record AreFree (ns : List GraphNode) (n : GraphNode) : Type 0 where
+  pub others : (a : ℕ) (m : GraphNode) → slice_get ns a ≡ Some m → Avoid (length ns) m.links
+  pub own : Avoid (length ns) n.links
+
+-- no link of these instances cites the place after them
+abbrev pub AvoidEnd : List GraphNode → Type 0
+AvoidEnd ns = (a : ℕ) (m : GraphNode) → slice_get ns a ≡ Some m → Avoid (length ns) m.links
+
+-- there is a last instance, and no link of the others cites its place
+pub record IsLast (ns : List GraphNode) : Type 0 where
+  pub others : List GraphNode
+  pub last : GraphNode
+  pub ends : ns ≡ others ++ last ∷ []
+  pub free : AvoidEnd others
+
 -- an instance that is not among those that cite a place does not cite it
 pub record IsIndex (ns : List GraphNode) (cs : List (List ℕ)) : Type 0 where
   pub size : length cs ≡ length ns

@@ -1,15 +1,17 @@
 ghost use Rattle.std.specs.List.{list_all};
 ghost use Rattle.std.specs.Option.{option_copied};
-ghost use Rattle.std.specs.Prelude.{◌≡◌, ◌<◌, ◌≤◌, ◌+◌, ◌^◌, IfOk, OnErr, OnOk, [], ◌∷◌, length, slice_get, slice_index, slice_set, vec_capacity, ℕ};
+ghost use Rattle.std.specs.Prelude.{◌≡◌, ◌<◌, ◌≤◌, ◌+◌, ◌^◌, ◌++◌, IfOk, List, OnErr, OnOk, [], ◌∷◌, length, slice_get, slice_index, slice_set, vec_capacity, ℕ};
 ghost use Rattle.smf_links.specs.declared.link.GraphNode.{GraphNode};
 ghost use Rattle.smf_links.specs.Blockage.{IsOut, met_at, blocked_by, is_parked, met_by, node_is, off_at, runs_at, with_flags};
-ghost use Rattle.smf_links.specs.Stamps.{Begins, IsKept, IsLoosening, IsTouched, Reaches, Touches, before, citing_at};
+ghost use Rattle.smf_links.specs.Relinks.{ArePrepared, AreWithin, IsPrepared, ReachesAll, relinks_of, with_relinks};
+ghost use Rattle.smf_links.specs.Stamps.{AreFree, Begins, IsKept, IsLast, IsLoosening, IsTouched, Reaches, Touches, before, citing_at};
 ghost use Rattle.smf_links.specs.Wires.{IsTallied};
 
+use crate::arrival::{add_node, prepare_arrival, remove_node};
 use crate::blockage::{each_met, is_blocked, is_met, stamp_at};
 use crate::index::{citing_of, index_of, total_of};
-use crate::link::{Flags, GraphNode, Link};
-use crate::rewire::{change_node, prepare, room_for};
+use crate::link::{Flags, GraphNode, Link, Relink};
+use crate::rewire::{PlacedNode, prepare_all, put_placed, room_for};
 use crate::stamps::{add, add_one, settle};
 use crate::tallies::{all_tallies, put_stamp, retally, tallies_at};
 use crate::tally::NodeTallies;
@@ -199,6 +201,85 @@ fn settle_touched(
     base + work.len()
 }
 
+/// Puts a prepared instance at its place, and makes the rest right. Gives the number from which on stamps are free.
+fn relink_one(
+    nodes: &mut Vec<GraphNode>,
+    citing: &[Items<usize>],
+    entries: &[Items<Spot>],
+    tallies: &mut [NodeTallies],
+    stamps: &mut [usize],
+    work: &mut Vec<usize>,
+    slots: &mut [usize],
+    next: usize,
+    placed: PlacedNode,
+    touched: &mut Vec<usize>,
+) -> usize
+    requires next { 0 < next }
+    requires within { placed.place < length nodes.old.items }
+    requires room { length nodes.old.items ≤ vec_capacity touched.old }
+    requires kept { IsKept nodes.old.items stamps.old citing.now next (vec_capacity work.old) }
+    requires tallied { IsTallied nodes.old.items stamps.old entries.now tallies.old }
+    requires prepared { IsPrepared citing.now entries.now placed }
+    ensures next { 0 < result }
+    ensures nodes { nodes.new.items ≡ slice_set nodes.old.items placed.place placed.node }
+    ensures kept { IsKept nodes.new.items stamps.new citing.now result (vec_capacity work.new) }
+    ensures tallied { IsTallied nodes.new.items stamps.new entries.now tallies.new }
+    ensures reaches { Reaches nodes.old.items nodes.new.items placed.place touched.old.items touched.new.items }
+    ensures room { vec_capacity touched.old ≤ vec_capacity touched.new }
+{
+    let place = placed.place;
+    put_placed(nodes, stamps, entries, tallies, placed);
+    let free = settle_touched(
+        nodes.as_slice(),
+        citing,
+        entries,
+        tallies,
+        stamps,
+        work,
+        slots,
+        next,
+        place,
+    );
+    note(touched, work.as_slice(), nodes.len());
+    free
+}
+
+/// Puts prepared instances at their places, one after another. Gives the number from which on stamps are free.
+fn relink_all(
+    nodes: &mut Vec<GraphNode>,
+    citing: &[Items<usize>],
+    entries: &[Items<Spot>],
+    tallies: &mut [NodeTallies],
+    stamps: &mut [usize],
+    work: &mut Vec<usize>,
+    slots: &mut [usize],
+    next: usize,
+    all: Vec<PlacedNode>,
+    touched: &mut Vec<usize>,
+) -> usize
+    requires next { 0 < next }
+    requires within { AreWithin (length nodes.old.items) (relinks_of all.items) }
+    requires room { length nodes.old.items ≤ vec_capacity touched.old }
+    requires kept { IsKept nodes.old.items stamps.old citing.now next (vec_capacity work.old) }
+    requires tallied { IsTallied nodes.old.items stamps.old entries.now tallies.old }
+    requires prepared { ArePrepared citing.now entries.now all.items }
+    ensures next { 0 < result }
+    ensures nodes { nodes.new.items ≡ with_relinks nodes.old.items (relinks_of all.items) }
+    ensures kept { IsKept nodes.new.items stamps.new citing.now result (vec_capacity work.new) }
+    ensures tallied { IsTallied nodes.new.items stamps.new entries.now tallies.new }
+    ensures reaches { ReachesAll nodes.old.items nodes.new.items (relinks_of all.items) touched.old.items
+        touched.new.items }
+    ensures room { vec_capacity touched.old ≤ vec_capacity touched.new }
+{
+    let mut free = next;
+    for placed in all {
+        free = relink_one(
+            nodes, citing, entries, tallies, stamps, work, slots, free, placed, touched,
+        );
+    }
+    free
+}
+
 fn all_met_at(
     nodes: &[GraphNode],
     stamps: &[usize],
@@ -294,24 +375,24 @@ impl KeptVerdicts {
         note(touched, self.work.as_slice(), self.nodes.len());
     }
 
-    /// Gives other flags and other links to the instance at a place. Adds the places of all instances whose finding may
-    /// have changed to those that are touched. If memory runs out, nothing changes.
+    /// Gives other flags and other links to the instances at some places, one after another. Adds the places of all
+    /// instances whose finding may have changed to those that are touched. If memory runs out, nothing changes.
     pub fn relink(
         &mut self,
         alloc: Global,
-        place: usize,
-        node: GraphNode,
+        relinks: Vec<Relink>,
         touched: &mut Vec<usize>,
     ) -> Result<(), AllocError>
-        requires within { place < length self.old }
+        requires within { AreWithin (length self.old) relinks.items }
         requires room { length self.old ≤ vec_capacity touched.old }
-        ensures set { OnOk result (self.new ≡ slice_set self.old place node) }
-        ensures reaches { OnOk result (Reaches self.old self.new place touched.old.items touched.new.items) }
+        ensures set { OnOk result (self.new ≡ with_relinks self.old relinks.items) }
+        ensures reaches { OnOk result
+            (ReachesAll self.old self.new relinks.items touched.old.items touched.new.items) }
         ensures room { vec_capacity touched.old ≤ vec_capacity touched.new }
         ensures err { OnErr result (self.new ≡ self.old) }
         ensures untouched { OnErr result (touched.new.items ≡ touched.old.items) }
     {
-        let own = prepare(
+        let all = prepare_all(
             alloc,
             self.nodes.as_slice(),
             self.stamps.as_slice(),
@@ -319,15 +400,52 @@ impl KeptVerdicts {
             &mut self.entries,
             &mut self.note_count,
             &mut self.work,
-            place,
-            node.links.as_slice(),
+            relinks,
         )?;
-        change_node(
+        self.next = relink_all(
             &mut self.nodes,
-            self.stamps.as_slice(),
+            self.citing.as_slice(),
             self.entries.as_slice(),
             self.tallies.as_mut_slice(),
-            place,
+            self.stamps.as_mut_slice(),
+            &mut self.work,
+            self.slots.as_mut_slice(),
+            self.next,
+            all,
+            touched,
+        );
+        Ok(())
+    }
+
+    /// Puts one more instance after the others. No link may cite its place, its own neither. If memory runs out,
+    /// nothing changes.
+    pub fn push(&mut self, alloc: Global, node: GraphNode) -> Result<(), AllocError>
+        requires free { AreFree self.old node }
+        ensures set { OnOk result (self.new ≡ self.old ++ node ∷ []) }
+        ensures met { OnOk result ((a : ℕ) → a < length self.old → met_at self.new a ≡ met_at self.old a) }
+        ensures err { OnErr result (self.new ≡ self.old) }
+    {
+        let place = self.nodes.len();
+        let own = prepare_arrival(
+            alloc,
+            &mut self.nodes,
+            &mut self.stamps,
+            &mut self.citing,
+            &mut self.slots,
+            &mut self.entries,
+            &mut self.tallies,
+            &mut self.note_count,
+            &mut self.work,
+            node.links.as_slice(),
+        )?;
+        add_node(
+            alloc,
+            &mut self.nodes,
+            &mut self.stamps,
+            &mut self.citing,
+            &mut self.slots,
+            &mut self.entries,
+            &mut self.tallies,
             node,
             own,
         );
@@ -342,9 +460,23 @@ impl KeptVerdicts {
             self.next,
             place,
         );
-        let count = self.nodes.len();
-        note(touched, self.work.as_slice(), count);
         Ok(())
+    }
+
+    /// Takes the last instance out again. No link of the others may cite its place.
+    pub fn pop(&mut self)
+        requires { IsLast self.old }
+        ensures { (others : List GraphNode) (last : GraphNode) → self.old ≡ others ++ last ∷ []
+            → self.new ≡ others }
+    {
+        remove_node(
+            &mut self.nodes,
+            &mut self.stamps,
+            &mut self.citing,
+            &mut self.slots,
+            &mut self.entries,
+            &mut self.tallies,
+        );
     }
 
     /// The instances alone.

@@ -27,3 +27,10 @@ pub struct GraphNode {
     pub flags: Flags,
     pub links: Items<Link>,
 }
+
+/// An instance that is to stand at a place.
+#[derive(Drop)]
+pub struct Relink {
+    pub place: usize,
+    pub node: GraphNode,
+}

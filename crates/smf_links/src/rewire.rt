@@ -1,17 +1,26 @@
-//! Other links for one instance: room, notes, entities and tallies for them.
+//! Other links for instances: room, notes, entities and tallies for them.
 
 ghost use Rattle.std.specs.Prelude.{◌≡◌, ◌<◌, ◌≤◌, ◌+◌, ◌*◌, IfOk, OnErr, OnOk, length, slice_set, vec_capacity};
 ghost use Rattle.smf_links.specs.Blockage.{off_at, runs_at};
+ghost use Rattle.smf_links.specs.Relinks.{ArePrepared, IsPrepared, IsShaped, relink_of, relinks_of};
 ghost use Rattle.smf_links.specs.Stamps.{Avoid, KeepsPlaces, Notes, citations, has_stamp, total};
 ghost use Rattle.smf_links.specs.Wires.{EntersLinks, IsTallied, KeepsSpots, tallies_of};
 
 use crate::index::{citations_of, note_links, total_of};
-use crate::link::{GraphNode, Link};
-use crate::tallies::{retally, tallies_of};
+use crate::link::{GraphNode, Link, Relink};
+use crate::tallies::{recount, retally, tallies_of};
 use crate::tally::NodeTallies;
 use crate::wires::{Spot, enter_links};
 use smf_fmri::Items;
 use std::alloc::{AllocError, Global};
+
+/// An instance that is to stand at a place, with tallies for its links.
+#[derive(Drop)]
+pub struct PlacedNode {
+    pub place: usize,
+    pub node: GraphNode,
+    pub own: NodeTallies,
+}
 
 /// How much work there can be at once.
 pub(crate) fn room_for(count: usize, total: usize) -> Result<usize, AllocError>
@@ -83,6 +92,64 @@ pub(crate) fn prepare(
     Ok(tallies)
 }
 
+/// Notes and enters the links that one instance is to have, and counts their tallies.
+fn prepare_node(
+    alloc: Global,
+    nodes: &[GraphNode],
+    stamps: &[usize],
+    citing: &mut Vec<Items<usize>>,
+    entries: &mut Vec<Items<Spot>>,
+    note_count: &mut usize,
+    work: &mut Vec<usize>,
+    relink: Relink,
+) -> Result<PlacedNode, AllocError>
+    requires { total citing.old.items ≤ note_count.old }
+    ensures citing { KeepsPlaces citing.old.items citing.new.items }
+    ensures space { length nodes.now + 1 + 3 * total citing.old.items ≤ vec_capacity work.old
+        → length nodes.now + 1 + 3 * total citing.new.items ≤ vec_capacity work.new }
+    ensures note_count { total citing.new.items ≤ note_count.new }
+    ensures entries { KeepsSpots entries.old.items entries.new.items }
+    ensures prepared { IfOk result (λ p. IsPrepared citing.new.items entries.new.items p) }
+    ensures same { IfOk result (λ p. relink_of p ≡ relink) }
+{
+    let Relink { place, node } = relink;
+    let links = node.links.as_slice();
+    let own = prepare(
+        alloc, nodes, stamps, citing, entries, note_count, work, place, links,
+    )?;
+    Ok(PlacedNode { place, node, own })
+}
+
+/// Does all that may fail if instances get other links.
+pub(crate) fn prepare_all(
+    alloc: Global,
+    nodes: &[GraphNode],
+    stamps: &[usize],
+    citing: &mut Vec<Items<usize>>,
+    entries: &mut Vec<Items<Spot>>,
+    note_count: &mut usize,
+    work: &mut Vec<usize>,
+    relinks: Vec<Relink>,
+) -> Result<Vec<PlacedNode>, AllocError>
+    requires { total citing.old.items ≤ note_count.old }
+    ensures citing { KeepsPlaces citing.old.items citing.new.items }
+    ensures space { length nodes.now + 1 + 3 * total citing.old.items ≤ vec_capacity work.old
+        → length nodes.now + 1 + 3 * total citing.new.items ≤ vec_capacity work.new }
+    ensures note_count { total citing.new.items ≤ note_count.new }
+    ensures entries { KeepsSpots entries.old.items entries.new.items }
+    ensures prepared { IfOk result (λ ps. ArePrepared citing.new.items entries.new.items ps.items) }
+    ensures same { IfOk result (λ ps. relinks_of ps.items ≡ relinks.items) }
+{
+    let mut all = Vec::with_capacity(alloc, relinks.len())?;
+    for relink in relinks {
+        let placed = prepare_node(
+            alloc, nodes, stamps, citing, entries, note_count, work, relink,
+        )?;
+        all.push(placed)?;
+    }
+    Ok(all)
+}
+
 fn put_node(nodes: &mut Vec<GraphNode>, place: usize, node: GraphNode)
     requires { place < length nodes.old.items }
     ensures { nodes.new.items ≡ slice_set nodes.old.items place node }
@@ -118,4 +185,28 @@ pub(crate) fn change_node(
     put_node(nodes, place, node);
     put_tallies(tallies, place, own);
     retally(nodes.as_slice(), stamps, entries, tallies, place);
+}
+
+/// Puts a prepared instance at its place. Counts its tallies anew, since other instances may have changed.
+pub(crate) fn put_placed(
+    nodes: &mut Vec<GraphNode>,
+    stamps: &[usize],
+    entries: &[Items<Spot>],
+    tallies: &mut [NodeTallies],
+    placed: PlacedNode,
+)
+    requires within { placed.place < length nodes.old.items }
+    requires tallied { IsTallied nodes.old.items stamps.now entries.now tallies.old }
+    requires enters { EntersLinks entries.now placed.place placed.node.links }
+    requires shaped { IsShaped placed.own placed.node.links }
+    ensures nodes { nodes.new.items ≡ slice_set nodes.old.items placed.place placed.node }
+    ensures tallied { IsTallied nodes.new.items stamps.now entries.now tallies.new }
+{
+    let PlacedNode {
+        place,
+        node,
+        mut own,
+    } = placed;
+    recount(nodes.as_slice(), stamps, node.links.as_slice(), &mut own);
+    change_node(nodes, stamps, entries, tallies, place, node, own);
 }

@@ -3,9 +3,10 @@
 ghost use Rattle.std.specs.List.{list_all};
 ghost use Rattle.std.specs.Prelude.{◌≡◌, ◌<◌, ◌||◌, IfOk, [], length, map, slice_set};
 ghost use Rattle.smf_links.specs.Blockage.{off_at, runs_at};
+ghost use Rattle.smf_links.specs.Relinks.{IsShaped};
 ghost use Rattle.smf_links.specs.Stamps.{has_stamp};
 ghost use Rattle.smf_links.specs.Tallies.{entity_of};
-ghost use Rattle.smf_links.specs.Wires.{AreEntered, IsTallied, IsTalliedBut, links_at, node_tallies, put_at, put_spot, spots_at, tallies_at, tallies_of, tally_of};
+ghost use Rattle.smf_links.specs.Wires.{AreEntered, IsTallied, IsTalliedBut, links_at, node_tallies, put_at, put_spot, spots_at, tallies_at, tallies_of, tally_in, tally_of};
 
 use crate::blockage::{all_off, any_runs, runs_at, stamp_at};
 use crate::link::{GraphNode, Link};
@@ -94,6 +95,35 @@ pub(crate) fn tallies_of(
         tallies.push(tally_of(alloc, nodes, stamps, link)?)?;
     }
     Ok(NodeTallies::of(tallies))
+}
+
+/// Counts the entities of one link anew, in its tally.
+fn recount_link(
+    nodes: &[GraphNode],
+    stamps: &[usize],
+    cited: &[Items<usize>],
+    at: usize,
+    own: &mut NodeTallies,
+)
+    requires within { at < length own.old }
+    requires size { length (tally_in own.old at) ≡ length cited.now }
+    ensures { own.new ≡ slice_set own.old at
+        (map (entity_of (runs_at nodes.now) (off_at nodes.now) (has_stamp stamps.now)) cited.now) }
+{
+    for (number, places) in cited.iter().enumerate() {
+        let entity = entity_of(nodes, stamps, places.as_slice());
+        own.set(at, number, entity);
+    }
+}
+
+/// Counts the entities of an instance's links anew, in its tallies.
+pub(crate) fn recount(nodes: &[GraphNode], stamps: &[usize], links: &[Link], own: &mut NodeTallies)
+    requires { IsShaped own.old links.now }
+    ensures { own.new ≡ tallies_of (runs_at nodes.now) (off_at nodes.now) (has_stamp stamps.now) links.now }
+{
+    for (at, link) in links.iter().enumerate() {
+        recount_link(nodes, stamps, link.cited.as_slice(), at, own);
+    }
 }
 
 fn node_tallies(

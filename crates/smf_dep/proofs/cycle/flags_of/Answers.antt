@@ -1,4 +1,4 @@
 use Rattle.smf_dep.proofs.cycle.flags_of.Goals as goal
 
 pub returns : goal.returns
-returns c = record { exact = c.in_ok-flags.ensures.exact }
+returns c = record { size = c.in_ok-flags.ensures.length; exact = c.in_ok-flags.ensures.exact }
