@@ -12,6 +12,7 @@ use smf_fmri::{Items, Ordered, read_count};
 use smf_state::{ChangedItem, ViewItem};
 use smf_value::Group;
 use std::alloc::{AllocError, Global};
+use std::mem::replace;
 
 /// Answers a call of dependencies; whether it is one.
 pub(crate) fn answer(
@@ -29,6 +30,7 @@ pub(crate) fn answer(
         "found" => answer_findings(alloc, &views.items, out),
         "keep" => keep(alloc, views, out),
         "change" => change(alloc, views, out, text),
+        "also" => change_later(alloc, views, out, text),
         "gone" => lose(alloc, views, out, text),
         "kept_verdict" => judged_again(alloc, &views.graph, out, text),
         _ => return false,
@@ -185,34 +187,38 @@ fn put_compared(alloc: Global, views: &Views, out: &mut Answer) {
     }
 }
 
-fn update(alloc: Global, graph: &mut Option<Graph>, out: &mut Answer, changed: ChangedItem) {
-    let Some(graph) = graph else {
-        return;
-    };
-    if let Some(changes) = out.value_or_no_memory(one(alloc, changed)) {
-        let _touched = out.value_or_no_memory(graph.update(alloc, changes.as_slice()));
+/// The graph that is kept gets the changes that wait, all at once.
+fn update(alloc: Global, views: &mut Views, out: &mut Answer) {
+    let waiting = replace(&mut views.waiting, Items::new(alloc));
+    if let Some(graph) = &mut views.graph {
+        let _touched = out.value_or_no_memory(graph.update(alloc, waiting.as_slice()));
     }
 }
 
-fn one(alloc: Global, changed: ChangedItem) -> Result<Items<ChangedItem>, AllocError> {
-    let mut all = Items::new(alloc);
-    all.push(changed)?;
-    Ok(all)
+/// An item as `view_item` has it: the view gets it. The graph that is kept gets it with the next `change` or `gone`.
+fn wait(alloc: Global, views: &mut Views, out: &mut Answer, text: &str) -> Option<()> {
+    let item = item_of(alloc, out, text)?;
+    let copy = out.value_or_no_memory(item.clone())?;
+    out.value_or_no_memory(views.items.put(copy))?;
+    let changed = ChangedItem {
+        instance: item.instance,
+        item: Some(item),
+    };
+    out.value_or_no_memory(views.waiting.push(changed))
 }
 
-/// An item as `view_item` has it: the view gets it, and the graph that is kept. Says whether that finds what a new one
-/// does.
+/// The same for the graph too. Says whether that finds what a new one does.
 fn change(alloc: Global, views: &mut Views, out: &mut Answer, text: &str) {
-    if let Some(item) = item_of(alloc, out, text)
-        && let Some(copy) = out.value_or_no_memory(item.clone())
-        && out.value_or_no_memory(views.items.put(copy)).is_some()
-    {
-        let changed = ChangedItem {
-            instance: item.instance,
-            item: Some(item),
-        };
-        update(alloc, &mut views.graph, out, changed);
+    if wait(alloc, views, out, text).is_some() {
+        update(alloc, views, out);
         put_compared(alloc, views, out);
+    }
+}
+
+/// An item that waits. Says that it does.
+fn change_later(alloc: Global, views: &mut Views, out: &mut Answer, text: &str) {
+    if wait(alloc, views, out, text).is_some() {
+        out.put("waits");
     }
 }
 
@@ -224,8 +230,13 @@ fn lose(alloc: Global, views: &mut Views, out: &mut Answer, text: &str) {
             instance,
             item: None,
         };
-        update(alloc, &mut views.graph, out, changed);
-        put_compared(alloc, views, out);
+        if out
+            .value_or_no_memory(views.waiting.push(changed))
+            .is_some()
+        {
+            update(alloc, views, out);
+            put_compared(alloc, views, out);
+        }
     }
 }
 

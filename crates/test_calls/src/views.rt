@@ -14,7 +14,7 @@ use smf_dep::Graph;
 use smf_engine::{Engine, orders};
 use smf_fmri::{Bytes, Items, Number, Ordered, SharedOrdered, Table, Text, read_count};
 use smf_model::{Edit, InstanceName, Mark};
-use smf_state::{Row, SharedRow, State, View, ViewItem};
+use smf_state::{ChangedItem, Row, SharedRow, State, View, ViewItem};
 use smf_wire::{Message, Order, ViewChanges, What, decode, encode};
 use std::alloc::{AllocError, Global};
 
@@ -24,6 +24,8 @@ pub(crate) struct Views {
     pub(crate) items: Ordered<ViewItem>,
     /// The graph of these items, once it is kept.
     pub(crate) graph: Option<Graph>,
+    /// Changes of the view that the graph gets all at once.
+    pub(crate) waiting: Items<ChangedItem>,
     engine: Engine,
 }
 
@@ -32,6 +34,7 @@ impl Views {
         Views {
             items: Ordered::new(alloc),
             graph: None,
+            waiting: Items::new(alloc),
             engine: Engine::new(),
         }
     }
