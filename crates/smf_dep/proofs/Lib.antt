@@ -1,11 +1,14 @@
 pub mod Alike
 pub mod Behind
+pub mod Changed
 pub mod ByNumber
+pub mod ChangeSteps
 pub mod CyclePlaces
 pub mod Found
+pub mod Joined
 pub mod LawCycles
+pub mod Linked
 pub mod Looked
-pub mod Newcomers
 pub mod PlacesByName
 pub mod OfItems
 pub mod Relinked

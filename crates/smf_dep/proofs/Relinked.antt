@@ -1,34 +1,30 @@
 -- Findings that stay if instances depend on other things.
-use Rattle.std.proofs.Common.{◌≡◌, ℕ, zero, suc, ◌+◌, ◌<◌, ◌≤◌, List, [], ◌∷◌, ◌++◌, map, length, drop, get_or, Bool, ◌&&◌, Some, refl, sym, ap, ◌∙◌, subst, inl, inr, arith}
-use Rattle.std.specs.Prelude.{is_some, slice_get, slice_set}
+use Rattle.std.proofs.Common.{◌≡◌, ℕ, zero, suc, ◌<◌, List, [], ◌∷◌, ◌++◌, map, length, get_or, Bool, Some, refl, sym, ap, ◌∙◌, subst, inl, inr, arith}
+use Rattle.std.specs.Prelude.{slice_get, slice_set}
 use Rattle.std.specs.List.{list_any}
 use Rattle.std.proofs.Math.Path.{fun_ext}
 use Rattle.std.proofs.lemmas.Bool.{cases_eq}
-use Rattle.std.proofs.lemmas.List.{drop_all, length-map, length-set}
+use Rattle.std.proofs.lemmas.List.{length-set}
 use Rattle.std.proofs.lemmas.Option.{get_or_from_slice_get, slice_get_within}
 use Rattle.smf_fmri.specs.ByKey.{Rises, StandsAt}
 use Rattle.smf_fmri.proofs.KeyOrder.{rises_put}
 use Rattle.smf_links.specs.declared.link.GraphNode.{GraphNode}
 use Rattle.smf_links.specs.declared.link.Link.{Link}
-use Rattle.smf_links.specs.Blockage.{IsOut, met_at}
+use Rattle.smf_links.specs.Blockage.{IsOut}
 use Rattle.smf_links.specs.declared.link.Relink.{Relink}
 use Rattle.smf_links.specs.Relinks.{AreApart, AreWithin, ReachesAll, with_relinks}
-use Rattle.smf_links.proofs.Work.{left_at}
-use Rattle.smf_state.specs.declared.view.ChangedItem.{ChangedItem}
 use Rattle.smf_state.specs.declared.view.ViewItem.{ViewItem}
 use Rattle.smf_dep.specs.declared.member.GraphMember.{GraphMember}
 use Rattle.smf_dep.specs.Members.{by_member, member_of}
 use Rattle.smf_dep.specs.Names.{instance_name}
-use Rattle.smf_dep.specs.Places.{AreCyclesOf, AreInside, IsGraph, LeavesOthers, edges_by, edges_in, edges_of, flag_at, flags_of, link_stops, links_of, node_of, nodes_of, with_edges}
-use Rattle.smf_dep.specs.Updates.{AreNamed, ArePlaced, IsNamedAt, IsSuccessor, Remains, number, relink_of, with_members, with_placed}
+use Rattle.smf_dep.specs.Places.{AreInside, LeavesOthers, edges_by, edges_in, edges_of, flag_at, flags_of, link_stops, node_of, nodes_of, with_edges}
+use Rattle.smf_dep.specs.Updates.{AreNamed, IsNamedAt, number, relink_of, with_placed}
 use Rattle.smf_dep.specs.declared.cycle.PlacedEdges.{PlacedEdges}
 use Rattle.smf_dep.specs.declared.relink.PlacedMember.{PlacedMember}
 use Rattle.smf_dep.proofs.Alike.{links_by, places_named}
 use Rattle.smf_dep.proofs.ByNumber.{stood}
-use Rattle.smf_dep.proofs.CyclePlaces.{cycles_by}
-use Rattle.smf_dep.proofs.Found.{met_is, node_got, stops_in}
 use Rattle.smf_dep.proofs.OfItems.{same_number}
-use Rattle.smf_dep.proofs.Updates.{found_same, map_set, put_by, same_some, set_at_key, set_here, set_other, stops_stay}
+use Rattle.smf_dep.proofs.Updates.{map_set, same_some, set_at_key, set_here, set_other, stops_stay}
 
 -- ---- one item in the place of another
 
@@ -96,14 +92,14 @@ all_stay_named x [] ms p h g = tt
 all_stay_named x (y ∷ ps) ms p h g =
     (named_stays x y.member ms p y.place h g.0, all_stay_named x ps ms p h g.1)
 
-names_of_all : (ps : List PlacedMember) (ms : List GraphMember) → AreNamed ps ms
+pub names_of_all : (ps : List PlacedMember) (ms : List GraphMember) → AreNamed ps ms
     → map instance_name (with_placed ps ms) ≡ map instance_name ms
 names_of_all [] ms h = refl
 names_of_all (p ∷ ps) ms h =
     names_of_all ps (slice_set ms p.place p.member) (all_stay_named p.member ps ms p.place h.0 h.1)
     ∙ names_stay p.member ms (slice_set ms p.place p.member) p.place h.0 refl
 
-numbers_of_all : (ps : List PlacedMember) (ms : List GraphMember) → AreNamed ps ms
+pub numbers_of_all : (ps : List PlacedMember) (ms : List GraphMember) → AreNamed ps ms
     → map number (with_placed ps ms) ≡ map number ms
 numbers_of_all [] ms h = refl
 numbers_of_all (p ∷ ps) ms h =
@@ -124,7 +120,7 @@ relinks_still ps ms ks h =
     ap (λ (f : GraphMember → GraphNode). map (λ (p : PlacedMember). record { place = p.place; node = f p.member }) ps)
     (node_by ms ks h)
 
-nodes_of_all : (ps : List PlacedMember) (ms : List GraphMember) → AreNamed ps ms
+pub nodes_of_all : (ps : List PlacedMember) (ms : List GraphMember) → AreNamed ps ms
     → with_relinks (nodes_of ms) (map (relink_of ms) ps) ≡ nodes_of (with_placed ps ms)
 nodes_of_all [] ms h = refl
 nodes_of_all (p ∷ ps) ms h =
@@ -143,57 +139,19 @@ edges_of_all ns (r ∷ rs) =
     ∙ edges_of_all (slice_set ns r.place r.node) rs
 
 -- an instance that is none of them, and cites none
-apart_stays : (all ms : List GraphMember) (ps : List PlacedMember) (a : ℕ) (ls : List Link)
+pub apart_stays : (all ms : List GraphMember) (ps : List PlacedMember) (a : ℕ) (ls : List Link)
     → AreApart a ls (map (relink_of all) ps) → slice_get (with_placed ps ms) a ≡ slice_get ms a
 apart_stays all ms [] a ls h = refl
 apart_stays all ms (p ∷ ps) a ls h =
     apart_stays all (slice_set ms p.place p.member) ps a ls h.2 ∙ set_other ms p.place a p.member h.0
 
-stops_of_all : (all ms : List GraphMember) (ps : List PlacedMember) (a base : ℕ) (ls : List Link)
+pub stops_of_all : (all ms : List GraphMember) (ps : List PlacedMember) (a base : ℕ) (ls : List Link)
     → AreApart a ls (map (relink_of all) ps)
     → list_any (link_stops (with_placed ps ms) base) ls ≡ list_any (link_stops ms base) ls
 stops_of_all all ms [] a base ls h = refl
 stops_of_all all ms (p ∷ ps) a base ls h =
     stops_of_all all (slice_set ms p.place p.member) ps a base ls h.2
     ∙ stops_stay ms (slice_set ms p.place p.member) p.place (λ q ne. set_other ms p.place q p.member ne) base ls h.1
-
-pub relinked_remains : (ps : List PlacedMember) (ms ms' : List GraphMember) (rs : List Relink) (ns ns' : List GraphNode)
-    (es es' : List (List ℕ)) (cs cs' : List Bool) (touched : List ℕ) → AreNamed ps ms → ms' ≡ with_placed ps ms
-    → rs ≡ map (relink_of ms) ps → IsGraph ms ns es cs → IsGraph ms' ns' es' cs'
-    → LeavesOthers ns ns' rs cs cs' touched → Remains ms ms' touched
-relinked_remains ps ms ms' rs ns ns' es es' cs cs' touched h is e g g' far =
-    let named : map instance_name ms' ≡ map instance_name ms = ap (map instance_name) is ∙ names_of_all ps ms h in
-    let size : length ns ≡ length ms = ap length g.linked ∙ length-map ms (node_of ms) in
-    let node : (a : ℕ) (n : GraphMember) → slice_get ms a ≡ Some n → slice_get ns a ≡ Some (node_of ms n) =
-    λ a n at. ap (λ l. slice_get l a) g.linked ∙ node_got ms ms a n at in
-    let apart : (a : ℕ) (n : GraphMember) → IsOut a touched → slice_get ms a ≡ Some n
-    → AreApart a (links_of ms n.dependencies) (map (relink_of ms) ps) =
-    λ a n out at.
-    let P : List Relink → Type 0 = AreApart a (links_of ms n.dependencies) in
-    subst P e (far.apart a (node_of ms n) out (node a n at)) in
-    let there : (a : ℕ) (n : GraphMember) → IsOut a touched → slice_get ms a ≡ Some n → slice_get ms' a ≡ Some n =
-    λ a n out at.
-    ap (λ l. slice_get l a) is ∙ apart_stays ms ms ps a (links_of ms n.dependencies) (apart a n out at) ∙ at in
-    record {
-      numbers = ap (map number) is ∙ numbers_of_all ps ms h;
-      member = there;
-      finding = λ a n out at.
-          let less = slice_get_within ms a n at in
-          let within : a < length ns = omega arith in
-          found_same ms ms' n
-          (sym (met_is ms' a n (there a n out at))
-          ∙ ap (λ b. is_some n.dependencies && b)
-          (ap (λ l. met_at l a) (sym g'.linked) ∙ far.met a out within ∙ ap (λ l. met_at l a) g.linked)
-          ∙ met_is ms a n at)
-          (sym (stops_in ms' n.base n.dependencies)
-          ∙ ap (list_any (link_stops ms' n.base)) (links_by ms' ms (places_named ms' ms named) n.dependencies)
-          ∙ ap (λ l. list_any (link_stops l n.base) (links_of ms n.dependencies)) is
-          ∙ stops_of_all ms ms ps a n.base (links_of ms n.dependencies) (apart a n out at)
-          ∙ stops_in ms n.base n.dependencies)
-          (sym ((cycles_by ms' es' cs' (g'.edged ∙ ap edges_of g'.linked) g'.turning).flag a n (there a n out at))
-          ∙ far.flags a out within
-          ∙ (cycles_by ms es cs (g.edged ∙ ap edges_of g.linked) g.turning).flag a n at);
-    }
 
 -- ---- the place of a member
 
@@ -223,76 +181,26 @@ more_named ps qs p ms e h g = let P : List PlacedMember → Type 0 = λ l. AreNa
     joined [] h = (g, tt)
     joined (q ∷ ps) h = (h.0, joined ps h.1)
 
-placed_after : (ps : List PlacedMember) (p : PlacedMember) (ms : List GraphMember)
+pub placed_after : (ps : List PlacedMember) (p : PlacedMember) (ms : List GraphMember)
     → with_placed (ps ++ p ∷ []) ms ≡ slice_set (with_placed ps ms) p.place p.member
 placed_after [] p ms = refl
 placed_after (q ∷ ps) p ms = placed_after ps p (slice_set ms q.place q.member)
 
-named_after : (ps : List PlacedMember) (x : GraphMember) (q : ℕ) (ms : List GraphMember) → AreNamed ps ms
+pub named_after : (ps : List PlacedMember) (x : GraphMember) (q : ℕ) (ms : List GraphMember) → AreNamed ps ms
     → IsNamedAt x ms q → IsNamedAt x (with_placed ps ms) q
 named_after [] x q ms h g = g
 named_after (p ∷ ps) x q ms h g =
     named_after ps x q (slice_set ms p.place p.member) (all_stay_named p.member ps ms p.place h.0 h.1)
     (named_stays p.member x ms p.place q h.0 g)
 
-pub more_placed : (cs : List ChangedItem) (i : ℕ) (c : ChangedItem) (ps qs : List PlacedMember) (p : PlacedMember)
-    (ms : List GraphMember) → Rises by_member ms → AreNamed ps ms → i < length cs → c ≡ get_or cs i c
-    → qs ≡ ps ++ p ∷ [] → IsSuccessor c.item p.member → IsNamedAt p.member ms p.place
-    → with_members (drop i cs) (with_placed ps ms) ≡ with_members cs ms
-    → with_members (drop (i + 1) cs) (with_placed qs ms) ≡ with_members cs ms
-more_placed cs i c ps qs p ms r named lt is e s g h =
-    let now = with_placed ps ms in
-    let there = named_after ps p.member p.place ms named g in
-    ap (with_members (drop (i + 1) cs))
-    (ap (λ l. with_placed l ms) e ∙ placed_after ps p ms
-    ∙ set_at_key p.member now p.place there.before (rises_of_all ps ms r named) there.at there.numbered
-    ∙ sym (put_by c p.member now s))
-    ∙ ap (λ l. with_members l now) (sym (left_at cs i c lt is)) ∙ h
-
-pub are_placed : (cs : List ChangedItem) (i : ℕ) (ps : List PlacedMember) (ms : List GraphMember) → length cs ≤ i
-    → AreNamed ps ms → with_members (drop i cs) (with_placed ps ms) ≡ with_members cs ms → ArePlaced cs ps ms
-are_placed cs i ps ms le n h =
-    record { named = n; put = ap (λ l. with_members l (with_placed ps ms)) (sym (drop_all i cs le)) ∙ h }
-
-pub alone : (cs : List ChangedItem) (c : ChangedItem) → 1 ≤ length cs → length cs < 2 → c ≡ get_or cs 0 c → cs ≡ c ∷ []
-alone [] c least below is = absurd (omega (arith, least))
-alone (x ∷ []) c least below is = ap (λ y. y ∷ []) (sym is)
-alone (x ∷ y ∷ cs) c least below is = absurd (omega (arith, below))
-
 -- ---- the graph after it
 
-pub graph_relinked : (ps : List PlacedMember) (ms ms' : List GraphMember) (rs : List Relink) (ns ns' : List GraphNode)
-    (es es' : List (List ℕ)) (cs cs' : List Bool) → AreNamed ps ms → ms' ≡ with_placed ps ms
-    → rs ≡ map (relink_of ms) ps → IsGraph ms ns es cs → ns' ≡ with_relinks ns rs → es' ≡ edges_of ns'
-    → AreCyclesOf es' cs' → IsGraph ms' ns' es' cs'
-graph_relinked ps ms ms' rs ns ns' es es' cs cs' h is e g set edged turning =
-    let Q : List GraphMember → Type 0 = Rises by_member in
-    record {
-      linked = set ∙ (λ i. with_relinks (g.linked i) (e i)) ∙ nodes_of_all ps ms h ∙ ap nodes_of (sym is);
-      edged = edged;
-      turning = turning;
-      rises = subst Q (sym is) (rises_of_all ps ms g.rises h);
-    }
-
-within_count : (all ms : List GraphMember) (ps : List PlacedMember) (count : ℕ) → count ≡ length ms → AreNamed ps ms
+pub within_count : (all ms : List GraphMember) (ps : List PlacedMember) (count : ℕ) → count ≡ length ms → AreNamed ps ms
     → AreWithin count (map (relink_of all) ps)
 within_count all ms [] count e h = tt
 within_count all ms (p ∷ ps) count e h =
     let less = slice_get_within ms p.place h.0.before h.0.at in
     ((omega arith), within_count all ms ps count e h.1)
-
-pub within_nodes : (ps : List PlacedMember) (ms : List GraphMember) (rs : List Relink) (ns : List GraphNode)
-    (es : List (List ℕ)) (cs : List Bool) → AreNamed ps ms → rs ≡ map (relink_of ms) ps → IsGraph ms ns es cs
-    → AreWithin (length ns) rs
-within_nodes ps ms rs ns es cs h e g =
-    let as_nodes : length ns ≡ length ms = ap length g.linked ∙ length-map ms (node_of ms) in
-    let P : List Relink → Type 0 = AreWithin (length ns) in
-    subst P (sym e) (within_count ms ms ps (length ns) as_nodes h)
-
-pub room_for_nodes : (ms : List GraphMember) (ns : List GraphNode) (es : List (List ℕ)) (cs : List Bool) (room : ℕ)
-    → IsGraph ms ns es cs → length ms ≤ room → length ns ≤ room
-room_for_nodes ms ns es cs room g le =
-    let as_nodes : length ns ≡ length ms = ap length g.linked ∙ length-map ms (node_of ms) in omega arith
 
 -- ---- links and cycles after instances get other links
 

@@ -387,7 +387,7 @@ stays_then a b c was between touched f g =
 
 -- ---- by numbers
 
-number_of : (ms ks : List GraphMember) (a : ℕ) (m : GraphMember) → map number ms ≡ map number ks
+pub number_of : (ms ks : List GraphMember) (a : ℕ) (m : GraphMember) → map number ms ≡ map number ks
     → slice_get ms a ≡ Some m → (k : GraphMember) × (slice_get ks a ≡ Some k) × (k.instance ≡ m.instance)
 number_of [] ks a m h e = absurd cc
 number_of (x ∷ ms) [] a m h e = absurd cc

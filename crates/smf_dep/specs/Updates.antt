@@ -1,8 +1,8 @@
 -- Members that are brought up to date by items that changed, and the findings that stay.
-use Rattle.std.specs.Prelude.{◌≡◌, ℕ, ◌<◌, List, [], ◌∷◌, ◌++◌, ◌+◌, ◌||◌, nat_eq, if◌then◌else◌, map, length, Bool, false, Option, Some, None, slice_get, slice_set}
+use Rattle.std.specs.Prelude.{◌≡◌, ℕ, ◌<◌, List, [], ◌∷◌, ◌++◌, ◌+◌, ◌||◌, not, nat_lt, if◌then◌else◌, map, drop, length, Bool, false, Option, Some, None, slice_get, slice_set}
 use Rattle.std.specs.List.{list_any}
 use Rattle.std.specs.Option.{option_map_or}
-use Rattle.smf_fmri.specs.ByKey.{lookup, list_with_item, put_all, without}
+use Rattle.smf_fmri.specs.ByKey.{IsAbove, lookup, list_with_item, put_all, without}
 use Rattle.smf_state.specs.declared.view.ChangedItem.{ChangedItem}
 use Rattle.smf_state.specs.declared.view.ViewItem.{ViewItem}
 use Rattle.smf_links.specs.declared.link.GraphNode.{GraphNode}
@@ -76,54 +76,80 @@ abbrev pub with_placed : List PlacedMember → List GraphMember → List GraphMe
 with_placed [] ms = ms
 with_placed (p ∷ ps) ms = with_placed ps (slice_set ms p.place p.member)
 
--- the changes put these members in their places
-pub record ArePlaced (cs : List ChangedItem) (ps : List PlacedMember) (ms : List GraphMember) : Type 0 where
-  pub named : AreNamed ps ms
-  pub put : with_placed ps ms ≡ with_members cs ms
-
 -- the same members, with what they depend on by the places of these instances
 abbrev pub relink_of : List GraphMember → PlacedMember → Relink
 relink_of ms p = record { place = p.place; node = node_of ms p.member }
 
--- ---- a member that comes
+-- ---- members that come
 
--- its number is above all others
-abbrev pub IsAbove : GraphMember → List GraphMember → Type 0
-IsAbove m ms = list_with_item by_member m ms ≡ ms ++ m ∷ []
+-- each has a number above those of all before it
+abbrev pub AreAbove : List GraphMember → List GraphMember → Type 0
+AreAbove [] ms = Unit
+AreAbove (x ∷ xs) ms = IsAbove by_member x.instance ms × AreAbove xs (ms ++ x ∷ [])
 
--- the changes are the one by which the member comes
-pub record Arrives (cs : List ChangedItem) (ms : List GraphMember) (m : GraphMember) : Type 0 where
-  pub above : IsAbove m ms
-  pub put : ms ++ m ∷ [] ≡ with_members cs ms
+-- members in the places of others, and members after all
+pub record AreReady (ps : List PlacedMember) (arrivals ms : List GraphMember) : Type 0 where
+  pub named : AreNamed ps ms
+  pub above : AreAbove arrivals (with_placed ps ms)
 
--- an entity of a group stands for an instance
-abbrev pub names : GraphMember → Dependency → Bool
-names m d = list_any (λ e. is_cited e m) d.entities
+-- the changes put these in the places of others, and those after all
+pub record AreChanges (cs : List ChangedItem) (ps : List PlacedMember) (arrivals ms : List GraphMember) : Type 0 where
+  pub ready : AreReady ps arrivals ms
+  pub put : with_placed ps ms ++ arrivals ≡ with_members cs ms
 
--- a group of an instance names another
-abbrev pub is_named_by : GraphMember → GraphMember → Bool
-is_named_by m a = option_map_or (list_any (names m)) a.dependencies false
+-- an entity of a group stands for one of these instances
+abbrev pub names : List GraphMember → Dependency → Bool
+names arrivals d = list_any (λ e. list_any (is_cited e) arrivals) d.entities
 
--- an instance is the one that came, or names that
-abbrev pub is_linked_to : GraphMember → GraphMember → Bool
-is_linked_to m a = nat_eq a.instance m.instance || is_named_by m a
+-- a group of an instance names one of these
+abbrev pub is_naming : List GraphMember → GraphMember → Bool
+is_naming arrivals x = option_map_or (list_any (names arrivals)) x.dependencies false
+
+-- the instance at a place came after so many, or it names one that did
+abbrev pub is_due : List GraphMember → ℕ → ℕ → GraphMember → Bool
+is_due arrivals count place x = not (nat_lt place count) || is_naming arrivals x
 
 -- these instances, with what they depend on by the places of all; their own places are counted from at
-abbrev pub relinks_from : List GraphMember → GraphMember → ℕ → List GraphMember → List Relink
-relinks_from all m at [] = []
-relinks_from all m at (x ∷ xs) =
-    if is_linked_to m x then record { place = at; node = node_of all x } ∷ relinks_from all m (at + 1) xs
-    else relinks_from all m (at + 1) xs
+abbrev pub relinks_from : List GraphMember → List GraphMember → ℕ → ℕ → List GraphMember → List Relink
+relinks_from all arrivals count at [] = []
+relinks_from all arrivals count at (x ∷ xs) =
+    if is_due arrivals count at x then record { place = at; node = node_of all x }
+    ∷ relinks_from all arrivals count (at + 1) xs
+    else relinks_from all arrivals count (at + 1) xs
+
+-- those that came and those that name them, and then the members in the places of others
+abbrev pub all_relinks : List GraphMember → ℕ → List PlacedMember → List Relink
+all_relinks all count ps = relinks_from all (drop count all) count 0 all ++ map (relink_of all) ps
+
+-- an instance that did not come, and names none that did, has the links that it is to have
+abbrev pub AreKnown : List GraphMember → List GraphMember → ℕ → List GraphNode → Type 0
+AreKnown all arrivals count ns = (a : ℕ) (x : GraphMember) → slice_get all a ≡ Some x
+    → is_due arrivals count a x ≡ false → slice_get ns a ≡ Some (node_of all x)
+
+-- the member at the place is known, and this one depends on the same
+pub record IsKnownAt (all arrivals : List GraphMember) (count : ℕ) (p : PlacedMember) : Type 0 where
+  pub before : GraphMember
+  pub at : slice_get all p.place ≡ Some before
+  pub known : is_due arrivals count p.place before ≡ false
+  pub alike : before.dependencies ≡ p.member.dependencies
 
 -- an instance that is there without what it depends on
 abbrev pub blank_of : GraphMember → GraphNode
 blank_of m = record { flags = flags_of m; links = [] }
 
--- the instances, of which the last is blank, and no other knows it yet
-pub record IsJoined (all : List GraphMember) (m : GraphMember) (ns : List GraphNode) : Type 0 where
+abbrev pub no_edges : GraphMember → List ℕ
+no_edges m = []
+
+abbrev pub no_flag : GraphMember → Bool
+no_flag m = false
+
+-- the instances after the first ones are blank, and no other knows them yet
+pub record AreJoined (all : List GraphMember) (count : ℕ) (ns : List GraphNode) : Type 0 where
   pub before : List GraphMember
-  pub members : all ≡ before ++ m ∷ []
-  pub nodes : ns ≡ nodes_of before ++ blank_of m ∷ []
+  pub arrivals : List GraphMember
+  pub members : all ≡ before ++ arrivals
+  pub size : count ≡ length before
+  pub nodes : ns ≡ nodes_of before ++ map blank_of arrivals
 
 -- ---- instances that such a change leaves alone
 

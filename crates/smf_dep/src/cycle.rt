@@ -1,4 +1,4 @@
-ghost use Rattle.std.specs.Prelude.{◌≡◌, ◌<◌, ◌-◌, ◌++◌, ◌∷◌, [], false, map, take, IfOk, OnOk, length, slice_set, vec_capacity};
+ghost use Rattle.std.specs.Prelude.{◌≡◌, ◌<◌, ◌-◌, ◌++◌, ◌∷◌, [], true, false, map, take, IfOk, OnOk, length, slice_set, vec_capacity};
 ghost use Rattle.smf_links.specs.Relinks.{AreWithin};
 ghost use Rattle.smf_dep.specs.Places.{AreCyclesOf, AreInside, edges_by, edges_in, edges_of, flag_at, flags_after, places_in_lists, with_edges};
 
@@ -124,8 +124,16 @@ fn flags_with(
     Ok(flags)
 }
 
+/// True if a place has these edges already.
+fn has_edges(edges: &[Places], place: usize, others: &[usize]) -> bool
+    requires { place < length edges.now }
+    ensures { result ≡ true → slice_set edges.now place others.now ≡ edges.now }
+{
+    edges[place].as_slice() == others
+}
+
 /// The flags of all places if one gets these edges, or none if they stay as they are. A place that is on no cycle,
-/// neither before nor after, changes no flag.
+/// neither before nor after, changes no flag, nor does one that has these edges already.
 fn changed_flags(
     alloc: Global,
     edges: &[Places],
@@ -138,6 +146,9 @@ fn changed_flags(
     ensures { IfOk result
         (λ o. AreCyclesOf (slice_set edges.now place others.now) (flags_after flags.now o)) }
 {
+    if has_edges(edges, place, others) {
+        return Ok(None);
+    }
     if flag_at(flags, place) {
         let flags = flags_with(alloc, edges, place, others)?;
         return Ok(Some(flags));

@@ -7,9 +7,10 @@ ghost use Rattle.smf_state.specs.declared.view.ViewItem.{ViewItem as AnyItem};
 ghost use Rattle.smf_dep.specs.Members.{IsOfItem, by_member, members};
 ghost use Rattle.smf_dep.specs.Places.{AreCyclesOf, edges_of, event_at, finding_at, finding_of, flag_at, link_stops, node_stops, node_of, nodes_of};
 ghost use Rattle.smf_dep.specs.Verdicts.{must_stop, stops_by, verdict, verdict_by};
-ghost use Rattle.smf_dep.specs.Updates.{AllFit, AreNamed, IsAbove, OthersStay, with_members, with_placed};
+ghost use Rattle.smf_dep.specs.Updates.{AllFit, AreReady, OthersStay, with_members, with_placed};
 
-use crate::arrival::{arrival_in, join, leave, link_last};
+use crate::arrival::{join_all, leave_all};
+use crate::change::{MemberChanges, changes_in};
 use crate::cycle::{Cycles, cycles_of, flag_at};
 use crate::dependency::Dependency;
 use crate::link::{link_of, nodes_of};
@@ -17,7 +18,7 @@ use crate::member::{
     GraphMember, ReadMember, Standing, members_again, renewed_members, standing_of,
 };
 use crate::names::Names;
-use crate::relink::{PlacedMember, placed_members, relinks_for, rewire, set_members};
+use crate::relink::{link_all, set_members};
 use crate::update::{changed_members, numbers_of, place_in, put_touched, successors, take_members};
 use smf_fmri::Items;
 use smf_links::{GraphNode, Grouping, KeptVerdicts, Link, RestartOn};
@@ -241,71 +242,48 @@ impl Graph {
         if let Some(successors) = successors(alloc, self.members.as_slice(), changes)? {
             return self.update_in_place(alloc, successors);
         }
-        if let Some(member) = arrival_in(alloc, self.members.as_slice(), changes)? {
-            return self.grow(alloc, member);
-        }
-        match placed_members(alloc, self.members.as_slice(), changes)? {
-            Some(placed) => self.relink(alloc, placed),
+        match changes_in(alloc, self.members.as_slice(), changes)? {
+            Some(all) => self.change(alloc, all),
             None => self.update_all(alloc, changes),
         }
     }
 
-    /// Gives some instances other dependencies. All that may fail goes first.
-    fn relink(&mut self, alloc: Global, placed: Vec<PlacedMember>) -> Result<Items<u64>, AllocError>
-        requires { AreNamed placed.items self.old }
-        ensures with { OnOk result (self.new ≡ with_placed placed.items self.old) }
+    /// Puts instances after the others, and members that depend on other things in the places of others. If memory runs
+    /// out, those that came are taken out again.
+    fn change(&mut self, alloc: Global, changes: MemberChanges) -> Result<Items<u64>, AllocError>
+        requires { AreReady changes.placed.items changes.arrivals.items self.old }
+        ensures with { OnOk result (self.new ≡ with_placed changes.placed.items self.old ++ changes.arrivals.items) }
         ensures others { IfOk result (λ touched. OthersStay self.old self.new touched) }
         ensures err { OnErr result (self.new ≡ self.old) }
     {
-        let relinks = relinks_for(alloc, self.members.as_slice(), placed.as_slice())?;
-        let mut touched = Vec::with_capacity(alloc, self.members.len())?;
-        let mut numbers = Vec::with_capacity(alloc, self.members.len())?;
-        rewire(
-            alloc,
-            &mut self.kept,
-            &mut self.cycles,
-            relinks,
-            &mut touched,
-        )?;
-        set_members(&mut self.members, placed);
-        put_touched(&mut numbers, self.members.as_slice(), touched.as_slice());
-        Ok(Items::from_vec(numbers))
-    }
-
-    /// Puts an instance after the others, and links it with those that name it. If that fails, it is taken out again.
-    fn grow(&mut self, alloc: Global, member: ReadMember) -> Result<Items<u64>, AllocError>
-        requires { IsAbove member self.old }
-        ensures with { OnOk result (self.new ≡ self.old ++ member ∷ []) }
-        ensures others { IfOk result (λ touched. OthersStay self.old self.new touched) }
-        ensures err { OnErr result (self.new ≡ self.old) }
-    {
-        let place = self.members.len();
-        let count = place.checked_add(1).ok_or(AllocError)?;
-        let mut touched = Vec::with_capacity(alloc, count)?;
-        let mut numbers = Vec::with_capacity(alloc, count)?;
-        join(
+        let MemberChanges { placed, arrivals } = changes;
+        let count = self.members.len();
+        let room = count.checked_add(arrivals.len()).ok_or(AllocError)?;
+        let mut touched = Vec::with_capacity(alloc, room)?;
+        let mut numbers = Vec::with_capacity(alloc, room)?;
+        join_all(
             alloc,
             &mut self.members,
             &mut self.kept,
             &mut self.cycles,
-            member,
+            arrivals,
         )?;
-        let members = self.members.as_slice();
-        let last = members[place].member();
-        match link_last(
+        match link_all(
             alloc,
-            members,
-            last,
+            self.members.as_slice(),
+            count,
+            placed.as_slice(),
             &mut self.kept,
             &mut self.cycles,
             &mut touched,
         ) {
             Ok(()) => {
+                set_members(&mut self.members, placed);
                 put_touched(&mut numbers, self.members.as_slice(), touched.as_slice());
                 Ok(Items::from_vec(numbers))
             }
             Err(fault) => {
-                leave(&mut self.members, &mut self.kept, &mut self.cycles);
+                leave_all(&mut self.members, &mut self.kept, &mut self.cycles, count);
                 Err(fault)
             }
         }
@@ -329,8 +307,8 @@ impl Graph {
         Ok(Items::from_vec(numbers))
     }
 
-    /// Takes changes by which instances come or go, or several depend on other things. It does not read again what did
-    /// not change.
+    /// Takes changes by which instances go, or many come or depend on other things. It does not read again what did not
+    /// change.
     fn update_all(
         &mut self,
         alloc: Global,

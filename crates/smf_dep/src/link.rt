@@ -67,6 +67,48 @@ fn links_of(
     }
 }
 
+fn copy_of_places(alloc: Global, places: &[usize]) -> Result<Items<usize>, AllocError>
+    ensures { IfOk result (λ copy. copy ≡ places.now) }
+{
+    let copy = places.to_vec(alloc)?;
+    Ok(Items::from_vec(copy))
+}
+
+fn copy_of_cited(alloc: Global, cited: &[Items<usize>]) -> Result<Items<Items<usize>>, AllocError>
+    ensures { IfOk result (λ copy. copy ≡ cited.now) }
+{
+    let mut copy = Items::new(alloc);
+    for places in cited {
+        copy.push(copy_of_places(alloc, places.as_slice())?)?;
+    }
+    Ok(copy)
+}
+
+fn copy_of_links(alloc: Global, links: &[Link]) -> Result<Items<Link>, AllocError>
+    ensures { IfOk result (λ copy. copy ≡ links.now) }
+{
+    let mut copy = Items::new(alloc);
+    for link in links {
+        copy.push(Link {
+            grouping: link.grouping,
+            restart_on: link.restart_on,
+            cited: copy_of_cited(alloc, link.cited.as_slice())?,
+        })?;
+    }
+    Ok(copy)
+}
+
+/// A copy of an instance with its dependencies by places.
+pub(crate) fn copy_of_node(alloc: Global, node: &GraphNode) -> Result<GraphNode, AllocError>
+    ensures { IfOk result (λ copy. copy ≡ node.now) }
+{
+    let links = copy_of_links(alloc, node.links.as_slice())?;
+    Ok(GraphNode {
+        flags: node.flags,
+        links,
+    })
+}
+
 /// How many entities dependencies have.
 pub(crate) fn count_entities(dependencies: &Option<Shared<Items<Dependency>>>) -> usize {
     let mut count: usize = 0;

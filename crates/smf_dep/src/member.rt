@@ -281,7 +281,8 @@ fn copy_of_dependencies(
     }
 }
 
-fn has_same_dependencies(
+/// True if two members depend on the same.
+pub(crate) fn has_same_dependencies(
     kept: &Option<Shared<Items<Dependency>>>,
     other: &Option<Shared<Items<Dependency>>>,
 ) -> bool

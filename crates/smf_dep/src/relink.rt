@@ -1,20 +1,17 @@
 //! Instances that depend on other things than before.
 
-ghost use Rattle.std.specs.Prelude.{◌≡◌, ◌<◌, ◌≤◌, ◌+◌, ◌++◌, ◌∷◌, ℕ, [], map, IfOk, IfSome, OnErr, OnOk, length, slice_set, vec_capacity};
-ghost use Rattle.smf_fmri.specs.ByKey.{Rises};
+ghost use Rattle.std.specs.Prelude.{◌≡◌, ◌<◌, ◌≤◌, ◌+◌, ◌++◌, ◌∷◌, ℕ, [], true, map, drop, IfOk, IfSome, OnErr, OnOk, length, slice_set, vec_capacity};
 ghost use Rattle.smf_links.specs.Blockage.{IsOut};
 ghost use Rattle.smf_links.specs.Relinks.{AreWithin, with_relinks};
-ghost use Rattle.smf_dep.specs.Members.{by_member, member_of};
-ghost use Rattle.smf_dep.specs.Places.{AreCyclesOf, LeavesOthers, edges_of, flag_at, flags_after};
-ghost use Rattle.smf_dep.specs.Updates.{ArePlaced, IsNamedAt, IsSuccessor, relink_of, with_placed};
+ghost use Rattle.smf_dep.specs.Places.{AreCyclesOf, LeavesOthers, edges_of, flag_at, flags_after, links_of, nodes_of};
+ghost use Rattle.smf_dep.specs.Updates.{AreJoined, AreKnown, AreNamed, IsKnownAt, all_relinks, relink_of, relinks_from, with_placed};
 
+use crate::arrival::is_due;
 use crate::cycle::{Cycles, Turn, flag_at, turn_of};
-use crate::link::{count_entities, node_of};
-use crate::member::ReadMember;
+use crate::link::{copy_of_node, count_entities, node_of};
+use crate::member::{ReadMember, has_same_dependencies};
 use crate::names::Names;
-use crate::update::search;
-use smf_links::{KeptVerdicts, Relink};
-use smf_state::{ChangedItem, ViewItem};
+use smf_links::{GraphNode, KeptVerdicts, Relink};
 use std::alloc::{AllocError, Global};
 
 /// A member, and the place of that with its number and its name.
@@ -22,26 +19,6 @@ use std::alloc::{AllocError, Global};
 pub(crate) struct PlacedMember {
     pub member: ReadMember,
     pub place: usize,
-}
-
-/// The member of an item, if the instance is there with its name.
-fn member_for(
-    alloc: Global,
-    members: &[ReadMember],
-    item: &ViewItem,
-) -> Result<Option<PlacedMember>, AllocError>
-    requires { Rises by_member members.now }
-    ensures { IfOk result
-        (λ o. IfSome o (λ p. (p.member ≡ member_of item.now) × IsNamedAt p.member members.now p.place)) }
-{
-    let Ok(place) = search(members, item.instance) else {
-        return Ok(None);
-    };
-    if !members[place].has_name_of(item) {
-        return Ok(None);
-    }
-    let member = ReadMember::read(alloc, item)?;
-    Ok(Some(PlacedMember { member, place }))
 }
 
 fn push_place(touched: &mut Vec<usize>, place: usize)
@@ -52,73 +29,130 @@ fn push_place(touched: &mut Vec<usize>, place: usize)
     let _ = touched.push(place);
 }
 
-fn member_for_change(
-    alloc: Global,
+/// How many entities are looked for, if instances came after the first ones and members depend on other things.
+fn count_looks(
     members: &[ReadMember],
-    change: &ChangedItem,
-) -> Result<Option<PlacedMember>, AllocError>
-    requires { Rises by_member members.now }
-    ensures { IfOk result
-        (λ o. IfSome o (λ p. IsSuccessor change.now.item p.member × IsNamedAt p.member members.now p.place)) }
+    arrivals: &[ReadMember],
+    count: usize,
+    placed: &[PlacedMember],
+) -> usize {
+    let mut looks = count_due_looks(members, arrivals, count);
+    for one in placed {
+        if !is_known(members, arrivals, count, one) {
+            looks = looks.saturating_add(count_entities(&one.member.member().dependencies));
+        }
+    }
+    looks
+}
+
+fn count_due_looks(members: &[ReadMember], arrivals: &[ReadMember], count: usize) -> usize {
+    let mut looks: usize = 0;
+    if arrivals.is_empty() {
+        return looks;
+    }
+    let mut place = 0;
+    for member in members {
+        if is_due(arrivals, count, place, member.member()) {
+            looks = looks.saturating_add(count_entities(&member.member().dependencies));
+        }
+        place += 1;
+    }
+    looks
+}
+
+/// The instances that came after the first ones and those that name them, with what they depend on by places.
+fn relinks_to(
+    alloc: Global,
+    names: &Names<'_>,
+    members: &[ReadMember],
+    arrivals: &[ReadMember],
+    count: usize,
+) -> Result<Vec<Relink>, AllocError>
+    requires names { names.now ≡ members.now }
+    requires arrivals { arrivals.now ≡ drop count members.now }
+    ensures { IfOk result (λ all. all.items ≡ relinks_from members.now arrivals.now count 0 members.now) }
 {
-    match &change.item {
-        None => Ok(None),
-        Some(item) => member_for(alloc, members, item),
+    let mut all = Vec::new(alloc);
+    if arrivals.is_empty() {
+        return Ok(all);
+    }
+    let mut place = 0;
+    for member in members {
+        if is_due(arrivals, count, place, member.member()) {
+            let node = node_of(alloc, names, member.member(), None)?;
+            all.push(Relink { place, node })?;
+        }
+        place += 1;
+    }
+    Ok(all)
+}
+
+/// True if a member depends on what the one at its place does, and names none that came.
+fn is_known(
+    members: &[ReadMember],
+    arrivals: &[ReadMember],
+    count: usize,
+    one: &PlacedMember,
+) -> bool
+    ensures { result ≡ true → IsKnownAt members.now arrivals.now count one.now }
+{
+    match members.get(one.place) {
+        None => false,
+        Some(before) => {
+            !is_due(arrivals, count, one.place, before.member())
+                && has_same_dependencies(
+                    &before.member().dependencies,
+                    &one.member.member().dependencies,
+                )
+        }
     }
 }
 
-/// So many instances may get other dependencies in place. If there are more, the graph is made anew.
-pub(crate) const MOST_RELINKS: usize = 16;
-
-/// The members of changes, each with its place. None if an instance comes, goes or has another name, or if there are
-/// many changes.
-pub(crate) fn placed_members(
+/// A copy of what a member depends on by places, if that is known.
+fn known_node(
     alloc: Global,
     members: &[ReadMember],
-    changes: &[ChangedItem],
-) -> Result<Option<Vec<PlacedMember>>, AllocError>
-    requires { Rises by_member members.now }
-    ensures { IfOk result (λ o. IfSome o (λ all. ArePlaced changes.now all.items members.now)) }
+    arrivals: &[ReadMember],
+    count: usize,
+    kept: &KeptVerdicts,
+    one: &PlacedMember,
+) -> Result<Option<GraphNode>, AllocError>
+    requires { AreKnown members.now arrivals.now count kept.now }
+    ensures { IfOk result (λ o. IfSome o (λ n. n.links ≡ links_of members.now one.now.member.dependencies)) }
 {
-    if changes.len() > MOST_RELINKS {
+    if !is_known(members, arrivals, count, one) {
         return Ok(None);
     }
-    let mut all = Vec::with_capacity(alloc, changes.len())?;
-    for change in changes {
-        let Some(placed) = member_for_change(alloc, members, change)? else {
-            return Ok(None);
-        };
-        all.push(placed)?;
+    match kept.node(one.place) {
+        None => Ok(None),
+        Some(node) => Ok(Some(copy_of_node(alloc, node)?)),
     }
-    Ok(Some(all))
 }
 
-fn entity_count(placed: &[PlacedMember]) -> usize {
-    let mut count: usize = 0;
-    for one in placed {
-        count = count.saturating_add(count_entities(&one.member.member().dependencies));
-    }
-    count
-}
-
-/// Members with what they depend on by the places of the instances that are there.
-pub(crate) fn relinks_for(
+/// Puts members in other places after those, with what they depend on by places.
+fn add_relinks(
     alloc: Global,
+    names: &Names<'_>,
     members: &[ReadMember],
+    arrivals: &[ReadMember],
+    count: usize,
+    kept: &KeptVerdicts,
     placed: &[PlacedMember],
-) -> Result<Vec<Relink>, AllocError>
-    ensures { IfOk result (λ all. all.items ≡ map (relink_of members.now) placed.now) }
+    relinks: &mut Vec<Relink>,
+) -> Result<(), AllocError>
+    requires names { names.now ≡ members.now }
+    requires known { AreKnown members.now arrivals.now count kept.now }
+    ensures { OnOk result (relinks.new.items ≡ relinks.old.items ++ map (relink_of members.now) placed.now) }
 {
-    let names = Names::for_looks(alloc, members, entity_count(placed))?;
-    let mut all = Vec::with_capacity(alloc, placed.len())?;
     for one in placed {
-        let node = node_of(alloc, &names, one.member.member(), None)?;
-        all.push(Relink {
+        let known = known_node(alloc, members, arrivals, count, kept, one)?;
+        let node = node_of(alloc, names, one.member.member(), known)?;
+        relinks.push(Relink {
             place: one.place,
             node,
         })?;
     }
-    Ok(all)
+    Ok(())
 }
 
 /// Puts a member in the place of another.
@@ -211,4 +245,50 @@ pub(crate) fn rewire(
     kept.relink(alloc, relinks, touched)?;
     cycles.install(turn);
     Ok(())
+}
+
+/// Gives the instances that came after the first ones their links, and those that name them, and then members that are
+/// to have the places of others. If memory runs out, nothing but the list changes.
+pub(crate) fn link_all(
+    alloc: Global,
+    members: &[ReadMember],
+    count: usize,
+    placed: &[PlacedMember],
+    kept: &mut KeptVerdicts,
+    cycles: &mut Cycles,
+    touched: &mut Vec<usize>,
+) -> Result<(), AllocError>
+    requires joined { AreJoined members.now count kept.old }
+    requires named { AreNamed placed.now members.now }
+    requires edged { cycles.old.edges.items ≡ edges_of kept.old }
+    requires turning { AreCyclesOf cycles.old.edges.items cycles.old.flags.items }
+    requires empty { touched.old.items ≡ [] }
+    requires room { length kept.old ≤ vec_capacity touched.old }
+    ensures linked { OnOk result (kept.new ≡ nodes_of (with_placed placed.now members.now)) }
+    ensures edged { OnOk result (cycles.new.edges.items ≡ edges_of kept.new) }
+    ensures turning { OnOk result (AreCyclesOf cycles.new.edges.items cycles.new.flags.items) }
+    ensures others { OnOk result (LeavesOthers kept.old kept.new (all_relinks members.now count placed.now)
+        cycles.old.flags.items cycles.new.flags.items touched.new.items) }
+    ensures err { OnErr result (kept.new ≡ kept.old) }
+    ensures same_edges { OnErr result (cycles.new.edges.items ≡ cycles.old.edges.items) }
+    ensures same_flags { OnErr result (cycles.new.flags.items ≡ cycles.old.flags.items) }
+{
+    let arrivals = &members[count..];
+    let names = Names::for_looks(
+        alloc,
+        members,
+        count_looks(members, arrivals, count, placed),
+    )?;
+    let mut relinks = relinks_to(alloc, &names, members, arrivals, count)?;
+    add_relinks(
+        alloc,
+        &names,
+        members,
+        arrivals,
+        count,
+        kept,
+        placed,
+        &mut relinks,
+    )?;
+    rewire(alloc, kept, cycles, relinks, touched)
 }

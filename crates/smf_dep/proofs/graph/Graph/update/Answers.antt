@@ -2,9 +2,9 @@ use Rattle.std.proofs.Common.{◌∙◌, List, Option, Vec, Global, subst}
 use Rattle.std.specs.Prelude.{IfSome}
 use Rattle.std.proofs.lemmas.Result.{on_ok_weaker}
 use Rattle.smf_dep.specs.declared.member.GraphMember.{GraphMember}
+use Rattle.smf_dep.specs.declared.change.MemberChanges.{MemberChanges}
 use Rattle.smf_dep.specs.declared.member.ReadMember.{ReadMember}
-use Rattle.smf_dep.specs.declared.relink.PlacedMember.{PlacedMember}
-use Rattle.smf_dep.specs.Updates.{AreSuccessors, ArePlaced, Arrives}
+use Rattle.smf_dep.specs.Updates.{AreChanges, AreSuccessors}
 use Rattle.smf_dep.proofs.OfItems.{shown}
 use Rattle.smf_dep.proofs.graph.Graph.update.Goals as goal
 
@@ -25,20 +25,20 @@ returns-in-None-clause-shown c =
 
 pub returns-in-Some-2-clause-shown : goal.returns-in-Some-2-clause-shown
 returns-in-Some-2-clause-shown c =
-    let P : Option GraphMember → Type 0 = λ o. IfSome o
-    (λ m. Arrives c.args.changes.now c.as_slice-2.result.now m) in
-    let ready = subst P c.in-Some-2.is c.in_ok-member.ensures in
-    let Q : List GraphMember → Type 0 = λ l. Arrives c.args.changes.now l c.in-Some-2.member in
+    let P : Option MemberChanges → Type 0 = λ o. IfSome o
+    (λ all. AreChanges c.args.changes.now all.placed.items all.arrivals.items c.as_slice-2.result.now) in
+    let ready = subst P c.in-Some-2.is c.in_ok-all.ensures in
+    let Q : List GraphMember → Type 0 =
+    AreChanges c.args.changes.now c.in-Some-2.all.placed.items c.in-Some-2.all.arrivals.items in
     let put = (subst Q (c.as_slice-2.ensures.value ∙ c.self.view_is) ready).put in
-    on_ok_weaker c.grow.result (λ e. shown c.args.changes.now c.args.self.now c.grow.new.self (e ∙ put))
-    c.grow.ensures.with
+    on_ok_weaker c.change.result (λ e. shown c.args.changes.now c.args.self.now c.change.new.self (e ∙ put))
+    c.change.ensures.with
 
-pub returns-in-Some-3-clause-shown : goal.returns-in-Some-3-clause-shown
-returns-in-Some-3-clause-shown c =
-    let P : Option (Vec PlacedMember Global) → Type 0 = λ o. IfSome o
-    (λ ps. ArePlaced c.args.changes.now ps.items c.as_slice-3.result.now) in
-    let ready = subst P c.in-Some-3.is c.in_ok-placed.ensures in
-    let Q : List GraphMember → Type 0 = ArePlaced c.args.changes.now c.in-Some-3.placed.items in
-    let put = (subst Q (c.as_slice-3.ensures.value ∙ c.self.view_is) ready).put in
-    on_ok_weaker c.relink.result (λ e. shown c.args.changes.now c.args.self.now c.relink.new.self (e ∙ put))
-    c.relink.ensures.with
+pub change-requires : goal.change-requires
+change-requires c =
+    let P : Option MemberChanges → Type 0 = λ o. IfSome o
+    (λ all. AreChanges c.args.changes.now all.placed.items all.arrivals.items c.as_slice-2.result.now) in
+    let ready = subst P c.in-Some-2.is c.in_ok-all.ensures in
+    let Q : List GraphMember → Type 0 =
+    AreChanges c.args.changes.now c.in-Some-2.all.placed.items c.in-Some-2.all.arrivals.items in
+    (subst Q (c.as_slice-2.ensures.value ∙ c.self.view_is) ready).ready
