@@ -1,5 +1,5 @@
 -- The edges of the places after one of them got other edges.
-use Rattle.std.proofs.Common.{◌≡◌, ℕ, zero, suc, ◌<◌, ◌≤◌, List, [], ◌∷◌, length, set, refl, ap, arith}
+use Rattle.std.proofs.Common.{◌≡◌, ℕ, zero, suc, ◌<◌, List, [], ◌∷◌, length, set, refl, ap, arith}
 use Rattle.smf_cycles.specs.Paths.{edges_at}
 
 pub edges_here : (edges : List (List ℕ)) (p : ℕ) (others : List ℕ) → p < length edges
@@ -17,14 +17,6 @@ edges_elsewhere (places ∷ edges) zero others zero h = absurd (h refl)
 edges_elsewhere (places ∷ edges) zero others (suc a) h = refl
 edges_elsewhere (places ∷ edges) (suc p) others zero h = refl
 edges_elsewhere (places ∷ edges) (suc p) others (suc a) h = edges_elsewhere edges p others a (λ e. h (ap suc e))
-
--- a place that is not there has no edges after the change either
-pub edges_not_there : (edges : List (List ℕ)) (p : ℕ) (others : List ℕ) → length edges ≤ p
-    → edges_at (set edges p others) p ≡ []
-unfolding edges_at
-edges_not_there [] p others h = refl
-edges_not_there (places ∷ edges) zero others h = absurd (omega arith)
-edges_not_there (places ∷ edges) (suc p) others h = edges_not_there edges p others (omega arith)
 
 -- a place gets the edges that it has
 pub edges_again : (edges : List (List ℕ)) (p : ℕ) → set edges p (edges_at edges p) ≡ edges

@@ -7,3 +7,4 @@ pub mod Components
 pub mod Edits
 pub mod Elsewhere
 pub mod Arrival
+pub mod Turns

@@ -1,56 +1,33 @@
-//! A graph in which one place has other edges.
+//! A graph in which some places have other edges.
 
-ghost use Rattle.std.specs.Prelude.{◌≡◌, length, slice_set};
+ghost use Rattle.std.specs.Prelude.{◌≡◌};
 ghost use Rattle.smf_cycles.specs.Paths.{edges_at};
+ghost use Rattle.smf_cycles.specs.Turns.{with_edges};
 
 use crate::graph::edges_of;
 use crate::places::Places;
-use std::marker::Model;
 
-/// Edges that are lent, and other edges for one of the places. A clause sees all edges with that change.
+/// The edges that a place gets.
 #[derive(Drop)]
-pub(crate) struct ChangedEdges<'a> {
-    edges: &'a [Places],
-    place: usize,
-    others: &'a [usize],
+pub struct PlacedEdges {
+    pub place: usize,
+    pub edges: Places,
 }
 
-impl<'a> Model for ChangedEdges<'a> {
-    ghost use Rattle.std.specs.Prelude.{List, ℕ, slice_set};
-
-    ghost Value = { List (List ℕ) };
-
-    ghost view = { λ e. slice_set e.edges.now e.place e.others.now };
-}
-
-impl<'a> ChangedEdges<'a> {
-    pub(crate) fn over(edges: &'a [Places], place: usize, others: &'a [usize]) -> ChangedEdges<'a>
-        ensures { result ≡ slice_set edges.now place others.now }
-    {
-        ChangedEdges {
-            edges,
-            place,
-            others,
+/// The places that the edges of a place lead to, once some places got other edges, one after another. A place that is
+/// not there stays without edges. It copies nothing.
+#[tactic(auto, using(crate::proofs::Turns::after_past, crate::proofs::Turns::after_here, crate::proofs::Turns::after_elsewhere))]
+pub fn edges_after<'a>(edges: &'a [Places], turns: &'a [PlacedEdges], place: usize) -> &'a [usize]
+    ensures { result.now ≡ edges_at (with_edges edges.now turns.now) place }
+{
+    if place >= edges.len() {
+        return &[];
+    }
+    let mut newest = edges_of(edges, place);
+    for turn in turns {
+        if turn.place == place {
+            newest = turn.edges.as_slice();
         }
     }
-
-    pub(crate) fn len(&self) -> usize
-        ensures { result ≡ length self.now }
-    {
-        self.edges.len()
-    }
-
-    /// The places that the edges of a place lead to. A place that is past the end has none.
-    pub(crate) fn at(&self, place: usize) -> &[usize]
-        ensures { result.now ≡ edges_at self.now place }
-    {
-        if place != self.place {
-            return edges_of(self.edges, place);
-        }
-        if place < self.edges.len() {
-            self.others
-        } else {
-            &[]
-        }
-    }
+    newest
 }

@@ -8,6 +8,8 @@ use Rattle.std.proofs.lemmas.List.{length-set}
 use Rattle.std.proofs.lemmas.Option.{get_or_from_slice_get, slice_get_within}
 use Rattle.smf_fmri.specs.ByKey.{Rises, StandsAt}
 use Rattle.smf_fmri.proofs.KeyOrder.{rises_put}
+use Rattle.smf_cycles.specs.declared.change.PlacedEdges.{PlacedEdges}
+use Rattle.smf_cycles.specs.Turns.{with_edges}
 use Rattle.smf_links.specs.declared.link.GraphNode.{GraphNode}
 use Rattle.smf_links.specs.declared.link.Link.{Link}
 use Rattle.smf_links.specs.Blockage.{IsOut}
@@ -17,9 +19,8 @@ use Rattle.smf_state.specs.declared.view.ViewItem.{ViewItem}
 use Rattle.smf_dep.specs.declared.member.GraphMember.{GraphMember}
 use Rattle.smf_dep.specs.Members.{by_member, member_of}
 use Rattle.smf_dep.specs.Names.{instance_name}
-use Rattle.smf_dep.specs.Places.{AreInside, LeavesOthers, edges_by, edges_in, edges_of, flag_at, flags_of, link_stops, node_of, nodes_of, with_edges}
+use Rattle.smf_dep.specs.Places.{AreInside, LeavesOthers, edges_by, edges_in, edges_of, flag_at, flags_of, link_stops, node_of, nodes_of}
 use Rattle.smf_dep.specs.Updates.{AreNamed, IsNamedAt, number, relink_of, with_placed}
-use Rattle.smf_dep.specs.declared.cycle.PlacedEdges.{PlacedEdges}
 use Rattle.smf_dep.specs.declared.relink.PlacedMember.{PlacedMember}
 use Rattle.smf_dep.proofs.Alike.{links_by, places_named}
 use Rattle.smf_dep.proofs.ByNumber.{stood}

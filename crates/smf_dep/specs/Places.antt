@@ -1,7 +1,8 @@
 -- Dependencies by the places of instances in a list, so that a name is looked for once.
-use Rattle.std.specs.Prelude.{◌≡◌, ◌↔◌, ◌<◌, ℕ, ◌+◌, List, [], ◌∷◌, ◌++◌, map, length, Bool, false, IsTrue, Vec, ◌&&◌, if◌then◌else◌, Option, Some, None, unwrap_or, is_some, slice_get, slice_set}
+use Rattle.std.specs.Prelude.{◌≡◌, ◌↔◌, ◌<◌, ℕ, ◌+◌, List, [], ◌∷◌, ◌++◌, map, length, Bool, false, IsTrue, Vec, ◌&&◌, if◌then◌else◌, Option, Some, None, unwrap_or, is_some, slice_get}
 use Rattle.std.specs.List.{list_any}
 use Rattle.std.specs.Option.{option_map_or}
+use Rattle.smf_cycles.specs.declared.change.PlacedEdges.{PlacedEdges}
 use Rattle.smf_cycles.specs.Paths as paths
 use Rattle.smf_links.specs.declared.link.Link.{Link}
 use Rattle.smf_links.specs.declared.link.GraphNode.{GraphNode}
@@ -9,7 +10,6 @@ use Rattle.smf_links.specs.declared.link.Flags.{Flags}
 use Rattle.smf_links.specs.declared.link.Relink.{Relink}
 use Rattle.smf_links.specs.Blockage.{IsOut, met_at}
 use Rattle.smf_links.specs.Relinks.{AreApart}
-use Rattle.smf_dep.specs.declared.cycle.PlacedEdges.{PlacedEdges}
 use Rattle.smf_dep.specs.declared.dependency.Dependency.{Dependency}
 use Rattle.smf_fmri.specs.ByKey.{Rises}
 use Rattle.smf_dep.specs.declared.graph.Finding.{Finding}
@@ -92,11 +92,6 @@ pub record AreCycles (ms : List GraphMember) (flags : List Bool) : Type 0 where
 -- the edges of an instance that gets other links
 abbrev pub edges_by : Relink → PlacedEdges
 edges_by r = record { place = r.place; edges = edges_in r.node.links }
-
--- one after another
-abbrev pub with_edges : List (List ℕ) → List PlacedEdges → List (List ℕ)
-with_edges edges [] = edges
-with_edges edges (t ∷ ts) = with_edges (slice_set edges t.place t.edges) ts
 
 -- each of these places is below the count
 abbrev pub AreInside : ℕ → List PlacedEdges → Type 0

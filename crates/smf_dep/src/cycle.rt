@@ -1,8 +1,9 @@
-ghost use Rattle.std.specs.Prelude.{◌≡◌, ◌<◌, ◌-◌, ◌++◌, ◌∷◌, [], true, false, map, take, IfOk, OnOk, length, slice_set, vec_capacity};
+ghost use Rattle.std.specs.Prelude.{◌≡◌, ◌<◌, ◌+◌, ◌-◌, ◌++◌, ◌∷◌, [], true, false, map, take, IfOk, OnOk, length, slice_set, vec_capacity};
+ghost use Rattle.smf_cycles.specs.Turns.{with_edges};
 ghost use Rattle.smf_links.specs.Relinks.{AreWithin};
-ghost use Rattle.smf_dep.specs.Places.{AreCyclesOf, AreInside, edges_by, edges_in, edges_of, flag_at, flags_after, places_in_lists, with_edges};
+ghost use Rattle.smf_dep.specs.Places.{AreCyclesOf, AreInside, edges_by, edges_in, edges_of, flag_at, flags_after, places_in_lists};
 
-use smf_cycles::{Places, is_on_cycle_with, places_on_cycles};
+use smf_cycles::{PlacedEdges, Places, edges_after, is_on_cycle_after, places_on_cycles};
 use smf_fmri::Items;
 use smf_links::{GraphNode, Grouping, Link, Relink};
 use std::alloc::{AllocError, Global};
@@ -49,13 +50,6 @@ fn edges_of(alloc: Global, nodes: &[GraphNode]) -> Result<Vec<Places>, AllocErro
 pub(crate) struct Cycles {
     pub edges: Vec<Places>,
     pub flags: Vec<bool>,
-}
-
-/// The edges that a place gets.
-#[derive(Drop)]
-pub(crate) struct PlacedEdges {
-    pub place: usize,
-    pub edges: Places,
 }
 
 /// The edges that some places get, and the flags of all places if some are others then.
@@ -108,53 +102,69 @@ fn put_edges(edges: &mut Vec<Places>, place: usize, others: Places)
     }
 }
 
-/// Which places are on a cycle, if one has these edges in place of its own.
+/// Gives places copies of other edges, one after another.
+fn put_copies(
+    alloc: Global,
+    edges: &mut Vec<Places>,
+    turns: &[PlacedEdges],
+) -> Result<(), AllocError>
+    ensures { OnOk result (edges.new.items ≡ with_edges edges.old.items turns.now) }
+{
+    for turn in turns {
+        let others = copy_of(alloc, turn.edges.as_slice())?;
+        put_edges(edges, turn.place, others);
+    }
+    Ok(())
+}
+
+/// Which places are on a cycle, if some get these edges, one after another.
 fn flags_with(
     alloc: Global,
     edges: &[Places],
-    place: usize,
-    others: &[usize],
+    turns: &[PlacedEdges],
 ) -> Result<Vec<bool>, AllocError>
-    ensures { IfOk result (λ flags. AreCyclesOf (slice_set edges.now place others.now) flags.items) }
+    ensures { IfOk result (λ flags. AreCyclesOf (with_edges edges.now turns.now) flags.items) }
 {
     let mut all = copies(alloc, edges)?;
-    let others = copy_of(alloc, others)?;
-    put_edges(&mut all, place, others);
+    put_copies(alloc, &mut all, turns)?;
     let flags = flags_of(alloc, all.as_slice())?;
     Ok(flags)
 }
 
-/// True if a place has these edges already.
-fn has_edges(edges: &[Places], place: usize, others: &[usize]) -> bool
-    requires { place < length edges.now }
-    ensures { result ≡ true → slice_set edges.now place others.now ≡ edges.now }
+/// True if a place has the edges of its turn already, after the turns before that one.
+fn has_edges(edges: &[Places], earlier: &[PlacedEdges], turn: &PlacedEdges) -> bool
+    ensures { result ≡ true → slice_set (with_edges edges.now earlier.now) turn.now.place turn.now.edges
+        ≡ with_edges edges.now earlier.now }
 {
-    edges[place].as_slice() == others
+    edges_after(edges, earlier, turn.place) == turn.edges.as_slice()
 }
 
-/// The flags of all places if one gets these edges, or none if they stay as they are. A place that is on no cycle,
-/// neither before nor after, changes no flag, nor does one that has these edges already.
+/// The flags of all places after the turn with this index, or none if they stay as they are after the turns before it.
+/// A place that is on no cycle, neither before nor after, changes no flag, nor does one that has these edges already.
 fn changed_flags(
     alloc: Global,
     edges: &[Places],
     flags: &[bool],
-    place: usize,
-    others: &[usize],
+    turns: &[PlacedEdges],
+    index: usize,
 ) -> Result<Option<Vec<bool>>, AllocError>
-    requires within { place < length edges.now }
-    requires turning { AreCyclesOf edges.now flags.now }
+    requires among { index < length turns.now }
+    requires within { AreInside (length edges.now) turns.now }
+    requires turning { AreCyclesOf (with_edges edges.now (take index turns.now)) flags.now }
     ensures { IfOk result
-        (λ o. AreCyclesOf (slice_set edges.now place others.now) (flags_after flags.now o)) }
+        (λ o. AreCyclesOf (with_edges edges.now (take (index + 1) turns.now)) (flags_after flags.now o)) }
 {
-    if has_edges(edges, place, others) {
+    let turn = &turns[index];
+    let after = &turns[..index + 1];
+    if has_edges(edges, &turns[..index], turn) {
         return Ok(None);
     }
-    if flag_at(flags, place) {
-        let flags = flags_with(alloc, edges, place, others)?;
+    if flag_at(flags, turn.place) {
+        let flags = flags_with(alloc, edges, after)?;
         return Ok(Some(flags));
     }
-    if is_on_cycle_with(alloc, edges, place, others)? {
-        let flags = flags_with(alloc, edges, place, others)?;
+    if is_on_cycle_after(alloc, edges, after, turn.place)? {
+        let flags = flags_with(alloc, edges, after)?;
         return Ok(Some(flags));
     }
     Ok(None)
@@ -170,48 +180,30 @@ fn newest<'a>(flags: &'a [bool], others: &'a Option<Vec<bool>>) -> &'a [bool]
     }
 }
 
-/// The same after one more place gets other edges.
+/// The newest flags after the turn with this index, from those after the turns before it.
 fn flags_by_one(
     alloc: Global,
-    edges: &[Places],
-    flags: &[bool],
+    cycles: &Cycles,
     others: Option<Vec<bool>>,
-    turn: &PlacedEdges,
+    turns: &[PlacedEdges],
+    index: usize,
 ) -> Result<Option<Vec<bool>>, AllocError>
-    requires within { turn.now.place < length edges.now }
-    requires turning { AreCyclesOf edges.now (flags_after flags.now others) }
+    requires among { index < length turns.now }
+    requires within { AreInside (length cycles.now.edges.items) turns.now }
+    requires turning { AreCyclesOf (with_edges cycles.now.edges.items (take index turns.now))
+        (flags_after cycles.now.flags.items others) }
     ensures { IfOk result
-        (λ o. AreCyclesOf (slice_set edges.now turn.now.place turn.now.edges) (flags_after flags.now o)) }
+        (λ o. AreCyclesOf (with_edges cycles.now.edges.items (take (index + 1) turns.now))
+        (flags_after cycles.now.flags.items o)) }
 {
-    let before = newest(flags, &others);
-    match changed_flags(alloc, edges, before, turn.place, turn.edges.as_slice())? {
+    let before = newest(cycles.flags.as_slice(), &others);
+    match changed_flags(alloc, cycles.edges.as_slice(), before, turns, index)? {
         None => Ok(others),
         Some(changed) => Ok(Some(changed)),
     }
 }
 
-/// The flags of all places if some get these edges, one after another.
-fn flags_by_turns(
-    alloc: Global,
-    cycles: &Cycles,
-    turns: &[PlacedEdges],
-) -> Result<Option<Vec<bool>>, AllocError>
-    requires within { AreInside (length cycles.now.edges.items) turns.now }
-    requires turning { AreCyclesOf cycles.now.edges.items cycles.now.flags.items }
-    ensures { IfOk result
-        (λ o. AreCyclesOf (with_edges cycles.now.edges.items turns.now) (flags_after cycles.now.flags.items o)) }
-{
-    let mut all = copies(alloc, cycles.edges.as_slice())?;
-    let mut others: Option<Vec<bool>> = None;
-    for turn in turns {
-        let edges = copy_of(alloc, turn.edges.as_slice())?;
-        others = flags_by_one(alloc, all.as_slice(), cycles.flags.as_slice(), others, turn)?;
-        put_edges(&mut all, turn.place, edges);
-    }
-    Ok(others)
-}
-
-/// The flags of all places if some get these edges, or none if they stay as they are.
+/// The flags of all places if some get these edges, one after another, or none if they stay as they are.
 fn flags_of_turn(
     alloc: Global,
     cycles: &Cycles,
@@ -222,16 +214,11 @@ fn flags_of_turn(
     ensures { IfOk result
         (λ o. AreCyclesOf (with_edges cycles.now.edges.items turns.now) (flags_after cycles.now.flags.items o)) }
 {
-    match turns {
-        [turn] => changed_flags(
-            alloc,
-            cycles.edges.as_slice(),
-            cycles.flags.as_slice(),
-            turn.place,
-            turn.edges.as_slice(),
-        ),
-        _ => flags_by_turns(alloc, cycles, turns),
+    let mut others: Option<Vec<bool>> = None;
+    for index in 0..turns.len() {
+        others = flags_by_one(alloc, cycles, others, turns, index)?;
     }
+    Ok(others)
 }
 
 /// The edges of instances that get other links.

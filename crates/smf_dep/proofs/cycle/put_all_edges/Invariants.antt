@@ -1,6 +1,6 @@
 use Rattle.std.proofs.Common.{◌≡◌}
 use Rattle.std.specs.Vec.Iter.{into_iter_items}
-use Rattle.smf_dep.specs.Places.{with_edges}
+use Rattle.smf_cycles.specs.Turns.{with_edges}
 use Rattle.smf_dep.proofs.cycle.put_all_edges.Given as goal
 
 abbrev pub invariant-loop-turn : goal.invariant-loop-turn
