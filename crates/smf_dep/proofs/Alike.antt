@@ -148,7 +148,7 @@ pub places_named : (ms ks : List GraphMember) → map instance_name ms ≡ map i
 unfolding places
 places_named ms ks h = fun_ext (λ e. from_named e 0 ms ks h)
 
-names_in : (ms ks : List GraphMember) → map wires ms ≡ map wires ks → map instance_name ms ≡ map instance_name ks
+pub names_in : (ms ks : List GraphMember) → map wires ms ≡ map wires ks → map instance_name ms ≡ map instance_name ks
 names_in [] [] h = refl
 names_in [] (k ∷ ks) h = absurd cc
 names_in (m ∷ ms) [] h = absurd cc

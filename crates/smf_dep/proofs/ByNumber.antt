@@ -48,6 +48,12 @@ found_at o xs i x r e =
     got (y ∷ ys) zero x e = e
     got (y ∷ ys) (suc i) x e = got ys i x e
 
+pub stands_looks : {X K : Type 0} (o : By X K) (k : K) (i : ℕ) (xs : List X) → Rises o xs → StandsAt o k i xs
+    → slice_get xs i ≡ lookup o xs k
+stands_looks o k i xs r s =
+    let at = stood o k i xs s in
+    at.1 ∙ sym (found_at o xs i at.0 r at.1) ∙ ap (lookup o xs) at.2
+
 pub at_found : {X K : Type 0} (o : By X K) (xs : List X) (k : K) (x : X) → lookup o xs k ≡ Some x
     → (i : ℕ) × (slice_get xs i ≡ Some x) × (o.key x ≡ k)
 at_found o [] k x e = absurd cc

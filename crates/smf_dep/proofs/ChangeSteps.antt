@@ -1,19 +1,21 @@
 -- Changes that are taken one after another: members in the places of others, and members after all.
-use Rattle.std.proofs.Common.{◌≡◌, ℕ, zero, suc, ◌+◌, ◌<◌, ◌≤◌, List, [], ◌∷◌, ◌++◌, map, length, drop, get_or, sym, ap, ◌∙◌, subst, arith}
+use Rattle.std.proofs.Common.{◌≡◌, ℕ, zero, suc, ◌+◌, ◌<◌, ◌≤◌, List, [], ◌∷◌, ◌++◌, map, length, drop, get_or, Option, Some, None, refl, sym, ap, ◌∙◌, subst, arith}
 use Rattle.std.specs.Cmp.{nat_cmp_is}
 use Rattle.std.specs.Ordering.{nat_cmp}
 use Rattle.std.specs.declared.cmp.Ordering.TheVariants.{Less}
 use Rattle.std.proofs.lemmas.List.{append-nil, append_assoc, drop_all}
-use Rattle.smf_fmri.specs.ByKey.{BelongsAt, By, IsAbove, Rises}
+use Rattle.smf_fmri.specs.ByKey.{BelongsAt, By, IsAbove, Rises, list_with_item}
 use Rattle.smf_fmri.proofs.KeyOrder.{put_last}
 use Rattle.smf_links.proofs.Work.{left_at}
 use Rattle.smf_state.specs.declared.view.ChangedItem.{ChangedItem}
+use Rattle.smf_state.specs.declared.view.ViewItem.{ViewItem}
 use Rattle.smf_dep.specs.declared.member.GraphMember.{GraphMember}
 use Rattle.smf_dep.specs.declared.relink.PlacedMember.{PlacedMember}
-use Rattle.smf_dep.specs.Members.{by_member}
-use Rattle.smf_dep.specs.Updates.{AreAbove, AreChanges, AreNamed, AreReady, IsNamedAt, IsSuccessor, number, with_member, with_members, with_placed}
+use Rattle.smf_dep.specs.Departures.{AreChanges, leaver, leavers, with_departure, with_departures}
+use Rattle.smf_dep.specs.Members.{by_member, member_of}
+use Rattle.smf_dep.specs.Updates.{AreAbove, AreNamed, AreReady, IsNamedAt, number, with_placed}
 use Rattle.smf_dep.proofs.Relinked.{more_named, named_after, numbers_of_all, placed_after, rises_of_all}
-use Rattle.smf_dep.proofs.Updates.{put_by, set_at_key}
+use Rattle.smf_dep.proofs.Updates.{set_at_key}
 
 -- ---- a number above those of all
 
@@ -64,18 +66,17 @@ ready_placed ps qs p arrivals ms ready none e at =
     let P : List GraphMember → Type 0 = λ l. AreAbove l (with_placed qs ms) in
     record { named = more_named ps qs p ms e ready.named at; above = subst P (sym none) tt }
 
-pub put_placed : (c : ChangedItem) (ps qs : List PlacedMember) (p : PlacedMember) (arrivals ms : List GraphMember)
-    → Rises by_member ms → AreNamed ps ms → arrivals ≡ [] → qs ≡ ps ++ p ∷ [] → IsSuccessor c.item p.member
+pub put_placed : (i : ViewItem) (ps qs : List PlacedMember) (p : PlacedMember) (arrivals ms : List GraphMember)
+    → Rises by_member ms → AreNamed ps ms → arrivals ≡ [] → qs ≡ ps ++ p ∷ [] → p.member ≡ member_of i
     → IsNamedAt p.member ms p.place
-    → with_placed qs ms ++ arrivals ≡ with_member c.instance c.item (with_placed ps ms ++ arrivals)
-put_placed c ps qs p arrivals ms r named none e s at =
+    → with_placed qs ms ++ arrivals ≡ list_with_item by_member (member_of i) (with_placed ps ms ++ arrivals)
+put_placed i ps qs p arrivals ms r named none e s at =
     let now = with_placed ps ms in
     let there = named_after ps p.member p.place ms named at in
     ap (λ l. with_placed qs ms ++ l) none ∙ append-nil (with_placed qs ms)
     ∙ ap (λ l. with_placed l ms) e ∙ placed_after ps p ms
     ∙ set_at_key p.member now p.place there.before (rises_of_all ps ms r named) there.at there.numbered
-    ∙ sym (put_by c p.member now s)
-    ∙ ap (with_member c.instance c.item) (sym (ap (λ l. now ++ l) none ∙ append-nil now))
+    ∙ (λ j. list_with_item by_member (s j) (sym (ap (λ l. now ++ l) none ∙ append-nil now) j))
 
 -- ---- one more member after all
 
@@ -96,15 +97,15 @@ ready_arrived m ps arrivals after ms ready e f g =
           (more_above m arrivals (with_placed ps ms) ready.above (above_placed m.instance ps ms ready.named f) g);
     }
 
-pub put_arrived : (c : ChangedItem) (m : GraphMember) (ps : List PlacedMember) (arrivals after ms : List GraphMember)
-    → AreNamed ps ms → after ≡ arrivals ++ m ∷ [] → IsSuccessor c.item m → IsAbove by_member m.instance ms
+pub put_arrived : (i : ViewItem) (m : GraphMember) (ps : List PlacedMember) (arrivals after ms : List GraphMember)
+    → AreNamed ps ms → after ≡ arrivals ++ m ∷ [] → m ≡ member_of i → IsAbove by_member m.instance ms
     → IsAbove by_member m.instance arrivals
-    → with_placed ps ms ++ after ≡ with_member c.instance c.item (with_placed ps ms ++ arrivals)
-put_arrived c m ps arrivals after ms named e s f g =
+    → with_placed ps ms ++ after ≡ list_with_item by_member (member_of i) (with_placed ps ms ++ arrivals)
+put_arrived i m ps arrivals after ms named e s f g =
     let now = with_placed ps ms in
     let above = above_both by_member m.instance now arrivals (above_placed m.instance ps ms named f) g in
     ap (λ l. now ++ l) e ∙ sym (append_assoc now arrivals (m ∷ []))
-    ∙ sym (put_last by_member m (now ++ arrivals) above) ∙ sym (put_by c m (now ++ arrivals) s)
+    ∙ sym (put_last by_member m (now ++ arrivals) above) ∙ ap (λ x. list_with_item by_member x (now ++ arrivals)) s
 
 -- ---- all changes, one after another
 
@@ -116,19 +117,36 @@ ready_first ps arrivals ms e f =
     record { named = subst P (sym e) tt; above = subst Q (sym f) tt }
 
 pub put_first : (cs : List ChangedItem) (ps : List PlacedMember) (arrivals ms : List GraphMember) → ps ≡ []
-    → arrivals ≡ [] → with_members cs (with_placed ps ms ++ arrivals) ≡ with_members cs ms
+    → arrivals ≡ [] → with_departures cs (with_placed ps ms ++ arrivals) ≡ with_departures cs ms
 put_first cs ps arrivals ms e f =
-    ap (with_members cs) ((λ i. with_placed (e i) ms ++ f i) ∙ append-nil ms)
+    ap (with_departures cs) ((λ i. with_placed (e i) ms ++ f i) ∙ append-nil ms)
 
 pub put_next : (cs : List ChangedItem) (i : ℕ) (c : ChangedItem) (before after ms : List GraphMember) → i < length cs
-    → c ≡ get_or cs i c → after ≡ with_member c.instance c.item before
-    → with_members (drop i cs) before ≡ with_members cs ms → with_members (drop (i + 1) cs) after ≡ with_members cs ms
+    → c ≡ get_or cs i c → after ≡ with_departure c.instance c.item before
+    → with_departures (drop i cs) before ≡ with_departures cs ms → with_departures (drop (i + 1) cs) after ≡ with_departures cs ms
 put_next cs i c before after ms lt is e h =
-    ap (with_members (drop (i + 1) cs)) e ∙ ap (λ l. with_members l before) (sym (left_at cs i c lt is)) ∙ h
+    ap (with_departures (drop (i + 1) cs)) e ∙ ap (λ l. with_departures l before) (sym (left_at cs i c lt is)) ∙ h
 
-pub are_changes : (cs : List ChangedItem) (i : ℕ) (ps : List PlacedMember) (arrivals ms : List GraphMember)
-    → length cs ≤ i → AreReady ps arrivals ms
-    → with_members (drop i cs) (with_placed ps ms ++ arrivals) ≡ with_members cs ms → AreChanges cs ps arrivals ms
-are_changes cs i ps arrivals ms le ready h =
+pub leave_next : (cs : List ChangedItem) (i : ℕ) (c : ChangedItem) (before after : List ℕ) → i < length cs
+    → c ≡ get_or cs i c → after ≡ before ++ leaver c.instance c.item [] → before ++ leavers (drop i cs) ≡ leavers cs
+    → after ++ leavers (drop (i + 1) cs) ≡ leavers cs
+leave_next cs i c before after lt is e h =
+    ap (λ l. l ++ leavers (drop (i + 1) cs)) e ∙ append_assoc before (leaver c.instance c.item []) (leavers (drop (i + 1) cs))
+    ∙ ap (λ l. before ++ l) (by c.item) ∙ ap (λ l. before ++ leavers l) (sym (left_at cs i c lt is)) ∙ h
+  where
+    by : (o : Option ViewItem) → leaver c.instance o [] ++ leavers (drop (i + 1) cs)
+        ≡ leaver c.instance o (leavers (drop (i + 1) cs))
+    by None = refl
+    by (Some x) = refl
+
+pub are_changes : (cs : List ChangedItem) (i : ℕ) (ps : List PlacedMember) (arrivals : List GraphMember)
+    (gone : List ℕ) (ms : List GraphMember) → length cs ≤ i → AreReady ps arrivals ms
+    → with_departures (drop i cs) (with_placed ps ms ++ arrivals) ≡ with_departures cs ms
+    → gone ++ leavers (drop i cs) ≡ leavers cs → AreChanges cs ps arrivals gone ms
+are_changes cs i ps arrivals gone ms le ready h k =
     let all = with_placed ps ms ++ arrivals in
-    record { ready = ready; put = ap (λ l. with_members l all) (sym (drop_all i cs le)) ∙ h }
+    record {
+      ready = ready;
+      put = ap (λ l. with_departures l all) (sym (drop_all i cs le)) ∙ h;
+      left = sym (append-nil gone) ∙ ap (λ l. gone ++ leavers l) (sym (drop_all i cs le)) ∙ k;
+    }

@@ -58,7 +58,7 @@ parks_is : (ms : List GraphMember) (parked : GraphMember → Bool) (m : GraphMem
     ≡ (is_idle m || (is_waiting m && any_blocked parked ms m.dependencies))
 parks_is ms parked m = ap (λ b. is_idle m || (is_waiting m && b)) (blocked_in ms parked m.dependencies)
 
-rounds_are : (ms : List GraphMember) (k : ℕ) → places.parked_in k (nodes_of ms) ≡ look (parked_in k ms) ms
+pub rounds_are : (ms : List GraphMember) (k : ℕ) → places.parked_in k (nodes_of ms) ≡ look (parked_in k ms) ms
 unfolding places.parked_in parked_in
 rounds_are ms zero = fun_ext (λ p. node_at (λ (n : GraphNode). n.flags.idle) is_idle ms (λ m. refl) p)
 rounds_are ms (suc k) =

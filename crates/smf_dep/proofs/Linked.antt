@@ -118,46 +118,6 @@ links_known all arrivals count ns p n copy known h at same =
     same_node : (k l : GraphNode) → Some k ≡ Some l → k ≡ l
     same_node k l e = cc
 
--- ---- nobody came
-
-none_named : (ds : List Dependency) → list_any (names []) ds ≡ false
-none_named [] = refl
-none_named (d ∷ ds) = λ i. none_in d.entities i || none_named ds i
-  where
-    none_in : (es : List (List ℕ)) → list_any (λ e. list_any (is_cited e) []) es ≡ false
-    none_in [] = refl
-    none_in (e ∷ es) = none_in es
-
-names_none : (o : Option (List Dependency)) → option_map_or (list_any (names [])) o false ≡ false
-names_none None = refl
-names_none (Some ds) = none_named ds
-
-above : (a count : ℕ) → a < count → not (nat_lt a count) ≡ false
-above a count lt = grind (arith, nat_tests)
-
-none_from : (all : List GraphMember) (count at : ℕ) (xs : List GraphMember) → at + length xs ≤ count
-    → relinks_from all [] count at xs ≡ []
-none_from all count at [] le = refl
-none_from all count at (x ∷ xs) le =
-    let less : at + 1 + length xs ≤ count = omega arith in
-    let here : at < count = omega arith in
-    let off : is_due [] count at x ≡ false = λ i. above at count here i || names_none x.dependencies i in
-    ap (λ b. if b then record { place = at; node = node_of all x } ∷ relinks_from all [] count (at + 1) xs
-    else relinks_from all [] count (at + 1) xs) off
-    ∙ none_from all count (at + 1) xs less
-
-pub none_due : (all arrivals : List GraphMember) (count : ℕ) → arrivals ≡ drop count all → length arrivals ≡ 0
-    → relinks_from all arrivals count 0 all ≡ []
-none_due all arrivals count is none =
-    let size = length-drop count all in
-    let cut = ap length is in
-    let le : 0 + length all ≤ count = omega (arith, size, cut, none) in
-    ap (λ l. relinks_from all l count 0 all) (no_items arrivals none) ∙ none_from all count 0 all le
-  where
-    no_items : (l : List GraphMember) → length l ≡ 0 → l ≡ []
-    no_items [] e = refl
-    no_items (y ∷ l) e = absurd (omega (arith, e))
-
 -- ---- those that came and those that name them get their links
 
 set_at_seam : (done rest : List GraphNode) (n k : GraphNode)
@@ -308,6 +268,12 @@ size_joined all count ns h =
     let c = ap length h.nodes in let d = length-append (nodes_of h.before) (map blank_of h.arrivals) in
     let e = length-map h.before (node_of h.before) in let f = length-map h.arrivals blank_of in
     omega (arith, a, b, c, d, e, f)
+
+-- the first ones are some of them
+pub first_within : (all : List GraphMember) (count : ℕ) (ns : List GraphNode) → AreJoined all count ns
+    → count ≤ length all
+first_within all count ns h =
+    let a = ap length h.members in let b = length-append h.before h.arrivals in let c = h.size in omega arith
 
 -- the part of a slice after the first ones
 pub after_part : (all : List GraphMember) (count : ℕ) → take (length all - count) (drop count all) ≡ drop count all

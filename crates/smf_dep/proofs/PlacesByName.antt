@@ -1,9 +1,8 @@
 -- The places at a name are those of the instances that an entity stands for.
-use Rattle.std.proofs.Common.{◌≡◌, ◌≤◌, ℕ, ◌+◌, List, [], ◌∷◌, ◌++◌, drop, length, Bool, true, false, if◌then◌else◌, refl, sym, ap, ◌∙◌}
+use Rattle.std.proofs.Common.{◌≡◌, ℕ, ◌+◌, List, [], ◌∷◌, Bool, true, false, if◌then◌else◌, refl, sym, ap, ◌∙◌}
 use Rattle.std.specs.Prelude.{is_some, nat_eq}
 use Rattle.std.specs.Cmp.{nat_eq_equiv}
 use Rattle.std.proofs.lemmas.Cmp.{lists_equiv}
-use Rattle.std.proofs.lemmas.List.{append-nil, drop_all}
 use Rattle.std.specs.Cmp.Lexicographic.{pointwise}
 use Rattle.std.specs.Str.{bytes_eq}
 use Rattle.smf_fmri.specs.Patterns.{instance_of, service_of}
@@ -38,12 +37,3 @@ unfolding places
 of_service e ms t =
     from_named service_name (service_of e) e
     (λ m. turned (service_of e) (service_of m.name) ∙ ap (λ b. cites_by b e m) (sym t)) 0 ms
-
--- ---- without an index
-
--- at the end nothing is left to look at
-pub all_found : (found : List ℕ) (at : ℕ) (e : List ℕ) (ms : List GraphMember) (i : ℕ) → length ms ≤ i
-    → found ++ places_from at e (drop i ms) ≡ places_from 0 e ms → found ≡ places ms e
-unfolding places
-all_found found at e ms i le h =
-    sym (append-nil found) ∙ ap (λ l. found ++ places_from at e l) (sym (drop_all i ms le)) ∙ h

@@ -6,3 +6,5 @@ pub mod Cycles
 pub mod Places
 pub mod Names
 pub mod Updates
+pub mod Index
+pub mod Departures

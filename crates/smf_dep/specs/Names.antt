@@ -1,17 +1,15 @@
 -- Instances by their names, and by the names of their services.
-use Rattle.std.specs.Prelude.{◌≡◌, ℕ, ◌+◌, List, [], ◌∷◌, if◌then◌else◌, Option, Some, None, Vec}
+use Rattle.std.specs.Prelude.{◌≡◌, ℕ, ◌+◌, List, [], ◌∷◌, if◌then◌else◌, Vec, String}
 use Rattle.std.specs.Option.{option_map_or}
 use Rattle.std.specs.Str.{bytes_eq}
 use Rattle.smf_fmri.specs.Patterns.{service_of}
-use Rattle.std.specs.Borrow.{Bor}
-use Rattle.std.specs.HashMap as hash
-use Rattle.std.specs.HashMap.{HashMap}
+use Rattle.std.specs.HashMap.{HashMap, get_by_text}
 use Rattle.smf_dep.specs.declared.member.GraphMember.{GraphMember}
 use Rattle.smf_dep.specs.declared.names.NameIndex.{NameIndex}
 
 -- the places that a name has in a map
-abbrev pub found_at : {Y S : Type 0} → HashMap (Bor (List ℕ)) (Vec ℕ Y) S → List ℕ → List ℕ
-found_at m q = option_map_or (λ v. v.items) (hash.get_by (λ k. bytes_eq q k.now) m) []
+abbrev pub found_at : {Y S : Type 0} → HashMap (String Y) (Vec ℕ Y) S → List ℕ → List ℕ
+found_at m q = option_map_or (λ v. v.items) (get_by_text m q) []
 
 abbrev pub instance_name : GraphMember → List ℕ
 instance_name m = m.name
@@ -26,11 +24,10 @@ named_from name at q (m ∷ ms) = if bytes_eq q (name m) then at ∷ named_from 
     else named_from name (at + 1) q ms
 
 -- a map has at each name the places of the instances with that name
-abbrev pub AreAt : {Y S : Type 0} → (GraphMember → List ℕ) → HashMap (Bor (List ℕ)) (Vec ℕ Y) S → List GraphMember
+abbrev pub AreAt : {Y S : Type 0} → (GraphMember → List ℕ) → HashMap (String Y) (Vec ℕ Y) S → List GraphMember
     → Type 0
 AreAt name m ms = (q : List ℕ) → found_at m q ≡ named_from name 0 q ms
 
--- the same of both maps of an index, if there is one
-abbrev pub AreIndexed : Option NameIndex → List GraphMember → Type 0
-AreIndexed None ms = Unit
-AreIndexed (Some i) ms = AreAt instance_name i.instances ms × AreAt service_name i.services ms
+-- the same of both maps of an index
+abbrev pub AreIndexed : NameIndex → List GraphMember → Type 0
+AreIndexed i ms = AreAt instance_name i.instances ms × AreAt service_name i.services ms

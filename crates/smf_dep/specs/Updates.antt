@@ -92,11 +92,6 @@ pub record AreReady (ps : List PlacedMember) (arrivals ms : List GraphMember) : 
   pub named : AreNamed ps ms
   pub above : AreAbove arrivals (with_placed ps ms)
 
--- the changes put these in the places of others, and those after all
-pub record AreChanges (cs : List ChangedItem) (ps : List PlacedMember) (arrivals ms : List GraphMember) : Type 0 where
-  pub ready : AreReady ps arrivals ms
-  pub put : with_placed ps ms ++ arrivals ≡ with_members cs ms
-
 -- an entity of a group stands for one of these instances
 abbrev pub names : List GraphMember → Dependency → Bool
 names arrivals d = list_any (λ e. list_any (is_cited e) arrivals) d.entities
@@ -116,6 +111,19 @@ relinks_from all arrivals count at (x ∷ xs) =
     if is_due arrivals count at x then record { place = at; node = node_of all x }
     ∷ relinks_from all arrivals count (at + 1) xs
     else relinks_from all arrivals count (at + 1) xs
+
+-- the member at a place, with what it depends on by the places of all
+abbrev pub relink_in : List GraphMember → ℕ → Option GraphMember → List Relink
+relink_in all place None = []
+relink_in all place (Some x) = record { place = place; node = node_of all x } ∷ []
+
+abbrev pub relink_at : List GraphMember → ℕ → List Relink
+relink_at all place = relink_in all place (slice_get all place)
+
+-- the same of several
+abbrev pub relinks_at : List GraphMember → List ℕ → List Relink
+relinks_at all [] = []
+relinks_at all (p ∷ ps) = relink_at all p ++ relinks_at all ps
 
 -- those that came and those that name them, and then the members in the places of others
 abbrev pub all_relinks : List GraphMember → ℕ → List PlacedMember → List Relink

@@ -1,28 +1,31 @@
-//! Changes by which instances come after all others, or depend on other things.
+//! Changes by which instances come after all others, go, or depend on other things.
 
-ghost use Rattle.std.specs.Prelude.{◌≡◌, ◌++◌, true, IfOk, IfSome, OnOk};
-ghost use Rattle.smf_fmri.specs.ByKey.{IsAbove, Rises};
+ghost use Rattle.std.specs.Prelude.{◌≡◌, ◌++◌, ◌∷◌, [], None, true, IfOk, IfSome};
+ghost use Rattle.smf_fmri.specs.ByKey.{IsAbove, Rises, list_with_item, lookup};
+ghost use Rattle.smf_dep.specs.Departures.{AreChanges, IsDeparture, leaver, with_departure};
 ghost use Rattle.smf_dep.specs.Members.{by_member, member_of};
-ghost use Rattle.smf_dep.specs.Updates.{AreChanges, AreReady, IsNamedAt, IsSuccessor, with_member, with_placed};
+ghost use Rattle.smf_dep.specs.Updates.{AreReady, IsNamedAt, with_placed};
 
-use crate::arrival::is_naming;
-use crate::member::{GraphMember, ReadMember, has_same_dependencies};
+use crate::member::{ReadMember, has_same_dependencies};
 use crate::relink::PlacedMember;
 use crate::update::search;
 use smf_state::{ChangedItem, ViewItem};
 use std::alloc::{AllocError, Global};
 
-/// So many instances may come or get other links in place. If there are more, the graph is made anew.
+/// So many instances may come or get other links in place. One that goes loses its links. If there are more, the graph is
+/// made anew.
 const MOST_RELINKS: usize = 16;
 
-/// So many changes may be taken in place, if an instance comes or depends on other things by one of them.
-const MOST_CHANGES: usize = 1024;
+/// So many changes may be taken in place, if an instance comes, goes or depends on other things by one of them.
+pub(crate) const MOST_CHANGES: usize = 1024;
 
-/// Members in the places of those with their numbers, and members that come after all others.
+/// Members in the places of those with their numbers, members that come after all others, and the numbers of those that
+/// go.
 #[derive(Drop)]
 pub(crate) struct MemberChanges {
     pub placed: Vec<PlacedMember>,
     pub arrivals: Vec<ReadMember>,
+    pub leavers: Vec<u64>,
 }
 
 /// The member of an item for a place. What did not change is not read again.
@@ -56,18 +59,22 @@ fn member_for(
     Ok(Some(PlacedMember { member, place }))
 }
 
-fn member_for_change(
+/// The member that stays at the place of the instance that has the number, once it went. None if it is not there.
+fn departure_for(
     alloc: Global,
     members: &[ReadMember],
-    change: &ChangedItem,
+    instance: u64,
 ) -> Result<Option<PlacedMember>, AllocError>
     requires { Rises by_member members.now }
-    ensures { IfOk result
-        (λ o. IfSome o (λ p. IsSuccessor change.now.item p.member × IsNamedAt p.member members.now p.place)) }
+    ensures some { IfOk result (λ o. IfSome o (λ p. IsDeparture instance p.member members.now p.place)) }
+    ensures none { IfOk result (λ o. o ≡ None → lookup by_member members.now instance ≡ None) }
 {
-    match &change.item {
-        None => Ok(None),
-        Some(item) => member_for(alloc, members, item),
+    match search(members, instance) {
+        Err(_) => Ok(None),
+        Ok(place) => {
+            let member = members[place].departure(alloc)?;
+            Ok(Some(PlacedMember { member, place }))
+        }
     }
 }
 
@@ -115,25 +122,74 @@ fn arrival_of(
     Ok(Some(member))
 }
 
-fn arrival_for(
-    alloc: Global,
-    members: &[ReadMember],
-    arrivals: &[ReadMember],
-    change: &ChangedItem,
-) -> Result<Option<ReadMember>, AllocError>
-    requires { Rises by_member members.now }
-    ensures { IfOk result (λ o. IfSome o (λ m. IsSuccessor change.now.item m
-        × IsAbove by_member m.instance members.now × IsAbove by_member m.instance arrivals.now)) }
-{
-    match &change.item {
-        None => Ok(None),
-        Some(item) => arrival_of(alloc, members, arrivals, item),
-    }
-}
-
 impl MemberChanges {
-    /// Takes the member of one more change, if its instance is there with its name and none has come yet, or if it
-    /// comes after all others. False if neither is so.
+    /// Takes an instance that goes, if none has come yet.
+    fn take_departure(
+        &mut self,
+        alloc: Global,
+        members: &[ReadMember],
+        instance: u64,
+    ) -> Result<bool, AllocError>
+        requires rises { Rises by_member members.now }
+        requires ready { AreReady self.old.placed.items self.old.arrivals.items members.now }
+        ensures ready { IfOk result (λ b. b ≡ true
+            → AreReady self.new.placed.items self.new.arrivals.items members.now) }
+        ensures put { IfOk result (λ b. b ≡ true
+            → with_placed self.new.placed.items members.now ++ self.new.arrivals.items
+            ≡ with_departure instance None
+            (with_placed self.old.placed.items members.now ++ self.old.arrivals.items)) }
+        ensures left { IfOk result (λ b. b ≡ true → self.new.leavers.items ≡ self.old.leavers.items ++ instance ∷ []) }
+    {
+        if !self.arrivals.is_empty() {
+            return Ok(false);
+        }
+        match departure_for(alloc, members, instance)? {
+            None => {
+                self.leavers.push(instance)?;
+                Ok(true)
+            }
+            Some(placed) => {
+                self.placed.push(placed)?;
+                self.leavers.push(instance)?;
+                Ok(true)
+            }
+        }
+    }
+
+    /// Takes the member of an item, if its instance is there with its name and none has come yet, or if it comes after
+    /// all others.
+    fn take_item(
+        &mut self,
+        alloc: Global,
+        members: &[ReadMember],
+        item: &ViewItem,
+    ) -> Result<bool, AllocError>
+        requires rises { Rises by_member members.now }
+        requires ready { AreReady self.old.placed.items self.old.arrivals.items members.now }
+        ensures ready { IfOk result (λ b. b ≡ true
+            → AreReady self.new.placed.items self.new.arrivals.items members.now) }
+        ensures put { IfOk result (λ b. b ≡ true
+            → with_placed self.new.placed.items members.now ++ self.new.arrivals.items
+            ≡ list_with_item by_member (member_of item.now)
+            (with_placed self.old.placed.items members.now ++ self.old.arrivals.items)) }
+        ensures left { IfOk result (λ b. b ≡ true → self.new.leavers.items ≡ self.old.leavers.items) }
+    {
+        if self.arrivals.is_empty() {
+            if let Some(placed) = member_for(alloc, members, item)? {
+                self.placed.push(placed)?;
+                return Ok(true);
+            }
+        }
+        match arrival_of(alloc, members, self.arrivals.as_slice(), item)? {
+            None => Ok(false),
+            Some(member) => {
+                self.arrivals.push(member)?;
+                Ok(true)
+            }
+        }
+    }
+
+    /// Takes one more change. False if it cannot be taken at the places of the instances.
     fn take(
         &mut self,
         alloc: Global,
@@ -146,22 +202,22 @@ impl MemberChanges {
             → AreReady self.new.placed.items self.new.arrivals.items members.now) }
         ensures put { IfOk result (λ b. b ≡ true
             → with_placed self.new.placed.items members.now ++ self.new.arrivals.items
-            ≡ with_member change.now.instance change.now.item
+            ≡ with_departure change.now.instance change.now.item
             (with_placed self.old.placed.items members.now ++ self.old.arrivals.items)) }
+        ensures left { IfOk result (λ b. b ≡ true → self.new.leavers.items
+            ≡ self.old.leavers.items ++ leaver change.now.instance change.now.item []) }
     {
-        if self.arrivals.is_empty() {
-            if let Some(placed) = member_for_change(alloc, members, change)? {
-                self.placed.push(placed)?;
-                return Ok(true);
-            }
+        match &change.item {
+            None => self.take_departure(alloc, members, change.instance),
+            Some(item) => self.take_item(alloc, members, item),
         }
-        match arrival_for(alloc, members, self.arrivals.as_slice(), change)? {
-            None => Ok(false),
-            Some(member) => {
-                self.arrivals.push(member)?;
-                Ok(true)
-            }
-        }
+    }
+
+    /// True if many instances come or get other links, with those that name one that comes.
+    pub(crate) fn are_many(&self, members: &[ReadMember], naming: usize) -> bool {
+        let others = count_others(members, self.placed.as_slice());
+        let came = others.saturating_add(self.arrivals.len());
+        came.saturating_add(naming) > MOST_RELINKS
     }
 }
 
@@ -181,33 +237,8 @@ fn count_others(members: &[ReadMember], placed: &[PlacedMember]) -> usize {
     count
 }
 
-/// How many members name one of those that come.
-fn count_naming(members: &[ReadMember], arrivals: &[ReadMember]) -> usize {
-    if arrivals.is_empty() {
-        return 0;
-    }
-    let mut count: usize = 0;
-    for member in members {
-        if is_naming(arrivals, member.member()) {
-            count = count.saturating_add(1);
-        }
-    }
-    count
-}
-
-/// True if few instances come or get other links.
-fn are_few(members: &[ReadMember], changes: &MemberChanges) -> bool {
-    let others = count_others(members, changes.placed.as_slice());
-    if others > MOST_RELINKS {
-        return false;
-    }
-    let arrivals = changes.arrivals.as_slice();
-    let came = others.saturating_add(arrivals.len());
-    came.saturating_add(count_naming(members, arrivals)) <= MOST_RELINKS
-}
-
-/// The members of changes, each of which is for a place or comes after all others. None if an instance goes, has
-/// another name or comes between others, or if many come or get other links.
+/// The members of changes, each of which is for a place or comes after all others. None if an instance has another name
+/// or comes between others, or if there are many changes.
 pub(crate) fn changes_in(
     alloc: Global,
     members: &[ReadMember],
@@ -215,7 +246,8 @@ pub(crate) fn changes_in(
 ) -> Result<Option<MemberChanges>, AllocError>
     requires { Rises by_member members.now }
     ensures { IfOk result
-        (λ o. IfSome o (λ all. AreChanges changes.now all.placed.items all.arrivals.items members.now)) }
+        (λ o. IfSome o (λ all. AreChanges changes.now all.placed.items all.arrivals.items all.leavers.items
+        members.now)) }
 {
     if changes.len() > MOST_CHANGES {
         return Ok(None);
@@ -223,14 +255,12 @@ pub(crate) fn changes_in(
     let mut all = MemberChanges {
         placed: Vec::new(alloc),
         arrivals: Vec::new(alloc),
+        leavers: Vec::new(alloc),
     };
     for change in changes {
         if !all.take(alloc, members, change)? {
             return Ok(None);
         }
-    }
-    if !are_few(members, &all) {
-        return Ok(None);
     }
     Ok(Some(all))
 }

@@ -4,7 +4,7 @@ ghost use Rattle.smf_dep.specs.declared.member.GraphMember.{GraphMember as AnyMe
 
 use crate::dependency::Dependency;
 use crate::member::{GraphMember, ReadMember};
-use crate::names::Names;
+use crate::names::{NameIndex, Names};
 use crate::shared::Shared;
 use smf_fmri::{Fmri, Items};
 use smf_links::{Flags, GraphNode, Link, with_room};
@@ -109,17 +109,6 @@ pub(crate) fn copy_of_node(alloc: Global, node: &GraphNode) -> Result<GraphNode,
     })
 }
 
-/// How many entities dependencies have.
-pub(crate) fn count_entities(dependencies: &Option<Shared<Items<Dependency>>>) -> usize {
-    let mut count: usize = 0;
-    if let Some(dependencies) = dependencies {
-        for dependency in dependencies.as_slice() {
-            count = count.saturating_add(dependency.entities.len());
-        }
-    }
-    count
-}
-
 /// The flags of an instance, by its state.
 pub(crate) fn flags_of(member: &GraphMember) -> Flags
     ensures { result ≡ flags_of member.now }
@@ -170,7 +159,8 @@ pub(crate) fn nodes_of(
     requires { IsBeginning (all_links kept) (links_among members.now members.now) }
     ensures { IfOk result (λ ns. ns ≡ nodes_of members.now) }
 {
-    let names = Names::of(alloc, members)?;
+    let index = NameIndex::of(alloc, members)?;
+    let names = Names::by(members, &index);
     let mut kept = kept.into_vec().into_iter();
     let mut nodes = with_room(alloc, members.len())?;
     for member in members {

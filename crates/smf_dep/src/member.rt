@@ -1,6 +1,7 @@
 ghost use Rattle.std.specs.List.{AllZip};
 ghost use Rattle.std.specs.Prelude.{◌≡◌, true, IfOk, IfSome, refl};
 ghost use Rattle.smf_value.specs.Decoder.{Gives};
+ghost use Rattle.smf_dep.specs.Departures.{gone_of};
 ghost use Rattle.smf_dep.specs.Requirements.{read_groups};
 ghost use Rattle.smf_dep.specs.Members.{HasNumbersOf, HasStateOf, IsOfItem, by_member, groups_of_snapshot, implicit, member_of, member_with, members, snapshot_in, when_there, wires, with_implicit};
 ghost use Rattle.smf_dep.specs.Methods.{has_unfit_methods};
@@ -14,7 +15,7 @@ use crate::shared::Shared;
 use smf_fmri::{Bytes, ExactClone, Fmri, InstanceFmri, Items, Keyed, Ordered};
 use smf_links::{Grouping, RestartOn, with_room};
 use smf_snap::{SnapshotBody, decode_snapshot};
-use smf_state::{Row, State, ViewItem, is_startd};
+use smf_state::{Row, State, ViewItem, is_startd, startd};
 use smf_value::{BodyFault, Group};
 use std::alloc::{AllocError, Global};
 use std::marker::Model;
@@ -320,6 +321,29 @@ fn copy_of_member(member: &GraphMember) -> Result<GraphMember, AllocError>
     })
 }
 
+/// An instance that went: disabled and without groups, and nothing ever happened to it.
+fn gone_member(alloc: Global, member: &GraphMember) -> Result<GraphMember, AllocError>
+    ensures { IfOk result (λ m. m ≡ gone_of member.now) }
+{
+    let name = member.name.clone()?;
+    let composed = Shared::of(alloc, Ordered::new(alloc))?;
+    let dependencies = Shared::of(alloc, Items::new(alloc))?;
+    Ok(GraphMember {
+        instance: member.instance,
+        name,
+        enabled: false,
+        state: State::Disabled,
+        next: None,
+        base: 0,
+        err: 0,
+        stop: 0,
+        refresh: 0,
+        start: 0,
+        composed,
+        dependencies: Some(dependencies),
+    })
+}
+
 impl ReadMember {
     /// The instance, as verdicts look at it.
     pub fn member(&self) -> &GraphMember
@@ -407,6 +431,21 @@ impl ReadMember {
         ensures { result ≡ true → self.now ≡ member_of item.now }
     {
         has_state_of(&self.member, item) && has_numbers_of(&self.member, &item.row)
+    }
+
+    /// The instance in its place once it went.
+    pub(crate) fn departure(&self, alloc: Global) -> Result<ReadMember, AllocError>
+        ensures { IfOk result (λ r. r ≡ gone_of self.now) }
+    {
+        let owner = startd(alloc)?;
+        let member = gone_member(alloc, &self.member)?;
+        let has_unfit_methods = has_unfit_methods(alloc, &owner, &member.name, &member.composed)?;
+        Ok(ReadMember {
+            member,
+            owner,
+            body: None,
+            has_unfit_methods,
+        })
     }
 
     /// The same instance in a later view.

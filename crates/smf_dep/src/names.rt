@@ -1,9 +1,10 @@
 //! Instances by their names, and by the names of their services. So the instances that an entity stands for are found
 //! without a look at each instance.
 
-ghost use Rattle.std.specs.Prelude.{◌≡◌, ◌∷◌, ◌++◌, IfOk, OnOk, List, ℕ, [], if◌then◌else◌};
+ghost use Rattle.std.specs.Prelude.{◌≡◌, ◌∷◌, ◌++◌, IfOk, List, OnOk, ℕ, [], if◌then◌else◌, length};
 ghost use Rattle.std.specs.Str.{bytes_eq};
-ghost use Rattle.smf_dep.specs.Names.{AreAt, found_at, instance_name, service_name};
+ghost use Rattle.smf_dep.specs.declared.member.GraphMember.{GraphMember as AnyMember};
+ghost use Rattle.smf_dep.specs.Names.{AreIndexed, found_at, instance_name, named_from, service_name};
 ghost use Rattle.smf_dep.specs.Places.{places};
 
 use crate::member::ReadMember;
@@ -12,21 +13,18 @@ use std::alloc::{AllocError, Global};
 use std::collections::HashMap;
 use std::marker::Model;
 
-/// As many looks over all names cost less than an index of the names.
-const FEW_LOOKS: usize = 16;
-
 /// The places of instances by their names, and by those of their services.
 #[derive(Drop)]
-pub(crate) struct NameIndex<'a> {
-    instances: HashMap<&'a str, Vec<usize>>,
-    services: HashMap<&'a str, Vec<usize>>,
+pub(crate) struct NameIndex {
+    instances: HashMap<String, Vec<usize>>,
+    services: HashMap<String, Vec<usize>>,
 }
 
-/// Instances that are looked for by their names. Without an index, each look goes over all names.
+/// Instances that are looked for by their names.
 #[derive(Drop)]
 pub(crate) struct Names<'a> {
     members: &'a [ReadMember],
-    index: Option<NameIndex<'a>>,
+    index: &'a NameIndex,
 }
 
 impl<'a> Model for Names<'a> {
@@ -38,57 +36,110 @@ impl<'a> Model for Names<'a> {
 
     ghost view = { λ n. n.members.now };
 
-    ghost invariant = { λ n. AreIndexed n.index n.members.now };
+    ghost invariant = { λ n. AreIndexed n.index.now n.members.now };
+}
+
+/// A map in which no name has a place.
+pub(crate) fn no_places(alloc: Global) -> HashMap<String, Vec<usize>>
+    ensures { (q : List ℕ) → found_at result q ≡ [] }
+{
+    HashMap::new(alloc)
+}
+
+/// The places that stand at a name.
+pub(crate) fn places_at<'a>(found: &'a HashMap<String, Vec<usize>>, name: &str) -> &'a [usize]
+    ensures { result.now ≡ found_at found.entry.now name.now }
+{
+    match found.get(name) {
+        Some(places) => places.as_slice(),
+        None => &[],
+    }
 }
 
 /// Puts a place after those of a name.
-fn note<'a>(
+pub(crate) fn note(
     alloc: Global,
-    found: &mut HashMap<&'a str, Vec<usize>>,
-    name: &'a str,
+    found: &mut HashMap<String, Vec<usize>>,
+    name: &str,
     place: usize,
 ) -> Result<(), AllocError>
     ensures { OnOk result
         ((q : List ℕ) → found_at found.new q
-        ≡ (if bytes_eq q name.entry.now then found_at found.old q ++ place ∷ [] else found_at found.old q)) }
+        ≡ (if bytes_eq q name.now then found_at found.old q ++ place ∷ [] else found_at found.old q)) }
 {
-    found.entry(name)?.or_insert(Vec::new(alloc)).push(place)?;
+    let key = String::from_str(alloc, name)?;
+    found.entry(key)?.or_insert(Vec::new(alloc)).push(place)?;
     Ok(())
 }
 
-fn by_instance<'a>(
+/// Puts the place of each instance after those of its name. The instances come after so many others.
+fn note_instances(
     alloc: Global,
-    members: &'a [ReadMember],
-) -> Result<HashMap<&'a str, Vec<usize>>, AllocError>
-    ensures { IfOk result (λ m. AreAt instance_name m members.entry.now) }
+    found: &mut HashMap<String, Vec<usize>>,
+    count: usize,
+    members: &[ReadMember],
+) -> Result<(), AllocError>
+    ensures { OnOk result ((q : List ℕ) → found_at found.new q
+        ≡ found_at found.old q ++ named_from instance_name count q members.now) }
 {
-    let mut found: HashMap<&'a str, Vec<usize>> = HashMap::new(alloc);
-    let mut place = 0;
+    let mut place = count;
     for member in members {
-        note(alloc, &mut found, member.member().name.print(), place)?;
-        place += 1;
+        note(alloc, found, member.member().name.print(), place)?;
+        place = place.checked_add(1).ok_or(AllocError)?;
     }
-    Ok(found)
+    Ok(())
 }
 
-fn by_service<'a>(
+/// Puts the place of each instance after those of its service. The instances come after so many others.
+fn note_services(
     alloc: Global,
-    members: &'a [ReadMember],
-) -> Result<HashMap<&'a str, Vec<usize>>, AllocError>
-    ensures { IfOk result (λ m. AreAt service_name m members.entry.now) }
+    found: &mut HashMap<String, Vec<usize>>,
+    count: usize,
+    members: &[ReadMember],
+) -> Result<(), AllocError>
+    ensures { OnOk result ((q : List ℕ) → found_at found.new q
+        ≡ found_at found.old q ++ named_from service_name count q members.now) }
 {
-    let mut found: HashMap<&'a str, Vec<usize>> = HashMap::new(alloc);
-    let mut place = 0;
+    let mut place = count;
     for member in members {
         note(
             alloc,
-            &mut found,
+            found,
             member.member().name.as_fmri().service(),
             place,
         )?;
-        place += 1;
+        place = place.checked_add(1).ok_or(AllocError)?;
     }
-    Ok(found)
+    Ok(())
+}
+
+impl NameIndex {
+    /// The index of instances, of which the first has place 0.
+    pub(crate) fn of(alloc: Global, members: &[ReadMember]) -> Result<NameIndex, AllocError>
+        ensures { IfOk result (λ i. AreIndexed i members.now) }
+    {
+        let mut index = NameIndex {
+            instances: no_places(alloc),
+            services: no_places(alloc),
+        };
+        index.join(alloc, 0, members)?;
+        Ok(index)
+    }
+
+    /// Enters instances that come after so many others.
+    pub(crate) fn join(
+        &mut self,
+        alloc: Global,
+        count: usize,
+        arrivals: &[ReadMember],
+    ) -> Result<(), AllocError>
+        ensures { OnOk result ((ms : List AnyMember) → length ms ≡ count → AreIndexed self.old ms
+            → AreIndexed self.new (ms ++ arrivals.now)) }
+    {
+        note_instances(alloc, &mut self.instances, count, arrivals)?;
+        note_services(alloc, &mut self.services, count, arrivals)?;
+        Ok(())
+    }
 }
 
 fn copy_of(alloc: Global, places: &[usize]) -> Result<Items<usize>, AllocError>
@@ -98,105 +149,36 @@ fn copy_of(alloc: Global, places: &[usize]) -> Result<Items<usize>, AllocError>
     Ok(Items::from_vec(copy))
 }
 
-fn found_in(
-    alloc: Global,
-    found: &HashMap<&str, Vec<usize>>,
-    name: &str,
-) -> Result<Items<usize>, AllocError>
-    ensures { IfOk result (λ ps. ps ≡ found_at found.now name.now) }
-{
-    match found.get(&name) {
-        Some(places) => copy_of(alloc, places.as_slice()),
-        None => Ok(Items::new(alloc)),
-    }
-}
-
-/// The places of the instances that an entity stands for, by a look at each name.
-fn places_in(
-    alloc: Global,
-    members: &[ReadMember],
-    entity: &Fmri,
-) -> Result<Items<usize>, AllocError>
-    ensures { IfOk result (λ ps. ps ≡ places members.now entity.now) }
-{
-    let is_instance = entity.instance().is_some();
-    let mut found = Items::new(alloc);
-    let mut place = 0;
-    for member in members {
-        if member.member().is_cited_by(is_instance, entity) {
-            found.push(place)?;
-        }
-        place += 1;
-    }
-    Ok(found)
-}
-
-/// The same, by an index.
+/// The places of the instances that an entity stands for, by an index.
 #[tactic(auto, using(crate::proofs::PlacesByName::of_instance, crate::proofs::PlacesByName::of_service))]
 fn places_by(
     alloc: Global,
-    index: &NameIndex<'_>,
+    index: &NameIndex,
     members: &[ReadMember],
     entity: &Fmri,
 ) -> Result<Items<usize>, AllocError>
-    requires instances { AreAt instance_name index.now.instances members.now }
-    requires services { AreAt service_name index.now.services members.now }
+    requires { AreIndexed index.now members.now }
     ensures { IfOk result (λ ps. ps ≡ places members.now entity.now) }
 {
     if entity.instance().is_some() {
-        found_in(alloc, &index.instances, entity.print())
+        copy_of(alloc, places_at(&index.instances, entity.print()))
     } else {
-        found_in(alloc, &index.services, entity.service())
+        copy_of(alloc, places_at(&index.services, entity.service()))
     }
 }
 
 impl<'a> Names<'a> {
-    /// With an index, for many looks.
-    pub(crate) fn of(alloc: Global, members: &'a [ReadMember]) -> Result<Names<'a>, AllocError>
-        ensures { IfOk result (λ n. n ≡ members.entry.now) }
-    {
-        let instances = by_instance(alloc, members)?;
-        let services = by_service(alloc, members)?;
-        Ok(Names {
-            members,
-            index: Some(NameIndex {
-                instances,
-                services,
-            }),
-        })
-    }
-
-    /// Without an index, for few looks.
-    pub(crate) fn over(members: &'a [ReadMember]) -> Names<'a>
+    pub(crate) fn by(members: &'a [ReadMember], index: &'a NameIndex) -> Names<'a>
+        requires { AreIndexed index.now members.now }
         ensures { result ≡ members.entry.now }
     {
-        Names {
-            members,
-            index: None,
-        }
-    }
-
-    /// For so many looks.
-    pub(crate) fn for_looks(
-        alloc: Global,
-        members: &'a [ReadMember],
-        count: usize,
-    ) -> Result<Names<'a>, AllocError>
-        ensures { IfOk result (λ n. n ≡ members.entry.now) }
-    {
-        if count <= FEW_LOOKS {
-            return Ok(Names::over(members));
-        }
-        Names::of(alloc, members)
+        Names { members, index }
     }
 
     /// The places of the instances that an entity stands for.
     pub(crate) fn places(&self, alloc: Global, entity: &Fmri) -> Result<Items<usize>, AllocError>
         ensures { IfOk result (λ ps. ps ≡ places self.now entity.now) }
     {
-        match &self.index {
-            None => places_in(alloc, self.members, entity),
-            Some(index) => places_by(alloc, index, self.members, entity),
-        }
+        places_by(alloc, self.index, self.members, entity)
     }
 }

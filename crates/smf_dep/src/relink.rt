@@ -1,16 +1,18 @@
 //! Instances that depend on other things than before.
 
-ghost use Rattle.std.specs.Prelude.{◌≡◌, ◌<◌, ◌≤◌, ◌+◌, ◌++◌, ◌∷◌, ℕ, [], true, map, drop, IfOk, IfSome, OnErr, OnOk, length, slice_set, vec_capacity};
+ghost use Rattle.std.specs.Prelude.{◌≡◌, ◌<◌, ◌≤◌, ◌+◌, ◌++◌, ◌∷◌, ℕ, [], true, map, drop, take, IfOk, IfSome, OnErr, OnOk, length, slice_set, vec_capacity};
 ghost use Rattle.smf_links.specs.Blockage.{IsOut};
 ghost use Rattle.smf_links.specs.Relinks.{AreWithin, with_relinks};
+ghost use Rattle.smf_dep.specs.Index.{naming_from};
+ghost use Rattle.smf_dep.specs.Names.{AreIndexed};
 ghost use Rattle.smf_dep.specs.Places.{AreCyclesOf, LeavesOthers, edges_of, flag_at, flags_after, links_of, nodes_of};
-ghost use Rattle.smf_dep.specs.Updates.{AreJoined, AreKnown, AreNamed, IsKnownAt, all_relinks, relink_of, relinks_from, with_placed};
+ghost use Rattle.smf_dep.specs.Updates.{AreJoined, AreKnown, AreNamed, IsKnownAt, all_relinks, relink_at, relink_of, relinks_at, relinks_from, with_placed};
 
 use crate::arrival::is_due;
 use crate::cycle::{Cycles, Turn, flag_at, turn_of};
-use crate::link::{copy_of_node, count_entities, node_of};
+use crate::link::{copy_of_node, node_of};
 use crate::member::{ReadMember, has_same_dependencies};
-use crate::names::Names;
+use crate::names::{NameIndex, Names};
 use smf_links::{GraphNode, KeptVerdicts, Relink};
 use std::alloc::{AllocError, Global};
 
@@ -29,35 +31,42 @@ fn push_place(touched: &mut Vec<usize>, place: usize)
     let _ = touched.push(place);
 }
 
-/// How many entities are looked for, if instances came after the first ones and members depend on other things.
-fn count_looks(
+/// Puts the member at a place after those that get other links, with what it depends on by places.
+fn push_relink(
+    alloc: Global,
+    names: &Names<'_>,
     members: &[ReadMember],
-    arrivals: &[ReadMember],
-    count: usize,
-    placed: &[PlacedMember],
-) -> usize {
-    let mut looks = count_due_looks(members, arrivals, count);
-    for one in placed {
-        if !is_known(members, arrivals, count, one) {
-            looks = looks.saturating_add(count_entities(&one.member.member().dependencies));
+    place: usize,
+    relinks: &mut Vec<Relink>,
+) -> Result<(), AllocError>
+    requires { names.now ≡ members.now }
+    ensures { OnOk result (relinks.new.items ≡ relinks.old.items ++ relink_at members.now place) }
+{
+    match members.get(place) {
+        None => Ok(()),
+        Some(member) => {
+            let node = node_of(alloc, names, member.member(), None)?;
+            relinks.push(Relink { place, node })?;
+            Ok(())
         }
     }
-    looks
 }
 
-fn count_due_looks(members: &[ReadMember], arrivals: &[ReadMember], count: usize) -> usize {
-    let mut looks: usize = 0;
-    if arrivals.is_empty() {
-        return looks;
+/// The members at some places, with what they depend on by places.
+fn relinks_at(
+    alloc: Global,
+    names: &Names<'_>,
+    members: &[ReadMember],
+    places: &[u64],
+) -> Result<Vec<Relink>, AllocError>
+    requires { names.now ≡ members.now }
+    ensures { IfOk result (λ all. all.items ≡ relinks_at members.now places.now) }
+{
+    let mut all = Vec::new(alloc);
+    for place in places {
+        push_relink(alloc, names, members, *place as usize, &mut all)?;
     }
-    let mut place = 0;
-    for member in members {
-        if is_due(arrivals, count, place, member.member()) {
-            looks = looks.saturating_add(count_entities(&member.member().dependencies));
-        }
-        place += 1;
-    }
-    looks
+    Ok(all)
 }
 
 /// The instances that came after the first ones and those that name them, with what they depend on by places.
@@ -65,24 +74,18 @@ fn relinks_to(
     alloc: Global,
     names: &Names<'_>,
     members: &[ReadMember],
-    arrivals: &[ReadMember],
+    naming: &[u64],
     count: usize,
 ) -> Result<Vec<Relink>, AllocError>
     requires names { names.now ≡ members.now }
-    requires arrivals { arrivals.now ≡ drop count members.now }
-    ensures { IfOk result (λ all. all.items ≡ relinks_from members.now arrivals.now count 0 members.now) }
+    requires count { count ≤ length members.now }
+    requires naming { naming.now ≡ naming_from (drop count members.now) 0 (take count members.now) }
+    ensures { IfOk result
+        (λ all. all.items ≡ relinks_from members.now (drop count members.now) count 0 members.now) }
 {
-    let mut all = Vec::new(alloc);
-    if arrivals.is_empty() {
-        return Ok(all);
-    }
-    let mut place = 0;
-    for member in members {
-        if is_due(arrivals, count, place, member.member()) {
-            let node = node_of(alloc, names, member.member(), None)?;
-            all.push(Relink { place, node })?;
-        }
-        place += 1;
+    let mut all = relinks_at(alloc, names, members, naming)?;
+    for place in count..members.len() {
+        push_relink(alloc, names, members, place, &mut all)?;
     }
     Ok(all)
 }
@@ -251,13 +254,17 @@ pub(crate) fn rewire(
 /// to have the places of others. If memory runs out, nothing but the list changes.
 pub(crate) fn link_all(
     alloc: Global,
+    index: &NameIndex,
     members: &[ReadMember],
+    naming: &[u64],
     count: usize,
     placed: &[PlacedMember],
     kept: &mut KeptVerdicts,
     cycles: &mut Cycles,
     touched: &mut Vec<usize>,
 ) -> Result<(), AllocError>
+    requires indexed { AreIndexed index.now members.now }
+    requires naming { naming.now ≡ naming_from (drop count members.now) 0 (take count members.now) }
     requires joined { AreJoined members.now count kept.old }
     requires named { AreNamed placed.now members.now }
     requires edged { cycles.old.edges.items ≡ edges_of kept.old }
@@ -274,12 +281,8 @@ pub(crate) fn link_all(
     ensures same_flags { OnErr result (cycles.new.flags.items ≡ cycles.old.flags.items) }
 {
     let arrivals = &members[count..];
-    let names = Names::for_looks(
-        alloc,
-        members,
-        count_looks(members, arrivals, count, placed),
-    )?;
-    let mut relinks = relinks_to(alloc, &names, members, arrivals, count)?;
+    let names = Names::by(members, index);
+    let mut relinks = relinks_to(alloc, &names, members, naming, count)?;
     add_relinks(
         alloc,
         &names,

@@ -1,9 +1,8 @@
 //! How instances and what is kept of them are brought up to date by items that changed.
 
-ghost use Rattle.std.specs.List.{position};
 ghost use Rattle.std.specs.Ordering.{nat_cmp};
-ghost use Rattle.std.specs.Prelude.{◌≡◌, ◌<◌, ◌≤◌, ◌++◌, ◌∷◌, ℕ, [], Some, IfOk, IfSome, OnOk, length, map, slice_get, slice_set, vec_capacity};
-ghost use Rattle.smf_fmri.specs.ByKey.{IsPlaced, Rises, has_key, list_with_item, put_all};
+ghost use Rattle.std.specs.Prelude.{◌≡◌, ◌<◌, ◌≤◌, ◌+◌, ◌++◌, ◌∷◌, ℕ, [], Some, IfOk, IfSome, OnOk, length, map, slice_get, slice_set, vec_capacity};
+ghost use Rattle.smf_fmri.specs.ByKey.{IsPlaced, Rises, list_with_item, put_all};
 ghost use Rattle.smf_links.specs.Blockage.{IsOut};
 ghost use Rattle.smf_dep.specs.declared.member.GraphMember.{GraphMember as AnyMember};
 ghost use Rattle.smf_dep.specs.Members.{by_member, member_of};
@@ -31,17 +30,6 @@ pub(crate) fn search(members: &[ReadMember], instance: u64) -> Result<usize, usi
     ensures { IsPlaced by_member instance members.now result }
 {
     members.binary_search_by(|member| compare(member, instance))
-}
-
-/// The place of the instance that has the number.
-pub(crate) fn place_in(members: &[ReadMember], instance: u64) -> Option<usize>
-    requires { Rises by_member members.now }
-    ensures { result ≡ position (has_key by_member instance) members.now }
-{
-    match search(members, instance) {
-        Ok(place) => Some(place),
-        Err(_) => None,
-    }
 }
 
 // ---- items by which nothing comes, goes or depends on other things
@@ -176,9 +164,8 @@ fn push_number(numbers: &mut Vec<u64>, number: u64)
 }
 
 fn put_numbers(numbers: &mut Vec<u64>, members: &[ReadMember], places: &[usize])
-    requires empty { numbers.old.items ≡ [] }
-    requires room { length places.now ≤ vec_capacity numbers.old }
-    ensures { numbers.new.items ≡ map (number_at members.now) places.now }
+    requires { length numbers.old.items + length places.now ≤ vec_capacity numbers.old }
+    ensures { numbers.new.items ≡ numbers.old.items ++ map (number_at members.now) places.now }
 {
     for place in places {
         push_number(numbers, number_at(members, *place));
@@ -186,23 +173,22 @@ fn put_numbers(numbers: &mut Vec<u64>, members: &[ReadMember], places: &[usize])
 }
 
 fn put_all_numbers(numbers: &mut Vec<u64>, members: &[ReadMember])
-    requires empty { numbers.old.items ≡ [] }
-    requires room { length members.now ≤ vec_capacity numbers.old }
-    ensures { numbers.new.items ≡ map number members.now }
+    requires { length numbers.old.items + length members.now ≤ vec_capacity numbers.old }
+    ensures { numbers.new.items ≡ numbers.old.items ++ map number members.now }
 {
     for member in members {
         push_number(numbers, member.member().instance);
     }
 }
 
-/// Puts the numbers of the instances at these places, or of all instances if there is room for no more.
+/// Puts the numbers of the instances at these places after others, or of all instances if there is room for no more.
 pub(crate) fn put_touched(numbers: &mut Vec<u64>, members: &[ReadMember], places: &[usize])
-    requires empty { numbers.old.items ≡ [] }
-    requires room { length members.now ≤ vec_capacity numbers.old }
-    ensures { (a : ℕ) (m : AnyMember) → slice_get members.now a ≡ Some m → IsOut m.instance numbers.new.items
+    requires { length numbers.old.items + length members.now ≤ vec_capacity numbers.old }
+    ensures touched { (a : ℕ) (m : AnyMember) → slice_get members.now a ≡ Some m → IsOut m.instance numbers.new.items
         → IsOut a places.now }
+    ensures grown { (n : ℕ) → IsOut n numbers.new.items → IsOut n numbers.old.items }
 {
-    if places.len() > numbers.capacity() {
+    if places.len() > numbers.capacity() - numbers.len() {
         put_all_numbers(numbers, members);
         return;
     }
@@ -241,27 +227,17 @@ fn change_member(
     Ok(())
 }
 
-fn copies(alloc: Global, members: &[ReadMember]) -> Result<Vec<ReadMember>, AllocError>
-    ensures { IfOk result (λ copy. copy.items ≡ members.now) }
-{
-    let mut all = Vec::with_capacity(alloc, members.len())?;
-    for member in members {
-        all.push(member.clone()?)?;
-    }
-    Ok(all)
-}
-
 /// The members with changes. The others share what was read.
 pub(crate) fn changed_members(
     alloc: Global,
-    members: &[ReadMember],
+    members: Vec<ReadMember>,
     changes: &[ChangedItem],
 ) -> Result<Vec<ReadMember>, AllocError>
-    requires { Rises by_member members.now }
-    ensures all { IfOk result (λ all. all.items ≡ with_members changes.now members.now) }
+    requires { Rises by_member members.items }
+    ensures all { IfOk result (λ all. all.items ≡ with_members changes.now members.items) }
     ensures rises { IfOk result (λ all. Rises by_member all.items) }
 {
-    let mut all = Ordered::from_vec(copies(alloc, members)?);
+    let mut all = Ordered::from_vec(members);
     for change in changes {
         change_member(alloc, &mut all, change)?;
     }
@@ -271,17 +247,17 @@ pub(crate) fn changed_members(
 /// The numbers of all that are there, and of all that were.
 pub(crate) fn numbers_of(
     alloc: Global,
-    before: &[ReadMember],
+    before: &[u64],
     after: &[ReadMember],
 ) -> Result<Items<u64>, AllocError>
-    ensures { IfOk result (λ ns. ns ≡ map number after.now ++ map number before.now) }
+    ensures { IfOk result (λ ns. ns ≡ map number after.now ++ before.now) }
 {
     let mut numbers = with_room(alloc, after.len())?;
     'there: for member in after {
         numbers.push(member.member().instance)?;
     }
-    'gone: for member in before {
-        numbers.push(member.member().instance)?;
+    'gone: for number in before {
+        numbers.push(*number)?;
     }
     Ok(numbers)
 }

@@ -32,6 +32,7 @@ pub(crate) fn answer(
         "change" => change(alloc, views, out, text),
         "also" => change_later(alloc, views, out, text),
         "gone" => lose(alloc, views, out, text),
+        "also_gone" => lose_later(views, out, text),
         "kept_verdict" => judged_again(alloc, &views.graph, out, text),
         _ => return false,
     }
@@ -167,14 +168,16 @@ fn keep(alloc: Global, views: &mut Views, out: &mut Answer) {
     out.put("done");
 }
 
-/// True if a graph that was kept finds what a new one does.
-fn are_same(kept: &Graph, new: &Graph, count: usize) -> bool {
-    for place in 0..count {
-        if kept.finding(place) != new.finding(place) {
+/// True if a graph that was kept has the instances of a view at their places, and finds of each what a new one does.
+fn are_same(kept: &Graph, new: &Graph, items: &[ViewItem]) -> bool {
+    for (place, item) in items.iter().enumerate() {
+        if kept.place_of(item.instance) != Some(place)
+            || kept.finding(place) != new.finding(place)
+        {
             return false;
         }
     }
-    true
+    kept.finding(items.len()).is_none()
 }
 
 /// Compares the graph that was kept with a new one.
@@ -182,7 +185,7 @@ fn put_compared(alloc: Global, views: &Views, out: &mut Answer) {
     if let Some(kept) = &views.graph
         && let Some(new) = out.value_or_no_memory(Graph::of(alloc, views.items.as_slice()))
     {
-        let is_same = are_same(kept, &new, views.items.len());
+        let is_same = are_same(kept, &new, views.items.as_slice());
         out.put(if is_same { "same" } else { "other" });
     }
 }
@@ -222,21 +225,29 @@ fn change_later(alloc: Global, views: &mut Views, out: &mut Answer, text: &str) 
     }
 }
 
-/// `NUMBER`: the instance goes from the view and from the graph that is kept.
+/// `NUMBER`: the instance goes from the view. The graph that is kept loses it with the next `change` or `gone`.
+fn wait_without(views: &mut Views, out: &mut Answer, text: &str) -> Option<()> {
+    let instance = out.value_or_bad_line(read_count(text))?;
+    views.items.remove(&instance);
+    let changed = ChangedItem {
+        instance,
+        item: None,
+    };
+    out.value_or_no_memory(views.waiting.push(changed))
+}
+
+/// The same for the graph too. Says whether that finds what a new one does.
 fn lose(alloc: Global, views: &mut Views, out: &mut Answer, text: &str) {
-    if let Some(instance) = out.value_or_bad_line(read_count(text)) {
-        views.items.remove(&instance);
-        let changed = ChangedItem {
-            instance,
-            item: None,
-        };
-        if out
-            .value_or_no_memory(views.waiting.push(changed))
-            .is_some()
-        {
-            update(alloc, views, out);
-            put_compared(alloc, views, out);
-        }
+    if wait_without(views, out, text).is_some() {
+        update(alloc, views, out);
+        put_compared(alloc, views, out);
+    }
+}
+
+/// An instance that goes with what waits. Says that it does.
+fn lose_later(views: &mut Views, out: &mut Answer, text: &str) {
+    if wait_without(views, out, text).is_some() {
+        out.put("waits");
     }
 }
 

@@ -1,6 +1,7 @@
-use Rattle.std.proofs.Common.{◌++◌}
+use Rattle.std.proofs.Common.{◌++◌, ap}
+use Rattle.smf_dep.specs.Departures.{leavers}
 use Rattle.smf_dep.specs.Updates.{with_placed}
-use Rattle.smf_dep.proofs.ChangeSteps.{are_changes, put_first, put_next, ready_first}
+use Rattle.smf_dep.proofs.ChangeSteps.{are_changes, leave_next, put_first, put_next, ready_first}
 use Rattle.smf_dep.proofs.change.changes_in.Goals as goal
 
 pub loop-change-init : goal.loop-change-init
@@ -10,6 +11,7 @@ loop-change-init c =
           c.new-2.ensures.items;
       put = put_first c.args.changes.now c.new.result.items c.new-2.result.items c.args.members.now c.new.ensures.items
           c.new-2.ensures.items;
+      left = ap (λ l. l ++ leavers c.args.changes.now) c.new-3.ensures.items;
     }
 
 pub loop-change-preserved : goal.loop-change-preserved
@@ -23,10 +25,13 @@ loop-change-preserved c =
           (with_placed now.placed.items c.args.members.now ++ now.arrivals.items) c.args.members.now
           c.loop-change-test.true c.change-item.is (c.in_ok-take.ensures.put c.if-not-branch.false)
           c.loop-change.invariant.put;
+      left = leave_next c.args.changes.now c.loop-change.change-index c.change-item.result was.leavers.items
+          now.leavers.items c.loop-change-test.true c.change-item.is
+          (c.in_ok-take.ensures.left c.if-not-branch.false) c.loop-change.invariant.left;
     }
 
 pub returns : goal.returns
 returns c =
     are_changes c.args.changes.now c.loop-change.change-index c.loop-change.all.placed.items
-    c.loop-change.all.arrivals.items c.args.members.now c.loop-change-test.false c.loop-change.invariant.ready
-    c.loop-change.invariant.put
+    c.loop-change.all.arrivals.items c.loop-change.all.leavers.items c.args.members.now c.loop-change-test.false
+    c.loop-change.invariant.ready c.loop-change.invariant.put c.loop-change.invariant.left

@@ -6,4 +6,4 @@ abbrev pub invariant-there : goal.invariant-there
 invariant-there l = l.numbers ++ map number (drop l.member-index l.after) ≡ map number l.after
 
 abbrev pub invariant-gone : goal.invariant-gone
-invariant-gone l = l.numbers ++ map number (drop l.member-index l.before) ≡ map number l.after ++ map number l.before
+invariant-gone l = l.numbers ++ drop l.number-index l.before ≡ map number l.after ++ l.before

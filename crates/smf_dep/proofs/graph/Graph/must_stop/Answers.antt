@@ -1,13 +1,14 @@
-use Rattle.std.proofs.Common.{◌∙◌, ap}
-use Rattle.smf_dep.specs.Places.{link_of, link_stops}
+use Rattle.std.proofs.Common.{◌≡◌, ◌∙◌, Bool, ap, subst, sym}
+use Rattle.std.specs.Prelude.{IfOk}
 use Rattle.smf_dep.specs.Verdicts.{must_stop}
-use Rattle.smf_dep.proofs.Looked.{link_stops_is}
+use Rattle.smf_dep.proofs.Departed.{stop_shown}
 use Rattle.smf_dep.proofs.graph.Graph.must_stop.Goals as goal
 
 pub returns : goal.returns
 returns c =
-    let d = c.args.dependency.now in
-    let members = c.self.inside.members.items in
-    let link = c.in_ok-link.ensures ∙ ap (λ ms. link_of ms d) (c.in_ok-names.ensures ∙ c.as_slice.ensures.value) in
-    c.link_stops.ensures ∙ (λ i. link_stops (c.as_slice-2.ensures.value i) c.args.base (link i))
-    ∙ link_stops_is members c.args.base d ∙ ap (λ ms. must_stop ms d c.args.base) c.self.view_is
+    let inside = c.self.inside in
+    let dependency = c.args.dependency.now in
+    let P : Bool → Type 0 = λ x. IfOk c.must_stop.result (λ b. b ≡ x) in
+    subst P
+    (sym (stop_shown inside.roll.gone inside.placed dependency c.args.base c.self.invariant.left)
+    ∙ ap (λ ms. must_stop ms dependency c.args.base) c.self.view_is) c.must_stop.ensures

@@ -1,14 +1,15 @@
-use Rattle.std.proofs.Common.{◌∙◌, ap}
-use Rattle.smf_dep.specs.Places.{link_of}
-use Rattle.smf_dep.specs.Verdicts.{verdict, verdict_by}
-use Rattle.smf_dep.proofs.Found.{verdict_is}
+use Rattle.std.proofs.Common.{◌≡◌, ◌∙◌, ap, subst, sym}
+use Rattle.std.specs.Prelude.{IfOk}
+use Rattle.smf_dep.specs.declared.graph.Verdict.{Verdict}
+use Rattle.smf_dep.specs.Verdicts.{verdict}
+use Rattle.smf_dep.proofs.Departed.{verdict_shown}
 use Rattle.smf_dep.proofs.graph.Graph.verdict.Goals as goal
 
 pub returns : goal.returns
 returns c =
-    let d = c.args.dependency.now in
     let inside = c.self.inside in
-    c.verdict_by.ensures ∙ (λ i. verdict_by (c.is_met-met.ensures i) (c.is_blocked-blocked.ensures i))
-    ∙ verdict_is inside.members.items inside.kept d c.in_ok-link.link c.self.invariant.linked
-    (c.in_ok-link.ensures ∙ ap (λ ms. link_of ms d) (c.in_ok-names.ensures ∙ c.as_slice.ensures.value))
-    ∙ ap (λ ms. verdict ms d) c.self.view_is
+    let dependency = c.args.dependency.now in
+    let P : Verdict → Type 0 = λ x. IfOk c.verdict.result (λ v. v ≡ x) in
+    subst P
+    (sym (verdict_shown inside.roll.gone inside.placed dependency c.self.invariant.left)
+    ∙ ap (λ ms. verdict ms dependency) c.self.view_is) c.verdict.ensures

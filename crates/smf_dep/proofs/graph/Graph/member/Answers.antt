@@ -1,0 +1,16 @@
+use Rattle.std.proofs.Common.{◌≡◌, ◌∙◌, Some, ap}
+use Rattle.std.specs.Prelude.{slice_get}
+use Rattle.smf_dep.proofs.InPlace.{at_number, got_number}
+use Rattle.smf_dep.proofs.graph.Graph.member.Goals as goal
+
+pub returns-in-Some : goal.returns-in-Some
+returns-in-Some c =
+    let inside = c.self.inside in
+    let numbers = inside.roll.numbers in
+    let n = c.in-Some.number.now in
+    let entry = c.in-Some.ensures.lookup in
+    let at : slice_get numbers c.args.place ≡ Some n =
+    got_number c.as_slice.result.now numbers c.args.place n entry.3.0 entry.1 c.as_slice.ensures.all in
+    c.member.ensures
+    ∙ at_number inside.placed numbers inside.roll.gone c.args.place n c.self.invariant at
+    ∙ ap (λ ms. slice_get ms c.args.place) c.self.view_is
