@@ -19,7 +19,6 @@ use smf_state::{ChangedItem, HeldView};
 use std::alloc::{AllocError, Global};
 
 /// The record of the newest changes.
-#[derive(Drop)]
 pub(crate) struct Kept {
     /// The numbers of the instances that each of the newest commits touched, newest first.
     pub(crate) recent: Vec<Items<u64>>,
@@ -31,6 +30,19 @@ pub(crate) struct Kept {
     pub(crate) greatest_running: u64,
     /// The owners of all rows, as far as they are known.
     pub(crate) owners: Owners,
+}
+
+/// Crates above call this, and prove nothing of the parts that go.
+impl Drop for Kept {
+    fn drop(self) {
+        let Kept {
+            recent: _recent,
+            stale: _stale,
+            shown: _shown,
+            greatest_running: _greatest_running,
+            owners: _owners,
+        } = self;
+    }
 }
 
 /// Brings a view that is kept up to date. If memory runs out it is as it was.

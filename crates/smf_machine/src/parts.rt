@@ -26,7 +26,6 @@ use std::alloc::{AllocError, Global};
 use std::marker::Model;
 
 /// All actors but the repository, and what was seen of them.
-#[derive(Drop)]
 pub struct Parts {
     /// The tables of the repository when it was found.
     pub(crate) first: Tables,
@@ -38,6 +37,21 @@ pub struct Parts {
     pub(crate) messages: Vec<Message>,
     pub(crate) trail: Vec<Item>,
     pub(crate) table: ContractTable,
+}
+
+/// Crates above call this, and prove nothing of the parts that go.
+impl Drop for Parts {
+    fn drop(self) {
+        let Parts {
+            first: _first,
+            commands: _commands,
+            restarters: _restarters,
+            engine: _engine,
+            messages: _messages,
+            trail: _trail,
+            table: _table,
+        } = self;
+    }
 }
 
 /// Nothing was said or seen yet.

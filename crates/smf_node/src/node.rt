@@ -31,11 +31,21 @@ use std::marker::Model;
 /// The repository, svc.startd's graph, the restarters, their messages, the contracts and the trail, and a schedule by
 /// which they act. Contracts see the world with the marks of the schedule. A node's world is always one that events
 /// after an accepted boot make. Each message that was sent in it is read again from its line.
-#[derive(Drop)]
 pub struct Node<J: Journal> {
     pub(crate) alloc: Global,
     pub(crate) machine: Machine<J>,
     pub(crate) marks: Marks,
+}
+
+/// Crates above call this, and prove nothing of the parts that go.
+impl<J: Journal + Drop> Drop for Node<J> {
+    fn drop(self) {
+        let Node {
+            alloc: _alloc,
+            machine: _machine,
+            marks: _marks,
+        } = self;
+    }
 }
 
 impl<J: Journal> Model for Node<J> {
@@ -111,7 +121,12 @@ impl<J: Journal> Node<J> {
     pub fn into_repository(self) -> Plain<J>
         ensures { result.held ≡ self.world.now }
     {
-        self.machine.into_repository()
+        let Node {
+            alloc: _alloc,
+            machine,
+            marks: _marks,
+        } = self;
+        machine.into_repository()
     }
 
     /// The trail of what happened, the oldest item first.

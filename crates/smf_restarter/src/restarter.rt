@@ -23,7 +23,6 @@ use std::marker::Model;
 
 /// A restarter from one launch on, svc.startd's own or a delegated one. Contracts see what it knows, how much room it
 /// has for more, and the instance whose tick is made ahead.
-#[derive(Drop)]
 pub struct Restarter {
     alloc: Global,
     pub(crate) name: InstanceFmri,
@@ -39,6 +38,26 @@ pub struct Restarter {
     instances_room: usize,
     runs_room: usize,
     ready: Option<Ready>,
+}
+
+/// Crates above call this, and prove nothing of the parts that go.
+impl Drop for Restarter {
+    fn drop(self) {
+        let Restarter {
+            alloc: _alloc,
+            name: _name,
+            actor: _actor,
+            launch: _launch,
+            serial: _serial,
+            stage: _stage,
+            instances: _instances,
+            runs: _runs,
+            restless: _restless,
+            instances_room: _instances_room,
+            runs_room: _runs_room,
+            ready: _ready,
+        } = self;
+    }
 }
 
 impl Model for Restarter {
