@@ -1,20 +1,23 @@
 //! `test_replay`: replays a text of events, one a line, on a node over a repository in memory, and prints what each
 //! refuses or shows. With the word `trace` it prints at its end what it gave to the node, line by line. With the word
-//! `script` it does a script in place of events, and one call fails.
+//! `script` it does a script in place of events, and one call fails. With the word `asked` it asks contracts.
 //! Modules: `event` (a line's event), `safety` (the safety of a trail), `replay` (what a line does), `traces` (what
 //! the node is given), `fault`; `script` (a script of which a call fails), `failures` (children that fail), `streams` (a
-//! reader and a writer that fail).
+//! reader and a writer that fail), `journal` (a journal that fails); `asked` (contracts whose answers are written down).
 #![tactic(auto)]
 
+mod asked;
 mod event;
 mod failures;
 mod fault;
+mod journal;
 mod replay;
 mod safety;
 mod script;
 mod streams;
 mod traces;
 
+use crate::asked::ask_contracts;
 use crate::fault::ReplayFault;
 use crate::replay::Replay;
 use crate::script::do_script;
@@ -49,11 +52,11 @@ fn words(rt: &HostRuntime) -> io::Result<Vec<String>> {
     Ok(words)
 }
 
-/// Says whether the words ask for the trace.
-fn is_traced(words: &[String]) -> bool {
+/// The word that says what is done; an empty one for a replay.
+fn task_word(words: &[String]) -> &str {
     match words {
-        [_, word] => word.as_str() == "trace",
-        _ => false,
+        [_, word, ..] => word.as_str(),
+        _ => "",
     }
 }
 
@@ -66,29 +69,21 @@ fn write_trace(rt: &HostRuntime, memory: Memory) -> io::Result<()> {
     Ok(())
 }
 
-/// Says whether the words ask for a script.
-fn is_script(words: &[String]) -> bool {
-    match words {
-        [_, word, ..] => word.as_str() == "script",
-        _ => false,
-    }
-}
-
-fn replay_all(rt: &HostRuntime, words: &[String]) -> Result<(), ReplayFault> {
+fn replay_all(rt: &HostRuntime, traced: bool) -> Result<(), ReplayFault> {
     let alloc = rt.alloc();
     let memory = Memory::new(alloc);
     let mut replay = Replay::new(alloc)?;
     let end = run_lines(rt, &memory, &mut replay);
     replay.end();
     end?;
-    if is_traced(words) {
+    if traced {
         write_trace(rt, memory)?;
     }
     Ok(())
 }
 
-fn run_replay(rt: &HostRuntime, words: &[String]) -> u8 {
-    match replay_all(rt, words) {
+fn run_replay(rt: &HostRuntime, traced: bool) -> u8 {
+    match replay_all(rt, traced) {
         Ok(()) => 0,
         Err(fault) => {
             let words = fault.text();
@@ -100,10 +95,13 @@ fn run_replay(rt: &HostRuntime, words: &[String]) -> u8 {
 
 fn run(rt: &HostRuntime) -> io::Result<u8> {
     let words = words(rt)?;
-    if is_script(&words) {
-        do_script(rt, &words)
-    } else {
-        Ok(run_replay(rt, &words))
+    match task_word(&words) {
+        "script" => do_script(rt, &words),
+        "asked" => {
+            ask_contracts(rt)?;
+            Ok(0)
+        }
+        task => Ok(run_replay(rt, task == "trace")),
     }
 }
 

@@ -46,6 +46,34 @@ fn is_comment(line: &[u8]) -> bool {
     }
 }
 
+/// Want of memory ends a replay. Any other refusal is printed.
+fn put_refusal(fault: NodeFault, out: &mut String) -> Result<(), NodeFault> {
+    match fault {
+        NodeFault::Memory => Err(NodeFault::Memory),
+        fault => {
+            out.push_str(fault_text(fault))?;
+            out.push_str("\n")?;
+            Ok(())
+        }
+    }
+}
+
+/// The events that words name; none if either words name none.
+fn two_events(
+    alloc: Global,
+    first: &[Text],
+    second: &[Text],
+) -> Result<Option<Vec<Event>>, AllocError> {
+    let mut events = Vec::new(alloc);
+    for words in [first, second] {
+        match event_of(alloc, words)? {
+            Some(event) => events.push(event)?,
+            None => return Ok(None),
+        }
+    }
+    Ok(Some(events))
+}
+
 impl Replay {
     /// Begins after the boot of a repository that holds nothing.
     pub(crate) fn new(alloc: Global) -> Result<Replay, NodeFault> {
@@ -113,10 +141,30 @@ impl Replay {
     fn put_step(&mut self, event: Event, out: &mut String) -> Result<(), NodeFault> {
         match self.node.step(event) {
             Ok(_) => Ok(()),
-            Err(NodeFault::Memory) => Err(NodeFault::Memory),
-            Err(fault) => {
-                out.push_str(fault_text(fault))?;
-                out.push_str("\n")?;
+            Err(fault) => put_refusal(fault, out),
+        }
+    }
+
+    /// Events happen in turn. If one is refused, those before it have happened.
+    fn put_run(&mut self, events: Vec<Event>, out: &mut String) -> Result<(), NodeFault> {
+        match self.node.run(events) {
+            Ok(()) => Ok(()),
+            Err(fault) => put_refusal(fault, out),
+        }
+    }
+
+    /// An event of one word, and after the word `then` another one.
+    fn put_both(
+        &mut self,
+        alloc: Global,
+        first: &[Text],
+        second: &[Text],
+        out: &mut String,
+    ) -> Result<(), NodeFault> {
+        match two_events(alloc, first, second)? {
+            Some(events) => self.put_run(events, out),
+            None => {
+                out.push_str(BAD_LINE)?;
                 Ok(())
             }
         }
@@ -192,6 +240,10 @@ impl Replay {
             [first] if first.as_str() == "check" => {
                 self.put_check(alloc, out)?;
                 Ok(())
+            }
+            [_, between, second @ ..] if between.as_str() == "then" => {
+                trace_line(log, text);
+                self.put_both(alloc, &words[..1], second, out)
             }
             _ => self.put_event(alloc, log, words, out),
         }

@@ -1,12 +1,14 @@
 //! A script on standard input over a repository in memory, with children that a contract table simulates. One call
 //! fails. A number names a call of the children. After `read` it names a read of standard input, and after `write` a
-//! write of a text. After `interrupted-read` and `interrupted-write` that call is interrupted.
+//! write of a text. After `interrupted-read` and `interrupted-write` that call is interrupted. After `commit` it names a
+//! write of the journal.
 
 use crate::failures::FailingKids;
+use crate::journal::FailingJournal;
 use crate::streams::{Calls, FailingReader, FailingWriter};
 use smf_edge::Kids;
 use smf_lines::{LineReader, NotedReader, ReadFault, TextWriter};
-use smf_model::{NoJournal, Plain};
+use smf_model::Plain;
 use smf_node::Node;
 use smf_run::{end_all, run_script};
 use smf_script::ScriptFault;
@@ -24,6 +26,7 @@ struct Plan {
     reads_fail: ErrorKind,
     writes: u64,
     writes_fail: ErrorKind,
+    commits: u64,
 }
 
 /// No call fails.
@@ -34,6 +37,7 @@ fn quiet() -> Plan {
         reads_fail: ErrorKind::BrokenPipe,
         writes: 0,
         writes_fail: ErrorKind::BrokenPipe,
+        commits: 0,
     }
 }
 
@@ -56,6 +60,10 @@ fn plan_of(word: &str, call: u64) -> Plan {
         "interrupted-write" => Plan {
             writes: call,
             writes_fail: ErrorKind::Interrupted,
+            ..quiet()
+        },
+        "commit" => Plan {
+            commits: call,
             ..quiet()
         },
         _ => Plan {
@@ -91,8 +99,10 @@ fn run_over<R: LineReader, W: TextWriter, K: Kids>(
     reader: &mut R,
     writer: &mut W,
     kids: &mut K,
+    commits: u64,
 ) -> Result<u8, &'static str> {
-    let Ok(mut node) = Node::new(alloc, Plain::new(alloc, NoJournal {})) else {
+    let journal = FailingJournal::new(commits);
+    let Ok(mut node) = Node::new(alloc, Plain::new(alloc, journal)) else {
         return Err("no node");
     };
     let end = run_script(alloc, reader, writer, &mut node, kids);
@@ -113,7 +123,7 @@ pub(crate) fn do_script(rt: &HostRuntime, words: &[String]) -> io::Result<u8> {
     let mut reader = NotedReader::new(BufReader::new(alloc, input)?);
     let mut writer = FailingWriter::new(io::writer(rt), writes);
     let mut kids = FailingKids::new(alloc, plan.children);
-    let end = run_over(alloc, &mut reader, &mut writer, &mut kids);
+    let end = run_over(alloc, &mut reader, &mut writer, &mut kids, plan.commits);
     if kids.waits() {
         let _ = eprintln!(rt; "test_replay: no call failed");
     }

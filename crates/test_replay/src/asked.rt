@@ -1,18 +1,17 @@
-//! A program for tests: lines of standard input are done to children in contracts that are followed. The command of a
-//! contract says what it answers.
+//! Lines of standard input are done to children in contracts that are followed. The command of a contract says what it
+//! answers.
 //!   `spawn ID COMMAND`    starts a command in the next contract, which a failure ends.
 //!   `ignore ID COMMAND`   does the same, and no failure ends it.
 //!   `poll`                prints all that is found.
 //!   `kill ID`             ends a contract.
 //!   `list`                prints the contracts with members.
 //! Modules: `scripted` (contracts whose answers are written down), `texts` (the texts that are printed).
-#![tactic(auto)]
 
 mod scripted;
 mod texts;
 
-use crate::scripted::Scripted;
-use crate::texts::{fault_text, print_event};
+use crate::asked::scripted::Scripted;
+use crate::asked::texts::{fault_text, print_event};
 use smf_contract::{EventSet, Method, Terms};
 use smf_edge::Kids;
 use smf_fmri::{InstanceFmri, Number};
@@ -21,10 +20,6 @@ use smf_method::CommandText;
 use smf_state::Duration;
 use std::io;
 use std::io::{BufRead, BufReader};
-use std::process::ExitCode;
-
-/// The status if the program could not go on.
-const FAULT: u8 = 3;
 
 /// The terms of a contract. Failures are fatal to it, unless the service ignores failures.
 fn terms(fatal: bool) -> Terms {
@@ -123,8 +118,8 @@ fn act<K: Kids>(rt: &HostRuntime, kids: &mut K, line: &str) -> io::Result<()> {
     }
 }
 
-/// Does all lines.
-fn run(rt: &HostRuntime) -> io::Result<()> {
+/// Does each line of standard input to contracts whose answers are written down.
+pub(crate) fn ask_contracts(rt: &HostRuntime) -> io::Result<()> {
     let alloc = rt.alloc();
     let mut kids = FollowedKids::new(alloc, Scripted::new(alloc));
     let reader = BufReader::new(alloc, rt.reader())?;
@@ -132,11 +127,4 @@ fn run(rt: &HostRuntime) -> io::Result<()> {
         act(rt, &mut kids, line?.as_str())?;
     }
     Ok(())
-}
-
-fn main(rt: HostRuntime) -> ExitCode {
-    match run(&rt) {
-        Ok(()) => ExitCode::SUCCESS,
-        Err(_) => ExitCode::from(FAULT),
-    }
 }
