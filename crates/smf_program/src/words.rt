@@ -159,19 +159,18 @@ pub(crate) fn smf_command<'a>(alloc: Global) -> Result<Command<'a>, AllocError>
     ensures { IfOk result (λ c. app_of c ≡ smf_app) }
 {
     let sim = sim_command(alloc)?;
+    let with_sim = bare_command(alloc).subcommand(sim)?;
     let run = run_command(alloc)?;
+    let with_run = with_sim.subcommand(run)?;
     let cfg = cfg_command(alloc)?;
+    let with_cfg = with_run.subcommand(cfg)?;
     let serve = serve_command(alloc)?;
+    let with_serve = with_cfg.subcommand(serve)?;
     let why = why_command(alloc)?;
+    let with_why = with_serve.subcommand(why)?;
     let check = check_command(alloc)?;
+    let with_check = with_why.subcommand(check)?;
     let tick = tick_command(alloc)?;
-    let command = bare_command(alloc)
-        .subcommand(sim)?
-        .subcommand(run)?
-        .subcommand(cfg)?
-        .subcommand(serve)?
-        .subcommand(why)?
-        .subcommand(check)?
-        .subcommand(tick)?;
+    let command = with_check.subcommand(tick)?;
     Ok(command)
 }

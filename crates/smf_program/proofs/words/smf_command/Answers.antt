@@ -7,12 +7,12 @@ pub returns : goal.returns
 unfolding smf_app
 returns c =
     c.in_ok-command.ensures.shape c.in_ok-tick.ensures.local
-    ∙ ap₂ with_subcommand (c.in_ok-subcommand-6.ensures.shape c.in_ok-check.ensures.local
-    ∙ ap₂ with_subcommand (c.in_ok-subcommand-5.ensures.shape c.in_ok-why.ensures.local
-    ∙ ap₂ with_subcommand (c.in_ok-subcommand-4.ensures.shape c.in_ok-serve.ensures.local
-    ∙ ap₂ with_subcommand (c.in_ok-subcommand-3.ensures.shape c.in_ok-cfg.ensures.local
-    ∙ ap₂ with_subcommand (c.in_ok-subcommand-2.ensures.shape c.in_ok-run.ensures.local
-    ∙ ap₂ with_subcommand (c.in_ok-subcommand.ensures.shape c.in_ok-sim.ensures.local
+    ∙ ap₂ with_subcommand (c.in_ok-with_check.ensures.shape c.in_ok-check.ensures.local
+    ∙ ap₂ with_subcommand (c.in_ok-with_why.ensures.shape c.in_ok-why.ensures.local
+    ∙ ap₂ with_subcommand (c.in_ok-with_serve.ensures.shape c.in_ok-serve.ensures.local
+    ∙ ap₂ with_subcommand (c.in_ok-with_cfg.ensures.shape c.in_ok-cfg.ensures.local
+    ∙ ap₂ with_subcommand (c.in_ok-with_run.ensures.shape c.in_ok-run.ensures.local
+    ∙ ap₂ with_subcommand (c.in_ok-with_sim.ensures.shape c.in_ok-sim.ensures.local
     ∙ ap₂ with_subcommand c.bare_command.ensures (ap (λ (a : App). a.top) c.in_ok-sim.ensures.app))
     (ap (λ (a : App). a.top) c.in_ok-run.ensures.app))
     (ap (λ (a : App). a.top) c.in_ok-cfg.ensures.app)) (ap (λ (a : App). a.top) c.in_ok-serve.ensures.app))
