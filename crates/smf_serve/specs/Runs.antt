@@ -98,6 +98,11 @@ pub record IsDone {S : Type 0} (g : Ghosts S) (conn after : Held S) (k : Skills)
   pub opened : IsOpenedAs g conn held
   pub ran : HasRunOver k (IsLeft g after) held input old new was is status
 
+-- it left a database of which this holds
+pub record HasLeft {S : Type 0} (Left : Held S → Type 0) : Type 0 where
+  pub after : Held S
+  pub ran : Left after
+
 -- a fault ended it, and was told
 pub data IsEnded {S : Type 0} (g : Ghosts S) (conn after : Held S) (k : Skills) (stores : RepoFault → Type 0)
     (reads writes tells : Error → Type 0) (input : Option (List ℕ)) (old new : Seen)
