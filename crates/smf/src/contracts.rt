@@ -1,7 +1,6 @@
 // Scripts over a database, with contracts that are followed through forks.
 use smf_cfg::tell;
-use smf_edge::Kids;
-use smf_follow::FollowedKids;
+use smf_follow::{Contracts, FollowedKids};
 use smf_host::{Database, end_listed, room_of, room_text, wants_groups};
 use smf_keeper::{Groups, Keepers, Room};
 use smf_lines::NotedReader;
@@ -10,17 +9,23 @@ use smf_serve::{Closed, serve_file};
 use std::io;
 use std::io::BufReader;
 
-/// Does a script over an open database and children.
-fn serve<K: Kids>(rt: &HostRuntime, database: Database, kids: &mut K) -> io::Result<u8> {
+/// Does a script over an open database, with contracts that are followed. It takes any contracts: a proof that names those
+/// of the system together with the children takes far longer.
+fn serve<C: Contracts + Drop>(
+    rt: &HostRuntime,
+    database: Database,
+    contracts: C,
+) -> io::Result<u8> {
     let alloc = rt.alloc();
     let mut reader = NotedReader::new(BufReader::new(alloc, rt.reader())?);
+    let mut kids = FollowedKids::new(alloc, contracts);
     let Closed { status, files: _ } = serve_file(
         alloc,
         database.into_connection(),
         &mut reader,
         &mut io::writer(rt),
         &mut rt.stderr(),
-        kids,
+        &mut kids,
     );
     Ok(status)
 }
@@ -29,7 +34,7 @@ fn serve<K: Kids>(rt: &HostRuntime, database: Database, kids: &mut K) -> io::Res
 fn keep(rt: &HostRuntime, database: Database, room: Room) -> io::Result<u8> {
     eprintln!(rt; "smf: contracts: each has a keeper")?;
     let keepers = Keepers::new(rt.alloc(), rt, room, rt.stderr());
-    serve(rt, database, &mut FollowedKids::new(rt.alloc(), keepers))
+    serve(rt, database, keepers)
 }
 
 /// Does a script with contracts that are control groups, if these can be made; else keepers follow them.
@@ -37,7 +42,7 @@ fn group(rt: &HostRuntime, database: Database, room: Room) -> io::Result<u8> {
     match Groups::make(rt.alloc(), rt, room, rt.stderr()) {
         Ok(groups) => {
             eprintln!(rt; "smf: contracts: each is a control group")?;
-            serve(rt, database, &mut FollowedKids::new(rt.alloc(), groups))
+            serve(rt, database, groups)
         }
         Err((_, room)) => keep(rt, database, room),
     }

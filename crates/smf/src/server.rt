@@ -2,7 +2,7 @@
 use smf_cfg::tell;
 use smf_database::{Closed, Served, close, tell_open};
 use smf_edge::Kids;
-use smf_follow::FollowedKids;
+use smf_follow::{Contracts, FollowedKids};
 use smf_host::{
     Database, FileDesk, FileEnder, Hold, SystemTimer, end_listed, ender_in, folder_lock, room_text,
     start_ticks, staying_room, take_alone, take_lock, wants_groups,
@@ -77,14 +77,16 @@ fn serve_store<S: Alter + Drop, K: Kids + Drop>(
     }
 }
 
-/// Stays over an open database and children.
-fn serve_with<K: Kids + Drop>(
+/// Stays over an open database, with contracts that are followed. It takes any contracts: a proof that names those of the
+/// system together with the children takes far longer.
+fn serve_with<C: Contracts + Drop>(
     rt: &HostRuntime,
     desk: &mut FileDesk<'_>,
     ender: &mut FileEnder<'_>,
     database: Database,
-    kids: K,
+    contracts: C,
 ) -> u8 {
+    let kids = FollowedKids::new(rt.alloc(), contracts);
     let served = serve_store(rt, desk, ender, database.into_connection(), kids);
     let Closed { status, files: _ } = close(served, &mut rt.stderr());
     status
@@ -100,8 +102,7 @@ fn keep(
     eprintln!(rt; "smf: contracts: each has a keeper")?;
     let mut ender = ender_in(rt, &room)?;
     let keepers = Keepers::new(rt.alloc(), rt, room, rt.stderr());
-    let kids = FollowedKids::new(rt.alloc(), keepers);
-    Ok(serve_with(rt, desk, &mut ender, database, kids))
+    Ok(serve_with(rt, desk, &mut ender, database, keepers))
 }
 
 /// Stays with contracts that are control groups, if these can be made; else keepers follow them.
@@ -115,8 +116,7 @@ fn group(
     match Groups::make(rt.alloc(), rt, room, rt.stderr()) {
         Ok(groups) => {
             eprintln!(rt; "smf: contracts: each is a control group")?;
-            let kids = FollowedKids::new(rt.alloc(), groups);
-            Ok(serve_with(rt, desk, &mut ender, database, kids))
+            Ok(serve_with(rt, desk, &mut ender, database, groups))
         }
         Err((_, room)) => keep(rt, desk, database, room),
     }
