@@ -4,7 +4,8 @@
 //! what it saw: no change, the values before it and after it, or one of both.
 //! A line is one of svccfg, `svcadm` with its words, `launch NAME`, `boot`, or the message of a proposal.
 //! Modules: `disks` (disks that stop, and what crashes leave of them), `picture` (what a database holds), `lines` (a
-//! line done over a repository); `session` (lines over a store), `stops` (all stops in turn).
+//! line done over a repository), `work` (what is done over a database); `session` (the same over disks), `stops` (all
+//! stops in turn).
 #![tactic(auto)]
 
 mod disks;
@@ -12,6 +13,7 @@ mod lines;
 mod picture;
 mod session;
 mod stops;
+mod work;
 
 use crate::disks::Image;
 use crate::session::{Fault, image_of};

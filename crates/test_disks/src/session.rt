@@ -1,12 +1,8 @@
 use crate::disks::{Image, endless, load};
-use crate::lines::do_line;
-use crate::picture::picture;
 use crate::stops::Stop;
-use smf_cfg::Session;
-use smf_model::{Journal, Plain};
-use smf_store::open_repository;
-use sqlite::{Alter, Connection, FileStore, Files, Options};
-use sqlite_disk::{Fuse, Memory};
+use crate::work::{CountReplies, Done, Execute, Pictures, TakeBoth, TakePicture, Work};
+use sqlite::{Connection, FileStore, Files, Options};
+use sqlite_disk::{Disk, Fuse, Memory};
 use std::alloc::{AllocError, AllocFailed, Global};
 use std::io;
 
@@ -49,11 +45,11 @@ impl From<sqlite::Error> for Fault {
     }
 }
 
-/// A database on disks that stop.
-pub(crate) type Held = Connection<FileStore<Fuse<Memory>>>;
-
 /// Opens a database, or hands the disks back.
-pub(crate) fn open(alloc: Global, files: Files<Fuse<Memory>>) -> Result<Held, Files<Fuse<Memory>>> {
+fn open<D: Disk + Drop>(
+    alloc: Global,
+    files: Files<D>,
+) -> Result<Connection<FileStore<D>>, Files<D>> {
     if !files.may_be_used() {
         return Err(files);
     }
@@ -67,15 +63,45 @@ pub(crate) fn open(alloc: Global, files: Files<Fuse<Memory>>) -> Result<Held, Fi
     }
 }
 
-/// Does lines up to one that has no reply, and gives back how many had one.
-fn do_lines<J: Journal>(alloc: Global, repository: &mut Plain<J>, lines: &[&str]) -> usize {
-    let mut session = Session::new();
-    for (at, line) in lines.iter().enumerate() {
-        if !do_line(alloc, &mut session, repository, line) {
-            return at;
+/// The answer of what was done over a database, if it opened, and its disks again.
+pub(crate) struct Worked<T, D: Disk> {
+    pub(crate) answer: Option<T>,
+    pub(crate) files: Files<D>,
+}
+
+/// Opens a database and does something over it, as far as the disks go on.
+fn work_over<T: Drop, W: Work<T> + Drop, D: Disk + Drop>(
+    alloc: Global,
+    files: Files<D>,
+    work: W,
+) -> Worked<T, D> {
+    match open(alloc, files) {
+        Ok(conn) => {
+            let Done { answer, store } = work.over(alloc, conn);
+            Worked {
+                answer: Some(answer),
+                files: store.close(),
+            }
         }
+        Err(files) => Worked {
+            answer: None,
+            files,
+        },
     }
-    lines.len()
+}
+
+/// The answer of what is done over a database that an image holds, with disks that do not stop; none if it does not open.
+fn answer_on<T: Drop, W: Work<T> + Drop>(
+    alloc: Global,
+    image: &Image,
+    work: W,
+) -> Result<Option<T>, Fault> {
+    let files = load(alloc, image, endless())?;
+    let Worked {
+        answer,
+        files: _files,
+    } = work_over(alloc, files, work);
+    Ok(answer)
 }
 
 /// How many replies there were before the disks stopped, of which the first is that the store is open.
@@ -84,110 +110,41 @@ pub(crate) struct Ran {
     pub(crate) files: Files<Fuse<Memory>>,
 }
 
-/// The number of replies of a run over a database, and its store again.
-struct Done<S> {
-    replies: usize,
-    store: S,
-}
-
-/// Opens a store and does lines.
-fn run_over<S: Alter + Drop>(alloc: Global, conn: Connection<S>, lines: &[&str]) -> Done<S> {
-    let mut repository = match open_repository(alloc, conn) {
-        Ok(repository) => repository,
-        Err((_, conn)) => {
-            return Done {
-                replies: 0,
-                store: conn.into_store(),
-            };
-        }
-    };
-    let replies = do_lines(alloc, &mut repository, lines).saturating_add(1);
-    Done {
-        replies,
-        store: repository.into_journal().release().into_store(),
-    }
-}
-
 /// Opens a store and does lines, as far as the disks go on.
 pub(crate) fn run(alloc: Global, files: Files<Fuse<Memory>>, lines: &[&str]) -> Ran {
-    match open(alloc, files) {
-        Ok(conn) => {
-            let Done { replies, store } = run_over(alloc, conn, lines);
-            Ran {
-                replies,
-                files: store.close(),
-            }
-        }
-        Err(files) => Ran { replies: 0, files },
+    let Worked { answer, files } = work_over(alloc, files, CountReplies { lines });
+    Ran {
+        replies: answer.unwrap_or(0),
+        files,
     }
-}
-
-/// Does statements.
-fn execute<S: Alter + Drop>(mut conn: Connection<S>, first: &str) -> Result<S, Fault> {
-    conn.execute_batch(first)?;
-    Ok(conn.into_store())
 }
 
 /// The image that statements make out of an empty database.
-pub(crate) fn image_of(alloc: Global, first: &str) -> Result<Image, Fault> {
+pub(crate) fn image_of(alloc: Global, statements: &str) -> Result<Image, Fault> {
     let empty = Image {
         log: Vec::new(alloc),
         db: Vec::new(alloc),
     };
-    if first.is_empty() {
+    if statements.is_empty() {
         return Ok(empty);
     }
-    let Ok(conn) = open(alloc, load(alloc, &empty, endless())?) else {
+    let files = load(alloc, &empty, endless())?;
+    let Worked { answer, files } = work_over(alloc, files, Execute { statements });
+    let Some(Ok(())) = answer else {
         return Err(Fault::Undone);
     };
-    let files = execute(conn, first)?.close();
     Ok(Image {
         log: files.log.inner().bytes().to_vec(alloc)?,
         db: files.db.inner().bytes().to_vec(alloc)?,
     })
 }
 
-/// The picture of a database, and its picture after its store was opened.
-#[derive(Drop)]
-pub(crate) struct Pictures {
-    pub(crate) found: Vec<u8>,
-    pub(crate) opened: Vec<u8>,
-}
-
-fn pictures_over<S: Alter + Drop>(
-    alloc: Global,
-    mut conn: Connection<S>,
-) -> Result<Option<Pictures>, Fault> {
-    let found = picture(alloc, &mut conn)?;
-    let Ok(repository) = open_repository(alloc, conn) else {
-        return Ok(None);
-    };
-    let mut conn = repository.into_journal().release();
-    let opened = picture(alloc, &mut conn)?;
-    Ok(Some(Pictures { found, opened }))
-}
-
 /// The pictures of an image; none if it does not open.
 pub(crate) fn pictures_of(alloc: Global, image: &Image) -> Result<Option<Pictures>, Fault> {
-    match open(alloc, load(alloc, image, endless())?) {
-        Ok(conn) => pictures_over(alloc, conn),
-        Err(_) => Ok(None),
+    match answer_on(alloc, image, TakeBoth {})? {
+        Some(answer) => Ok(answer?),
+        None => Ok(None),
     }
-}
-
-fn picture_over<S: Alter + Drop>(
-    alloc: Global,
-    conn: Connection<S>,
-    lines: &[&str],
-) -> Result<Vec<u8>, Fault> {
-    let Ok(mut repository) = open_repository(alloc, conn) else {
-        return Err(Fault::Undone);
-    };
-    if do_lines(alloc, &mut repository, lines) < lines.len() {
-        return Err(Fault::Undone);
-    }
-    let mut conn = repository.into_journal().release();
-    Ok(picture(alloc, &mut conn)?)
 }
 
 /// The picture of a store after lines that no stop ends.
@@ -196,8 +153,8 @@ pub(crate) fn picture_behind(
     image: &Image,
     lines: &[&str],
 ) -> Result<Vec<u8>, Fault> {
-    match open(alloc, load(alloc, image, endless())?) {
-        Ok(conn) => picture_over(alloc, conn, lines),
-        Err(_) => Err(Fault::Undone),
+    match answer_on(alloc, image, TakePicture { lines })? {
+        Some(Some(picture)) => Ok(picture),
+        _ => Err(Fault::Undone),
     }
 }
