@@ -8,3 +8,4 @@ pub mod Numbered
 pub mod Ordered
 pub mod Parts
 pub mod Trails
+pub mod Begun

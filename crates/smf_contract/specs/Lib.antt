@@ -7,3 +7,4 @@ pub mod Laws
 pub mod Stated
 pub mod Trail
 pub mod Cookies
+pub mod Begun

@@ -135,9 +135,9 @@ impl Book {
         self.find(id.get())
     }
 
-    /// Adds a contract of the next id. There is room for it.
+    /// Adds a contract of a later id. There is room for it.
     pub(crate) fn push(&mut self, contract: Contract)
-        requires next { contract.id ≡ self.old.last + 1 }
+        requires later { self.old.last < contract.id }
         requires room { length self.old.contracts < self.old.fit }
         ensures contracts { self.new.contracts ≡ self.old.contracts ++ contract ∷ [] }
         ensures last { self.new.last ≡ contract.id }
@@ -145,6 +145,15 @@ impl Book {
         let id = contract.id;
         self.contracts.push(contract).unwrap();
         self.last = id;
+    }
+
+    /// No id up to this one is given again.
+    pub(crate) fn skip_to(&mut self, last: Number)
+        requires { self.old.last ≤ last }
+        ensures contracts { self.new.contracts ≡ self.old.contracts }
+        ensures last { self.new.last ≡ last }
+    {
+        self.last = last;
     }
 
     /// Gives the contract of an id another holder.

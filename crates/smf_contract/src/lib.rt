@@ -12,6 +12,7 @@ mod cookie;
 mod ends;
 mod event;
 mod fault;
+mod found;
 mod law;
 mod lookup;
 mod members;
@@ -24,8 +25,10 @@ pub use contract::{Contract, Holder, Member, Report, Status};
 pub use cookie::{Cookie, CookieFault, Method};
 pub use event::{ContractEvent, EventKind, Exit, Failure};
 pub use fault::ContractFault;
+pub use found::Found;
 pub use law::{
-    an_emptied_contract_had_members, an_empty_contract_stays_empty, numbers_stay_in_order,
+    an_emptied_contract_had_members, an_empty_contract_stays_empty, found_contracts_stand_in_order,
+    numbers_stay_in_order,
 };
 pub use table::{ContractTable, Made};
 pub use terms::{EventSet, Terms};

@@ -266,18 +266,19 @@ impl Members {
         numbers(alloc, self.members_of(contract))
     }
 
-    /// Adds a process of the next number. There is room for it.
-    pub(crate) fn push(&mut self, member: Member)
-        requires next { member.process ≡ self.old.last + 1 }
+    /// Adds a process of a later number, and gives none up to another. There is room for it.
+    pub(crate) fn push(&mut self, member: Member, last: Number)
+        requires later { self.old.last < member.process }
+        requires last { member.process ≤ last }
         requires room { length self.old.members < self.old.fit }
         ensures members { self.new.members ≡ self.old.members ++ member ∷ [] }
-        ensures last { self.new.last ≡ member.process }
+        ensures last { self.new.last ≡ last }
     {
         let process = member.process;
         let contract = member.contract;
         self.all.push(member).unwrap();
         put_home(&mut self.grouped, Member { process, contract });
-        self.last = process;
+        self.last = last;
     }
 
     /// Takes a process out.

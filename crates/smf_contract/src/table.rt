@@ -1,6 +1,8 @@
-ghost use Rattle.std.specs.Prelude.{◌≡◌, ◌<◌, IfOk, MatchResult, OnOk, OnErr, length, true, false};
+ghost use Rattle.std.specs.Prelude.{◌≡◌, ◌<◌, ◌≤◌, IfOk, MatchResult, OnOk, OnErr, length, map, true, false};
 ghost use Rattle.smf_contract.specs.Entries.{contract, empty, first_member, has_members, home, processes, report_of_event, status, status_of, statuses, events_from};
 ghost use Rattle.smf_contract.specs.Calls.{Leaves, Makes, result_of_spawn, result_of_fork, result_of_exit, result_of_failure, result_of_core, result_of_signal, failed_by_hardware, table_without_actor, result_of_adoption, result_of_abandonment, result_of_kill, result_of_acknowledgement, next_contract, table_after_reboot};
+ghost use Rattle.smf_contract.specs.Begun.{table_of_found, with_found};
+ghost use Rattle.smf_contract.specs.Laws.{Ascends};
 ghost use Rattle.smf_contract.specs.Called.{table_after_contract_call, emptied_by};
 ghost use Rattle.smf_contract.specs.declared.call.ContractCall.TheVariants as calls;
 
@@ -11,6 +13,7 @@ use crate::contract::{Contract, Holder, Member, Report, Status};
 use crate::ends::{ended_ids, failed_ids, ids_left, killed_ids};
 use crate::event::{ContractEvent, EventKind, Exit, Failure};
 use crate::fault::ContractFault;
+use crate::found::Found;
 use crate::lookup::{acknowledged_at, contract_held_by, is_fatal, is_held, report};
 use crate::members::Members;
 use crate::past::Past;
@@ -56,6 +59,32 @@ impl ContractTable {
         }
     }
 
+    /// No id up to this one is given again.
+    fn skip_to(&mut self, last: Number)
+        requires { self.old.table.last_contract ≤ last }
+        ensures { self.new.table ≡ record self.old.table { last_contract = last } }
+    {
+        self.book.skip_to(last);
+    }
+
+    /// The table of contracts that are there already, all with this holder, and the last id that was given.
+    pub fn found(
+        alloc: Global,
+        holder: Holder,
+        last: Number,
+        found: &[Found],
+    ) -> Result<ContractTable, ContractFault>
+        requires { Ascends 0 (map (λ f. f.id) found.now) last }
+        ensures { IfOk result (λ made. made.table ≡ table_of_found holder last found.now) }
+    {
+        let mut table = ContractTable::new(alloc);
+        for one in found {
+            table.put_found(holder, *one)?;
+        }
+        table.skip_to(last);
+        Ok(table)
+    }
+
     /// Makes room, so that the next call that changes the table answers no `Memory`.
     pub fn reserve(&mut self) -> Result<(), AllocError>
         ensures kept { self.new.table ≡ self.old.table }
@@ -88,8 +117,47 @@ impl ContractTable {
             first: process,
             acknowledged: Number::zero(),
         });
-        self.members.push(Member { process, contract });
+        self.members.push(Member { process, contract }, process);
         Ok(Made { contract, process })
+    }
+
+    /// Adds a contract that is there already, of a later id than all others. `Full` comes if no number is left.
+    #[tactic(auto, unfolding(crate::specs::Begun::with_found))]
+    fn put_found(&mut self, holder: Holder, found: Found) -> Result<(), ContractFault>
+        requires later { self.old.table.last_contract < found.id }
+        ensures put { OnOk result (self.new.table ≡ with_found holder self.old.table found) }
+        ensures err { OnErr result (self.new.table ≡ self.old.table) }
+    {
+        let Some(first) = self.members.last().next() else {
+            return Err(ContractFault::Full);
+        };
+        let Some(others) = first.next() else {
+            return Err(ContractFault::Full);
+        };
+        make_room(&mut self.book, &mut self.members, &mut self.past)?;
+        let contract = found.id;
+        self.book.push(Contract {
+            id: contract,
+            cookie: found.cookie,
+            holder,
+            terms: found.terms,
+            first,
+            acknowledged: Number::zero(),
+        });
+        match found.end {
+            None => {
+                let process = first;
+                self.past.begin(contract);
+                self.members.push(Member { process, contract }, others);
+                Ok(())
+            }
+            Some(exit) => {
+                let process = others;
+                self.members.push(Member { process, contract }, others);
+                self.past.note(contract, EventKind::Exit(first, exit), true);
+                Ok(())
+            }
+        }
     }
 
     /// A member forks. The answer is the number of the new process, which is a member too.
@@ -110,7 +178,7 @@ impl ContractTable {
             process: child,
             contract,
         };
-        self.members.push(member);
+        self.members.push(member, child);
         self.past.note(contract, EventKind::Fork(child), true);
         Ok(child)
     }
