@@ -1,0 +1,13 @@
+pub mod RecentLists
+pub mod Parts
+pub mod Frames
+pub mod Since
+pub mod Glued
+pub mod LostParts
+pub mod ComeWorlds
+pub mod LivedWorlds
+pub mod KilledWorlds
+pub mod FoundTables
+pub mod ThinTables
+pub mod StandingWorlds
+pub mod BegunWorlds
