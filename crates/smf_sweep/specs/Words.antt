@@ -1,6 +1,9 @@
 -- The words of what is started.
-use Rattle.std.specs.Prelude.{◌≢◌, ◌++◌, ℕ, List, [], ◌∷◌, codes, flat_map}
+use Rattle.std.specs.Prelude.{◌≢◌, ◌++◌, ℕ, nat_eq, Bool, List, [], ◌∷◌, codes, flat_map}
+use Rattle.std.specs.Cmp.Lexicographic.{pointwise}
 use Rattle.std.specs.Fmt.{decimal}
+use Rattle.std.specs.Process.{command_program}
+use Rattle.std.specs.declared.process.Command.{Command}
 use Rattle.smf_sweep.specs.declared.process.Process.{Process}
 
 -- a variable that a method does not have
@@ -9,6 +12,10 @@ pub record IsOther (name : List ℕ) : Type 0 where
   pub not_fmri : name ≢ codes "SMF_FMRI"
   pub not_method : name ≢ codes "SMF_METHOD"
   pub not_restarter : name ≢ codes "SMF_RESTARTER"
+
+-- a program that makes a session of its own runs a method
+abbrev pub is_method : {B : Type 0} → Command B → Bool
+is_method command = pointwise nat_eq (command_program command) (codes "/usr/bin/setsid")
 
 -- the shell's words before those of a method
 abbrev pub first_words : List ℕ → List ℕ → List ℕ → List ℕ → List ℕ → List (List ℕ)

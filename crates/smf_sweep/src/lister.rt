@@ -1,12 +1,14 @@
-ghost use Rattle.std.specs.Prelude.{◌≡◌, IfErr, IfOk, string_bytes, true};
+ghost use Rattle.std.specs.Prelude.{◌≡◌, IfErr, IfOk, OnOk, string_bytes, true};
+ghost use Rattle.smf_sweep.specs.Starts.{GivesNone, GivesOne, HasLine, start_of};
 ghost use Rattle.smf_sweep.specs.Sweeps.{IsClosed, StopsRun, WasCleared};
 ghost use Rattle.smf_sweep.specs.declared.lister.TheConstants.{MOST};
 
 use crate::fault::SweepFault;
 use crate::rounds::{clear, close};
+use crate::starter::Starter;
 use crate::survey::Survey;
 use crate::words::{FIRST, is_method, program_with_line};
-use std::alloc::{Allocator, Global};
+use std::alloc::{AllocError, Allocator, Global};
 use std::io;
 use std::process::{Child, Command as Program, Processes, Stdio};
 
@@ -68,21 +70,12 @@ impl<S: Survey + Drop> Lister<S> {
     }
 }
 
-/// A method's program writes its line first. Any other one is started as it is.
-impl<S: Survey + Processes> Processes for Lister<S> {
-    type Started = S::Started;
-
-    fn spawn<B: Allocator + Clone>(
-        &self,
-        command: &Program<B>,
-        stdin: &Stdio,
-        stdout: &Stdio,
-        stderr: &Stdio,
-    ) -> io::Result<Child<S::Started>> {
-        if !is_method(command) {
-            return self.system.spawn(command, stdin, stdout, stderr);
-        }
-        let program = program_with_line(
+impl<S: Survey> Lister<S> {
+    /// The program of a method, which writes its line first.
+    fn with_line<B: Allocator + Clone>(&self, command: &Program<B>) -> Result<Program, AllocError>
+        ensures { IfOk result (HasLine B self.now.place (string_bytes self.now.boot) command.now) }
+    {
+        program_with_line(
             self.alloc,
             command,
             FIRST,
@@ -90,7 +83,51 @@ impl<S: Survey + Processes> Processes for Lister<S> {
             self.place.lock.as_str(),
             self.place.number.as_str(),
             self.boot.as_str(),
-        )?;
-        self.system.spawn(&program, stdin, stdout, stderr)
+        )
+    }
+
+    /// Gives a system one program to start. If there is no memory for a method's line, it gives none.
+    fn start_by<T: Starter, B: Allocator + Clone>(
+        &self,
+        system: &mut T,
+        command: &Program<B>,
+        stdin: &Stdio,
+        stdout: &Stdio,
+        stderr: &Stdio,
+    ) -> io::Result<Child<T::Started>>
+        ensures started { OnOk result (GivesOne T.gives self.now.place (string_bytes self.now.boot)
+            (start_of command.now stdin.now stdout.now stderr.now) system.old system.new) }
+        ensures refused { IfErr result (GivesNone T.gives self.now.place (string_bytes self.now.boot)
+            (start_of command.now stdin.now stdout.now stderr.now) system.old system.new) }
+    {
+        if !is_method(command) {
+            return system.start(command, stdin, stdout, stderr);
+        }
+        let program = self.with_line(command)?;
+        system.start(&program, stdin, stdout, stderr)
+    }
+}
+
+/// A method's program writes its line first. Any other one is started as it is. A copy of the system is asked, since
+/// the lister stays as it is.
+impl<S: Survey + Starter + Copy> Processes for Lister<S> {
+    type Started = <S as Starter>::Started;
+
+    fn spawn<B: Allocator + Clone>(
+        &self,
+        command: &Program<B>,
+        stdin: &Stdio,
+        stdout: &Stdio,
+        stderr: &Stdio,
+    ) -> io::Result<Child<<S as Starter>::Started>>
+        ensures started { OnOk result ((after : S)
+            × GivesOne S.gives self.now.place (string_bytes self.now.boot)
+            (start_of command.now stdin.now stdout.now stderr.now) self.now.system after) }
+        ensures refused { IfErr result (λ e. (after : S)
+            × GivesNone S.gives self.now.place (string_bytes self.now.boot)
+            (start_of command.now stdin.now stdout.now stderr.now) self.now.system after e) }
+    {
+        let mut system = self.system;
+        self.start_by(&mut system, command, stdin, stdout, stderr)
     }
 }

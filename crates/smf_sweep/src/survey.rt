@@ -4,6 +4,7 @@ ghost use Rattle.smf_sweep.specs.Replies.{Telling, Booted, Listed, Looked, Ended
 
 use crate::child::Child;
 use crate::process::Process;
+use crate::sight::if_seen;
 use crate::stat::{is_method, read_stat};
 use crate::words::ender;
 use std::alloc::{AllocGlobal, Global};
@@ -71,13 +72,12 @@ fn is_near(process: &Process, children: &[Child]) -> bool {
 }
 
 /// Asks whether a process has the variables of a method. Those of another user's process cannot be read, and count as
-/// none.
+/// none. So do those of a process that has ended.
 fn has_method<R: Files<File = File>>(alloc: Global, rt: &R, folder: &str) -> io::Result<bool> {
     let path = format!(in alloc; "{folder}/environ")?;
-    match bytes_of(alloc, rt, path.as_str()) {
-        Ok(variables) => Ok(is_method(&variables)),
-        Err(e) if e.kind() == io::ErrorKind::OutOfMemory => Err(e),
-        Err(_) => Ok(false),
+    match if_seen(bytes_of(alloc, rt, path.as_str()))? {
+        Some(variables) => Ok(is_method(&variables)),
+        None => Ok(false),
     }
 }
 
@@ -90,10 +90,8 @@ fn process_in<R: Files<File = File>>(
     children: &[Child],
 ) -> io::Result<Option<Process>> {
     let path = format!(in alloc; "{folder}/stat")?;
-    let stat = match bytes_of(alloc, rt, path.as_str()) {
-        Ok(stat) => stat,
-        Err(e) if e.kind() == io::ErrorKind::OutOfMemory => return Err(e),
-        Err(_) => return Ok(None),
+    let Some(stat) = if_seen(bytes_of(alloc, rt, path.as_str()))? else {
+        return Ok(None);
     };
     let Some(mut process) = read_stat(&stat) else {
         return Err(io::Error::from(io::ErrorKind::InvalidData));

@@ -1,7 +1,7 @@
 // The programs that are started for a child, and that end one.
 ghost use Rattle.std.specs.Prelude.{◌≡◌, ◌++◌, IfOk, OnOk, ℕ, List, Some, None, true, codes, flat_map, string_bytes, [], ◌∷◌};
 ghost use Rattle.std.specs.Process.{SameEnv, SameOtherVars, SameProgramAndArgs, clears_env, command_args, command_program, command_var};
-ghost use Rattle.smf_sweep.specs.Words.{IsOther, ender_text, first_words, group_text};
+ghost use Rattle.smf_sweep.specs.Words.{IsOther, ender_text, first_words, group_text, is_method};
 
 use crate::process::Process;
 use std::alloc::{AllocError, Allocator, Global};
@@ -16,7 +16,9 @@ pub(crate) const FIRST: &str =
     "line() { read -r stat < /proc/$$/stat && boot=$1 && set -- ${stat##*) } && printf '\\n%s %s %s\\n' $$ ${20} $boot; }; line \"$4\" >> \"$1\" && read -r owner < \"$2\" && test \"$owner\" = \"$3\" || exit 126; shift 4; unset PWD OLDPWD SHLVL; exec \"$@\"";
 
 /// Says whether a program runs a method: it makes a session of its own.
-pub(crate) fn is_method<B: Allocator + Clone>(command: &Program<B>) -> bool {
+pub(crate) fn is_method<B: Allocator + Clone>(command: &Program<B>) -> bool
+    ensures { result ≡ is_method command.now }
+{
     command.get_program() == "/usr/bin/setsid"
 }
 
