@@ -9,3 +9,4 @@ pub mod Ordered
 pub mod Parts
 pub mod Trails
 pub mod Begun
+pub mod ThinTables

@@ -8,3 +8,4 @@ pub mod Stated
 pub mod Trail
 pub mod Cookies
 pub mod Begun
+pub mod Thinned

@@ -1,14 +1,15 @@
 // The contracts, in which one is found by halves.
-ghost use Rattle.std.specs.Prelude.{◌≡◌, ◌+◌, ◌<◌, ◌≤◌, IfOk, IfSome, OnOk, OnErr, [], ◌∷◌, ◌++◌, length, map, position};
+ghost use Rattle.std.specs.Prelude.{◌≡◌, ◌+◌, ◌<◌, ◌≤◌, IfOk, IfSome, OnOk, OnErr, [], ◌∷◌, ◌++◌, length, filter, map, position};
 ghost use Rattle.std.specs.Ordering.{nat_cmp};
 ghost use Rattle.smf_contract.specs.Calls.{changed_at, given_up, later};
 ghost use Rattle.smf_contract.specs.Called.{ids_by};
-ghost use Rattle.smf_contract.specs.Entries.{contract_in, has_id};
+ghost use Rattle.smf_contract.specs.Entries.{contract_in, has_id, has_members};
 ghost use Rattle.smf_contract.specs.Trail.{by_id};
 ghost use Rattle.smf_fmri.specs.ByKey.{IsPlaced, Rises};
 
 use crate::change::{give_up, later};
 use crate::contract::{Contract, Holder};
+use crate::members::Members;
 use smf_fmri::Number;
 use std::alloc::{AllocError, Global};
 use std::cmp::Ordering;
@@ -71,6 +72,21 @@ fn ids_at(alloc: Global, contracts: &[Contract], id: Number) -> Result<Vec<Numbe
         }
         Err(_) => Ok(Vec::new(alloc)),
     }
+}
+
+/// The contracts that have members.
+fn contracts_with_members(
+    alloc: Global,
+    contracts: &[Contract],
+    members: &Members,
+) -> Result<Vec<Contract>, AllocError>
+    ensures { IfOk result (λ kept. kept.items ≡ filter (λ c. has_members c.id members.now.members) contracts.now) }
+{
+    contracts
+        .iter()
+        .copied()
+        .filter(|contract| members.has_members(contract.id))
+        .collect(alloc)
 }
 
 impl Book {
@@ -190,6 +206,19 @@ impl Book {
         ensures last { self.new.last ≡ self.old.last }
     {
         give_up(&mut self.contracts, actor);
+    }
+
+    /// A book of the contracts that have members. The ids of the others are not given again.
+    pub(crate) fn with_members(&self, alloc: Global, members: &Members) -> Result<Book, AllocError>
+        ensures contracts { IfOk result (λ book. book.contracts
+            ≡ filter (λ c. has_members c.id members.now.members) self.now.contracts) }
+        ensures last { IfOk result (λ book. book.last ≡ self.now.last) }
+    {
+        let contracts = contracts_with_members(alloc, &self.contracts, members)?;
+        Ok(Book {
+            contracts,
+            last: self.last,
+        })
     }
 
     /// Forgets all contracts. Their ids are not given again.

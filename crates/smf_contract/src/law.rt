@@ -9,6 +9,7 @@ ghost use Rattle.smf_contract.specs.declared.terms.Terms.{Terms};
 ghost use Rattle.smf_contract.specs.Entries.{Contracts};
 ghost use Rattle.smf_contract.specs.Called.{table_after_contract_call, emptied_by};
 ghost use Rattle.smf_contract.specs.Laws.{Ascends, Call, table_after_call, after, is_among, is_lost, IsOrdered, NeverFalls, StaysEmpty};
+ghost use Rattle.smf_contract.specs.Thinned.{thinned};
 ghost use Rattle.smf_contract.specs.declared.call.ContractCall.{ContractCall};
 
 /// A law of the definitions: no call gives a member to a contract that has none.
@@ -47,4 +48,10 @@ pub fn found_contracts_stand_in_order()
           contracts =
               map (λ (c : AnyContract). record c { holder = who }) (table_of_found other last fs).contracts;
         } }
+{}
+
+/// A law of the definitions: a table stays in order when the contracts without members are gone. Each member is still in
+/// a contract of the table.
+pub fn a_thinned_table_stays_in_order()
+    ensures { (t : Contracts) → IsOrdered t → IsOrdered (thinned t) }
 {}

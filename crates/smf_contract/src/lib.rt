@@ -27,8 +27,8 @@ pub use event::{ContractEvent, EventKind, Exit, Failure};
 pub use fault::ContractFault;
 pub use found::Found;
 pub use law::{
-    an_emptied_contract_had_members, an_empty_contract_stays_empty, found_contracts_stand_in_order,
-    numbers_stay_in_order,
+    a_thinned_table_stays_in_order, an_emptied_contract_had_members, an_empty_contract_stays_empty,
+    found_contracts_stand_in_order, numbers_stay_in_order,
 };
 pub use table::{ContractTable, Made};
 pub use terms::{EventSet, Terms};

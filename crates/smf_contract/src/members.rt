@@ -305,6 +305,20 @@ impl Members {
         take_all(&mut self.grouped, contract);
     }
 
+    /// The same processes once more.
+    pub(crate) fn copied(&self, alloc: Global) -> Result<Members, AllocError>
+        ensures members { IfOk result (λ copy. copy.members ≡ self.now.members) }
+        ensures last { IfOk result (λ copy. copy.last ≡ self.now.last) }
+    {
+        let all = Vec::from_slice(alloc, &self.all)?;
+        let grouped = Vec::from_slice(alloc, &self.grouped)?;
+        Ok(Members {
+            all,
+            grouped,
+            last: self.last,
+        })
+    }
+
     /// Forgets all processes. Their numbers are not given again.
     pub(crate) fn clear(&mut self)
         ensures members { self.new.members ≡ [] }

@@ -1,13 +1,14 @@
 // The events of all contracts, in which those of one are found without the others.
 ghost use Rattle.std.specs.Prelude.{◌≡◌, ◌+◌, ◌<◌, ◌≤◌, ◌⊎◌, IfOk, OnOk, OnErr, [], length, filter, position, reverse, vec_len, vec_capacity};
 ghost use Rattle.std.specs.Ordering.{nat_cmp};
-ghost use Rattle.smf_contract.specs.Entries.{event_in, is_event, is_event_of, is_given, last_event};
+ghost use Rattle.smf_contract.specs.Entries.{event_in, has_members, is_event, is_event_of, is_given, last_event};
 ghost use Rattle.smf_contract.specs.Calls.{with_next_event};
-ghost use Rattle.smf_contract.specs.Trail.{by_contract, until, AreTied};
+ghost use Rattle.smf_contract.specs.Trail.{by_contract, until, AreNumbered, AreTied};
 ghost use Rattle.smf_fmri.specs.ByKey.{IsPlaced, Rises, lookup, list_with_item};
 
 use crate::event::{ContractEvent, EventKind};
 use crate::lookup::is_given;
+use crate::members::Members;
 use smf_fmri::Number;
 use std::alloc::{AllocError, Global};
 use std::cmp::Ordering;
@@ -158,6 +159,25 @@ fn given_back(
     Ok(found)
 }
 
+/// The events of the contracts that have members. Each keeps its number.
+fn events_with_members(
+    alloc: Global,
+    events: &[ContractEvent],
+    members: &Members,
+) -> Result<Past, AllocError>
+    requires { AreNumbered events.now }
+    ensures { IfOk result (λ past. past.events ≡ filter (λ e. has_members e.contract members.now.members) events.now) }
+{
+    let mut past = Past::new(alloc);
+    for event in events {
+        if members.has_members(event.contract) {
+            past.reserve(1)?;
+            past.note(event.contract, event.kind, event.left);
+        }
+    }
+    Ok(past)
+}
+
 /// How many events there are.
 fn count(events: &[ContractEvent]) -> usize
     ensures exact { result ≡ length events.now }
@@ -263,6 +283,15 @@ impl Past {
             until,
         };
         put_last(&mut self.lasts, noted);
+    }
+
+    /// The events of the contracts that have members. Each keeps its number.
+    pub(crate) fn with_members(&self, alloc: Global, members: &Members) -> Result<Past, AllocError>
+        ensures { IfOk result (λ past. past.events
+            ≡ filter (λ e. has_members e.contract members.now.members) self.now.events) }
+    {
+        let past = events_with_members(alloc, &self.events, members)?;
+        Ok(past)
     }
 
     /// Forgets all events.

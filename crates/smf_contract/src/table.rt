@@ -3,6 +3,7 @@ ghost use Rattle.smf_contract.specs.Entries.{contract, empty, first_member, has_
 ghost use Rattle.smf_contract.specs.Calls.{Leaves, Makes, result_of_spawn, result_of_fork, result_of_exit, result_of_failure, result_of_core, result_of_signal, failed_by_hardware, table_without_actor, result_of_adoption, result_of_abandonment, result_of_kill, result_of_acknowledgement, next_contract, table_after_reboot};
 ghost use Rattle.smf_contract.specs.Begun.{table_of_found, with_found};
 ghost use Rattle.smf_contract.specs.Laws.{Ascends};
+ghost use Rattle.smf_contract.specs.Thinned.{thinned};
 ghost use Rattle.smf_contract.specs.Called.{table_after_contract_call, emptied_by};
 ghost use Rattle.smf_contract.specs.declared.call.ContractCall.TheVariants as calls;
 
@@ -83,6 +84,22 @@ impl ContractTable {
         }
         table.skip_to(last);
         Ok(table)
+    }
+
+    /// A table of the contracts that have members, with their events. The others are gone, and their ids are not given
+    /// again.
+    pub fn thinned(&self) -> Result<ContractTable, AllocError>
+        ensures { IfOk result (λ thin. thin.table ≡ thinned self.now.table) }
+    {
+        let book = self.book.with_members(self.alloc, &self.members)?;
+        let members = self.members.copied(self.alloc)?;
+        let past = self.past.with_members(self.alloc, &self.members)?;
+        Ok(ContractTable {
+            alloc: self.alloc,
+            book,
+            members,
+            past,
+        })
     }
 
     /// Makes room, so that the next call that changes the table answers no `Memory`.
