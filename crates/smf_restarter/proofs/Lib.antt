@@ -4,3 +4,4 @@ pub mod OtherInstances
 pub mod IdleTicks
 mod RestlessList
 mod Rooms
+pub mod PastRuns

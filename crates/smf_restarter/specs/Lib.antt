@@ -9,3 +9,4 @@ pub mod Answers
 pub mod Watched
 pub mod Left
 pub mod Room
+pub mod Forgotten

@@ -2,12 +2,13 @@
 //! Modules: `known` (what it knows); `reply` (what a step is, and what it changes); `changes` (changes and replies by
 //! what they do); `runs` (runs and their contracts); `ends` (ends that follow on methods); `orders` (proposals);
 //! `replies` (messages); `ticks` (ticks); `answers` (answers and reports); `restless_list` (which instances rest);
-//! `restarter`.
+//! `forgotten` (runs that are needed no more); `restarter`.
 #![tactic(auto)]
 
 mod answers;
 mod changes;
 mod ends;
+mod forgotten;
 mod known;
 mod orders;
 mod replies;

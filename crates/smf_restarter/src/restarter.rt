@@ -3,6 +3,7 @@ ghost use Rattle.std.specs.Prelude.{◌≡◌, ◌+◌, ◌<◌, ◌≤◌, ◌�
 ghost use Rattle.smf_fmri.specs.ByKey.{list_with_item, put_all};
 ghost use Rattle.smf_restarter.specs.Answers.{change_on_answer, change_on_list, change_on_report, timed_out};
 ghost use Rattle.smf_restarter.specs.Changes.{knowledge_after, instances_without, nothing, phase_on, instances_after_turn, no_change};
+ghost use Rattle.smf_restarter.specs.Forgotten.{without_past_runs};
 ghost use Rattle.smf_restarter.specs.Knowledge.{at_first, by_instance, by_run, known_instance};
 ghost use Rattle.smf_restarter.specs.Replies.{reply_to_message};
 ghost use Rattle.smf_restarter.specs.Room.{HasPlace, IsSpawn, needs_memory};
@@ -10,6 +11,7 @@ ghost use Rattle.smf_restarter.specs.Ticks.{at_rest, own_tick, reply_to_tick};
 ghost use Rattle.smf_restarter.specs.Watched.{IsOrdered, IsWatched, restless};
 
 use crate::answers::{change_on_answer, change_on_list, change_on_report, timed_out};
+use crate::forgotten::keep_needed;
 use crate::known::{KnownInstance, KnownRun, Phase, Stage};
 use crate::replies::reply_to_message;
 use crate::reply::{Answer, Course, CourseChange, KnowledgeChange, Ready, Reply};
@@ -270,9 +272,9 @@ impl Restarter {
         Ok(())
     }
 
-    /// Makes the tick of an instance ahead, in place of another, and room for one instance and one run if it is not
-    /// there. Then neither that tick nor its answer nor the next report needs memory. If memory runs out it knows what it
-    /// knew.
+    /// Makes the tick of an instance ahead, in place of another, and room for one instance and one run. It takes memory
+    /// only if room for the one or for the other is not there, or if the tick needs memory. Then neither that tick nor
+    /// its answer nor the next report needs memory. If memory runs out it knows what it knew.
     pub fn reserve_tick(&mut self, instance: u64) -> Result<(), AllocError>
         ensures known { self.new.known ≡ self.old.known }
         ensures ready { OnOk result (self.new.ready ≡ Some instance) }
@@ -340,6 +342,14 @@ impl Restarter {
         forget_in(&mut self.instances, &mut self.restless, &self.runs, forget);
         self.instances_room = 0;
         self.runs_room = 0;
+        set_ready(&mut self.ready, None);
+    }
+
+    /// Forgets the runs that are over: their contracts have no members, and neither a row nor a method asks for them.
+    pub fn forget_runs(&mut self)
+        ensures { self.new.known ≡ without_past_runs self.old.known }
+    {
+        keep_needed(&mut self.runs, &self.instances);
         set_ready(&mut self.ready, None);
     }
 
