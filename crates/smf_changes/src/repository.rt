@@ -63,6 +63,17 @@ impl<J: Journal> Repository<J> {
         self.plain
     }
 
+    /// Drops the record of changes. The view is worked out again when it is kept next.
+    pub fn forget_changes(&mut self)
+        ensures held { self.new.held ≡ self.old.held }
+        ensures journal { self.new.journal ≡ self.old.journal }
+        ensures recent { self.new.recent ≡ [] }
+    {
+        self.kept.recent.clear();
+        self.kept.stale = None;
+        self.kept.shown = None;
+    }
+
     /// Makes changes and records which instances they touch. The journal is written first, and an error leaves the
     /// repository and its record. If there are no changes the journal is not called.
     pub fn commit(&mut self, changes: Items<Change>) -> Result<(), RepoFault>
