@@ -25,11 +25,11 @@ use Rattle.smf_past.proofs.LivedWorlds.{past_booted}
 use Rattle.smf_past.proofs.StandingWorlds.{all_safe, going_stands}
 use Rattle.smf_contract.proofs.After.{calls_order}
 
-goes_later : (us : List World) (base w v : World) → GoesOn base us w → Comes w v → GoesOn base us v
+pub goes_later : (us : List World) (base w v : World) → GoesOn base us w → Comes w v → GoesOn base us v
 goes_later [] base w v m c = comes_then base w v m c
 goes_later (u ∷ us) base w v m c = (m.0, m.1, goes_later us (forgotten u) w v m.2 c)
 
-goes_forgotten : (us : List World) (base w : World) → GoesOn base us w → IsCaughtUp w
+pub goes_forgotten : (us : List World) (base w : World) → GoesOn base us w → IsCaughtUp w
     → GoesOn base (us ++ w ∷ []) (forgotten w)
 goes_forgotten [] base w m up = (m, up, comes_self (forgotten w))
 goes_forgotten (u ∷ us) base w m up = (m.0, m.1, goes_forgotten us (forgotten u) w m.2 up)

@@ -11,3 +11,4 @@ pub mod FoundTables
 pub mod ThinTables
 pub mod StandingWorlds
 pub mod BegunWorlds
+pub mod RemainingWorlds

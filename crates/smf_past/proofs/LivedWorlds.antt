@@ -102,7 +102,7 @@ left_less v t s =
       trail = refl;
       restarters = none_left refl;
       seen = inr refl;
-      table = inr s;
+      table = inr (inr s);
     }
 
 pub past_continued : (p v : World) (t : Contracts) → HasPast p v → IsStillThere t v.table

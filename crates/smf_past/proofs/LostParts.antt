@@ -40,7 +40,9 @@ use Rattle.smf_safety.proofs.KnowStaged.{IsAlike, informed_alike}
 use Rattle.smf_safety.proofs.LiveKnown.{IsTrue, empty_is_dead}
 use Rattle.smf_safety.proofs.LiveTrue.{KnowsWell}
 use Rattle.smf_safety.proofs.TablesClauses.{EmptyIsEmpty, IsHeldLive, IsSpawned, IsTable, Tag, tag_of, tags}
-use Rattle.smf_past.specs.Losses.{AllKnowLess, AreLess, IsAmong, IsLess, IsRun, IsStillThere, IsThere, KnowsLess, SaysEmpty, as_before, know_less, none_left}
+use Rattle.smf_restarter.specs.Forgotten.{IsRun}
+use Rattle.smf_past.specs.Losses.{AllKnowLess, AreLess, IsAmong, IsLess, IsStillThere, IsThere, KeepsTable, KnowsLess, SaysEmpty, as_before, know_less, none_left}
+use Rattle.smf_past.proofs.ThinTables.{thinned_still}
 use Rattle.smf_world.proofs.Honest.{Honest, first_honest, honest_event}
 
 -- ---- all that stands
@@ -470,7 +472,10 @@ good_less w v l g =
     with_seen u (inl e) is = subst (λ (o : Option View). IsGood (record u { seen = o })) (sym e) is
     with_seen u (inr e) is = subst (λ (o : Option View). IsGood (record u { seen = o })) (sym e) (blind_good u is)
 
-    with_table : (u : World) → (v.table ≡ u.table) ⊎ IsStillThere v.table u.table → IsGood u
-        → IsGood (record u { table = v.table })
+    with_table : (u : World) → KeepsTable v.table u.table → IsGood u → IsGood (record u { table = v.table })
     with_table u (inl e) is = subst (λ (t : Contracts). IsGood (record u { table = t })) (sym e) is
-    with_table u (inr s) is = tabled_good u v.table s is
+    with_table u (inr (inl e)) is =
+        tabled_good u v.table
+        (subst (λ (t : Contracts). IsStillThere t u.table) (sym e)
+        (thinned_still u.table is.lives.table.ordered is.lives.table.empty is.inherit)) is
+    with_table u (inr (inr s)) is = tabled_good u v.table s is

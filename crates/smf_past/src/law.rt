@@ -7,7 +7,9 @@ ghost use Rattle.smf_contract.specs.declared.found.Found.{Found as AnyFound};
 ghost use Rattle.smf_model.specs.Contents.{Holdings};
 ghost use Rattle.smf_past.specs.Lived.{HasPast, continued, left_of};
 ghost use Rattle.smf_past.specs.Lives.{GoesOn, all_past};
-ghost use Rattle.smf_past.specs.Losses.{Comes, IsCome, IsLess, IsStillThere, thinned};
+ghost use Rattle.smf_past.specs.Losses.{Comes, IsCome, IsLess, IsStillThere};
+ghost use Rattle.smf_past.specs.Remains.{remains};
+ghost use Rattle.smf_contract.specs.Thinned.{thinned};
 ghost use Rattle.smf_contract.specs.Entries.{Contracts};
 ghost use Rattle.smf_world.specs.declared.event.Event.{Event as AnyEvent};
 ghost use Rattle.smf_world.specs.Happens.{happens};
@@ -70,9 +72,11 @@ pub fn a_past_may_be_forgotten_often()
         → AllByRecursion (λ c. c.terms.inherit ≡ true) t.contracts → GoesOn (continued h t) us v → DoesStand v }
 {}
 
-/// Contracts that have no members may go from the table.
+/// Contracts that have no members may go from the table. So may, with the past, the runs of restarters that are over.
 pub fn a_table_may_be_thinned()
-    ensures { (p v : World) → HasPast p v → HasPast p (record v { table = thinned v.table }) }
+    ensures table { (p v : World) → HasPast p v → HasPast p (record v { table = thinned v.table }) }
+    ensures lived { (p w : World) → HasPast p w → IsCaughtUp w → HasPast (glue p w) (remains w) }
+    ensures begun { (w : World) → IsBegun w → IsCaughtUp w → IsBegun (remains w) }
 {}
 
 /// All that a machine needs to know of its world stands of each world that comes of a beginning, whatever was before it.
