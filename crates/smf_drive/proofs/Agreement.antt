@@ -1,5 +1,5 @@
 -- Moves keep what children keep and what the node's world says in agreement.
-use Rattle.std.proofs.Common.{◌≡◌, ◌⊎◌, ℕ, zero, suc, ◌+◌, ◌==◌, inl, inr, Bool, true, false, cond, List, [], ◌∷◌, ◌++◌, map, filter, length, reverse, Option, Some, None, IfSome, is_some, option_map, Result, Ok, Err, refl, sym, ap, ◌∙◌, subst, arith, eq-eqb}
+use Rattle.std.proofs.Common.{◌≡◌, ◌⊎◌, ℕ, zero, suc, ◌+◌, ◌==◌, inl, inr, Bool, true, false, cond, List, [], ◌∷◌, ◌++◌, map, filter, length, reverse, Option, Some, None, IfSome, is_some, option_map, Result, Ok, Err, refl, sym, ap, ◌∙◌, subst, arith, append_assoc, eq-eqb}
 use Rattle.std.specs.Prelude.{find, flat_map}
 use Rattle.std.proofs.lemmas.Grind.{flat_map-append}
 use Rattle.std.proofs.lemmas.List.{append-nil, map_push}
@@ -60,7 +60,7 @@ use Rattle.smf_world.specs.World.{World, initial_world}
 use Rattle.smf_machine.specs.declared.requests.MethodRequest.TheVariants.{Spawn, Kill}
 use Rattle.smf_machine.specs.declared.children.Wanted.{Wanted}
 use Rattle.smf_machine.specs.declared.polls.News.{News}
-use Rattle.smf_drive.specs.Agrees.{Agrees, AreAlike, AreMade, ArePast, IsNoted, IsPast, Start, start_by, start_if}
+use Rattle.smf_drive.specs.Agrees.{Agrees, AgreesSince, AreAlike, AreMade, ArePast, Before, IsNoted, IsPast, Start, start_by, start_if}
 use Rattle.smf_machine.specs.Requests.{request_of_turn, asked_by, asked_of, first_of, is_held_by, is_instance, kill_if, spawn_request, wanted_in}
 use Rattle.smf_machine.specs.Children.{world_after_news, news, news_if, news_in, news_of, run_for, news_of_kind as told_of}
 use Rattle.smf_drive.specs.Moves.{AreMoves, IsMove, IsUnmade, Moves, is_alone}
@@ -108,8 +108,9 @@ pub table_of : (w : World) (e : Event) → (happens w e).table
 unfolding happens world_after
 table_of w e = refl
 
-noted_to : (ns : List Note) (es fs : List ContractEvent) → es ≡ fs → IsNoted ns es → IsNoted ns fs
-noted_to ns es fs e h = let P : List ContractEvent → Type 0 = λ xs. IsNoted ns xs in subst P e h
+noted_to : (gs : List ContractEvent) (ns : List Note) (es fs : List ContractEvent) → es ≡ fs → IsNoted gs ns es
+    → IsNoted gs ns fs
+noted_to gs ns es fs e h = let P : List ContractEvent → Type 0 = λ xs. IsNoted gs ns xs in subst P e h
 
 world_alike : (w v : World) (e : Event) (u : Contracts) → v ≡ happens w e
     → AreAlike (table_after_contract_call w.table (work_of_event w e).call) u → AreAlike v.table u
@@ -117,24 +118,26 @@ world_alike w v e u is a =
     let P : Contracts → Type 0 = λ x. AreAlike x u in
     subst P (sym (ap (λ x. x.table) is ∙ table_of w e)) a
 
-made_back : (runs : List Run) (t u : Contracts) → AreAlike t u → AreMade runs u.contracts → AreMade runs t.contracts
-made_back runs t u a h = made_alike runs u t (alike_back t u a) h
+made_back : (fs : List Contract) (runs : List Run) (t u : Contracts) → AreAlike t u → AreMade fs runs u.contracts
+    → AreMade fs runs t.contracts
+made_back fs runs t u a h = made_alike fs runs u t (alike_back t u a) h
 
-made_both : (runs : List Run) (t v u : Contracts) → AreAlike t u → AreAlike v u → AreMade runs t.contracts
-    → AreMade runs v.contracts
-made_both runs t v u a b h = made_back runs v u b (made_alike runs t u a h)
+made_both : (fs : List Contract) (runs : List Run) (t v u : Contracts) → AreAlike t u → AreAlike v u
+    → AreMade fs runs t.contracts → AreMade fs runs v.contracts
+made_both fs runs t v u a b h = made_back fs runs v u b (made_alike fs runs t u a h)
 
 -- nothing changes of what children know of
-pub agree_quiet : (w v : World) (e : Event) (l : Ledger) → v ≡ happens w e → IsQuiet w.table (work_of_event w e).call
-    → Agrees w l → Agrees v l
-agree_quiet w v e l is q a =
+pub agree_quiet : {b : Before} (w v : World) (e : Event) (l : Ledger) → v ≡ happens w e → IsQuiet w.table (work_of_event w e).call
+    → AgreesSince b w l → AgreesSince b v l
+agree_quiet {b} w v e l is q a =
     let alike : AreAlike v.table l.table = world_alike w v e l.table is (q.alike l.table a.alike) in
     record {
-      starts = ap (λ x. starts (reverse x.trail)) is ∙ no_starts w e q.no_run ∙ a.starts;
-      made = made_both (record_of l.notes).runs w.table v.table l.table a.alike alike a.made;
+      starts = ap (λ x. b.starts ++ starts (reverse x.trail)) is ∙ ap (λ xs. b.starts ++ xs) (no_starts w e q.no_run)
+          ∙ a.starts;
+      made = made_both b.table.contracts (record_of l.notes).runs w.table v.table l.table a.alike alike a.made;
       counted = alike.last_process ∙ sym a.alike.last_process ∙ a.counted;
       alike = alike;
-      noted = noted_to l.notes w.table.events v.table.events (a.alike.events ∙ sym alike.events) a.noted;
+      noted = noted_to b.table.events l.notes w.table.events v.table.events (a.alike.events ∙ sym alike.events) a.noted;
       past = a.past;
       ordered = a.ordered;
     }
@@ -477,10 +480,10 @@ kill_called : (t u : Contracts) (id : ℕ) → result_of_kill t 0 id ≡ Ok u
 unfolding table_after_contract_call
 kill_called t u id h = sym (ap (left_by t) h)
 
-agree_spawned : (w v : World) (name : List ℕ) (n : ℕ) (want : Wanted) (l m : Ledger)
+agree_spawned : {b : Before} (w v : World) (name : List ℕ) (n : ℕ) (want : Wanted) (l m : Ledger)
     → request_of_turn w name n ≡ Spawn want → IsSpawned (run_for want) l m
-    → v ≡ happens w (events.Tick name n spawns.Made) → Agrees w l → Agrees v m
-agree_spawned w v name n want l m asks s is a =
+    → v ≡ happens w (events.Tick name n spawns.Made) → AgreesSince b w l → AgreesSince b v m
+agree_spawned {b} w v name n want l m asks s is a =
     let e : Event = events.Tick name n spawns.Made in
     let r = run_is w name n want asks in
     let run : Run = run_for want in
@@ -494,33 +497,36 @@ agree_spawned w v name n want l m asks s is a =
     let alike : AreAlike v.table m.table =
     world_alike w v e m.table is
     (subst P (sym r.call) (alike_spawn w.table l.table m.table r.actor want.cookie want.terms _ a.alike s.made)) in
-    let Q : List Note → Type 0 = λ ns. IsNoted ns l.table.events in
+    let Q : List Note → Type 0 = λ ns. IsNoted b.table.events ns l.table.events in
     let R : List ContractEvent → Type 0 = λ es. ArePast m.table es in
     record {
-      starts = ap (λ x. starts (reverse x.trail)) is
-          ∙ first_starts w e r.first want.contract r.actor want.cookie want.terms r.rest r.call r.items r.some
+      starts = ap (λ x. b.starts ++ starts (reverse x.trail)) is
+          ∙ ap (λ xs. b.starts ++ xs)
+          (first_starts w e r.first want.contract r.actor want.cookie want.terms r.rest r.call r.items r.some)
+          ∙ sym (append_assoc b.starts (starts (reverse w.trail))
+          (record { contract = want.contract; cookie = Ok want.cookie; command = r.first.command } ∷ []))
           ∙ ap (λ xs. xs ++ record { contract = want.contract; cookie = Ok want.cookie; command = r.first.command }
           ∷ []) a.starts
           ∙ ap (λ c. map start_by (record_of l.notes).runs
           ++ record { contract = want.contract; cookie = Ok want.cookie; command = c } ∷ []) (sym r.command)
           ∙ sym (ap (λ ns. map start_by (record_of ns).runs) notes_are ∙ runs_more l.notes run);
-      made = made_back (record_of m.notes).runs v.table m.table alike
-          (made_to ((record_of l.notes).runs ++ run ∷ []) (record_of m.notes).runs
+      made = made_back b.table.contracts (record_of m.notes).runs v.table m.table alike
+          (made_to b.table.contracts ((record_of l.notes).runs ++ run ∷ []) (record_of m.notes).runs
           (l.table.contracts ++ bond ∷ []) m.table.contracts
           (ap (λ ns. (record_of ns).runs) notes_are ∙ runs_made l.notes run)
           (ap (λ t. t.contracts) shape.is)
-          (made_more (record_of l.notes).runs run l.table.contracts bond
+          (made_more b.table.contracts (record_of l.notes).runs run l.table.contracts bond
           (ap (λ c. record { contract = c; cookie = want.cookie; terms = want.terms }) shape.contract_is)
-          (made_alike (record_of l.notes).runs w.table l.table a.alike a.made)));
+          (made_alike b.table.contracts (record_of l.notes).runs w.table l.table a.alike a.made)));
       counted = alike.last_process
-          ∙ counted_more l.notes (notes.Made run ∷ []) l.table.last_process m.table.last_process 1
+          ∙ counted_more b.table.last_process l.notes (notes.Made run ∷ []) l.table.last_process m.table.last_process 1
           (sym a.alike.last_process ∙ a.counted) (ap (λ t. t.last_process) shape.is ∙ shape.number) refl
-          ∙ ap given (sym notes_are);
+          ∙ ap (λ ns. b.table.last_process + given ns) (sym notes_are);
       alike = alike;
-      noted = noted_to m.notes l.table.events v.table.events (sym (alike.events ∙ ap (λ t. t.events) shape.is))
+      noted = noted_to b.table.events m.notes l.table.events v.table.events (sym (alike.events ∙ ap (λ t. t.events) shape.is))
           (subst Q (sym notes_are)
-          (noted_run l.notes run l.table.events
-          (noted_to l.notes w.table.events l.table.events a.alike.events a.noted)));
+          (noted_run b.table.events l.notes run l.table.events
+          (noted_to b.table.events l.notes w.table.events l.table.events a.alike.events a.noted)));
       past = subst R (sym due)
           (still_past l.table m.table l.due
           (spawned_later l.table m.table shape.id shape.process (ap (λ t. t.members) shape.is)
@@ -594,9 +600,9 @@ pub not_run : (a b : ContractCall) → a ≡ b → (IsSpawn b → ⊥) → (acto
     → a ≡ calls.Spawn actor cookie terms → ⊥
 not_run a b same other = other_call a (λ x. other (let P : ContractCall → Type 0 = IsSpawn in subst P same x))
 
-agree_killed : (w v : World) (name : List ℕ) (n id : ℕ) (l m : Ledger) → request_of_turn w name n ≡ Kill id
-    → IsKilled id l m → v ≡ happens w (events.Tick name n spawns.Made) → Agrees w l → Agrees v m
-agree_killed w v name n id l m asks s is a =
+agree_killed : {b : Before} (w v : World) (name : List ℕ) (n id : ℕ) (l m : Ledger) → request_of_turn w name n ≡ Kill id
+    → IsKilled id l m → v ≡ happens w (events.Tick name n spawns.Made) → AgreesSince b w l → AgreesSince b v m
+agree_killed {b} w v name n id l m asks s is a =
     let e : Event = events.Tick name n spawns.Made in
     let r = kill_is w name n id asks in
     let kill : Note = notes.Killed (record { contract = id; ends = _ }) in
@@ -607,29 +613,30 @@ agree_killed w v name n id l m asks s is a =
     let alike : AreAlike v.table m.table =
     world_alike w v e m.table is
     (subst P (sym r.is) (alike_kill w.table l.table m.table r.actor id a.alike r.mine s.killed)) in
-    let Q : List Note → Type 0 = λ ns. IsNoted ns (killed_all l.table id).events in
+    let Q : List Note → Type 0 = λ ns. IsNoted b.table.events ns (killed_all l.table id).events in
     let R : List ContractEvent → Type 0 = λ es. ArePast m.table es in
     let S : Contracts → Type 0 = λ t. ArePast t (filter (is_other_event id) l.due) in
     record {
-      starts = ap (λ x. starts (reverse x.trail)) is
-          ∙ no_starts w e (not_run (work_of_event w e).call (calls.Kill r.actor id) r.is (λ x. x))
+      starts = ap (λ x. b.starts ++ starts (reverse x.trail)) is
+          ∙ ap (λ xs. b.starts ++ xs)
+          (no_starts w e (not_run (work_of_event w e).call (calls.Kill r.actor id) r.is (λ x. x)))
           ∙ a.starts
           ∙ sym (ap (λ ns. map start_by (record_of ns).runs) notes_are ∙ no_runs l.notes (kill ∷ []) refl);
-      made = made_back (record_of m.notes).runs v.table m.table alike
-          (made_to (record_of l.notes).runs (record_of m.notes).runs l.table.contracts m.table.contracts
+      made = made_back b.table.contracts (record_of m.notes).runs v.table m.table alike
+          (made_to b.table.contracts (record_of l.notes).runs (record_of m.notes).runs l.table.contracts m.table.contracts
           (ap (λ ns. (record_of ns).runs) notes_are ∙ runs_stay l.notes (kill ∷ []) refl)
           (ap (λ t. t.contracts) table)
-          (made_alike (record_of l.notes).runs w.table l.table a.alike a.made));
+          (made_alike b.table.contracts (record_of l.notes).runs w.table l.table a.alike a.made));
       counted = alike.last_process
-          ∙ counted_more l.notes (kill ∷ []) l.table.last_process m.table.last_process 0
+          ∙ counted_more b.table.last_process l.notes (kill ∷ []) l.table.last_process m.table.last_process 0
           (sym a.alike.last_process ∙ a.counted)
           (ap (λ t. t.last_process) table ∙ none_more l.table.last_process) refl
-          ∙ ap given (sym notes_are);
+          ∙ ap (λ ns. b.table.last_process + given ns) (sym notes_are);
       alike = alike;
-      noted = noted_to m.notes (killed_all l.table id).events v.table.events
+      noted = noted_to b.table.events m.notes (killed_all l.table id).events v.table.events
           (sym (alike.events ∙ ap (λ t. t.events) table))
           (subst Q (sym notes_are)
-          (noted_kill l.notes l.table id (noted_to l.notes w.table.events l.table.events a.alike.events a.noted)));
+          (noted_kill b.table.events l.notes l.table id (noted_to b.table.events l.notes w.table.events l.table.events a.alike.events a.noted)));
       past = subst R (sym due)
           (subst S (sym table)
           (still_past l.table (killed_all l.table id) (filter (is_other_event id) l.due) (killed_later l.table id)
@@ -656,18 +663,17 @@ no_news : (t u : Contracts) (e : ContractEvent) → t.members ≡ u.members → 
 unfolding news_of
 no_news t u e same h = past_news t u e.contract e.kind same h
 
-agree_given : (w v : World) (e : ContractEvent) (l m : Ledger) → IsGiven e l m
-    → v ≡ world_after_news (news_of w.table e) w → Agrees w l → Agrees v m
-agree_given w v e l m g is a =
+agree_given : {b : Before} (w v : World) (e : ContractEvent) (l m : Ledger) → IsGiven e l m
+    → v ≡ world_after_news (news_of w.table e) w → AgreesSince b w l → AgreesSince b v m
+agree_given {b} w v e l m g is a =
     let P : List ContractEvent → Type 0 = λ es. ArePast l.table es in
     let past : ArePast l.table (e ∷ m.due) = subst P g.next a.past in
     let none : news_of w.table e ≡ None = no_news w.table l.table e a.alike.members past.0 in
     let world : v ≡ w = is ∙ ap (λ o. world_after_news o w) none in
-    let Q : World → Type 0 = λ x. Agrees x m in
-    let R : Ledger → Type 0 = λ k. ArePast k.table m.due → Agrees w k in
+    let Q : World → Type 0 = λ x. AgreesSince b x m in
     let table : m.table ≡ l.table = ap (λ k. k.table) g.is in
     let S : Contracts → Type 0 = λ t. ArePast t m.due in
-    let same : Agrees w (record l { due = m.due }) =
+    let same : AgreesSince b w (record l { due = m.due }) =
     record {
       starts = a.starts;
       made = a.made;
@@ -677,7 +683,7 @@ agree_given w v e l m g is a =
       past = past.1;
       ordered = a.ordered;
     } in
-    let T : Ledger → Type 0 = λ k. Agrees w k in
+    let T : Ledger → Type 0 = λ k. AgreesSince b w k in
     subst Q (sym world) (subst T (sym g.is) same)
 
 -- ---- an event that is found
@@ -787,9 +793,9 @@ call_process : (w : World) (p : ℕ) (what : ProcessEvent)
 unfolding work_of_event work_of_call
 call_process w p what = refl
 
-agree_found : (w v : World) (e : ContractEvent) (l m : Ledger) → IsFound e l m
-    → v ≡ world_after_news (news_of w.table e) w → Agrees w l → Agrees v m
-agree_found w v e l m f is a =
+agree_found : {b : Before} (w v : World) (e : ContractEvent) (l m : Ledger) → IsFound e l m
+    → v ≡ world_after_news (news_of w.table e) w → AgreesSince b w l → AgreesSince b v m
+agree_found {b} w v e l m f is a =
     let tells = telling l.table m.table e.contract f.process f.happening e m.due a.ordered f.member f.table f.brought in
     let s = said_by w.table l.table f.happening f.process e a.alike a.ordered f.member tells.kind in
     let event : Event = events.Process s.process s.what in
@@ -800,44 +806,45 @@ agree_found w v e l m f is a =
     let Q : Contracts → Type 0 = λ t. AreAlike (table_after_contract_call w.table (process_call s.process s.what)) t in
     let alike : AreAlike v.table m.table =
     world_alike w v event m.table world (subst P (sym call) (subst Q (s.same ∙ sym f.table) s.alike)) in
-    let R : List Note → Type 0 = λ ns. IsNoted ns (l.table.events ++ e ∷ m.due) in
+    let R : List Note → Type 0 = λ ns. IsNoted b.table.events ns (l.table.events ++ e ∷ m.due) in
     record {
-      starts = ap (λ x. starts (reverse x.trail)) world
-          ∙ no_starts w event (not_run (work_of_event w event).call (process_call s.process s.what) call s.plain)
+      starts = ap (λ x. b.starts ++ starts (reverse x.trail)) world
+          ∙ ap (λ xs. b.starts ++ xs)
+          (no_starts w event (not_run (work_of_event w event).call (process_call s.process s.what) call s.plain))
           ∙ a.starts
           ∙ sym (ap (λ ns. map start_by (record_of ns).runs) notes_are
           ∙ no_runs l.notes (map notes.Found (e ∷ m.due)) (found_no_runs (e ∷ m.due)));
-      made = made_back (record_of m.notes).runs v.table m.table alike
-          (made_to (record_of l.notes).runs (record_of m.notes).runs l.table.contracts m.table.contracts
+      made = made_back b.table.contracts (record_of m.notes).runs v.table m.table alike
+          (made_to b.table.contracts (record_of l.notes).runs (record_of m.notes).runs l.table.contracts m.table.contracts
           (ap (λ ns. (record_of ns).runs) notes_are
           ∙ runs_stay l.notes (map notes.Found (e ∷ m.due)) (found_no_runs (e ∷ m.due)))
           tells.contracts
-          (made_alike (record_of l.notes).runs w.table l.table a.alike a.made));
+          (made_alike b.table.contracts (record_of l.notes).runs w.table l.table a.alike a.made));
       counted = alike.last_process
-          ∙ counted_more l.notes (map notes.Found (e ∷ m.due)) l.table.last_process m.table.last_process
+          ∙ counted_more b.table.last_process l.notes (map notes.Found (e ∷ m.due)) l.table.last_process m.table.last_process
           (length (forks_by e.contract e.kind))
           (sym a.alike.last_process ∙ a.counted) tells.last (found_given m.table e m.due tells.past)
-          ∙ ap given (sym notes_are);
+          ∙ ap (λ ns. b.table.last_process + given ns) (sym notes_are);
       alike = alike;
-      noted = noted_to m.notes (l.table.events ++ e ∷ m.due) v.table.events (sym (alike.events ∙ tells.events))
+      noted = noted_to b.table.events m.notes (l.table.events ++ e ∷ m.due) v.table.events (sym (alike.events ∙ tells.events))
           (subst R (sym notes_are)
-          (noted_found l.notes l.table.events (e ∷ m.due)
-          (noted_to l.notes w.table.events l.table.events a.alike.events a.noted)));
+          (noted_found b.table.events l.notes l.table.events (e ∷ m.due)
+          (noted_to b.table.events l.notes w.table.events l.table.events a.alike.events a.noted)));
       past = tells.past;
       ordered = ordered_by l.table m.table (call_for f.process f.happening) f.table a.ordered;
     }
 
 -- ---- moves
 
-pub agree_as : (v : World) (l m : Ledger) → m ≡ l → Agrees v l → Agrees v m
-agree_as v l m e a = let P : Ledger → Type 0 = λ k. Agrees v k in subst P (sym e) a
+pub agree_as : {b : Before} (v : World) (l m : Ledger) → m ≡ l → AgreesSince b v l → AgreesSince b v m
+agree_as {b} v l m e a = let P : Ledger → Type 0 = λ k. AgreesSince b v k in subst P (sym e) a
 
-agree_polled : (w v : World) (e : ContractEvent) (l m : Ledger) → IsPolled (Some e) l m
-    → v ≡ world_after_news (news_of w.table e) w → Agrees w l → Agrees v m
+agree_polled : {b : Before} (w v : World) (e : ContractEvent) (l m : Ledger) → IsPolled (Some e) l m
+    → v ≡ world_after_news (news_of w.table e) w → AgreesSince b w l → AgreesSince b v m
 agree_polled w v e l m (inl g) is a = agree_given w v e l m g is a
 agree_polled w v e l m (inr f) is a = agree_found w v e l m f is a
 
-agree_move : (w v : World) (l m : Ledger) → IsMove w v l m → Agrees w l → Agrees v m
+agree_move : {b : Before} (w v : World) (l m : Ledger) → IsMove w v l m → AgreesSince b w l → AgreesSince b v m
 agree_move w v l m (alone e part is same) a =
     agree_as v l m same
     (agree_quiet w v e l is
@@ -850,12 +857,12 @@ agree_move w v l m (kills name n id asks with_new_contract is) a =
     agree_killed w v name n id l m asks with_new_contract is a
 agree_move w v l m (polled e initial_world is) a = agree_polled w v e l m initial_world is a
 
-agree_by : (k : ℕ) (w v : World) (l m : Ledger) → AreMoves k w v l m → Agrees w l → Agrees v m
-agree_by zero w v l m h a = let P : World → Type 0 = λ x. Agrees x m in subst P (sym h.0) (agree_as w l m h.1 a)
-agree_by (suc k) w v l m h a = agree_by k h.0 v h.1 m h.3 (agree_move w h.0 l h.1 h.2 a)
+agree_by : {b : Before} (k : ℕ) (w v : World) (l m : Ledger) → AreMoves k w v l m → AgreesSince b w l → AgreesSince b v m
+agree_by {b} zero w v l m h a = let P : World → Type 0 = λ x. AgreesSince b x m in subst P (sym h.0) (agree_as w l m h.1 a)
+agree_by {b} (suc k) w v l m h a = agree_by k h.0 v h.1 m h.3 (agree_move w h.0 l h.1 h.2 a)
 
-pub agree_moves : (w v : World) (l m : Ledger) → Moves w v l m → Agrees w l → Agrees v m
-agree_moves w v l m h a = agree_by h.0 w v l m h.1 a
+pub agree_moves : {b : Before} (w v : World) (l m : Ledger) → Moves w v l m → AgreesSince b w l → AgreesSince b v m
+agree_moves {b} w v l m h a = agree_by h.0 w v l m h.1 a
 
 -- ---- a first boot
 
@@ -888,8 +895,8 @@ agree_first h =
     let parts = fresh_by (work_of_event w events.Boot).call (boot_call w) in
     let table : (happens w events.Boot).table ≡ empty = table_of w events.Boot ∙ parts.0 in
     let P : Contracts → Type 0 = λ t. AreAlike t empty in
-    let Q : Contracts → Type 0 = λ t. IsNoted [] t.events in
-    let R : Contracts → Type 0 = λ t. AreMade [] t.contracts in
+    let Q : Contracts → Type 0 = λ t. IsNoted [] [] t.events in
+    let R : Contracts → Type 0 = λ t. AreMade [] [] t.contracts in
     record {
       starts = no_starts w events.Boot (other_call (work_of_event w events.Boot).call parts.1);
       made = subst R (sym table) ([], refl);

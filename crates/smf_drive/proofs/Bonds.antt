@@ -24,18 +24,21 @@ bonds_same : (cs ds : List Contract) → map contract_without_holder cs ≡ map 
     → map bond_of cs ≡ map bond_of ds
 bonds_same cs ds e = bonds_unheld cs ∙ ap (map bond_of) e ∙ sym (bonds_unheld ds)
 
-pub made_alike : (runs : List Run) (t u : Contracts) → AreAlike t u → AreMade runs t.contracts
-    → AreMade runs u.contracts
-made_alike runs t u a h = (h.0, h.1 ∙ ap (λ xs. h.0 ++ xs) (bonds_same t.contracts u.contracts a.contracts))
+pub made_alike : (fs : List Contract) (runs : List Run) (t u : Contracts) → AreAlike t u → AreMade fs runs t.contracts
+    → AreMade fs runs u.contracts
+made_alike fs runs t u a h = (h.0, h.1 ∙ ap (λ xs. h.0 ++ xs) (bonds_same t.contracts u.contracts a.contracts))
 
-pub made_to : (runs more : List Run) (cs ds : List Contract) → more ≡ runs → ds ≡ cs → AreMade runs cs → AreMade more ds
-made_to runs more cs ds same is h = (h.0, ap (map bond_by) same ∙ h.1 ∙ ap (λ xs. h.0 ++ map bond_of xs) (sym is))
+pub made_to : (fs : List Contract) (runs more : List Run) (cs ds : List Contract) → more ≡ runs → ds ≡ cs
+    → AreMade fs runs cs → AreMade fs more ds
+made_to fs runs more cs ds same is h =
+    (h.0, ap (λ rs. map bond_of fs ++ map bond_by rs) same ∙ h.1 ∙ ap (λ xs. h.0 ++ map bond_of xs) (sym is))
 
-pub made_more : (runs : List Run) (run : Run) (cs : List Contract) (c : Contract) → bond_by run ≡ bond_of c
-    → AreMade runs cs → AreMade (runs ++ run ∷ []) (cs ++ c ∷ [])
-made_more runs run cs c e h = (
+pub made_more : (fs : List Contract) (runs : List Run) (run : Run) (cs : List Contract) (c : Contract)
+    → bond_by run ≡ bond_of c → AreMade fs runs cs → AreMade fs (runs ++ run ∷ []) (cs ++ c ∷ [])
+made_more fs runs run cs c e h = (
   h.0,
-  map_push bond_by runs run
+  ap (λ xs. map bond_of fs ++ xs) (map_push bond_by runs run)
+      ∙ sym (append_assoc (map bond_of fs) (map bond_by runs) (bond_by run ∷ []))
       ∙ ap (λ xs. xs ++ bond_by run ∷ []) h.1
       ∙ append_assoc h.0 (map bond_of cs) (bond_by run ∷ [])
       ∙ ap (λ xs. h.0 ++ xs) (ap (λ b. map bond_of cs ++ b ∷ []) e ∙ sym (map_push bond_of cs c)),
@@ -63,12 +66,9 @@ given_more ns ms =
     omega (arith, runs, forks)
 
 -- so many numbers were given, and so many more are
-pub counted_more : (ns ms : List Note) (last next n : ℕ) → last ≡ given ns → next ≡ last + n → n ≡ given ms
-    → next ≡ given (ns ++ ms)
-counted_more ns ms last next n a b c = let all = given_more ns ms in omega (arith, a, b, c, all)
-
-pub counted_to : (ns ms : List Note) (last next : ℕ) → ms ≡ ns → next ≡ last → last ≡ given ns → next ≡ given ms
-counted_to ns ms last next same is h = is ∙ h ∙ ap given (sym same)
+pub counted_more : (base : ℕ) (ns ms : List Note) (last next n : ℕ) → last ≡ base + given ns → next ≡ last + n
+    → n ≡ given ms → next ≡ base + given (ns ++ ms)
+counted_more base ns ms last next n a b c = let all = given_more ns ms in omega (arith, a, b, c, all)
 
 past_kind : (t : Contracts) (id : ℕ) (kind : EventKind) → IsPast t kind → forks_by id kind ≡ []
 past_kind t id kinds.Empty h = refl

@@ -8,3 +8,5 @@ pub mod Bonds
 pub mod Starts
 pub mod Agreement
 pub mod Preservation
+pub mod Beginnings
+pub mod Agreeing

@@ -37,21 +37,21 @@ passed ns = flat_map passages_of ns
 abbrev pub told : List ContractEvent → List Passage
 told es = flat_map passages_in es
 
-pub noted_by : (ns ms : List Note) (es fs : List ContractEvent) (more : List Passage) → IsNoted ns es
-    → passed ms ≡ passed ns ++ more → told fs ≡ told es ++ more → IsNoted ms fs
-noted_by ns ms es fs more h a b =
-    (h.0, a ∙ ap (λ xs. xs ++ more) h.1 ∙ append_assoc h.0 (told es) more ∙ ap (λ xs. h.0 ++ xs) (sym b))
+pub noted_by : (gs : List ContractEvent) (ns ms : List Note) (es fs : List ContractEvent) (more : List Passage) → IsNoted gs ns es
+    → passed ms ≡ passed ns ++ more → told fs ≡ told es ++ more → IsNoted gs ms fs
+noted_by gs ns ms es fs more h a b =
+    (h.0, ap (λ xs. told gs ++ xs) a ∙ sym (append_assoc (told gs) (passed ns) more) ∙ ap (λ xs. xs ++ more) h.1 ∙ append_assoc h.0 (told es) more ∙ ap (λ xs. h.0 ++ xs) (sym b))
 
-pub noted_run : (ns : List Note) (run : _) (es : List ContractEvent) → IsNoted ns es
-    → IsNoted (ns ++ notes.Made run ∷ []) es
-noted_run ns run es h =
-    noted_by ns (ns ++ notes.Made run ∷ []) es es [] h (flat_map-append passages_of ns (notes.Made run ∷ []))
+pub noted_run : (gs : List ContractEvent) (ns : List Note) (run : _) (es : List ContractEvent) → IsNoted gs ns es
+    → IsNoted gs (ns ++ notes.Made run ∷ []) es
+noted_run gs ns run es h =
+    noted_by gs ns (ns ++ notes.Made run ∷ []) es es [] h (flat_map-append passages_of ns (notes.Made run ∷ []))
     (sym (append-nil (told es)))
 
-pub noted_found : (ns : List Note) (es fs : List ContractEvent) → IsNoted ns es
-    → IsNoted (ns ++ map notes.Found fs) (es ++ fs)
-noted_found ns es fs h =
-    noted_by ns (ns ++ map notes.Found fs) es (es ++ fs) (told fs) h
+pub noted_found : (gs : List ContractEvent) (ns : List Note) (es fs : List ContractEvent) → IsNoted gs ns es
+    → IsNoted gs (ns ++ map notes.Found fs) (es ++ fs)
+noted_found gs ns es fs h =
+    noted_by gs ns (ns ++ map notes.Found fs) es (es ++ fs) (told fs) h
     (flat_map-append passages_of ns (map notes.Found fs)
     ∙ ap (λ xs. passed ns ++ xs) (flat_map-map passages_of notes.Found fs))
     (flat_map-append passages_in es fs)
@@ -84,12 +84,12 @@ ended_events : (b : Bool) (t : Contracts) (id : ℕ)
 ended_events true t id = refl
 ended_events false t id = refl
 
-pub noted_kill : (ns : List Note) (t : Contracts) (id : ℕ) → IsNoted ns t.events
-    → IsNoted (ns ++ notes.Killed (record { contract = id; ends = processes id t.members }) ∷ [])
+pub noted_kill : (gs : List ContractEvent) (ns : List Note) (t : Contracts) (id : ℕ) → IsNoted gs ns t.events
+    → IsNoted gs (ns ++ notes.Killed (record { contract = id; ends = processes id t.members }) ∷ [])
     (killed_all t id).events
-noted_kill ns t id h =
+noted_kill gs ns t id h =
     let kill : Note = notes.Killed (record { contract = id; ends = processes id t.members }) in
-    noted_by ns (ns ++ kill ∷ []) t.events (killed_all t id).events (map (ended_in id) (processes id t.members)) h
+    noted_by gs ns (ns ++ kill ∷ []) t.events (killed_all t id).events (map (ended_in id) (processes id t.members)) h
     (flat_map-append passages_of ns (kill ∷ [])
     ∙ ap (λ xs. passed ns ++ xs) (append-nil (map (ended_in id) (processes id t.members))))
     (ap told (ended_events (has_members id t.members) t id)

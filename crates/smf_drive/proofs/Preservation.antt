@@ -32,7 +32,7 @@ use Rattle.smf_world.specs.World.{World}
 use Rattle.smf_world.proofs.LiveLists.{Each}
 use Rattle.smf_world.proofs.Scheduled.{on_world}
 use Rattle.smf_world.proofs.TablesInherit.{AllInherit, Inherits, happens_inherits, run_inherits}
-use Rattle.smf_drive.specs.Agrees.{Agrees, AreAlike, AreMade, IsNoted, bond_by, passages_of, contract_without_holder}
+use Rattle.smf_drive.specs.Agrees.{AgreesSince, AreAlike, AreMade, Before, IsNoted, bond_by, bond_of, passages_in, passages_of, contract_without_holder}
 use Rattle.smf_drive.specs.Moves.{Moves, is_alone}
 use Rattle.smf_drive.proofs.Agreement.{IsQuiet, agree_quiet, call_alone, not_run, ordered_by, other_call, quiet_as, quiet_nothing, table_of}
 use Rattle.smf_drive.proofs.Moves.{driven_moved}
@@ -131,15 +131,15 @@ quiet_apart w (events.Report c n) i a = quiet_alone w (events.Report c n) refl
 quiet_apart w (events.Timeout name n) i a = quiet_alone w (events.Timeout name n) refl
 quiet_apart w (events.Launch name) i a = quiet_alone w (events.Launch name) refl
 
-agree_all : (es : List Event) (w : World) (l : Ledger) → AllApart es → AllInherit w.table → Agrees w l
-    → Agrees (run es w) l
+agree_all : {b : Before} (es : List Event) (w : World) (l : Ledger) → AllApart es → AllInherit w.table → AgreesSince b w l
+    → AgreesSince b (run es w) l
 agree_all [] w l p i a = a
 agree_all (e ∷ es) w l p i a =
     agree_all es (happens w e) l p.1 (happens_inherits w e i)
     (agree_quiet w (happens w e) e l refl (quiet_apart w e i p.0) a)
 
-pub agree_apart : (w v : World) (l : Ledger) → IsApart w v → AllInherit w.table → Agrees w l → Agrees v l
-agree_apart w v l p i a = subst (λ (x : World). Agrees x l) p.2 (agree_all p.0 w l p.1 i a)
+pub agree_apart : {b : Before} (w v : World) (l : Ledger) → IsApart w v → AllInherit w.table → AgreesSince b w l → AgreesSince b v l
+agree_apart {b} w v l p i a = subst (λ (x : World). AgreesSince b x l) p.2 (agree_all p.0 w l p.1 i a)
 
 pub apart_inherits : (w v : World) → IsApart w v → AllInherit w.table → AllInherit v.table
 apart_inherits w v p i = subst (λ (x : World). AllInherit x.table) p.2 (run_inherits p.0 w i)
@@ -168,10 +168,10 @@ apart_on p e a = (e ∷ [], (a, tt), sym (on_world p e))
 
 -- ---- what happened to children, and is not told yet
 
-pub agree_pending : (w : World) (l m : Ledger) (id : ℕ) (h : Happening) → m ≡ ledger_with_member_event l id h
-    → Agrees w l → Agrees w m
-agree_pending w l m id h is a =
-    let there : Agrees w (ledger_with_member_event l id h) =
+pub agree_pending : {b : Before} (w : World) (l m : Ledger) (id : ℕ) (h : Happening) → m ≡ ledger_with_member_event l id h
+    → AgreesSince b w l → AgreesSince b w m
+agree_pending {b} w l m id h is a =
+    let there : AgreesSince b w (ledger_with_member_event l id h) =
     record {
       starts = a.starts;
       made = a.made;
@@ -181,7 +181,7 @@ agree_pending w l m id h is a =
       past = a.past;
       ordered = a.ordered;
     } in
-    subst (λ (k : Ledger). Agrees w k) (sym is) there
+    subst (λ (k : Ledger). AgreesSince b w k) (sym is) there
 
 -- ---- a boot that can happen
 
@@ -235,21 +235,25 @@ unfolding table_after_contract_call
 reboot_called t = refl
 
 -- a boot at which children dropped all that they had
-pub agree_boot : (w v : World) (l m : Ledger) → event_refusal w events.Boot ≡ None → v ≡ happens w events.Boot
-    → m ≡ ledger_after_boot l → Agrees w l → Agrees v m
-agree_boot w v l m taken is same a =
+pub agree_boot : {b : Before} (w v : World) (l m : Ledger) → event_refusal w events.Boot ≡ None → v ≡ happens w events.Boot
+    → m ≡ ledger_after_boot l → AgreesSince b w l → AgreesSince b v m
+agree_boot {b} w v l m taken is same a =
     let call = boot_calls w taken in
     let table : v.table ≡ table_after_reboot w.table =
     ap (λ (x : World). x.table) is ∙ table_of w events.Boot ∙ ap (table_after_contract_call w.table) call
     ∙ reboot_called w.table in
-    let Made : Contracts → Type 0 = λ t. AreMade (record_of l.notes).runs t.contracts in
+    let Made : Contracts → Type 0 = λ t. AreMade b.table.contracts (record_of l.notes).runs t.contracts in
     let Alike : Contracts → Type 0 = λ t. AreAlike t (table_after_reboot l.table) in
-    let Noted : Contracts → Type 0 = λ t. IsNoted l.notes t.events in
-    let there : Agrees v (ledger_after_boot l) = record {
-      starts = ap (λ (x : World). starts (reverse x.trail)) is
-          ∙ no_starts w events.Boot (not_run (work_of_event w events.Boot).call calls.Reboot call (λ x. x)) ∙ a.starts;
-      made = subst Made (sym table)
-          (map bond_by (record_of l.notes).runs, sym (append-nil (map bond_by (record_of l.notes).runs)));
+    let Noted : Contracts → Type 0 = λ t. IsNoted b.table.events l.notes t.events in
+    let there : AgreesSince b v (ledger_after_boot l) = record {
+      starts = ap (λ (x : World). b.starts ++ starts (reverse x.trail)) is
+          ∙ ap (λ xs. b.starts ++ xs)
+          (no_starts w events.Boot (not_run (work_of_event w events.Boot).call calls.Reboot call (λ x. x)))
+          ∙ a.starts;
+      made = subst Made (sym table) (
+        map bond_of b.table.contracts ++ map bond_by (record_of l.notes).runs,
+        sym (append-nil (map bond_of b.table.contracts ++ map bond_by (record_of l.notes).runs)),
+      );
       counted = ap (λ (t : Contracts). t.last_process) table ∙ a.counted;
       alike = subst Alike (sym table)
           (record {
@@ -259,8 +263,11 @@ agree_boot w v l m taken is same a =
             last_contract = a.alike.last_contract;
             last_process = a.alike.last_process;
           });
-      noted = subst Noted (sym table) (flat_map passages_of l.notes, sym (append-nil (flat_map passages_of l.notes)));
+      noted = subst Noted (sym table) (
+        flat_map passages_in b.table.events ++ flat_map passages_of l.notes,
+        sym (append-nil (flat_map passages_in b.table.events ++ flat_map passages_of l.notes)),
+      );
       past = tt;
       ordered = ordered_by l.table (table_after_reboot l.table) calls.Reboot (sym (reboot_called l.table)) a.ordered;
     } in
-    subst (λ (k : Ledger). Agrees v k) (sym same) there
+    subst (λ (k : Ledger). AgreesSince b v k) (sym same) there

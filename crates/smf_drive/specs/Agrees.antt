@@ -9,7 +9,7 @@ use Rattle.smf_contract.specs.declared.event.EventKind.TheVariants as kinds
 use Rattle.smf_contract.specs.declared.event.Exit.TheVariants.{Killed}
 use Rattle.smf_contract.specs.declared.terms.Terms.{Terms}
 use Rattle.smf_contract.specs.Cookies.{bits_of_cookie}
-use Rattle.smf_contract.specs.Entries.{Contracts, home}
+use Rattle.smf_contract.specs.Entries.{Contracts, empty, home}
 use Rattle.smf_contract.specs.Laws.{IsOrdered}
 use Rattle.smf_method.specs.declared.command.CommandText.{CommandText}
 use Rattle.smf_edge.specs.declared.note.Note.{Note}
@@ -71,10 +71,10 @@ bond_of c = record { contract = c.id; cookie = c.cookie; terms = c.terms }
 abbrev pub bond_by : Run → Bond
 bond_by run = record { contract = run.contract; cookie = run.cookie; terms = run.terms }
 
--- the runs that were made end with those of the contracts of the table, in order; those before them were made before a
--- boot
-abbrev pub AreMade : List Run → List Contract → Type 0
-AreMade runs cs = (earlier : List Bond) × (map bond_by runs ≡ earlier ++ map bond_of cs)
+-- the contracts that were found, and the runs that were made, end with the contracts of the table, in order; those before
+-- them were there before a boot
+abbrev pub AreMade : List Contract → List Run → List Contract → Type 0
+AreMade found runs cs = (earlier : List Bond) × (map bond_of found ++ map bond_by runs ≡ earlier ++ map bond_of cs)
 
 -- ---- processes
 
@@ -103,10 +103,12 @@ passages_of (notes.Made run) = []
 passages_of (notes.Found e) = passages_in e
 passages_of (notes.Killed kill) = map (ended_in kill.contract) kill.ends
 
--- the forks and ends that children noted last are those of the table's events; earlier ones are of a table before a
--- boot
-abbrev pub IsNoted : List Note → List ContractEvent → Type 0
-IsNoted ns es = (earlier : List Passage) × (flat_map passages_of ns ≡ earlier ++ flat_map passages_in es)
+-- the forks and ends that were found, and those that children noted, end with those of the table's events; earlier ones
+-- are of a table before a boot
+abbrev pub IsNoted : List ContractEvent → List Note → List ContractEvent → Type 0
+IsNoted found ns es =
+    (earlier : List Passage)
+    × (flat_map passages_in found ++ flat_map passages_of ns ≡ earlier ++ flat_map passages_in es)
 
 -- it says nothing, or of a process that has ended
 abbrev pub IsPast : Contracts → EventKind → Type 0
@@ -120,14 +122,39 @@ ArePast t (e ∷ es) = IsPast t e.kind × ArePast t es
 
 -- ---- a node and its children
 
--- The runs that were made are those of the trail, in order, and those of the contracts. Processes have the numbers of
--- the runs and forks. Both sides have the same contracts, members and events. The forks and ends that children noted,
+-- What was there before a trail and notes begin: the runs that children noted and the trail shows no more, and the
+-- contracts that were found.
+pub record Before : Type 0 where
+  pub starts : List Start
+  pub table : Contracts
+
+abbrev pub nothing_before : Before
+nothing_before = record { starts = []; table = empty }
+
+-- The runs that were made are those of the trail, in order, after those that it shows no more. The contracts are those
+-- that were found, and those of the runs. Processes have the numbers after those that were found, by the runs and forks.
+-- Both sides have the same contracts, members and events. The forks and ends that were found and that children noted,
 -- kills among them, are those of the events, in order. An event that is given later brings nothing more.
-pub record Agrees (w : World) (l : Ledger) : Type 0 where
-  pub starts : flat_map starts_of (reverse w.trail) ≡ map start_by (record_of l.notes).runs
-  pub made : AreMade (record_of l.notes).runs w.table.contracts
-  pub counted : w.table.last_process ≡ length (record_of l.notes).runs + length (record_of l.notes).forks
+pub record AgreesSince (b : Before) (w : World) (l : Ledger) : Type 0 where
+  pub starts : b.starts ++ flat_map starts_of (reverse w.trail) ≡ map start_by (record_of l.notes).runs
+  pub made : AreMade b.table.contracts (record_of l.notes).runs w.table.contracts
+  pub counted : w.table.last_process
+      ≡ b.table.last_process + (length (record_of l.notes).runs + length (record_of l.notes).forks)
   pub alike : AreAlike w.table l.table
-  pub noted : IsNoted l.notes w.table.events
+  pub noted : IsNoted b.table.events l.notes w.table.events
   pub past : ArePast l.table l.due
   pub ordered : IsOrdered l.table
+
+-- there was nothing before
+abbrev pub Agrees : World → Ledger → Type 0
+Agrees w l = AgreesSince nothing_before w l
+
+-- ---- beginnings
+
+-- contracts were there, and nothing was told yet
+abbrev pub before_over : Contracts → Before
+before_over t = record { starts = []; table = t }
+
+-- the trail is forgotten, and the notes stay
+abbrev pub before_trail : Before → World → Before
+before_trail b w = record b { starts = b.starts ++ flat_map starts_of (reverse w.trail) }

@@ -1,3 +1,4 @@
 pub mod Drives
 pub mod Moves
 pub mod Agrees
+pub mod Forgets

@@ -35,10 +35,10 @@ pub record IsBrought (id : ℕ) (old new : Contracts) : Type 0 where
   pub within : length old.events ≤ length new.events
 
 pub brought_by : (l : Ledger) (id p : ℕ) (h : Happening) (u : Contracts) → IsSound l
-    → length l.notes < 0x7fff_ffff_ffff_ffff → home l.table.members p ≡ Some id
+    → l.table.last_process < 0x7fff_ffff_ffff_ffff → home l.table.members p ≡ Some id
     → u ≡ table_after_contract_call l.table (call_of p h) → IsBrought id l.table u
 brought_by l id p h u s low member is =
-    let next = next_there l.table.last_process (omega (arith, low, s.numbered)) in
+    let next = next_there l.table.last_process low in
     let P : Contracts → Type 0 = Brings id h l.table in
     let b : Brings id h l.table u =
     subst P (sym is) (call_brings l.table id p h next s.ordered.members_ascend member) in
@@ -138,10 +138,10 @@ pending_member l d rest s e =
     rw (found_is (is_in id) l.table.members) (some_first id l.table.members some)
 
 -- an event that was told and one that was found keep the ledger sound
-pub sound_told : (e : ContractEvent) (old new : Ledger) → length old.notes < 0x7fff_ffff_ffff_ffff → IsSound old
+pub sound_told : (e : ContractEvent) (old new : Ledger) → old.table.last_process < 0x7fff_ffff_ffff_ffff → IsSound old
     → IsFound e old new → IsSound new
 sound_told e old new low s h =
-    sound_found e old new (next_there old.table.last_process (omega (arith, low, s.numbered))) s h
+    sound_found e old new (next_there old.table.last_process low) s h
 
 pub head_is : (ds : List MemberEvent) (d : MemberEvent) → slice_get ds 0 ≡ Some d
     → (rest : List MemberEvent) × (ds ≡ d ∷ rest)

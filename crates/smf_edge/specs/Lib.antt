@@ -8,3 +8,4 @@ pub mod Facts
 pub mod Ends
 pub mod Processes
 pub mod Manned
+pub mod Beginnings

@@ -1,8 +1,8 @@
-ghost use Rattle.std.specs.Prelude.{◌≡◌, ◌≢◌, ◌<◌, ◌⊎◌, [], Some, None, true, IfErr, IfOk, IfSome, IfNone, OnErr, OnOk, filter, length, option_to_list, vec_len, vec_capacity};
+ghost use Rattle.std.specs.Prelude.{◌≡◌, ◌≢◌, ◌<◌, ◌⊎◌, [], ◌∷◌, Some, None, true, IfErr, IfOk, IfSome, IfNone, OnErr, OnOk, filter, length, option_to_list, vec_len, vec_capacity};
 ghost use Rattle.smf_contract.specs.Calls.{next_contract};
 ghost use Rattle.smf_contract.specs.Entries.{empty, first_member, home, processes};
 ghost use Rattle.smf_edge.specs.Books.{IsTold, ledger_of};
-ghost use Rattle.smf_edge.specs.Ledgers.{contracts_of, members_left, lives};
+ghost use Rattle.smf_edge.specs.Ledgers.{ledger_over, members_left, lives, remaining};
 ghost use Rattle.smf_edge.specs.Processes.{HasTold};
 ghost use Rattle.smf_edge.specs.Sound.{IsSound};
 ghost use Rattle.smf_edge.specs.Steps.{IsGiven, IsKilled, IsPolled, IsSpawned, ledger_with_member_event, live_contracts, ledger_after_boot};
@@ -13,7 +13,7 @@ use crate::deed::{Happening, MemberEvent};
 use crate::edits::{behind, drop_deeds, drop_events, first_deed, note_all, take_deed, take_first};
 use crate::fault::KidsFault;
 use crate::note::{Kill, Note, Run};
-use smf_contract::{ContractEvent, ContractTable};
+use smf_contract::{Contract, ContractEvent, ContractTable};
 use smf_fmri::{Items, Number};
 use std::alloc::{AllocError, Global};
 
@@ -42,6 +42,17 @@ impl Drop for Book {
     }
 }
 
+/// There is no room for a process if no number is left for it.
+fn one_more(table: &ContractTable) -> Result<(), AllocError>
+    ensures { OnOk result (table.now.table.last_process < 0x7fff_ffff_ffff_ffff) }
+{
+    if table.last_process().get() < 0x7fff_ffff_ffff_ffff {
+        Ok(())
+    } else {
+        Err(AllocError)
+    }
+}
+
 impl Book {
     pub(crate) fn new(alloc: Global) -> Book
         ensures { ledger_of result ≡ record { notes = []; table = empty; due = []; pending = [] } }
@@ -49,6 +60,19 @@ impl Book {
         Book {
             alloc,
             table: ContractTable::new(alloc),
+            notes: Vec::new(alloc),
+            due: Vec::new(alloc),
+            pending: Vec::new(alloc),
+        }
+    }
+
+    /// A book over contracts that are there.
+    pub(crate) fn over(alloc: Global, table: ContractTable) -> Book
+        ensures { ledger_of result ≡ ledger_over table.table }
+    {
+        Book {
+            alloc,
+            table,
             notes: Vec::new(alloc),
             due: Vec::new(alloc),
             pending: Vec::new(alloc),
@@ -124,9 +148,10 @@ impl Book {
         requires member { home self.old.table.table.members process ≡ Some id }
         requires none_due { self.old.due.items ≡ [] }
         ensures told { IfOk result (λ e. IsTold id process happening e (ledger_of self.old) (ledger_of self.new)) }
-        ensures room { OnOk result (length self.old.notes.items < 0x7fff_ffff_ffff_ffff) }
+        ensures room { OnOk result (self.old.table.table.last_process < 0x7fff_ffff_ffff_ffff) }
         ensures err { OnErr result (ledger_of self.new ≡ ledger_of self.old) }
     {
+        one_more(&self.table)?;
         self.table.reserve()?;
         let room = self.table.members().len() + 3;
         self.notes.reserve(room)?;
@@ -250,29 +275,37 @@ impl Book {
         self.pending.clear();
     }
 
-    /// The contract of a run that was made, if it has members.
-    fn live_contract(&self, note: &Note) -> Option<Number>
-        ensures { option_to_list result ≡ filter (lives (ledger_of self.now)) (contracts_of note.now) }
+    /// Forgets the notes, and the contracts that have no members.
+    pub(crate) fn forget(&mut self) -> Result<(), AllocError>
+        requires { IsSound (ledger_of self.old) }
+        ensures forgot { OnOk result (ledger_of self.new ≡ remaining (ledger_of self.old)) }
+        ensures kept { OnErr result (ledger_of self.new ≡ ledger_of self.old) }
+        ensures sound { IsSound (ledger_of self.new) }
     {
-        match note {
-            Note::Made(run) => {
-                if self.members_left(run.contract) > 0 {
-                    return Some(run.contract);
-                }
-                None
-            }
-            Note::Found(_) => None,
-            Note::Killed(_) => None,
-        }
+        let table = self.table.thinned()?;
+        self.table = table;
+        self.notes.clear();
+        Ok(())
     }
 
-    /// The runs that were made and have members.
+    /// The number of a contract, if it has members.
+    fn live_contract(&self, known: &Contract) -> Option<Number>
+        ensures { option_to_list result ≡ filter (lives (ledger_of self.now)) (known.now.id ∷ []) }
+    {
+        if self.members_left(known.id) > 0 {
+            return Some(known.id);
+        }
+        None
+    }
+
+    /// The contracts that have members.
     pub(crate) fn list(&self) -> Result<Items<Number>, AllocError>
         ensures { IfOk result (λ ids. ids ≡ live_contracts (ledger_of self.now)) }
     {
         let mut ids = Items::new(self.alloc);
-        for note in &self.notes {
-            if let Some(id) = self.live_contract(note) {
+        let contracts = self.table.contracts();
+        for known in contracts {
+            if let Some(id) = self.live_contract(known) {
                 ids.push(id)?;
             }
         }

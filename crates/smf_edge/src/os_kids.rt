@@ -12,7 +12,7 @@ use smf_contract::{ContractEvent, Method, Terms};
 use smf_fmri::{InstanceFmri, Items, Number};
 use smf_method::CommandText;
 use smf_state::Duration;
-use std::alloc::Global;
+use std::alloc::{AllocError, Global};
 use std::io::Stderr;
 use std::marker::Model;
 
@@ -234,6 +234,10 @@ impl<R: System> Kids for OsKids<R> {
         ensures manned { IsManned self.now.0 (contracts self.now.2) }
     {
         self.faults
+    }
+
+    fn forget(&mut self) -> Result<(), AllocError> {
+        self.book.forget()
     }
 
     fn notes(&self) -> &[Note] {

@@ -3,3 +3,4 @@ mod Preservation
 mod Places
 mod Polls
 mod Starts
+mod Beginnings

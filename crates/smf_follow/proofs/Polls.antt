@@ -103,7 +103,7 @@ gone_kid facts id end l kids s =
 -- ---- what is told
 
 pub forked : {H : Type 0} (facts : ContractFacts H) (id : ℕ) (end : FirstEnd) (e : ContractEvent) (l m : Ledger)
-    (old now new : List (Kid H)) → IsSound l → length l.notes < 0x7fff_ffff_ffff_ffff → IsFollowed l (posts old)
+    (old now new : List (Kid H)) → IsSound l → l.table.last_process < 0x7fff_ffff_ffff_ffff → IsFollowed l (posts old)
     → OneSeen facts l.table (sights.Left id end) old → posts now ≡ posts old → HasTold id Fork l m e
     → IsAbsent id (posts now) ⊎ IsPut id (Forked end) (posts now) (posts new)
     → TellsFork facts e l m old new × IsFollowed m (posts new)
@@ -117,7 +117,7 @@ forked {H} facts id end e l m old now new s low f seen same told put =
     )
 
 pub over : {H : Type 0} (facts : ContractFacts H) (id : ℕ) (end : FirstEnd) (e : ContractEvent) (l m : Ledger)
-    (old now new : List (Kid H)) → IsSound l → length l.notes < 0x7fff_ffff_ffff_ffff → IsFollowed l (posts old)
+    (old now new : List (Kid H)) → IsSound l → l.table.last_process < 0x7fff_ffff_ffff_ffff → IsFollowed l (posts old)
     → OneSeen facts l.table (sights.Over id end) old → posts now ≡ posts old → HasTold id (happening_of end) l m e
     → IsAbsent id (posts now) ⊎ IsPut id Others (posts now) (posts new)
     → TellsEnd e l m old new × IsFollowed m (posts new)
@@ -140,7 +140,7 @@ none_after facts id end l (Forked first) held h = last_of_two (contract l.table 
 none_after facts id end l Others held h = last_of_one (contract l.table id) end
 
 pub emptied : {H : Type 0} (facts : ContractFacts H) (id : ℕ) (end : FirstEnd) (e : ContractEvent) (l m : Ledger)
-    (old new : List (Kid H)) → IsSound l → length l.notes < 0x7fff_ffff_ffff_ffff → IsFollowed l (posts old)
+    (old new : List (Kid H)) → IsSound l → l.table.last_process < 0x7fff_ffff_ffff_ffff → IsFollowed l (posts old)
     → OneSeen facts l.table (sights.Gone id end) old → HasTold id (happening_of end) l m e
     → posts new ≡ filter (is_other_post id) (posts old)
     → TellsLast facts e l m old new × IsFollowed m (posts new)
@@ -163,7 +163,7 @@ put_back id len phase items was now e n put =
     ap posts (back len items was now e n count)
 
 pub poll_left : {H : Type 0} (facts : ContractFacts H) (id : ℕ) (end : FirstEnd) (e : ContractEvent) (len : ℕ)
-    (l m : Ledger) (items was seen again put now : List (Kid H)) → IsSound l → length l.notes < 0x7fff_ffff_ffff_ffff
+    (l m : Ledger) (items was seen again put now : List (Kid H)) → IsSound l → l.table.last_process < 0x7fff_ffff_ffff_ffff
     → IsFollowed l (posts items)
     → was ≡ items → length was ≡ len → posts seen ≡ posts was → OneSeen facts l.table (sights.Left id end) was
     → again ≡ take len (seen ++ drop (length seen) items) → length again ≡ len → HasTold id Fork l m e
@@ -186,7 +186,7 @@ poll_left {H} facts id end e len l m items was seen again put now s low f at n s
     forked facts id end e l m items again now s low f one_item back_same told (subst Q (sym back_put) was_put_in)
 
 pub poll_over : {H : Type 0} (facts : ContractFacts H) (id : ℕ) (end : FirstEnd) (e : ContractEvent) (len : ℕ)
-    (l m : Ledger) (items was seen again put now : List (Kid H)) → IsSound l → length l.notes < 0x7fff_ffff_ffff_ffff
+    (l m : Ledger) (items was seen again put now : List (Kid H)) → IsSound l → l.table.last_process < 0x7fff_ffff_ffff_ffff
     → IsFollowed l (posts items)
     → was ≡ items → length was ≡ len → posts seen ≡ posts was → OneSeen facts l.table (sights.Over id end) was
     → again ≡ take len (seen ++ drop (length seen) items) → length again ≡ len → HasTold id (happening_of end) l m e
@@ -207,7 +207,7 @@ poll_over {H} facts id end e len l m items was seen again put now s low f at n s
     over facts id end e l m items again now s low f one_item back_same told (subst Q (sym back_put) was_put_in)
 
 pub poll_gone : {H : Type 0} (facts : ContractFacts H) (id : ℕ) (end : FirstEnd) (e : ContractEvent) (len : ℕ)
-    (l m : Ledger) (items was seen now : List (Kid H)) → IsSound l → length l.notes < 0x7fff_ffff_ffff_ffff
+    (l m : Ledger) (items was seen now : List (Kid H)) → IsSound l → l.table.last_process < 0x7fff_ffff_ffff_ffff
     → IsFollowed l (posts items)
     → was ≡ items → length was ≡ len → posts seen ≡ posts was → OneSeen facts l.table (sights.Gone id end) was
     → HasTold id (happening_of end) l m e

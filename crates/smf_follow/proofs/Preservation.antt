@@ -69,12 +69,12 @@ counts_by false id at n m j k c h e is was here other = is ∙ was ∙ sym (othe
 
 -- something happened to a member of a contract, and the posts give it as many as are left
 pub followed_told : (id : ℕ) (h : Happening) (e : ContractEvent) (l m : Ledger) (ps qs : List Post) → IsSound l
-    → length l.notes < 0x7fff_ffff_ffff_ffff → IsFollowed l ps → HasTold id h l m e
+    → l.table.last_process < 0x7fff_ffff_ffff_ffff → IsFollowed l ps → HasTold id h l m e
     → left_by (contract l.table id) h (size_of id ps) ≡ size_of id qs
     → ((at : ℕ) → (id == at) ≡ false → size_of at qs ≡ size_of at ps)
     → Ascends 0 (ids_of qs) l.table.last_contract → IsFollowed m qs
 followed_told id h e l m ps qs s low f told here others once =
-    let next = next_there l.table.last_process (omega (arith, low, s.numbered)) in
+    let next = next_there l.table.last_process low in
     let P : Contracts → Type 0 = Brings id h l.table in
     let b : Brings id h l.table m.table =
     subst P (sym told.2.table) (call_brings l.table id told.0 h next s.ordered.members_ascend told.1) in
@@ -91,7 +91,7 @@ followed_told id h e l m ps qs s low f told here others once =
 
 -- a phase is put, if the contract had so many members
 pub followed_put : (id n : ℕ) (phase : Phase) (h : Happening) (e : ContractEvent) (l m : Ledger) (ps qs : List Post)
-    → IsSound l → length l.notes < 0x7fff_ffff_ffff_ffff → IsFollowed l ps → HasTold id h l m e
+    → IsSound l → l.table.last_process < 0x7fff_ffff_ffff_ffff → IsFollowed l ps → HasTold id h l m e
     → size_of id ps ≡ n → left_by (contract l.table id) h n ≡ size phase → IsPut id phase ps qs → IsFollowed m qs
 followed_put id n phase h e l m ps qs s low f told was members_left put =
     followed_told id h e l m ps qs s low f told
@@ -102,7 +102,7 @@ followed_put id n phase h e l m ps qs s low f told was members_left put =
 
 -- a contract is forgotten, if none is left of its members
 pub followed_last : (id n : ℕ) (h : Happening) (e : ContractEvent) (l m : Ledger) (ps : List Post) → IsSound l
-    → length l.notes < 0x7fff_ffff_ffff_ffff → IsFollowed l ps → HasTold id h l m e
+    → l.table.last_process < 0x7fff_ffff_ffff_ffff → IsFollowed l ps → HasTold id h l m e
     → size_of id ps ≡ n → left_by (contract l.table id) h n ≡ 0 → IsFollowed m (filter (is_other_post id) ps)
 followed_last id n h e l m ps s low f told was members_left =
     followed_told id h e l m ps _ s low f told

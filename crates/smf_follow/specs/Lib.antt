@@ -3,3 +3,4 @@ pub mod Phases
 pub mod Books
 pub mod Followed
 pub mod Sights
+pub mod Beginnings

@@ -1,5 +1,5 @@
 -- The phases of a contract of the system: how much was told of its members.
-use Rattle.std.specs.Prelude.{◌≡◌, ◌≢◌, ℕ, ◌+◌, List, [], ◌∷◌, Bool, false, ◌==◌, not, if◌then◌else◌, Option, Some, map, slice_get, slice_set}
+use Rattle.std.specs.Prelude.{◌≡◌, ◌≢◌, ℕ, ◌+◌, List, [], ◌∷◌, Bool, true, false, ◌==◌, not, if◌then◌else◌, Option, Some, map, slice_get, slice_set}
 use Rattle.smf_contract.specs.declared.contract.Contract.{Contract}
 use Rattle.smf_contract.specs.declared.event.Exit.TheVariants as exits
 use Rattle.smf_contract.specs.declared.event.Failure.TheVariants as failures
@@ -29,6 +29,11 @@ abbrev pub size : Phase → ℕ
 size First = 1
 size (Forked end) = 2
 size Others = 1
+
+-- what was told of a contract that is there already, by whether its first process has ended
+abbrev pub phase_after : Bool → Phase
+phase_after true = Others
+phase_after false = First
 
 -- a contract, and what was told of it
 pub record Post : Type 0 where

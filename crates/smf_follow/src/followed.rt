@@ -12,12 +12,12 @@ use crate::book::Book;
 use crate::contracts::Contracts;
 use crate::kid::{Kid, Phase, end_one, forget, put};
 use crate::sights::{Sight, see_all};
-use smf_contract::{ContractEvent, Method, Terms};
+use smf_contract::{ContractEvent, ContractFault, ContractTable, Found, Holder, Method, Terms};
 use smf_edge::{Happening, Kids, KidsFault, Note, Run};
 use smf_fmri::{InstanceFmri, Items, Number};
 use smf_method::CommandText;
 use smf_state::Duration;
-use std::alloc::Global;
+use std::alloc::{AllocError, Global};
 use std::io;
 use std::io::ErrorKind;
 use std::marker::Model;
@@ -95,7 +95,13 @@ impl<C: Contracts> Model for FollowedKids<C> {
 
 impl<C: Contracts> FollowedKids<C> {
     ghost use Rattle.std.specs.Prelude.{◌≡◌, []};
+    ghost use Rattle.std.specs.List.{AllByRecursion};
+    ghost use Rattle.smf_contract.specs.declared.contract.Holder.TheVariants as holders;
     ghost use Rattle.smf_contract.specs.Entries.{empty};
+    ghost use Rattle.smf_contract.specs.Laws.{IsOrdered};
+    ghost use Rattle.smf_edge.specs.Ledgers.{ledger_over};
+    ghost use Rattle.smf_follow.specs.Followed.{IsFollowed};
+    ghost use Rattle.smf_follow.specs.Phases.{posts};
 
     /// No children yet.
     pub fn new(alloc: Global, contracts: C) -> FollowedKids<C>
@@ -108,6 +114,56 @@ impl<C: Contracts> FollowedKids<C> {
             kids: Vec::new(alloc),
             faults: 0,
         }
+    }
+
+    /// Children that go on with the contracts of the system that are there. The table calls their holder 0.
+    pub fn over(
+        alloc: Global,
+        contracts: C,
+        table: ContractTable,
+        kids: Vec<Kid<C::Held>>,
+    ) -> FollowedKids<C>
+        requires ordered { IsOrdered table.table }
+        requires held { AllByRecursion (λ c. c.holder ≡ holders.Held 0) table.table.contracts }
+        requires followed { IsFollowed (ledger_over table.table) (posts kids.items) }
+        ensures { result ≡ (ledger_over table.table, 0, kids.items) }
+    {
+        FollowedKids {
+            alloc,
+            contracts,
+            book: Book::over(alloc, table),
+            kids,
+            faults: 0,
+        }
+    }
+}
+
+impl<C: Contracts + Drop> FollowedKids<C> {
+    ghost use Rattle.std.specs.Prelude.{◌≡◌, IfOk, map};
+    ghost use Rattle.smf_contract.specs.declared.contract.Holder.TheVariants as holders;
+    ghost use Rattle.smf_contract.specs.Begun.{table_of_found};
+    ghost use Rattle.smf_contract.specs.Laws.{Ascends};
+    ghost use Rattle.smf_edge.specs.Ledgers.{ledger_over};
+    ghost use Rattle.smf_follow.specs.Beginnings.{found_posts};
+    ghost use Rattle.smf_follow.specs.Phases.{posts};
+
+    /// Children that go on with the contracts of the system that are found, after the last id that was given. The system
+    /// holds each of them.
+    pub fn found(
+        alloc: Global,
+        contracts: C,
+        last: Number,
+        found: &[Found],
+        kids: Vec<Kid<C::Held>>,
+    ) -> Result<FollowedKids<C>, ContractFault>
+        requires ascend { Ascends 0 (map (λ f. f.id) found.now) last }
+        requires kids { posts kids.items ≡ found_posts found.now }
+        ensures { IfOk result (λ made.
+            made ≡ (ledger_over (table_of_found (holders.Held 0) last found.now), 0, kids.items)) }
+    {
+        let table = ContractTable::found(alloc, Holder::Held(0), last, found)?;
+        let made = FollowedKids::over(alloc, contracts, table, kids);
+        Ok(made)
     }
 }
 
@@ -251,6 +307,10 @@ impl<C: Contracts> Kids for FollowedKids<C> {
         ensures followed { IsFollowed self.now.0 (posts self.now.2) }
     {
         self.faults
+    }
+
+    fn forget(&mut self) -> Result<(), AllocError> {
+        self.book.forget()
     }
 
     fn notes(&self) -> &[Note] {

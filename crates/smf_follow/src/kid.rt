@@ -1,6 +1,6 @@
 // The contracts of the system that were started, by their numbers.
 ghost use Rattle.std.specs.Prelude.{◌≡◌, ◌⊎◌, false, true, filter, position};
-ghost use Rattle.smf_follow.specs.Phases.{IsAbsent, IsPut, SomeKid, is_kid_of, is_other_kid, post_of, posts};
+ghost use Rattle.smf_follow.specs.Phases.{IsAbsent, IsPut, SomeKid, is_kid_of, is_other_kid, phase_after, post_of, posts};
 
 use crate::contracts::Contracts;
 use crate::stand::FirstEnd;
@@ -19,10 +19,32 @@ pub(crate) enum Phase {
 
 /// A contract of the system, and what was told of it.
 #[derive(Drop)]
-pub(crate) struct Kid<H> {
+pub struct Kid<H> {
     pub(crate) contract: Number,
     pub(crate) phase: Phase,
     pub(crate) held: H,
+}
+
+impl<H> Kid<H> {
+    /// A contract that is there already. If its first process has ended, that was told.
+    pub fn found(contract: Number, has_ended: bool, held: H) -> Kid<H>
+        ensures contract { result.contract ≡ contract }
+        ensures phase { result.phase ≡ phase_after has_ended }
+        ensures held { result.held ≡ held }
+    {
+        if has_ended {
+            return Kid {
+                contract,
+                phase: Phase::Others,
+                held,
+            };
+        }
+        Kid {
+            contract,
+            phase: Phase::First,
+            held,
+        }
+    }
 }
 
 /// The place of a contract.

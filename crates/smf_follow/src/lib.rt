@@ -7,9 +7,12 @@ mod contracts;
 mod edits;
 mod followed;
 mod kid;
+mod law;
 mod sights;
 mod stand;
 
 pub use contracts::Contracts;
 pub use followed::FollowedKids;
+pub use kid::Kid;
+pub use law::found_contracts_are_followed;
 pub use stand::{FirstEnd, Stand};

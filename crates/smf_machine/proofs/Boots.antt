@@ -12,7 +12,7 @@ use Rattle.smf_model.specs.Next.{outcome_of_command, asked_boot, changes_for_boo
 use Rattle.smf_world.specs.declared.event.Event.{Event}
 use Rattle.smf_world.specs.declared.event.Event.TheVariants as events
 use Rattle.smf_world.specs.declared.work.Work.{Work}
-use Rattle.smf_world.specs.Reached.{IsReached}
+use Rattle.smf_past.specs.Begun.{IsBegun}
 use Rattle.smf_world.specs.Worked.{booted_as, work_of_command, work_of_event}
 use Rattle.smf_world.specs.World.{World}
 use Rattle.smf_machine.proofs.EventWorks.{can_install}
@@ -26,7 +26,7 @@ use Rattle.smf_machine.specs.Install.{CanInstall}
 use Rattle.smf_machine.specs.Lists.{NoTwins}
 use Rattle.std.specs.Result.{IsErrAnd}
 
-pub installs_worked : (w : World) (e : Event) (k : Work) → IsReached w → changes_of w e ≡ None → k ≡ work_of_event w e
+pub installs_worked : (w : World) (e : Event) (k : Work) → IsBegun w → changes_of w e ≡ None → k ≡ work_of_event w e
     → CanInstall w.now w.restarters k
 installs_worked w e k r none is = subst (λ x. CanInstall w.now w.restarters x) (sym is) (reached_installs w e r none)
 

@@ -15,3 +15,4 @@ pub mod Turned
 pub mod Covered
 pub mod Seen
 pub mod NothingAhead
+pub mod Rests

@@ -14,6 +14,9 @@ use Rattle.smf_contract.specs.declared.event.ContractEvent.{ContractEvent}
 use Rattle.smf_world.specs.Happens.{world_after, happens}
 use Rattle.smf_world.specs.Worked.{work_of_call, work_of_event}
 use Rattle.smf_world.specs.World.{World, initial_world}
+use Rattle.smf_contract.specs.Entries.{Contracts}
+use Rattle.smf_past.specs.Lived.{continued}
+use Rattle.smf_past.specs.Remains.{remains}
 use Rattle.smf_machine.specs.declared.polls.News.{News}
 use Rattle.smf_machine.specs.Children.{done_if, world_after_news, world_after_poll, news_of}
 use Rattle.smf_machine.proofs.Worlds.{behind, one_reversed}
@@ -182,3 +185,37 @@ linked_first h nss p e none =
     let y : history_of p ≡ record { first = h; past = [] } = sym (history_in h p) ∙ ap (λ (w : World). w.history) e in
     subst (IsLinked h nss) (sym y)
     (subst (λ (ls : List (List ℕ)). IsLinked h ls (record { first = h; past = [] })) (sym none) (first_linked h))
+
+-- the same of a new process
+pub linked_continued : (h : Holdings) (t : Contracts) (nss : List (List ℕ)) (p : Parts) → world_of h p ≡ continued h t
+    → nss ≡ [] → IsLinked h nss (history_of p)
+linked_continued h t nss p e none =
+    let y : history_of p ≡ record { first = h; past = [] } = sym (history_in h p) ∙ ap (λ (w : World). w.history) e in
+    subst (IsLinked h nss) (sym y)
+    (subst (λ (ls : List (List ℕ)). IsLinked h ls (record { first = h; past = [] })) (sym none) (first_linked h))
+
+now_of : (h : Holdings) (p : Parts) → (world_of h p).now ≡ h
+unfolding world_of
+now_of h p = refl
+
+pub now_is : (h : Holdings) (p : Parts) (w : World) → world_of h p ≡ w → w.now ≡ h
+now_is h p w e = ap (λ (x : World). x.now) (sym e) ∙ now_of h p
+
+-- the same of what forgets its past
+pub linked_remaining : (h : Holdings) (nss : List (List ℕ)) (p q : Parts) → world_of h q ≡ remains (world_of h p)
+    → nss ≡ [] → IsLinked h nss (history_of q)
+linked_remaining h nss p q e none =
+    let begins : (remains (world_of h p)).history ≡ record { first = h; past = [] } =
+    λ j. record { first = now_of h p j; past = [] } in
+    let y : history_of q ≡ record { first = h; past = [] } =
+    sym (history_in h q) ∙ ap (λ (w : World). w.history) e ∙ begins in
+    subst (IsLinked h nss) (sym y)
+    (subst (λ (ls : List (List ℕ)). IsLinked h ls (record { first = h; past = [] })) (sym none) (first_linked h))
+
+pub world_remaining : (h k : Holdings) (p q : Parts) (w : World) → k ≡ h → world_of h p ≡ w
+    → world_of k q ≡ remains (world_of k p) → world_of k q ≡ remains w
+world_remaining h k p q w same is made = made ∙ ap (λ (x : Holdings). remains (world_of x p)) same ∙ ap remains is
+
+pub table_is : (h : Holdings) (p : Parts) (w : World) → world_of h p ≡ w → w.table ≡ p.table.table
+unfolding world_of
+table_is h p w e = ap (λ (x : World). x.table) (sym e)

@@ -13,7 +13,8 @@ use Rattle.smf_world.specs.declared.event.ProcessEvent.{ProcessEvent}
 use Rattle.smf_world.specs.declared.event.ProcessEvent.TheVariants.{Fork, Exit, Fail}
 use Rattle.smf_world.specs.declared.item.Item.TheVariants.{Emptied}
 use Rattle.smf_world.specs.Happens.{world_after, happens}
-use Rattle.smf_world.specs.Reached.{IsReached}
+use Rattle.smf_past.specs.Begun.{IsBegun}
+use Rattle.smf_past.proofs.BegunWorlds.{stands_since}
 use Rattle.smf_world.specs.Runs.{run}
 use Rattle.smf_world.specs.Worked.{work_of_call, process_call, work_of_event}
 use Rattle.smf_world.specs.World.{World, initial_world}
@@ -25,21 +26,10 @@ use Rattle.smf_machine.specs.Parts.{knowledge, world_of}
 
 -- ---- the table of a world is in order
 
-table_next : (w : World) (e : Event) → IsOrdered w.table → IsOrdered (happens w e).table
-unfolding happens world_after
-table_next w e o = (call_keeps w.table (Asked (work_of_event w e).call)).ordered o
+pub table_ordered : (w : World) → IsBegun w → IsOrdered w.table
+table_ordered w r = (stands_since w r).ordered
 
-table_run : (es : List Event) (w : World) → IsOrdered w.table → IsOrdered (run es w).table
-table_run [] w o = o
-table_run (e ∷ es) w o = table_run es (happens w e) (table_next w e o)
-
-pub table_ordered : (w : World) → IsReached w → IsOrdered w.table
-table_ordered w r =
-    subst (λ (x : World). IsOrdered x.table) r.since.1
-    (table_run r.since.0 (happens (initial_world w.history.first) events.Boot)
-    (table_next (initial_world w.history.first) events.Boot (calls_order [])))
-
-pub parts_ordered : (h : Holdings) (p : Parts) (w : World) → world_of h p ≡ w → IsReached w → IsOrdered p.table.table
+pub parts_ordered : (h : Holdings) (p : Parts) (w : World) → world_of h p ≡ w → IsBegun w → IsOrdered p.table.table
 unfolding world_of
 parts_ordered h p w is r = subst (λ (x : World). IsOrdered x.table) (sym is) (table_ordered w r)
 

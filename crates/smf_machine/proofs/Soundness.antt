@@ -1,5 +1,5 @@
 -- A machine's world stays one that is reached, with what is formed and spelled.
-use Rattle.std.proofs.Common.{◌≡◌, ◌∙◌, List, ap, subst, sym, Result, Ok, Err, IfOk, OnErr}
+use Rattle.std.proofs.Common.{◌≡◌, ◌∙◌, List, true, ap, subst, sym, Result, Ok, Err, IfOk, OnErr}
 use Rattle.smf_model.specs.declared.command.Command.TheVariants as commands
 use Rattle.smf_model.specs.declared.command.CommandReply.{CommandReply}
 use Rattle.smf_model.specs.declared.command.CommandReply.TheVariants.{Done}
@@ -10,9 +10,21 @@ use Rattle.smf_world.specs.declared.event.Event.{Event}
 use Rattle.smf_world.specs.declared.event.Event.TheVariants as events
 use Rattle.smf_world.specs.Formed.{IsFormed}
 use Rattle.smf_world.specs.Happens.{happens}
-use Rattle.smf_world.specs.Reached.{IsReached}
+use Rattle.smf_past.specs.Begun.{IsBegun}
 use Rattle.smf_world.specs.Spelled.{AreSpelled, IsFormedEvent}
+use Rattle.smf_world.specs.Reached.{IsReached}
+use Rattle.smf_world.specs.Safe.{IsSafe}
 use Rattle.smf_world.specs.World.{World, initial_world}
+use Rattle.smf_world.proofs.LaterWorlds.{reached_first as world_first}
+use Rattle.smf_safety.proofs.Safely.{reached_safe}
+use Rattle.smf_past.specs.Forgotten.{IsCaughtUp}
+use Rattle.smf_past.specs.Lived.{continued}
+use Rattle.smf_past.specs.Remains.{remains}
+use Rattle.smf_past.proofs.BegunWorlds.{begun_found}
+use Rattle.smf_past.proofs.RemainingWorlds.{begun_remains}
+use Rattle.smf_contract.specs.Entries.{Contracts}
+use Rattle.smf_contract.specs.Laws.{IsOrdered}
+use Rattle.std.specs.List.{AllByRecursion}
 use Rattle.smf_world.proofs.SpelledRuns.{formed_event, spelled_event}
 use Rattle.smf_machine.proofs.WorldLaws.{reached_first, reached_next, reached_numbered}
 use Rattle.smf_machine.specs.declared.parts.Parts.{Parts}
@@ -47,7 +59,7 @@ now_same h k p q e = ap (λ w. w.now) e
 
 -- its boot was accepted
 reached_new : (h : Holdings) (w v : World) → w ≡ initial_world h → IsNumbered h → (next w.now commands.Boot).1 ≡ Done
-    → v ≡ happens w events.Boot → IsReached v
+    → v ≡ happens w events.Boot → IsBegun v
 reached_new h w v is n accepted made =
     reached_first h v n (subst (λ (u : World). (next u.now commands.Boot).1 ≡ Done) is accepted)
     (made ∙ ap (λ (u : World). happens u events.Boot) is)
@@ -61,3 +73,31 @@ sound_new h w v is n formed accepted made =
       formed = subst (λ (u : World). IsFormed u.now) first (formed_event (initial_world h) events.Boot n formed tt);
       spelled = subst AreSpelled first (spelled_event (initial_world h) events.Boot n formed tt tt);
     }
+
+pub world_reached : (h : Holdings) (w v : World) → w ≡ initial_world h → IsNumbered h
+    → (next w.now commands.Boot).1 ≡ Done → v ≡ happens w events.Boot → IsReached v
+world_reached h w v is n accepted made =
+    world_first h v n (subst (λ (u : World). (next u.now commands.Boot).1 ≡ Done) is accepted)
+    (made ∙ ap (λ (u : World). happens u events.Boot) is)
+
+-- the boot of what was found leaves it safe
+pub safe_new : (h : Holdings) (w v : World) → w ≡ initial_world h → IsNumbered h → (next w.now commands.Boot).1 ≡ Done
+    → v ≡ happens w events.Boot → IsSafe v
+safe_new h w v is n accepted made =
+    reached_safe v (world_first h v n (subst (λ (u : World). (next u.now commands.Boot).1 ≡ Done) is accepted)
+    (made ∙ ap (λ (u : World). happens u events.Boot) is))
+
+-- what a new process found
+pub sound_continued : (h : Holdings) (t : Contracts) (v : World) → IsNumbered h → IsFormed h → IsOrdered t
+    → AllByRecursion (λ c. c.terms.inherit ≡ true) t.contracts → v ≡ continued h t → IsSound v
+sound_continued h t v n formed o i is =
+    record {
+      reached = begun_found h t v n o i is;
+      formed = subst (λ (u : World). IsFormed u.now) (sym is) formed;
+      spelled = subst AreSpelled (sym is) tt;
+    }
+
+-- what remains when the past goes
+pub sound_remaining : (w v : World) → IsSound w → IsCaughtUp w → v ≡ remains w → IsSound v
+sound_remaining w v s up is =
+    subst IsSound (sym is) (record { reached = begun_remains w s.reached up; formed = s.formed; spelled = tt })

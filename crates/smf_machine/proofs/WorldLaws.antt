@@ -17,7 +17,12 @@ use Rattle.smf_world.specs.declared.event.Event.TheVariants as events
 use Rattle.smf_world.specs.declared.work.Becomes.{Becomes}
 use Rattle.smf_world.specs.declared.work.Becomes.TheVariants.{Knows, Launched, Gone, NoneLeft}
 use Rattle.smf_world.specs.Happens.{all_becoming, restarters_after, world_after, happens}
-use Rattle.smf_world.specs.Reached.{IsReached}
+use Rattle.smf_past.specs.Begun.{IsBeginning, IsBegun, booted, found}
+use Rattle.smf_past.specs.Lived.{continued}
+use Rattle.smf_past.proofs.BegunWorlds.{begun_booted, begun_next}
+use Rattle.smf_past.specs.Forgotten.{forgotten}
+use Rattle.smf_past.specs.Lives.{GoesOn}
+use Rattle.smf_past.specs.Losses.{AllKnowLess, AreLess, AreMoves, Happens, IsLess, Loses, Move, as_before, know_less, none_left as nobody}
 use Rattle.smf_world.specs.Runs.{run}
 use Rattle.smf_world.specs.Worked.{is_named, work_of_event}
 use Rattle.smf_world.specs.World.{World, initial_world}
@@ -126,61 +131,70 @@ ordered_run : (es : List Event) (w : World) → IsOrdered w → IsOrdered (run e
 ordered_run [] w o = o
 ordered_run (e ∷ es) w o = ordered_run es (happens w e) (ordered_next w e o)
 
-ordered : (w : World) → IsReached w → IsOrdered w
-ordered w r =
-    let first : IsOrdered (happens (initial_world w.history.first) events.Boot) =
-    ordered_next (initial_world w.history.first) events.Boot (record { numbered = r.numbered; apart = tt }) in
-    subst IsOrdered r.since.1 (ordered_run r.since.0 (happens (initial_world w.history.first) events.Boot) first)
+-- ---- losses
 
-pub reached_numbered : (w : World) → IsReached w → IsNumbered w.now
+none_named_less : (name : List ℕ) (ls ks : List Knowledge) → AllKnowLess ls ks → NoneNamed name ks → NoneNamed name ls
+none_named_less name [] [] f h = tt
+none_named_less name [] (k ∷ ks) f h = absurd f
+none_named_less name (l ∷ ls) [] f h = absurd f
+none_named_less name (l ∷ ls) (k ∷ ks) f h =
+    (ap (λ n. pointwise nat_eq n name) f.0.name ∙ h.0, none_named_less name ls ks f.1 h.1)
+
+apart_known_less : (ls ks : List Knowledge) → AllKnowLess ls ks → NoTwins ks → NoTwins ls
+apart_known_less [] [] f h = tt
+apart_known_less [] (k ∷ ks) f h = absurd f
+apart_known_less (l ∷ ls) [] f h = absurd f
+apart_known_less (l ∷ ls) (k ∷ ks) f h = (
+  none_named_less l.name ls ks f.1 (subst (λ n. NoneNamed n ks) (sym f.0.name) h.0),
+  apart_known_less ls ks f.1 h.1,
+)
+
+apart_less : (ls ks : List Knowledge) → AreLess ls ks → NoTwins ks → NoTwins ls
+apart_less ls ks (as_before e) h = subst NoTwins (sym e) h
+apart_less ls ks (nobody e) h = subst NoTwins (sym e) tt
+apart_less ls ks (know_less f) h = apart_known_less ls ks f h
+
+ordered_less : (w v : World) → IsLess v w → IsOrdered w → IsOrdered v
+ordered_less w v l o =
+    record {
+      numbered = subst IsNumbered (sym l.now) o.numbered;
+      apart = apart_less v.restarters w.restarters l.restarters o.apart;
+    }
+
+ordered_moves : (ms : List Move) (w v : World) → AreMoves w ms v → IsOrdered w → IsOrdered v
+ordered_moves [] w v m o = subst IsOrdered m o
+ordered_moves (Happens e ∷ ms) w v m o = ordered_moves ms (happens w e) v m (ordered_next w e o)
+ordered_moves (Loses u ∷ ms) w v m o = ordered_moves ms u v m.1 (ordered_less w u m.0 o)
+
+ordered_on : (us : List World) (w v : World) → GoesOn w us v → IsOrdered w → IsOrdered v
+ordered_on [] w v m o = ordered_moves m.0 w v m.1 o
+ordered_on (u ∷ us) w v m o =
+    let end : IsOrdered u = ordered_moves m.0.0 w u m.0.1 o in
+    ordered_on us (forgotten u) v m.2 (record { numbered = end.numbered; apart = end.apart })
+
+ordered_first : (base : World) → IsBeginning base → IsOrdered base
+ordered_first base (booted h n done is) =
+    subst IsOrdered (sym is)
+    (ordered_next (initial_world h) events.Boot (record { numbered = n; apart = tt }))
+ordered_first base (found h t n o i is) =
+    let first : IsOrdered (continued h t) = record { numbered = n; apart = tt } in subst IsOrdered (sym is) first
+
+ordered : (w : World) → IsBegun w → IsOrdered w
+ordered w r = ordered_on r.lives r.base w r.since (ordered_first r.base r.beginning)
+
+pub reached_numbered : (w : World) → IsBegun w → IsNumbered w.now
 reached_numbered w r = (ordered w r).numbered
 
-pub reached_installs : (w : World) (e : Event) → IsReached w → changes_of w e ≡ None
+pub reached_installs : (w : World) (e : Event) → IsBegun w → changes_of w e ≡ None
     → CanInstall w.now w.restarters (work_of_event w e)
 reached_installs w e r none = let o = ordered w r in can_install w e o.numbered o.apart none
 
 -- ---- one event more
 
-run_more : (es : List Event) (e : Event) (w : World) → run (es ++ e ∷ []) w ≡ happens (run es w) e
-run_more [] e w = refl
-run_more (x ∷ es) e w = run_more es e (happens w x)
-
-same_first : (w : World) (e : Event) → (happens w e).history.first ≡ w.history.first
-unfolding happens world_after
-same_first w e = refl
-
-first_run : (es : List Event) (w : World) → (run es w).history.first ≡ w.history.first
-first_run [] w = refl
-first_run (e ∷ es) w = first_run es (happens w e) ∙ same_first w e
-
-reached_by : (w v : World) (h : Holdings) (e : Event) → w.history.first ≡ h → v ≡ happens w e → v.history.first ≡ h
-    → IsReached w → IsReached v
-reached_by w v h e at is first r =
-    let same : w.history.first ≡ v.history.first = at ∙ sym first in
-    let since : run r.since.0 (happens (initial_world w.history.first) events.Boot) ≡ w = r.since.1 in
-    record {
-      numbered = subst IsNumbered same r.numbered;
-      accepted = subst (λ f. (next f commands.Boot).1 ≡ replies.Done) same r.accepted;
-      since = (
-        r.since.0 ++ e ∷ [],
-        run_more r.since.0 e (happens (initial_world v.history.first) events.Boot)
-            ∙ ap (λ f. happens (run r.since.0 (happens (initial_world f) events.Boot)) e) (sym same)
-            ∙ ap (λ u. happens u e) since
-            ∙ sym is,
-      );
-    }
-
-pub reached_next : (w v : World) (e : Event) → v ≡ happens w e → IsReached w → IsReached v
-reached_next w v e is r = reached_by w v w.history.first e refl is (ap (λ u. u.history.first) is ∙ same_first w e) r
+pub reached_next : (w v : World) (e : Event) → v ≡ happens w e → IsBegun w → IsBegun v
+reached_next w v e is r = begun_next w v e is r
 
 -- a boot that is accepted
 pub reached_first : (h : Holdings) (v : World) → IsNumbered h → (next h commands.Boot).1 ≡ replies.Done
-    → v ≡ happens (initial_world h) events.Boot → IsReached v
-reached_first h v n accepted is =
-    let first : h ≡ v.history.first = sym (same_first (initial_world h) events.Boot)
-    ∙ ap (λ u. u.history.first) (sym is) in
-    record {
-      numbered = subst IsNumbered first n;
-      accepted = subst (λ f. (next f commands.Boot).1 ≡ replies.Done) first accepted;
-      since = ([], ap (λ f. happens (initial_world f) events.Boot) (sym first) ∙ sym is);
-    }
+    → v ≡ happens (initial_world h) events.Boot → IsBegun v
+reached_first h v n accepted is = begun_booted h v n accepted is

@@ -8,3 +8,4 @@ pub mod Children
 pub mod Requests
 pub mod Runners
 pub mod Sound
+pub mod Remains

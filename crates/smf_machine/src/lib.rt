@@ -29,6 +29,7 @@ mod type_facts;
 pub use children::Wanted;
 pub use fault::MachineFault;
 pub use machine::Machine;
+pub use parts::Remains;
 pub use polls::News;
 pub use requests::MethodRequest;
 pub use runner::{NoChildren, Runner};

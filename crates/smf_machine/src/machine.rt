@@ -17,6 +17,13 @@ ghost use Rattle.smf_model.specs.Next.{next};
 ghost use Rattle.smf_world.specs.declared.event.Event.TheVariants as events;
 ghost use Rattle.smf_world.specs.Happens.{happens};
 ghost use Rattle.smf_world.specs.Reached.{IsReached};
+ghost use Rattle.smf_past.specs.Begun.{IsBegun, IsSafeSince};
+ghost use Rattle.smf_past.specs.Forgotten.{IsCaughtUp};
+ghost use Rattle.smf_past.specs.Lived.{continued};
+ghost use Rattle.smf_past.specs.Remains.{remains};
+ghost use Rattle.smf_machine.specs.Remains.{AreRemainsOf};
+ghost use Rattle.smf_contract.specs.Laws.{IsOrdered};
+ghost use Rattle.std.specs.List.{AllByRecursion};
 ghost use Rattle.smf_world.specs.Safe.{IsSafe};
 ghost use Rattle.smf_world.specs.Spelled.{AreSpelled};
 ghost use Rattle.smf_world.specs.Worked.{restarter, work_of_event};
@@ -24,14 +31,14 @@ ghost use Rattle.smf_world.specs.World.{initial_world};
 
 use crate::command_work::is_done;
 use crate::fault::MachineFault;
-use crate::parts::{System, parts_of};
+use crate::parts::{Remains, System, continued_parts, parts_of};
 use crate::patches::{delivered_place, take_changes_at};
 use crate::runner::Runner;
 use crate::type_facts::{see_event, stored_in};
 use smf_changes::Repository;
 use smf_contract::{ContractEvent, ContractTable};
 use smf_fmri::{InstanceFmri, Items};
-use smf_model::{CommandReply, Journal, Plain};
+use smf_model::{CommandReply, Journal, Plain, Tables};
 use smf_restarter::{Restarter, Stage};
 use smf_wire::Message;
 use smf_world::{Event, Item};
@@ -39,8 +46,8 @@ use std::alloc::{AllocError, Global};
 use std::marker::Model;
 
 /// The repository, svc.startd's graph, the restarters, their messages, the contracts and the trail. Contracts see the
-/// world. A machine's world is always one that events after an accepted boot make. The groups that it holds are such as
-/// a body may hold. Each message that was sent is read again from its line.
+/// world. A machine's world is always one that events make of a beginning, which may have forgotten its past. The groups
+/// that it holds are such as a body may hold. Each message that was sent is read again from its line.
 #[derive(Drop)]
 pub struct Machine<J: Journal> {
     system: System<J>,
@@ -126,7 +133,7 @@ impl<J: Journal> System<J> {
     /// Makes what an event makes, which delivers no changes.
     #[tactic(auto, unfolding(smf_world::specs::Happens::happens))]
     fn make(&mut self, event: &Event) -> Result<Items<CommandReply>, MachineFault>
-        requires reached { IsReached self.old }
+        requires reached { IsBegun self.old }
         requires spelled { AreSpelled self.old }
         requires none { changes_of self.old event.now ≡ None }
         ensures ok { IfOk result (λ r. IsDone self.old event.now self.new r) }
@@ -140,7 +147,7 @@ impl<J: Journal> System<J> {
     /// An event happens.
     #[tactic(auto, unfolding(smf_world::specs::Happens::happens))]
     pub(crate) fn happen(&mut self, event: &Event) -> Result<Items<CommandReply>, MachineFault>
-        requires reached { IsReached self.old }
+        requires reached { IsBegun self.old }
         requires spelled { AreSpelled self.old }
         ensures ok { IfOk result (λ r. IsDone self.old event.now self.new r) }
         ensures err { OnErr result (self.new ≡ self.old) }
@@ -157,12 +164,25 @@ impl<J: Journal> System<J> {
     }
 }
 
+impl<J: Journal> System<J> {
+    /// Forgets the past, and what is over.
+    #[tactic(auto, unfolding(crate::specs::Parts::world_of))]
+    fn forget(&mut self, rest: Remains)
+        requires { AreRemainsOf self.old rest }
+        ensures { self.new ≡ remains self.old }
+    {
+        self.repository.forget_changes();
+        self.parts.forget(rest);
+    }
+}
+
 impl<J: Journal> Machine<J> {
     /// Boots what was found. A fault hands the repository back, as it was. `Limit` if a row or a launch has no next
     /// number. `Memory` also if an owner has 2^32 groups, which no body may hold.
     pub fn new(alloc: Global, repository: Plain<J>) -> Result<Machine<J>, (MachineFault, Plain<J>)>
         ensures ok { IfOk result (λ m. m ≡ happens (initial_world repository.held) events.Boot) }
         ensures safe { IfOk result (λ m. IsSafe m) }
+        ensures reached { IfOk result (λ m. IsReached m) }
         ensures err { IfErr result (λ e. e.1.held ≡ repository.held) }
         ensures fault { IfErr result (λ e. IsUnbooted J.write_fails repository.held e.0) }
     {
@@ -181,11 +201,61 @@ impl<J: Journal> Machine<J> {
         }
     }
 
+    /// Goes on with what is held and with the contracts that are there, as they were left by a process that was killed.
+    /// `Memory` also if an owner has 2^32 groups, which no body may hold.
+    pub fn continued(
+        alloc: Global,
+        repository: Plain<J>,
+        table: ContractTable,
+    ) -> Result<Machine<J>, (MachineFault, Plain<J>)>
+        requires ordered { IsOrdered table.table }
+        requires inherit { AllByRecursion (λ c. c.terms.inherit ≡ true) table.table.contracts }
+        ensures ok { IfOk result (λ m. m ≡ continued repository.held table.table) }
+        ensures err { IfErr result (λ e. e.1.held ≡ repository.held) }
+        ensures fault { IfErr result (λ e. e.0 ≡ Memory) }
+    {
+        let first = match stored_in(&repository) {
+            Ok(first) => first,
+            Err(_) => return Err((MachineFault::Memory, repository)),
+        };
+        Ok(Machine {
+            system: System {
+                alloc,
+                repository: Repository::over(alloc, repository),
+                parts: continued_parts(alloc, first, table),
+            },
+        })
+    }
+
+    /// What remains if the past goes. None if the graph has fallen behind what is held. `AllocError` also if an owner has
+    /// 2^32 groups, which no body may hold.
+    pub fn remains(&self) -> Result<Option<Remains>, AllocError>
+        ensures { IfOk result (λ some. IfSome some (λ rest. IsCaughtUp self.now × AreRemainsOf self.now rest)) }
+    {
+        let system = &self.system;
+        if !system.is_caught_up() {
+            return Ok(None);
+        }
+        let first = stored_in(system.repository.plain())?;
+        let table = system.table().thinned()?;
+        Ok(Some(Remains { first, table }))
+    }
+
+    /// Forgets its past: the history, the messages and the trail; and what is over: contracts that have no members, and
+    /// the runs that nobody asks for any more. This takes no memory.
+    pub fn forget(&mut self, rest: Remains)
+        requires caught_up { IsCaughtUp self.old }
+        requires rest { AreRemainsOf self.old rest }
+        ensures { self.new ≡ remains self.old }
+    {
+        self.system.forget(rest);
+    }
+
     /// An event happens: all that it makes is made, or nothing. If the event is a command, its reply is given back.
     pub fn happen(&mut self, event: &Event) -> Result<Items<CommandReply>, MachineFault>
         ensures ok { IfOk result (λ r. IsDone self.old event.now self.new r) }
         ensures err { OnErr result (self.new ≡ self.old) }
-        ensures safe { IsSafe self.new }
+        ensures safe { IsSafeSince self.new }
         ensures fault { IfErr result (λ e. IsUndone J.write_fails (work_of_event self.old event.now).changes e) }
     {
         see_event(event);
@@ -288,8 +358,8 @@ impl<J: Journal> Machine<J> {
     #[tactic(auto, unfolding(crate::specs::Parts::world_of))]
     pub fn trail(&self) -> &[Item]
         ensures shown { result.now ≡ reverse self.now.trail }
-        ensures reached { IsReached self.now }
-        ensures safe { IsSafe self.now }
+        ensures reached { IsBegun self.now }
+        ensures safe { IsSafeSince self.now }
         // Each message that was sent is read again from its line.
         ensures spelled { AreSpelled self.now }
     {

@@ -1,5 +1,5 @@
 ghost use Rattle.std.specs.Option.{option_copied};
-ghost use Rattle.std.specs.Prelude.{◌≡◌, ◌+◌, ◌<◌, find, map, option_map, IfOk};
+ghost use Rattle.std.specs.Prelude.{◌≡◌, ◌+◌, ◌<◌, find, map, option_map, true, IfOk};
 ghost use Rattle.smf_contract.specs.Entries.{statuses};
 ghost use Rattle.smf_engine.specs.Orders.{has_no_orders, orders_seen, question};
 ghost use Rattle.smf_machine.specs.Given.{is_actor_kept, is_named_kept};
@@ -8,7 +8,12 @@ ghost use Rattle.smf_model.specs.Look.{instance, launch_of};
 ghost use Rattle.smf_model.specs.Next.{outcome_of_command};
 ghost use Rattle.smf_model.specs.Shown.{rows_of, view};
 ghost use Rattle.smf_world.specs.Worked.{is_actor, is_named, restarter, sent_at};
-ghost use Rattle.smf_world.specs.Reached.{IsReached};
+ghost use Rattle.smf_past.specs.Begun.{IsBegun};
+ghost use Rattle.smf_past.specs.Forgotten.{IsCaughtUp};
+ghost use Rattle.smf_past.specs.Lived.{continued};
+ghost use Rattle.smf_past.specs.Remains.{remains};
+ghost use Rattle.smf_restarter.specs.Forgotten.{without_past_runs};
+ghost use Rattle.smf_contract.specs.Thinned.{thinned};
 ghost use Rattle.smf_world.specs.World.{initial_world};
 ghost use Rattle.smf_model.specs.Contents.{Holdings as AnyHoldings};
 ghost use Rattle.smf_changes.specs.Changes.{changes_since, recent};
@@ -24,6 +29,13 @@ use smf_wire::{Message, Order};
 use smf_world::Item;
 use std::alloc::{AllocError, Global};
 use std::marker::Model;
+
+/// What remains of a machine that forgets its past: what is held, and the contracts that have members.
+#[derive(Drop)]
+pub struct Remains {
+    pub(crate) first: Tables,
+    pub(crate) table: ContractTable,
+}
 
 /// All actors but the repository, and what was seen of them.
 pub struct Parts {
@@ -67,6 +79,48 @@ pub(crate) fn parts_of(alloc: Global, first: Tables) -> Parts
         messages: Vec::new(alloc),
         trail: Vec::new(alloc),
         table: ContractTable::new(alloc),
+    }
+}
+
+/// The restarters forget the runs that are over.
+fn forget_runs(restarters: &mut [Restarter])
+    ensures { map knowledge restarters.new ≡ map without_past_runs (map knowledge restarters.old) }
+{
+    for restarter in restarters.iter_mut() {
+        restarter.forget_runs();
+    }
+}
+
+impl Parts {
+    /// The same actors, as if nothing was said or seen before, without what is over.
+    #[tactic(auto, unfolding(crate::specs::Parts::world_of))]
+    pub(crate) fn forget(&mut self, rest: Remains)
+        ensures { (h : AnyHoldings) → rest.first ≡ h → rest.table.table ≡ thinned self.old.table.table
+            → world_of h self.new ≡ remains (world_of h self.old) }
+    {
+        let Remains { first, table } = rest;
+        self.first = first;
+        self.table = table;
+        self.commands.clear();
+        self.messages.clear();
+        self.trail.clear();
+        forget_runs(&mut self.restarters);
+    }
+}
+
+/// Nothing was said or seen yet, with these contracts.
+#[tactic(auto, unfolding(crate::specs::Parts::world_of))]
+pub(crate) fn continued_parts(alloc: Global, first: Tables, table: ContractTable) -> Parts
+    ensures { (h : AnyHoldings) → first ≡ h → world_of h result ≡ continued h table.table }
+{
+    Parts {
+        first,
+        commands: Vec::new(alloc),
+        restarters: Vec::new(alloc),
+        engine: Engine::new(),
+        messages: Vec::new(alloc),
+        trail: Vec::new(alloc),
+        table,
     }
 }
 
@@ -179,6 +233,16 @@ impl<J: Journal> System<J> {
         self.repository.keep_view()
     }
 
+    /// True if the graph has not fallen behind what is held.
+    pub(crate) fn is_caught_up(&self) -> bool
+        ensures { result ≡ true → IsCaughtUp self.now }
+    {
+        match self.parts.engine.revision() {
+            None => true,
+            Some(seen) => self.repository.plain().revision().get() <= seen,
+        }
+    }
+
     /// The orders of the view that the graph holds.
     pub(crate) fn orders(&self) -> Result<Items<Order>, AllocError>
         ensures { IfOk result (λ all. all ≡ orders_seen self.now.seen) }
@@ -216,7 +280,7 @@ impl<J: Journal> System<J> {
 
     /// True if nothing is ordered of what is held. The graph looks at what changed since the view that it holds.
     pub(crate) fn has_no_orders(&mut self) -> Result<bool, AllocError>
-        requires { IsReached self.old }
+        requires { IsBegun self.old }
         ensures same { self.new ≡ self.old }
         ensures nothing { IfOk result (λ b. b ≡ has_no_orders (view self.old.now)) }
     {

@@ -10,7 +10,7 @@ ghost use Rattle.smf_model.specs.Contents.{Holdings as AnyHoldings};
 ghost use Rattle.smf_world.specs.declared.event.Event.TheVariants as events;
 ghost use Rattle.smf_world.specs.declared.event.SpawnAnswer.{SpawnAnswer as AnyAnswer};
 ghost use Rattle.smf_world.specs.Happens.{world_after, happens};
-ghost use Rattle.smf_world.specs.Reached.{IsReached};
+ghost use Rattle.smf_past.specs.Begun.{IsBegun};
 ghost use Rattle.smf_world.specs.Worked.{work_of_event};
 
 use crate::children::Wanted;
@@ -237,7 +237,7 @@ impl<J: Journal> System<J> {
         instance: u64,
         wanted: &Wanted,
     ) -> Result<(), MachineFault>
-        requires reached { IsReached self.old }
+        requires reached { IsBegun self.old }
         requires asks { request_of_turn self.old name.now instance ≡ requests.Spawn wanted.now }
         ensures ok { OnOk result
             (TickedBy R.rules (requests.Spawn wanted.now) name.now instance self.old (R.seen runner.old) self.new
@@ -259,7 +259,7 @@ impl<J: Journal> System<J> {
         instance: u64,
         id: Number,
     ) -> Result<(), MachineFault>
-        requires { IsReached self.old }
+        requires { IsBegun self.old }
         ensures ok { OnOk result
             (TickedBy R.rules (requests.Kill id) name.now instance self.old (R.seen runner.old) self.new
             (R.seen runner.new)) }
@@ -279,7 +279,7 @@ impl<J: Journal> System<J> {
         instance: u64,
         spawn: SpawnAnswer,
     ) -> Result<(), MachineFault>
-        requires { IsReached self.old }
+        requires { IsBegun self.old }
         ensures ok { OnOk result (self.new ≡ happens self.old (events.Tick name.now instance spawn)) }
         ensures err { OnErr result (self.new ≡ self.old) }
         ensures fault { IfErr result (λ e. e ≡ Memory) }
@@ -297,7 +297,7 @@ impl<J: Journal> System<J> {
         name: &InstanceFmri,
         instance: u64,
     ) -> Result<(), MachineFault>
-        requires { IsReached self.old }
+        requires { IsBegun self.old }
         ensures ok { OnOk result
             (HasTicked R.rules name.now instance self.old (R.seen runner.old) self.new (R.seen runner.new)) }
         ensures err { OnErr result (self.new ≡ self.old) }
@@ -318,7 +318,7 @@ impl<J: Journal> System<J> {
         &mut self,
         runner: &mut R,
     ) -> Result<Option<ContractEvent>, MachineFault>
-        requires { IsReached self.old }
+        requires { IsBegun self.old }
         ensures heard { IfOk result (λ event. self.new ≡ world_after_poll event self.old) }
         ensures answered { IfOk result (λ event. R.rules.polls event (R.seen runner.old) (R.seen runner.new)) }
         ensures err { OnErr result (self.new ≡ self.old) }

@@ -13,3 +13,5 @@ mod BootLimits
 pub mod Lines
 pub mod IdleTurns
 mod SkippedTurns
+mod FitTables
+mod Forgetting

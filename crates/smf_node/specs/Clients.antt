@@ -9,7 +9,7 @@ use Rattle.smf_node.specs.declared.fault.NodeFault.{NodeFault}
 use Rattle.smf_node.specs.declared.fault.NodeFault.TheVariants.{Memory, Database}
 use Rattle.smf_node.specs.Faults.{IsLack}
 use Rattle.smf_world.specs.declared.event.Event.TheVariants as events
-use Rattle.smf_world.specs.Safe.{IsSafe}
+use Rattle.smf_past.specs.Begun.{IsSafeSince}
 use Rattle.smf_world.specs.Schedule.{Progress, on}
 use Rattle.smf_world.specs.Worked.{work_of_event}
 
@@ -33,4 +33,4 @@ IsEnd stores before edit (Err fault) after =
 pub record IsEditOf (stores : RepoFault → Type 0) (before : Progress) (edit : Edit)
     (end : Result CommandReply RepoFault) (after : Progress) : Type 0 where
   pub end_is : IsEnd stores before edit end after
-  pub safe : IsSafe after.world
+  pub safe : IsSafeSince after.world

@@ -5,7 +5,7 @@ ghost use Rattle.smf_node.specs.Faults.{IsFault, IsLack, is_against_launch, is_p
 ghost use Rattle.smf_node.specs.Marks.{progress_of};
 ghost use Rattle.smf_node.specs.Runs.{IsStep, RunsAll, RunsUntilFault, reply_of};
 ghost use Rattle.smf_world.specs.declared.event.Event.TheVariants as events;
-ghost use Rattle.smf_world.specs.Safe.{IsSafe};
+ghost use Rattle.smf_past.specs.Begun.{IsSafeSince};
 ghost use Rattle.smf_world.specs.Schedule.{is_heard, is_heard_in, on};
 ghost use Rattle.smf_world.specs.Worked.{work_of_event};
 ghost use Rattle.std.specs.Prelude.{◌≡◌, ◌∷◌, ◌<◌, ◌^◌, [], length, slice_get, None, IfErr, IfOk, OnErr, OnOk};
@@ -205,7 +205,7 @@ impl<J: Journal> Node<J> {
     /// launch or a boot needs a number that has no next one.
     pub fn step(&mut self, event: Event) -> Result<Option<CommandReply>, NodeFault>
         ensures ok { IfOk result (λ reply. IsStep self.old event self.new reply) }
-        ensures safe { IsSafe self.new.world }
+        ensures safe { IsSafeSince self.new.world }
         ensures err { OnErr result (self.new ≡ self.old) }
         ensures fault { IfErr result (λ e. IsFault J.write_fails self.old.world event e) }
     {
@@ -234,7 +234,7 @@ impl<J: Journal> Node<J> {
     pub fn apply(&mut self, edit: Edit) -> Result<CommandReply, NodeFault>
         ensures ok { OnOk result (self.new ≡ on self.old (events.Client edit)) }
         ensures reply { IfOk result (λ r. (work_of_event self.old.world (events.Client edit)).reply ≡ r ∷ []) }
-        ensures safe { IsSafe self.new.world }
+        ensures safe { IsSafeSince self.new.world }
         ensures err { OnErr result (self.new ≡ self.old) }
         ensures fault { IfErr result (λ e. IsLack J.write_fails self.old.world (events.Client edit) e) }
     {
@@ -268,7 +268,7 @@ impl<J: Journal> Node<J> {
     /// Events happen in turn. A fault ends it: those before the event that cannot happen have happened.
     pub fn run(&mut self, events: Vec<Event>) -> Result<(), NodeFault>
         ensures ok { OnOk result (RunsAll self.old events.items self.new) }
-        ensures safe { IsSafe self.new.world }
+        ensures safe { IsSafeSince self.new.world }
         ensures err { IfErr result (λ e. RunsUntilFault J.write_fails self.old events.items self.new e) }
     {
         let result = self.take_all(events);

@@ -2,6 +2,7 @@ ghost use Rattle.smf_node.specs.declared.fault.NodeFault.TheVariants.{Memory};
 ghost use Rattle.smf_node.specs.Faults.{fault_of};
 ghost use Rattle.std.specs.Prelude.{◌≡◌};
 
+use smf_fmri::Number;
 use smf_machine::MachineFault;
 use std::alloc::{AllocError, AllocFailed};
 
@@ -45,4 +46,15 @@ impl From<MachineFault> for NodeFault {
             MachineFault::Limit => NodeFault::Limit,
         }
     }
+}
+
+/// Why a node cannot go on with the contracts that are found.
+#[derive(Clone, Copy, PartialEq, Eq)]
+pub enum ContinueFault {
+    /// Memory ran out, or no number of a process is left.
+    Memory,
+    /// Their numbers do not rise, one is above the last that was given, or one may not be inherited.
+    Unfit,
+    /// The cookie of this contract names no run that a held row has given. It is to be ended.
+    Foreign(Number),
 }

@@ -1,11 +1,13 @@
-ghost use Rattle.smf_node.specs.Marks.{progress_of};
+ghost use Rattle.smf_node.specs.Marks.{is_told, progress_of, remaining_progress};
+ghost use Rattle.smf_past.specs.Remains.{remains};
+ghost use Rattle.smf_contract.specs.Entries.{has_members};
 ghost use Rattle.smf_world.specs.Schedule.{begun_at, has_key, has_other_key, mark_heard, progress_with_mark};
 ghost use Rattle.smf_world.specs.declared.event.Event.TheVariants as events;
 ghost use Rattle.smf_world.specs.World.{World as AnyWorld};
-ghost use Rattle.std.specs.List.{list_any};
-ghost use Rattle.std.specs.Prelude.{◌≡◌, ◌<◌, ◌++◌, [], filter, Bool, vec_capacity, vec_len, OnErr, OnOk};
+ghost use Rattle.std.specs.List.{list_all, list_any};
+ghost use Rattle.std.specs.Prelude.{◌≡◌, ◌<◌, ◌++◌, [], filter, length, Bool, vec_capacity, vec_len, OnErr, OnOk};
 
-use smf_contract::ContractEvent;
+use smf_contract::{ContractEvent, ContractTable};
 use smf_world::{Event, EventKey};
 use std::alloc::{AllocError, Global};
 
@@ -50,6 +52,13 @@ pub(crate) fn take_out(key: &EventKey, events: &mut Vec<ContractEvent>)
     events.retain(|event| !has_key(key, event));
 }
 
+/// True if the contract of each event has members.
+fn have_members(table: &ContractTable, events: &[ContractEvent]) -> bool
+    ensures { result ≡ list_all (λ e. has_members e.contract table.now.table.members) events.now }
+{
+    events.iter().all(|event| table.has_members(event.contract))
+}
+
 impl Marks {
     /// Nothing was delivered yet.
     #[tactic(auto, unfolding(crate::specs::Marks::progress_of))]
@@ -66,6 +75,32 @@ impl Marks {
             unheard: Vec::new(alloc),
             heard: Vec::new(alloc),
         }
+    }
+
+    /// True if each message was delivered in its turn, none is still to be lost, all events were looked at, and those that
+    /// nobody has heard are of contracts that have members.
+    #[tactic(auto, unfolding(crate::specs::Marks::progress_of, crate::specs::Marks::is_told))]
+    pub(crate) fn are_told(&self, sent: usize, table: &ContractTable) -> bool
+        ensures { (w : AnyWorld) → length w.sent ≡ sent → w.table ≡ table.now.table
+            → is_told (progress_of w self.now) ≡ result }
+    {
+        sent as u64 <= self.next
+            && self.lost.is_empty()
+            && self.looked == table.events().len()
+            && have_members(table, &self.unheard)
+    }
+
+    /// The marks of messages go, with the messages. So many events of contracts are left.
+    #[tactic(auto, unfolding(crate::specs::Marks::progress_of))]
+    pub(crate) fn forget(&mut self, looked: usize)
+        ensures { (w : AnyWorld) → length (remains w).table.events ≡ looked
+            → progress_of (remains w) self.new ≡ remaining_progress (progress_of w self.old) }
+    {
+        self.delivered.clear();
+        self.early.clear();
+        self.next = 0;
+        self.lost.clear();
+        self.looked = looked;
     }
 
     /// Makes room for the marks of one more event.

@@ -1,7 +1,7 @@
 ghost use Rattle.smf_node.specs.declared.fault.NodeFault.TheVariants.{Memory};
 ghost use Rattle.smf_node.specs.Marks.{last_delivered, progress_of};
 ghost use Rattle.smf_node.specs.Runs.{RepeatFails, RepeatsUntilFault};
-ghost use Rattle.smf_world.specs.Safe.{IsSafe};
+ghost use Rattle.smf_past.specs.Begun.{IsSafeSince};
 ghost use Rattle.smf_world.specs.Schedule.{delivered_again, progress_with_loss, lost_place};
 ghost use Rattle.std.specs.Prelude.{◌≡◌, ◌++◌, drop, filter, nat_lt, option_to_list, reverse, take, IfErr, IfOk, OnErr, OnOk};
 
@@ -127,7 +127,7 @@ impl<J: Journal> Node<J> {
     /// The last messages that were delivered are delivered again, in their order. A fault ends it.
     pub fn again(&mut self, count: u64) -> Result<(), NodeFault>
         ensures ok { OnOk result (self.new ≡ delivered_again (last_delivered count self.old) self.old) }
-        ensures safe { IsSafe self.new.world }
+        ensures safe { IsSafeSince self.new.world }
         ensures err { IfErr result
             (λ e. RepeatFails J.write_fails self.old (last_delivered count self.old) self.new e) }
     {

@@ -5,7 +5,7 @@ ghost use Rattle.smf_node.specs.Marks.{progress_of};
 ghost use Rattle.smf_node.specs.Partly.{DeedsFail, RestartersFail, RoundFails, SettleFails, TurnFails, TurnsFail};
 ghost use Rattle.smf_node.specs.Rounds.{AreDone, AreTaken, HasSettled, IsRound, IsTaken, course};
 ghost use Rattle.smf_restarter.specs.Ticks.{at_rest};
-ghost use Rattle.smf_world.specs.Safe.{IsSafe};
+ghost use Rattle.smf_past.specs.Begun.{IsSafeSince};
 ghost use Rattle.smf_world.specs.Schedule.{deliveries, first_turns, is_quiet, launched_names, turns_of, turns_of_all};
 ghost use Rattle.std.specs.List.{list_all};
 ghost use Rattle.std.specs.Prelude.{◌≡◌, ◌++◌, IfErr, IfOk, OnOk};
@@ -225,7 +225,7 @@ impl<J: Journal> Node<J> {
         ensures ok { IfOk result
             (λ how. HasSettled R.rules rounds (course self.old (R.seen runner.old))
             (course self.new (R.seen runner.new)) how) }
-        ensures safe { IsSafe self.new.world }
+        ensures safe { IsSafeSince self.new.world }
         ensures err { IfErr result
             (λ e. SettleFails R.rules J.write_fails rounds (course self.old (R.seen runner.old))
             (course self.new (R.seen runner.new)) e) }
@@ -240,7 +240,7 @@ impl<J: Journal> Node<J> {
         ensures ok { IfOk result
             (λ how. HasSettled table_rules rounds (course self.old seen_of_nobody)
             (course self.new seen_of_nobody) how) }
-        ensures safe { IsSafe self.new.world }
+        ensures safe { IsSafeSince self.new.world }
         ensures err { IfErr result
             (λ e. SettleFails table_rules J.write_fails rounds (course self.old seen_of_nobody)
             (course self.new seen_of_nobody) e) }

@@ -1,13 +1,13 @@
 ghost use Rattle.std.specs.Prelude.{◌≡◌, ◌≤◌, IfErr, IfOk, IfSome, OnErr, OnOk};
-ghost use Rattle.smf_drive.specs.Agrees.{Agrees};
+ghost use Rattle.smf_drive.specs.Agrees.{AgreesSince, Before};
 ghost use Rattle.smf_lines.specs.Lines.{lines_of};
-ghost use Rattle.smf_run.specs.Agreed.{AgreesOrDropped};
+ghost use Rattle.smf_run.specs.Agreed.{AgreesOrDroppedSince};
 ghost use Rattle.smf_edge.specs.Answers.{children_state};
 ghost use Rattle.smf_run.specs.Scripts.{HasRun, HasWritten, IsCut, Stops};
 ghost use Rattle.smf_script.specs.Faults.{IsWhy, Tells, failed_in};
 ghost use Rattle.smf_script.specs.Script.{IsWithin, first_session, status_of};
 ghost use Rattle.smf_world.specs.Reached.{IsLater};
-ghost use Rattle.smf_world.specs.Safe.{IsSafe};
+ghost use Rattle.smf_past.specs.Begun.{IsSafeSince};
 
 use crate::lines::run_line;
 use smf_edge::Kids;
@@ -112,12 +112,12 @@ pub fn run_script<R: LineReader, W: TextWriter, J: Journal, K: Kids>(
     ensures err { IfErr result (λ fault.
         Stops K.skills J.write_fails fault (first_session node.old) (R.remaining reader.old) (children_state (K.ledger kids.old) (K.failures kids.old)) (children_state (K.ledger kids.new) (K.failures kids.new)) node.new (W.contents writer.old) (W.contents writer.new)) }
     // If children and the node agreed, they agree; only a fault in a boot may leave children that have dropped all.
-    ensures agrees { OnOk result (Agrees node.old.world (K.ledger kids.old)
-        → Agrees node.new.world (K.ledger kids.new)) }
-    ensures dropped { OnErr result (Agrees node.old.world (K.ledger kids.old)
-        → AgreesOrDropped node.new.world (K.ledger kids.new)) }
+    ensures agrees { (b : Before) → OnOk result (AgreesSince b node.old.world (K.ledger kids.old)
+        → AgreesSince b node.new.world (K.ledger kids.new)) }
+    ensures dropped { (b : Before) → OnErr result (AgreesSince b node.old.world (K.ledger kids.old)
+        → AgreesOrDroppedSince b node.new.world (K.ledger kids.new)) }
     // Whatever the lines and the children: what the trail shows is what happened.
-    ensures safe { IsSafe node.new.world }
+    ensures safe { IsSafeSince node.new.world }
     ensures later { IsLater node.old.world node.new.world }
     ensures fault { IfErr result (λ e. IsWhy J.write_fails R.read_fails W.write_fails e) }
     // A read that failed ends it, and no other read does; an interrupted one counts as a line.

@@ -2,7 +2,7 @@
 use Rattle.std.proofs.Common.{◌≡◌, ℕ, List, [], ◌∷◌, length, Bool, true, false, sym, subst}
 use Rattle.std.specs.Prelude.{nat_lt}
 use Rattle.std.specs.declared.time.Duration.{Duration}
-use Rattle.smf_drive.specs.Agrees.{Agrees}
+use Rattle.smf_drive.specs.Agrees.{AgreesSince, Before}
 use Rattle.smf_drive.proofs.Agreement.{IsQuiet, agree_quiet, quiet_nothing}
 use Rattle.smf_edge.specs.Ledgers.{Ledger}
 use Rattle.smf_model.specs.declared.command.Edit.{Edit}
@@ -24,23 +24,23 @@ quiet_client : (w : World) (edit : Edit) → IsQuiet w.table (work_of_event w (C
 unfolding work_of_event work_of_command
 quiet_client w edit = quiet_nothing w.table
 
-marks_agree : (ns : List ℕ) (p : Progress) (l : Ledger) → Agrees p.world l → Agrees (marks ns p).world l
-marks_agree [] p l a = a
-marks_agree (n ∷ ns) p l a =
+marks_agree : {b : Before} (ns : List ℕ) (p : Progress) (l : Ledger) → AgreesSince b p.world l → AgreesSince b (marks ns p).world l
+marks_agree {b} [] p l a = a
+marks_agree {b} (n ∷ ns) p l a =
     marks_agree ns (on p (mark_of n)) l
     (agree_quiet p.world (on p (mark_of n)).world (mark_of n) l (on_world p (mark_of n))
     (quiet_client p.world (Mark n Maintenance)) a)
 
 -- ---- a look at the trail
 
-pub looked_agrees : (clock : Duration → Type 0) (s t : Between) (lines : List (List ℕ)) (b : Bool)
-    → LooksIf b clock s t lines → Agrees s.standing.course.progress.world s.standing.course.seen.ledger
-    → Agrees t.standing.course.progress.world t.standing.course.seen.ledger
-looked_agrees clock s t lines true h a =
-    subst (λ (c : Course). Agrees c.progress.world c.seen.ledger) (sym h.marked)
+pub looked_agrees : {past : Before} (clock : Duration → Type 0) (s t : Between) (lines : List (List ℕ)) (b : Bool)
+    → LooksIf b clock s t lines → AgreesSince past s.standing.course.progress.world s.standing.course.seen.ledger
+    → AgreesSince past t.standing.course.progress.world t.standing.course.seen.ledger
+looked_agrees {past} clock s t lines true h a =
+    subst (λ (c : Course). AgreesSince past c.progress.world c.seen.ledger) (sym h.marked)
     (marks_agree h.numbers s.standing.course.progress s.standing.course.seen.ledger a)
-looked_agrees clock s t lines false h a =
-    subst (λ (x : Between). Agrees x.standing.course.progress.world x.standing.course.seen.ledger) (sym h.0) a
+looked_agrees {past} clock s t lines false h a =
+    subst (λ (x : Between). AgreesSince past x.standing.course.progress.world x.standing.course.seen.ledger) (sym h.0) a
 
 pub looks_after : (clock : Duration → Type 0) (gone : Standing) (was is : SeenEnds) (t : Between)
     (lines : List (List ℕ)) → is ≡ was

@@ -1,5 +1,5 @@
 -- How a server goes on, turn by turn.
-use Rattle.std.proofs.Common.{◌≡◌, ◌<◌, ◌+◌, ℕ, zero, suc, List, [], ◌∷◌, ◌++◌, length, get_or, drop, map, Bool, Option, Some, None, refl, sym, ap, subst, ◌∙◌, append_assoc, append-nil}
+use Rattle.std.proofs.Common.{◌≡◌, inl, ◌<◌, ◌+◌, ℕ, zero, suc, List, [], ◌∷◌, ◌++◌, length, get_or, drop, map, Bool, Option, Some, None, refl, sym, ap, subst, ◌∙◌, append_assoc, append-nil}
 use Rattle.std.specs.Prelude.{flat_map}
 use Rattle.std.specs.declared.time.Duration.{Duration}
 use Rattle.smf_edge.specs.Answers.{Skills}
@@ -7,7 +7,7 @@ use Rattle.smf_model.specs.declared.journal.RepoFault.{RepoFault}
 use Rattle.smf_script.specs.declared.fault.ScriptFault.{ScriptFault}
 use Rattle.smf_server.specs.Life.{AreTurns, IsBroken, IsClosed}
 use Rattle.smf_watch.specs.Traffic.{Passed, Asked, Closed, Told, traffic_with, reply_in}
-use Rattle.smf_server.specs.Turns.{Between, Doing, IsFailed, IsServed, IsTurn, Step, Steps, TurnsFollow, passed_in}
+use Rattle.smf_server.specs.Turns.{Between, Doing, IsFailed, IsServed, IsTurn, MayHaveForgotten, Step, Steps, TurnsFollow, passed_in}
 use Rattle.smf_watch.proofs.Hasty.{left_at}
 
 -- ---- what passed
@@ -45,11 +45,13 @@ nothing_yet : (k : Skills) (clock : Duration → Type 0) (was : Option (List Pas
     → IsServed k clock was was s s
 nothing_yet k clock was s = record { turns = []; steps = refl; passed = sym (passing_nothing was) }
 
-steps_more : (k : Skills) (clock : Duration → Type 0) (turns : List Doing) (one : Doing) (s mid t : Between)
-    → Steps k clock turns s mid → Step k clock one mid t → Steps k clock (turns ++ one ∷ []) s t
-steps_more k clock [] one s mid t is step = (t, subst (λ (x : Between). Step k clock one x t) is step, refl)
-steps_more k clock (first ∷ more) one s mid t steps step =
-    (steps.0, steps.1, steps_more k clock more one steps.0 mid t steps.2 step)
+steps_more : (k : Skills) (clock : Duration → Type 0) (turns : List Doing) (one : Doing) (s mid t u : Between)
+    → Steps k clock turns s mid → Step k clock one mid t → MayHaveForgotten t u
+    → Steps k clock (turns ++ one ∷ []) s u
+steps_more k clock [] one s mid t u is step rest =
+    (t, u, subst (λ (x : Between). Step k clock one x t) is step, rest, refl)
+steps_more k clock (first ∷ more) one s mid t u steps step rest =
+    (steps.0, steps.1, steps.2, steps.3, steps_more k clock more one steps.1 mid t u steps.4 step rest)
 
 passed_more : (turns : List Doing) (one : Doing)
     → flat_map passed_in (turns ++ one ∷ []) ≡ flat_map passed_in turns ++ passed_in one
@@ -62,7 +64,7 @@ serves_more : (k : Skills) (clock : Duration → Type 0) (was now is : Option (L
 serves_more k clock was now is s mid t served turn =
     record {
       turns = served.turns ++ turn.one ∷ [];
-      steps = steps_more k clock served.turns turn.one s mid t served.steps turn.step;
+      steps = steps_more k clock served.turns turn.one s mid t t served.steps turn.step (inl refl);
       passed = turn.passed ∙ ap (traffic_with (passed_in turn.one)) served.passed
           ∙ passing_then (flat_map passed_in served.turns) (passed_in turn.one) was
           ∙ ap (λ (xs : List Passed). traffic_with xs was) (sym (passed_more served.turns turn.one));
@@ -83,13 +85,13 @@ no_turns k clock was s =
     record { served = record { turns = []; steps = refl; passed = sym (passing_nothing was) }; many = refl }
 
 pub one_turn_more : (k : Skills) (clock : Duration → Type 0) (n : ℕ) (was now is : Option (List Passed))
-    (s mid t : Between) → AreTurns k clock n was now s mid → IsTurn k clock now is mid t
-    → AreTurns k clock (suc n) was is s t
-one_turn_more k clock n was now is s mid t turns turn =
+    (s mid t u : Between) → AreTurns k clock n was now s mid → IsTurn k clock now is mid t → MayHaveForgotten t u
+    → AreTurns k clock (suc n) was is s u
+one_turn_more k clock n was now is s mid t u turns turn rest =
     record {
       served = record {
         turns = turns.served.turns ++ turn.one ∷ [];
-        steps = steps_more k clock turns.served.turns turn.one s mid t turns.served.steps turn.step;
+        steps = steps_more k clock turns.served.turns turn.one s mid t u turns.served.steps turn.step rest;
         passed = turn.passed ∙ ap (traffic_with (passed_in turn.one)) turns.served.passed
             ∙ passing_then (flat_map passed_in turns.served.turns) (passed_in turn.one) was
             ∙ ap (λ (xs : List Passed). traffic_with xs was) (sym (passed_more turns.served.turns turn.one));

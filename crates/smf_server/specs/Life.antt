@@ -1,11 +1,15 @@
 -- The life of a server, from its boot to its end.
-use Rattle.std.specs.Prelude.{◌≡◌, ◌⊎◌, ℕ, List, [], ◌∷◌, length, true, Option, Result, Ok, Err}
+use Rattle.std.specs.Prelude.{◌≡◌, ◌⊎◌, ℕ, List, [], ◌∷◌, length, true, Option, Result, Ok, Err, OnOk}
 use Rattle.std.specs.declared.time.Duration.{Duration}
+use Rattle.smf_drive.specs.Agrees.{AgreesSince, Before}
+use Rattle.smf_drive.specs.Forgets.{AgreesAnew}
 use Rattle.smf_edge.specs.Answers.{Seen, Skills}
 use Rattle.smf_model.specs.declared.journal.RepoFault.{RepoFault}
 use Rattle.smf_model.specs.Contents.{Holdings}
 use Rattle.smf_node.specs.Faults.{IsUnbooted}
 use Rattle.smf_node.specs.declared.fault.NodeFault.{NodeFault}
+use Rattle.smf_past.specs.Begun.{IsSafeSince}
+use Rattle.smf_past.specs.Lives.{LeadsTo}
 use Rattle.smf_run.specs.Ends.{HasEnded, IsUnlisted}
 use Rattle.smf_script.specs.declared.fault.ScriptFault.{ScriptFault}
 use Rattle.smf_script.specs.declared.fault.ScriptFault.TheVariants.{Node}
@@ -63,8 +67,15 @@ HasLasted k clock stores most (Err fault) was is s t = IsBroken k clock stores f
 abbrev pub AreLeft : Skills → Seen → Seen → Type 0
 AreLeft k old new = HasEnded k old new ⊎ IsUnlisted k old new
 
--- turns were taken, and then the children that were left were ended. The value after the last turn stands in the
--- journal
+-- if node and children agreed at first, they agree at last, whatever was there before
+abbrev pub KeepsAgreement : Between → Between → Type 0
+KeepsAgreement s t =
+    (b : Before) → AgreesSince b s.standing.course.progress.world s.standing.course.seen.ledger
+    → AgreesAnew t.standing.course.progress.world t.standing.course.seen.ledger
+
+-- Turns were taken, and then the children that were left were ended. The value after the last turn stands in the
+-- journal. The trail after the last turn is safe, with all that was forgotten before it; and if no fault ended the turns,
+-- node and children still agree.
 pub record HasLived {J : Type 0} (k : Skills) (clock : Duration → Type 0) (stores : RepoFault → Type 0)
     (stands : J → Holdings → Type 0)
     (most : ℕ) (how : Result Onward ScriptFault) (journal : J) (was is : Option (List Passed)) (first : Between)
@@ -72,6 +83,9 @@ pub record HasLived {J : Type 0} (k : Skills) (clock : Duration → Type 0) (sto
   pub last : Between
   pub lasted : HasLasted k clock stores most how was is first last
   pub kept : stands journal last.standing.course.progress.world.now
+  pub safe : IsSafeSince last.standing.course.progress.world
+  pub leads : LeadsTo first.standing.course.progress.world last.standing.course.progress.world
+  pub agrees : OnOk how (KeepsAgreement first last)
   pub left : AreLeft k last.standing.course.seen new
 
 -- there was no boot, and nothing was done

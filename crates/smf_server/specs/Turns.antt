@@ -1,6 +1,7 @@
 -- The state of a server, turn by turn.
-use Rattle.std.specs.Prelude.{◌≡◌, ℕ, nat_lt, ◌||◌, ◌&&◌, not, List, [], ◌∷◌, length, filter, flat_map, map, reverse, Bool, true, false, Option, Some}
+use Rattle.std.specs.Prelude.{◌≡◌, ◌⊎◌, ℕ, nat_lt, ◌||◌, ◌&&◌, not, List, [], ◌∷◌, length, filter, flat_map, map, reverse, Bool, true, false, Option, Some}
 use Rattle.std.specs.declared.time.Duration.{Duration}
+use Rattle.smf_drive.specs.Forgets.{HasForgotten as Forgot}
 use Rattle.smf_edge.specs.Answers.{Seen, Skills}
 use Rattle.smf_machine.specs.Runners.{rules_of}
 use Rattle.smf_model.specs.declared.journal.RepoFault.{RepoFault}
@@ -210,11 +211,34 @@ pub data IsFailed (k : Skills) (stores : RepoFault → Type 0) (fault : ScriptFa
   rounds_failed : (e : NodeFault) → fault ≡ Node e → IsCutAfter k was is s.standing.course
       → IsFailed k stores fault was is s t
 
+-- ---- what goes between turns
+
+-- nothing was under way, and the whole trail was looked at. The node and the children forgot what was told and what is
+-- over
+pub record HasForgotten (s t : Between) : Type 0 where
+  pub idle : s.standing.busy ≡ false
+  pub looked : has_more s ≡ false
+  pub both : Forgot s.standing.course.progress t.standing.course.progress s.standing.course.seen.ledger
+      t.standing.course.seen.ledger
+  pub failures : t.standing.course.seen.failures ≡ s.standing.course.seen.failures
+  pub busy : t.standing.busy ≡ s.standing.busy
+  pub anew : t.looked ≡ 0
+  pub ends : t.ends ≡ s.ends
+
+-- one more round is wanted
+abbrev pub wanting : Between → Between
+wanting s = record s { standing = record s.standing { busy = true } }
+
+-- that was done, or nothing; or one more round is wanted, by which the graph sees what is held
+abbrev pub MayHaveForgotten : Between → Between → Type 0
+MayHaveForgotten s t = (t ≡ s) ⊎ ((t ≡ wanting s) ⊎ HasForgotten s t)
+
 -- ---- turn after turn
 
 abbrev pub Steps : Skills → (Duration → Type 0) → List Doing → Between → Between → Type 0
 Steps k clock [] s t = t ≡ s
-Steps k clock (one ∷ more) s t = (mid : Between) × Step k clock one s mid × Steps k clock more mid t
+Steps k clock (one ∷ more) s t =
+    (mid rest : Between) × Step k clock one s mid × MayHaveForgotten mid rest × Steps k clock more rest t
 
 -- requests came in and were replied to in their order, each done on what all turns before it left
 pub record IsServed (k : Skills) (clock : Duration → Type 0) (was is : Option (List Passed))

@@ -1,14 +1,17 @@
 //! A server from its boot to its end.
-ghost use Rattle.std.specs.Prelude.{◌⊎◌, IfErr, IfOk};
+ghost use Rattle.std.specs.Prelude.{◌≡◌, ◌⊎◌, true, IfErr, IfOk, OnOk};
+ghost use Rattle.smf_drive.specs.Agrees.{AgreesSince, Before};
+ghost use Rattle.smf_drive.specs.Forgets.{AgreesAnew};
 ghost use Rattle.smf_edge.specs.Answers.{children_state};
 ghost use Rattle.smf_server.specs.Life.{HasLived, HasStayed, IsBroken, IsUnborn, state_after_boot};
-ghost use Rattle.smf_server.specs.Turns.{between, standing};
+ghost use Rattle.smf_server.specs.Turns.{MayHaveForgotten, between, standing};
 ghost use Rattle.smf_server.specs.declared.life.TheConstants.{MOST_TURNS};
-ghost use Rattle.smf_world.specs.Reached.{IsLater};
-ghost use Rattle.smf_world.specs.Safe.{IsSafe};
+ghost use Rattle.smf_past.specs.Lives.{LeadsTo};
+ghost use Rattle.smf_past.specs.Begun.{IsSafeSince};
 
 use crate::server::Server;
-use crate::turns::turn;
+use crate::turns::{has_more, turn};
+use smf_drive::forget;
 use smf_edge::Kids;
 use smf_model::{Journal, Plain};
 use smf_node::Node;
@@ -19,6 +22,55 @@ use std::alloc::Global;
 
 /// The most turns that a server takes, one of each microsecond of half a million years.
 pub const MOST_TURNS: u64 = u64::MAX;
+
+/// So many messages and items of the trail are kept, and as many more as there are instances, before they are forgotten.
+const MOST_KEPT: usize = 10_000;
+
+/// True if so much is kept that it is worth to forget it: to forget copies what is held.
+fn has_gathered<J: Journal>(node: &Node<J>) -> bool {
+    let kept = node.trail().len() / 2 + node.messages().len() / 2;
+    MOST_KEPT < kept && node.repository().entries().len() < kept
+}
+
+/// Wants one more round, by which the graph sees what is held, unless the trail shows no more than when one was wanted
+/// last.
+fn want_round<J: Journal, K: Kids>(server: &mut Server<J, K>)
+    ensures node { server.new.node ≡ server.old.node }
+    ensures kids { server.new.kids ≡ server.old.kids }
+    ensures ends { server.new.ends ≡ server.old.ends }
+    ensures busy { (server.new.busy ≡ server.old.busy) ⊎ (server.new.busy ≡ true) }
+{
+    let shown = server.node.trail().len();
+    if server.rested != shown {
+        server.rested = shown;
+        server.busy = true;
+    }
+}
+
+/// Forgets what was told and what is over, if much has gathered, nothing is under way, and the whole trail was looked at.
+/// It may want one more round before that. If memory runs out it does nothing, and tries again after the next turn.
+fn forget_if<J: Journal, K: Kids>(server: &mut Server<J, K>)
+    ensures forgets { MayHaveForgotten
+        (between
+        (standing server.old.node (children_state (K.ledger server.old.kids) (K.failures server.old.kids)) server.old.busy)
+        server.old.ends)
+        (between
+        (standing server.new.node (children_state (K.ledger server.new.kids) (K.failures server.new.kids)) server.new.busy)
+        server.new.ends) }
+    ensures agrees { (b : Before) → AgreesSince b server.old.node.world (K.ledger server.old.kids)
+        → AgreesAnew server.new.node.world (K.ledger server.new.kids) }
+    ensures safe { IsSafeSince server.new.node.world }
+{
+    let _shown = server.node.trail();
+    if server.busy || has_more(server) || !has_gathered(&server.node) {
+        return;
+    }
+    match forget(&mut server.node, &mut server.kids) {
+        Ok(true) => server.ends.looked = 0,
+        Ok(false) => want_round(server),
+        Err(_) => {}
+    }
+}
 
 /// Takes turns until no more is asked, or a fault ends it.
 fn stay<D: Desk, T: Timer, E: Ender, J: Journal, K: Kids>(
@@ -44,14 +96,16 @@ fn stay<D: Desk, T: Timer, E: Ender, J: Journal, K: Kids>(
         (between
         (standing server.new.node (children_state (K.ledger server.new.kids) (K.failures server.new.kids)) server.new.busy)
         server.new.ends)) }
-    ensures later { IsLater server.old.node.world server.new.node.world }
-    ensures safe { IsSafe server.new.node.world }
+    ensures leads { LeadsTo server.old.node.world server.new.node.world }
+    ensures agrees { OnOk result ((b : Before) → AgreesSince b server.old.node.world (K.ledger server.old.kids)
+        → AgreesAnew server.new.node.world (K.ledger server.new.kids)) }
+    ensures safe { IsSafeSince server.new.node.world }
 {
     let _shown = server.node.trail();
     let mut noted = Noted::new();
     for _ in 0..MOST_TURNS {
         match turn(alloc, desk, timer, ender, &mut noted, server) {
-            Ok(Onward::Goes) => {}
+            Ok(Onward::Goes) => forget_if(server),
             Ok(Onward::Ends) => return Ok(Onward::Ends),
             Err(fault) => return Err(fault),
         }
@@ -91,6 +145,7 @@ fn live<D: Desk, T: Timer, E: Ender, J: Journal + Drop, K: Kids + Drop>(
         watch: _watch,
         busy: _,
         ends: _ends,
+        rested: _,
     } = server;
     let _is_listed = end_all(&mut kids);
     Life {

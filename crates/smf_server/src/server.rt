@@ -15,6 +15,8 @@ pub struct Server<J: Journal, K: Kids> {
     pub busy: bool,
     /// The ends of instances that were seen lately.
     pub ends: Ends,
+    /// How much the trail showed when a round was last wanted so as to forget it.
+    pub rested: usize,
 }
 
 impl<J: Journal, K: Kids> Server<J, K> {
@@ -34,6 +36,7 @@ impl<J: Journal, K: Kids> Server<J, K> {
             watch: Watch::new(alloc),
             busy: true,
             ends: Ends::new(alloc),
+            rested: 0,
         }
     }
 }

@@ -1,5 +1,5 @@
 ghost use Rattle.std.specs.Prelude.{◌≡◌, ◌≤◌, ◌||◌, ◌&&◌, not, List, [], ◌∷◌, Option, Some, length, map, nat_lt, false, true, IfErr, IfOk, OnOk};
-ghost use Rattle.smf_drive.specs.Agrees.{Agrees};
+ghost use Rattle.smf_drive.specs.Agrees.{AgreesSince, Before};
 ghost use Rattle.smf_drive.specs.Moves.{Moves};
 ghost use Rattle.smf_edge.specs.Answers.{children_state};
 ghost use Rattle.smf_node.specs.Rounds.{course};
@@ -8,7 +8,7 @@ ghost use Rattle.smf_watch.specs.Sizes.{is_same, size_of};
 ghost use Rattle.smf_watch.specs.Stops.{is_new, stops_of, stop_lists_if};
 ghost use Rattle.smf_watch.specs.Traffic.{Asked, Passed, Told, traffic_with};
 ghost use Rattle.smf_world.specs.Reached.{IsLater};
-ghost use Rattle.smf_world.specs.Safe.{IsSafe};
+ghost use Rattle.smf_past.specs.Begun.{IsSafeSince};
 
 use crate::server::Server;
 use smf_drive::drive;
@@ -191,7 +191,7 @@ fn look<T: Timer, J: Journal, K: Kids>(
 }
 
 /// True if the trail shows anything new.
-fn has_more<J: Journal, K: Kids>(server: &Server<J, K>) -> bool
+pub(crate) fn has_more<J: Journal, K: Kids>(server: &Server<J, K>) -> bool
     ensures { result ≡ nat_lt server.now.ends.looked (length (shown_of server.now.node.world)) }
 {
     server.ends.looked < server.node.trail().len()
@@ -235,9 +235,9 @@ fn tick<T: Timer, J: Journal, K: Kids>(
         (between
         (standing server.new.node (children_state (K.ledger server.new.kids) (K.failures server.new.kids)) server.new.busy)
         server.new.ends) lines) }
-    ensures agrees { OnOk result (
-        Agrees server.old.node.world (K.ledger server.old.kids)
-        → Agrees server.new.node.world (K.ledger server.new.kids)) }
+    ensures agrees { (b : Before) → OnOk result (
+        AgreesSince b server.old.node.world (K.ledger server.old.kids)
+        → AgreesSince b server.new.node.world (K.ledger server.new.kids)) }
     ensures later { IsLater server.old.node.world server.new.node.world }
 {
     pass(timer, server)?;
@@ -317,9 +317,9 @@ fn answer<D: Desk, T: Timer, J: Journal, K: Kids>(
         (between
         (standing server.new.node (children_state (K.ledger server.new.kids) (K.failures server.new.kids)) server.new.busy)
         server.new.ends)) }
-    ensures agrees { OnOk result (
-        Agrees server.old.node.world (K.ledger server.old.kids)
-        → Agrees server.new.node.world (K.ledger server.new.kids)) }
+    ensures agrees { (b : Before) → OnOk result (
+        AgreesSince b server.old.node.world (K.ledger server.old.kids)
+        → AgreesSince b server.new.node.world (K.ledger server.new.kids)) }
     ensures later { IsLater server.old.node.world server.new.node.world }
 {
     let before = size_of(&server.node);
@@ -369,9 +369,9 @@ fn do_next<D: Desk, T: Timer, J: Journal, K: Kids>(
         (between
         (standing server.new.node (children_state (K.ledger server.new.kids) (K.failures server.new.kids)) server.new.busy)
         server.new.ends)) }
-    ensures agrees { OnOk result (
-        Agrees server.old.node.world (K.ledger server.old.kids)
-        → Agrees server.new.node.world (K.ledger server.new.kids)) }
+    ensures agrees { (b : Before) → OnOk result (
+        AgreesSince b server.old.node.world (K.ledger server.old.kids)
+        → AgreesSince b server.new.node.world (K.ledger server.new.kids)) }
     ensures later { IsLater server.old.node.world server.new.node.world }
 {
     match desk.next() {
@@ -418,11 +418,11 @@ fn take<D: Desk, T: Timer, J: Journal, K: Kids>(
         (between
         (standing server.new.node (children_state (K.ledger server.new.kids) (K.failures server.new.kids)) server.new.busy)
         server.new.ends)) }
-    ensures agrees { OnOk result (
-        Agrees server.old.node.world (K.ledger server.old.kids)
-        → Agrees server.new.node.world (K.ledger server.new.kids)) }
+    ensures agrees { (b : Before) → OnOk result (
+        AgreesSince b server.old.node.world (K.ledger server.old.kids)
+        → AgreesSince b server.new.node.world (K.ledger server.new.kids)) }
     ensures later { IsLater server.old.node.world server.new.node.world }
-    ensures safe { IsSafe server.new.node.world }
+    ensures safe { IsSafeSince server.new.node.world }
 {
     let onward = do_next(alloc, desk, timer, server);
     let _shown = server.node.trail();
@@ -460,12 +460,12 @@ pub fn turn<D: Desk, T: Timer, E: Ender, J: Journal, K: Kids>(
         (stops_of server.old.node.world.now) (E.told ender.old)) }
     ensures known { OnOk result (noted.new.size ≡ Some (size_of server.old.node.world)) }
     // If children and the node agreed, they agree.
-    ensures agrees { OnOk result (
-        Agrees server.old.node.world (K.ledger server.old.kids)
-        → Agrees server.new.node.world (K.ledger server.new.kids)) }
+    ensures agrees { (b : Before) → OnOk result (
+        AgreesSince b server.old.node.world (K.ledger server.old.kids)
+        → AgreesSince b server.new.node.world (K.ledger server.new.kids)) }
     // However it ends, what is held is what some events make of what was, and what the trail shows is what happened.
     ensures later { IsLater server.old.node.world server.new.node.world }
-    ensures safe { IsSafe server.new.node.world }
+    ensures safe { IsSafeSince server.new.node.world }
 {
     match noted.tell(alloc, ender, &server.node) {
         Ok(()) => take(alloc, desk, timer, server),

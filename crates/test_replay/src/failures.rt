@@ -6,7 +6,7 @@ use smf_edge::{Happening, Kids, KidsFault, Note, TableKids};
 use smf_fmri::{InstanceFmri, Items, Number};
 use smf_method::CommandText;
 use smf_state::Duration;
-use std::alloc::Global;
+use std::alloc::{AllocError, Global};
 
 /// Children that a contract table simulates. One call that does something fails, by its number: a spawn is refused, and
 /// with any other the device fails.
@@ -119,6 +119,10 @@ impl Kids for FailingKids {
 
     fn faults(&self) -> u64 {
         self.failures
+    }
+
+    fn forget(&mut self) -> Result<(), AllocError> {
+        self.kids.forget()
     }
 
     fn notes(&self) -> &[Note] {

@@ -1,9 +1,11 @@
 //! `test_replay`: replays a text of events, one a line, on a node over a repository in memory, and prints what each
 //! refuses or shows. With the word `trace` it prints at its end what it gave to the node, line by line. With the word
-//! `script` it does a script in place of events, and one call fails. With the word `asked` it asks contracts.
+//! `script` it does a script in place of events, and one call fails. With the word `asked` it asks contracts. With the
+//! word `served` a server is asked the same again and again.
 //! Modules: `event` (a line's event), `safety` (the safety of a trail), `replay` (what a line does), `traces` (what
 //! the node is given), `fault`; `script` (a script of which a call fails), `failures` (children that fail), `streams` (a
-//! reader and a writer that fail), `journal` (a journal that fails); `asked` (contracts whose answers are written down).
+//! reader and a writer that fail), `journal` (a journal that fails); `asked` (contracts whose answers are written down);
+//! `serving` (a server).
 #![tactic(auto)]
 
 mod asked;
@@ -14,6 +16,7 @@ mod journal;
 mod replay;
 mod safety;
 mod script;
+mod serving;
 mod streams;
 mod traces;
 
@@ -21,6 +24,7 @@ use crate::asked::ask_contracts;
 use crate::fault::ReplayFault;
 use crate::replay::Replay;
 use crate::script::do_script;
+use crate::serving::serve;
 use log::Log;
 use log::sink::Memory;
 use std::io::{BufRead, BufReader, Write};
@@ -97,6 +101,7 @@ fn run(rt: &HostRuntime) -> io::Result<u8> {
     let words = words(rt)?;
     match task_word(&words) {
         "script" => do_script(rt, &words),
+        "served" => serve(rt, &words),
         "asked" => {
             ask_contracts(rt)?;
             Ok(0)

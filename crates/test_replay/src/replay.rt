@@ -3,9 +3,10 @@ use crate::fault::fault_text;
 use crate::safety::first_broken;
 use crate::traces::{trace_event, trace_line};
 use log::Log;
+use smf_contract::{Contract, ContractTable, EventKind, Exit, Found};
 use smf_fmri::Text;
 use smf_model::{NoJournal, Plain};
-use smf_node::{Node, NodeFault};
+use smf_node::{ContinueFault, Node, NodeFault};
 use smf_script::{asks_children, run_request, settled_text};
 use smf_svccfg::{Selection, words};
 use smf_wire::{Message, encode};
@@ -13,10 +14,20 @@ use smf_words::{Request, request_of, trail_text};
 use smf_world::Event;
 use std::alloc::{AllocError, Global};
 use std::fmt::Write;
+use std::mem::replace;
 use std::str;
 
 /// The text for a line that is none of a replay.
 const BAD_LINE: &str = "smf: bad line\n";
+
+/// The text if a new process cannot go on with the contracts that it finds.
+const UNFIT: &str = "smf: unfit contracts\n";
+
+const FOREIGN: &str = "smf: foreign contract\n";
+
+const FORGOT: &str = "forgot\n";
+
+const NOTHING_FORGOTTEN: &str = "nothing forgotten\n";
 
 /// A node over a repository in memory, and what svccfg has selected. Only `end` drops it.
 pub(crate) struct Replay {
@@ -74,23 +85,102 @@ fn two_events(
     Ok(Some(events))
 }
 
+/// How the first process of a contract ended, if it has.
+fn first_end(table: &ContractTable, contract: &Contract) -> Option<Exit> {
+    for event in table.events() {
+        if event.contract == contract.id {
+            if let EventKind::Exit(process, exit) = event.kind {
+                if process == contract.first {
+                    return Some(exit);
+                }
+            }
+        }
+    }
+    None
+}
+
+/// The contracts that have members, as a new process finds them.
+fn found_in(alloc: Global, table: &ContractTable) -> Result<Vec<Found>, AllocError> {
+    let mut found = Vec::new(alloc);
+    for contract in table.contracts() {
+        if table.has_members(contract.id) {
+            found.push(Found {
+                id: contract.id,
+                cookie: contract.cookie,
+                terms: contract.terms,
+                end: first_end(table, contract),
+            })?;
+        }
+    }
+    Ok(found)
+}
+
+/// A node after the boot of a repository that holds nothing.
+fn new_node(alloc: Global) -> Result<Node<NoJournal>, NodeFault> {
+    match Node::new(alloc, Plain::new(alloc, NoJournal {})) {
+        Ok(node) => Ok(node),
+        Err((fault, repository)) => {
+            let NoJournal {} = repository.into_journal();
+            Err(fault)
+        }
+    }
+}
+
+fn end_node(node: Node<NoJournal>) {
+    let NoJournal {} = node.into_repository().into_journal();
+}
+
 impl Replay {
     /// Begins after the boot of a repository that holds nothing.
     pub(crate) fn new(alloc: Global) -> Result<Replay, NodeFault> {
         let selection = Selection::Nothing;
-        match Node::new(alloc, Plain::new(alloc, NoJournal {})) {
-            Ok(node) => Ok(Replay { node, selection }),
-            Err((fault, repository)) => {
-                let NoJournal {} = repository.into_journal();
-                Err(fault)
-            }
-        }
+        let node = new_node(alloc)?;
+        Ok(Replay { node, selection })
     }
 
     /// Ends the node.
     pub(crate) fn end(self) {
         let Replay { node, selection: _ } = self;
-        let NoJournal {} = node.into_repository().into_journal();
+        end_node(node);
+    }
+
+    /// The process ends, and a new one goes on with what is held and with the contracts that have members.
+    fn put_next_life(&mut self, alloc: Global, out: &mut String) -> Result<(), NodeFault> {
+        let found = found_in(alloc, self.node.table())?;
+        let last = self.node.table().last_contract();
+        let ended = replace(&mut self.node, new_node(alloc)?);
+        match Node::continued(alloc, ended.into_repository(), last, &found) {
+            Ok(node) => {
+                end_node(replace(&mut self.node, node));
+                Ok(())
+            }
+            Err((fault, repository)) => {
+                let NoJournal {} = repository.into_journal();
+                match fault {
+                    ContinueFault::Memory => Err(NodeFault::Memory),
+                    ContinueFault::Unfit => {
+                        out.push_str(UNFIT)?;
+                        Ok(())
+                    }
+                    ContinueFault::Foreign(_) => {
+                        out.push_str(FOREIGN)?;
+                        Ok(())
+                    }
+                }
+            }
+        }
+    }
+
+    /// What was told and what is over is forgotten, if nothing is under way.
+    fn put_forgetting(&mut self, out: &mut String) -> Result<(), NodeFault> {
+        match self.node.remains()? {
+            Some(rest) => {
+                self.node.forget(rest);
+                out.push_str(FORGOT)?;
+            }
+            None => out.push_str(NOTHING_FORGOTTEN)?,
+        }
+        Ok(())
     }
 
     /// The rows that are held: the number of the instance and the text of its row.
@@ -240,6 +330,14 @@ impl Replay {
             [first] if first.as_str() == "check" => {
                 self.put_check(alloc, out)?;
                 Ok(())
+            }
+            [first] if first.as_str() == "forget" => {
+                trace_line(log, text);
+                self.put_forgetting(out)
+            }
+            [first] if first.as_str() == "cut" => {
+                trace_line(log, text);
+                self.put_next_life(alloc, out)
             }
             [_, between, second @ ..] if between.as_str() == "then" => {
                 trace_line(log, text);

@@ -15,7 +15,7 @@ returns-clause-moves g c =
 
 pub returns-clause-agrees : goal.returns-clause-agrees
 returns-clause-agrees g c =
-    agree_moves c.args.node.now.world c.drive.new.self.world (g.K.Kids.ledger c.args.kids.now)
+    λ b. agree_moves {b = b} c.args.node.now.world c.drive.new.self.world (g.K.Kids.ledger c.args.kids.now)
     (g.K.Kids.ledger c.drive.new.runner) (returns-clause-moves g c)
 
 pub returns-clause-driven : goal.returns-clause-driven

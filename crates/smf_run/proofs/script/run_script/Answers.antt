@@ -3,11 +3,11 @@ use Rattle.smf_run.proofs.script.run_script.Goals as goal
 
 pub returns-clause-agrees : goal.returns-clause-agrees
 returns-clause-agrees g c =
-    end_agrees g.K.Kids.skills _ _ _ _ _ _ _
+    λ b. end_agrees b g.K.Kids.skills _ _ _ _ _ _ _
     _ c.trail-begun.ensures.reached c.do_lines-end.ensures.ran
 
 pub returns-clause-dropped : goal.returns-clause-dropped
 returns-clause-dropped g c =
-    end_dropped g.K.Kids.skills g.J.Journal.write_fails _ _ _ _ _ _ _
+    λ b. end_dropped b g.K.Kids.skills g.J.Journal.write_fails _ _ _ _ _ _ _
     _ c.trail-begun.ensures.reached
     c.do_lines-end.ensures.err

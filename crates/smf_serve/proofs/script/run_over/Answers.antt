@@ -1,6 +1,8 @@
 use Rattle.std.proofs.Common.{refl, subst}
 use Rattle.smf_model.specs.Contents.{Holdings}
+use Rattle.smf_drive.specs.Agrees.{nothing_before}
 use Rattle.smf_serve.specs.Runs.IsCutOff.{unbooted}
+use Rattle.smf_safety.proofs.Safely.{safe_later}
 use Rattle.smf_serve.proofs.Ended.{are_ended, cut_off, ran_over}
 use Rattle.smf_serve.proofs.script.run_over.Goals as goal
 
@@ -21,10 +23,11 @@ returns-clause-ran g c =
     c.run_script-end.new.node _ _ _ _ _ _ c.run_script-end.result
     c.in-Ok.ensures.ok c.run_script-end.ensures.ran
     (are_ended c.end_all-is_listed.result _ _ _ c.end_all-is_listed.ensures.ended c.end_all-is_listed.ensures.unlisted)
-    c.run_script-end.ensures.safe
+    (safe_later c.in-Ok.node.world c.run_script-end.new.node.world c.in-Ok.ensures.reached
+    c.run_script-end.ensures.later)
     (subst (λ (h : Holdings). g.J.Journal.stands c.into_journal-journal.result h) c.into_repository.ensures
     c.into_journal-journal.ensures.stands)
-    c.run_script-end.ensures.agrees
+    (c.run_script-end.ensures.agrees nothing_before)
 
 pub returns-clause-cut : goal.returns-clause-cut
 returns-clause-cut g c =
@@ -33,7 +36,8 @@ returns-clause-cut g c =
     c.in-Ok.node c.run_script-end.new.node _ _ _ _ _ _ c.run_script-end.result c.in-Ok.ensures.ok
     c.run_script-end.ensures.err c.run_script-end.ensures.fault
     (are_ended c.end_all-is_listed.result _ _ _ c.end_all-is_listed.ensures.ended c.end_all-is_listed.ensures.unlisted)
-    c.run_script-end.ensures.safe
+    (safe_later c.in-Ok.node.world c.run_script-end.new.node.world c.in-Ok.ensures.reached
+    c.run_script-end.ensures.later)
     (subst (λ (h : Holdings). g.J.Journal.stands c.into_journal-journal.result h) c.into_repository.ensures
     c.into_journal-journal.ensures.stands)
-    c.run_script-end.ensures.dropped
+    (c.run_script-end.ensures.dropped nothing_before)

@@ -12,6 +12,9 @@ returns g c =
           c.stay-how.new.server.busy) c.stay-how.new.server.ends;
       lasted = lasted g.K.Kids.skills _ _ _ c.stay-how.result _ _ _ _ c.stay-how.ensures.ok c.stay-how.ensures.err;
       kept = rw c.into_repository.ensures at c.into_journal.ensures.stands;
+      safe = c.stay-how.ensures.safe;
+      leads = c.stay-how.ensures.leads;
+      agrees = c.stay-how.ensures.agrees;
       left = are_left g.K.Kids.skills c.end_all-is_listed.result _ _ c.end_all-is_listed.ensures.ended
           c.end_all-is_listed.ensures.unlisted;
     }

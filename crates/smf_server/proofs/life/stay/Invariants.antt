@@ -1,8 +1,10 @@
+use Rattle.smf_drive.specs.Agrees.{AgreesSince, Before}
+use Rattle.smf_drive.specs.Forgets.{AgreesAnew}
 use Rattle.smf_edge.specs.Answers.{children_state}
+use Rattle.smf_past.specs.Begun.{IsSafeSince}
+use Rattle.smf_past.specs.Lives.{LeadsTo}
 use Rattle.smf_server.specs.Life.{AreTurns}
 use Rattle.smf_server.specs.Turns.{between, standing}
-use Rattle.smf_world.specs.Reached.{IsLater}
-use Rattle.smf_world.specs.Safe.{IsSafe}
 use Rattle.smf_server.proofs.life.stay.Given as goal
 
 abbrev pub invariant-loop : goal.invariant-loop
@@ -13,4 +15,6 @@ invariant-loop g l =
     l.fn.server.ends)
     (between (standing l.server.node
     (children_state (g.K.Kids.ledger l.server.kids) (g.K.Kids.failures l.server.kids)) l.server.busy) l.server.ends)
-    × (IsLater l.fn.server.node.world l.server.node.world × IsSafe l.server.node.world)
+    × (LeadsTo l.fn.server.node.world l.server.node.world × IsSafeSince l.server.node.world
+    × ((b : Before) → AgreesSince b l.fn.server.node.world (g.K.Kids.ledger l.fn.server.kids)
+    → AgreesAnew l.server.node.world (g.K.Kids.ledger l.server.kids)))

@@ -56,7 +56,7 @@ returns-clause-err g c =
 
 pub returns-in-Ok-go_if-clause-agrees : goal.returns-in-Ok-go_if-clause-agrees
 returns-in-Ok-go_if-clause-agrees g c =
-    λ agrees. agree_moves _ _ _ _ c.go_if.ensures.moves (c.in-Ok.ensures.agrees agrees)
+    λ b agrees. agree_moves {b = b} _ _ _ _ c.go_if.ensures.moves (c.in-Ok.ensures.agrees b agrees)
 
 pub returns-in-Ok-go_if-clause-later : goal.returns-in-Ok-go_if-clause-later
 returns-in-Ok-go_if-clause-later g c =

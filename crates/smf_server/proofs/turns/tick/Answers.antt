@@ -27,8 +27,8 @@ returns-clause-ticked g c =
 
 pub returns-clause-agrees : goal.returns-clause-agrees
 returns-clause-agrees g c =
-    λ agrees.
-    looked_agrees (g.T.Timer.says c.args.timer.now)
+    λ b agrees.
+    looked_agrees {past = b} (g.T.Timer.says c.args.timer.now)
     (between (standing c.pass.new.server.node
     (children_state (g.K.Kids.ledger c.pass.new.server.kids) (g.K.Kids.failures c.pass.new.server.kids))
     c.pass.new.server.busy) c.pass.new.server.ends)

@@ -9,14 +9,7 @@ pub after-events-requires : goal.after-events-requires
 after-events-requires c =
     let old = ledger_of c.args.self.now in
     let same = c.reserve.ensures.kept in
-    let low : length old.notes < 0x7fff_ffff_ffff_ffff =
-    omega (
-      arith,
-      c.args.self.now.notes.ok.0,
-      c.reserve-2.new.self.small,
-      c.in_ok-reserve-2.ensures.ok,
-      c.reserve-2.ensures.len,
-    ) in
+    let low : old.table.last_process < 0x7fff_ffff_ffff_ffff = c.in_ok-one_more.ensures in
     let is : c.call.new.self.table ≡ table_after_contract_call old.table (call_of c.args.process c.args.happening) =
     rw (same, c.table_call.ensures) at c.call.ensures in
     let b = brought_by old c.args.id c.args.process c.args.happening c.call.new.self.table c.requires.sound low
@@ -27,14 +20,7 @@ pub note_all-requires : goal.note_all-requires
 note_all-requires c =
     let old = ledger_of c.args.self.now in
     let same = c.reserve.ensures.kept in
-    let low : length old.notes < 0x7fff_ffff_ffff_ffff =
-    omega (
-      arith,
-      c.args.self.now.notes.ok.0,
-      c.reserve-2.new.self.small,
-      c.in_ok-reserve-2.ensures.ok,
-      c.reserve-2.ensures.len,
-    ) in
+    let low : old.table.last_process < 0x7fff_ffff_ffff_ffff = c.in_ok-one_more.ensures in
     let is : c.call.new.self.table ≡ table_after_contract_call old.table (call_of c.args.process c.args.happening) =
     rw (same, c.table_call.ensures) at c.call.ensures in
     let b = brought_by old c.args.id c.args.process c.args.happening c.call.new.self.table c.requires.sound low
@@ -50,14 +36,7 @@ pub unwrap-requires : goal.unwrap-requires
 unwrap-requires c =
     let old = ledger_of c.args.self.now in
     let same = c.reserve.ensures.kept in
-    let low : length old.notes < 0x7fff_ffff_ffff_ffff =
-    omega (
-      arith,
-      c.args.self.now.notes.ok.0,
-      c.reserve-2.new.self.small,
-      c.in_ok-reserve-2.ensures.ok,
-      c.reserve-2.ensures.len,
-    ) in
+    let low : old.table.last_process < 0x7fff_ffff_ffff_ffff = c.in_ok-one_more.ensures in
     let is : c.call.new.self.table ≡ table_after_contract_call old.table (call_of c.args.process c.args.happening) =
     rw (same, c.table_call.ensures) at c.call.ensures in
     let b = brought_by old c.args.id c.args.process c.args.happening c.call.new.self.table c.requires.sound low
@@ -73,14 +52,7 @@ pub take_first-requires : goal.take_first-requires
 take_first-requires c =
     let old = ledger_of c.args.self.now in
     let same = c.reserve.ensures.kept in
-    let low : length old.notes < 0x7fff_ffff_ffff_ffff =
-    omega (
-      arith,
-      c.args.self.now.notes.ok.0,
-      c.reserve-2.new.self.small,
-      c.in_ok-reserve-2.ensures.ok,
-      c.reserve-2.ensures.len,
-    ) in
+    let low : old.table.last_process < 0x7fff_ffff_ffff_ffff = c.in_ok-one_more.ensures in
     let is : c.call.new.self.table ≡ table_after_contract_call old.table (call_of c.args.process c.args.happening) =
     rw (same, c.table_call.ensures) at c.call.ensures in
     let b = brought_by old c.args.id c.args.process c.args.happening c.call.new.self.table c.requires.sound low
@@ -97,14 +69,7 @@ pub returns-clause-told : goal.returns-clause-told
 returns-clause-told c =
     let old = ledger_of c.args.self.now in
     let same = c.reserve.ensures.kept in
-    let low : length old.notes < 0x7fff_ffff_ffff_ffff =
-    omega (
-      arith,
-      c.args.self.now.notes.ok.0,
-      c.reserve-2.new.self.small,
-      c.in_ok-reserve-2.ensures.ok,
-      c.reserve-2.ensures.len,
-    ) in
+    let low : old.table.last_process < 0x7fff_ffff_ffff_ffff = c.in_ok-one_more.ensures in
     let is : c.call.new.self.table ≡ table_after_contract_call old.table (call_of c.args.process c.args.happening) =
     rw (same, c.table_call.ensures) at c.call.ensures in
     let b = brought_by old c.args.id c.args.process c.args.happening c.call.new.self.table c.requires.sound low
@@ -120,13 +85,3 @@ returns-clause-told c =
     sym items ∙ c.take_first.ensures in
     told_by c.args.id c.args.process c.args.happening c.take_first.result c.after-events.result.now old _ b is got
     given (search rules)
-
-pub returns-clause-room : goal.returns-clause-room
-returns-clause-room c =
-    omega (
-      arith,
-      c.args.self.now.notes.ok.0,
-      c.reserve-2.new.self.small,
-      c.in_ok-reserve-2.ensures.ok,
-      c.reserve-2.ensures.len,
-    )

@@ -1,4 +1,4 @@
-use Rattle.smf_safety.proofs.Safely.{reached_safe}
+use Rattle.smf_past.proofs.BegunWorlds.{begun_safe}
 use Rattle.smf_machine.proofs.Soundness.{sound_after}
 use Rattle.smf_machine.proofs.machine.Machine.happen.Goals as goal
 
@@ -15,6 +15,6 @@ invariant_of-self g c =
 
 pub returns-clause-safe : goal.returns-clause-safe
 returns-clause-safe g c =
-    reached_safe c.happen.new.self
+    begun_safe c.happen.new.self
     (sound_after c.self.inside.system c.happen.new.self c.args.event.now c.happen.result c.self.invariant
     c.see_event.ensures c.happen.ensures.ok c.happen.ensures.err).reached

@@ -1,8 +1,7 @@
 use Rattle.std.proofs.Common.{◌∙◌, subst, sym}
 use Rattle.smf_world.specs.Formed.{IsFormed}
 use Rattle.smf_model.specs.Laws.{IsNumbered}
-use Rattle.smf_safety.proofs.Safely.{reached_safe}
-use Rattle.smf_machine.proofs.Soundness.{now_same, sound_new}
+use Rattle.smf_machine.proofs.Soundness.{now_same, safe_new, sound_new, world_reached}
 use Rattle.smf_machine.proofs.Linked.{linked_first}
 use Rattle.smf_machine.proofs.machine.Machine.new.Goals as goal
 
@@ -21,12 +20,17 @@ invariant_of-result g c =
 
 pub returns-in-Ok-boot-clause-safe : goal.returns-in-Ok-boot-clause-safe
 returns-in-Ok-boot-clause-safe g c =
-    reached_safe c.boot.new.self
-    (sound_new c.over.result.held _ c.boot.new.self
+    safe_new c.over.result.held _ c.boot.new.self
     (c.parts_of.ensures c.over.result.held (c.in-Ok.ensures.exact ∙ sym c.over.ensures.held))
-    (subst IsNumbered (sym c.over.ensures.held) c.in-Ok.ensures.numbered)
-    (subst IsFormed (sym c.over.ensures.held) c.in-Ok.ensures.formed) c.in-Ok-boot.ensures.accepted
-    c.in-Ok-boot.ensures.ok).reached
+    (subst IsNumbered (sym c.over.ensures.held) c.in-Ok.ensures.numbered) c.in-Ok-boot.ensures.accepted
+    c.in-Ok-boot.ensures.ok
+
+pub returns-in-Ok-boot-clause-reached : goal.returns-in-Ok-boot-clause-reached
+returns-in-Ok-boot-clause-reached g c =
+    world_reached c.over.result.held _ c.boot.new.self
+    (c.parts_of.ensures c.over.result.held (c.in-Ok.ensures.exact ∙ sym c.over.ensures.held))
+    (subst IsNumbered (sym c.over.ensures.held) c.in-Ok.ensures.numbered) c.in-Ok-boot.ensures.accepted
+    c.in-Ok-boot.ensures.ok
 
 pub returns-in-Err-boot-clause-err : goal.returns-in-Err-boot-clause-err
 returns-in-Err-boot-clause-err g c =
