@@ -11,16 +11,13 @@ use smf_keeper::{Groups, Keepers, Room};
 use smf_model::{Journal, Plain};
 use smf_program::tell_no_database;
 use smf_script::ScriptFault;
-use smf_server::{Life, Onward, fault_text, stay_over};
+use smf_server::{Life, Unborn, fault_text, stay_over};
 use smf_store::open_repository;
 use sqlite::{Alter, Connection};
 use std::io;
 
-/// Tells why a server ended, and gives the status of its run.
-fn tell_end(rt: &HostRuntime, desk: &FileDesk<'_>, how: &Result<Onward, ScriptFault>) -> u8 {
-    if let Err(fault) = how {
-        return tell(&mut rt.stderr(), fault_text(fault));
-    }
+/// Tells why nothing more was asked, if it was no request, and gives the status of the run.
+fn tell_end(rt: &HostRuntime, desk: &FileDesk<'_>) -> u8 {
     match desk.failure() {
         Some(text) => tell(&mut rt.stderr(), text),
         None => 0,
@@ -39,11 +36,7 @@ fn stay<J: Journal + Drop, K: Kids + Drop>(
         let status = tell(&mut rt.stderr(), "smf: serve: no ticks can be started");
         return (status, repository.into_journal());
     }
-    let Life {
-        how,
-        journal,
-        kids: _kids,
-    } = stay_over(
+    let stayed = stay_over(
         rt.alloc(),
         desk,
         &SystemTimer { rt },
@@ -51,7 +44,21 @@ fn stay<J: Journal + Drop, K: Kids + Drop>(
         repository,
         kids,
     );
-    (tell_end(rt, desk, &how), journal)
+    match stayed {
+        Ok(Life {
+            how: _,
+            journal,
+            kids: _kids,
+        }) => (tell_end(rt, desk), journal),
+        Err(Unborn {
+            fault,
+            journal,
+            kids: _kids,
+        }) => {
+            let status = tell(&mut rt.stderr(), fault_text(&ScriptFault::Node(fault)));
+            (status, journal)
+        }
+    }
 }
 
 /// Stays over the store in a database and children. It takes any store: a proof over a store in files takes far longer.

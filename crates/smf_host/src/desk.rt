@@ -6,7 +6,8 @@ use std::alloc::{AllocError, Global};
 use std::fs::File;
 use std::io::{BufReader, Read, Write};
 use std::os::unix::fs::OpenOptionsExt;
-use std::rt::HostRuntime;
+use std::rt::{Clock, HostRuntime};
+use std::time::Duration;
 use std::{fs, io};
 
 /// The status of a request that is not done.
@@ -20,6 +21,9 @@ const MAX_REQUEST: u64 = 4_194_304;
 
 /// The most bytes of the name of a request.
 const MAX_NAME: usize = 64;
+
+/// A tick that comes within so many milliseconds had waited.
+const AT_ONCE: u64 = 1;
 
 /// Requests in a folder, and replies to them. A line of a pipe says that one has come.
 #[derive(Drop)]
@@ -95,18 +99,37 @@ impl<'a> FileDesk<'a> {
         Call::End
     }
 
-    /// The next line of the pipe.
+    /// The next line of the pipe. One for which there is no memory is a tick.
     fn call(&mut self) -> Call {
         let alloc = self.rt.alloc();
         match read_line(alloc, &mut self.wake, &mut Turns::new()) {
             Ok(Some(line)) => match call_of(alloc, &line) {
                 Ok(call) => call,
-                Err(_) => self.fail("smf: no memory"),
+                Err(_) => Call::Tick,
             },
             Ok(None) => Call::End,
             Err(ReadFault::Input(_)) => self.fail("smf: input failed"),
-            Err(ReadFault::Memory) => self.fail("smf: no memory"),
+            Err(ReadFault::Memory) => Call::Tick,
             Err(ReadFault::TooManyLines(_)) => Call::Other,
+        }
+    }
+
+    /// The time of the clock, if it can be read.
+    fn time(&self) -> Option<Duration> {
+        self.rt.monotonic().ok()
+    }
+
+    /// True if a tick had waited while the server was busy. Its like are let go, so that those that gather while turns
+    /// take long keep no request waiting.
+    fn had_waited(&self, call: &Call, begun: Option<Duration>) -> bool {
+        match call {
+            Call::Tick => match (begun, self.time()) {
+                (Some(begun), Some(now)) => {
+                    now.saturating_sub(begun) < Duration::from_millis(AT_ONCE)
+                }
+                _ => false,
+            },
+            _ => false,
         }
     }
 
@@ -191,8 +214,12 @@ impl<'a> Desk for FileDesk<'a> {
     ghost passed = { λ _. None };
 
     fn next(&mut self) -> ServerInput {
+        let begun = self.time();
         for _ in 0..u64::MAX {
             let call = self.call();
+            if self.had_waited(&call, begun) {
+                continue;
+            }
             if let Some(ask) = self.ask_of_call(call) {
                 return ask;
             }

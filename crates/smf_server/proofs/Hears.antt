@@ -5,8 +5,9 @@ use Rattle.smf_drive.specs.Moves.IsMove.{polled}
 use Rattle.smf_drive.proofs.Moves.{moves_none, moves_then, one_move}
 use Rattle.smf_edge.specs.Answers.{Skills}
 use Rattle.smf_machine.specs.Runners.{HasGiven, rules_of}
+use Rattle.smf_node.specs.declared.fault.NodeFault.{NodeFault}
 use Rattle.smf_node.specs.Rounds.{AreGiven, Course, NoMore, course, with_event}
-use Rattle.smf_watch.specs.Watched.{HasHeard}
+use Rattle.smf_watch.specs.Watched.{HasHeard, StopsHearing}
 use Rattle.smf_world.specs.Schedule.{Progress}
 
 -- ---- they are moves
@@ -45,3 +46,10 @@ heard_moved k c d any h =
     d.seen.ledger
     (given_moved k h.learned.count c h.learned.mid h.learned.given)
     (ended_moved k h.learned.count h.learned.mid d h.learned.ended)
+
+pub stopped_moved : (k : Skills) (c d : Course) (e : NodeFault) → StopsHearing k c d e
+    → Moves c.progress.world d.progress.world c.seen.ledger d.seen.ledger
+stopped_moved k c d e (n, m, given, (why, stays)) =
+    moves_then c.progress.world m.progress.world d.progress.world c.seen.ledger m.seen.ledger d.seen.ledger
+    (given_moved k n c m given)
+    (still_moved m d (ap (λ (p : Progress). p.world) stays.progress) stays.kept)

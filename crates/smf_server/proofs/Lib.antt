@@ -3,4 +3,4 @@ pub mod Late
 pub mod Lives
 pub mod Marked
 pub mod Served
-pub mod Turned
+pub mod TurnSteps

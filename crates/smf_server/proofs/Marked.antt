@@ -1,5 +1,5 @@
 -- Marks and looks at the trail, in which children have no part.
-use Rattle.std.proofs.Common.{◌≡◌, ℕ, List, [], ◌∷◌, length, Bool, true, false, sym, subst}
+use Rattle.std.proofs.Common.{◌≡◌, ℕ, List, [], ◌∷◌, length, sym, subst}
 use Rattle.std.specs.Prelude.{nat_lt}
 use Rattle.std.specs.declared.time.Duration.{Duration}
 use Rattle.smf_drive.specs.Agrees.{AgreesSince, Before}
@@ -8,9 +8,8 @@ use Rattle.smf_edge.specs.Ledgers.{Ledger}
 use Rattle.smf_model.specs.declared.command.Edit.{Edit}
 use Rattle.smf_model.specs.declared.command.Edit.TheVariants.{Mark}
 use Rattle.smf_model.specs.declared.command.Mark.TheVariants.{Maintenance}
-use Rattle.smf_node.specs.Rounds.{Course}
 use Rattle.smf_watch.specs.declared.ends.Ends.{Ends as SeenEnds}
-use Rattle.smf_watch.specs.Loops.{mark_of, marks}
+use Rattle.smf_watch.specs.Loops.{AreMarked, mark_of, marks}
 use Rattle.smf_server.specs.Turns.{Between, LooksIf, Standing, between, has_more, shown_of}
 use Rattle.smf_world.specs.declared.event.Event.TheVariants.{Client}
 use Rattle.smf_world.specs.Schedule.{Progress, on}
@@ -31,16 +30,15 @@ marks_agree {b} (n ∷ ns) p l a =
     (agree_quiet p.world (on p (mark_of n)).world (mark_of n) l (on_world p (mark_of n))
     (quiet_client p.world (Mark n Maintenance)) a)
 
--- ---- a look at the trail
+pub marked_agree : {b : Before} (ns : List ℕ) (p q : Progress) (l : Ledger) → q ≡ marks ns p → AgreesSince b p.world l
+    → AgreesSince b q.world l
+marked_agree {b} ns p q l is a = subst (λ (x : Progress). AgreesSince b x.world l) (sym is) (marks_agree ns p l a)
 
-pub looked_agrees : {past : Before} (clock : Duration → Type 0) (s t : Between) (lines : List (List ℕ)) (b : Bool)
-    → LooksIf b clock s t lines → AgreesSince past s.standing.course.progress.world s.standing.course.seen.ledger
-    → AgreesSince past t.standing.course.progress.world t.standing.course.seen.ledger
-looked_agrees {past} clock s t lines true h a =
-    subst (λ (c : Course). AgreesSince past c.progress.world c.seen.ledger) (sym h.marked)
-    (marks_agree h.numbers s.standing.course.progress s.standing.course.seen.ledger a)
-looked_agrees {past} clock s t lines false h a =
-    subst (λ (x : Between). AgreesSince past x.standing.course.progress.world x.standing.course.seen.ledger) (sym h.0) a
+pub some_agree : {b : Before} (ns : List ℕ) (p q : Progress) (l : Ledger) → AreMarked ns p q → AgreesSince b p.world l
+    → AgreesSince b q.world l
+some_agree {b} ns p q l h a = marked_agree h.0 p q l h.3 a
+
+-- ---- a look at the trail
 
 pub looks_after : (clock : Duration → Type 0) (gone : Standing) (was is : SeenEnds) (t : Between)
     (lines : List (List ℕ)) → is ≡ was

@@ -1,13 +1,17 @@
 -- How a server goes on, turn by turn.
-use Rattle.std.proofs.Common.{◌≡◌, inl, ◌<◌, ◌+◌, ℕ, zero, suc, List, [], ◌∷◌, ◌++◌, length, get_or, drop, map, Bool, Option, Some, None, refl, sym, ap, subst, ◌∙◌, append_assoc, append-nil}
-use Rattle.std.specs.Prelude.{flat_map}
+use Rattle.std.proofs.Common.{◌≡◌, inl, ◌<◌, ◌+◌, ℕ, zero, suc, List, [], ◌∷◌, ◌++◌, length, get_or, drop, map, Bool, true, Option, Some, None, refl, sym, ap, subst, ◌∙◌, append_assoc, append-nil, arith}
 use Rattle.std.specs.declared.time.Duration.{Duration}
+use Rattle.smf_drive.specs.Agrees.{AgreesSince, Before}
+use Rattle.smf_drive.specs.Forgets.{AgreesAnew}
 use Rattle.smf_edge.specs.Answers.{Skills}
 use Rattle.smf_model.specs.declared.journal.RepoFault.{RepoFault}
 use Rattle.smf_script.specs.declared.fault.ScriptFault.{ScriptFault}
-use Rattle.smf_server.specs.Life.{AreTurns, IsBroken, IsClosed}
-use Rattle.smf_watch.specs.Traffic.{Passed, Asked, Closed, Told, traffic_with, reply_in}
-use Rattle.smf_server.specs.Turns.{Between, Doing, IsFailed, IsServed, IsTurn, MayHaveForgotten, Step, Steps, TurnsFollow, passed_in}
+use Rattle.smf_server.specs.FaultTexts.{fault_text}
+use Rattle.smf_server.specs.Life.{HasConcluded, HasStayed, KeepsAgreement, is_uncut}
+use Rattle.smf_watch.specs.Traffic.{Passed, Asked, Told, traffic_with, reply_in}
+use Rattle.smf_server.specs.Turns.{Between, Failed, Failure, Fails, HasTurned, IsFailed, IsServed, IsTurn, MayHaveForgotten, RequestFailed, RoundsFailed, StillAgrees, Taken, TickFailed, Turn, TurnsFollow, all_passed, fault_of, last_words, passed_at, passed_in, told_anew}
+use Rattle.smf_watch.specs.declared.ask.Onward.{Onward}
+use Rattle.smf_watch.specs.declared.ask.Onward.TheVariants.{Goes, Ends}
 use Rattle.smf_watch.proofs.Hasty.{left_at}
 
 -- ---- what passed
@@ -41,84 +45,148 @@ told_one lines i line was is all low at told so_far =
 
 -- ---- turns
 
-nothing_yet : (k : Skills) (clock : Duration → Type 0) (was : Option (List Passed)) (s : Between)
-    → IsServed k clock was was s s
-nothing_yet k clock was s = record { turns = []; steps = refl; passed = sym (passing_nothing was) }
+nothing_yet : (k : Skills) (clock : Duration → Type 0) (stores : RepoFault → Type 0) (was : Option (List Passed))
+    (s : Between) → IsServed k clock stores was was s s
+nothing_yet k clock stores was s = record { turns = []; steps = refl; passed = sym (passing_nothing was) }
 
-steps_more : (k : Skills) (clock : Duration → Type 0) (turns : List Doing) (one : Doing) (s mid t u : Between)
-    → Steps k clock turns s mid → Step k clock one mid t → MayHaveForgotten t u
-    → Steps k clock (turns ++ one ∷ []) s u
-steps_more k clock [] one s mid t u is step rest =
-    (t, u, subst (λ (x : Between). Step k clock one x t) is step, rest, refl)
-steps_more k clock (first ∷ more) one s mid t u steps step rest =
-    (steps.0, steps.1, steps.2, steps.3, steps_more k clock more one steps.1 mid t u steps.4 step rest)
-
-passed_more : (turns : List Doing) (one : Doing)
-    → flat_map passed_in (turns ++ one ∷ []) ≡ flat_map passed_in turns ++ passed_in one
-passed_more [] one = append-nil (passed_in one)
-passed_more (first ∷ more) one = ap (λ (xs : List Passed). passed_in first ++ xs) (passed_more more one)
-    ∙ sym (append_assoc (passed_in first) (flat_map passed_in more) (passed_in one))
-
-serves_more : (k : Skills) (clock : Duration → Type 0) (was now is : Option (List Passed)) (s mid t : Between)
-    → IsServed k clock was now s mid → IsTurn k clock now is mid t → IsServed k clock was is s t
-serves_more k clock was now is s mid t served turn =
+pub taken_more : (k : Skills) (clock : Duration → Type 0) (stores : RepoFault → Type 0)
+    (was now is : Option (List Passed)) (s mid t u : Between) → IsServed k clock stores was now s mid
+    → IsTurn k clock now is mid t → MayHaveForgotten t u → IsServed k clock stores was is s u
+taken_more k clock stores was now is s mid t u served turn rest =
     record {
-      turns = served.turns ++ turn.one ∷ [];
-      steps = steps_more k clock served.turns turn.one s mid t t served.steps turn.step (inl refl);
+      turns = Taken turn.one ∷ served.turns;
+      steps = (mid, served.steps, (t, turn.step, rest));
       passed = turn.passed ∙ ap (traffic_with (passed_in turn.one)) served.passed
-          ∙ passing_then (flat_map passed_in served.turns) (passed_in turn.one) was
-          ∙ ap (λ (xs : List Passed). traffic_with xs was) (sym (passed_more served.turns turn.one));
+          ∙ passing_then (all_passed served.turns) (passed_in turn.one) was
+          ∙ ap (λ (xs : List Passed). traffic_with (all_passed served.turns ++ xs) was)
+          (sym (append-nil (passed_in turn.one)));
     }
 
-pub turns_follow : (k : Skills) (clock : Duration → Type 0) → TurnsFollow k clock
-turns_follow k clock was now is s mid t = (nothing_yet k clock was s, serves_more k clock was now is s mid t)
+-- its fault is told, unless it was told last
+pub failed_more : (k : Skills) (clock : Duration → Type 0) (stores : RepoFault → Type 0) (fault : ScriptFault)
+    (was now turned is : Option (List Passed)) (s mid t : Between) → (served : IsServed k clock stores was now s mid)
+    → IsFailed k stores fault now turned mid t → t.standing.busy ≡ true
+    → is ≡ traffic_with (told_anew (last_words served.turns) (Some (fault_text fault))) turned
+    → IsServed k clock stores was is s t
+failed_more k clock stores fault was now turned is s mid t served failed busy told =
+    let last : Option (List ℕ) = last_words served.turns in
+    let before : List Passed = all_passed served.turns in
+    let first : List Passed = passed_at failed.how in
+    let more : List Passed = told_anew last (Some (fault_text (fault_of failed.how))) in
+    record {
+      turns = Failed failed.how ∷ served.turns;
+      steps = (mid, served.steps, (failed.fails, busy));
+      passed = told
+          ∙ ap (λ (x : ScriptFault). traffic_with (told_anew last (Some (fault_text x))) turned) failed.named
+          ∙ ap (traffic_with more)
+          (failed.passed ∙ ap (traffic_with first) served.passed ∙ passing_then before first was)
+          ∙ passing_then (before ++ first) more was
+          ∙ ap (λ (xs : List Passed). traffic_with xs was) (append_assoc before first more);
+    }
+
+pub turns_follow : (k : Skills) (clock : Duration → Type 0) (stores : RepoFault → Type 0) → TurnsFollow k clock stores
+turns_follow k clock stores was now is s mid t fault = (
+  nothing_yet k clock stores was s,
+  (λ served turn. taken_more k clock stores was now is s mid t t served turn (inl refl)),
+  (λ served failed busy. failed_more k clock stores fault was now is _ s mid t served failed busy refl),
+)
 
 -- ---- so many turns
 
-many_more : (turns : List Doing) (one : Doing) → length (turns ++ one ∷ []) ≡ suc (length turns)
-many_more [] one = refl
-many_more (first ∷ more) one = ap suc (many_more more one)
+-- so many turns were taken, and the last one failed with these words, or did not fail
+pub record HaveTaken (k : Skills) (clock : Duration → Type 0) (stores : RepoFault → Type 0) (count : ℕ)
+    (last : Option (List ℕ)) (was is : Option (List Passed)) (s t : Between) : Type 0 where
+  pub served : IsServed k clock stores was is s t
+  pub many : length served.turns ≡ count
+  pub words : last ≡ last_words served.turns
+  pub agrees : is_uncut served.turns ≡ true → KeepsAgreement s t
 
-pub no_turns : (k : Skills) (clock : Duration → Type 0) (was : Option (List Passed)) (s : Between)
-    → AreTurns k clock zero was was s s
-no_turns k clock was s =
-    record { served = record { turns = []; steps = refl; passed = sym (passing_nothing was) }; many = refl }
-
-pub one_turn_more : (k : Skills) (clock : Duration → Type 0) (n : ℕ) (was now is : Option (List Passed))
-    (s mid t u : Between) → AreTurns k clock n was now s mid → IsTurn k clock now is mid t → MayHaveForgotten t u
-    → AreTurns k clock (suc n) was is s u
-one_turn_more k clock n was now is s mid t u turns turn rest =
+pub none_taken : (k : Skills) (clock : Duration → Type 0) (stores : RepoFault → Type 0) (was : Option (List Passed))
+    (s : Between) → HaveTaken k clock stores zero None was was s s
+unfolding nothing_yet
+none_taken k clock stores was s =
     record {
-      served = record {
-        turns = turns.served.turns ++ turn.one ∷ [];
-        steps = steps_more k clock turns.served.turns turn.one s mid t u turns.served.steps turn.step rest;
-        passed = turn.passed ∙ ap (traffic_with (passed_in turn.one)) turns.served.passed
-            ∙ passing_then (flat_map passed_in turns.served.turns) (passed_in turn.one) was
-            ∙ ap (λ (xs : List Passed). traffic_with xs was) (sym (passed_more turns.served.turns turn.one));
-      };
-      many = many_more turns.served.turns turn.one ∙ ap suc turns.many;
+      served = nothing_yet k clock stores was s;
+      many = refl;
+      words = refl;
+      agrees = λ uncut b a. record { before = b; agrees = a };
     }
+
+-- they agreed, and then they agree still
+agrees_on : (s mid t u : Between) → KeepsAgreement s mid → StillAgrees mid t → KeepsAgreement t u → KeepsAgreement s u
+agrees_on s mid t u before turn rest b a =
+    let now : AgreesAnew mid.standing.course.progress.world mid.standing.course.seen.ledger = before b a in
+    rest now.before (turn now.before now.agrees)
+
+how_agrees : (k : Skills) (stores : RepoFault → Type 0) (how : Failure) (turns : List Turn) (s mid t u : Between)
+    → Fails k stores how mid t → (is_uncut turns ≡ true → KeepsAgreement s mid) → KeepsAgreement t u
+    → is_uncut (Failed how ∷ turns) ≡ true → KeepsAgreement s u
+how_agrees k stores (TickFailed e) turns s mid t u fails before rest uncut =
+    agrees_on s mid t u (before uncut) fails.1 rest
+how_agrees k stores (RequestFailed fault a) turns s mid t u fails before rest uncut = absurd cc
+how_agrees k stores (RoundsFailed e a) turns s mid t u fails before rest uncut =
+    agrees_on s mid t u (before uncut) fails.3 rest
+
+pub one_more : (k : Skills) (clock : Duration → Type 0) (stores : RepoFault → Type 0) (n : ℕ)
+    (last next : Option (List ℕ)) (fault : Option ScriptFault) (was now turned is : Option (List Passed))
+    (s mid t u : Between) → HaveTaken k clock stores n last was now s mid
+    → HasTurned k clock stores Goes fault now turned mid t
+    → ((b : Before) → fault ≡ None
+    → AgreesSince b mid.standing.course.progress.world mid.standing.course.seen.ledger
+    → AgreesSince b t.standing.course.progress.world t.standing.course.seen.ledger)
+    → HasConcluded fault last next turned is t u → KeepsAgreement t u
+    → HaveTaken k clock stores (suc n) next was is s u
+unfolding taken_more failed_more
+one_more k clock stores n last next None was now turned is s mid t u taken turn agrees (cleared, same, rest) then =
+    record {
+      served = taken_more k clock stores was now is s mid t u taken.served
+          (record { one = turn.one; step = turn.step; passed = same ∙ turn.passed }) rest;
+      many = ap suc taken.many;
+      words = cleared;
+      agrees = λ uncut. agrees_on s mid t u (taken.agrees uncut) (λ b a. agrees b refl a) then;
+    }
+one_more k clock stores n last next (Some fault) was now turned is s mid t u taken turn agrees (kept, told, same) then =
+    let failed : IsFailed k stores fault now turned mid u =
+    subst (λ (x : Between). IsFailed k stores fault now turned mid x) (sym same) turn.0 in
+    record {
+      served = failed_more k clock stores fault was now turned is s mid u taken.served failed
+          (ap (λ (x : Between). x.standing.busy) same ∙ turn.1)
+          (told ∙ ap (λ (x : Option (List ℕ)). traffic_with (told_anew x (Some (fault_text fault))) turned) taken.words);
+      many = ap suc taken.many;
+      words = kept ∙ ap (λ (x : ScriptFault). Some (fault_text x)) failed.named;
+      agrees = how_agrees k stores failed.how taken.served.turns s mid u u failed.fails taken.agrees
+          (λ b a. record { before = b; agrees = a });
+    }
+
+pub goes_on : (k : Skills) (clock : Duration → Type 0) (stores : RepoFault → Type 0) (n : ℕ)
+    (last next : Option (List ℕ)) (o : Onward) (fault : Option ScriptFault) (was now turned is : Option (List Passed))
+    (s mid t u : Between) → HaveTaken k clock stores n last was now s mid → o ≡ Goes
+    → HasTurned k clock stores o fault now turned mid t
+    → ((b : Before) → fault ≡ None
+    → AgreesSince b mid.standing.course.progress.world mid.standing.course.seen.ledger
+    → AgreesSince b t.standing.course.progress.world t.standing.course.seen.ledger)
+    → HasConcluded fault last next turned is t u → KeepsAgreement t u
+    → HaveTaken k clock stores (n + 1) next was is s u
+goes_on k clock stores n last next o fault was now turned is s mid t u taken goes turn agrees concluded then =
+    let more : suc n ≡ n + 1 = omega arith in
+    subst (λ (m : ℕ). HaveTaken k clock stores m next was is s u) more
+    (one_more k clock stores n last next fault was now turned is s mid t u taken
+    (subst (λ (x : Onward). HasTurned k clock stores x fault now turned mid t) goes turn) agrees concluded then)
 
 -- no more was asked
-pub is_closed : (k : Skills) (clock : Duration → Type 0) (n : ℕ) (was now is : Option (List Passed))
-    (s mid t : Between) → AreTurns k clock n was now s mid → t ≡ mid → is ≡ traffic_with (Closed ∷ []) now
-    → IsClosed k clock was is s t
-is_closed k clock n was now is s mid t turns same closed =
-    record {
-      now = now;
-      served = subst (λ (x : Between). IsServed k clock was now s x) (sym same) turns.served;
-      closed = closed;
-    }
+pub stays_closed : (k : Skills) (clock : Duration → Type 0) (stores : RepoFault → Type 0) (most n : ℕ)
+    (last : Option (List ℕ)) (o : Onward) (fault : Option ScriptFault) (was now is : Option (List Passed))
+    (s mid t : Between) → HaveTaken k clock stores n last was now s mid → o ≡ Ends
+    → HasTurned k clock stores o fault now is mid t → HasStayed k clock stores most Ends was is s t
+stays_closed k clock stores most n last o fault was now is s mid t taken ends turn =
+    let closed : HasTurned k clock stores Ends fault now is mid t =
+    subst (λ (x : Onward). HasTurned k clock stores x fault now is mid t) ends turn in
+    subst (λ (x : Between). HasStayed k clock stores most Ends was is s x) (sym closed.0)
+    (record { now = now; served = taken.served; over = closed.1; agrees = taken.agrees })
 
--- a fault ended the next turn
-pub is_broken : (k : Skills) (clock : Duration → Type 0) (stores : RepoFault → Type 0) (fault : ScriptFault) (n : ℕ)
-    (was now is : Option (List Passed)) (s mid t : Between) → AreTurns k clock n was now s mid
-    → IsFailed k stores fault now is mid t
-    → IsBroken k clock stores fault was is s t
-is_broken k clock stores fault n was now is s mid t turns failed =
-    record { now = now; mid = mid; served = turns.served; failed = failed }
-
--- so many turns were the most
-pub all_taken : (k : Skills) (clock : Duration → Type 0) (n most : ℕ) (was is : Option (List Passed)) (s t : Between)
-    → AreTurns k clock n was is s t → n ≡ most → AreTurns k clock most was is s t
-all_taken k clock n most was is s t turns same = subst (λ (x : ℕ). AreTurns k clock x was is s t) same turns
+-- the most turns were taken
+pub stays_all : (k : Skills) (clock : Duration → Type 0) (stores : RepoFault → Type 0) (most n : ℕ)
+    (last : Option (List ℕ)) (was is : Option (List Passed)) (s t : Between)
+    → HaveTaken k clock stores n last was is s t → n ≡ most → HasStayed k clock stores most Goes was is s t
+stays_all k clock stores most n last was is s t taken all =
+    record { now = is; served = taken.served; over = (taken.many ∙ all, refl); agrees = taken.agrees }

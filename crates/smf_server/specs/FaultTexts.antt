@@ -1,5 +1,5 @@
--- The text of the fault that ended a server.
-use Rattle.std.specs.Prelude.{ℕ, List, codes}
+-- The text of a fault that a turn ended with.
+use Rattle.std.specs.Prelude.{ℕ, List, [], ◌∷◌, ◌++◌, codes}
 use Rattle.smf_cfg.specs.Outcomes.{read_text}
 use Rattle.smf_node.specs.declared.fault.NodeFault.{NodeFault}
 use Rattle.smf_node.specs.declared.fault.NodeFault.TheVariants as nodes
@@ -17,3 +17,7 @@ abbrev pub fault_text : ScriptFault → List ℕ
 fault_text (scripts.Node fault) = node_text fault
 fault_text (scripts.Lines fault) = read_text fault
 fault_text (scripts.Output fault) = codes "smf: output failed"
+
+-- as a line of a reply
+abbrev pub fault_line : ScriptFault → List ℕ
+fault_line fault = fault_text fault ++ 10 ∷ []

@@ -1,5 +1,5 @@
 -- The life of a server, from its boot to its end.
-use Rattle.std.specs.Prelude.{◌≡◌, ◌⊎◌, ℕ, List, [], ◌∷◌, length, true, Option, Result, Ok, Err, OnOk}
+use Rattle.std.specs.Prelude.{◌≡◌, ◌⊎◌, ℕ, List, [], ◌∷◌, length, ◌&&◌, not, Bool, true, false, Option, Some, None}
 use Rattle.std.specs.declared.time.Duration.{Duration}
 use Rattle.smf_drive.specs.Agrees.{AgreesSince, Before}
 use Rattle.smf_drive.specs.Forgets.{AgreesAnew}
@@ -12,44 +12,56 @@ use Rattle.smf_past.specs.Begun.{IsSafeSince}
 use Rattle.smf_past.specs.Lives.{LeadsTo}
 use Rattle.smf_run.specs.Ends.{HasEnded, IsUnlisted}
 use Rattle.smf_script.specs.declared.fault.ScriptFault.{ScriptFault}
-use Rattle.smf_script.specs.declared.fault.ScriptFault.TheVariants.{Node}
+use Rattle.smf_server.specs.FaultTexts.{fault_text}
 use Rattle.smf_world.specs.declared.event.Event.TheVariants as events
 use Rattle.smf_world.specs.Schedule.{begun_at}
 use Rattle.smf_world.specs.Happens.{happens}
 use Rattle.smf_world.specs.World.{initial_world}
 use Rattle.smf_watch.specs.Traffic.{Passed, Closed, traffic_with}
-use Rattle.smf_server.specs.Turns.{Between, IsFailed, IsServed, standing}
+use Rattle.smf_server.specs.Turns.{Between, Failed, IsServed, MayHaveForgotten, RequestFailed, Turn, standing, told_anew}
 use Rattle.smf_watch.specs.declared.ask.Onward.{Onward}
 use Rattle.smf_watch.specs.declared.ask.Onward.TheVariants.{Goes, Ends}
 
 -- ---- turns
 
--- so many turns were taken
-pub record AreTurns (k : Skills) (clock : Duration → Type 0) (count : ℕ) (was is : Option (List Passed))
-    (s t : Between) : Type 0 where
-  pub served : IsServed k clock was is s t
-  pub many : length served.turns ≡ count
+-- if node and children agreed at first, they agree at last, whatever was there before
+abbrev pub KeepsAgreement : Between → Between → Type 0
+KeepsAgreement s t =
+    (b : Before) → AgreesSince b s.standing.course.progress.world s.standing.course.seen.ledger
+    → AgreesAnew t.standing.course.progress.world t.standing.course.seen.ledger
 
--- turns were taken until no more was asked
-pub record IsClosed (k : Skills) (clock : Duration → Type 0) (was is : Option (List Passed))
-    (s t : Between) : Type 0 where
-  pub now : Option (List Passed)
-  pub served : IsServed k clock was now s t
-  pub closed : is ≡ traffic_with (Closed ∷ []) now
+abbrev pub is_cut : Turn → Bool
+is_cut (Failed (RequestFailed fault a)) = true
+is_cut _ = false
 
--- turns were taken, and a fault ended the next one
-pub record IsBroken (k : Skills) (clock : Duration → Type 0) (stores : RepoFault → Type 0) (fault : ScriptFault)
+-- no request was ended by a fault
+abbrev pub is_uncut : List Turn → Bool
+is_uncut [] = true
+is_uncut (turn ∷ before) = not (is_cut turn) && is_uncut before
+
+-- no more was asked, or the most turns were taken
+abbrev pub IsOver : ℕ → Onward → ℕ → Option (List Passed) → Option (List Passed) → Type 0
+IsOver most Ends count now is = is ≡ traffic_with (Closed ∷ []) now
+IsOver most Goes count now is = (count ≡ most) × (is ≡ now)
+
+-- Turns were taken, whatever failed, until no more was asked, or the most that a server takes. Node and children still
+-- agree, unless a request was ended by a fault.
+pub record HasStayed (k : Skills) (clock : Duration → Type 0) (stores : RepoFault → Type 0) (most : ℕ) (how : Onward)
     (was is : Option (List Passed)) (s t : Between) : Type 0 where
   pub now : Option (List Passed)
-  pub mid : Between
-  pub served : IsServed k clock was now s mid
-  pub failed : IsFailed k stores fault now is mid t
+  pub served : IsServed k clock stores was now s t
+  pub over : IsOver most how (length served.turns) now is
+  pub agrees : is_uncut served.turns ≡ true → KeepsAgreement s t
 
--- turns were taken until no more was asked, or the most that a server takes
-abbrev pub HasStayed : Skills → (Duration → Type 0) → ℕ → Onward → Option (List Passed) → Option (List Passed)
-    → Between → Between → Type 0
-HasStayed k clock most Ends was is s t = IsClosed k clock was is s t
-HasStayed k clock most Goes was is s t = AreTurns k clock most was is s t
+-- ---- after a turn
+
+-- after a turn that was taken what is over may be forgotten, and after one that failed its fault is told, if it was not
+-- told last. The words of the fault are kept
+abbrev pub HasConcluded : Option ScriptFault → Option (List ℕ) → Option (List ℕ) → Option (List Passed)
+    → Option (List Passed) → Between → Between → Type 0
+HasConcluded None last next was is s t = (next ≡ None) × (is ≡ was) × MayHaveForgotten s t
+HasConcluded (Some fault) last next was is s t =
+    (next ≡ Some (fault_text fault)) × (is ≡ traffic_with (told_anew last (Some (fault_text fault))) was) × (t ≡ s)
 
 -- ---- from boot to end
 
@@ -58,42 +70,25 @@ abbrev pub state_after_boot : Holdings → Seen → Between
 state_after_boot h seen =
     record { standing = standing (begun_at (happens (initial_world h) events.Boot)) seen true; looked = 0; ends = [] }
 
-abbrev pub HasLasted : Skills → (Duration → Type 0) → (RepoFault → Type 0) → ℕ → Result Onward ScriptFault
-    → Option (List Passed) → Option (List Passed) → Between → Between → Type 0
-HasLasted k clock stores most (Ok onward) was is s t = HasStayed k clock most onward was is s t
-HasLasted k clock stores most (Err fault) was is s t = IsBroken k clock stores fault was is s t
-
 -- all children that were left were ended, or they could not be listed
 abbrev pub AreLeft : Skills → Seen → Seen → Type 0
 AreLeft k old new = HasEnded k old new ⊎ IsUnlisted k old new
 
--- if node and children agreed at first, they agree at last, whatever was there before
-abbrev pub KeepsAgreement : Between → Between → Type 0
-KeepsAgreement s t =
-    (b : Before) → AgreesSince b s.standing.course.progress.world s.standing.course.seen.ledger
-    → AgreesAnew t.standing.course.progress.world t.standing.course.seen.ledger
-
 -- Turns were taken, and then the children that were left were ended. The value after the last turn stands in the
--- journal. The trail after the last turn is safe, with all that was forgotten before it; and if no fault ended the turns,
--- node and children still agree.
+-- journal. The trail after the last turn is safe, with all that was forgotten before it.
 pub record HasLived {J : Type 0} (k : Skills) (clock : Duration → Type 0) (stores : RepoFault → Type 0)
     (stands : J → Holdings → Type 0)
-    (most : ℕ) (how : Result Onward ScriptFault) (journal : J) (was is : Option (List Passed)) (first : Between)
-    (new : Seen) : Type 0 where
+    (most : ℕ) (how : Onward) (journal : J) (was is : Option (List Passed)) (first : Between) (new : Seen) : Type 0 where
   pub last : Between
-  pub lasted : HasLasted k clock stores most how was is first last
+  pub stayed : HasStayed k clock stores most how was is first last
   pub kept : stands journal last.standing.course.progress.world.now
   pub safe : IsSafeSince last.standing.course.progress.world
   pub leads : LeadsTo first.standing.course.progress.world last.standing.course.progress.world
-  pub agrees : OnOk how (KeepsAgreement first last)
   pub left : AreLeft k last.standing.course.seen new
 
 -- there was no boot, and nothing was done
 pub record IsUnborn {J : Type 0} (stores : RepoFault → Type 0) (stands : J → Holdings → Type 0)
-    (h : Holdings) (how : Result Onward ScriptFault) (journal : J) (was is : Option (List Passed))
-    (old new : Seen) : Type 0 where
-  pub fault : NodeFault
-  pub told : how ≡ Err (Node fault)
+    (h : Holdings) (fault : NodeFault) (journal : J) (was is : Option (List Passed)) (old new : Seen) : Type 0 where
   pub unbooted : IsUnbooted stores h fault
   pub kept : stands journal h
   pub passed : is ≡ was

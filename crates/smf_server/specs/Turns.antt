@@ -1,12 +1,15 @@
 -- The state of a server, turn by turn.
-use Rattle.std.specs.Prelude.{◌≡◌, ◌⊎◌, ℕ, nat_lt, ◌||◌, ◌&&◌, not, List, [], ◌∷◌, length, filter, flat_map, map, reverse, Bool, true, false, Option, Some}
+use Rattle.std.specs.Prelude.{◌≡◌, ◌⊎◌, ℕ, nat_lt, nat_eq, ◌||◌, ◌&&◌, not, List, [], ◌∷◌, ◌++◌, length, filter, map, reverse, Bool, true, false, Option, Some, None}
+use Rattle.std.specs.Cmp.Lexicographic.{pointwise}
 use Rattle.std.specs.declared.time.Duration.{Duration}
+use Rattle.smf_drive.specs.Agrees.{AgreesSince, Before}
 use Rattle.smf_drive.specs.Forgets.{HasForgotten as Forgot}
 use Rattle.smf_edge.specs.Answers.{Seen, Skills}
 use Rattle.smf_machine.specs.Runners.{rules_of}
 use Rattle.smf_model.specs.declared.journal.RepoFault.{RepoFault}
 use Rattle.smf_node.specs.declared.fault.NodeFault.{NodeFault}
 use Rattle.smf_node.specs.Rounds.{Course, HasSettled, at, course}
+use Rattle.smf_run.specs.Agreed.{AgreesOrDroppedSince}
 use Rattle.smf_run.specs.Scripts.{HasRun, Stops}
 use Rattle.smf_script.specs.declared.fault.ScriptFault.{ScriptFault}
 use Rattle.smf_script.specs.declared.fault.ScriptFault.TheVariants.{Node}
@@ -15,7 +18,9 @@ use Rattle.smf_world.specs.declared.item.Item.{Item}
 use Rattle.smf_world.specs.declared.schedule.Settled.{Settled}
 use Rattle.smf_world.specs.declared.schedule.Settled.TheVariants.{Quiet, Busy}
 use Rattle.smf_world.specs.Schedule.{Progress}
+use Rattle.smf_world.specs.Reached.{IsLater}
 use Rattle.smf_world.specs.World.{World}
+use Rattle.smf_server.specs.FaultTexts.{fault_line, fault_text}
 use Rattle.smf_watch.specs.Loops.{hasty, is_kept, lines_of, marks, seen_by}
 use Rattle.smf_watch.specs.Sizes.{size_of, is_same}
 use Rattle.smf_watch.specs.Traffic.{Passed, Asked, Closed, Told, traffic_with, reply_in}
@@ -157,7 +162,7 @@ pub record IsAnswer (k : Skills) (a : Answer) (s t : Between) : Type 0 where
   pub looked : t.looked ≡ s.looked
   pub ends : t.ends ≡ s.ends
 
--- ---- turns
+-- ---- turns that are taken
 
 -- a turn is a tick, which tells these lines, or answers a request
 pub data Doing : Type 0 where
@@ -168,9 +173,13 @@ abbrev pub Step : Skills → (Duration → Type 0) → Doing → Between → Bet
 Step k clock (Ticked lines) s t = IsTick k clock s t lines
 Step k clock (Answered a) s t = IsAnswer k a s t
 
+-- a request came in, and its reply went out
+abbrev pub replied : Answer → List Passed
+replied a = Asked a.request ∷ reply_in a.written a.text a.status ∷ []
+
 abbrev pub passed_in : Doing → List Passed
 passed_in (Ticked lines) = map Told lines
-passed_in (Answered a) = Asked a.request ∷ reply_in a.written a.text a.status ∷ []
+passed_in (Answered a) = replied a
 
 -- a turn was taken: one request came in and its reply went out, or lines were told
 pub record IsTurn (k : Skills) (clock : Duration → Type 0) (was is : Option (List Passed))
@@ -179,37 +188,86 @@ pub record IsTurn (k : Skills) (clock : Duration → Type 0) (was is : Option (L
   pub step : Step k clock one s t
   pub passed : is ≡ traffic_with (passed_in one) was
 
-abbrev pub HasTurned : Skills → (Duration → Type 0) → Onward → Option (List Passed) → Option (List Passed) → Between
-    → Between → Type 0
-HasTurned k clock Goes was is s t = IsTurn k clock was is s t
-HasTurned k clock Ends was is s t = (t ≡ s) × (is ≡ traffic_with (Closed ∷ []) was)
+-- ---- turns that fail
 
--- ---- faults
+-- a turn failed at a tick; a request was ended by a fault, and got this reply; or it was answered, and then the node
+-- failed
+pub data Failure : Type 0 where
+  TickFailed : NodeFault → Failure
+  RequestFailed : ScriptFault → Answer → Failure
+  RoundsFailed : NodeFault → Answer → Failure
 
--- a request was ended by a fault, and replied to with its status
-pub record IsCut (k : Skills) (stores : RepoFault → Type 0) (fault : ScriptFault) (was is : Option (List Passed))
-    (s t : Course) : Type 0 where
-  pub request : List ℕ
-  pub text : List ℕ
+abbrev pub fault_of : Failure → ScriptFault
+fault_of (TickFailed e) = Node e
+fault_of (RequestFailed fault a) = fault
+fault_of (RoundsFailed e a) = Node e
+
+-- nothing passes at a tick that fails
+abbrev pub passed_at : Failure → List Passed
+passed_at (TickFailed e) = []
+passed_at (RequestFailed fault a) = replied a
+passed_at (RoundsFailed e a) = replied a
+
+-- a line more, unless there was no memory for it
+abbrev pub MayEndWith : List ℕ → List ℕ → List ℕ → Type 0
+MayEndWith line was is = (is ≡ was ++ line) ⊎ (is ≡ was)
+
+-- a reply went out that has the words of a fault after a text, if there was memory for them, and the status 3
+pub record IsToldOf (fault : ScriptFault) (text : List ℕ) (was is : Option (List Passed)) : Type 0 where
+  pub said : List ℕ
+  pub ends : MayEndWith (fault_line fault) text said
   pub written : Bool
-  pub stops : Stops k stores fault (first_session s.progress) (Some request) s.seen t.seen t.progress (Some [])
+  pub passed : is ≡ traffic_with (reply_in written said 3 ∷ []) was
+
+-- a request was ended by a fault. Its reply has what its lines wrote, then the words of the fault, and the status 3
+pub record IsCut (k : Skills) (stores : RepoFault → Type 0) (fault : ScriptFault) (a : Answer) (s t : Course) : Type 0 where
+  pub text : List ℕ
+  pub stops : Stops k stores fault (first_session s.progress) (Some a.request) s.seen t.seen t.progress (Some [])
       (Some text)
-  pub passed : is ≡ traffic_with (Asked request ∷ reply_in written text 3 ∷ []) was
+  pub said : MayEndWith (fault_line fault) text a.text
+  pub status : a.status ≡ 3
 
--- a request was answered, and then the node failed
-pub record IsCutAfter (k : Skills) (was is : Option (List Passed)) (s : Course) : Type 0 where
-  pub answer : Answer
-  pub done : Course
-  pub ran : HasAnswered k answer s done
-  pub passed : is ≡ traffic_with (passed_in (Answered answer)) was
+-- however far a turn came, events lead there, and the ends that were seen are kept for the next turn
+pub record HasComeOn (s t : Between) : Type 0 where
+  pub later : IsLater s.standing.course.progress.world t.standing.course.progress.world
+  pub looked : t.looked ≡ s.looked
+  pub ends : t.ends ≡ s.ends
 
--- a fault ended a turn: at a tick nothing passed, and a request was replied to
-pub data IsFailed (k : Skills) (stores : RepoFault → Type 0) (fault : ScriptFault) (was is : Option (List Passed))
+-- if node and children agreed, they agree
+abbrev pub StillAgrees : Between → Between → Type 0
+StillAgrees s t =
+    (b : Before) → AgreesSince b s.standing.course.progress.world s.standing.course.seen.ledger
+    → AgreesSince b t.standing.course.progress.world t.standing.course.seen.ledger
+
+-- or children have dropped all that they had, for a boot that failed then
+abbrev pub AgreesOrDrops : Between → Between → Type 0
+AgreesOrDrops s t =
+    (b : Before) → AgreesSince b s.standing.course.progress.world s.standing.course.seen.ledger
+    → AgreesOrDroppedSince b t.standing.course.progress.world t.standing.course.seen.ledger
+
+abbrev pub Fails : Skills → (RepoFault → Type 0) → Failure → Between → Between → Type 0
+Fails k stores (TickFailed e) s t = HasComeOn s t × StillAgrees s t
+Fails k stores (RequestFailed fault a) s t =
+    IsCut k stores fault a s.standing.course t.standing.course × HasComeOn s t × AgreesOrDrops s t
+Fails k stores (RoundsFailed e a) s t =
+    (done : Course) × HasAnswered k a s.standing.course done × HasComeOn s t × StillAgrees s t
+
+-- a turn failed with this fault
+pub record IsFailed (k : Skills) (stores : RepoFault → Type 0) (fault : ScriptFault) (was is : Option (List Passed))
     (s t : Between) : Type 0 where
-  tick_failed : (e : NodeFault) → fault ≡ Node e → is ≡ was → IsFailed k stores fault was is s t
-  request_failed : IsCut k stores fault was is s.standing.course t.standing.course → IsFailed k stores fault was is s t
-  rounds_failed : (e : NodeFault) → fault ≡ Node e → IsCutAfter k was is s.standing.course
-      → IsFailed k stores fault was is s t
+  pub how : Failure
+  pub named : fault ≡ fault_of how
+  pub fails : Fails k stores how s t
+  pub passed : is ≡ traffic_with (passed_at how) was
+
+-- ---- a turn
+
+-- a turn was taken; one failed, and rounds are wanted; or no more was asked, and nothing was done
+abbrev pub HasTurned : Skills → (Duration → Type 0) → (RepoFault → Type 0) → Onward → Option ScriptFault
+    → Option (List Passed) → Option (List Passed) → Between → Between → Type 0
+HasTurned k clock stores Goes None was is s t = IsTurn k clock was is s t
+HasTurned k clock stores Goes (Some fault) was is s t = IsFailed k stores fault was is s t × (t.standing.busy ≡ true)
+HasTurned k clock stores Ends fault was is s t = (t ≡ s) × (is ≡ traffic_with (Closed ∷ []) was)
 
 -- ---- what goes between turns
 
@@ -235,21 +293,67 @@ MayHaveForgotten s t = (t ≡ s) ⊎ ((t ≡ wanting s) ⊎ HasForgotten s t)
 
 -- ---- turn after turn
 
-abbrev pub Steps : Skills → (Duration → Type 0) → List Doing → Between → Between → Type 0
-Steps k clock [] s t = t ≡ s
-Steps k clock (one ∷ more) s t =
-    (mid rest : Between) × Step k clock one s mid × MayHaveForgotten mid rest × Steps k clock more rest t
+pub data Turn : Type 0 where
+  Taken : Doing → Turn
+  Failed : Failure → Turn
 
--- requests came in and were replied to in their order, each done on what all turns before it left
-pub record IsServed (k : Skills) (clock : Duration → Type 0) (was is : Option (List Passed))
+-- the words of the fault, if a turn failed
+abbrev pub words_of : Turn → Option (List ℕ)
+words_of (Taken one) = None
+words_of (Failed how) = Some (fault_text (fault_of how))
+
+-- and of the last of these turns, which comes first
+abbrev pub last_words : List Turn → Option (List ℕ)
+last_words [] = None
+last_words (turn ∷ before) = words_of turn
+
+abbrev pub is_told : Option (List ℕ) → List ℕ → Bool
+is_told None words = false
+is_told (Some last) words = pointwise nat_eq last words
+
+abbrev pub told_if : Bool → List ℕ → List Passed
+told_if true words = Told words ∷ []
+told_if false words = []
+
+-- the words of a fault are told, unless the turn before failed with the same
+abbrev pub told_anew : Option (List ℕ) → Option (List ℕ) → List Passed
+told_anew last None = []
+told_anew last (Some words) = told_if (not (is_told last words)) words
+
+-- after a turn that was taken what is over may be forgotten; after one that failed rounds are wanted
+abbrev pub TurnStep : Skills → (Duration → Type 0) → (RepoFault → Type 0) → Turn → Between → Between → Type 0
+TurnStep k clock stores (Taken one) s t = (mid : Between) × Step k clock one s mid × MayHaveForgotten mid t
+TurnStep k clock stores (Failed how) s t = Fails k stores how s t × (t.standing.busy ≡ true)
+
+-- turns, the last first, each on what all before it left
+abbrev pub Steps : Skills → (Duration → Type 0) → (RepoFault → Type 0) → List Turn → Between → Between → Type 0
+Steps k clock stores [] s t = t ≡ s
+Steps k clock stores (turn ∷ before) s t =
+    (mid : Between) × Steps k clock stores before s mid × TurnStep k clock stores turn mid t
+
+abbrev pub passed_by : Turn → List Passed
+passed_by (Taken one) = passed_in one
+passed_by (Failed how) = passed_at how
+
+abbrev pub all_passed : List Turn → List Passed
+all_passed [] = []
+all_passed (turn ∷ before) =
+    all_passed before ++ (passed_by turn ++ told_anew (last_words before) (words_of turn))
+
+-- requests came in and were replied to in their order, each done on what all turns before it left; a fault was told once
+pub record IsServed (k : Skills) (clock : Duration → Type 0) (stores : RepoFault → Type 0) (was is : Option (List Passed))
     (s t : Between) : Type 0 where
-  pub turns : List Doing
-  pub steps : Steps k clock turns s t
-  pub passed : is ≡ traffic_with (flat_map passed_in turns) was
+  pub turns : List Turn
+  pub steps : Steps k clock stores turns s t
+  pub passed : is ≡ traffic_with (all_passed turns) was
 
--- that is so before the first turn, and each turn keeps it so
-abbrev pub TurnsFollow : Skills → (Duration → Type 0) → Type 0
-TurnsFollow k clock =
-    (was now is : Option (List Passed)) (s mid t : Between)
-    → IsServed k clock was was s s
-    × (IsServed k clock was now s mid → IsTurn k clock now is mid t → IsServed k clock was is s t)
+-- that is so before the first turn, and each turn keeps it so: one that is taken, and one that fails
+abbrev pub TurnsFollow : Skills → (Duration → Type 0) → (RepoFault → Type 0) → Type 0
+TurnsFollow k clock stores =
+    (was now is : Option (List Passed)) (s mid t : Between) (fault : ScriptFault)
+    → IsServed k clock stores was was s s
+    × (IsServed k clock stores was now s mid → IsTurn k clock now is mid t → IsServed k clock stores was is s t)
+    × ((served : IsServed k clock stores was now s mid) → IsFailed k stores fault now is mid t
+    → t.standing.busy ≡ true
+    → IsServed k clock stores was
+    (traffic_with (told_anew (last_words served.turns) (Some (fault_text fault))) is) s t)

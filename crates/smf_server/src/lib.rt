@@ -1,7 +1,7 @@
 //! A service manager that stays, over any desk, clock, children and journal. Turn by turn it answers requests, each of
 //! which is a script. It lets children tell what happened to them, and lets methods time out. It marks for maintenance
 //! what ends again and again, and tells by which signals contracts are ended.
-//! Modules: `server` (the state between turns), `fault_texts` (why a server ended), `turns` (a turn), `life` (from boot to
+//! Modules: `server` (the state between turns), `fault_texts` (why a turn failed), `turns` (a turn), `life` (from boot to
 //! end); `law` (the law of turns). `smf_watch` has what a turn watches, and the desk and the clock.
 #![tactic(auto)]
 
@@ -13,9 +13,9 @@ mod turns;
 
 pub use fault_texts::fault_text;
 pub use law::turns_follow;
-pub use life::{Life, MOST_TURNS, stay_over};
+pub use life::{Life, MOST_TURNS, Unborn, stay_over};
 pub use server::Server;
 pub use smf_watch::{
     Desk, End, Ender, Ends, MOST_ENDS, Noted, Onward, PERIOD, ServerInput, Size, Stop, Timer, Watch,
 };
-pub use turns::turn;
+pub use turns::{Turned, turn};

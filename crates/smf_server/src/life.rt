@@ -1,20 +1,24 @@
 //! A server from its boot to its end.
-ghost use Rattle.std.specs.Prelude.{◌≡◌, ◌⊎◌, true, IfErr, IfOk, OnOk};
+ghost use Rattle.std.specs.Option.{option_copied};
+ghost use Rattle.std.specs.Prelude.{◌≡◌, ◌⊎◌, true, IfErr, IfOk, Some};
 ghost use Rattle.smf_drive.specs.Agrees.{AgreesSince, Before};
 ghost use Rattle.smf_drive.specs.Forgets.{AgreesAnew};
 ghost use Rattle.smf_edge.specs.Answers.{children_state};
-ghost use Rattle.smf_server.specs.Life.{HasLived, HasStayed, IsBroken, IsUnborn, state_after_boot};
-ghost use Rattle.smf_server.specs.Turns.{MayHaveForgotten, between, standing};
+ghost use Rattle.smf_server.specs.FaultTexts.{fault_text};
+ghost use Rattle.smf_server.specs.Life.{HasConcluded, HasLived, HasStayed, IsUnborn, state_after_boot};
+ghost use Rattle.smf_server.specs.Turns.{MayHaveForgotten, between, is_told, standing, told_anew};
 ghost use Rattle.smf_server.specs.declared.life.TheConstants.{MOST_TURNS};
 ghost use Rattle.smf_past.specs.Lives.{LeadsTo};
 ghost use Rattle.smf_past.specs.Begun.{IsSafeSince};
+ghost use Rattle.smf_watch.specs.Traffic.{traffic_with};
 
+use crate::fault_texts::fault_text;
 use crate::server::Server;
-use crate::turns::{has_more, turn};
+use crate::turns::{Turned, has_more, turn};
 use smf_drive::forget;
 use smf_edge::Kids;
 use smf_model::{Journal, Plain};
-use smf_node::Node;
+use smf_node::{Node, NodeFault};
 use smf_run::end_all;
 use smf_script::ScriptFault;
 use smf_watch::{Desk, Ender, Noted, Onward, Timer};
@@ -72,52 +76,106 @@ fn forget_if<J: Journal, K: Kids>(server: &mut Server<J, K>)
     }
 }
 
-/// Takes turns until no more is asked, or a fault ends it.
+fn is_told(last: Option<&'static str>, words: &str) -> bool
+    ensures { result ≡ is_told (option_copied last.entry) words.now }
+{
+    match last {
+        Some(last) => last == words,
+        None => false,
+    }
+}
+
+/// Tells the fault of a turn, unless the turn before failed with the same. Gives its words.
+fn tell_anew<D: Desk>(
+    desk: &mut D,
+    last: Option<&'static str>,
+    fault: &ScriptFault,
+) -> Option<&'static str>
+    ensures told { D.passed desk.new
+        ≡ traffic_with (told_anew (option_copied last.entry) (Some (fault_text fault.now))) (D.passed desk.old) }
+    ensures words { option_copied result ≡ Some (fault_text fault.now) }
+{
+    let words = fault_text(fault);
+    if !is_told(last, words) {
+        desk.tell(words);
+    }
+    Some(words)
+}
+
+/// After a turn that was taken it may forget; after one that failed it tells the fault. Gives the words of the fault.
+fn conclude<D: Desk, J: Journal, K: Kids>(
+    desk: &mut D,
+    server: &mut Server<J, K>,
+    last: Option<&'static str>,
+    fault: &Option<ScriptFault>,
+) -> Option<&'static str>
+    ensures concluded { HasConcluded fault.now (option_copied last.entry) (option_copied result) (D.passed desk.old) (D.passed desk.new)
+        (between
+        (standing server.old.node (children_state (K.ledger server.old.kids) (K.failures server.old.kids)) server.old.busy)
+        server.old.ends)
+        (between
+        (standing server.new.node (children_state (K.ledger server.new.kids) (K.failures server.new.kids)) server.new.busy)
+        server.new.ends) }
+    ensures agrees { (b : Before) → AgreesSince b server.old.node.world (K.ledger server.old.kids)
+        → AgreesAnew server.new.node.world (K.ledger server.new.kids) }
+    ensures safe { IsSafeSince server.new.node.world }
+{
+    match fault {
+        None => {
+            forget_if(server);
+            None
+        }
+        Some(fault) => {
+            let _shown = server.node.trail();
+            tell_anew(desk, last, fault)
+        }
+    }
+}
+
+/// Takes turns until no more is asked, whatever fails.
 fn stay<D: Desk, T: Timer, E: Ender, J: Journal, K: Kids>(
     alloc: Global,
     desk: &mut D,
     timer: &T,
     ender: &mut E,
     server: &mut Server<J, K>,
-) -> Result<Onward, ScriptFault>
-    ensures ok { IfOk result
-        (λ onward. HasStayed K.skills (T.says timer.now) MOST_TURNS onward (D.passed desk.old) (D.passed desk.new)
+) -> Onward
+    ensures stayed { HasStayed K.skills (T.says timer.now) J.write_fails MOST_TURNS result (D.passed desk.old) (D.passed desk.new)
         (between
         (standing server.old.node (children_state (K.ledger server.old.kids) (K.failures server.old.kids)) server.old.busy)
         server.old.ends)
         (between
         (standing server.new.node (children_state (K.ledger server.new.kids) (K.failures server.new.kids)) server.new.busy)
-        server.new.ends)) }
-    ensures err { IfErr result
-        (λ e. IsBroken K.skills (T.says timer.now) J.write_fails e (D.passed desk.old) (D.passed desk.new)
-        (between
-        (standing server.old.node (children_state (K.ledger server.old.kids) (K.failures server.old.kids)) server.old.busy)
-        server.old.ends)
-        (between
-        (standing server.new.node (children_state (K.ledger server.new.kids) (K.failures server.new.kids)) server.new.busy)
-        server.new.ends)) }
+        server.new.ends) }
     ensures leads { LeadsTo server.old.node.world server.new.node.world }
-    ensures agrees { OnOk result ((b : Before) → AgreesSince b server.old.node.world (K.ledger server.old.kids)
-        → AgreesAnew server.new.node.world (K.ledger server.new.kids)) }
     ensures safe { IsSafeSince server.new.node.world }
 {
     let _shown = server.node.trail();
     let mut noted = Noted::new();
+    let mut last: Option<&'static str> = None;
     for _ in 0..MOST_TURNS {
-        match turn(alloc, desk, timer, ender, &mut noted, server) {
-            Ok(Onward::Goes) => forget_if(server),
-            Ok(Onward::Ends) => return Ok(Onward::Ends),
-            Err(fault) => return Err(fault),
+        let Turned { onward, fault } = turn(alloc, desk, timer, ender, &mut noted, server);
+        match onward {
+            Onward::Goes => last = conclude(desk, server, last, &fault),
+            Onward::Ends => return Onward::Ends,
         }
     }
-    Ok(Onward::Goes)
+    Onward::Goes
 }
 
 /// The end of a server: how it ended, and the journal and the children that it leaves.
 #[derive(Drop)]
 pub struct Life<J: Journal, K: Kids> {
-    /// `Ends` if no more was asked, or the fault that ended it.
-    pub how: Result<Onward, ScriptFault>,
+    /// `Ends` if no more was asked.
+    pub how: Onward,
+    pub journal: J,
+    pub kids: K,
+}
+
+/// A server that could not boot: why, and the journal and the children as they were.
+#[derive(Drop)]
+pub struct Unborn<J: Journal, K: Kids> {
+    pub fault: NodeFault,
     pub journal: J,
     pub kids: K,
 }
@@ -155,8 +213,8 @@ fn live<D: Desk, T: Timer, E: Ender, J: Journal + Drop, K: Kids + Drop>(
     }
 }
 
-/// Boots what a repository holds, takes turns until no more is asked or a fault ends it, and ends all children that are
-/// left. Without a boot it does nothing.
+/// Boots what a repository holds, takes turns until no more is asked, and ends all children that are left. Without a boot
+/// it does nothing.
 pub fn stay_over<D: Desk, T: Timer, E: Ender, J: Journal + Drop, K: Kids + Drop>(
     alloc: Global,
     desk: &mut D,
@@ -164,19 +222,23 @@ pub fn stay_over<D: Desk, T: Timer, E: Ender, J: Journal + Drop, K: Kids + Drop>
     ender: &mut E,
     repository: Plain<J>,
     kids: K,
-) -> Life<J, K>
-    ensures { HasLived K.skills (T.says timer.now) J.write_fails J.stands MOST_TURNS result.how result.journal
+) -> Result<Life<J, K>, Unborn<J, K>>
+    ensures lived { IfOk result (λ life.
+        HasLived K.skills (T.says timer.now) J.write_fails J.stands MOST_TURNS life.how life.journal
         (D.passed desk.old) (D.passed desk.new)
-        (state_after_boot repository.held (children_state (K.ledger kids) (K.failures kids))) (children_state (K.ledger result.kids) (K.failures result.kids))
-        ⊎ IsUnborn J.write_fails J.stands repository.held result.how result.journal (D.passed desk.old) (D.passed desk.new)
-        (children_state (K.ledger kids) (K.failures kids)) (children_state (K.ledger result.kids) (K.failures result.kids)) }
+        (state_after_boot repository.held (children_state (K.ledger kids) (K.failures kids)))
+        (children_state (K.ledger life.kids) (K.failures life.kids))) }
+    ensures unborn { IfErr result (λ unborn.
+        IsUnborn J.write_fails J.stands repository.held unborn.fault unborn.journal (D.passed desk.old) (D.passed desk.new)
+        (children_state (K.ledger kids) (K.failures kids))
+        (children_state (K.ledger unborn.kids) (K.failures unborn.kids))) }
 {
     match Node::new(alloc, repository) {
-        Ok(node) => live(alloc, desk, timer, ender, Server::new(alloc, node, kids)),
-        Err((fault, repository)) => Life {
-            how: Err(ScriptFault::Node(fault)),
+        Ok(node) => Ok(live(alloc, desk, timer, ender, Server::new(alloc, node, kids))),
+        Err((fault, repository)) => Err(Unborn {
+            fault,
             journal: repository.into_journal(),
             kids,
-        },
+        }),
     }
 }

@@ -1,15 +1,18 @@
-ghost use Rattle.std.specs.Prelude.{◌≡◌, ◌≤◌, ◌||◌, ◌&&◌, not, List, [], ◌∷◌, Option, Some, length, map, nat_lt, false, true, IfErr, IfOk, OnOk};
+ghost use Rattle.std.specs.Prelude.{◌≡◌, ◌≤◌, ◌||◌, ◌&&◌, not, List, [], ◌∷◌, Option, None, Some, length, map, nat_lt, false, true, IfErr, IfOk, OnErr, OnOk};
 ghost use Rattle.smf_drive.specs.Agrees.{AgreesSince, Before};
 ghost use Rattle.smf_drive.specs.Moves.{Moves};
 ghost use Rattle.smf_edge.specs.Answers.{children_state};
 ghost use Rattle.smf_node.specs.Rounds.{course};
-ghost use Rattle.smf_server.specs.Turns.{GoesBy, GoesIf, HasGone, HasLooked, HasPassed, HasTried, HasTurned, IsFailed, IsTick, IsTurn, LooksIf, between, is_busy, shown_of, standing};
+ghost use Rattle.smf_node.specs.declared.fault.NodeFault.TheVariants as nodes;
+ghost use Rattle.smf_script.specs.declared.fault.ScriptFault.TheVariants as scripts;
+ghost use Rattle.smf_server.specs.Turns.{GoesBy, GoesIf, HasGone, HasLooked, HasPassed, HasTried, HasTurned, IsFailed, IsTick, IsToldOf, IsTurn, LooksIf, between, is_busy, shown_of, standing};
 ghost use Rattle.smf_watch.specs.Sizes.{is_same, size_of};
 ghost use Rattle.smf_watch.specs.Stops.{is_new, stops_of, stop_lists_if};
 ghost use Rattle.smf_watch.specs.Traffic.{Asked, Passed, Told, traffic_with};
 ghost use Rattle.smf_world.specs.Reached.{IsLater};
 ghost use Rattle.smf_past.specs.Begun.{IsSafeSince};
 
+use crate::fault_texts::add_fault;
 use crate::server::Server;
 use smf_drive::drive;
 use smf_edge::Kids;
@@ -145,9 +148,8 @@ fn pass<T: Timer, J: Journal, K: Kids>(
     ensures passed { OnOk result (HasPassed K.skills
         (standing server.old.node (children_state (K.ledger server.old.kids) (K.failures server.old.kids)) server.old.busy)
         (standing server.new.node (children_state (K.ledger server.new.kids) (K.failures server.new.kids)) server.new.busy)) }
-    ensures moves { OnOk result (Moves server.old.node.world server.new.node.world
-        (K.ledger server.old.kids) (K.ledger server.new.kids)) }
-    ensures later { IsLater server.old.node.world server.new.node.world }
+    ensures moves { Moves server.old.node.world server.new.node.world (K.ledger server.old.kids)
+        (K.ledger server.new.kids) }
     ensures kept { server.new.ends ≡ server.old.ends }
 {
     let any = hear_all(&mut server.node, &mut server.kids)?;
@@ -165,7 +167,7 @@ fn is_busy_with(busy: bool, numbers: &[u64]) -> bool
 }
 
 /// Looks at what is new in the trail, and marks the instances that ended too often for maintenance. Gives what is told
-/// of them.
+/// of them. After a fault the next look is at the same items again.
 fn look<T: Timer, J: Journal, K: Kids>(
     alloc: Global,
     timer: &T,
@@ -179,14 +181,18 @@ fn look<T: Timer, J: Journal, K: Kids>(
         (between
         (standing server.new.node (children_state (K.ledger server.new.kids) (K.failures server.new.kids)) server.new.busy)
         server.new.ends) lines) }
+    ensures agrees { (b : Before) → AgreesSince b server.old.node.world (K.ledger server.old.kids)
+        → AgreesSince b server.new.node.world (K.ledger server.new.kids) }
     ensures later { IsLater server.old.node.world server.new.node.world }
+    ensures kept { OnErr result (server.new.ends ≡ server.old.ends) }
 {
     let now = timer.now();
-    let numbers = server.ends.look(alloc, now, server.node.trail())?;
-    let hasty = numbers.as_slice();
+    let found = server.ends.look(alloc, now, server.node.trail())?;
+    let hasty = found.numbers.as_slice();
     let lines = lines_of(alloc, &server.node, hasty)?;
     mark_all(&mut server.node, hasty)?;
     server.busy = is_busy_with(server.busy, hasty);
+    server.ends = found.left;
     Ok(lines)
 }
 
@@ -212,7 +218,10 @@ fn look_if<T: Timer, J: Journal, K: Kids>(
         (between
         (standing server.new.node (children_state (K.ledger server.new.kids) (K.failures server.new.kids)) server.new.busy)
         server.new.ends) lines) }
+    ensures agrees { (b : Before) → AgreesSince b server.old.node.world (K.ledger server.old.kids)
+        → AgreesSince b server.new.node.world (K.ledger server.new.kids) }
     ensures later { IsLater server.old.node.world server.new.node.world }
+    ensures kept { OnErr result (server.new.ends ≡ server.old.ends) }
 {
     if has_more(server) {
         look(alloc, timer, server)
@@ -235,10 +244,10 @@ fn tick<T: Timer, J: Journal, K: Kids>(
         (between
         (standing server.new.node (children_state (K.ledger server.new.kids) (K.failures server.new.kids)) server.new.busy)
         server.new.ends) lines) }
-    ensures agrees { (b : Before) → OnOk result (
-        AgreesSince b server.old.node.world (K.ledger server.old.kids)
-        → AgreesSince b server.new.node.world (K.ledger server.new.kids)) }
+    ensures agrees { (b : Before) → AgreesSince b server.old.node.world (K.ledger server.old.kids)
+        → AgreesSince b server.new.node.world (K.ledger server.new.kids) }
     ensures later { IsLater server.old.node.world server.new.node.world }
+    ensures kept { OnErr result (server.new.ends ≡ server.old.ends) }
 {
     pass(timer, server)?;
     let lines = look_if(alloc, timer, server)?;
@@ -291,6 +300,15 @@ fn wants_rounds<J: Journal>(alloc: Global, node: &Node<J>, before: &Size) -> boo
     }
 }
 
+/// Replies to a request that was ended by a fault, and adds the text of the fault.
+fn reply_fault<D: Desk>(alloc: Global, desk: &mut D, text: Vec<u8>, fault: &ScriptFault)
+    ensures { IsToldOf fault.now text.items (D.passed desk.old) (D.passed desk.new) }
+{
+    let mut text = text;
+    add_fault(alloc, &mut text, fault);
+    let _is_written = desk.reply(&text, FAULT);
+}
+
 /// A request is done, and replied to; then rounds happen, if anything came of it.
 fn answer<D: Desk, T: Timer, J: Journal, K: Kids>(
     alloc: Global,
@@ -341,7 +359,7 @@ fn answer<D: Desk, T: Timer, J: Journal, K: Kids>(
             }
         }
         Err(fault) => {
-            let _is_written = desk.reply(&text, FAULT);
+            reply_fault(alloc, desk, text, &fault);
             Err(fault)
         }
     }
@@ -355,7 +373,7 @@ fn do_next<D: Desk, T: Timer, J: Journal, K: Kids>(
     server: &mut Server<J, K>,
 ) -> Result<Onward, ScriptFault>
     ensures ok { IfOk result
-        (λ onward. HasTurned K.skills (T.says timer.now) onward (D.passed desk.old) (D.passed desk.new)
+        (λ onward. HasTurned K.skills (T.says timer.now) J.write_fails onward None (D.passed desk.old) (D.passed desk.new)
         (between
         (standing server.old.node (children_state (K.ledger server.old.kids) (K.failures server.old.kids)) server.old.busy)
         server.old.ends)
@@ -396,40 +414,84 @@ fn do_next<D: Desk, T: Timer, J: Journal, K: Kids>(
     }
 }
 
-/// Does the next ask of the desk, and looks at the trail.
+/// A turn that was taken, or one that failed: whether there is a next one, and the fault.
+#[derive(Drop)]
+pub struct Turned {
+    pub onward: Onward,
+    pub fault: Option<ScriptFault>,
+}
+
+/// Does the next ask of the desk, and looks at the trail. After a fault rounds are wanted, so that the next tick tries
+/// again.
 fn take<D: Desk, T: Timer, J: Journal, K: Kids>(
     alloc: Global,
     desk: &mut D,
     timer: &T,
     server: &mut Server<J, K>,
-) -> Result<Onward, ScriptFault>
-    ensures ok { IfOk result
-        (λ onward. HasTurned K.skills (T.says timer.now) onward (D.passed desk.old) (D.passed desk.new)
+) -> Turned
+    ensures turned { HasTurned K.skills (T.says timer.now) J.write_fails result.onward result.fault (D.passed desk.old) (D.passed desk.new)
         (between
         (standing server.old.node (children_state (K.ledger server.old.kids) (K.failures server.old.kids)) server.old.busy)
         server.old.ends)
         (between
         (standing server.new.node (children_state (K.ledger server.new.kids) (K.failures server.new.kids)) server.new.busy)
-        server.new.ends)) }
-    ensures err { IfErr result (λ e. IsFailed K.skills J.write_fails e (D.passed desk.old) (D.passed desk.new)
-        (between
-        (standing server.old.node (children_state (K.ledger server.old.kids) (K.failures server.old.kids)) server.old.busy)
-        server.old.ends)
-        (between
-        (standing server.new.node (children_state (K.ledger server.new.kids) (K.failures server.new.kids)) server.new.busy)
-        server.new.ends)) }
-    ensures agrees { (b : Before) → OnOk result (
-        AgreesSince b server.old.node.world (K.ledger server.old.kids)
-        → AgreesSince b server.new.node.world (K.ledger server.new.kids)) }
+        server.new.ends) }
+    ensures agrees { (b : Before) → result.fault ≡ None
+        → AgreesSince b server.old.node.world (K.ledger server.old.kids)
+        → AgreesSince b server.new.node.world (K.ledger server.new.kids) }
     ensures later { IsLater server.old.node.world server.new.node.world }
     ensures safe { IsSafeSince server.new.node.world }
 {
-    let onward = do_next(alloc, desk, timer, server);
+    let how = do_next(alloc, desk, timer, server);
     let _shown = server.node.trail();
-    onward
+    match how {
+        Ok(onward) => Turned {
+            onward,
+            fault: None,
+        },
+        Err(fault) => {
+            server.busy = true;
+            Turned {
+                onward: Onward::Goes,
+                fault: Some(fault),
+            }
+        }
+    }
 }
 
-/// Tells how contracts are ended, and then does the next ask of the desk: a tick, or a request, which gets a reply.
+/// Takes the next ask of the desk, and does nothing of it, since memory ran out. A request gets a reply that says so.
+fn pass_over<D: Desk, T: Timer, J: Journal, K: Kids>(
+    alloc: Global,
+    desk: &mut D,
+    _timer: &T,
+    server: &mut Server<J, K>,
+) -> Onward
+    ensures turned { HasTurned K.skills (T.says _timer.now) J.write_fails result (Some (scripts.Node nodes.Memory)) (D.passed desk.old) (D.passed desk.new)
+        (between
+        (standing server.old.node (children_state (K.ledger server.old.kids) (K.failures server.old.kids)) server.old.busy)
+        server.old.ends)
+        (between
+        (standing server.new.node (children_state (K.ledger server.new.kids) (K.failures server.new.kids)) server.new.busy)
+        server.new.ends) }
+    ensures node { server.new.node ≡ server.old.node }
+{
+    match desk.next() {
+        ServerInput::Tick => {
+            server.busy = true;
+            Onward::Goes
+        }
+        ServerInput::Request(_request) => {
+            let fault = ScriptFault::Node(NodeFault::Memory);
+            reply_fault(alloc, desk, Vec::new(alloc), &fault);
+            server.busy = true;
+            Onward::Goes
+        }
+        ServerInput::End => Onward::Ends,
+    }
+}
+
+/// Tells how contracts are ended, and then does the next ask of the desk: a tick, or a request, which gets a reply. A
+/// fault leaves what was done before it. If memory ran out before that is told, nothing is done of the ask.
 pub fn turn<D: Desk, T: Timer, E: Ender, J: Journal, K: Kids>(
     alloc: Global,
     desk: &mut D,
@@ -437,32 +499,25 @@ pub fn turn<D: Desk, T: Timer, E: Ender, J: Journal, K: Kids>(
     ender: &mut E,
     noted: &mut Noted,
     server: &mut Server<J, K>,
-) -> Result<Onward, ScriptFault>
-    // One request came in, its lines were done, and its one reply went out; or time passed, and lines were told.
-    ensures ok { IfOk result
-        (λ onward. HasTurned K.skills (T.says timer.now) onward (D.passed desk.old) (D.passed desk.new)
+) -> Turned
+    // One request came in, its lines were done, and its one reply went out; or time passed, and lines were told. If this
+    // failed, the request got one reply, and nothing passed at a tick.
+    ensures turned { HasTurned K.skills (T.says timer.now) J.write_fails result.onward result.fault (D.passed desk.old) (D.passed desk.new)
         (between
         (standing server.old.node (children_state (K.ledger server.old.kids) (K.failures server.old.kids)) server.old.busy)
         server.old.ends)
         (between
         (standing server.new.node (children_state (K.ledger server.new.kids) (K.failures server.new.kids)) server.new.busy)
-        server.new.ends)) }
-    ensures err { IfErr result (λ e. IsFailed K.skills J.write_fails e (D.passed desk.old) (D.passed desk.new)
-        (between
-        (standing server.old.node (children_state (K.ledger server.old.kids) (K.failures server.old.kids)) server.old.busy)
-        server.old.ends)
-        (between
-        (standing server.new.node (children_state (K.ledger server.new.kids) (K.failures server.new.kids)) server.new.busy)
-        server.new.ends)) }
+        server.new.ends) }
     // First it was told how what start methods began is ended, if anything happened since that was told.
-    ensures told { OnOk result
-        (E.told ender.new ≡ stop_lists_if (is_new noted.old.size (size_of server.old.node.world))
-        (stops_of server.old.node.world.now) (E.told ender.old)) }
-    ensures known { OnOk result (noted.new.size ≡ Some (size_of server.old.node.world)) }
+    ensures told { result.fault ≡ None
+        → E.told ender.new ≡ stop_lists_if (is_new noted.old.size (size_of server.old.node.world))
+        (stops_of server.old.node.world.now) (E.told ender.old) }
+    ensures known { result.fault ≡ None → noted.new.size ≡ Some (size_of server.old.node.world) }
     // If children and the node agreed, they agree.
-    ensures agrees { (b : Before) → OnOk result (
-        AgreesSince b server.old.node.world (K.ledger server.old.kids)
-        → AgreesSince b server.new.node.world (K.ledger server.new.kids)) }
+    ensures agrees { (b : Before) → result.fault ≡ None
+        → AgreesSince b server.old.node.world (K.ledger server.old.kids)
+        → AgreesSince b server.new.node.world (K.ledger server.new.kids) }
     // However it ends, what is held is what some events make of what was, and what the trail shows is what happened.
     ensures later { IsLater server.old.node.world server.new.node.world }
     ensures safe { IsSafeSince server.new.node.world }
@@ -470,8 +525,12 @@ pub fn turn<D: Desk, T: Timer, E: Ender, J: Journal, K: Kids>(
     match noted.tell(alloc, ender, &server.node) {
         Ok(()) => take(alloc, desk, timer, server),
         Err(_) => {
+            let onward = pass_over(alloc, desk, timer, server);
             let _shown = server.node.trail();
-            Err(ScriptFault::Node(NodeFault::Memory))
+            Turned {
+                onward,
+                fault: Some(ScriptFault::Node(NodeFault::Memory)),
+            }
         }
     }
 }

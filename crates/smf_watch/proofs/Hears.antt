@@ -1,14 +1,19 @@
 -- Events that children give, one after another.
-use Rattle.std.proofs.Common.{◌≡◌, ◌<◌, ◌+◌, ℕ, zero, suc, Bool, true, false, not, nat_lt, is_some, Option, Some, None, inl, inr, refl, sym, ap, ◌∙◌, subst, arith}
+use Rattle.std.proofs.Common.{◌≡◌, ◌<◌, ◌+◌, ℕ, zero, suc, Bool, true, false, not, nat_lt, is_some, Option, Some, None, Result, IfErr, inl, inr, refl, sym, ap, ◌∙◌, subst, arith}
 use Rattle.std.proofs.lemmas.Bool.{lt-ltb}
+use Rattle.std.specs.Result.{IsErrAnd}
 use Rattle.smf_contract.specs.declared.event.ContractEvent.{ContractEvent}
 use Rattle.smf_edge.specs.Answers.{Seen, Skills}
 use Rattle.smf_machine.specs.declared.polls.News.{News}
 use Rattle.smf_machine.specs.Children.{world_after_news, world_after_poll, news_of}
 use Rattle.smf_machine.specs.Runners.{Rules, rules_of}
+use Rattle.smf_node.specs.declared.fault.NodeFault.{NodeFault}
+use Rattle.smf_node.specs.declared.fault.NodeFault.TheVariants.{Memory}
+use Rattle.smf_node.specs.Partly.{Stays}
 use Rattle.smf_node.specs.declared.runners.TheConstants.{MAX_POLLS}
 use Rattle.smf_node.specs.Rounds.{AreGiven, Course, course, with_event, with_world}
-use Rattle.smf_watch.specs.Watched.{HasHeard}
+use Rattle.smf_watch.specs.Watched.{HasHeard, StopsHearing}
+use Rattle.smf_watch.proofs.FaultExits.{passed_on}
 use Rattle.smf_world.specs.declared.event.Event.TheVariants as events
 use Rattle.smf_world.specs.Reached.{IsLater}
 use Rattle.smf_world.specs.Schedule.{Progress}
@@ -104,3 +109,10 @@ heard_most k n c d any h is =
       };
       told = h.told;
     }
+
+-- memory ran out
+pub heard_some : {X : Type 0} (k : Skills) (n : ℕ) (c d e : Course) (any : Bool) (f : NodeFault)
+    (a : Result X NodeFault) → HaveGiven k n c d any → f ≡ Memory → Stays d e → IsErrAnd a (λ y. y ≡ f)
+    → IfErr a (λ y. StopsHearing k c e y)
+heard_some k n c d e any f a h why stays told =
+    passed_on a f (λ y. StopsHearing k c e y) told (n, d, h.given, (why, stays))

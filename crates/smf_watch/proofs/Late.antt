@@ -67,3 +67,6 @@ ended_on false any one p q r h step =
 
 pub ended_still : (p q r : Progress) (any : Bool) → HaveEnded p q any → r ≡ q → IsLater p.world r.world
 ended_still p q r any h is = subst (λ (x : Progress). IsLater p.world x.world) (sym is) h.later
+
+pub ended_some : (p q r : Progress) (any : Bool) → HaveEnded p q any → r ≡ q → (some : Bool) × HaveTimedOut p r some
+ended_some p q r any h is = (any, subst (λ (x : Progress). HaveTimedOut p x any) (sym is) h.times)

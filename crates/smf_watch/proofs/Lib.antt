@@ -1,3 +1,4 @@
+pub mod FaultExits
 pub mod Hasty
 pub mod Hears
 pub mod Late

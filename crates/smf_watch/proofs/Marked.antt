@@ -1,8 +1,8 @@
 -- Instances that are marked for maintenance, one after another.
-use Rattle.std.proofs.Common.{◌≡◌, ◌<◌, ◌+◌, ℕ, List, ◌++◌, length, get_or, drop, refl, sym, ap, ◌∙◌, subst, append_assoc}
+use Rattle.std.proofs.Common.{◌≡◌, ◌<◌, ◌+◌, ℕ, List, [], ◌∷◌, ◌++◌, length, get_or, drop, refl, sym, ap, ◌∙◌, subst, append_assoc}
 use Rattle.smf_model.specs.Contents.{Holdings}
 use Rattle.smf_model.specs.Next.{current_instance}
-use Rattle.smf_watch.specs.Loops.{line_of, lines_of, mark_of, marks}
+use Rattle.smf_watch.specs.Loops.{AreMarked, line_of, lines_of, mark_of, marks}
 use Rattle.smf_watch.proofs.Hasty.{left_from}
 use Rattle.smf_world.specs.Reached.{IsLater}
 use Rattle.smf_world.specs.Schedule.{Progress, on}
@@ -22,23 +22,38 @@ one_line h ns i d lines new all low made so_far =
 
 -- ---- marks
 
--- so many are marked, and these are left
+marks_last : (ns : List ℕ) (n : ℕ) (p : Progress) → marks (ns ++ n ∷ []) p ≡ on (marks ns p) (mark_of n)
+marks_last [] n p = refl
+marks_last (m ∷ ns) n p = marks_last ns n (on p (mark_of m))
+
+-- the first were marked, and these are left
 pub record HaveMarked (all left : List ℕ) (p q : Progress) : Type 0 where
+  pub first : List ℕ
+  pub whole : all ≡ first ++ left
+  pub are : q ≡ marks first p
   pub made : marks left q ≡ marks all p
   pub later : IsLater p.world q.world
 
 pub none_marked : (all : List ℕ) (p : Progress) → HaveMarked all all p p
-none_marked all p = record { made = refl; later = later_self p.world }
+none_marked all p = record { first = []; whole = refl; are = refl; made = refl; later = later_self p.world }
 
 pub one_marked : (all : List ℕ) (i d : ℕ) (p q r : Progress) → i < length all → r ≡ on q (mark_of (get_or all i d))
     → HaveMarked all (drop i all) p q → HaveMarked all (drop (i + 1) all) p r
 one_marked all i d p q r low is h =
+    let n : ℕ = get_or all i d in
     record {
+      first = h.first ++ n ∷ [];
+      whole = h.whole ∙ ap (λ (xs : List ℕ). h.first ++ xs) (left_from all i d low)
+          ∙ sym (append_assoc h.first (n ∷ []) (drop (i + 1) all));
+      are = is ∙ ap (λ (x : Progress). on x (mark_of n)) h.are ∙ sym (marks_last h.first n p);
       made = ap (marks (drop (i + 1) all)) is ∙ ap (λ (xs : List ℕ). marks xs q) (sym (left_from all i d low)) ∙ h.made;
       later = later_then p.world q.world r.world h.later
-          (later_by q.world r.world (mark_of (get_or all i d))
-          (ap (λ (x : Progress). x.world) is ∙ on_world q (mark_of (get_or all i d))));
+          (later_by q.world r.world (mark_of n)
+          (ap (λ (x : Progress). x.world) is ∙ on_world q (mark_of n)));
     }
 
 pub marked_still : (all left : List ℕ) (p q r : Progress) → HaveMarked all left p q → r ≡ q → IsLater p.world r.world
 marked_still all left p q r h is = subst (λ (x : Progress). IsLater p.world x.world) (sym is) h.later
+
+pub marked_some : (all left : List ℕ) (p q r : Progress) → HaveMarked all left p q → r ≡ q → AreMarked all p r
+marked_some all left p q r h is = (h.first, left, h.whole, is ∙ h.are)

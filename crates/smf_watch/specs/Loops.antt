@@ -1,5 +1,5 @@
 -- Instances that end again and again, and what a server does then.
-use Rattle.std.specs.Prelude.{ℕ, zero, suc, ◌+◌, ◌-◌, ◌==◌, ◌&&◌, not, nat_lt, List, [], ◌∷◌, ◌++◌, length, filter, count_by, Bool, true, false, Option, Some, None, is_none, slice_get, codes}
+use Rattle.std.specs.Prelude.{◌≡◌, ℕ, zero, suc, ◌+◌, ◌-◌, ◌==◌, ◌&&◌, not, nat_lt, List, [], ◌∷◌, ◌++◌, length, filter, count_by, Bool, true, false, Option, Some, None, is_none, slice_get, codes}
 use Rattle.std.specs.Duration.{as_nanos}
 use Rattle.std.specs.declared.time.Duration.{Duration}
 use Rattle.std.specs.List.{list_any}
@@ -124,6 +124,10 @@ mark_of n = Client (Mark n Maintenance)
 abbrev pub marks : List ℕ → Progress → Progress
 marks [] p = p
 marks (n ∷ ns) p = marks ns (on p (mark_of n))
+
+-- the first of them were marked
+abbrev pub AreMarked : List ℕ → Progress → Progress → Type 0
+AreMarked numbers p q = (first : List ℕ) × (rest : List ℕ) × (numbers ≡ first ++ rest) × (q ≡ marks first p)
 
 unfoldable pub loop_text : List ℕ → List ℕ
 loop_text name = codes "smf: " ++ name ++ codes ": restarting too quickly, marked for maintenance"

@@ -2,7 +2,9 @@
 use Rattle.std.specs.Prelude.{◌≡◌, ℕ, nat_lt, List, [], ◌∷◌, length, Bool, true, false, Option, Some, is_some, slice_get}
 use Rattle.smf_edge.specs.Answers.{Skills}
 use Rattle.smf_machine.specs.Runners.{rules_of}
-use Rattle.smf_node.specs.Rounds.{Course, HasLearned}
+use Rattle.smf_node.specs.declared.fault.NodeFault.{NodeFault}
+use Rattle.smf_node.specs.Partly.{LacksMemory}
+use Rattle.smf_node.specs.Rounds.{AreGiven, Course, HasLearned}
 use Rattle.smf_restarter.specs.declared.known.KnownInstance.{KnownInstance}
 use Rattle.smf_restarter.specs.declared.known.Phase.{Phase}
 use Rattle.smf_restarter.specs.declared.known.Phase.TheVariants.{Running}
@@ -17,6 +19,10 @@ use Rattle.smf_world.specs.Worked.{restarter}
 pub record HasHeard (k : Skills) (c d : Course) (any : Bool) : Type 0 where
   pub learned : HasLearned (rules_of k) c d
   pub told : any ≡ nat_lt 0 learned.count
+
+-- children told some events, each of which happened, and then memory ran out
+abbrev pub StopsHearing : Skills → Course → Course → NodeFault → Type 0
+StopsHearing k c d e = (count : ℕ) × (mid : Course) × AreGiven (rules_of k) count c mid × LacksMemory mid d e
 
 -- ---- methods
 
@@ -48,6 +54,7 @@ abbrev pub AreLate : List (List ℕ × ℕ) → Progress → Progress → Type 0
 AreLate [] p q = q ≡ p
 AreLate (one ∷ more) p q = (mid : Progress) × TimesOutIf true one p mid × AreLate more mid q
 
+-- so many of them did; this is whether any did
 pub record HaveTimedOut (p q : Progress) (any : Bool) : Type 0 where
   pub late : List (List ℕ × ℕ)
   pub are : AreLate late p q

@@ -29,6 +29,13 @@ pub struct Ends {
     pub seen: Vec<End>,
 }
 
+/// What a look finds: the instances that ended too often, each once, and the ends that are kept then.
+#[derive(Drop)]
+pub struct Found {
+    pub numbers: Items<u64>,
+    pub left: Ends,
+}
+
 fn steady_if(is_row: bool, is_steady: bool) -> Option<bool>
     ensures { result ≡ steady_if is_row is_steady }
 {
@@ -226,27 +233,33 @@ impl Ends {
         }
     }
 
-    /// Looks at the items of a trail that are new, and drops the ends that are too long ago. Gives the instances that
-    /// ended too often, whose ends are dropped too.
-    pub fn look(
-        &mut self,
-        alloc: Global,
-        now: Duration,
-        trail: &[Item],
-    ) -> Result<Items<u64>, AllocError>
-        requires { self.old.looked ≤ length trail.now }
-        ensures numbers { IfOk result (λ numbers.
-            numbers ≡ hasty (seen_by now trail.now self.old.looked self.old.seen.items)) }
-        ensures looked { OnOk result (self.new.looked ≡ length trail.now) }
-        ensures kept { IfOk result (λ numbers. self.new.seen.items
-            ≡ filter (is_kept numbers) (seen_by now trail.now self.old.looked self.old.seen.items)) }
+    /// Looks at the items of a trail that are new, and drops the ends that are too long ago. Finds the instances that
+    /// ended too often, whose ends are dropped too. Nothing is kept of a look that fails, or whose finding is let go.
+    pub fn look(&self, alloc: Global, now: Duration, trail: &[Item]) -> Result<Found, AllocError>
+        requires { self.now.looked ≤ length trail.now }
+        ensures numbers { IfOk result (λ found.
+            found.numbers ≡ hasty (seen_by now trail.now self.now.looked self.now.seen.items)) }
+        ensures looked { IfOk result (λ found. found.left.looked ≡ length trail.now) }
+        ensures kept { IfOk result (λ found. found.left.seen.items
+            ≡ filter (is_kept found.numbers) (seen_by now trail.now self.now.looked self.now.seen.items)) }
     {
-        let looked = self.looked;
-        drop_old(&mut self.seen, now);
-        push_ends(&mut self.seen, trail, now, looked, trail.len() - looked)?;
-        let numbers = hasty(alloc, &self.seen)?;
-        forget(&mut self.seen, numbers.as_slice());
-        self.looked = trail.len();
-        Ok(numbers)
+        let mut seen = Vec::from_slice(alloc, &self.seen)?;
+        drop_old(&mut seen, now);
+        push_ends(
+            &mut seen,
+            trail,
+            now,
+            self.looked,
+            trail.len() - self.looked,
+        )?;
+        let numbers = hasty(alloc, &seen)?;
+        forget(&mut seen, numbers.as_slice());
+        Ok(Found {
+            numbers,
+            left: Ends {
+                looked: trail.len(),
+                seen,
+            },
+        })
     }
 }

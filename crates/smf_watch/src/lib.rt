@@ -18,7 +18,7 @@ mod watch;
 pub use ask::{Onward, ServerInput};
 pub use child_events::hear_all;
 pub use desk::Desk;
-pub use ends::{End, Ends, MOST_ENDS, PERIOD};
+pub use ends::{End, Ends, Found, MOST_ENDS, PERIOD};
 pub use marks::{lines_of, mark_all};
 pub use size::{Size, is_same, size_of};
 pub use stops::{Ender, Noted, Stop};

@@ -1,5 +1,5 @@
 ghost use Rattle.smf_model.specs.Next.{current_instance};
-ghost use Rattle.smf_watch.specs.Loops.{line_of, lines_of, loop_text, mark_of, marks};
+ghost use Rattle.smf_watch.specs.Loops.{AreMarked, line_of, lines_of, loop_text, mark_of, marks};
 ghost use Rattle.smf_world.specs.Reached.{IsLater};
 ghost use Rattle.smf_world.specs.Schedule.{on};
 ghost use Rattle.std.specs.Prelude.{◌≡◌, ◌++◌, IfOk, OnErr, OnOk};
@@ -63,9 +63,10 @@ fn mark<J: Journal>(node: &mut Node<J>, instance: u64) -> Result<(), NodeFault>
     Ok(())
 }
 
-/// Marks instances for maintenance, as an administrator does.
+/// Marks instances for maintenance, as an administrator does. A fault leaves those that were marked before it.
 pub fn mark_all<J: Journal>(node: &mut Node<J>, numbers: &[u64]) -> Result<(), NodeFault>
     ensures ok { OnOk result (node.new ≡ marks numbers.now node.old) }
+    ensures err { OnErr result (AreMarked numbers.now node.old node.new) }
     ensures later { IsLater node.old.world node.new.world }
 {
     for number in numbers {

@@ -1,4 +1,4 @@
-ghost use Rattle.std.specs.Prelude.{◌≡◌, IfOk, IfSome, OnErr, OnOk, true};
+ghost use Rattle.std.specs.Prelude.{◌≡◌, Bool, IfOk, IfSome, OnErr, OnOk, true};
 ghost use Rattle.smf_watch.specs.Watched.{HaveTimedOut, IsTimed, IsTimedIn, MayTimeOut, TimesOutIf};
 ghost use Rattle.smf_world.specs.declared.event.Event.TheVariants as events;
 ghost use Rattle.smf_world.specs.Reached.{IsLater};
@@ -219,9 +219,10 @@ impl Watch {
         Ok(())
     }
 
-    /// Methods that run too long time out. Says whether any did.
+    /// Methods that run too long time out. Says whether any did. A fault leaves those that timed out before it.
     pub fn time_out<J: Journal>(&self, now: Duration, node: &mut Node<J>) -> Result<bool, NodeFault>
         ensures ok { IfOk result (λ any. HaveTimedOut node.old node.new any) }
+        ensures err { OnErr result ((any : Bool) × HaveTimedOut node.old node.new any) }
         ensures later { IsLater node.old.world node.new.world }
     {
         let mut any = false;

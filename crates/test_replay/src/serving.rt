@@ -4,7 +4,8 @@
 
 use smf_edge::TableKids;
 use smf_model::{NoJournal, Plain};
-use smf_server::{Life, fault_text, stay_over};
+use smf_script::ScriptFault;
+use smf_server::{Life, Unborn, fault_text, stay_over};
 use smf_watch::{Desk, Ender, ServerInput, Stop, Timer};
 use std::alloc::Global;
 use std::io::{self, BufReader, Read};
@@ -126,7 +127,7 @@ fn serve_all(rt: &HostRuntime, text: &[u8], count: u64) -> u8 {
         failed: 0,
         shown: 0,
     };
-    let Life { how, journal, kids } = stay_over(
+    let stayed = stay_over(
         alloc,
         &mut desk,
         &Stopped {},
@@ -134,24 +135,34 @@ fn serve_all(rt: &HostRuntime, text: &[u8], count: u64) -> u8 {
         Plain::new(alloc, NoJournal {}),
         TableKids::new(alloc),
     );
+    let (journal, kids) = match stayed {
+        Ok(Life {
+            how: _,
+            journal,
+            kids,
+        }) => (journal, kids),
+        Err(Unborn {
+            fault,
+            journal: _journal,
+            kids: _kids,
+        }) => {
+            let words = fault_text(&ScriptFault::Node(fault));
+            let _ = eprintln!(rt; "{words}");
+            return FAULT;
+        }
+    };
     let NoJournal {} = journal;
     let _kids: TableKids = kids;
-    match how {
-        Ok(_) if desk.failed == 0 => {
+    match desk.failed {
+        0 => {
             let shown = desk.shown;
             match println!(rt; "{shown} items are kept") {
                 Ok(()) => 0,
                 Err(_) => FAULT,
             }
         }
-        Ok(_) => {
-            let failed = desk.failed;
+        failed => {
             let _ = eprintln!(rt; "test_replay: {failed} requests were not done");
-            FAULT
-        }
-        Err(fault) => {
-            let words = fault_text(&fault);
-            let _ = eprintln!(rt; "{words}");
             FAULT
         }
     }

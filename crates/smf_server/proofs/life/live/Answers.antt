@@ -1,6 +1,6 @@
 use Rattle.smf_edge.specs.Answers.{children_state}
 use Rattle.smf_server.specs.Turns.{between, standing}
-use Rattle.smf_server.proofs.Lives.{are_left, lasted}
+use Rattle.smf_server.proofs.Lives.{are_left}
 use Rattle.smf_server.proofs.life.live.Goals as goal
 
 pub returns : goal.returns
@@ -10,11 +10,10 @@ returns g c =
           (standing c.stay-how.new.server.node
           (children_state (g.K.Kids.ledger c.stay-how.new.server.kids) (g.K.Kids.failures c.stay-how.new.server.kids))
           c.stay-how.new.server.busy) c.stay-how.new.server.ends;
-      lasted = lasted g.K.Kids.skills _ _ _ c.stay-how.result _ _ _ _ c.stay-how.ensures.ok c.stay-how.ensures.err;
+      stayed = c.stay-how.ensures.stayed;
       kept = rw c.into_repository.ensures at c.into_journal.ensures.stands;
       safe = c.stay-how.ensures.safe;
       leads = c.stay-how.ensures.leads;
-      agrees = c.stay-how.ensures.agrees;
       left = are_left g.K.Kids.skills c.end_all-is_listed.result _ _ c.end_all-is_listed.ensures.ended
           c.end_all-is_listed.ensures.unlisted;
     }

@@ -1,5 +1,5 @@
 use Rattle.std.proofs.Common.{sym}
-use Rattle.smf_server.proofs.Turned.{tick_cut, ticked}
+use Rattle.smf_server.proofs.TurnSteps.{come_on, tick_cut, ticked}
 use Rattle.smf_server.proofs.turns.do_next.Goals as goal
 
 pub returns-in-Ok-clause-ok : goal.returns-in-Ok-clause-ok
@@ -7,10 +7,12 @@ returns-in-Ok-clause-ok g c =
     ticked g.K.Kids.skills _ _ _ _ _ _ _ c.in-Tick.ensures c.tell_each.ensures c.in-Ok.ensures.ticked
 
 pub returns-in-Tick-clause-err : goal.returns-in-Tick-clause-err
-returns-in-Tick-clause-err g c = tick_cut g.K.Kids.skills g.J.Journal.write_fails _ _ _ _ _ c.in-Tick.ensures
+returns-in-Tick-clause-err g c =
+    tick_cut g.K.Kids.skills g.J.Journal.write_fails _ _ _ _ _ c.in-Tick.ensures
+    (come_on _ _ _ _ _ _ _ _ c.tick.ensures.later c.in-Err.ensures.kept) c.tick.ensures.agrees
 
 pub returns-in-Ok-clause-agrees : goal.returns-in-Ok-clause-agrees
-returns-in-Ok-clause-agrees g c = c.in-Ok.ensures.agrees
+returns-in-Ok-clause-agrees g c = c.tick.ensures.agrees
 
 pub returns-in-Request-clause-err : goal.returns-in-Request-clause-err
 returns-in-Request-clause-err g c =

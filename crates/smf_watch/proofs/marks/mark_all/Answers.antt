@@ -1,4 +1,5 @@
-use Rattle.smf_watch.proofs.Marked.{marked_still, none_marked, one_marked}
+use Rattle.smf_watch.proofs.FaultExits.{on_fault}
+use Rattle.smf_watch.proofs.Marked.{marked_some, marked_still, none_marked, one_marked}
 use Rattle.smf_watch.proofs.marks.mark_all.Goals as goal
 
 pub loop-number-init : goal.loop-number-init
@@ -11,6 +12,10 @@ loop-number-preserved g c =
 
 pub returns-in_err-mark-clause-later : goal.returns-in_err-mark-clause-later
 returns-in_err-mark-clause-later g c = marked_still _ _ _ _ _ c.loop-number.invariant c.in_err-mark.ensures.err
+
+pub returns-in_err-mark-clause-err : goal.returns-in_err-mark-clause-err
+returns-in_err-mark-clause-err g c =
+    on_fault _ _ (marked_some _ _ _ _ _ c.loop-number.invariant c.in_err-mark.ensures.err)
 
 pub returns-clause-later : goal.returns-clause-later
 returns-clause-later g c = c.loop-number.invariant.later

@@ -1,4 +1,5 @@
-use Rattle.smf_watch.proofs.Late.{ended_none, ended_on, ended_still}
+use Rattle.smf_watch.proofs.FaultExits.{on_fault}
+use Rattle.smf_watch.proofs.Late.{ended_none, ended_on, ended_some, ended_still}
 use Rattle.smf_watch.proofs.watch.Watch.time_out.Goals as goal
 
 pub loop-due-init : goal.loop-due-init
@@ -9,6 +10,10 @@ loop-due-preserved g c = ended_on _ _ _ _ _ _ c.loop-due.invariant c.in_ok-did.e
 
 pub returns-in_err-did-clause-later : goal.returns-in_err-did-clause-later
 returns-in_err-did-clause-later g c = ended_still _ _ _ _ c.loop-due.invariant c.in_err-did.ensures.err
+
+pub returns-in_err-did-clause-err : goal.returns-in_err-did-clause-err
+returns-in_err-did-clause-err g c =
+    on_fault _ _ (ended_some _ _ _ _ c.loop-due.invariant c.in_err-did.ensures.err)
 
 pub returns-clause-ok : goal.returns-clause-ok
 returns-clause-ok g c = c.loop-due.invariant.times
