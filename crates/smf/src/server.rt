@@ -11,9 +11,10 @@ use smf_keeper::{Groups, Keepers, Room};
 use smf_model::{Journal, Plain};
 use smf_program::tell_no_database;
 use smf_script::ScriptFault;
-use smf_server::{Life, Unborn, fault_text, stay_over};
+use smf_server::{ItemCount, Leftover, Life, Unborn, fault_text, stay_over};
 use smf_store::open_repository;
 use sqlite::{Alter, Connection};
+use std::alloc::AllocError;
 use std::io;
 
 /// Tells why nothing more was asked, if it was no request, and gives the status of the run.
@@ -39,25 +40,46 @@ fn stay<J: Journal + Drop, K: Kids + Drop>(
     let stayed = stay_over(
         rt.alloc(),
         desk,
+        &mut ItemCount { items: 0 },
         &SystemTimer { rt },
         ender,
         repository,
         kids,
     );
     match stayed {
-        Ok(Life {
-            how: _,
-            journal,
-            kids: _kids,
-        }) => (tell_end(rt, desk), journal),
-        Err(Unborn {
-            fault,
-            journal,
-            kids: _kids,
-        }) => {
+        Ok(
+            Life {
+                how: _,
+                left,
+                journal,
+                kids: _kids,
+            },
+        ) => {
+            let told = tell_left(rt, &left);
+            (told.max(tell_end(rt, desk)), journal)
+        }
+        Err(
+            Unborn {
+                fault,
+                journal,
+                kids: _kids,
+            },
+        ) => {
             let status = tell(&mut rt.stderr(), fault_text(&ScriptFault::Node(fault)));
             (status, journal)
         }
+    }
+}
+
+/// Tells what children have left at the end, if anything, and gives the status of the run for that.
+fn tell_left(rt: &HostRuntime, left: &Result<Leftover, AllocError>) -> u8 {
+    match left {
+        Ok(Leftover::NoneLeft) => 0,
+        Ok(Leftover::SomeLeft | Leftover::Unlisted) => {
+            let _ = eprintln!(rt; "smf: serve: some contracts have not ended yet");
+            0
+        }
+        Err(_) => tell(&mut rt.stderr(), "smf: no memory"),
     }
 }
 

@@ -4,3 +4,4 @@ pub mod Steps
 pub mod NodeEvents
 pub mod Agreement
 pub mod RoundFaults
+pub mod Ended

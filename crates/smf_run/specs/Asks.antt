@@ -69,6 +69,10 @@ abbrev pub HadMemory : Result (Unit {0}) KidsFault → Type 0
 HadMemory (Err Memory) = ⊥
 HadMemory _ = Unit {0}
 
+abbrev pub lacks_memory : Result (Unit {0}) KidsFault → Bool
+lacks_memory (Err Memory) = true
+lacks_memory _ = false
+
 -- the node stays as it is
 abbrev pub deed_of_answer : Progress → Result (Unit {0}) KidsFault → Deed
 deed_of_answer p answer = record { progress = p; text = answer_text answer; fine = is_ok answer }

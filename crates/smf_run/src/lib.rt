@@ -10,5 +10,5 @@ mod ends;
 mod lines;
 mod script;
 
-pub use ends::end_all;
+pub use ends::{Leftover, end_all};
 pub use script::run_script;

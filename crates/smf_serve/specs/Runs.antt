@@ -1,5 +1,6 @@
 -- The output of a script over a database and the children of its services, and the end of such a run.
-use Rattle.std.specs.Prelude.{◌≡◌, ◌⊎◌, ℕ, List, Option}
+use Rattle.std.specs.Prelude.{◌≡◌, ◌⊎◌, ℕ, List, Option, Result, Ok, Err}
+use Rattle.std.specs.declared.alloc.AllocError.{AllocError}
 use Rattle.std_io.specs.declared.io.error.Error.{Error}
 use Rattle.sqlite.specs.Held.{Held}
 use Rattle.sqlite.specs.Store.{Ghosts}
@@ -9,10 +10,12 @@ use Rattle.smf_edge.specs.Answers.{Skills}
 use Rattle.smf_model.specs.declared.journal.RepoFault.{RepoFault}
 use Rattle.smf_model.specs.Contents.{Holdings}
 use Rattle.smf_node.specs.declared.fault.NodeFault.{NodeFault}
+use Rattle.smf_node.specs.declared.fault.NodeFault.TheVariants.{Memory}
 use Rattle.smf_node.specs.Faults.{IsUnbooted}
 use Rattle.smf_run.specs.Agreed.{AgreesOrDropped, empty_ledger}
 use Rattle.smf_edge.specs.Answers.{Seen}
-use Rattle.smf_run.specs.Ends.{HasEnded, IsUnlisted}
+use Rattle.smf_run.specs.Ends.{HasEndedAll}
+use Rattle.smf_run.specs.declared.ends.Leftover.{Leftover}
 use Rattle.smf_run.specs.Scripts.{HasRun, Stops}
 use Rattle.smf_script.specs.declared.fault.ScriptFault.{ScriptFault}
 use Rattle.smf_script.specs.declared.fault.ScriptFault.TheVariants.{Node}
@@ -33,9 +36,13 @@ first h = begun_at (happens (initial_world h) events.Boot)
 
 -- ---- over what was found
 
--- all children that were left were asked to end, or they could not be listed
+-- children were asked to end all that was left, if their device listed it, and none was refused for want of memory
 abbrev pub AreEnded : Skills → Seen → Seen → Type 0
-AreEnded k old new = HasEnded k old new ⊎ IsUnlisted k old new
+AreEnded k old new = (left : Leftover) × HasEndedAll k (Ok left) old new
+
+-- memory ran out for that
+abbrev pub AreStarved : Skills → Seen → Seen → Type 0
+AreStarved k old new = (e : AllocError) × HasEndedAll k (Err e) old new
 
 -- all lines were done and what they gave was written; then what was left of children was ended. The trail is safe, and
 -- the node agreed with children that had been asked nothing before
@@ -72,6 +79,25 @@ pub record HasStopped (k : Skills) (stores : RepoFault → Type 0) (stands : Hol
   pub stands_so : stands after.world.now
   pub agrees : old.ledger ≡ empty_ledger → AgreesOrDropped after.world mid.ledger
 
+-- all lines were done, or a fault ended them
+abbrev pub HasBeenDone : Skills → (RepoFault → Type 0) → Holdings → Option (List ℕ) → Seen → Seen → Progress
+    → Option (List ℕ) → Option (List ℕ) → Type 0
+HasBeenDone k stores h input old mid after was is =
+    ((status : ℕ) × HasRun k (first_session (first h)) input old mid after was is status)
+    ⊎ ((fault : ScriptFault) × Stops k stores fault (first_session (first h)) input old mid after was is)
+
+-- then memory ran out for the end of what was left of children. The trail is safe, and the node agreed with children as
+-- above
+pub record HasStarved (k : Skills) (stores : RepoFault → Type 0) (stands : Holdings → Type 0) (h : Holdings)
+    (input : Option (List ℕ)) (old new : Seen) (was is : Option (List ℕ)) : Type 0 where
+  pub after : Progress
+  pub mid : Seen
+  pub done : HasBeenDone k stores h input old mid after was is
+  pub starved : AreStarved k mid new
+  pub safe : IsSafe after.world
+  pub stands_so : stands after.world.now
+  pub agrees : old.ledger ≡ empty_ledger → AgreesOrDropped after.world mid.ledger
+
 pub data IsCutOff (k : Skills) (stores : RepoFault → Type 0) (stands : Holdings → Type 0)
     (reads writes : Error → Type 0) (h : Holdings) (input : Option (List ℕ)) (old new : Seen)
     (was is : Option (List ℕ)) (fault : ScriptFault) : Type 0 where
@@ -79,6 +105,13 @@ pub data IsCutOff (k : Skills) (stores : RepoFault → Type 0) (stands : Holding
       → IsCutOff k stores stands reads writes h input old new was is fault
   stopped : HasStopped k stores stands reads writes h input old new was is fault
       → IsCutOff k stores stands reads writes h input old new was is fault
+  starved : fault ≡ Node Memory → HasStarved k stores stands h input old new was is
+      → IsCutOff k stores stands reads writes h input old new was is fault
+
+-- want of memory for the end of children is told first
+abbrev pub end_of : Result ℕ ScriptFault → Result Leftover AllocError → Result ℕ ScriptFault
+end_of end (Ok left) = end
+end_of end (Err e) = Err (Node Memory)
 
 -- the fault that ended it was told
 pub record IsCut (k : Skills) (stores : RepoFault → Type 0) (stands : Holdings → Type 0)

@@ -2,7 +2,7 @@ ghost use Rattle.std.specs.Prelude.{◌≡◌, ◌≢◌, ◌≤◌, IfErr, IfOk
 ghost use Rattle.smf_edge.specs.Answers.{children_state};
 ghost use Rattle.sqlite.specs.Files.{over_files};
 ghost use Rattle.smf_database.specs.Closed.{IsClosedAfter, IsEndedAfter};
-ghost use Rattle.smf_serve.specs.Runs.{HasRunOver, IsCut, IsCutOff, IsDone, IsEnded};
+ghost use Rattle.smf_serve.specs.Runs.{HasRunOver, IsCut, IsCutOff, IsDone, IsEnded, end_of};
 
 use crate::fault_texts::fault_text;
 use smf_cfg::tell;
@@ -10,20 +10,33 @@ use smf_database::{Closed, Served, close, tell_open};
 use smf_edge::Kids;
 use smf_lines::{LineReader, TextWriter};
 use smf_model::{Journal, Plain};
-use smf_node::Node;
-use smf_run::{end_all, run_script};
+use smf_node::{Node, NodeFault};
+use smf_run::{Leftover, end_all, run_script};
 use smf_script::ScriptFault;
 use smf_store::open_repository;
 use sqlite::{Alter, Connection};
 use sqlite_disk::Disk;
 use sqlite_store::FileStore;
-use std::alloc::Global;
+use std::alloc::{AllocError, Global};
 
 /// The end of a run over a journal.
 pub(crate) struct Ended<T, J> {
     pub(crate) end: T,
     /// The journal, as the run left it.
     pub(crate) journal: J,
+}
+
+/// How a run ends. Want of memory for the end of children is told first; that their device failed changes no status.
+fn end_of(
+    end: Result<u8, ScriptFault>,
+    left: Result<Leftover, AllocError>,
+) -> Result<u8, ScriptFault>
+    ensures { result ≡ end_of end left }
+{
+    match left {
+        Ok(_) => end,
+        Err(_) => Err(ScriptFault::Node(NodeFault::Memory)),
+    }
 }
 
 /// Does a script over a repository and the children of its services. At the end every child that is left is killed and
@@ -51,9 +64,12 @@ fn run_over<J: Journal + Drop, R: LineReader, W: TextWriter, K: Kids>(
         }
     };
     let end = run_script(alloc, reader, writer, &mut node, kids);
-    let _is_listed: bool = end_all(kids);
+    let left = end_all(kids);
     let journal = node.into_repository().into_journal();
-    Ended { end, journal }
+    Ended {
+        end: end_of(end, left),
+        journal,
+    }
 }
 
 /// Does a script over a repository and the children of its services, gives the status of the run, and hands the journal

@@ -1,15 +1,13 @@
 -- How a server ends, out of what its parts do.
-use Rattle.std.proofs.Common.{◌≡◌, inl, inr, List, ℕ, Bool, true, false, Option, Some, None, refl, sym, ap, subst}
-use Rattle.smf_edge.specs.Answers.{Seen, Skills}
+use Rattle.std.proofs.Common.{◌≡◌, inl, inr, List, ℕ, Option, Some, None, sym, ap, subst}
 use Rattle.smf_past.specs.Lives.{LeadsTo}
 use Rattle.smf_past.proofs.RemainingWorlds.{leads_later, leads_remains}
-use Rattle.smf_run.specs.Ends.{HasEnded, IsUnlisted}
 use Rattle.smf_script.specs.declared.fault.ScriptFault.{ScriptFault}
 use Rattle.smf_watch.specs.Traffic.{Passed}
 use Rattle.smf_world.specs.Reached.{IsLater}
 use Rattle.smf_world.specs.Schedule.{Progress}
 use Rattle.smf_world.specs.World.{World}
-use Rattle.smf_server.specs.Life.{AreLeft, HasConcluded}
+use Rattle.smf_server.specs.Life.{HasConcluded}
 use Rattle.smf_server.specs.Turns.{Between, MayHaveForgotten}
 
 -- events, and then what went
@@ -32,8 +30,3 @@ leads_on w None last next was is mid v u l later h =
 leads_on w (Some fault) last next was is mid v u l later h =
     leads_by w v u
     (leads_later w mid v.standing.course.progress.world l later) (inl h.2)
-
-pub are_left : (k : Skills) (listed : Bool) (old new : Seen) → (listed ≡ true → HasEnded k old new)
-    → (listed ≡ false → IsUnlisted k old new) → AreLeft k old new
-are_left k true old new ended unlisted = inl (ended refl)
-are_left k false old new ended unlisted = inr (unlisted refl)

@@ -9,19 +9,20 @@ use Rattle.smf_script.specs.declared.fault.ScriptFault.{ScriptFault}
 use Rattle.smf_server.specs.FaultTexts.{fault_text}
 use Rattle.smf_server.specs.Life.{HasConcluded, HasStayed, KeepsAgreement, is_uncut}
 use Rattle.smf_watch.specs.Traffic.{Passed, Asked, Told, traffic_with, reply_in}
-use Rattle.smf_server.specs.Turns.{Between, Failed, Failure, Fails, HasTurned, IsFailed, IsServed, IsTurn, MayHaveForgotten, RequestFailed, RoundsFailed, StillAgrees, Taken, TickFailed, Turn, TurnsFollow, all_passed, fault_of, last_words, passed_at, passed_in, told_anew}
+use Rattle.smf_world.specs.declared.item.Item.{Item}
+use Rattle.smf_server.specs.Turns.{Between, Failed, Failure, Fails, HasTurned, IsFailed, IsServed, IsTurn, MayHaveForgotten, RequestFailed, RoundsFailed, StillAgrees, Taken, TickFailed, Turn, TurnsFollow, all_passed, all_shown, fault_of, last_words, passed_at, passed_in, shown_since, told_anew, trail_of_state}
 use Rattle.smf_watch.specs.declared.ask.Onward.{Onward}
 use Rattle.smf_watch.specs.declared.ask.Onward.TheVariants.{Goes, Ends}
 use Rattle.smf_watch.proofs.Hasty.{left_at}
 
 -- ---- what passed
 
-pub passing_then : (first more : List Passed) (was : Option (List Passed))
+pub passing_then : {A : Type 0} (first more : List A) (was : Option (List A))
     → traffic_with more (traffic_with first was) ≡ traffic_with (first ++ more) was
 passing_then first more None = refl
 passing_then first more (Some all) = ap Some (append_assoc all first more)
 
-pub passing_nothing : (was : Option (List Passed)) → traffic_with [] was ≡ was
+pub passing_nothing : {A : Type 0} (was : Option (List A)) → traffic_with [] was ≡ was
 passing_nothing None = refl
 passing_nothing (Some all) = ap Some (append-nil all)
 
@@ -43,6 +44,13 @@ told_one lines i line was is all low at told so_far =
     ∙ ap (λ (xs : List (List ℕ)). traffic_with (map Told xs) was) (sym (left_at lines i line low at))
     ∙ so_far
 
+-- what happened at first and then was told, and what happened next was
+told_more : (first before next : List Item) (was now is : Option (List Item)) → now ≡ traffic_with (first ++ before) was
+    → is ≡ traffic_with next now → is ≡ traffic_with (first ++ (before ++ next)) was
+told_more first before next was now is so_far then =
+    then ∙ ap (traffic_with next) so_far ∙ passing_then (first ++ before) next was
+    ∙ ap (λ (xs : List Item). traffic_with xs was) (append_assoc first before next)
+
 -- ---- turns
 
 nothing_yet : (k : Skills) (clock : Duration → Type 0) (stores : RepoFault → Type 0) (was : Option (List Passed))
@@ -54,8 +62,8 @@ pub taken_more : (k : Skills) (clock : Duration → Type 0) (stores : RepoFault 
     → IsTurn k clock now is mid t → MayHaveForgotten t u → IsServed k clock stores was is s u
 taken_more k clock stores was now is s mid t u served turn rest =
     record {
-      turns = Taken turn.one ∷ served.turns;
-      steps = (mid, served.steps, (t, turn.step, rest));
+      turns = Taken turn.one (shown_since mid t) ∷ served.turns;
+      steps = (mid, served.steps, (t, turn.step, refl, rest));
       passed = turn.passed ∙ ap (traffic_with (passed_in turn.one)) served.passed
           ∙ passing_then (all_passed served.turns) (passed_in turn.one) was
           ∙ ap (λ (xs : List Passed). traffic_with (all_passed served.turns ++ xs) was)
@@ -74,8 +82,8 @@ failed_more k clock stores fault was now turned is s mid t served failed busy to
     let first : List Passed = passed_at failed.how in
     let more : List Passed = told_anew last (Some (fault_text (fault_of failed.how))) in
     record {
-      turns = Failed failed.how ∷ served.turns;
-      steps = (mid, served.steps, (failed.fails, busy));
+      turns = Failed failed.how (shown_since mid t) ∷ served.turns;
+      steps = (mid, served.steps, (failed.fails, refl, busy));
       passed = told
           ∙ ap (λ (x : ScriptFault). traffic_with (told_anew last (Some (fault_text x))) turned) failed.named
           ∙ ap (traffic_with more)
@@ -93,20 +101,25 @@ turns_follow k clock stores was now is s mid t fault = (
 
 -- ---- so many turns
 
--- so many turns were taken, and the last one failed with these words, or did not fail
+-- so many turns were taken, and the last one failed with these words, or did not fail; all that the trail showed was
+-- told
 pub record HaveTaken (k : Skills) (clock : Duration → Type 0) (stores : RepoFault → Type 0) (count : ℕ)
-    (last : Option (List ℕ)) (was is : Option (List Passed)) (s t : Between) : Type 0 where
+    (last : Option (List ℕ)) (was is : Option (List Passed)) (told_was told_is : Option (List Item)) (s t : Between)
+    : Type 0 where
   pub served : IsServed k clock stores was is s t
+  pub told : told_is ≡ traffic_with (trail_of_state s ++ all_shown served.turns) told_was
   pub many : length served.turns ≡ count
   pub words : last ≡ last_words served.turns
   pub agrees : is_uncut served.turns ≡ true → KeepsAgreement s t
 
 pub none_taken : (k : Skills) (clock : Duration → Type 0) (stores : RepoFault → Type 0) (was : Option (List Passed))
-    (s : Between) → HaveTaken k clock stores zero None was was s s
+    (told_was told_is : Option (List Item)) (s : Between) → told_is ≡ traffic_with (trail_of_state s) told_was
+    → HaveTaken k clock stores zero None was was told_was told_is s s
 unfolding nothing_yet
-none_taken k clock stores was s =
+none_taken k clock stores was told_was told_is s told =
     record {
       served = nothing_yet k clock stores was s;
+      told = told ∙ ap (λ (xs : List Item). traffic_with xs told_was) (sym (append-nil (trail_of_state s)));
       many = refl;
       words = refl;
       agrees = λ uncut b a. record { before = b; agrees = a };
@@ -118,75 +131,90 @@ agrees_on s mid t u before turn rest b a =
     let now : AgreesAnew mid.standing.course.progress.world mid.standing.course.seen.ledger = before b a in
     rest now.before (turn now.before now.agrees)
 
-how_agrees : (k : Skills) (stores : RepoFault → Type 0) (how : Failure) (turns : List Turn) (s mid t u : Between)
+how_agrees : (k : Skills) (stores : RepoFault → Type 0) (how : Failure) (items : List Item) (turns : List Turn)
+    (s mid t u : Between)
     → Fails k stores how mid t → (is_uncut turns ≡ true → KeepsAgreement s mid) → KeepsAgreement t u
-    → is_uncut (Failed how ∷ turns) ≡ true → KeepsAgreement s u
-how_agrees k stores (TickFailed e) turns s mid t u fails before rest uncut =
+    → is_uncut (Failed how items ∷ turns) ≡ true → KeepsAgreement s u
+how_agrees k stores (TickFailed e) items turns s mid t u fails before rest uncut =
     agrees_on s mid t u (before uncut) fails.1 rest
-how_agrees k stores (RequestFailed fault a) turns s mid t u fails before rest uncut = absurd cc
-how_agrees k stores (RoundsFailed e a) turns s mid t u fails before rest uncut =
+how_agrees k stores (RequestFailed fault a) items turns s mid t u fails before rest uncut = absurd cc
+how_agrees k stores (RoundsFailed e a) items turns s mid t u fails before rest uncut =
     agrees_on s mid t u (before uncut) fails.3 rest
 
 pub one_more : (k : Skills) (clock : Duration → Type 0) (stores : RepoFault → Type 0) (n : ℕ)
     (last next : Option (List ℕ)) (fault : Option ScriptFault) (was now turned is : Option (List Passed))
-    (s mid t u : Between) → HaveTaken k clock stores n last was now s mid
+    (told_was told_now told_is : Option (List Item))
+    (s mid t u : Between) → HaveTaken k clock stores n last was now told_was told_now s mid
     → HasTurned k clock stores Goes fault now turned mid t
     → ((b : Before) → fault ≡ None
     → AgreesSince b mid.standing.course.progress.world mid.standing.course.seen.ledger
     → AgreesSince b t.standing.course.progress.world t.standing.course.seen.ledger)
+    → told_is ≡ traffic_with (shown_since mid t) told_now
     → HasConcluded fault last next turned is t u → KeepsAgreement t u
-    → HaveTaken k clock stores (suc n) next was is s u
+    → HaveTaken k clock stores (suc n) next was is told_was told_is s u
 unfolding taken_more failed_more
-one_more k clock stores n last next None was now turned is s mid t u taken turn agrees (cleared, same, rest) then =
+one_more k clock stores n last next None was now turned is told_was told_now told_is s mid t u taken turn agrees shown
+    (cleared, same, rest) then =
     record {
       served = taken_more k clock stores was now is s mid t u taken.served
           (record { one = turn.one; step = turn.step; passed = same ∙ turn.passed }) rest;
+      told = told_more (trail_of_state s) (all_shown taken.served.turns) (shown_since mid t) told_was told_now told_is
+          taken.told shown;
       many = ap suc taken.many;
       words = cleared;
       agrees = λ uncut. agrees_on s mid t u (taken.agrees uncut) (λ b a. agrees b refl a) then;
     }
-one_more k clock stores n last next (Some fault) was now turned is s mid t u taken turn agrees (kept, told, same) then =
+one_more k clock stores n last next (Some fault) was now turned is told_was told_now told_is s mid t u taken turn agrees
+    shown (kept, told, same) then =
     let failed : IsFailed k stores fault now turned mid u =
     subst (λ (x : Between). IsFailed k stores fault now turned mid x) (sym same) turn.0 in
     record {
       served = failed_more k clock stores fault was now turned is s mid u taken.served failed
           (ap (λ (x : Between). x.standing.busy) same ∙ turn.1)
           (told ∙ ap (λ (x : Option (List ℕ)). traffic_with (told_anew x (Some (fault_text fault))) turned) taken.words);
+      told = told_more (trail_of_state s) (all_shown taken.served.turns) (shown_since mid u) told_was told_now told_is
+          taken.told (shown ∙ ap (λ (x : Between). traffic_with (shown_since mid x) told_now) (sym same));
       many = ap suc taken.many;
       words = kept ∙ ap (λ (x : ScriptFault). Some (fault_text x)) failed.named;
-      agrees = how_agrees k stores failed.how taken.served.turns s mid u u failed.fails taken.agrees
+      agrees = how_agrees k stores failed.how (shown_since mid u) taken.served.turns s mid u u failed.fails taken.agrees
           (λ b a. record { before = b; agrees = a });
     }
 
 pub goes_on : (k : Skills) (clock : Duration → Type 0) (stores : RepoFault → Type 0) (n : ℕ)
     (last next : Option (List ℕ)) (o : Onward) (fault : Option ScriptFault) (was now turned is : Option (List Passed))
-    (s mid t u : Between) → HaveTaken k clock stores n last was now s mid → o ≡ Goes
+    (told_was told_now told_is : Option (List Item))
+    (s mid t u : Between) → HaveTaken k clock stores n last was now told_was told_now s mid → o ≡ Goes
     → HasTurned k clock stores o fault now turned mid t
     → ((b : Before) → fault ≡ None
     → AgreesSince b mid.standing.course.progress.world mid.standing.course.seen.ledger
     → AgreesSince b t.standing.course.progress.world t.standing.course.seen.ledger)
+    → told_is ≡ traffic_with (shown_since mid t) told_now
     → HasConcluded fault last next turned is t u → KeepsAgreement t u
-    → HaveTaken k clock stores (n + 1) next was is s u
-goes_on k clock stores n last next o fault was now turned is s mid t u taken goes turn agrees concluded then =
+    → HaveTaken k clock stores (n + 1) next was is told_was told_is s u
+goes_on k clock stores n last next o fault was now turned is told_was told_now told_is s mid t u taken goes turn agrees
+    shown concluded then =
     let more : suc n ≡ n + 1 = omega arith in
-    subst (λ (m : ℕ). HaveTaken k clock stores m next was is s u) more
-    (one_more k clock stores n last next fault was now turned is s mid t u taken
-    (subst (λ (x : Onward). HasTurned k clock stores x fault now turned mid t) goes turn) agrees concluded then)
+    subst (λ (m : ℕ). HaveTaken k clock stores m next was is told_was told_is s u) more
+    (one_more k clock stores n last next fault was now turned is told_was told_now told_is s mid t u taken
+    (subst (λ (x : Onward). HasTurned k clock stores x fault now turned mid t) goes turn) agrees shown concluded then)
 
 -- no more was asked
 pub stays_closed : (k : Skills) (clock : Duration → Type 0) (stores : RepoFault → Type 0) (most n : ℕ)
     (last : Option (List ℕ)) (o : Onward) (fault : Option ScriptFault) (was now is : Option (List Passed))
-    (s mid t : Between) → HaveTaken k clock stores n last was now s mid → o ≡ Ends
-    → HasTurned k clock stores o fault now is mid t → HasStayed k clock stores most Ends was is s t
-stays_closed k clock stores most n last o fault was now is s mid t taken ends turn =
+    (told_was told_is : Option (List Item))
+    (s mid t : Between) → HaveTaken k clock stores n last was now told_was told_is s mid → o ≡ Ends
+    → HasTurned k clock stores o fault now is mid t
+    → HasStayed k clock stores most Ends was is told_was told_is s t
+stays_closed k clock stores most n last o fault was now is told_was told_is s mid t taken ends turn =
     let closed : HasTurned k clock stores Ends fault now is mid t =
     subst (λ (x : Onward). HasTurned k clock stores x fault now is mid t) ends turn in
-    subst (λ (x : Between). HasStayed k clock stores most Ends was is s x) (sym closed.0)
-    (record { now = now; served = taken.served; over = closed.1; agrees = taken.agrees })
+    subst (λ (x : Between). HasStayed k clock stores most Ends was is told_was told_is s x) (sym closed.0)
+    (record { now = now; served = taken.served; over = closed.1; told = taken.told; agrees = taken.agrees })
 
 -- the most turns were taken
 pub stays_all : (k : Skills) (clock : Duration → Type 0) (stores : RepoFault → Type 0) (most n : ℕ)
-    (last : Option (List ℕ)) (was is : Option (List Passed)) (s t : Between)
-    → HaveTaken k clock stores n last was is s t → n ≡ most → HasStayed k clock stores most Goes was is s t
-stays_all k clock stores most n last was is s t taken all =
-    record { now = is; served = taken.served; over = (taken.many ∙ all, refl); agrees = taken.agrees }
+    (last : Option (List ℕ)) (was is : Option (List Passed)) (told_was told_is : Option (List Item)) (s t : Between)
+    → HaveTaken k clock stores n last was is told_was told_is s t → n ≡ most
+    → HasStayed k clock stores most Goes was is told_was told_is s t
+stays_all k clock stores most n last was is told_was told_is s t taken all =
+    record { now = is; served = taken.served; over = (taken.many ∙ all, refl); told = taken.told; agrees = taken.agrees }

@@ -1,5 +1,6 @@
 -- The life of a server, from its boot to its end.
-use Rattle.std.specs.Prelude.{◌≡◌, ◌⊎◌, ℕ, List, [], ◌∷◌, length, ◌&&◌, not, Bool, true, false, Option, Some, None}
+use Rattle.std.specs.Prelude.{◌≡◌, ℕ, List, [], ◌∷◌, ◌++◌, length, ◌&&◌, not, Bool, true, false, Option, Some, None, Result}
+use Rattle.std.specs.declared.alloc.AllocError.{AllocError}
 use Rattle.std.specs.declared.time.Duration.{Duration}
 use Rattle.smf_drive.specs.Agrees.{AgreesSince, Before}
 use Rattle.smf_drive.specs.Forgets.{AgreesAnew}
@@ -10,15 +11,17 @@ use Rattle.smf_node.specs.Faults.{IsUnbooted}
 use Rattle.smf_node.specs.declared.fault.NodeFault.{NodeFault}
 use Rattle.smf_past.specs.Begun.{IsSafeSince}
 use Rattle.smf_past.specs.Lives.{LeadsTo}
-use Rattle.smf_run.specs.Ends.{HasEnded, IsUnlisted}
+use Rattle.smf_run.specs.Ends.{HasEndedAll}
+use Rattle.smf_run.specs.declared.ends.Leftover.{Leftover}
 use Rattle.smf_script.specs.declared.fault.ScriptFault.{ScriptFault}
 use Rattle.smf_server.specs.FaultTexts.{fault_text}
 use Rattle.smf_world.specs.declared.event.Event.TheVariants as events
+use Rattle.smf_world.specs.declared.item.Item.{Item}
 use Rattle.smf_world.specs.Schedule.{begun_at}
 use Rattle.smf_world.specs.Happens.{happens}
 use Rattle.smf_world.specs.World.{initial_world}
 use Rattle.smf_watch.specs.Traffic.{Passed, Closed, traffic_with}
-use Rattle.smf_server.specs.Turns.{Between, Failed, IsServed, MayHaveForgotten, RequestFailed, Turn, standing, told_anew}
+use Rattle.smf_server.specs.Turns.{Between, Failed, IsServed, MayHaveForgotten, RequestFailed, Turn, all_shown, standing, told_anew, trail_of_state}
 use Rattle.smf_watch.specs.declared.ask.Onward.{Onward}
 use Rattle.smf_watch.specs.declared.ask.Onward.TheVariants.{Goes, Ends}
 
@@ -31,7 +34,7 @@ KeepsAgreement s t =
     → AgreesAnew t.standing.course.progress.world t.standing.course.seen.ledger
 
 abbrev pub is_cut : Turn → Bool
-is_cut (Failed (RequestFailed fault a)) = true
+is_cut (Failed (RequestFailed fault a) items) = true
 is_cut _ = false
 
 -- no request was ended by a fault
@@ -44,13 +47,15 @@ abbrev pub IsOver : ℕ → Onward → ℕ → Option (List Passed) → Option (
 IsOver most Ends count now is = is ≡ traffic_with (Closed ∷ []) now
 IsOver most Goes count now is = (count ≡ most) × (is ≡ now)
 
--- Turns were taken, whatever failed, until no more was asked, or the most that a server takes. Node and children still
--- agree, unless a request was ended by a fault.
+-- Turns were taken, whatever failed, until no more was asked, or the most that a server takes. What the trail showed at
+-- first was told, and then each item that a turn added, once and in their order. Node and children still agree, unless a
+-- request was ended by a fault.
 pub record HasStayed (k : Skills) (clock : Duration → Type 0) (stores : RepoFault → Type 0) (most : ℕ) (how : Onward)
-    (was is : Option (List Passed)) (s t : Between) : Type 0 where
+    (was is : Option (List Passed)) (told_was told_is : Option (List Item)) (s t : Between) : Type 0 where
   pub now : Option (List Passed)
   pub served : IsServed k clock stores was now s t
   pub over : IsOver most how (length served.turns) now is
+  pub told : told_is ≡ traffic_with (trail_of_state s ++ all_shown served.turns) told_was
   pub agrees : is_uncut served.turns ≡ true → KeepsAgreement s t
 
 -- ---- after a turn
@@ -70,26 +75,25 @@ abbrev pub state_after_boot : Holdings → Seen → Between
 state_after_boot h seen =
     record { standing = standing (begun_at (happens (initial_world h) events.Boot)) seen true; looked = 0; ends = [] }
 
--- all children that were left were ended, or they could not be listed
-abbrev pub AreLeft : Skills → Seen → Seen → Type 0
-AreLeft k old new = HasEnded k old new ⊎ IsUnlisted k old new
-
--- Turns were taken, and then the children that were left were ended. The value after the last turn stands in the
--- journal. The trail after the last turn is safe, with all that was forgotten before it.
+-- Turns were taken, and then the children that were left were asked to end: it is said whether all have. The value after
+-- the last turn stands in the journal. The trail after the last turn is safe, with all that was forgotten before it.
 pub record HasLived {J : Type 0} (k : Skills) (clock : Duration → Type 0) (stores : RepoFault → Type 0)
     (stands : J → Holdings → Type 0)
-    (most : ℕ) (how : Onward) (journal : J) (was is : Option (List Passed)) (first : Between) (new : Seen) : Type 0 where
+    (most : ℕ) (how : Onward) (journal : J) (was is : Option (List Passed)) (told_was told_is : Option (List Item))
+    (ended : Result Leftover AllocError) (first : Between) (new : Seen) : Type 0 where
   pub last : Between
-  pub stayed : HasStayed k clock stores most how was is first last
+  pub stayed : HasStayed k clock stores most how was is told_was told_is first last
   pub kept : stands journal last.standing.course.progress.world.now
   pub safe : IsSafeSince last.standing.course.progress.world
   pub leads : LeadsTo first.standing.course.progress.world last.standing.course.progress.world
-  pub left : AreLeft k last.standing.course.seen new
+  pub left : HasEndedAll k ended last.standing.course.seen new
 
 -- there was no boot, and nothing was done
 pub record IsUnborn {J : Type 0} (stores : RepoFault → Type 0) (stands : J → Holdings → Type 0)
-    (h : Holdings) (fault : NodeFault) (journal : J) (was is : Option (List Passed)) (old new : Seen) : Type 0 where
+    (h : Holdings) (fault : NodeFault) (journal : J) (was is : Option (List Passed)) (told_was told_is : Option (List Item))
+    (old new : Seen) : Type 0 where
   pub unbooted : IsUnbooted stores h fault
   pub kept : stands journal h
   pub passed : is ≡ was
+  pub told : told_is ≡ told_was
   pub left : new ≡ old

@@ -1,5 +1,5 @@
 -- The state of a server, turn by turn.
-use Rattle.std.specs.Prelude.{◌≡◌, ◌⊎◌, ℕ, nat_lt, nat_eq, ◌||◌, ◌&&◌, not, List, [], ◌∷◌, ◌++◌, length, filter, map, reverse, Bool, true, false, Option, Some, None}
+use Rattle.std.specs.Prelude.{◌≡◌, ◌⊎◌, ℕ, nat_lt, nat_eq, ◌||◌, ◌&&◌, not, List, [], ◌∷◌, ◌++◌, length, drop, filter, map, reverse, Bool, true, false, Option, Some, None}
 use Rattle.std.specs.Cmp.Lexicographic.{pointwise}
 use Rattle.std.specs.declared.time.Duration.{Duration}
 use Rattle.smf_drive.specs.Agrees.{AgreesSince, Before}
@@ -105,6 +105,10 @@ shown_of w = reverse w.trail
 
 abbrev pub trail_of_state : Between → List Item
 trail_of_state s = shown_of s.standing.course.progress.world
+
+-- what the trail shows more than before
+abbrev pub shown_since : Between → Between → List Item
+shown_since s t = drop (length (trail_of_state s)) (trail_of_state t)
 
 -- true if the trail shows anything that was not looked at
 abbrev pub has_more : Between → Bool
@@ -293,14 +297,15 @@ MayHaveForgotten s t = (t ≡ s) ⊎ ((t ≡ wanting s) ⊎ HasForgotten s t)
 
 -- ---- turn after turn
 
+-- with the items that it added to the trail
 pub data Turn : Type 0 where
-  Taken : Doing → Turn
-  Failed : Failure → Turn
+  Taken : Doing → List Item → Turn
+  Failed : Failure → List Item → Turn
 
 -- the words of the fault, if a turn failed
 abbrev pub words_of : Turn → Option (List ℕ)
-words_of (Taken one) = None
-words_of (Failed how) = Some (fault_text (fault_of how))
+words_of (Taken one items) = None
+words_of (Failed how items) = Some (fault_text (fault_of how))
 
 -- and of the last of these turns, which comes first
 abbrev pub last_words : List Turn → Option (List ℕ)
@@ -322,8 +327,10 @@ told_anew last (Some words) = told_if (not (is_told last words)) words
 
 -- after a turn that was taken what is over may be forgotten; after one that failed rounds are wanted
 abbrev pub TurnStep : Skills → (Duration → Type 0) → (RepoFault → Type 0) → Turn → Between → Between → Type 0
-TurnStep k clock stores (Taken one) s t = (mid : Between) × Step k clock one s mid × MayHaveForgotten mid t
-TurnStep k clock stores (Failed how) s t = Fails k stores how s t × (t.standing.busy ≡ true)
+TurnStep k clock stores (Taken one items) s t =
+    (mid : Between) × Step k clock one s mid × (items ≡ shown_since s mid) × MayHaveForgotten mid t
+TurnStep k clock stores (Failed how items) s t =
+    Fails k stores how s t × (items ≡ shown_since s t) × (t.standing.busy ≡ true)
 
 -- turns, the last first, each on what all before it left
 abbrev pub Steps : Skills → (Duration → Type 0) → (RepoFault → Type 0) → List Turn → Between → Between → Type 0
@@ -332,13 +339,22 @@ Steps k clock stores (turn ∷ before) s t =
     (mid : Between) × Steps k clock stores before s mid × TurnStep k clock stores turn mid t
 
 abbrev pub passed_by : Turn → List Passed
-passed_by (Taken one) = passed_in one
-passed_by (Failed how) = passed_at how
+passed_by (Taken one items) = passed_in one
+passed_by (Failed how items) = passed_at how
 
 abbrev pub all_passed : List Turn → List Passed
 all_passed [] = []
 all_passed (turn ∷ before) =
     all_passed before ++ (passed_by turn ++ told_anew (last_words before) (words_of turn))
+
+abbrev pub shown_by : Turn → List Item
+shown_by (Taken one items) = items
+shown_by (Failed how items) = items
+
+-- all that they added to the trail, the first first
+abbrev pub all_shown : List Turn → List Item
+all_shown [] = []
+all_shown (turn ∷ before) = all_shown before ++ shown_by turn
 
 -- requests came in and were replied to in their order, each done on what all turns before it left; a fault was told once
 pub record IsServed (k : Skills) (clock : Duration → Type 0) (stores : RepoFault → Type 0) (was is : Option (List Passed))

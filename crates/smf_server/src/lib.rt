@@ -15,7 +15,9 @@ pub use fault_texts::fault_text;
 pub use law::turns_follow;
 pub use life::{Life, MOST_TURNS, Unborn, stay_over};
 pub use server::Server;
+pub use smf_run::Leftover;
 pub use smf_watch::{
-    Desk, End, Ender, Ends, MOST_ENDS, Noted, Onward, PERIOD, ServerInput, Size, Stop, Timer, Watch,
+    Chronicle, Desk, End, Ender, Ends, ItemCount, MOST_ENDS, Noted, Onward, PERIOD, ServerInput,
+    Size, Stop, Timer, Watch,
 };
 pub use turns::{Turned, turn};

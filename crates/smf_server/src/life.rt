@@ -1,6 +1,6 @@
 //! A server from its boot to its end.
 ghost use Rattle.std.specs.Option.{option_copied};
-ghost use Rattle.std.specs.Prelude.{◌≡◌, ◌⊎◌, true, IfErr, IfOk, Some};
+ghost use Rattle.std.specs.Prelude.{◌≡◌, ◌⊎◌, drop, true, IfErr, IfOk, Some};
 ghost use Rattle.smf_drive.specs.Agrees.{AgreesSince, Before};
 ghost use Rattle.smf_drive.specs.Forgets.{AgreesAnew};
 ghost use Rattle.smf_edge.specs.Answers.{children_state};
@@ -19,10 +19,11 @@ use smf_drive::forget;
 use smf_edge::Kids;
 use smf_model::{Journal, Plain};
 use smf_node::{Node, NodeFault};
-use smf_run::end_all;
+use smf_run::{Leftover, end_all};
 use smf_script::ScriptFault;
-use smf_watch::{Desk, Ender, Noted, Onward, Timer};
-use std::alloc::Global;
+use smf_watch::{Chronicle, Desk, Ender, Noted, Onward, Timer};
+use smf_world::Item;
+use std::alloc::{AllocError, Global};
 
 /// The most turns that a server takes, one of each microsecond of half a million years.
 pub const MOST_TURNS: u64 = u64::MAX;
@@ -132,15 +133,24 @@ fn conclude<D: Desk, J: Journal, K: Kids>(
     }
 }
 
-/// Takes turns until no more is asked, whatever fails.
-fn stay<D: Desk, T: Timer, E: Ender, J: Journal, K: Kids>(
+/// What a trail shows after so many items.
+fn items_after(trail: &[Item], count: usize) -> &[Item]
+    ensures { result.now ≡ drop count trail.now }
+{
+    &trail[count.min(trail.len())..]
+}
+
+/// Takes turns until no more is asked, whatever fails. Tells what the trail shows, and after each turn what it added.
+fn stay<D: Desk, C: Chronicle, T: Timer, E: Ender, J: Journal, K: Kids>(
     alloc: Global,
     desk: &mut D,
+    chronicle: &mut C,
     timer: &T,
     ender: &mut E,
     server: &mut Server<J, K>,
 ) -> Onward
     ensures stayed { HasStayed K.skills (T.says timer.now) J.write_fails MOST_TURNS result (D.passed desk.old) (D.passed desk.new)
+        (C.told chronicle.old) (C.told chronicle.new)
         (between
         (standing server.old.node (children_state (K.ledger server.old.kids) (K.failures server.old.kids)) server.old.busy)
         server.old.ends)
@@ -150,13 +160,17 @@ fn stay<D: Desk, T: Timer, E: Ender, J: Journal, K: Kids>(
     ensures leads { LeadsTo server.old.node.world server.new.node.world }
     ensures safe { IsSafeSince server.new.node.world }
 {
-    let _shown = server.node.trail();
+    chronicle.tell(server.node.trail());
     let mut noted = Noted::new();
     let mut last: Option<&'static str> = None;
     for _ in 0..MOST_TURNS {
+        let told = server.node.trail().len();
         let Turned { onward, fault } = turn(alloc, desk, timer, ender, &mut noted, server);
         match onward {
-            Onward::Goes => last = conclude(desk, server, last, &fault),
+            Onward::Goes => {
+                chronicle.tell(items_after(server.node.trail(), told));
+                last = conclude(desk, server, last, &fault);
+            }
             Onward::Ends => return Onward::Ends,
         }
     }
@@ -168,6 +182,8 @@ fn stay<D: Desk, T: Timer, E: Ender, J: Journal, K: Kids>(
 pub struct Life<J: Journal, K: Kids> {
     /// `Ends` if no more was asked.
     pub how: Onward,
+    /// What children have left. `AllocError` if memory ran out when they were to end.
+    pub left: Result<Leftover, AllocError>,
     pub journal: J,
     pub kids: K,
 }
@@ -181,22 +197,23 @@ pub struct Unborn<J: Journal, K: Kids> {
 }
 
 /// Takes turns, and ends all children that are left.
-fn live<D: Desk, T: Timer, E: Ender, J: Journal + Drop, K: Kids + Drop>(
+fn live<D: Desk, C: Chronicle, T: Timer, E: Ender, J: Journal + Drop, K: Kids + Drop>(
     alloc: Global,
     desk: &mut D,
+    chronicle: &mut C,
     timer: &T,
     ender: &mut E,
     server: Server<J, K>,
 ) -> Life<J, K>
     ensures { HasLived K.skills (T.says timer.now) J.write_fails J.stands MOST_TURNS result.how result.journal
-        (D.passed desk.old) (D.passed desk.new)
+        (D.passed desk.old) (D.passed desk.new) (C.told chronicle.old) (C.told chronicle.new) result.left
         (between
         (standing server.node (children_state (K.ledger server.kids) (K.failures server.kids)) server.busy)
         server.ends)
         (children_state (K.ledger result.kids) (K.failures result.kids)) }
 {
     let mut server = server;
-    let how = stay(alloc, desk, timer, ender, &mut server);
+    let how = stay(alloc, desk, chronicle, timer, ender, &mut server);
     let Server {
         node,
         mut kids,
@@ -205,19 +222,21 @@ fn live<D: Desk, T: Timer, E: Ender, J: Journal + Drop, K: Kids + Drop>(
         ends: _ends,
         rested: _,
     } = server;
-    let _is_listed = end_all(&mut kids);
+    let left = end_all(&mut kids);
     Life {
         how,
+        left,
         journal: node.into_repository().into_journal(),
         kids,
     }
 }
 
-/// Boots what a repository holds, takes turns until no more is asked, and ends all children that are left. Without a boot
-/// it does nothing.
-pub fn stay_over<D: Desk, T: Timer, E: Ender, J: Journal + Drop, K: Kids + Drop>(
+/// Boots what a repository holds, takes turns until no more is asked, and ends all children that are left. What happens is
+/// told in its order, each item once, before it is forgotten. Without a boot it does nothing.
+pub fn stay_over<D: Desk, C: Chronicle, T: Timer, E: Ender, J: Journal + Drop, K: Kids + Drop>(
     alloc: Global,
     desk: &mut D,
+    chronicle: &mut C,
     timer: &T,
     ender: &mut E,
     repository: Plain<J>,
@@ -225,16 +244,24 @@ pub fn stay_over<D: Desk, T: Timer, E: Ender, J: Journal + Drop, K: Kids + Drop>
 ) -> Result<Life<J, K>, Unborn<J, K>>
     ensures lived { IfOk result (λ life.
         HasLived K.skills (T.says timer.now) J.write_fails J.stands MOST_TURNS life.how life.journal
-        (D.passed desk.old) (D.passed desk.new)
+        (D.passed desk.old) (D.passed desk.new) (C.told chronicle.old) (C.told chronicle.new) life.left
         (state_after_boot repository.held (children_state (K.ledger kids) (K.failures kids)))
         (children_state (K.ledger life.kids) (K.failures life.kids))) }
     ensures unborn { IfErr result (λ unborn.
         IsUnborn J.write_fails J.stands repository.held unborn.fault unborn.journal (D.passed desk.old) (D.passed desk.new)
+        (C.told chronicle.old) (C.told chronicle.new)
         (children_state (K.ledger kids) (K.failures kids))
         (children_state (K.ledger unborn.kids) (K.failures unborn.kids))) }
 {
     match Node::new(alloc, repository) {
-        Ok(node) => Ok(live(alloc, desk, timer, ender, Server::new(alloc, node, kids))),
+        Ok(node) => Ok(live(
+            alloc,
+            desk,
+            chronicle,
+            timer,
+            ender,
+            Server::new(alloc, node, kids),
+        )),
         Err((fault, repository)) => Err(Unborn {
             fault,
             journal: repository.into_journal(),

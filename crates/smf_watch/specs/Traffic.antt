@@ -12,8 +12,8 @@ pub data Passed : Type 0 where
   Told : List ℕ → Passed
   Closed : Passed
 
--- these passed after what passed before, if that is known
-abbrev pub traffic_with : List Passed → Option (List Passed) → Option (List Passed)
+-- these passed, or were told, after what was before, if that is known
+abbrev pub traffic_with : {A : Type 0} → List A → Option (List A) → Option (List A)
 traffic_with more was = option_map (λ first. first ++ more) was
 
 abbrev pub asked_in : ServerInput → List Passed

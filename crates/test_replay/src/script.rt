@@ -106,7 +106,7 @@ fn run_over<R: LineReader, W: TextWriter, K: Kids>(
         return Err("no node");
     };
     let end = run_script(alloc, reader, writer, &mut node, kids);
-    end_all(kids);
+    let _left = end_all(kids);
     match end {
         Ok(status) => Ok(status),
         Err(fault) => Err(end_reason(&fault)),

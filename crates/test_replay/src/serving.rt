@@ -1,18 +1,21 @@
 //! A server over a repository in memory and children that a contract table simulates. The lines of standard input are its
-//! first request; each later one is the last line, as often as the second word says. After each request time passes. The
-//! last request shows the trail, of which the items are counted.
+//! first request; each later one is the last line, as often as the second word says. After each request time passes a few
+//! times, so that nothing is under way before the next. The last request shows the trail, of which the items are counted.
 
 use smf_edge::TableKids;
 use smf_model::{NoJournal, Plain};
 use smf_script::ScriptFault;
 use smf_server::{Life, Unborn, fault_text, stay_over};
-use smf_watch::{Desk, Ender, ServerInput, Stop, Timer};
+use smf_watch::{Desk, Ender, ItemCount, ServerInput, Stop, Timer};
 use std::alloc::Global;
 use std::io::{self, BufReader, Read};
 use std::time::Duration;
 
 /// The status if a fault ended the server, or a request was not done.
 const FAULT: u8 = 3;
+
+/// How often time passes after a request.
+const TICKS: u8 = 3;
 
 /// Asks the same again and again.
 #[derive(Drop)]
@@ -24,8 +27,8 @@ struct RepeatDesk<'a> {
     again: &'a [u8],
     /// How many requests are left.
     left: u64,
-    /// Time passes before the next request.
-    is_tick: bool,
+    /// How often time passes before the next request.
+    ticks: u8,
     /// How many requests were not done.
     failed: u64,
     /// How many lines the last reply had.
@@ -51,15 +54,15 @@ impl Desk for RepeatDesk<'_> {
     ghost passed = { λ _. None };
 
     fn next(&mut self) -> ServerInput {
-        if self.is_tick {
-            self.is_tick = false;
+        if self.ticks > 0 {
+            self.ticks -= 1;
             return ServerInput::Tick;
         }
         if self.left == 0 {
             return ServerInput::End;
         }
         self.left -= 1;
-        self.is_tick = true;
+        self.ticks = TICKS;
         let request = request_of(self.alloc, self.next);
         self.next = if self.left == 1 {
             b"trail\n"
@@ -123,29 +126,36 @@ fn serve_all(rt: &HostRuntime, text: &[u8], count: u64) -> u8 {
         next: text,
         again: last_line(text),
         left: count.saturating_add(1),
-        is_tick: false,
+        ticks: 0,
         failed: 0,
         shown: 0,
     };
+    let mut told = ItemCount { items: 0 };
     let stayed = stay_over(
         alloc,
         &mut desk,
+        &mut told,
         &Stopped {},
         &mut Nobody {},
         Plain::new(alloc, NoJournal {}),
         TableKids::new(alloc),
     );
     let (journal, kids) = match stayed {
-        Ok(Life {
-            how: _,
-            journal,
-            kids,
-        }) => (journal, kids),
-        Err(Unborn {
-            fault,
-            journal: _journal,
-            kids: _kids,
-        }) => {
+        Ok(
+            Life {
+                how: _,
+                left: _left,
+                journal,
+                kids,
+            },
+        ) => (journal, kids),
+        Err(
+            Unborn {
+                fault,
+                journal: _journal,
+                kids: _kids,
+            },
+        ) => {
             let words = fault_text(&ScriptFault::Node(fault));
             let _ = eprintln!(rt; "{words}");
             return FAULT;
@@ -156,7 +166,8 @@ fn serve_all(rt: &HostRuntime, text: &[u8], count: u64) -> u8 {
     match desk.failed {
         0 => {
             let shown = desk.shown;
-            match println!(rt; "{shown} items are kept") {
+            let items = told.items;
+            match println!(rt; "{shown} items are kept, {items} were told") {
                 Ok(()) => 0,
                 Err(_) => FAULT,
             }

@@ -1,6 +1,5 @@
 use Rattle.smf_edge.specs.Answers.{children_state}
 use Rattle.smf_server.specs.Turns.{between, standing}
-use Rattle.smf_server.proofs.Lives.{are_left}
 use Rattle.smf_server.proofs.life.live.Goals as goal
 
 pub returns : goal.returns
@@ -14,6 +13,5 @@ returns g c =
       kept = rw c.into_repository.ensures at c.into_journal.ensures.stands;
       safe = c.stay-how.ensures.safe;
       leads = c.stay-how.ensures.leads;
-      left = are_left g.K.Kids.skills c.end_all-is_listed.result _ _ c.end_all-is_listed.ensures.ended
-          c.end_all-is_listed.ensures.unlisted;
+      left = c.end_all-left.ensures;
     }

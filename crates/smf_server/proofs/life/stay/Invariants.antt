@@ -10,6 +10,7 @@ abbrev pub invariant-loop : goal.invariant-loop
 invariant-loop g l =
     HaveTaken g.K.Kids.skills (g.T.Timer.says l.timer) g.J.Journal.write_fails l.counter (option_copied l.last)
     (g.D.Desk.passed l.fn.desk) (g.D.Desk.passed l.desk)
+    (g.C.Chronicle.told l.fn.chronicle) (g.C.Chronicle.told l.chronicle)
     (between (standing l.fn.server.node
     (children_state (g.K.Kids.ledger l.fn.server.kids) (g.K.Kids.failures l.fn.server.kids)) l.fn.server.busy)
     l.fn.server.ends)
