@@ -1,5 +1,5 @@
 -- The processes of the system, by their places.
-use Rattle.std.proofs.Common.{◌≡◌, ℕ, ◌+◌, ◌<◌, ◌≤◌, List, [], ◌∷◌, ◌++◌, Bool, true, false, cond, Option, Some, None, Result, Ok, Err, IfOk, IfSome, IfNone, OnOk, is_err, is_ok, filter, map, get_or, length, slice_get, slice_set, position, refl, sym, ap, subst, ◌∙◌, inr, take, drop, arith}
+use Rattle.std.proofs.Common.{◌≡◌, ℕ, ◌+◌, ◌<◌, ◌≤◌, List, [], ◌∷◌, ◌++◌, Bool, true, false, cond, Option, Some, None, Result, Ok, Err, IfOk, IfSome, IfNone, OnErr, OnOk, is_err, is_ok, filter, map, get_or, length, slice_get, slice_set, position, refl, sym, ap, subst, ◌∙◌, inr, take, drop, arith}
 use Rattle.std.proofs.Math.Seq.{map-set_same}
 use Rattle.std.proofs.lemmas.Bool.{eqb-true}
 use Rattle.std.proofs.lemmas.List.{append-nil, drop-set-lt, drop_all, drop_more, length-map, map-append, take_all}
@@ -92,6 +92,10 @@ seen_all facts Failed ys i all h = h
 pub done_if_no_err : {X E : Type 0} (P : Type 0) (r : Result X E) → is_err r ≡ false → OnOk r P → P
 done_if_no_err P (Ok x) e h = h
 done_if_no_err P (Err x) e h = absurd cc
+
+pub if_err : {X E : Type 0} (P : Type 0) (r : Result X E) → P → OnErr r P
+if_err P (Ok x) p = tt
+if_err P (Err e) p = p
 
 pub told : {X E : Type 0} (P : X → Type 0) (r : Result X E) → is_ok r ≡ true → IfOk r P → (x : X) × P x
 told P (Ok x) e h = (x, h)

@@ -6,6 +6,7 @@ pub mod Books
 pub mod Shell
 pub mod Facts
 pub mod Ends
+pub mod Starts
 pub mod Processes
 pub mod Manned
 pub mod Beginnings

@@ -22,6 +22,7 @@ use Rattle.smf_edge.specs.Steps.{IsGiven, ledger_with_member_event}
 use Rattle.smf_edge.specs.Facts.{Facts, HasNotRun, HasRun}
 use Rattle.smf_edge.specs.Ends.{IsGroupKill, exit_by}
 use Rattle.smf_edge.specs.Shell.{is_child}
+use Rattle.smf_edge.specs.Starts.{Start, log_with_start}
 
 -- the data of a process that stay as long as it is kept: its contract, how long its service lasts, and its process
 -- group
@@ -29,6 +30,14 @@ pub record Role : Type 0 where
   pub contract : ℕ
   pub style : Duration
   pub group : ℕ
+
+-- real children: their ledger, how often their device failed, their processes, and the log of what was started, if it is
+-- known
+pub record OsChildren (C : Type 0) : Type 0 where
+  pub ledger : Ledger
+  pub failures : ℕ
+  pub kids : List (Kid C)
+  pub started : Option (List Start)
 
 abbrev pub role_of : {C : Type 0} → Kid C → Role
 role_of kid = record { contract = kid.contract; style = kid.style; group = kid.group }
@@ -97,6 +106,29 @@ AllRun {C} facts kids = (k : ℕ) (kid : Kid C) → slice_get kids k ≡ Some ki
 abbrev pub OneFails : {C : Type 0} → Facts C → List (Kid C) → Type 0
 OneFails {C} facts kids = (k : ℕ) × (kid : Kid C) × (slice_get kids k ≡ Some kid) × HasNoExit facts kid
 
+-- the process ended, and is a child service's: what it left in this group is to be ended
+pub record HasLeft {C : Type 0} (facts : Facts C) (group : ℕ) (kid : Kid C) : Type 0 where
+  pub status : ExitStatus
+  pub ended : facts.has_ended kid.child status
+  pub child : is_child kid.style ≡ true
+  pub is : kid.group ≡ group
+
+-- the system took a kill of the process, and this is its group
+abbrev pub IsToEnd : {C : Type 0} → Facts C → ℕ → Kid C → Type 0
+IsToEnd facts group kid = facts.is_killed kid.child × (kid.group ≡ group)
+
+-- one of them left a group
+abbrev pub OneHasLeft : {C : Type 0} → Facts C → List (Kid C) → ℕ → Type 0
+OneHasLeft {C} facts kids group = (k : ℕ) × (kid : Kid C) × (slice_get kids k ≡ Some kid) × HasLeft facts group kid
+
+-- the process of a contract left a group
+abbrev pub KidHasLeft : {C : Type 0} → Facts C → ℕ → List (Kid C) → ℕ → Type 0
+KidHasLeft facts id kids group = SomeKid id kids (HasLeft facts group)
+
+-- the process of a contract is to be ended with its group
+abbrev pub KidIsToEnd : {C : Type 0} → Facts C → ℕ → List (Kid C) → ℕ → Type 0
+KidIsToEnd facts id kids group = SomeKid id kids (IsToEnd facts group)
+
 -- the sight of all of them
 abbrev pub AreSeen : {C : Type 0} → Facts C → Sight → List (Kid C) → Type 0
 AreSeen facts Running kids = AllRun facts kids
@@ -107,16 +139,17 @@ AreSeen facts Failed kids = OneFails facts kids
 abbrev pub NoneOrSome : {C : Type 0} → ℕ → List (Kid C) → (Kid C → Type 0) → Type 0
 NoneOrSome id kids P = (position (is_kid_of id) kids ≡ None) ⊎ SomeKid id kids P
 
--- the last process is of this program, and its group has its number
+-- one program was started, once: the last process is of it, and its group has its number
 pub record IsStarted {C : Type 0} (facts : Facts C) (IsRun : Command Global → Type 0) (id : ℕ) (style : Duration)
-    (old new : List (Kid C)) : Type 0 where
+    (old new : OsChildren C) : Type 0 where
   pub program : Command Global
   pub run : IsRun program
+  pub once : new.started ≡ log_with_start program true old.started
   pub child : C
   pub of : facts.is_of program child
   pub group : ℕ
   pub number : facts.is_number child group
-  pub is : new ≡ old ++ record { contract = id; style = style; group = group; child = child } ∷ []
+  pub is : new.kids ≡ old.kids ++ record { contract = id; style = style; group = group; child = child } ∷ []
 
 -- a process of the contract ended, and that is what its table is told
 pub record IsFoundEnd {C : Type 0} (facts : Facts C) (id : ℕ) (kids : List (Kid C)) (old new : Contracts) : Type 0 where

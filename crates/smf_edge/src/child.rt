@@ -1,9 +1,10 @@
 // The processes of the system that were started.
-ghost use Rattle.std.specs.Prelude.{◌≡◌, ◌⊎◌, IfErr, IfNone, IfOk, IfSome, OnErr, false, true, filter, position};
+ghost use Rattle.std.specs.Prelude.{◌≡◌, ◌⊎◌, Bool, IfErr, IfNone, IfOk, IfSome, OnErr, OnOk, false, true, filter, position};
 ghost use Rattle.smf_edge.specs.Ends.{StartLacksMemory, StartRefused};
 ghost use Rattle.smf_edge.specs.Facts.{HasNotRun, HasRun};
-ghost use Rattle.smf_edge.specs.Processes.{AreSeen, HasExit, HasNoExit, IsCleared, IsEnded, IsNotCleared, IsNotEnded, IsSeen, NoneOrSome, SomeKid, is_kid_of, is_other_kid, role_of, roles};
+ghost use Rattle.smf_edge.specs.Processes.{AreSeen, HasExit, HasLeft, HasNoExit, IsCleared, IsEnded, IsNotCleared, IsNotEnded, IsSeen, IsToEnd, KidHasLeft, KidIsToEnd, NoneOrSome, OneHasLeft, SomeKid, is_kid_of, is_other_kid, role_of, roles};
 ghost use Rattle.smf_edge.specs.Shell.{is_child};
+ghost use Rattle.smf_edge.specs.Starts.{OnlyKills, log_with_start};
 ghost use Rattle.smf_edge.specs.declared.fault.KidsFault.TheVariants.{Memory, Refused};
 
 use crate::fault::KidsFault;
@@ -39,7 +40,7 @@ pub(crate) enum Sight {
 
 /// Starts a program in a contract.
 pub(crate) fn start<R: System>(
-    system: &R,
+    system: &mut R,
     program: &mut Program,
     contract: Number,
     style: Duration,
@@ -48,6 +49,8 @@ pub(crate) fn start<R: System>(
     ensures style { IfOk result (λ kid. kid.style ≡ style) }
     ensures of { IfOk result (λ kid. R.facts.is_of program.old kid.child) }
     ensures number { IfOk result (λ kid. R.facts.is_number kid.child kid.group) }
+    ensures made { OnOk result (R.starts system.new ≡ log_with_start program.old true (R.starts system.old)) }
+    ensures none { OnErr result (R.starts system.new ≡ log_with_start program.old false (R.starts system.old)) }
     ensures fault { IfErr result (λ e. (e ≡ Memory) ⊎ ((e ≡ Refused) × StartRefused R.facts.start_fails)) }
 {
     match system.start(program) {
@@ -66,10 +69,11 @@ pub(crate) fn start<R: System>(
 
 /// Runs a program to its end. Says whether the system did that; how the program ended is not judged. If the system has
 /// no memory for a start, this is want of memory.
-fn run<R: System>(system: &R, mut program: Program) -> Result<bool, AllocError>
+fn run<R: System>(system: &mut R, mut program: Program) -> Result<bool, AllocError>
     ensures done { IfOk result (λ done. done ≡ true → HasRun R.facts program) }
     ensures failed { IfOk result (λ done. done ≡ false → HasNotRun R.facts program) }
     ensures memory { OnErr result (StartLacksMemory R.facts.start_fails) }
+    ensures once { (made : Bool) × (R.starts system.new ≡ log_with_start program made (R.starts system.old)) }
 {
     match system.start(&mut program) {
         Ok(mut child) => Ok(system.wait(&mut child).is_ok()),
@@ -87,12 +91,13 @@ fn run<R: System>(system: &R, mut program: Program) -> Result<bool, AllocError>
 /// soon as its group is gone. So the killer runs at once: a later call may meet another group of this number.
 fn clear<R: System>(
     alloc: Global,
-    system: &R,
+    system: &mut R,
     style: Duration,
     group: u32,
 ) -> Result<bool, AllocError>
     ensures done { IfOk result (λ done. done ≡ true → is_child style ≡ true → IsCleared R.facts group) }
     ensures failed { IfOk result (λ done. done ≡ false → IsNotCleared R.facts group) }
+    ensures kills { OnlyKills (λ g. (is_child style ≡ true) × (g ≡ group)) (R.starts system.old) (R.starts system.new) }
 {
     if !is_child(style) {
         return Ok(true);
@@ -103,9 +108,14 @@ fn clear<R: System>(
 }
 
 /// The result of a look at one process.
-fn see<R: System>(alloc: Global, system: &R, kid: &mut Kid<R::Started>) -> Result<Sight, AllocError>
+fn see<R: System>(
+    alloc: Global,
+    system: &mut R,
+    kid: &mut Kid<R::Started>,
+) -> Result<Sight, AllocError>
     ensures same { role_of kid.new ≡ role_of kid.old }
     ensures seen { IfOk result (λ sight. IsSeen R.facts sight kid.old) }
+    ensures kills { OnlyKills (λ g. HasLeft R.facts g kid.old) (R.starts system.old) (R.starts system.new) }
 {
     match system.look(&mut kid.child) {
         Ok(Some(status)) => {
@@ -122,11 +132,12 @@ fn see<R: System>(alloc: Global, system: &R, kid: &mut Kid<R::Started>) -> Resul
 /// A process that ended, if one has; it does not wait. The group of a child service is ended before that is told.
 pub(crate) fn see_all<R: System>(
     alloc: Global,
-    system: &R,
+    system: &mut R,
     kids: &mut [Kid<R::Started>],
 ) -> Result<Sight, AllocError>
     ensures same { roles kids.new ≡ roles kids.old }
     ensures seen { IfOk result (λ sight. AreSeen R.facts sight kids.old) }
+    ensures kills { OnlyKills (OneHasLeft R.facts kids.old) (R.starts system.old) (R.starts system.new) }
 {
     let mut sight = Sight::Running;
     for kid in kids {
@@ -150,12 +161,13 @@ fn place_of<C>(kids: &[Kid<C>], contract: Number) -> Option<usize>
 /// Waits until a process ends. None if the system did not say how, or did not end the group of a child service.
 fn wait<R: System>(
     alloc: Global,
-    system: &R,
+    system: &mut R,
     kid: &mut Kid<R::Started>,
 ) -> Result<Option<Exit>, AllocError>
     ensures same { role_of kid.new ≡ role_of kid.old }
     ensures ended { IfOk result (λ told. IfSome told (λ exit. HasExit R.facts exit kid.old)) }
     ensures failed { IfOk result (λ told. IfNone told (HasNoExit R.facts kid.old)) }
+    ensures kills { OnlyKills (λ g. HasLeft R.facts g kid.old) (R.starts system.old) (R.starts system.new) }
 {
     match system.wait(&mut kid.child) {
         Ok(status) => {
@@ -171,13 +183,14 @@ fn wait<R: System>(
 /// Waits until the process of a contract ends. None if there is none, or as `wait` says it.
 pub(crate) fn wait_for<R: System>(
     alloc: Global,
-    system: &R,
+    system: &mut R,
     kids: &mut [Kid<R::Started>],
     contract: Number,
 ) -> Result<Option<Exit>, AllocError>
     ensures same { roles kids.new ≡ roles kids.old }
     ensures ended { IfOk result (λ told. IfSome told (λ exit. SomeKid contract kids.old (HasExit R.facts exit))) }
     ensures failed { IfOk result (λ told. IfNone told (NoneOrSome contract kids.old (HasNoExit R.facts))) }
+    ensures kills { OnlyKills (KidHasLeft R.facts contract kids.old) (R.starts system.old) (R.starts system.new) }
 {
     match place_of(kids, contract) {
         Some(place) => wait(alloc, system, &mut kids[place]),
@@ -188,10 +201,15 @@ pub(crate) fn wait_for<R: System>(
 /// Ends a process and its process group, waits for its end, and says whether that was done. No clause says the order.
 /// The kill comes before the killer, which ends no process that has not yet made its group. The wait comes last, since
 /// the system may then give the number to another process.
-fn end<R: System>(alloc: Global, system: &R, kid: &mut Kid<R::Started>) -> Result<bool, AllocError>
+fn end<R: System>(
+    alloc: Global,
+    system: &mut R,
+    kid: &mut Kid<R::Started>,
+) -> Result<bool, AllocError>
     ensures same { role_of kid.new ≡ role_of kid.old }
     ensures ended { IfOk result (λ done. done ≡ true → IsEnded R.facts kid.old) }
     ensures failed { IfOk result (λ done. done ≡ false → IsNotEnded R.facts kid.old) }
+    ensures kills { OnlyKills (λ g. IsToEnd R.facts g kid.old) (R.starts system.old) (R.starts system.new) }
 {
     let killer = killer(alloc, kid.group)?;
     if system.kill(&mut kid.child).is_err() {
@@ -207,13 +225,14 @@ fn end<R: System>(alloc: Global, system: &R, kid: &mut Kid<R::Started>) -> Resul
 /// Ends the process of a contract, as `end` does. It is not done if there is none.
 pub(crate) fn end_all<R: System>(
     alloc: Global,
-    system: &R,
+    system: &mut R,
     kids: &mut [Kid<R::Started>],
     contract: Number,
 ) -> Result<bool, AllocError>
     ensures same { roles kids.new ≡ roles kids.old }
     ensures ended { IfOk result (λ done. done ≡ true → SomeKid contract kids.old (IsEnded R.facts)) }
     ensures failed { IfOk result (λ done. done ≡ false → NoneOrSome contract kids.old (IsNotEnded R.facts)) }
+    ensures kills { OnlyKills (KidIsToEnd R.facts contract kids.old) (R.starts system.old) (R.starts system.new) }
 {
     match place_of(kids, contract) {
         Some(place) => end(alloc, system, &mut kids[place]),

@@ -38,17 +38,20 @@ pub struct OsKids<R: System> {
 }
 
 impl<R: System> Model for OsKids<R> {
-    ghost use Rattle.std.specs.Prelude.{ℕ, List};
-    ghost use Rattle.smf_edge.specs.Ledgers.{Ledger};
-    ghost use Rattle.smf_edge.specs.declared.child.Kid.{Kid};
+    ghost use Rattle.smf_edge.specs.Processes.{OsChildren};
 
-    ghost Value = { Ledger × ℕ × List (Kid R.Started) };
+    ghost Value = { OsChildren R.Started };
 
     ghost use Rattle.smf_edge.specs.Books.{ledger_of};
     ghost use Rattle.smf_edge.specs.Manned.{IsKept};
     ghost use Rattle.smf_edge.specs.Processes.{contracts};
 
-    ghost view = { λ s. (ledger_of s.book, s.faults, s.children.items) };
+    ghost view = { λ s. record {
+      ledger = ledger_of s.book;
+      failures = s.faults;
+      kids = s.children.items;
+      started = R.starts s.system;
+    } };
 
     ghost invariant = { λ s. IsKept (ledger_of s.book) (contracts s.children.items) };
 }
@@ -59,7 +62,12 @@ impl<R: System> OsKids<R> {
 
     /// No children yet. Their output goes to this stream.
     pub fn new(alloc: Global, system: R, output: Stderr) -> OsKids<R>
-        ensures { result ≡ (record { notes = []; table = empty; due = []; pending = [] }, 0, []) }
+        ensures { result ≡ record {
+          ledger = record { notes = []; table = empty; due = []; pending = [] };
+          failures = 0;
+          kids = [];
+          started = R.starts system;
+        } }
     {
         OsKids {
             alloc,
@@ -73,20 +81,21 @@ impl<R: System> OsKids<R> {
 }
 
 impl<R: System> Kids for OsKids<R> {
-    ghost use Rattle.std.specs.Prelude.{◌≡◌, IfErr, IfOk, OnErr, OnOk, Err, filter, false, true};
+    ghost use Rattle.std.specs.Prelude.{◌≡◌, ◌≢◌, IfErr, IfOk, OnErr, OnOk, Err, filter, false, true};
     ghost use Rattle.smf_method.specs.Tokens.{method_text};
     ghost use Rattle.smf_edge.specs.Answers.{MayNotAnswer, MayNotDo, MayNotSpawn};
     ghost use Rattle.smf_edge.specs.Ends.{MayRefuse, os_skills};
-    ghost use Rattle.smf_edge.specs.Ledgers.{members_left};
+    ghost use Rattle.smf_edge.specs.Ledgers.{members_left, remaining};
     ghost use Rattle.smf_edge.specs.Manned.{IsManned};
-    ghost use Rattle.smf_edge.specs.Processes.{HasNoExit, IsEnded, IsJoinedEnd, IsNotEnded, IsStarted, OneFails, PollsKids, SomeKid, contracts, is_other_role, roles, run_of};
+    ghost use Rattle.smf_edge.specs.Processes.{HasNoExit, IsEnded, IsJoinedEnd, IsNotEnded, IsStarted, KidHasLeft, KidIsToEnd, OneFails, OneHasLeft, PollsKids, SomeKid, contracts, is_other_role, roles, run_of};
     ghost use Rattle.smf_edge.specs.Shell.{IsRun, follows};
-    ghost use Rattle.smf_edge.specs.Steps.{IsJoined, IsKilled, IsPolled, IsSpawned};
-    ghost use Rattle.smf_edge.specs.declared.fault.KidsFault.TheVariants.{Device, NotFollowed, NotHere};
+    ghost use Rattle.smf_edge.specs.Starts.{MadeNone, OnlyKills};
+    ghost use Rattle.smf_edge.specs.Steps.{IsJoined, IsKilled, IsPolled, IsSpawned, ledger_after_boot, ledger_with_member_event, live_contracts};
+    ghost use Rattle.smf_edge.specs.declared.fault.KidsFault.TheVariants.{Device, Memory, NotFollowed, NotHere};
 
-    ghost ledger = { λ s. s.0 };
+    ghost ledger = { λ s. s.ledger };
 
-    ghost failures = { λ s. s.1 };
+    ghost failures = { λ s. s.failures };
 
     ghost skills = { os_skills R.facts.start_fails };
 
@@ -101,14 +110,17 @@ impl<R: System> Kids for OsKids<R> {
         method: Method,
         instance: &InstanceFmri,
     ) -> Result<(), KidsFault>
-        ensures made { OnOk result (IsSpawned (run_of id cookie terms command.now) self.old.0 self.new.0) }
-        ensures refused { OnErr result (self.new.0 ≡ self.old.0) }
+        ensures made { OnOk result (IsSpawned (run_of id cookie terms command.now) self.old.ledger self.new.ledger) }
+        ensures refused { OnErr result (self.new.ledger ≡ self.old.ledger) }
         ensures not_followed { follows style ≡ false → result ≡ Err NotFollowed }
-        ensures fault { IfErr result (MayNotSpawn (MayRefuse R.facts.start_fails self.old.0 id) (follows style)) }
+        ensures fault { IfErr result (MayNotSpawn (MayRefuse R.facts.start_fails self.old.ledger id) (follows style)) }
         ensures started { OnOk result
             (IsStarted R.facts (IsRun command.now instance.now (method_text method) restarter.now) id style
-            self.old.2 self.new.2) }
-        ensures same { OnErr result (self.new.2 ≡ self.old.2) }
+            self.old self.new) }
+        ensures none { OnErr result (MadeNone (IsRun command.now instance.now (method_text method) restarter.now)
+            self.old.started self.new.started) }
+        ensures unfollowed { follows style ≡ false → self.new.started ≡ self.old.started }
+        ensures same { OnErr result (self.new.kids ≡ self.old.kids) }
     {
         if !follows(style) {
             return Err(KidsFault::NotFollowed);
@@ -128,7 +140,7 @@ impl<R: System> Kids for OsKids<R> {
             Err(KidsFault::Memory) => return Err(KidsFault::Memory),
             Err(_) => return Err(KidsFault::Refused),
         }
-        let kid = start(&self.system, &mut program, id, style)?;
+        let kid = start(&mut self.system, &mut program, id, style)?;
         self.book.make(Run {
             contract: id,
             cookie,
@@ -143,12 +155,13 @@ impl<R: System> Kids for OsKids<R> {
     /// is told only after the killer of its group ran. The end of a joined process was told in `join`, which says the
     /// same.
     fn poll(&mut self) -> Result<Option<ContractEvent>, KidsFault>
-        ensures polled { IfOk result (λ event. IsPolled event self.old.0 self.new.0) }
-        ensures refused { OnErr result (self.new.0 ≡ self.old.0) }
-        ensures fault { IfErr result (MayNotAnswer (os_skills R.facts.start_fails) true self.old.1 self.new.1) }
-        ensures seen { IfOk result (λ event. PollsKids R.facts event self.old.0 self.new.0 self.old.2 self.new.2) }
-        ensures failed { IfErr result (λ e. e ≡ Device → OneFails R.facts self.old.2) }
-        ensures same { OnErr result (roles self.new.2 ≡ roles self.old.2) }
+        ensures polled { IfOk result (λ event. IsPolled event self.old.ledger self.new.ledger) }
+        ensures refused { OnErr result (self.new.ledger ≡ self.old.ledger) }
+        ensures fault { IfErr result (MayNotAnswer (os_skills R.facts.start_fails) true self.old.failures self.new.failures) }
+        ensures seen { IfOk result (λ event. PollsKids R.facts event self.old.ledger self.new.ledger self.old.kids self.new.kids) }
+        ensures failed { IfErr result (λ e. e ≡ Device → OneFails R.facts self.old.kids) }
+        ensures same { OnErr result (roles self.new.kids ≡ roles self.old.kids) }
+        ensures kills { OnlyKills (OneHasLeft R.facts self.old.kids) self.old.started self.new.started }
     {
         if let Some(event) = self.book.give() {
             return Ok(Some(event));
@@ -157,7 +170,7 @@ impl<R: System> Kids for OsKids<R> {
             forget(&mut self.children, event.contract);
             return Ok(Some(event));
         }
-        let sight = see_all(self.alloc, &self.system, &mut self.children)?;
+        let sight = see_all(self.alloc, &mut self.system, &mut self.children)?;
         match sight {
             Sight::Running => Ok(None),
             Sight::Failed => {
@@ -173,19 +186,20 @@ impl<R: System> Kids for OsKids<R> {
     }
 
     fn join(&mut self, id: Number) -> Result<(), KidsFault>
-        ensures joined { OnOk result (IsJoined id self.old.0 self.new.0) }
-        ensures refused { OnErr result (self.new.0 ≡ self.old.0) }
+        ensures joined { OnOk result (IsJoined id self.old.ledger self.new.ledger) }
+        ensures refused { OnErr result (self.new.ledger ≡ self.old.ledger) }
         ensures not_here { true ≡ false → result ≡ Err NotHere }
         ensures fault { IfErr result
-            (MayNotDo (os_skills R.facts.start_fails) true (members_left self.old.0 id) self.old.1 self.new.1) }
-        ensures ended { OnOk result (IsJoinedEnd R.facts id self.old.2 self.old.0 self.new.0) }
-        ensures failed { IfErr result (λ e. e ≡ Device → SomeKid id self.old.2 (HasNoExit R.facts)) }
-        ensures same { roles self.new.2 ≡ roles self.old.2 }
+            (MayNotDo (os_skills R.facts.start_fails) true (members_left self.old.ledger id) self.old.failures self.new.failures) }
+        ensures ended { OnOk result (IsJoinedEnd R.facts id self.old.kids self.old.ledger self.new.ledger) }
+        ensures failed { IfErr result (λ e. e ≡ Device → SomeKid id self.old.kids (HasNoExit R.facts)) }
+        ensures same { roles self.new.kids ≡ roles self.old.kids }
+        ensures kills { OnlyKills (KidHasLeft R.facts id self.old.kids) self.old.started self.new.started }
     {
         if self.book.members_left(id) == 0 {
             return Err(KidsFault::NoChild);
         }
-        let told = wait_for(self.alloc, &self.system, &mut self.children, id)?;
+        let told = wait_for(self.alloc, &mut self.system, &mut self.children, id)?;
         match told {
             Some(exit) => self.book.happen(id, Happening::Exit(exit)),
             None => {
@@ -196,17 +210,18 @@ impl<R: System> Kids for OsKids<R> {
     }
 
     fn kill(&mut self, id: Number) -> Result<(), KidsFault>
-        ensures killed { OnOk result (IsKilled id self.old.0 self.new.0) }
-        ensures refused { OnErr result (self.new.0 ≡ self.old.0) }
+        ensures killed { OnOk result (IsKilled id self.old.ledger self.new.ledger) }
+        ensures refused { OnErr result (self.new.ledger ≡ self.old.ledger) }
         ensures fault { IfErr result
-            (MayNotDo (os_skills R.facts.start_fails) true (members_left self.old.0 id) self.old.1 self.new.1) }
-        ensures ended { OnOk result (SomeKid id self.old.2 (IsEnded R.facts)) }
-        ensures failed { IfErr result (λ e. e ≡ Device → SomeKid id self.old.2 (IsNotEnded R.facts)) }
-        ensures forgotten { OnOk result (roles self.new.2 ≡ filter (is_other_role id) (roles self.old.2)) }
-        ensures same { OnErr result (roles self.new.2 ≡ roles self.old.2) }
+            (MayNotDo (os_skills R.facts.start_fails) true (members_left self.old.ledger id) self.old.failures self.new.failures) }
+        ensures ended { OnOk result (SomeKid id self.old.kids (IsEnded R.facts)) }
+        ensures failed { IfErr result (λ e. e ≡ Device → SomeKid id self.old.kids (IsNotEnded R.facts)) }
+        ensures forgotten { OnOk result (roles self.new.kids ≡ filter (is_other_role id) (roles self.old.kids)) }
+        ensures same { OnErr result (roles self.new.kids ≡ roles self.old.kids) }
+        ensures kills { OnlyKills (KidIsToEnd R.facts id self.old.kids) self.old.started self.new.started }
     {
         let kill = self.book.prepare_kill(id)?;
-        if !end_all(self.alloc, &self.system, &mut self.children, id)? {
+        if !end_all(self.alloc, &mut self.system, &mut self.children, id)? {
             self.faults = one_more(self.faults);
             return Err(KidsFault::Device);
         }
@@ -215,28 +230,54 @@ impl<R: System> Kids for OsKids<R> {
         Ok(())
     }
 
-    fn act(&mut self, _id: Number, _happening: Happening) -> Result<(), KidsFault> {
+    fn act(&mut self, id: Number, happening: Happening) -> Result<(), KidsFault>
+        ensures acted { OnOk result (self.new.ledger ≡ ledger_with_member_event self.old.ledger id happening) }
+        ensures refused { OnErr result (self.new.ledger ≡ self.old.ledger) }
+        ensures not_here { false ≡ false → result ≡ Err NotHere }
+        ensures fault { IfErr result (MayNotDo (os_skills R.facts.start_fails) false
+            (members_left self.old.ledger id) self.old.failures self.new.failures) }
+        ensures same { self.new ≡ self.old }
+    {
         Err(KidsFault::NotHere)
     }
 
-    fn reboot(&mut self) -> Result<(), KidsFault> {
+    fn reboot(&mut self) -> Result<(), KidsFault>
+        ensures restarted { OnOk result (self.new.ledger ≡ ledger_after_boot self.old.ledger) }
+        ensures refused { OnErr result (self.new.ledger ≡ self.old.ledger) }
+        ensures not_here { false ≡ false → result ≡ Err NotHere }
+        ensures fault { IfErr result
+            (MayNotAnswer (os_skills R.facts.start_fails) false self.old.failures self.new.failures) }
+        ensures no_memory { result ≢ Err Memory }
+        ensures same { self.new ≡ self.old }
+    {
         Err(KidsFault::NotHere)
     }
 
-    fn list(&mut self) -> Result<Items<Number>, KidsFault> {
+    fn list(&mut self) -> Result<Items<Number>, KidsFault>
+        ensures listed { IfOk result (λ ids. ids ≡ live_contracts self.old.ledger) }
+        ensures same { self.new.ledger ≡ self.old.ledger }
+        ensures fault { IfErr result
+            (MayNotAnswer (os_skills R.facts.start_fails) true self.old.failures self.new.failures) }
+        ensures none { self.new.started ≡ self.old.started }
+    {
         let ids = self.book.list()?;
         Ok(ids)
     }
 
     /// The clause `manned` says that each contract with members has its one process.
     fn faults(&self) -> u64
-        ensures faults { result ≡ self.now.1 }
-        ensures manned { IsManned self.now.0 (contracts self.now.2) }
+        ensures faults { result ≡ self.now.failures }
+        ensures manned { IsManned self.now.ledger (contracts self.now.kids) }
     {
         self.faults
     }
 
-    fn forget(&mut self) -> Result<(), AllocError> {
+    fn forget(&mut self) -> Result<(), AllocError>
+        ensures forgot { OnOk result (self.new.ledger ≡ remaining self.old.ledger) }
+        ensures kept { OnErr result (self.new.ledger ≡ self.old.ledger) }
+        ensures same { self.new.failures ≡ self.old.failures }
+        ensures none { self.new.started ≡ self.old.started }
+    {
         self.book.forget()
     }
 

@@ -1,8 +1,9 @@
 // The processes of the system, and what is known of them.
-ghost use Rattle.std.specs.Prelude.{◌≡◌, IfErr, IfNone, IfOk, IfSome, OnErr, OnOk, Some, Ok, None};
+ghost use Rattle.std.specs.Prelude.{◌≡◌, List, Option, false, true, IfErr, IfNone, IfOk, IfSome, OnErr, OnOk, Some, Ok, None};
 ghost use Rattle.std.specs.declared.process.ExitStatus.{ExitStatus};
 ghost use Rattle.std.specs.Process.{child_status};
 ghost use Rattle.smf_edge.specs.Facts.{Facts};
+ghost use Rattle.smf_edge.specs.Starts.{Start, log_with_start};
 
 use std::io;
 use std::process::{Child, Command as Program, ExitStatus, Processes};
@@ -14,9 +15,15 @@ pub trait System {
 
     ghost facts: { Facts Self.Started };
 
-    fn start(&self, program: &mut Program) -> io::Result<Self::Started>
+    /// What it was asked to start, the first first, if that is known.
+    ghost starts: { Self → Option (List Start) };
+
+    /// It alone starts anything.
+    fn start(&mut self, program: &mut Program) -> io::Result<Self::Started>
         ensures started { IfOk result (λ c. facts.is_of program.old c) }
-        ensures failed { IfErr result facts.start_fails };
+        ensures failed { IfErr result facts.start_fails }
+        ensures made { OnOk result (starts self.new ≡ log_with_start program.old true (starts self.old)) }
+        ensures none { OnErr result (starts self.new ≡ log_with_start program.old false (starts self.old)) };
 
     fn number(&self, child: &Self::Started) -> u32
         ensures { facts.is_number child.now result };
@@ -60,7 +67,9 @@ impl<R: Processes> System for R {
       kill_fails = λ c. child_status c ≡ None;
     } };
 
-    fn start(&self, program: &mut Program) -> io::Result<Child<<R as Processes>::Started>> {
+    ghost starts = { λ _. None };
+
+    fn start(&mut self, program: &mut Program) -> io::Result<Child<<R as Processes>::Started>> {
         program.spawn(self)
     }
 

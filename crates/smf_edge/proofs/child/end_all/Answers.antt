@@ -1,6 +1,7 @@
-use Rattle.std.proofs.Common.{sym, ◌∙◌}
-use Rattle.smf_edge.specs.Processes.{IsEnded, IsNotEnded}
+use Rattle.std.proofs.Common.{refl, sym, ◌∙◌}
+use Rattle.smf_edge.specs.Processes.{IsEnded, IsNotEnded, IsToEnd}
 use Rattle.smf_edge.proofs.Places.{ended_if, not_ended_if, same_kids}
+use Rattle.smf_edge.proofs.Starts.{no_kills, some_kills}
 use Rattle.smf_edge.proofs.child.end_all.Goals as goal
 
 pub returns-in-Some-clause-same : goal.returns-in-Some-clause-same
@@ -16,3 +17,11 @@ pub returns-in-Some-clause-failed : goal.returns-in-Some-clause-failed
 returns-in-Some-clause-failed g c =
     not_ended_if c.args.contract c.args.kids.now c.in-Some.place c.index-kids-place.result
     (IsNotEnded g.R.System.facts) c.end.result (sym c.place_of.ensures ∙ c.in-Some.is) c.end.ensures.failed
+
+pub returns-in-Some-clause-kills : goal.returns-in-Some-clause-kills
+returns-in-Some-clause-kills g c =
+    some_kills (IsToEnd g.R.System.facts) c.args.contract c.args.kids.now c.in-Some.place c.index-kids-place.result _ _
+    (sym c.place_of.ensures ∙ c.in-Some.is) c.end.ensures.kills
+
+pub returns-in-None-clause-kills : goal.returns-in-None-clause-kills
+returns-in-None-clause-kills g c = no_kills _ _ _ refl

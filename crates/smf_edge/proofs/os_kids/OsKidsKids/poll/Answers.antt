@@ -5,10 +5,11 @@ use Rattle.smf_contract.specs.Called.{table_after_contract_call}
 use Rattle.smf_edge.specs.declared.child.Kid.{Kid}
 use Rattle.smf_edge.specs.declared.child.Sight.{Sight}
 use Rattle.smf_edge.specs.Books.{ledger_of}
-use Rattle.smf_edge.specs.Processes.{AllRun, AreSeen, HasExit, OneFails, SomeKid, contracts, is_other_role, roles}
+use Rattle.smf_edge.specs.Processes.{AllRun, AreSeen, HasExit, OneFails, OneHasLeft, SomeKid, contracts, is_other_role, roles}
 use Rattle.smf_edge.specs.Steps.{IsPolled}
 use Rattle.smf_edge.proofs.Places.{left_contracts, left_roles, others_of, same_back, some_is}
 use Rattle.smf_edge.proofs.Manned.{manned_along, manned_polled, manned_told, member_is_there}
+use Rattle.smf_edge.proofs.Starts.{kills_from, no_kills}
 use Rattle.smf_edge.proofs.os_kids.OsKidsKids.poll.Goals as goal
 
 pub returns-in-Some-2-clause-seen : goal.returns-in-Some-2-clause-seen
@@ -18,10 +19,10 @@ returns-in-Some-2-clause-seen g c =
     let some = some_is c.in_ok-event.field-0 c.in-Some-2.event Q c.in-Some-2.is c.in_ok-event.ensures.pending in
     let view = c.self.view_is in
     inr (
-      sym (ap (λ h. h.0.due) view) ∙ none.1,
+      sym (ap (λ h. h.ledger.due) view) ∙ none.1,
       ap roles c.forget.ensures ∙ others_of c.in-Some-2.event.contract c.self.inside.children.items
-          ∙ ap (λ h. filter (is_other_role c.in-Some-2.event.contract) (roles h.2)) view,
-      λ e. absurd (some (ap (λ l. l.pending) none.0 ∙ ap (λ h. h.0.pending) view ∙ e)),
+          ∙ ap (λ h. filter (is_other_role c.in-Some-2.event.contract) (roles h.kids)) view,
+      λ e. absurd (some (ap (λ l. l.pending) none.0 ∙ ap (λ h. h.ledger.pending) view ∙ e)),
     )
 
 pub invariant_of-self-in-Some-2 : goal.invariant_of-self-in-Some-2
@@ -58,7 +59,7 @@ pub returns-in-Failed-clause-failed : goal.returns-in-Failed-clause-failed
 returns-in-Failed-clause-failed g c = λ _.
     let S : Sight → Type 0 = λ sight. AreSeen g.R.System.facts sight c.deref_mut.result.now in
     let K : List (Kid g.row.R-Started.Denot) → Type 0 = λ ks. OneFails g.R.System.facts ks in
-    subst K (c.deref_mut.ensures.value ∙ ap (λ h. h.2) c.self.view_is)
+    subst K (c.deref_mut.ensures.value ∙ ap (λ h. h.kids) c.self.view_is)
     (subst S c.in-Failed.is c.in_ok-sight.ensures.seen)
 
 pub returns-in-Running-clause-seen : goal.returns-in-Running-clause-seen
@@ -67,8 +68,8 @@ returns-in-Running-clause-seen g c =
     let K : List (Kid g.row.R-Started.Denot) → Type 0 = λ ks. AllRun g.R.System.facts ks in
     let same = same_back c.self.inside.children.len c.self.inside.children.items c.deref_mut.result.now
     c.see_all.new.kids c.deref_mut.ensures.value c.deref_mut.ensures.len c.see_all.ensures.same in (
-      same ∙ ap (λ h. roles h.2) c.self.view_is,
-      subst K (c.deref_mut.ensures.value ∙ ap (λ h. h.2) c.self.view_is)
+      same ∙ ap (λ h. roles h.kids) c.self.view_is,
+      subst K (c.deref_mut.ensures.value ∙ ap (λ h. h.kids) c.self.view_is)
           (subst S c.in-Running.is c.in_ok-sight.ensures.seen),
     )
 
@@ -82,24 +83,24 @@ returns-in_ok-event-in-Ended-clause-seen g c =
     let S : Sight → Type 0 = λ sight. AreSeen g.R.System.facts sight c.deref_mut.result.now in
     let K : List (Kid g.row.R-Started.Denot) → Type 0 =
     λ ks. SomeKid c.in-Ended.contract ks (HasExit g.R.System.facts c.in-Ended.exit) in
-    let kid = subst K (c.deref_mut.ensures.value ∙ ap (λ h. h.2) view)
+    let kid = subst K (c.deref_mut.ensures.value ∙ ap (λ h. h.kids) view)
     (subst S c.in-Ended.is c.in_ok-sight.ensures.seen) in
-    let I : ℕ → Type 0 = λ n. SomeKid n c.args.self.now.2 (HasExit g.R.System.facts c.in-Ended.exit) in
+    let I : ℕ → Type 0 = λ n. SomeKid n c.args.self.now.kids (HasExit g.R.System.facts c.in-Ended.exit) in
     let F : ℕ → Type 0 = λ n. roles c.forget-in-Ended.new.kids.items
-    ≡ filter (is_other_role n) (roles c.args.self.now.2) in
+    ≡ filter (is_other_role n) (roles c.args.self.now.kids) in
     let left = left_roles c.in-Ended.contract c.self.inside.children.len c.self.inside.children.items
     c.deref_mut.result.now c.see_all.new.kids c.forget-in-Ended.new.kids.items c.forget-in-Ended.ensures
     c.deref_mut.ensures.value c.deref_mut.ensures.len c.see_all.ensures.same in
     inr (
-      sym (ap (λ h. h.0.due) view) ∙ none.1,
-      subst F (sym told.2.of) (left ∙ ap (λ h. filter (is_other_role c.in-Ended.contract) (roles h.2)) view),
+      sym (ap (λ h. h.ledger.due) view) ∙ none.1,
+      subst F (sym told.2.of) (left ∙ ap (λ h. filter (is_other_role c.in-Ended.contract) (roles h.kids)) view),
       λ _. record {
         exit = c.in-Ended.exit;
         process = told.0;
         kid = subst I (sym told.2.of) kid;
         table = told.2.table
             ∙ ap (λ l. table_after_contract_call l.table (calls.Exit told.0 c.in-Ended.exit)) (nothing.0 ∙ none.0)
-            ∙ ap (λ h. table_after_contract_call h.0.table (calls.Exit told.0 c.in-Ended.exit)) view;
+            ∙ ap (λ h. table_after_contract_call h.ledger.table (calls.Exit told.0 c.in-Ended.exit)) view;
       },
     )
 
@@ -122,3 +123,40 @@ invariant_of-self-in-Ended g c =
           (sym (left_contracts c.in-Ended.contract c.forget-in-Ended.new.kids.items c.self.inside.children.items
           left)) after;
     }
+
+pub returns-in-Some-clause-kills : goal.returns-in-Some-clause-kills
+returns-in-Some-clause-kills g c =
+    no_kills _ _ _ (ap (λ h. h.started) c.self.view_is)
+
+pub returns-in_err-event-clause-kills : goal.returns-in_err-event-clause-kills
+returns-in_err-event-clause-kills g c =
+    no_kills _ _ _ (ap (λ h. h.started) c.self.view_is)
+
+pub returns-in-Some-2-clause-kills : goal.returns-in-Some-2-clause-kills
+returns-in-Some-2-clause-kills g c =
+    no_kills _ _ _ (ap (λ h. h.started) c.self.view_is)
+
+pub returns-in_err-sight-clause-kills : goal.returns-in_err-sight-clause-kills
+returns-in_err-sight-clause-kills g c =
+    kills_from (OneHasLeft g.R.System.facts) _ _ _ _ _ (c.deref_mut.ensures.value ∙ ap (λ h. h.kids) c.self.view_is)
+    (ap (λ h. h.started) c.self.view_is) c.see_all.ensures.kills
+
+pub returns-in-Running-clause-kills : goal.returns-in-Running-clause-kills
+returns-in-Running-clause-kills g c =
+    kills_from (OneHasLeft g.R.System.facts) _ _ _ _ _ (c.deref_mut.ensures.value ∙ ap (λ h. h.kids) c.self.view_is)
+    (ap (λ h. h.started) c.self.view_is) c.see_all.ensures.kills
+
+pub returns-in-Failed-clause-kills : goal.returns-in-Failed-clause-kills
+returns-in-Failed-clause-kills g c =
+    kills_from (OneHasLeft g.R.System.facts) _ _ _ _ _ (c.deref_mut.ensures.value ∙ ap (λ h. h.kids) c.self.view_is)
+    (ap (λ h. h.started) c.self.view_is) c.see_all.ensures.kills
+
+pub returns-in_err-event-in-Ended-clause-kills : goal.returns-in_err-event-in-Ended-clause-kills
+returns-in_err-event-in-Ended-clause-kills g c =
+    kills_from (OneHasLeft g.R.System.facts) _ _ _ _ _ (c.deref_mut.ensures.value ∙ ap (λ h. h.kids) c.self.view_is)
+    (ap (λ h. h.started) c.self.view_is) c.see_all.ensures.kills
+
+pub returns-in_ok-event-in-Ended-clause-kills : goal.returns-in_ok-event-in-Ended-clause-kills
+returns-in_ok-event-in-Ended-clause-kills g c =
+    kills_from (OneHasLeft g.R.System.facts) _ _ _ _ _ (c.deref_mut.ensures.value ∙ ap (λ h. h.kids) c.self.view_is)
+    (ap (λ h. h.started) c.self.view_is) c.see_all.ensures.kills

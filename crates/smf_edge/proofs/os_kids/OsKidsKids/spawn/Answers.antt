@@ -1,8 +1,11 @@
-use Rattle.std.proofs.Common.{rules, ◌≡◌, [], ◌∷◌, ◌++◌, ap, refl, sym, ◌∙◌}
+use Rattle.std.proofs.Common.{rules, false, true, inr, ◌≡◌, [], ◌∷◌, ◌++◌, ap, refl, sym, ◌∙◌}
 use Rattle.smf_edge.specs.Books.{ledger_of}
 use Rattle.smf_edge.specs.Processes.{contracts}
+use Rattle.smf_edge.specs.Shell.{IsRun}
+use Rattle.smf_edge.specs.Starts.{MadeNone, log_with_start}
+use Rattle.smf_method.specs.Tokens.{method_text}
 use Rattle.smf_edge.proofs.Manned.{manned_along, manned_spawned}
-use Rattle.smf_edge.proofs.Places.{kid_is, more_contracts}
+use Rattle.smf_edge.proofs.Places.{if_err, kid_is, more_contracts}
 use Rattle.smf_edge.proofs.os_kids.OsKidsKids.spawn.Goals as goal
 
 pub returns-clause-started : goal.returns-clause-started
@@ -21,14 +24,16 @@ returns-clause-started g c =
         restarter = run.restarter;
         alone = run.alone;
       };
+      once = c.in_ok-kid.ensures.made
+          ∙ ap (log_with_start c.in_ok-program.program true) (ap (λ h. h.started) c.self.view_is);
       child = c.in_ok-kid.kid.child;
       of = c.in_ok-kid.ensures.of;
       group = c.in_ok-kid.kid.group;
       number = c.in_ok-kid.ensures.number;
       is =
           items
-          ∙ ap (λ h. h.2 ++ c.in_ok-kid.kid ∷ []) c.self.view_is
-          ∙ ap (λ kid. c.args.self.now.2 ++ kid ∷ [])
+          ∙ ap (λ h. h.kids ++ c.in_ok-kid.kid ∷ []) c.self.view_is
+          ∙ ap (λ kid. c.args.self.now.kids ++ kid ∷ [])
           (kid_is c.in_ok-kid.kid c.args.id c.args.style c.in_ok-kid.ensures.contract c.in_ok-kid.ensures.style);
     }
 
@@ -45,3 +50,26 @@ invariant_of-self-2 g c =
       manned = manned_along _ _ _ _ refl
           (sym (more ∙ ap (λ n. contracts c.self.inside.children.items ++ n ∷ []) c.in_ok-kid.ensures.contract)) after;
     }
+
+pub returns-in_err-kid-clause-none : goal.returns-in_err-kid-clause-none
+returns-in_err-kid-clause-none g c =
+    let run = c.in_ok-program.ensures in
+    let none : MadeNone
+    (IsRun c.args.command.now c.args.instance.now (method_text c.args.method) c.args.restarter.now)
+    c.args.self.now.started (g.R.System.starts c.start.new.system) =
+    inr (
+      c.in_ok-program.program,
+      record {
+        clears = run.clears;
+        program = run.program;
+        args = run.args;
+        path = run.path;
+        fmri = run.fmri;
+        method = run.method;
+        restarter = run.restarter;
+        alone = run.alone;
+      },
+      c.in_err-kid.ensures.none
+          ∙ ap (log_with_start c.in_ok-program.program false) (ap (λ h. h.started) c.self.view_is),
+    ) in
+    if_err _ _ none
