@@ -1,14 +1,32 @@
 #!/bin/sh
-# install.sh PREFIX   puts smf, smfd, svcs, svcadm and svccfg, with what they need and their pages, below PREFIX
-# The program is the one that SMF names, or that ./smf would run, which is proved if `./smf --prove` or the gate has passed.
+# install.sh [--unproved] PREFIX   puts smf, smfd, svcs, svcadm, svccfg, graph, manifest2cfg and timeline, with what they need
+#                                  and all pages, below PREFIX
+# The program is the one that SMF names, or that ./smf would run. It has to be the proved one, which `./smf --prove` or the gate
+# has built of these sources; with --unproved it may be any. The status is 1 if it is refused.
 set -eu
-prefix=${1:?usage: install.sh PREFIX}
+unproved=
+if [ "${1:-}" = --unproved ]; then
+    unproved=1
+    shift
+fi
+if [ $# != 1 ] || [ -z "$1" ]; then
+    echo 'usage: install.sh [--unproved] PREFIX' >&2
+    exit 2
+fi
+prefix=$1
 top=$(cd "$(dirname "$(readlink -f "$0")")/../.." && pwd)
-program=${SMF:-$("$top/smf" --program)}
+proved=$("$top/smf" --proved) || proved=
+program=${SMF:-$proved}
+if [ -z "$unproved" ] && { [ -z "$proved" ] || [ "$(readlink -f "$program")" != "$(readlink -f "$proved")" ]; }; then
+    echo 'install.sh: the program is not proved: ./smf --prove proves it; --unproved installs it as it is' >&2
+    exit 1
+fi
+[ -n "$program" ] || program=$("$top/smf" --program)
 install -d "$prefix/bin" "$prefix/libexec" "$prefix/share/man/man1" "$prefix/share/man/man7" "$prefix/share/man/man8"
 install -m 755 "$program" "$prefix/bin/smf"
 install -m 755 "$top/bin/smfd" "$top/bin/svcs" "$top/bin/svcadm" "$top/bin/svccfg" "$prefix/bin"
+install -m 755 "$top/tools/graph" "$top/tools/manifest2cfg" "$top/tools/timeline" "$prefix/bin"
 install -m 755 "$top/libexec/smf_client" "$top/libexec/smf_end" "$top/libexec/smf_keep" "$top/libexec/smf_stop" "$prefix/libexec"
-install -m 644 "$top/man/smf.1" "$top/man/svcs.1" "$top/man/svcadm.1" "$top/man/svccfg.1" "$prefix/share/man/man1"
-install -m 644 "$top/man/smf_properties.7" "$prefix/share/man/man7"
-install -m 644 "$top/man/smfd.8" "$prefix/share/man/man8"
+for section in 1 7 8; do
+    install -m 644 "$top"/man/*."$section" "$prefix/share/man/man$section"
+done
