@@ -15,7 +15,7 @@ use crate::files::{cfg_over, check_over, sim_over, why_over};
 use crate::processes::run_over;
 use crate::server::serve_over;
 use smf_edge::TableKids;
-use smf_host::{Hold, take_alone, tick_into};
+use smf_host::{Hold, take_alone};
 use smf_lines::NotedReader;
 use smf_program::{Task, read_task, refusal_of_words, refuse, tell_no_memory};
 use smf_serve::serve_sim;
@@ -44,7 +44,6 @@ fn do_task(rt: &HostRuntime, task: &Task<'_>) -> io::Result<u8> {
         } => sim_over(rt, database),
         Task::Why { database, words } => Ok(why_over(rt, database, words.as_slice())),
         Task::Check { database } => Ok(check_over(rt, database)),
-        Task::Tick { pipe, pause } => tick_into(rt, pipe, pause),
         Task::Run { database, .. } => do_alone(rt, database, task),
         Task::Cfg { database, .. } => do_alone(rt, database, task),
         Task::Serve { folder, database } => serve_over(rt, folder, database),

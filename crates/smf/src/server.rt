@@ -5,7 +5,7 @@ use smf_edge::Kids;
 use smf_follow::{Contracts, FollowedKids};
 use smf_host::{
     Database, FileDesk, FileEnder, Hold, SystemTimer, end_listed, ender_in, folder_lock, room_text,
-    start_ticks, staying_room, take_alone, take_lock, wants_groups,
+    staying_room, take_alone, take_lock, wants_groups,
 };
 use smf_keeper::{Groups, Keepers, Room};
 use smf_model::{Journal, Plain};
@@ -33,10 +33,6 @@ fn stay<J: Journal + Drop, K: Kids + Drop>(
     repository: Plain<J>,
     kids: K,
 ) -> (u8, J) {
-    if start_ticks(rt, desk.folder()).is_err() {
-        let status = tell(&mut rt.stderr(), "smf: serve: no ticks can be started");
-        return (status, repository.into_journal());
-    }
     let stayed = stay_over(
         rt.alloc(),
         desk,
@@ -50,14 +46,10 @@ fn stay<J: Journal + Drop, K: Kids + Drop>(
         Ok(
             Life {
                 how: _,
-                left,
                 journal,
                 kids: _kids,
             },
-        ) => {
-            let told = tell_left(rt, &left);
-            (told.max(tell_end(rt, desk)), journal)
-        }
+        ) => (tell_end(rt, desk), journal),
         Err(
             Unborn {
                 fault,

@@ -1,10 +1,10 @@
 // The desk of a server: requests in a folder, and replies to them.
+use crate::pace::Pace;
+use crate::pipe::{Call, Pipe};
 use smf_cfg::tell;
-use smf_lines::{NotedReader, ReadFault, Turns, read_line, text_in};
 use smf_watch::{Desk, ServerInput};
-use std::alloc::{AllocError, Global};
 use std::fs::File;
-use std::io::{BufReader, Read, Write};
+use std::io::{Read, Write};
 use std::os::unix::fs::OpenOptionsExt;
 use std::rt::{Clock, HostRuntime};
 use std::time::Duration;
@@ -19,65 +19,34 @@ const UNWRITTEN: u8 = 4;
 /// The most bytes of a request.
 const MAX_REQUEST: u64 = 4_194_304;
 
-/// The most bytes of the name of a request.
-const MAX_NAME: usize = 64;
-
-/// A tick that comes within so many milliseconds had waited.
-const AT_ONCE: u64 = 1;
-
 /// Requests in a folder, and replies to them. A line of a pipe says that one has come.
 #[derive(Drop)]
 pub struct FileDesk<'a> {
     rt: &'a HostRuntime,
     folder: &'a str,
-    wake: NotedReader<BufReader<File>>,
+    wake: Pipe,
+    pace: Pace,
     /// The name of the request that was given last.
     name: String,
     /// The text about a read of the pipe that failed.
     failed: Option<&'static str>,
 }
 
-/// A line of the pipe.
-#[derive(Drop)]
-enum Call {
-    Tick,
-    Named(String),
-    End,
-    Other,
-}
-
-/// Letters, digits, `_` and `-` name a request.
-fn is_name(text: &str) -> bool {
-    !text.is_empty()
-        && text.len() <= MAX_NAME
-        && text.bytes().all(|byte| byte.is_ascii_alphanumeric() || byte == b'_' || byte == b'-')
-}
-
-/// The call of a line of the pipe: an empty line is a tick, `.` is the end, and a name is a request. Any other line
-/// says nothing.
-fn call_of(alloc: Global, line: &[u8]) -> Result<Call, AllocError> {
-    match text_in(line) {
-        None => Ok(Call::Other),
-        Some("") => Ok(Call::Tick),
-        Some(".") => Ok(Call::End),
-        Some(name) if is_name(name) => Ok(Call::Named(format!(in alloc; "{name}")?)),
-        Some(_) => Ok(Call::Other),
-    }
+/// The time of the clock, if it can be read.
+fn time_of(rt: &HostRuntime) -> Option<Duration> {
+    rt.monotonic().ok()
 }
 
 impl<'a> FileDesk<'a> {
-    /// Opens the pipe `wake` of a folder. It is open to write too, so that it has no end.
+    /// Opens the pipe `wake` of a folder.
     pub fn open(rt: &'a HostRuntime, folder: &'a str) -> io::Result<FileDesk<'a>> {
         let alloc = rt.alloc();
         let path = format!(in alloc; "{folder}/wake")?;
-        let wake = File::options()
-            .read(true)
-            .write(true)
-            .open(rt, path.as_str())?;
         Ok(FileDesk {
             rt,
             folder,
-            wake: NotedReader::new(BufReader::new(alloc, wake)?),
+            wake: Pipe::open(rt, path.as_str())?,
+            pace: Pace::new(rt, time_of(rt)),
             name: String::new(alloc),
             failed: None,
         })
@@ -93,43 +62,20 @@ impl<'a> FileDesk<'a> {
         self.failed
     }
 
-    /// A pipe from which nothing can be read ends the server.
-    fn fail(&mut self, text: &'static str) -> Call {
-        self.failed = Some(text);
-        Call::End
-    }
-
-    /// The next line of the pipe. One for which there is no memory is a tick.
-    fn call(&mut self) -> Call {
-        let alloc = self.rt.alloc();
-        match read_line(alloc, &mut self.wake, &mut Turns::new()) {
-            Ok(Some(line)) => match call_of(alloc, &line) {
-                Ok(call) => call,
-                Err(_) => Call::Tick,
-            },
-            Ok(None) => Call::End,
-            Err(ReadFault::Input(_)) => self.fail("smf: input failed"),
-            Err(ReadFault::Memory) => Call::Tick,
-            Err(ReadFault::TooManyLines(_)) => Call::Other,
+    /// Waits for a call. None if a tick is due before one comes.
+    fn call(&mut self) -> Option<Call> {
+        let now = time_of(self.rt);
+        let left = self.pace.left(now);
+        if left.is_zero() || !self.wake.wait(self.rt, left) {
+            return None;
         }
-    }
-
-    /// The time of the clock, if it can be read.
-    fn time(&self) -> Option<Duration> {
-        self.rt.monotonic().ok()
-    }
-
-    /// True if a tick had waited while the server was busy. Its like are let go, so that those that gather while turns
-    /// take long keep no request waiting.
-    fn had_waited(&self, call: &Call, begun: Option<Duration>) -> bool {
-        match call {
-            Call::Tick => match (begun, self.time()) {
-                (Some(begun), Some(now)) => {
-                    now.saturating_sub(begun) < Duration::from_millis(AT_ONCE)
-                }
-                _ => false,
-            },
-            _ => false,
+        match self.wake.read(self.rt.alloc()) {
+            Ok(call) => Some(call),
+            Err(_) => {
+                // A pipe from which nothing can be read ends the server.
+                self.failed = Some("smf: input failed");
+                Some(Call::End)
+            }
         }
     }
 
@@ -157,16 +103,24 @@ impl<'a> FileDesk<'a> {
         Some(ServerInput::Request(script))
     }
 
-    /// The ask of a call, if it asks for anything.
-    fn ask_of_call(&mut self, call: Call) -> Option<ServerInput> {
-        match call {
-            Call::Tick => Some(ServerInput::Tick),
-            Call::End => Some(ServerInput::End),
-            Call::Other => None,
-            Call::Named(name) => {
+    /// What comes next, if a call asks for anything or a tick is due.
+    fn input(&mut self) -> Option<ServerInput> {
+        match self.call() {
+            None => {
+                self.pace.tick();
+                Some(ServerInput::Tick)
+            }
+            Some(Call::Ring) => {
+                self.pace.ring(time_of(self.rt));
+                None
+            }
+            Some(Call::Named(name)) => {
+                self.pace.ask(time_of(self.rt));
                 self.name = name;
                 self.ask()
             }
+            Some(Call::End) => Some(ServerInput::End),
+            Some(Call::Other) => None,
         }
     }
 
@@ -214,14 +168,9 @@ impl<'a> Desk for FileDesk<'a> {
     ghost passed = { λ _. None };
 
     fn next(&mut self) -> ServerInput {
-        let begun = self.time();
         for _ in 0..u64::MAX {
-            let call = self.call();
-            if self.had_waited(&call, begun) {
-                continue;
-            }
-            if let Some(ask) = self.ask_of_call(call) {
-                return ask;
+            if let Some(input) = self.input() {
+                return input;
             }
         }
         ServerInput::End

@@ -3,7 +3,7 @@ use Rattle.std.specs.Prelude.{◌≡◌, ℕ, List, [], ◌∷◌, codes, Some, 
 use Rattle.clap.specs.Words.{fault_of}
 use Rattle.clap.specs.declared.error.kind.ErrorKind.TheVariants as kinds
 use Rattle.smf_program.specs.Tasks.{task_of}
-use Rattle.smf_program.specs.Tasks.TaskTexts.{Sim, Run, Cfg, Check, Serve, Tick, Why}
+use Rattle.smf_program.specs.Tasks.TaskTexts.{Sim, Run, Cfg, Check, Serve, Why}
 use Rattle.smf_program.specs.Words.{smf_app}
 
 -- the program's name is the first of its words
@@ -32,9 +32,7 @@ ContractsAreFollowed =
 
 abbrev pub ServersAreRead : Type 0
 ServersAreRead =
-    (task_of (smf (codes "serve" ∷ codes "room" ∷ codes "a.db" ∷ [])) ≡ Some (Serve (codes "room") (codes "a.db")))
-    × (task_of (smf (codes "tick" ∷ codes "room/wake" ∷ codes "100" ∷ []))
-    ≡ Some (Tick (codes "room/wake") (codes "100")))
+    task_of (smf (codes "serve" ∷ codes "room" ∷ codes "a.db" ∷ [])) ≡ Some (Serve (codes "room") (codes "a.db"))
 
 abbrev pub QuestionsAreRead : Type 0
 QuestionsAreRead =
@@ -48,7 +46,6 @@ DatabaseIsWanted =
     (fault_of smf_app (smf (codes "run" ∷ [])) ≡ kinds.MissingRequiredArgument ∷ [])
     × (fault_of smf_app (smf (codes "cfg" ∷ codes "-f" ∷ codes "x" ∷ [])) ≡ kinds.MissingRequiredArgument ∷ [])
     × (fault_of smf_app (smf (codes "serve" ∷ codes "room" ∷ [])) ≡ kinds.MissingRequiredArgument ∷ [])
-    × (fault_of smf_app (smf (codes "tick" ∷ codes "room/wake" ∷ [])) ≡ kinds.MissingRequiredArgument ∷ [])
 
 abbrev pub OthersAreRefused : Type 0
 OthersAreRefused =

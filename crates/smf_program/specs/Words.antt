@@ -48,17 +48,7 @@ why_app = with_rule (with_rule (new_app (codes "why")) database_rule) fmri_rule
 abbrev pub check_app : App
 check_app = with_rule (new_app (codes "check")) database_rule
 
--- a pipe, and how many milliseconds are between two lines
-abbrev pub pipe_rule : Rule
-pipe_rule = record (new_rule (codes "PIPE")) { required = true }
-
-abbrev pub pause_rule : Rule
-pause_rule = record (new_rule (codes "MS")) { required = true }
-
-abbrev pub tick_app : App
-tick_app = with_rule (with_rule (new_app (codes "tick")) pipe_rule) pause_rule
-
--- one of the seven has to be named
+-- one of the six has to be named
 abbrev pub bare_app : App
 bare_app = on_top (λ s. record s { subcommand_required = true }) (new_app (codes "smf"))
 
@@ -67,12 +57,10 @@ smf_app =
     with_subcommand
     (with_subcommand
     (with_subcommand
-    (with_subcommand
     (with_subcommand (with_subcommand (with_subcommand bare_app sim_app.top) run_app.top) cfg_app.top)
     serve_app.top)
     why_app.top)
-    check_app.top)
-    tick_app.top
+    check_app.top
 
 -- true if a flag was found
 abbrev pub is_set : List ℕ → List Row → Bool

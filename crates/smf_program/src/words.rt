@@ -1,7 +1,7 @@
 ghost use Rattle.std.specs.Prelude.{◌≡◌, IfOk, false};
 ghost use Rattle.clap.specs.Words.{app_of, rule_of};
 ghost use Rattle.clap.specs.declared.builder.command.Command.TheViews.{out-Command as fields_of};
-ghost use Rattle.smf_program.specs.Words.{bare_app, cfg_app, check_app, database_rule, file_rule, fmri_rule, folder_rule, follow_rule, pause_rule, pipe_rule, read_rule, run_app, serve_app, sim_app, smf_app, tick_app, why_app};
+ghost use Rattle.smf_program.specs.Words.{bare_app, cfg_app, check_app, database_rule, file_rule, fmri_rule, folder_rule, follow_rule, read_rule, run_app, serve_app, sim_app, smf_app, why_app};
 
 use clap::{Arg, ArgAction, Command};
 use std::alloc::{AllocError, Global};
@@ -120,32 +120,6 @@ fn check_command<'a>(alloc: Global) -> Result<Command<'a>, AllocError>
     Ok(command)
 }
 
-fn pipe<'a>(alloc: Global) -> Arg<'a>
-    ensures rule { rule_of result ≡ pipe_rule }
-    ensures local { result.global ≡ false }
-{
-    Arg::new(alloc, "PIPE").required(true)
-}
-
-/// The milliseconds between two lines.
-fn pause<'a>(alloc: Global) -> Arg<'a>
-    ensures rule { rule_of result ≡ pause_rule }
-    ensures local { result.global ≡ false }
-{
-    Arg::new(alloc, "MS").required(true)
-}
-
-fn tick_command<'a>(alloc: Global) -> Result<Command<'a>, AllocError>
-    ensures app { IfOk result (λ c. app_of c ≡ tick_app) }
-    ensures local { IfOk result (λ c. (fields_of c).has_globals ≡ false) }
-{
-    let command = Command::new(alloc, "tick")
-        .about("Writes a line into a pipe every so many milliseconds, until nobody reads it")
-        .arg(pipe(alloc))?
-        .arg(pause(alloc))?;
-    Ok(command)
-}
-
 fn bare_command<'a>(alloc: Global) -> Command<'a>
     ensures { app_of result ≡ bare_app }
 {
@@ -154,7 +128,7 @@ fn bare_command<'a>(alloc: Global) -> Command<'a>
 
 /// The program as clap knows it. `sim` may have a database. `run` has one, and contracts may be followed.
 /// `cfg` has a database, and may have a file of lines after `-f`. `serve` has a folder and a database. `why` has a
-/// database and words that mean instances. `check` has a database. `tick` has a pipe and milliseconds.
+/// database and words that mean instances. `check` has a database.
 pub(crate) fn smf_command<'a>(alloc: Global) -> Result<Command<'a>, AllocError>
     ensures { IfOk result (λ c. app_of c ≡ smf_app) }
 {
@@ -169,8 +143,6 @@ pub(crate) fn smf_command<'a>(alloc: Global) -> Result<Command<'a>, AllocError>
     let why = why_command(alloc)?;
     let with_why = with_serve.subcommand(why)?;
     let check = check_command(alloc)?;
-    let with_check = with_why.subcommand(check)?;
-    let tick = tick_command(alloc)?;
-    let command = with_check.subcommand(tick)?;
+    let command = with_why.subcommand(check)?;
     Ok(command)
 }

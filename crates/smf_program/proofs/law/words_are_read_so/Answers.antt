@@ -18,7 +18,7 @@ returns-clause-followed c = (refl, refl)
 
 pub returns-clause-served : goal.returns-clause-served
 unfolding task_of smf_app clap_on_literals
-returns-clause-served c = (refl, refl)
+returns-clause-served c = refl
 
 pub returns-clause-asked : goal.returns-clause-asked
 unfolding task_of smf_app clap_on_literals
@@ -26,7 +26,7 @@ returns-clause-asked c = (refl, refl, refl)
 
 pub returns-clause-database : goal.returns-clause-database
 unfolding smf_app clap_on_literals
-returns-clause-database c = (refl, refl, refl, refl)
+returns-clause-database c = (refl, refl, refl)
 
 pub returns-clause-others : goal.returns-clause-others
 unfolding task_of smf_app clap_on_literals
