@@ -2,9 +2,10 @@
 //! a repository in memory, a copy in memory of a database, or a database and the processes of its services. This crate
 //! joins what the system has with what the crates below decide.
 //! Modules: `files` (databases in files), `contracts` (contracts that are followed through forks), `processes`
-//! (processes of the system), `server` (a service manager that stays).
+//! (processes of the system), `server` (a service manager that stays), `boot` (boots that fail).
 #![tactic(auto)]
 
+mod boot;
 mod contracts;
 mod files;
 mod processes;

@@ -1,4 +1,5 @@
 // A service manager that stays, over a database and the requests of a folder.
+use crate::boot::Tries;
 use smf_cfg::tell;
 use smf_database::{Closed, Served, close, tell_open};
 use smf_edge::Kids;
@@ -10,8 +11,7 @@ use smf_host::{
 use smf_keeper::{Groups, Keepers, Room};
 use smf_model::{Journal, Plain};
 use smf_program::tell_no_database;
-use smf_script::ScriptFault;
-use smf_server::{ItemCount, Leftover, Life, Unborn, fault_text, stay_over};
+use smf_server::{ItemCount, Leftover, Life, Unborn, stay_over};
 use smf_store::open_repository;
 use sqlite::{Alter, Connection};
 use std::alloc::AllocError;
@@ -25,14 +25,20 @@ fn tell_end(rt: &HostRuntime, desk: &FileDesk<'_>) -> u8 {
     }
 }
 
-/// Stays over what a repository holds, and children. Gives the journal back.
+/// A stay that is over, with the status of the run; or one that did not begin.
+enum Stayed<J: Journal, K: Kids> {
+    Over(u8, J),
+    Unborn(Unborn<J, K>),
+}
+
+/// Stays over what a repository holds, and children.
 fn stay<J: Journal + Drop, K: Kids + Drop>(
     rt: &HostRuntime,
     desk: &mut FileDesk<'_>,
     ender: &mut FileEnder<'_>,
     repository: Plain<J>,
     kids: K,
-) -> (u8, J) {
+) -> Stayed<J, K> {
     let stayed = stay_over(
         rt.alloc(),
         desk,
@@ -46,20 +52,15 @@ fn stay<J: Journal + Drop, K: Kids + Drop>(
         Ok(
             Life {
                 how: _,
-                journal,
-                kids: _kids,
-            },
-        ) => (tell_end(rt, desk), journal),
-        Err(
-            Unborn {
-                fault,
+                left,
                 journal,
                 kids: _kids,
             },
         ) => {
-            let status = tell(&mut rt.stderr(), fault_text(&ScriptFault::Node(fault)));
-            (status, journal)
+            let told = tell_left(rt, &left);
+            Stayed::Over(told.max(tell_end(rt, desk)), journal)
         }
+        Err(unborn) => Stayed::Unborn(unborn),
     }
 }
 
@@ -75,7 +76,8 @@ fn tell_left(rt: &HostRuntime, left: &Result<Leftover, AllocError>) -> u8 {
     }
 }
 
-/// Stays over the store in a database and children. It takes any store: a proof over a store in files takes far longer.
+/// Stays over the store in a database and children. If the boot fails, since a disk is full perhaps, it is tried again later.
+/// It takes any store: a proof over a store in files takes far longer.
 fn serve_store<S: Alter + Drop, K: Kids + Drop>(
     rt: &HostRuntime,
     desk: &mut FileDesk<'_>,
@@ -83,19 +85,40 @@ fn serve_store<S: Alter + Drop, K: Kids + Drop>(
     conn: Connection<S>,
     kids: K,
 ) -> Served<S> {
-    match open_repository(rt.alloc(), conn) {
-        Ok(repository) => {
-            let (status, journal) = stay(rt, desk, ender, repository, kids);
-            Served {
-                status,
-                conn: journal.release(),
+    let mut conn = conn;
+    let mut kids = kids;
+    let mut tries = Tries::new();
+    for _ in 0..u64::MAX {
+        let repository = match open_repository(rt.alloc(), conn) {
+            Ok(repository) => repository,
+            Err((fault, conn)) => {
+                return Served {
+                    status: tell_open(rt.alloc(), &mut rt.stderr(), &fault),
+                    conn,
+                };
             }
+        };
+        let unborn = match stay(rt, desk, ender, repository, kids) {
+            Stayed::Over(status, journal) => {
+                return Served {
+                    status,
+                    conn: journal.release(),
+                };
+            }
+            Stayed::Unborn(unborn) => unborn,
+        };
+        let Unborn {
+            fault,
+            journal,
+            kids: unasked,
+        } = unborn;
+        conn = journal.release();
+        kids = unasked;
+        if let Some(status) = tries.fail(rt, desk, fault) {
+            return Served { status, conn };
         }
-        Err((fault, conn)) => Served {
-            status: tell_open(rt.alloc(), &mut rt.stderr(), &fault),
-            conn,
-        },
     }
+    Served { status: 0, conn }
 }
 
 /// Stays over an open database, with contracts that are followed. It takes any contracts: a proof that names those of the
