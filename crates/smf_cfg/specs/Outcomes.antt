@@ -1,10 +1,9 @@
 -- How a run over a reader and writers ends.
-use Rattle.std.specs.Prelude.{◌⊎◌, ℕ, List, [], ◌∷◌, ◌++◌, codes, Option, IfSome}
+use Rattle.std.specs.Prelude.{◌⊎◌, ℕ, List, [], ◌∷◌, ◌++◌, codes, Option}
 use Rattle.std.specs.Io.KnownBytes.{Appends}
 use Rattle.std_io.specs.declared.io.error.Error.{Error}
 use Rattle.smf_lines.specs.declared.fault.ReadFault.{ReadFault}
 use Rattle.smf_lines.specs.declared.fault.ReadFault.TheVariants as reads
-use Rattle.smf_lines.specs.Lines.{lines_of}
 use Rattle.smf_model.specs.declared.journal.RepoFault.{RepoFault}
 use Rattle.smf_model.specs.declared.journal.RepoFault.TheVariants.{Memory, Database}
 use Rattle.smf_model.specs.Contents.{Holdings}
@@ -32,13 +31,11 @@ fault_text (Errors fault) = codes "smf: output failed"
 abbrev pub IsTold : (Error → Type 0) → Option (List ℕ) → Option (List ℕ) → List ℕ → Type 0
 IsTold fails old new text = Appends old new (text ++ 10 ∷ []) ⊎ ((e : Error) × fails e)
 
--- a fault ended the run, and its message came after those about lines: some of the lines were done, and their texts
--- were written
+-- a fault ended the run, and its message came after those about lines: lines were done, and their texts were written
 pub record IsFaulted (reader : Error → Type 0) (stores : RepoFault → Type 0) (writes tells : Error → Type 0)
     (before after : Holdings) (input out_old out_new errors_old errors_new : Option (List ℕ)) : Type 0 where
   pub fault : RunFault
   pub ended : IsWhy reader stores writes tells fault
   pub errors : Option (List ℕ)
-  pub stops : IfSome input
-      (λ bytes. Stops fault (start_place before) (lines_of bytes) after out_old out_new errors_old errors)
+  pub stops : Stops fault (start_place before) input after out_old out_new errors_old errors
   pub told : IsTold tells errors errors_new (fault_text fault)

@@ -1,11 +1,11 @@
 -- The effect of lines of svccfg, one after another.
-use Rattle.std.specs.Prelude.{◌≡◌, ◌⊎◌, ◌≤◌, ℕ, ◌+◌, List, [], ◌∷◌, ◌++◌, ◌&&◌, take, codes, Bool, true, false, if◌then◌else◌, Option, Some, None, Result, Ok, Err}
+use Rattle.std.specs.Prelude.{◌≡◌, ◌⊎◌, ◌≤◌, ℕ, ◌+◌, List, [], ◌∷◌, ◌++◌, ◌&&◌, take, length, codes, Bool, true, false, if◌then◌else◌, Option, Some, None, IfSome, Result, Ok, Err}
 use Rattle.std.specs.Io.KnownBytes.{Appends}
 use Rattle.std_io.specs.declared.io.error.Error.{Error}
 use Rattle.smf_lines.specs.declared.limits.TheConstants.{MAX_LINES}
 use Rattle.smf_lines.specs.Faults.{count_after}
 use Rattle.smf_lines.specs.Faults as reads
-use Rattle.smf_lines.specs.Lines.{counts_of, text_in}
+use Rattle.smf_lines.specs.Lines.{counts_of, lines_of, text_in}
 use Rattle.smf_model.specs.declared.journal.RepoFault.{RepoFault}
 use Rattle.smf_model.specs.declared.journal.RepoFault.TheVariants.{Memory}
 use Rattle.smf_model.specs.Contents.{Holdings}
@@ -130,6 +130,21 @@ pub record Ends (e : Effect) (after : Holdings) (out_old out_new errors_old erro
   pub errors : Appends errors_old errors_new e.errors
   pub exit : status ≡ status_of e.end.is_fine
 
+-- these are all lines of the bytes, up to the end of the session
+pub record AreAllOf (start : Place) (bytes : List ℕ) (lines : List (List ℕ)) : Type 0 where
+  pub behind : List (List ℕ)
+  pub whole : lines_of bytes ≡ lines ++ behind
+  pub all : (behind ≡ []) ⊎ ((run start lines).end.has_ended ≡ true)
+
+-- A reader's lines were done to their end. Lines were done in turn, no more than there may be; if the bytes are known,
+-- these are all lines of them. What is held, the written texts and the status are what these lines give.
+pub record HasRun (start : Place) (input : Option (List ℕ)) (after : Holdings)
+    (out_old out_new errors_old errors_new : Option (List ℕ)) (status : ℕ) : Type 0 where
+  pub lines : List (List ℕ)
+  pub few : length lines ≤ max_lines
+  pub known : IfSome input (λ bytes. AreAllOf start bytes lines)
+  pub ends : Ends (run start lines) after out_old out_new errors_old errors_new status
+
 -- the lines up to the session's end, with the reads interrupted from one count to the other, are at most `max_lines`
 pub record IsWithin (start : Place) (lines : List (List ℕ)) (before after : ℕ) : Type 0 where
   pub first : List (List ℕ)
@@ -162,16 +177,22 @@ WroteErrors (Repo fault) e old new = Appends old new e.errors
 WroteErrors (Output fault) e old new = Appends old new e.errors
 WroteErrors (Errors fault) e old new = Unit {0}
 
--- a run was ended by a fault: some of its lines were done, and their texts were written
-pub record Stops (fault : RunFault) (start : Place) (lines : List (List ℕ)) (after : Holdings)
-    (out_old out_new errors_old errors_new : Option (List ℕ)) : Type 0 where
-  pub first : List (List ℕ)
+-- these are the first lines of the bytes; too many are more than there may be
+pub record AreFirstOf (fault : RunFault) (bytes : List ℕ) (lines : List (List ℕ)) : Type 0 where
   pub behind : List (List ℕ)
-  pub whole : lines ≡ first ++ behind
-  pub held : after ≡ (run start first).left.held
-  pub out : WroteOut fault (run start first) out_old out_new
-  pub errors : WroteErrors fault (run start first) errors_old errors_new
-  pub past : IsPast fault max_lines (counts_of (first ++ take 1 behind))
+  pub whole : lines_of bytes ≡ lines ++ behind
+  pub past : IsPast fault max_lines (counts_of (lines ++ take 1 behind))
+
+-- A fault ended a run. Lines were done in turn, no more than there may be, and their texts were written; if the bytes
+-- are known, these are the first lines of them.
+pub record Stops (fault : RunFault) (start : Place) (input : Option (List ℕ)) (after : Holdings)
+    (out_old out_new errors_old errors_new : Option (List ℕ)) : Type 0 where
+  pub lines : List (List ℕ)
+  pub few : length lines ≤ max_lines
+  pub known : IfSome input (λ bytes. AreFirstOf fault bytes lines)
+  pub held : after ≡ (run start lines).left.held
+  pub out : WroteOut fault (run start lines) out_old out_new
+  pub errors : WroteErrors fault (run start lines) errors_old errors_new
 
 -- why a run ended: the reader, the repository or a writer, with a fault that it may have
 abbrev pub IsWhy : (Error → Type 0) → (RepoFault → Type 0) → (Error → Type 0) → (Error → Type 0) → RunFault → Type 0

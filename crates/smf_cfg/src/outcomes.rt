@@ -1,6 +1,6 @@
 ghost use Rattle.std.specs.Prelude.{◌≡◌, ◌≢◌, ◌++◌, ◌∷◌, [], IfErr, IfSome, OnOk};
 ghost use Rattle.std.specs.Io.KnownBytes.{Appends};
-ghost use Rattle.smf_cfg.specs.Runs.{Ends, start_place, run};
+ghost use Rattle.smf_cfg.specs.Runs.{Ends, HasRun, start_place, run};
 ghost use Rattle.smf_cfg.specs.Outcomes.{IsFaulted, IsTold, fault_text, read_text, repo_text};
 ghost use Rattle.smf_lines.specs.Lines.{lines_of};
 ghost use Rattle.smf_repo.specs.Clients.{IsEditedAlone};
@@ -76,8 +76,11 @@ pub fn serve_cfg<R: LineReader, W: TextWriter, E: TextWriter, C: Client>(
     errors: &mut E,
     client: &mut C,
 ) -> u8
-    // If no fault ended it and the bytes are known, the holdings, the written texts and the status are those of all
-    // lines.
+    // If no fault ended it, lines were done one after another. The holdings, the written texts and the status are what
+    // these lines give. If the bytes are known, these are all lines of them, up to the end of the session.
+    ensures ran { result ≢ 3 → HasRun (start_place (C.held client.old)) (R.remaining reader.old)
+        (C.held client.new) (W.contents out.old) (W.contents out.new) (E.contents errors.old) (E.contents errors.new) result }
+    // If the bytes are known, all lines give the same: those after the end of the session do nothing.
     ensures ok { result ≢ 3 → IfSome (R.remaining reader.old) (λ input.
         Ends (run (start_place (C.held client.old)) (lines_of input)) (C.held client.new) (W.contents out.old) (W.contents out.new) (E.contents errors.old) (E.contents errors.new) result) }
     ensures fault { result ≡ 3

@@ -1,6 +1,6 @@
 ghost use Rattle.std.specs.Prelude.{◌≡◌, ◌≤◌, IfErr, IfOk, IfSome, OnOk, string_bytes};
 ghost use Rattle.std.specs.Io.KnownBytes.{Appends};
-ghost use Rattle.smf_cfg.specs.Runs.{Ends, IsCut, IsUnprinted, IsUnsaid, IsWhy, IsWithin, IsWritten, Stops, Tells, start_place, failure_text, effect, effect_of_text, failure_end, failed_in, line_of, end_after_output, run, status_of};
+ghost use Rattle.smf_cfg.specs.Runs.{HasRun, IsCut, IsUnprinted, IsUnsaid, IsWhy, IsWithin, IsWritten, Stops, Tells, start_place, failure_text, effect, effect_of_text, failure_end, failed_in, line_of, end_after_output, status_of};
 ghost use Rattle.smf_cfg.specs.Sessions.{at};
 ghost use Rattle.smf_cfg.specs.declared.fault.SessionFault.TheVariants as line_faults;
 ghost use Rattle.smf_lines.specs.Lines.{lines_of};
@@ -168,15 +168,16 @@ pub fn run_cfg<R: LineReader, W: TextWriter, E: TextWriter, C: Client>(
     errors: &mut E,
     client: &mut C,
 ) -> Result<u8, RunFault>
-    // If the bytes are known, the holdings, the written texts and the status are those of all lines.
-    ensures ok { IfOk result (λ status. IfSome (R.remaining reader.old) (λ input.
-        Ends (run (start_place (C.held client.old)) (lines_of input)) (C.held client.new) (W.contents out.old) (W.contents out.new) (E.contents errors.old) (E.contents errors.new) status)) }
+    // The lines were done one after another. The holdings, the written texts and the status are what these lines give.
+    // If the bytes are known, these are all lines of them, up to the end of the session.
+    ensures ok { IfOk result (λ status.
+        HasRun (start_place (C.held client.old)) (R.remaining reader.old) (C.held client.new) (W.contents out.old) (W.contents out.new) (E.contents errors.old) (E.contents errors.new) status) }
     ensures exit { IfOk result (λ status. status ≤ 1) }
     ensures few { IfOk result (λ status. IfSome (R.remaining reader.old) (λ input.
         IsWithin (start_place (C.held client.old)) (lines_of input) (R.interrupted reader.old) (R.interrupted reader.new))) }
-    // If they are known, some of the lines were done, and their texts were written.
-    ensures err { IfErr result (λ fault. IfSome (R.remaining reader.old) (λ input.
-        Stops fault (start_place (C.held client.old)) (lines_of input) (C.held client.new) (W.contents out.old) (W.contents out.new) (E.contents errors.old) (E.contents errors.new))) }
+    // Some lines were done, and their texts were written. If the bytes are known, these are the first lines of them.
+    ensures err { IfErr result (λ fault.
+        Stops fault (start_place (C.held client.old)) (R.remaining reader.old) (C.held client.new) (W.contents out.old) (W.contents out.new) (E.contents errors.old) (E.contents errors.new)) }
     // Edits were given to the client, and nothing else was done to it.
     ensures edits { IsEditedAlone C.held C.follows client.old client.new }
     ensures fault { IfErr result (λ e. IsWhy R.read_fails C.edit_fails W.write_fails E.write_fails e) }

@@ -1,17 +1,14 @@
-use Rattle.std.proofs.Common.{◌≡◌, [], inl, inr, refl, sym, arith, rules}
-use Rattle.std.proofs.lemmas.Option.{IfSome_then}
+use Rattle.std.proofs.Common.{refl, sym, arith, rules}
 use Rattle.std.proofs.lemmas.Result.{err_from_is_err_and}
 use Rattle.smf_lines.proofs.Heard.{no_failure}
 use Rattle.smf_repo.proofs.Turns.{edited_none, edited_then}
-use Rattle.smf_lines.proofs.Loops.{at_known, of_known}
-use Rattle.smf_cfg.proofs.Progress.{few_lines, goes_first, goes_on, goes_to_end, stops_doing, stops_reading}
+use Rattle.smf_cfg.proofs.Progress.{ends_by_reader, ends_by_session, few_by_reader, few_by_session, goes_first, goes_on, stops_doing, stops_reading}
 use Rattle.smf_cfg.proofs.run.run_cfg.Goals as goal
 
 pub loop-session-init : goal.loop-session-init
 loop-session-init g c =
     record {
-      known = of_known (g.R.LineReader.remaining c.args.reader.now) _
-          (λ input is. rw c.new-session.ensures (goes_first _ _ _ _ _ _ is (omega arith)));
+      so_far = rw c.new-session.ensures (goes_first _ _ _ _ _ _ (omega arith) (omega arith));
       edits = edited_none _ _ _ _ refl;
       interrupted = search rules;
       failed = refl;
@@ -20,42 +17,34 @@ loop-session-init g c =
 pub returns-in_err-read_line-clause-err : goal.returns-in_err-read_line-clause-err
 returns-in_err-read_line-clause-err g c =
     let p = err_from_is_err_and c.from_residual.result c.from_residual.ensures.1 in
-    rw (p.1, p.2) (IfSome_then (g.R.LineReader.remaining c.args.reader.now) c.loop-session.invariant.known
-    (λ input so_far. stops_reading _ _ _ _ _ _ _
-    _ _ _ _ _ _ so_far
-    (at_known _ _ _ so_far.is_left c.in_err-read_line.ensures.err)))
+    rw (p.1, p.2) (stops_reading _ _ _ _ _ _ _
+    _ _ _ _ _ _ _
+    c.loop-session.invariant.so_far c.in_err-read_line.ensures.err)
 
 pub returns-in-None-clause-ok : goal.returns-in-None-clause-ok
 returns-in-None-clause-ok g c =
-    IfSome_then (g.R.LineReader.remaining c.args.reader.now) c.loop-session.invariant.known
-    (λ input so_far.
-    let none : so_far.rest ≡ [] =
-    (at_known _ _ _ so_far.is_left (rw c.in-None.is at c.in_ok-read_line.ensures.exact)).0 in
-    goes_to_end _ _ _ _ _ _ _
-    _ _ _ _ _ _ so_far (inl none) c.status_of.ensures)
+    ends_by_reader _ _ _ _ _ _ _
+    _ _ _ _ _ _ _
+    _ c.loop-session.invariant.so_far (rw c.in-None.is at c.in_ok-read_line.ensures.exact) c.status_of.ensures
 
 pub returns-in-None-clause-few : goal.returns-in-None-clause-few
 returns-in-None-clause-few g c =
-    IfSome_then (g.R.LineReader.remaining c.args.reader.now) c.loop-session.invariant.known
-    (λ input so_far.
-    let none : so_far.rest ≡ [] =
-    (at_known _ _ _ so_far.is_left (rw c.in-None.is at c.in_ok-read_line.ensures.exact)).0 in
-    few_lines _ _ _ _ _ _ _
+    few_by_reader _ _ _ _ _ _ _
     _ _ _ _ _ _ _
-    _ _ so_far (inl none)
-    (at_known _ _ _ so_far.is_left (rw c.in-None.is at c.in_ok-read_line.ensures.exact)).1
-    (c.in_ok-read_line.ensures.interrupted _ c.loop-session.invariant.interrupted))
+    _ _ _ _ c.loop-session.invariant.so_far
+    (rw c.in-None.is at c.in_ok-read_line.ensures.exact) refl
+    (c.in_ok-read_line.ensures.interrupted _ c.loop-session.invariant.interrupted)
 
 pub returns-in_err-end-in-Some-clause-err : goal.returns-in_err-end-in-Some-clause-err
 returns-in_err-end-in-Some-clause-err g c =
     let p = err_from_is_err_and c.from_residual-in_err-end-in-Some.result
     c.from_residual-in_err-end-in-Some.ensures.1 in
-    rw (p.1, p.2) (IfSome_then (g.R.LineReader.remaining c.args.reader.now) c.loop-session.invariant.known
-    (λ input so_far. stops_doing _ _ _ _ _ _ _
+    rw (p.1, p.2) (stops_doing _ _ _ _ _ _ _
     _ _ _ _ _ _ _
-    _ _ _ _ so_far
-    (at_known _ _ _ so_far.is_left (rw c.in-Some.is at c.in_ok-read_line.ensures.exact))
-    (rw c.deref.ensures.value at c.in_err-end-in-Some.ensures.err)))
+    _ _ _ _ _ _
+    c.loop-session.invariant.so_far (rw c.in-Some.is at c.in_ok-read_line.ensures.exact)
+    (rw c.in-Some.is at c.in_ok-read_line.ensures.fewer refl)
+    (rw c.deref.ensures.value at c.in_err-end-in-Some.ensures.err))
 
 pub returns-in_err-end-in-Some-clause-edits : goal.returns-in_err-end-in-Some-clause-edits
 returns-in_err-end-in-Some-clause-edits g c =
@@ -63,30 +52,28 @@ returns-in_err-end-in-Some-clause-edits g c =
 
 pub returns-then-end-clause-ok : goal.returns-then-end-clause-ok
 returns-then-end-clause-ok g c =
-    IfSome_then (g.R.LineReader.remaining c.args.reader.now) c.loop-session.invariant.known
-    (λ input so_far.
-    goes_to_end _ _ _ _ _ _ _
-    _ _ _ _ _ _
+    ends_by_session _ _ _ _ _ _ _
+    _ _ _ _ _ _ _
     (goes_on _ _ _ _ _ _ _
     _ _ _ _ _ _ _
-    _ _ _ _ _ so_far
-    (at_known _ _ _ so_far.is_left (rw c.in-Some.is at c.in_ok-read_line.ensures.exact))
+    _ _ _ _ _ _
+    _ c.loop-session.invariant.so_far (rw c.in-Some.is at c.in_ok-read_line.ensures.exact)
+    (rw c.in-Some.is at c.in_ok-read_line.ensures.fewer refl)
     (rw c.deref.ensures.value at c.in_ok-end-in-Some.ensures.ok))
-    (inr c.if-end.true) c.status_of-then-end.ensures)
+    c.if-end.true c.status_of-then-end.ensures
 
 pub returns-then-end-clause-few : goal.returns-then-end-clause-few
 returns-then-end-clause-few g c =
-    IfSome_then (g.R.LineReader.remaining c.args.reader.now) c.loop-session.invariant.known
-    (λ input so_far.
-    few_lines _ _ _ _ _ _ _
+    few_by_session _ _ _ _ _ _ _
     _ _ _ _ _ _ _
-    _ _
+    _ _ _
     (goes_on _ _ _ _ _ _ _
     _ _ _ _ _ _ _
-    _ _ _ _ _ so_far
-    (at_known _ _ _ so_far.is_left (rw c.in-Some.is at c.in_ok-read_line.ensures.exact))
+    _ _ _ _ _ _
+    _ c.loop-session.invariant.so_far (rw c.in-Some.is at c.in_ok-read_line.ensures.exact)
+    (rw c.in-Some.is at c.in_ok-read_line.ensures.fewer refl)
     (rw c.deref.ensures.value at c.in_ok-end-in-Some.ensures.ok))
-    (inr c.if-end.true) refl (c.in_ok-read_line.ensures.interrupted _ c.loop-session.invariant.interrupted))
+    c.if-end.true refl (c.in_ok-read_line.ensures.interrupted _ c.loop-session.invariant.interrupted)
 
 pub returns-then-end-clause-edits : goal.returns-then-end-clause-edits
 returns-then-end-clause-edits g c =
@@ -95,13 +82,12 @@ returns-then-end-clause-edits g c =
 pub loop-session-preserved : goal.loop-session-preserved
 loop-session-preserved g c =
     record {
-      known = IfSome_then (g.R.LineReader.remaining c.args.reader.now) c.loop-session.invariant.known
-          (λ input so_far.
-          rw (sym c.if-end.false) (goes_on _ _ _ _ _ _ _
+      so_far = rw (sym c.if-end.false) (goes_on _ _ _ _ _ _ _
           _ _ _ _ _ _ _
-          _ _ _ _ _ so_far
-          (at_known _ _ _ so_far.is_left (rw c.in-Some.is at c.in_ok-read_line.ensures.exact))
-          (rw c.deref.ensures.value at c.in_ok-end-in-Some.ensures.ok)));
+          _ _ _ _ _ _
+          _ c.loop-session.invariant.so_far (rw c.in-Some.is at c.in_ok-read_line.ensures.exact)
+          (rw c.in-Some.is at c.in_ok-read_line.ensures.fewer refl)
+          (rw c.deref.ensures.value at c.in_ok-end-in-Some.ensures.ok));
       edits = edited_then _ _ _ _ _ c.loop-session.invariant.edits c.in_ok-end-in-Some.ensures.edits;
       interrupted = c.in_ok-read_line.ensures.interrupted _ c.loop-session.invariant.interrupted;
       failed = no_failure _ _ _ _ _ c.in_ok-read_line.was c.read_line.ensures.failed c.loop-session.invariant.failed;

@@ -1,4 +1,4 @@
-use Rattle.std.proofs.Common.{◌≡◌, ◌+◌, false, IfSome}
+use Rattle.std.proofs.Common.{◌≡◌, ◌+◌, false}
 use Rattle.smf_lines.specs.Faults.{count_after}
 use Rattle.smf_repo.specs.Clients.{IsEditedAlone}
 use Rattle.smf_cfg.specs.Runs.{start_place}
@@ -8,11 +8,10 @@ use Rattle.smf_cfg.proofs.run.run_cfg.Given as goal
 abbrev pub invariant-loop-session : goal.invariant-loop-session
 invariant-loop-session g l =
     record {
-      known : IfSome (g.R.LineReader.remaining l.fn.reader)
-          (λ input. Goes (start_place (g.C.Client.held l.fn.client)) input (g.W.TextWriter.contents l.fn.out)
-          (g.E.TextWriter.contents l.fn.errors) (g.C.Client.held l.client) l.session
-          (g.R.LineReader.remaining l.reader) (g.W.TextWriter.contents l.out)
-          (g.E.TextWriter.contents l.errors) l.is_fine false (l.turns.left + l.turns.interrupted));
+      so_far : Goes (start_place (g.C.Client.held l.fn.client)) (g.R.LineReader.remaining l.fn.reader)
+          (g.R.LineReader.remaining l.reader) (l.turns.left + l.turns.interrupted) l.turns.left
+          (g.W.TextWriter.contents l.fn.out) (g.E.TextWriter.contents l.fn.errors) (g.C.Client.held l.client)
+          l.session (g.W.TextWriter.contents l.out) (g.E.TextWriter.contents l.errors) l.is_fine false;
       edits : IsEditedAlone g.C.Client.held g.C.Client.follows l.fn.client l.client;
       interrupted : g.R.LineReader.interrupted l.reader
           ≡ count_after (g.R.LineReader.interrupted l.fn.reader) l.turns.interrupted;
