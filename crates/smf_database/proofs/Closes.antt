@@ -29,9 +29,9 @@ ended_after Done Ended tells after status files mid new done end (inl (three, sa
 ended_after Done Ended tells after status files mid new done end (inr (other, left, told)) =
     uncopied after status mid (done other) left told
 
--- a store that stands has the schema of one
+-- a store that stands, by its trees
 stands_in : (db : Database) (h : Holdings) → Stands db h → StandsIn db.trees h
-stands_in db h s = subst (λ schema. Stands (record { schema = schema; trees = db.trees }) h) s.holds.schema s
+stands_in db h s = (db.schema, s)
 
 kept_in : (s : State) (h : Holdings) → Keeps s h → StandsIn s.committed.trees h
 kept_in s h k = stands_in s.committed h (subst (λ db. Stands db h) (sym k.settled) k.stands)

@@ -1,15 +1,15 @@
 -- The rows read of the tables before the first that is absent or another.
-use Rattle.std.proofs.Common.{◌≡◌, ◌↔◌, ℕ, Bool, true, false, List, [], ◌∷◌, Option, Some, None, IsTrue, inl, inr, refl, sym, subst, ◌∙◌}
+use Rattle.std.proofs.Common.{◌≡◌, ◌↔◌, ℕ, Bool, true, false, List, [], ◌∷◌, Some, None, IsTrue, inl, inr, refl, sym, subst, ◌∙◌}
 use Rattle.sqlite.specs.Order.{Row}
 use Rattle.sqlite.specs.Schema.{Schema}
 use Rattle.sqlite.specs.Effect.{Database, IsDatabase}
-use Rattle.sqlite.specs.State.{State, IsLive, Survives}
+use Rattle.sqlite.specs.State.{State, IsLive, KeepsCommit, Survives}
 use Rattle.sqlite.proofs.StateLemmas.{survives_then}
-use Rattle.smf_tables.specs.Layout.{Begins, Rest, StandsNamed, StandsSomewhere, begun_1, begun_2, begun_3, begun_4, begun_5, begun_6}
-use Rattle.smf_tables.specs.Scans.{Looks, LooksAtMeta, LooksAtServices, LooksAtInstances, LooksAtGroups, LooksAtSnapshots, LooksAtLaunches, LooksForSnapshots, AreShown}
+use Rattle.smf_tables.specs.Layout.{Begins, IsStore, Rest, StandsNamed, StandsSomewhere, begun_1, begun_2, begun_3, begun_4, begun_5}
+use Rattle.smf_tables.specs.Scans.{Looks, LooksAtMeta, LooksAtServices, LooksAtInstances, LooksAtGroups, LooksAtSnapshots, LooksForSnapshots, AreShown}
 use Rattle.smf_tables.specs.Rows.{AreKeyed}
-use Rattle.smf_tables.specs.Schema.{snap_at, store_schema}
-use Rattle.smf_tables.proofs.Begun.{begins_1, begins_2, begins_3, begins_4, begins_5, begins_6}
+use Rattle.smf_tables.specs.Schema.{snap_at}
+use Rattle.smf_tables.proofs.Begun.{begins_1, begins_2, begins_3, begins_4, begins_5}
 use Rattle.smf_store.specs.declared.judgements.StoreRows.{StoreRows}
 use Rattle.smf_store.specs.declared.refusal.OpenFault.{OpenFault}
 use Rattle.smf_store.specs.declared.refusal.OpenFault.TheVariants.{Memory, Database as Failed, Version, Damaged, TooManyInstances}
@@ -21,64 +21,49 @@ use Rattle.smf_store.specs.Stages.{AreAllKeyed, AreListedBefore, AreLookedFor, A
 
 -- ---- the schema begins with each table before that one
 
-has_1 : (s : Schema) (other : Option StoreTable) → IsFirstOther s other → is_before Meta other ≡ true → Begins begun_1 s
-has_1 s None f b = begins_1 s (f.0.0)
-has_1 s (Some Meta) f b = absurd (let e : false ≡ true = b in cc)
-has_1 s (Some Service) f b = begins_1 s (f.0)
-has_1 s (Some Instance) f b = begins_1 s (f.0.0)
-has_1 s (Some Group) f b = begins_1 s (f.0.0)
-has_1 s (Some Snapshot) f b = begins_1 s (f.0.0)
-has_1 s (Some Restarter) f b = begins_1 s (f.0.0)
+has_1 : (s : Schema) (other : StoreTable) → IsFirstOther s (Some other) → is_before Meta other ≡ true → Begins begun_1 s
+has_1 s Meta f b = absurd (let e : false ≡ true = b in cc)
+has_1 s Service f b = begins_1 s f.0.there
+has_1 s Instance f b = begins_1 s f.0.0.there
+has_1 s Group f b = begins_1 s f.0.0.there
+has_1 s Snapshot f b = begins_1 s f.0.0.there
+has_1 s Restarter f b = begins_1 s f.0.0.there
 
-has_2 : (s : Schema) (other : Option StoreTable) → IsFirstOther s other → is_before Service other ≡ true
+has_2 : (s : Schema) (other : StoreTable) → IsFirstOther s (Some other) → is_before Service other ≡ true
     → Begins begun_2 s
-has_2 s None f b = begins_2 s (f.0.0) (f.0.1)
-has_2 s (Some Meta) f b = absurd (let e : false ≡ true = b in cc)
-has_2 s (Some Service) f b = absurd (let e : false ≡ true = b in cc)
-has_2 s (Some Instance) f b = begins_2 s (f.0.0) (f.0.1)
-has_2 s (Some Group) f b = begins_2 s (f.0.0) (f.0.1)
-has_2 s (Some Snapshot) f b = begins_2 s (f.0.0) (f.0.1)
-has_2 s (Some Restarter) f b = begins_2 s (f.0.0) (f.0.1)
+has_2 s Meta f b = absurd (let e : false ≡ true = b in cc)
+has_2 s Service f b = absurd (let e : false ≡ true = b in cc)
+has_2 s Instance f b = begins_2 s f.0.0.there f.0.1.there
+has_2 s Group f b = begins_2 s f.0.0.there f.0.1.there
+has_2 s Snapshot f b = begins_2 s f.0.0.there f.0.1.there
+has_2 s Restarter f b = begins_2 s f.0.0.there f.0.1.there
 
-has_3 : (s : Schema) (other : Option StoreTable) → IsFirstOther s other → is_before Instance other ≡ true
+has_3 : (s : Schema) (other : StoreTable) → IsFirstOther s (Some other) → is_before Instance other ≡ true
     → Begins begun_3 s
-has_3 s None f b = begins_3 s (f.0.0) (f.0.1) (f.0.2)
-has_3 s (Some Meta) f b = absurd (let e : false ≡ true = b in cc)
-has_3 s (Some Service) f b = absurd (let e : false ≡ true = b in cc)
-has_3 s (Some Instance) f b = absurd (let e : false ≡ true = b in cc)
-has_3 s (Some Group) f b = begins_3 s (f.0.0) (f.0.1) (f.0.2)
-has_3 s (Some Snapshot) f b = begins_3 s (f.0.0) (f.0.1) (f.0.2)
-has_3 s (Some Restarter) f b = begins_3 s (f.0.0) (f.0.1) (f.0.2)
+has_3 s Meta f b = absurd (let e : false ≡ true = b in cc)
+has_3 s Service f b = absurd (let e : false ≡ true = b in cc)
+has_3 s Instance f b = absurd (let e : false ≡ true = b in cc)
+has_3 s Group f b = begins_3 s f.0.0.there f.0.1.there f.0.2.there
+has_3 s Snapshot f b = begins_3 s f.0.0.there f.0.1.there f.0.2.there
+has_3 s Restarter f b = begins_3 s f.0.0.there f.0.1.there f.0.2.there
 
-has_4 : (s : Schema) (other : Option StoreTable) → IsFirstOther s other → is_before Group other ≡ true
+has_4 : (s : Schema) (other : StoreTable) → IsFirstOther s (Some other) → is_before Group other ≡ true
     → Begins begun_4 s
-has_4 s None f b = begins_4 s (f.0.0) (f.0.1) (f.0.2) (f.0.3)
-has_4 s (Some Meta) f b = absurd (let e : false ≡ true = b in cc)
-has_4 s (Some Service) f b = absurd (let e : false ≡ true = b in cc)
-has_4 s (Some Instance) f b = absurd (let e : false ≡ true = b in cc)
-has_4 s (Some Group) f b = absurd (let e : false ≡ true = b in cc)
-has_4 s (Some Snapshot) f b = begins_4 s (f.0.0) (f.0.1) (f.0.2) (f.0.3)
-has_4 s (Some Restarter) f b = begins_4 s (f.0.0) (f.0.1) (f.0.2) (f.0.3)
+has_4 s Meta f b = absurd (let e : false ≡ true = b in cc)
+has_4 s Service f b = absurd (let e : false ≡ true = b in cc)
+has_4 s Instance f b = absurd (let e : false ≡ true = b in cc)
+has_4 s Group f b = absurd (let e : false ≡ true = b in cc)
+has_4 s Snapshot f b = begins_4 s f.0.0.there f.0.1.there f.0.2.there f.0.3.there
+has_4 s Restarter f b = begins_4 s f.0.0.there f.0.1.there f.0.2.there f.0.3.there
 
-has_5 : (s : Schema) (other : Option StoreTable) → IsFirstOther s other → is_before Snapshot other ≡ true
+has_5 : (s : Schema) (other : StoreTable) → IsFirstOther s (Some other) → is_before Snapshot other ≡ true
     → Begins begun_5 s
-has_5 s None f b = begins_5 s (f.0.0) (f.0.1) (f.0.2) (f.0.3) (f.0.4)
-has_5 s (Some Meta) f b = absurd (let e : false ≡ true = b in cc)
-has_5 s (Some Service) f b = absurd (let e : false ≡ true = b in cc)
-has_5 s (Some Instance) f b = absurd (let e : false ≡ true = b in cc)
-has_5 s (Some Group) f b = absurd (let e : false ≡ true = b in cc)
-has_5 s (Some Snapshot) f b = absurd (let e : false ≡ true = b in cc)
-has_5 s (Some Restarter) f b = begins_5 s (f.0.0) (f.0.1) (f.0.2) (f.0.3) (f.0.4)
-
-has_6 : (s : Schema) (other : Option StoreTable) → IsFirstOther s other → is_before Restarter other ≡ true
-    → Begins begun_6 s
-has_6 s None f b = begins_6 s (f.0.0) (f.0.1) (f.0.2) (f.0.3) (f.0.4) (f.1)
-has_6 s (Some Meta) f b = absurd (let e : false ≡ true = b in cc)
-has_6 s (Some Service) f b = absurd (let e : false ≡ true = b in cc)
-has_6 s (Some Instance) f b = absurd (let e : false ≡ true = b in cc)
-has_6 s (Some Group) f b = absurd (let e : false ≡ true = b in cc)
-has_6 s (Some Snapshot) f b = absurd (let e : false ≡ true = b in cc)
-has_6 s (Some Restarter) f b = absurd (let e : false ≡ true = b in cc)
+has_5 s Meta f b = absurd (let e : false ≡ true = b in cc)
+has_5 s Service f b = absurd (let e : false ≡ true = b in cc)
+has_5 s Instance f b = absurd (let e : false ≡ true = b in cc)
+has_5 s Group f b = absurd (let e : false ≡ true = b in cc)
+has_5 s Snapshot f b = absurd (let e : false ≡ true = b in cc)
+has_5 s Restarter f b = begins_5 s f.0.0.there f.0.1.there f.0.2.there f.0.3.there f.0.4.there
 
 -- ---- one look, which may be left out
 
@@ -134,35 +119,31 @@ module _ (rows : List Row) (a p n : State) where
   }
 
   module _ (are_there : Bool) (has : IsTrue are_there ↔ StandsSomewhere a.now.schema snap_at) (is : p.now ≡ a.now) (back : IsTrue p.is_open → IsTrue a.is_open) (live : IsLive a) where
-    same_snapshots : (other : Option StoreTable) → IsFirstOther a.now.schema other
+    same_snapshots : (other : StoreTable) → IsFirstOther a.now.schema (Some other)
         → LooksIf (reads_snapshots other are_there) LooksAtSnapshots p n rows
         → LooksIf (reads_snapshots other are_there) LooksForSnapshots p n rows → n.now ≡ a.now
-    same_snapshots (Some Group) first l named = same_named are_there has named is back live
-    same_snapshots None first l named =
-        same_if begun_5 8 (0 ∷ 0 ∷ 2 ∷ 3 ∷ []) rows a p n true (has_5 a.now.schema None first) l is
-    same_snapshots (Some Meta) first l named = l.0 ∙ is
-    same_snapshots (Some Service) first l named = l.0 ∙ is
-    same_snapshots (Some Instance) first l named = l.0 ∙ is
-    same_snapshots (Some Snapshot) first l named = l.0 ∙ is
-    same_snapshots (Some Restarter) first l named =
-        same_if begun_5 8 (0 ∷ 0 ∷ 2 ∷ 3 ∷ []) rows a p n true (has_5 a.now.schema (Some Restarter) first) l is
+    same_snapshots Group first l named = same_named are_there has named is back live
+    same_snapshots Meta first l named = l.0 ∙ is
+    same_snapshots Service first l named = l.0 ∙ is
+    same_snapshots Instance first l named = l.0 ∙ is
+    same_snapshots Snapshot first l named = l.0 ∙ is
+    same_snapshots Restarter first l named =
+        same_if begun_5 8 (0 ∷ 0 ∷ 2 ∷ 3 ∷ []) rows a p n true (has_5 a.now.schema Restarter first) l is
 
-    are_snapshots : (other : Option StoreTable) → IsFirstOther a.now.schema other
+    are_snapshots : (other : StoreTable) → IsFirstOther a.now.schema (Some other)
         → LooksIf (reads_snapshots other are_there) LooksAtSnapshots p n rows
         → LooksIf (reads_snapshots other are_there) LooksForSnapshots p n rows → AreKeyed rows
         → AreSnapshots other a.now rows
-    are_snapshots (Some Group) first l named keyed = looked_for are_there has named is back live keyed
-    are_snapshots None first l named keyed =
-        listed_if begun_5 8 (0 ∷ 0 ∷ 2 ∷ 3 ∷ []) rows a p n true (has_5 a.now.schema None first) l is back live keyed
-    are_snapshots (Some Meta) first l named keyed = l.2
-    are_snapshots (Some Service) first l named keyed = l.2
-    are_snapshots (Some Instance) first l named keyed = l.2
-    are_snapshots (Some Snapshot) first l named keyed = l.2
-    are_snapshots (Some Restarter) first l named keyed =
+    are_snapshots Group first l named keyed = looked_for are_there has named is back live keyed
+    are_snapshots Meta first l named keyed = l.2
+    are_snapshots Service first l named keyed = l.2
+    are_snapshots Instance first l named keyed = l.2
+    are_snapshots Snapshot first l named keyed = l.2
+    are_snapshots Restarter first l named keyed =
         listed_if begun_5 8 (0 ∷ 0 ∷ 2 ∷ 3 ∷ []) rows a p n true
-        (has_5 a.now.schema (Some Restarter) first) l is back live keyed
+        (has_5 a.now.schema Restarter first) l is back live keyed
 
-pub lists_before : (a b c d e f g : State) (other : Option StoreTable) (are_there : Bool) (rows : StoreRows)
+pub lists_before : (a b c d e f : State) (other : StoreTable) (are_there : Bool) (rows : StoreRows)
     → AreAllKeyed rows
     → LooksIf (is_before Meta other) LooksAtMeta a b rows.counts.items
     → LooksIf (is_before Service other) LooksAtServices b c rows.services.items
@@ -170,16 +151,15 @@ pub lists_before : (a b c d e f g : State) (other : Option StoreTable) (are_ther
     → LooksIf (is_before Group other) LooksAtGroups d e rows.groups.items
     → LooksIf (reads_snapshots other are_there) LooksAtSnapshots e f rows.snapshots.items
     → LooksIf (reads_snapshots other are_there) LooksForSnapshots e f rows.snapshots.items
-    → LooksIf (is_before Restarter other) LooksAtLaunches f g rows.launches.items
-    → IsFirstOther a.now.schema other → (IsTrue are_there ↔ StandsSomewhere a.now.schema snap_at) → IsLive a
+    → rows.launches.items ≡ []
+    → IsFirstOther a.now.schema (Some other) → (IsTrue are_there ↔ StandsSomewhere a.now.schema snap_at) → IsLive a
     → AreListedBefore other rows a.now
-lists_before a b c d e f g other are_there rows keyed one two three four five named six first has live =
+lists_before a b c d e f other are_there rows keyed one two three four five named none first has live =
     let s = a.now.schema in
     let h1 = has_1 s other first in
     let h2 = has_2 s other first in
     let h3 = has_3 s other first in
     let h4 = has_4 s other first in
-    let h6 = has_6 s other first in
     let sb = same_if begun_1 0 (0 ∷ 1 ∷ 2 ∷ []) rows.counts.items a a b (is_before Meta other) h1 one refl in
     let sc = same_if begun_2 2 (0 ∷ 1 ∷ []) rows.services.items a b c (is_before Service other) h2 two sb in
     let sd = same_if begun_3 4 (0 ∷ 0 ∷ 2 ∷ 3 ∷ 4 ∷ 5 ∷ 6 ∷ []) rows.instances.items a c d
@@ -190,9 +170,6 @@ lists_before a b c d e f g other are_there rows keyed one two three four five na
     let od = open_if begun_3 4 (0 ∷ 0 ∷ 2 ∷ 3 ∷ 4 ∷ 5 ∷ 6 ∷ []) rows.instances.items a c d
     (is_before Instance other) three oc in
     let oe = open_if begun_4 6 (0 ∷ 1 ∷ 2 ∷ 3 ∷ 4 ∷ []) rows.groups.items a d e (is_before Group other) four od in
-    let of = open_if begun_5 8 (0 ∷ 0 ∷ 2 ∷ 3 ∷ []) rows.snapshots.items a e f
-    (reads_snapshots other are_there) five oe in
-    let sf = same_snapshots rows.snapshots.items a e f are_there has se oe live other first five named in
     record {
       counts = listed_if begun_1 0 (0 ∷ 1 ∷ 2 ∷ []) rows.counts.items a a b (is_before Meta other) h1 one refl
           (λ o. o) live keyed.counts;
@@ -204,25 +181,35 @@ lists_before a b c d e f g other are_there rows keyed one two three four five na
           (is_before Group other) h4 four sd od live keyed.groups;
       snapshots = are_snapshots rows.snapshots.items a e f are_there has se oe live other first five named
           keyed.snapshots;
-      launches = listed_if begun_6 9 (0 ∷ 1 ∷ 2 ∷ []) rows.launches.items a f g
-          (is_before Restarter other) h6 six sf of live keyed.launches;
+      launches = none;
     }
 
 none_left : (a b c : State) → Survives a b (λ _. ⊥) → Survives b c (λ _. ⊥) → Survives a c (λ _. ⊥)
 none_left a b c one two = survives_then a b c (λ _. ⊥) (λ _. ⊥) (λ _. ⊥) (λ _ db none. none) (λ _ db none. none) one two
 
-pub none_left_six : (a b c d e f g : State) → Survives a b (λ _. ⊥) → Survives b c (λ _. ⊥) → Survives c d (λ _. ⊥)
-    → Survives d e (λ _. ⊥) → Survives e f (λ _. ⊥) → Survives f g (λ _. ⊥) → Survives a g (λ _. ⊥)
-none_left_six a b c d e f g one two three four five six =
-    none_left a b g one (none_left b c g two (none_left c d g three (none_left d e g four (none_left e f g five six))))
+pub none_left_five : (a b c d e f : State) → Survives a b (λ _. ⊥) → Survives b c (λ _. ⊥) → Survives c d (λ _. ⊥)
+    → Survives d e (λ _. ⊥) → Survives e f (λ _. ⊥) → Survives a f (λ _. ⊥)
+none_left_five a b c d e f one two three four five =
+    none_left a b f one (none_left b c f two (none_left c d f three (none_left d e f four five)))
+
+kept_then : (a b c : State) → KeepsCommit a b → KeepsCommit b c → KeepsCommit a c
+kept_then a b c one two = record {
+  was_open = λ o. one.was_open (two.was_open o);
+  committed = λ o. two.committed o ∙ one.committed (two.was_open o);
+}
+
+pub kept_five : (a b c d e f : State) → KeepsCommit a b → KeepsCommit b c → KeepsCommit c d → KeepsCommit d e
+    → KeepsCommit e f → KeepsCommit a f
+kept_five a b c d e f one two three four five =
+    kept_then a b f one (kept_then b c f two (kept_then c d f three (kept_then d e f four five)))
 
 -- ---- what is told
 
-said_before_by : (other : Option StoreTable) (db : Database) (rows : StoreRows) (told : OpenFault)
+said_before_by : (other : StoreTable) (db : Database) (rows : StoreRows) (told : OpenFault)
     → AreListedBefore other rows db → told ≡ first_broken other (verdict_on_rows rows) → IsSaidBefore other db told
 said_before_by other db rows told listed said = inr (record { rows = rows; listed = listed; said = said })
 
-pub said_before : (other : Option StoreTable) (db : Database) (rows : StoreRows) (told : OpenFault)
+pub said_before : (other : StoreTable) (db : Database) (rows : StoreRows) (told : OpenFault)
     → AreListedBefore other rows db → IsBroken told (first_broken other (verdict_on_rows rows))
     → IsSaidBefore other db told
 said_before other db rows Memory listed broken = inl tt
@@ -231,7 +218,18 @@ said_before other db rows (Version n) listed broken = said_before_by other db ro
 said_before other db rows (Damaged table) listed broken = said_before_by other db rows (Damaged table) listed broken
 said_before other db rows TooManyInstances listed broken = said_before_by other db rows TooManyInstances listed broken
 
-pub refused_before : (db : Database) (e : OpenFault) (other : Option StoreTable) → (db.schema ≡ store_schema → ⊥)
-    → IsFirstOther db.schema other → IsSaidBefore other db e → IsRefused db e
-refused_before db e other another first (inl failure) = inl failure
-refused_before db e other another first (inr said) = inr (inl (another, other, first, said))
+pub refused_before : (db : Database) (e : OpenFault) (other : StoreTable) → IsFirstOther db.schema (Some other)
+    → IsSaidBefore other db e → IsRefused db e
+refused_before db e other first (inl failure) = inl failure
+refused_before db e other first (inr said) = inr (inl (other, first, said))
+
+-- if none of the six is absent or another, it is a store
+pub all_there : (s : Schema) → IsFirstOther s None → IsStore s
+all_there s there = record {
+  meta = there.0.0;
+  service = there.0.1;
+  instance = there.0.2;
+  grp = there.0.3;
+  snap = there.0.4;
+  restarter = there.1;
+}

@@ -13,20 +13,22 @@ use Rattle.sqlite.specs.Effect.{Database, IsDatabase}
 use Rattle.sqlite.specs.Listing.{understood}
 use Rattle.sqlite.specs.State.{State, Shows, Writes, Executes, ExecutesInside}
 use Rattle.sqlite.proofs.Callers.{IsPlain, command_of, statement_of, runs_as}
+use Rattle.smf_tables.specs.Layout.{IsStore}
 use Rattle.smf_tables.specs.Rows.{IsKeyed}
 use Rattle.smf_tables.specs.Schema as tables
 use Rattle.smf_tables.specs.Schema.{no_schema, one_table, two_tables, three_tables, four_tables, five_tables, store_schema}
 use Rattle.smf_tables.specs.Statements.{AddsMeta}
+use Rattle.smf_tables.proofs.Begun.{new_is_store}
 use Rattle.smf_tables.proofs.Changes.{went, same_value}
 use Rattle.smf_tables.proofs.Creates as texts
 use Rattle.smf_model.specs.Look.{empty}
 use Rattle.smf_model.proofs.LawNumbers.{first_numbers}
 use Rattle.smf_store.specs.Creation.{AreBare, Creates, Counts, Made, MayMake}
 use Rattle.smf_model.specs.Contents.{Holdings}
-use Rattle.smf_store.specs.Holds.{Listed, Stands, StandsIn, Counted}
+use Rattle.smf_store.specs.Holds.{Listed, Stands, StandsUnder, Counted}
 use Rattle.smf_store.specs.Shown.{Counter, Version, Layout, Revision, NextInstance, NextSnapshot, Count, count_of, HasCount, HasGroup, of_service, of_instance, OwnedGroup}
 use Rattle.smf_store.proofs.Makes.{shows_then}
-use Rattle.smf_store.proofs.Six.{Six, Presents, holds}
+use Rattle.smf_store.proofs.Six.{Six, Presents, holds, holds_own}
 use Rattle.smf_store.proofs.Statements as step
 use Rattle.smf_store.proofs.Tables.{becomes, counts_become}
 
@@ -197,9 +199,9 @@ none = record {
   launches = λ x. ⊥;
 }
 
-presents_none : (db : Database) → AreBare store_schema db → IsDatabase db → Presents db none
+presents_none : (db : Database) → AreBare store_schema db → IsDatabase db → Presents store_schema db none
 presents_none db bare sound = record {
-  schema = bare.has;
+  schema = record { store = subst IsStore (sym bare.has) new_is_store; same = bare.has };
   sound = sound;
   counts = counted_none (db.trees 0) bare.rows.0;
   services = listed_none _ (db.trees 2) bare.rows.1.0;
@@ -255,58 +257,61 @@ counts_all a b c d e f one two three four five = record {
       let p2 = step.add_count b c _ p1 (first_count Layout) two in
       let p3 = step.add_count c d _ p2 (first_count Revision) three in
       let p4 = step.add_count d e _ p3 (first_count NextInstance) four in
-      let p5 = step.add_count e f _ p4 (first_count NextSnapshot) five in
-      record {
-        holds = holds f.now empty (record {
-          schema = p5.schema;
-          sound = p5.sound;
-          counts = counts_become p5.counts count_forth (λ x m. count_back_by x.counter x.value m);
-          services = becomes p5.services (λ x m. absurd m) (λ x m. clash m.0 m.1);
-          instances = becomes p5.instances (λ x m. absurd m) (λ x m. clash m.0 m.1);
-          groups = becomes p5.groups (λ x m. absurd m) no_group;
-          snapshots = becomes p5.snapshots (λ x m. absurd m) (λ x m. clash x m);
-          launches = becomes p5.launches (λ x m. absurd m) (λ x m. clash x m);
-        }) (record {
-          ordered = record { services = tt; instances = tt; names = tt; snapshots = tt; launches = tt };
-          service_groups = λ name s e. absurd (clash s e);
-          instance_groups =
-              λ n x e. absurd (clash x e);
-          none_at_zero = refl;
-        });
-        numbered = first_numbers;
-      };
+      let p5 = step.add_count e f _ p4 (first_count NextSnapshot) five in (
+        record {
+          holds = holds_own f.now empty (holds f.now empty (record {
+            schema = p5.schema;
+            sound = p5.sound;
+            counts = counts_become p5.counts count_forth (λ x m. count_back_by x.counter x.value m);
+            services = becomes p5.services (λ x m. absurd m) (λ x m. clash m.0 m.1);
+            instances = becomes p5.instances (λ x m. absurd m) (λ x m. clash m.0 m.1);
+            groups = becomes p5.groups (λ x m. absurd m) no_group;
+            snapshots = becomes p5.snapshots (λ x m. absurd m) (λ x m. clash x m);
+            launches = becomes p5.launches (λ x m. absurd m) (λ x m. clash x m);
+          }) (record {
+            ordered = record { services = tt; instances = tt; names = tt; snapshots = tt; launches = tt };
+            service_groups = λ name s e. absurd (clash s e);
+            instance_groups =
+                λ n x e. absurd (clash x e);
+            none_at_zero = refl;
+          }));
+          numbered = first_numbers;
+        },
+        p5.schema.same,
+      );
 }
 
 -- ---- the transaction
 
 pub stands_made : (begun mid last : State) → Creates no_schema store_schema begun mid → Counts mid last
-    → begun.now.schema ≡ no_schema → Stands last.now empty
+    → begun.now.schema ≡ no_schema → Stands last.now empty × (last.now.schema ≡ store_schema)
 stands_made begun mid last one two has = let it = one.made (record { has = has; rows = tt }) in two.made it.0 it.1
 
 pub made_store : (old begun mid last end : State) → begun.now ≡ old.now → Creates no_schema store_schema begun mid
     → Counts mid last → Shows last end last.now last.now false → Made old end
 made_store old begun mid last end now one two s = record {
   is_open = s.is_open;
+  schema = λ has. ap (λ (d : Database). d.schema) s.now_is
+      ∙ (stands_made begun mid last one two (ap (λ (d : Database). d.schema) now ∙ has)).1;
   keeps = λ has.
       record {
         stands = subst (λ d. Stands d empty) (sym s.now_is)
-            (stands_made begun mid last one two (ap (λ (d : Database). d.schema) now ∙ has));
+            (stands_made begun mid last one two (ap (λ (d : Database). d.schema) now ∙ has)).0;
         settled =
             s.committed_is ∙ sym s.now_is;
       };
 }
 
--- a store is known by its trees
-pub stands_in : (db : Database) (trees : Trees) (h : Holdings) → Stands db h → trees ≡ db.trees → StandsIn trees h
-stands_in db trees h st is =
-    let same : ◌≡◌ {A = Database} db (record { schema = store_schema; trees = trees }) =
-    ap₂ (λ a b. record { schema = a; trees = b }) st.holds.schema (sym is) in
+-- a store is known by its schema and its trees
+pub stands_in : (db : Database) (schema : Schema) (trees : Trees) (h : Holdings) → Stands db h → db.schema ≡ schema
+    → trees ≡ db.trees → StandsUnder schema trees h
+stands_in db schema trees h st under is =
+    let same : ◌≡◌ {A = Database} db (record { schema = schema; trees = trees }) =
+    ap₂ (λ a b. record { schema = a; trees = b }) under (sym is) in
     subst (λ d. Stands d h) same st
 
 pub may_make : (old begun mid last : State) (db : Trees) → old.now.schema ≡ no_schema → begun.now ≡ old.now
     → Creates no_schema store_schema begun mid → Counts mid last → db ≡ last.now.trees → MayMake old db
-may_make old begun mid last db has now one two is = record {
-  was_empty = has;
-  stands = stands_in last.now db empty
-      (stands_made begun mid last one two (ap (λ (d : Database). d.schema) now ∙ has)) is;
-}
+may_make old begun mid last db has now one two is =
+    let it = stands_made begun mid last one two (ap (λ (d : Database). d.schema) now ∙ has) in
+    record { was_empty = has; stands = stands_in last.now store_schema db empty it.0 it.1 is }

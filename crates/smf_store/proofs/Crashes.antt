@@ -1,20 +1,22 @@
 -- The files that a crash of an open may leave, by what stood in the database.
-use Rattle.std.proofs.Common.{◌≡◌, ℕ, pos, Some, refl, sym, ap, ◌∙◌, arith, length}
+use Rattle.std.proofs.Common.{◌≡◌, ℕ, pos, Some, refl, sym, subst, ◌∙◌, arith}
 use Rattle.sqlite.specs.declared.types.Value.TheVariants.{Int, Text}
 use Rattle.sqlite.specs.Schema.{Schema}
 use Rattle.sqlite.specs.State.{State}
 use Rattle.sqlite.specs.Tree.{Trees}
-use Rattle.smf_tables.specs.Schema.{no_schema, store_schema}
+use Rattle.smf_tables.specs.Layout.{IsStore, StandsAt}
+use Rattle.smf_tables.specs.Schema.{meta, no_schema, store_schema}
 use Rattle.smf_model.specs.Contents.{Holdings}
 use Rattle.smf_model.specs.Look.{empty}
-use Rattle.smf_store.specs.Holds.{Stands, StandsFirst, StandsIn}
+use Rattle.smf_store.specs.Holds.{Stands, StandsFirst, StandsUnder}
 use Rattle.smf_store.specs.Opens.{MayOpen, of_empty, of_second, of_first}
 use Rattle.smf_store.proofs.Makes.{some_is}
 use Rattle.smf_store.specs.Shown.{Counter, Version, Layout, Revision, NextInstance, NextSnapshot, Count, counter_text, first_count_of}
 
 -- a store has tables
-none_there : (s : Schema) → s ≡ no_schema → s ≡ store_schema → ⊥
-none_there s none all = let six : 0 ≡ 6 = ap (λ (z : Schema). length z.tables) (sym none ∙ all) in omega (arith, six)
+none_there : (s : Schema) → s ≡ no_schema → IsStore s → ⊥
+none_there s none store = absurd (let first : StandsAt no_schema 0 meta =
+    subst (λ z. StandsAt z 0 meta) none store.meta.there in cc)
 
 -- a store of the first version is none of the second
 module _ (old : State) (h k : Holdings) (second : Stands old.now h) (first : StandsFirst old.now k) where
@@ -41,12 +43,12 @@ module _ (old : State) (h k : Holdings) (second : Stands old.now h) (first : Sta
 
 module _ (old : State) (trees : Trees) (left : MayOpen old trees) where
   -- an empty database: a store of the empty value
-  pub after_empty : old.now.schema ≡ no_schema → StandsIn trees empty
+  pub after_empty : old.now.schema ≡ no_schema → StandsUnder store_schema trees empty
   after_empty none = by left
     where
-      by : MayOpen old trees → StandsIn trees empty
+      by : MayOpen old trees → StandsUnder store_schema trees empty
       by (of_empty schema stands) = stands
-      by (of_second h stands is) = absurd (none_there old.now.schema none stands.holds.schema)
+      by (of_second h stands is) = absurd (none_there old.now.schema none stands.holds.schema.store)
       by (of_first h stands after) = absurd (none_there old.now.schema none stands.schema)
 
   -- a store of the second version: what stood there
@@ -54,7 +56,7 @@ module _ (old : State) (trees : Trees) (left : MayOpen old trees) where
   after_second h stands = by left
     where
       by : MayOpen old trees → trees ≡ old.now.trees
-      by (of_empty schema made) = absurd (none_there old.now.schema schema stands.holds.schema)
+      by (of_empty schema made) = absurd (none_there old.now.schema schema stands.holds.schema.store)
       by (of_second k was is) = is
       by (of_first k was after) = absurd (two_versions old h k stands was)
 

@@ -8,6 +8,7 @@ use Rattle.smf_model.specs.Look.{holdings_after_changes}
 use Rattle.smf_store.specs.Holds.{Stands, IsSound, Keeps, Could}
 use Rattle.smf_store.specs.Steps.{MayCommit, Wrote, Kept}
 use Rattle.smf_store.specs.Unique.{leaves_one}
+use Rattle.smf_store.proofs.Six.{holds_own}
 
 pub write_keeps : (changes : List Change) (old new : State) → Wrote changes old new
     → (HasCleanDisk new → HasCleanDisk old) → (h : Holdings) → IsNumbered (holdings_after_changes h changes)
@@ -16,8 +17,9 @@ pub write_keeps : (changes : List Change) (old new : State) → Wrote changes ol
 write_keeps changes old new w clean h numbered keeps sound =
     record {
       stands = record {
-        holds = w.made h
-            (keeps (record { clean = clean sound.clean; is_open = w.was_open })).stands.holds;
+        holds = holds_own new.now (holdings_after_changes h changes)
+            (w.made old.now.schema h
+            (keeps (record { clean = clean sound.clean; is_open = w.was_open })).stands.holds);
         numbered = numbered;
       };
       settled = w.settled;
@@ -41,7 +43,8 @@ crash_leaves changes old new s h numbered keeps found may =
       | inr made ↦ inr
           (leaves_one made.1 may.1 (holdings_after_changes h changes) found
           (record {
-            holds = made.2 h (keeps (record { clean = clean; is_open = made.0 })).stands.holds;
+            holds = holds_own made.1 (holdings_after_changes h changes)
+                (made.2 old.now.schema h (keeps (record { clean = clean; is_open = made.0 })).stands.holds);
             numbered = numbered;
           }) made.3 may.3)
     ]

@@ -5,6 +5,7 @@ use Rattle.std.proofs.lemmas.Map.Entries.{option_filter}
 use Rattle.sqlite.specs.declared.types.Value.{Value}
 use Rattle.sqlite.specs.declared.types.Value.TheVariants.{Int, Text}
 use Rattle.sqlite.specs.Effect.{Database}
+use Rattle.sqlite.specs.Schema.{Schema}
 use Rattle.sqlite.specs.State.{State, Shows}
 use Rattle.sqlite.specs.Tree.{Trees}
 use Rattle.smf_fmri.specs.ByKey.{Rises, amend, lookup, list_with_item, without}
@@ -32,7 +33,7 @@ use Rattle.smf_model.proofs.Order.{ordered_after}
 use Rattle.smf_store.specs.declared.counter_rows.StoreVersion.{StoreVersion}
 use Rattle.smf_store.specs.declared.counter_rows.StoreVersion.TheVariants as versions
 use Rattle.smf_store.specs.Shown.{Counter, Version, Layout, Revision, NextInstance as NextInstanceIs, NextSnapshot as NextSnapshotIs, Count, count_of, counter_text, first_count_of, HasCount, HasCountIn, HasService, HasInstance, ShowsInstance, IsSplit, OwnedGroup, HasGroup, of_service, of_instance, HasSnapshot, ShowsSnapshot, HasLaunch}
-use Rattle.smf_store.specs.Holds.{Holds, IsArranged}
+use Rattle.smf_store.specs.Holds.{HoldsUnder, IsArranged}
 use Rattle.smf_store.specs.Steps.{AddsRow, GrowsAll, Makes}
 use Rattle.smf_store.proofs.Found.{found_has, has_found}
 use Rattle.smf_store.proofs.Members.{put_cases, put_here, put_other, without_cases, without_other, amend_cases, amend_here, amend_other, one_or_other}
@@ -166,7 +167,7 @@ pub makes_service : (a b c d e : State) (s : Service) → Rises by_group s.group
     → Makes (AddService s) a e
 makes_service a b c d e s rises one two three four = record {
   shows = shows_then a d e (shows_then a c d (shows_then a b c one.shows two.shows) three.shows) four.shows;
-  made = λ h p.
+  made = λ schema h p.
       let m0 = six_of h in
       let p1 = step.drop_groups a b m0 (presents a.now h p) s.name 0 one in
       let p2 = step.drop_service b c _ p1 s.name two in
@@ -212,7 +213,7 @@ pub makes_no_service : (a b c : State) (name : List ℕ) → DropsServiceGroups 
     → Makes (DropService name) a c
 makes_no_service a b c name one two = record {
   shows = shows_then a b c one.shows two.shows;
-  made = λ h p.
+  made = λ schema h p.
       let m0 = six_of h in
       let p1 = step.drop_groups a b m0 (presents a.now h p) name 0 one in
       let p2 = step.drop_service b c _ p1 name two in
@@ -329,7 +330,7 @@ pub record IsFound (h : Holdings) (n : ℕ) (front behind : List ℕ) : Type 0 w
 text_is : (a b : List ℕ) → ◌≡◌ {A = Value} (Text a) (Text b) → a ≡ b
 text_is a b h = cc
 
-found_entry : (db : Database) (h : Holdings) (n : ℕ) (it : NameColumns) → Holds db h
+found_entry : {s : Schema} (db : Database) (h : Holdings) (n : ℕ) (it : NameColumns) → HoldsUnder s db h
     → HasRow (db.trees 4) (equal 0 0 ∷ []) (Int (pos n) ∷ []) (ShowsName it)
     → IsFound h n (string_bytes it.service) (string_bytes it.name)
 found_entry db h n it p f =
@@ -348,14 +349,15 @@ found_entry db h n it p f =
           ∙ ap₂ (λ u v. u ++ 58 ∷ v) (sym front) (sym behind);
     }
 
-found_service : (db : Database) (h : Holdings) (name : List ℕ) → Holds db h
+found_service : {s : Schema} (db : Database) (h : Holdings) (name : List ℕ) → HoldsUnder s db h
     → HasRow (db.trees 2) (equal 1 0 ∷ []) (Text name ∷ []) (λ r. Unit {0}) → HasService h name
 found_service db h name p f =
     let x = p.show.services.only f.row f.there in
     subst (HasService h) (step.text_found f.row x.0 name x.2 f.picked) x.1
 
-looked : (a b : State) (h : Holdings) {Seen : Trees → Type 0} → Sees Seen a b → Holds a.now h → Holds b.now h
-looked a b h sees p = subst (λ (db : Database). Holds db h) (sym (sees.same p.schema)) p
+looked : {s : Schema} (a b : State) (h : Holdings) {Seen : Trees → Type 0} → Sees Seen a b → HoldsUnder s a.now h
+    → HoldsUnder s b.now h
+looked {s} a b h sees p = subst (λ (db : Database). HoldsUnder s db h) (sym (sees.same p.schema.store)) p
 
 -- the groups of an instance are those that its service and its number find
 own_forth : (h : Holdings) (n : ℕ) (front behind : List ℕ) → 0 < n → IsFound h n front behind → (x : OwnedGroup)
@@ -375,13 +377,13 @@ own_back h n front x m = (m.0, λ both. m.1 both.1)
 -- ---- an instance that goes
 
 -- if no row has the number, nothing has it
-none_has : (db : Database) (h : Holdings) (n : ℕ) → Holds db h
+none_has : {s : Schema} (db : Database) (h : Holdings) (n : ℕ) → HoldsUnder s db h
     → HasNoRow (db.trees 4) (equal 0 0 ∷ []) (Int (pos n) ∷ []) → (i : Instance) → HasInstance h i → i.number ≡ n → ⊥
 none_has db h n p none i m =
     let s = p.show.instances.there i m in
     step.id_kept s.0 i.number n s.2.number_is (none s.0 s.1)
 
-none_owns : (db : Database) (h : Holdings) (n : ℕ) → 0 < n → Holds db h
+none_owns : {s : Schema} (db : Database) (h : Holdings) (n : ℕ) → 0 < n → HoldsUnder s db h
     → HasNoRow (db.trees 4) (equal 0 0 ∷ []) (Int (pos n) ∷ []) → (x : OwnedGroup) → HasGroup h x → x.number ≡ n → ⊥
 none_owns db h n above p none x (of_service nought t e m) same = omega (arith, above, nought, same)
 none_owns db h n above p none x (of_instance some e g s m) same =
@@ -399,8 +401,8 @@ gone h n db above it = record {
 pub makes_nothing : (a b : State) (n : ℕ) → 0 < n → ReadsName (pos n) a b None → Makes (DropInstance n) a b
 makes_nothing a b n above look = record {
   shows = look.shows;
-  made = λ h p.
-      let none = (look.seen p.schema).1 in
+  made = λ schema h p.
+      let none = (look.seen p.schema.store).1 in
       let p1 = presents b.now h (looked a b h look p) in
       holds b.now (without_entry h n) (record {
         schema = p1.schema;
@@ -420,10 +422,10 @@ pub makes_no_entry : (a b c d : State) (n : ℕ) (it : NameColumns) → 0 < n �
     → DropsGroups (string_bytes it.service) (pos n) b c → DropsInstance (pos n) c d → Makes (DropInstance n) a d
 makes_no_entry a b c d n it above look one two = record {
   shows = shows_then a c d (shows_then a b c look.shows one.shows) two.shows;
-  made = λ h p.
+  made = λ schema h p.
       let front = string_bytes it.service in
       let behind = string_bytes it.name in
-      let found = found_entry a.now h n it p (look.seen p.schema).0 in
+      let found = found_entry a.now h n it p (look.seen p.schema.store).0 in
       let p1 = step.drop_groups b c (six_of h) (presents b.now h (looked a b h look p)) front n one in
       let p2 = step.drop_instance c d _ p1 n two in
       holds d.now (without_entry h n) (record {
@@ -450,10 +452,10 @@ pub makes_entry : (a b c d : State) (e : InstanceEntry) (front behind : List ℕ
     → Makes (AddInstance e) a d
 makes_entry a b c d e front behind split above rises one two three = record {
   shows = shows_then a c d (shows_then a b c one.shows two.shows) three.shows;
-  made = λ h p.
+  made = λ schema h p.
       let n = e.instance.number in
       let k = without_entry h n in
-      let p1 = presents b.now k (one.made h p) in
+      let p1 = presents b.now k (one.made schema h p) in
       let p2 = step.add_instance b c (six_of k) p1 e.instance two in
       let p3 = step.add_groups c d _ p2 front n e.groups three in
       holds d.now (with_entry h e) (record {
@@ -556,8 +558,8 @@ pub makes_instance : (a b c d : State) (i : Instance) (it : NameColumns) → 0 <
     → DropsInstance (pos i.number) b c → AddsRow (ShowsInstance i) instance c d → Makes (PutInstance i) a d
 makes_instance a b c d i it above whole look one two = record {
   shows = shows_then a c d (shows_then a b c look.shows one.shows) two.shows;
-  made = λ h p.
-      let found = found_entry a.now h i.number it p (look.seen p.schema).0 in
+  made = λ schema h p.
+      let found = found_entry a.now h i.number it p (look.seen p.schema.store).0 in
       let named : i.name ≡ found.entry.instance.name = whole ∙ sym found.joined in
       let p1 = step.drop_instance b c (six_of h) (presents b.now h (looked a b h look p)) i.number one in
       let p2 = step.add_instance c d _ p1 i two in
@@ -650,8 +652,8 @@ pub makes_service_groups : (a b c d : State) (name : List ℕ) (gs : List GroupR
     → Makes (PutGroups (owners.Service name) gs) a d
 makes_service_groups a b c d name gs rises look one two = record {
   shows = shows_then a c d (shows_then a b c look.shows one.shows) two.shows;
-  made = λ h p.
-      let there = found_service a.now h name p (look.seen p.schema refl) in
+  made = λ schema h p.
+      let there = found_service a.now h name p (look.seen p.schema.store refl) in
       let p1 = step.drop_groups b c (six_of h) (presents b.now h (looked a b h look p)) name 0 one in
       let p2 = step.add_groups c d _ p1 name 0 gs two in
       holds d.now (regroup_service h name gs) (record {
@@ -744,10 +746,10 @@ pub makes_instance_groups : (a b c d : State) (n : ℕ) (gs : List GroupRecord) 
     → GrowsAll (string_bytes it.service) n gs c d → Makes (PutGroups (owners.Instance n) gs) a d
 makes_instance_groups a b c d n gs it above rises look one two = record {
   shows = shows_then a c d (shows_then a b c look.shows one.shows) two.shows;
-  made = λ h p.
+  made = λ schema h p.
       let front = string_bytes it.service in
       let behind = string_bytes it.name in
-      let found = found_entry a.now h n it p (look.seen p.schema).0 in
+      let found = found_entry a.now h n it p (look.seen p.schema.store).0 in
       let p1 = step.drop_groups b c (six_of h) (presents b.now h (looked a b h look p)) front n one in
       let p2 = step.add_groups c d _ p1 front n gs two in
       holds d.now (regroup_entry h n gs) (record {
@@ -809,7 +811,7 @@ none_by h n (Some t) e fresh = let number : t.number ≡ n = found_key by_snapsh
 pub makes_snapshot : (a b : State) (s : Snapshot) → AddsRow (ShowsSnapshot s) snap a b → Makes (AddSnapshot s) a b
 makes_snapshot a b s one = record {
   shows = one.shows;
-  made = λ h p.
+  made = λ schema h p.
       let p0 = presents a.now h p in
       let p1 = step.add_snapshot a b (six_of h) p0 s one in
       let none = none_by h s.number (snapshot h s.number) refl (step.snapshot_fresh a b (six_of h) p0 s one) in
@@ -858,7 +860,7 @@ filtered_kept p o t e h = rw (e, h) refl
 pub makes_no_snapshots : (a b : State) (n : ℕ) → DropsSnapshots (pos n) a b → Makes (DropSnapshots n) a b
 makes_no_snapshots a b n one = record {
   shows = one.shows;
-  made = λ h p.
+  made = λ schema h p.
       let keep : Snapshot → Bool = λ s. not (is_snapshot_of n s) in
       let p1 = step.drop_snapshots a b (six_of h) (presents a.now h p) n one in
       let law : (k : ℕ) → lookup by_snapshot (others_of n h.snapshots) k
@@ -911,7 +913,7 @@ pub makes_launch : (a b c : State) (l : Launch) → DropsLaunch l.restarter a b
     → AddsLaunch l.restarter (pos l.count) b c → Makes (PutLaunch l) a c
 makes_launch a b c l one two = record {
   shows = shows_then a b c one.shows two.shows;
-  made = λ h p.
+  made = λ schema h p.
       let p1 = step.drop_launch a b (six_of h) (presents a.now h p) l.restarter one in
       let p2 = step.add_launch b c _ p1 l two in
       holds c.now (with_launch h l) (record {
@@ -960,7 +962,7 @@ pub makes_count : (a b c : State) (change : Change) (key : Counter) (n : ℕ)
     → DropsMeta (counter_text key) a b → AddsMeta (counter_text key) (pos n) b c → Makes change a c
 makes_count a b c change key n rest is cases one two = record {
   shows = shows_then a b c one.shows two.shows;
-  made = λ h p.
+  made = λ schema h p.
       let p1 = step.drop_count a b (six_of h) (presents a.now h p) (counter_text key) one in
       let p2 = step.add_count b c _ p1 (record { counter = key; value = n }) two in
       let k : Holdings =
@@ -973,7 +975,7 @@ makes_count a b c change key n rest is cases one two = record {
       let same : holdings_after_change h change ≡ k = rest h in
       let counts : (x : Counter) → count_of k x ≡ count_of (holdings_after_change h change) x =
       λ x. ap (λ (z : Holdings). count_of z x) (sym same) in
-      subst (λ (z : Holdings). Holds c.now z) (sym same) (holds c.now k (record {
+      subst (λ (z : Holdings). HoldsUnder schema c.now z) (sym same) (holds c.now k (record {
         schema = p2.schema;
         sound = p2.sound;
         counts = counts_become p2.counts
@@ -1054,7 +1056,7 @@ makes_next_snapshot a b c n =
 pub makes_name : (a b : State) (e : InstanceName) {Seen : Trees → Type 0} → Sees Seen a b → Makes (PutName e) a b
 makes_name a b e look = record {
   shows = look.shows;
-  made = λ h p.
+  made = λ schema h p.
       let q = looked a b h look p in
       let p1 = presents b.now h q in
       let k = holdings_after_change h (PutName e) in
@@ -1083,7 +1085,7 @@ makes_name a b e look = record {
 pub makes_no_name : (a b : State) (name : List ℕ) {Seen : Trees → Type 0} → Sees Seen a b → Makes (DropName name) a b
 makes_no_name a b name look = record {
   shows = look.shows;
-  made = λ h p.
+  made = λ schema h p.
       let q = looked a b h look p in
       let p1 = presents b.now h q in
       let k = holdings_after_change h (DropName name) in

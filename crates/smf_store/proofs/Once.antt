@@ -1,5 +1,5 @@
 -- No two rows of a table share its key.
-use Rattle.std.proofs.Common.{◌≡◌, inl, inr, ℕ, ℤ, List, [], ◌∷◌, ◌&&◌, not, Bool, true, false, refl, sym, ap, subst, ◌∙◌, arith}
+use Rattle.std.proofs.Common.{◌≡◌, ℕ, ℤ, List, [], ◌∷◌, ◌&&◌, not, Bool, true, false, refl, sym, ap, subst, ◌∙◌, arith}
 use Rattle.std.specs.Ordering.{int_eq, is_eq, is_ne}
 use Rattle.std.specs.declared.cmp.Ordering.{Ordering}
 use Rattle.std.specs.declared.cmp.Ordering.TheVariants.{Less, Equal, Greater}
@@ -8,7 +8,9 @@ use Rattle.std.proofs.lemmas.Int.{ints}
 use Rattle.std.specs.Prelude.{Some}
 use Rattle.sqlite.specs.declared.types.Value.{Value}
 use Rattle.sqlite.specs.declared.types.Value.TheVariants.{Null, Int, Real, Text, Blob}
+use Rattle.std.specs.List.{AllByRecursion}
 use Rattle.sqlite.specs.Order.{Row, column}
+use Rattle.sqlite.specs.Schema.{Schema}
 use Rattle.sqlite.specs.Tree.{rowid}
 use Rattle.sqlite.specs.View.{is_int}
 use Rattle.sqlite.specs.Effect.{Database, IsDatabase}
@@ -21,11 +23,12 @@ use Rattle.sqlite_schema.specs.declared.schema.Constraint.TheVariants.{Unique}
 use Rattle.sqlite_schema.specs.declared.schema.Index.{Index}
 use Rattle.sqlite_schema.specs.declared.schema.Table.{Table}
 use Rattle.sqlite_schema.specs.Rules.{Keeps, agree, clashes, differ, equal, guards, passes}
-use Rattle.sqlite_catalog.specs.Listing.{automatic}
+use Rattle.sqlite_catalog.specs.Listing.{IsGuarded, automatic}
 use Rattle.sqlite_rules.specs.Lists.{Has}
 use Rattle.sqlite_rules.proofs.ListLemmas.{all_has, some_from, test_has}
 use Rattle.smf_tables.specs.Schema as tables
-use Rattle.smf_tables.specs.Schema.{store_schema}
+use Rattle.smf_tables.specs.Layout.{IsStore, begun_6}
+use Rattle.smf_tables.proofs.Begun.{OfStore, of_store}
 
 -- ---- values that are equal, and rowids that differ
 
@@ -97,9 +100,20 @@ clash_of places rows a b there same unlike =
     some_from (λ other. agree plain places other places b && differ (rowid other) (rowid b)) rows a there
     (both_true (agree plain places a places b) (differ (rowid a) (rowid b)) same unlike)
 
-module _ (db : Database) (has : db.schema ≡ store_schema) (sound : IsDatabase db) where
-  rules : Keeps Unique store_schema db.trees
-  rules = subst (λ s. Keeps Unique s db.trees) has (sound.obeys.rules Unique)
+module _ (db : Database) (has : IsStore db.schema) (sound : IsDatabase db) where
+  all : OfStore db.schema
+  all = of_store db.schema has
+
+  -- the six tables, with what stands beside them
+  abbrev six : Schema
+  six = begun_6 all.rest
+
+  rules : Keeps Unique six db.trees
+  rules = subst (λ s. Keeps Unique s db.trees) all.is (sound.obeys.rules Unique)
+
+  -- the index of each unique key is among the indexes
+  guarded : AllByRecursion (IsGuarded six.indexes) six.tables
+  guarded = subst (λ (s : Schema). AllByRecursion (IsGuarded s.indexes) s.tables) all.is sound.lists.guarded
 
   abbrev Unlike : Row → Row → Type 0
   Unlike a b = (is_int (rowid a) ≡ true) × (is_int (rowid b) ≡ true) × (rowid a ≡ rowid b → ⊥)
@@ -110,10 +124,11 @@ module _ (db : Database) (has : db.schema ≡ store_schema) (sound : IsDatabase 
   pub once_meta : (a b : Row) (t : List ℕ) → Has (db.trees 0) a → Has (db.trees 0) b → Unlike a b
       → column a 1 ≡ Text t → column b 1 ≡ Text t → ⊥
   once_meta a b t ha hb u ea eb =
-      let e : passes Unique store_schema db.trees tables.meta b ≡ true =
-      all_has (λ row. passes Unique store_schema db.trees tables.meta row ≡ true) (db.trees 0) b (rules.0) hb in
+      let index = guarded.0 0 (1 ∷ []) refl in
+      let e : passes Unique six db.trees tables.meta b ≡ true =
+      all_has (λ row. passes Unique six db.trees tables.meta row ≡ true) (db.trees 0) b (rules.0) hb in
       let f : not (clashes plain (1 ∷ []) (db.trees 0) b) ≡ true =
-      test_has (test_of tables.meta b) store_schema.indexes (automatic tables.meta 0 (1 ∷ []) 1) e (inl refl) in
+      test_has (test_of tables.meta b) six.indexes (automatic tables.meta 0 (1 ∷ []) index.0) e index.1 in
       refuted (clashes plain (1 ∷ []) (db.trees 0) b)
       (clash_of (1 ∷ []) (db.trees 0) a b ha (agree_one a b 1 t ea eb)
       (differ_rowids (rowid a) (rowid b) u.0 u.1 u.2)) f
@@ -121,12 +136,12 @@ module _ (db : Database) (has : db.schema ≡ store_schema) (sound : IsDatabase 
   pub once_service : (a b : Row) (t : List ℕ) → Has (db.trees 2) a → Has (db.trees 2) b → Unlike a b
       → column a 1 ≡ Text t → column b 1 ≡ Text t → ⊥
   once_service a b t ha hb u ea eb =
-      let e : passes Unique store_schema db.trees tables.service b ≡ true =
-      all_has (λ row. passes Unique store_schema db.trees tables.service row ≡ true) (db.trees 2) b
+      let index = guarded.1.0 0 (1 ∷ []) refl in
+      let e : passes Unique six db.trees tables.service b ≡ true =
+      all_has (λ row. passes Unique six db.trees tables.service row ≡ true) (db.trees 2) b
       (rules.1.0) hb in
       let f : not (clashes plain (1 ∷ []) (db.trees 2) b) ≡ true =
-      test_has (test_of tables.service b) store_schema.indexes (automatic tables.service 0 (1 ∷ []) 3) e
-      (inr (inl refl)) in
+      test_has (test_of tables.service b) six.indexes (automatic tables.service 0 (1 ∷ []) index.0) e index.1 in
       refuted (clashes plain (1 ∷ []) (db.trees 2) b)
       (clash_of (1 ∷ []) (db.trees 2) a b ha (agree_one a b 1 t ea eb)
       (differ_rowids (rowid a) (rowid b) u.0 u.1 u.2)) f
@@ -135,12 +150,12 @@ module _ (db : Database) (has : db.schema ≡ store_schema) (sound : IsDatabase 
       → column a 1 ≡ Text s → column b 1 ≡ Text s → column a 2 ≡ Int n → column b 2 ≡ Int n → column a 3 ≡ Text g
       → column b 3 ≡ Text g → ⊥
   once_group a b s g n ha hb u e1 f1 e2 f2 e3 f3 =
-      let e : passes Unique store_schema db.trees tables.grp b ≡ true =
-      all_has (λ row. passes Unique store_schema db.trees tables.grp row ≡ true) (db.trees 6) b
+      let index = guarded.1.1.1.0 0 (1 ∷ 2 ∷ 3 ∷ []) refl in
+      let e : passes Unique six db.trees tables.grp b ≡ true =
+      all_has (λ row. passes Unique six db.trees tables.grp row ≡ true) (db.trees 6) b
       (rules.1.1.1.0) hb in
       let f : not (clashes plain (1 ∷ 2 ∷ 3 ∷ []) (db.trees 6) b) ≡ true =
-      test_has (test_of tables.grp b) store_schema.indexes (automatic tables.grp 0 (1 ∷ 2 ∷ 3 ∷ []) 7) e
-      (inr (inr (inr (inl refl)))) in
+      test_has (test_of tables.grp b) six.indexes (automatic tables.grp 0 (1 ∷ 2 ∷ 3 ∷ []) index.0) e index.1 in
       refuted (clashes plain (1 ∷ 2 ∷ 3 ∷ []) (db.trees 6) b)
       (clash_of (1 ∷ 2 ∷ 3 ∷ []) (db.trees 6) a b ha (agree_three a b s g n e1 f1 e2 f2 e3 f3)
       (differ_rowids (rowid a) (rowid b) u.0 u.1 u.2)) f
@@ -148,12 +163,12 @@ module _ (db : Database) (has : db.schema ≡ store_schema) (sound : IsDatabase 
   pub once_launch : (a b : Row) (t : List ℕ) → Has (db.trees 9) a → Has (db.trees 9) b → Unlike a b
       → column a 1 ≡ Text t → column b 1 ≡ Text t → ⊥
   once_launch a b t ha hb u ea eb =
-      let e : passes Unique store_schema db.trees tables.restarter b ≡ true =
-      all_has (λ row. passes Unique store_schema db.trees tables.restarter row ≡ true) (db.trees 9) b
+      let index = guarded.1.1.1.1.1.0 0 (1 ∷ []) refl in
+      let e : passes Unique six db.trees tables.restarter b ≡ true =
+      all_has (λ row. passes Unique six db.trees tables.restarter row ≡ true) (db.trees 9) b
       (rules.1.1.1.1.1.0) hb in
       let f : not (clashes plain (1 ∷ []) (db.trees 9) b) ≡ true =
-      test_has (test_of tables.restarter b) store_schema.indexes (automatic tables.restarter 0 (1 ∷ []) 10) e
-      (inr (inr (inr (inr (inl refl))))) in
+      test_has (test_of tables.restarter b) six.indexes (automatic tables.restarter 0 (1 ∷ []) index.0) e index.1 in
       refuted (clashes plain (1 ∷ []) (db.trees 9) b)
       (clash_of (1 ∷ []) (db.trees 9) a b ha (agree_one a b 1 t ea eb)
       (differ_rowids (rowid a) (rowid b) u.0 u.1 u.2)) f

@@ -11,6 +11,7 @@ use Rattle.smf_state.specs.Texts.{read_row, row_text}
 use Rattle.smf_value.specs.Body.{AreGroups, bytes_of_groups}
 use Rattle.smf_value.specs.Groups.{GroupRecord}
 use Rattle.smf_snap.specs.Body.{spelled_both}
+use Rattle.smf_tables.specs.Layout.{IsStore}
 use Rattle.smf_tables.specs.Rows.{Alters, Gains}
 use Rattle.smf_tables.specs.Schema.{grp, instance, snap}
 use Rattle.smf_tables.specs.Statements.{AddsGroup, AddsSnapshot}
@@ -24,7 +25,7 @@ pub adds_row : (S : Row → Type 0) (table : Table) (row : Row) (old new : State
     → Alters (Gains row) table old new → AddsRow S table old new
 adds_row S table row old new shows a = record {
   shows = a.shows;
-  turns = λ has keyed. let t = a.turns has keyed in
+  turns = λ has sound keyed. let t = a.turns has sound keyed in
       record {
         schema = t.schema;
         sound = t.sound;
@@ -85,7 +86,7 @@ pub grows_none : (service : List ℕ) (number : ℕ) (a : State) → IsTrue a.is
 grows_none service number a is_open inside = record {
   shows = record { was_open = is_open; is_open = is_open; now_is = refl; committed_is = refl; mode = inside };
   turns = λ has sound keyed. record {
-    schema = has;
+    schema = refl;
     sound = sound;
     rows = record { there = λ g h. absurd h; was = λ r h. inr h; stays = λ r h. h; keyed = keyed };
     spares = ((λ e. refl), ((λ e. refl), ((λ e. refl), ((λ e. refl), ((λ e. refl), ((λ e. refl), tt))))));
@@ -99,9 +100,9 @@ grows_more service number g gs a b c before one = record {
   shows = shows_then a b c before.shows one.shows;
   turns = λ has sound keyed.
       let t = before.turns has sound keyed in
-      let u = one.turns t.schema t.rows.keyed in
+      let u = one.turns (subst IsStore (sym t.schema) has) t.sound t.rows.keyed in
       record {
-        schema = u.schema;
+        schema = u.schema ∙ t.schema;
         sound = u.sound;
         rows = record {
           there = λ x h. elim (has_either gs (g ∷ []) x h) [

@@ -1,16 +1,17 @@
 -- The contents of the six tables, each by its members.
-use Rattle.std.proofs.Common.{◌≡◌, ◌≢◌, ℕ, List, sym, subst, arith}
+use Rattle.std.proofs.Common.{◌≡◌, ◌≢◌, ◌∙◌, ℕ, List, refl, sym, subst, arith}
 use Rattle.sqlite.specs.Order.{Row}
+use Rattle.sqlite.specs.Schema.{Schema}
 use Rattle.sqlite.specs.Effect.{Database, IsDatabase}
 use Rattle.smf_tables.specs.Rows.{Turns}
 use Rattle.smf_tables.specs.Schema as tables
-use Rattle.smf_tables.specs.Schema.{store_schema}
+use Rattle.smf_tables.specs.Layout.{IsStore}
 use Rattle.smf_model.specs.declared.held.Instance.{Instance}
 use Rattle.smf_model.specs.declared.held.Launch.{Launch}
 use Rattle.smf_model.specs.declared.held.Snapshot.{Snapshot}
 use Rattle.smf_model.specs.Contents.{Holdings}
 use Rattle.smf_store.specs.Shown.{Count, HasCount, HasService, ShowsService, HasInstance, ShowsInstance, OwnedGroup, HasGroup, ShowsGroup, HasSnapshot, ShowsSnapshot, HasLaunch, ShowsLaunch}
-use Rattle.smf_store.specs.Holds.{Listed, Holds, IsArranged, Counted}
+use Rattle.smf_store.specs.Holds.{Counted, Holds, HoldsUnder, IsArranged, IsStoreUnder, Listed}
 
 pub record Six : Type 1 where
   pub counts : Count → Type 0
@@ -30,8 +31,8 @@ six_of h = record {
   launches = HasLaunch h;
 }
 
-pub record Presents (db : Database) (m : Six) : Type 0 where
-  pub schema : db.schema ≡ store_schema
+pub record Presents (s : Schema) (db : Database) (m : Six) : Type 0 where
+  pub schema : IsStoreUnder s db.schema
   pub sound : IsDatabase db
   pub counts : Counted m.counts (db.trees 0)
   pub services : Listed m.services ShowsService (db.trees 2)
@@ -40,7 +41,7 @@ pub record Presents (db : Database) (m : Six) : Type 0 where
   pub snapshots : Listed m.snapshots ShowsSnapshot (db.trees 8)
   pub launches : Listed m.launches ShowsLaunch (db.trees 9)
 
-pub presents : (db : Database) (h : Holdings) → Holds db h → Presents db (six_of h)
+pub presents : {s : Schema} (db : Database) (h : Holdings) → HoldsUnder s db h → Presents s db (six_of h)
 presents db h p =
     record {
       schema = p.schema;
@@ -53,7 +54,7 @@ presents db h p =
       launches = p.show.launches;
     }
 
-pub holds : (db : Database) (h : Holdings) → Presents db (six_of h) → IsArranged h → Holds db h
+pub holds : {s : Schema} (db : Database) (h : Holdings) → Presents s db (six_of h) → IsArranged h → HoldsUnder s db h
 holds db h p a =
     record {
       schema = p.schema;
@@ -69,12 +70,25 @@ holds db h p a =
       arranged = a;
     }
 
+-- under its own schema
+pub holds_own : {s : Schema} (db : Database) (h : Holdings) → HoldsUnder s db h → Holds db h
+holds_own db h p =
+    record {
+      schema = record { store = p.schema.store; same = refl };
+      sound = p.sound;
+      show = p.show;
+      arranged = p.arranged;
+    }
+
+still_store : {s old new : Schema} → IsStoreUnder s old → new ≡ old → IsStoreUnder s new
+still_store p same = record { store = subst IsStore (sym same) p.store; same = same ∙ p.same }
+
 -- one table turned, and the others are as they were
-module _ {C : List Row → List Row → Type 0} (old new : Database) (m : Six) (p : Presents old m) where
+module _ {C : List Row → List Row → Type 0} {s : Schema} (old new : Database) (m : Six) (p : Presents s old m) where
   pub with_counts : Turns C tables.meta old new → (P : Count → Type 0) → Counted P (new.trees 0)
-      → Presents new (record m { counts = P })
+      → Presents s new (record m { counts = P })
   with_counts turns P listed = record {
-    schema = turns.schema;
+    schema = still_store p.schema turns.schema;
     sound = turns.sound;
     counts = listed;
     services = (let apart : ◌≢◌ {A = ℕ} 2 0 = λ e. omega (arith, e) in
@@ -90,9 +104,9 @@ module _ {C : List Row → List Row → Type 0} (old new : Database) (m : Six) (
   }
 
   pub with_services : Turns C tables.service old new → (P : List ℕ → Type 0) → Listed P ShowsService (new.trees 2)
-      → Presents new (record m { services = P })
+      → Presents s new (record m { services = P })
   with_services turns P listed = record {
-    schema = turns.schema;
+    schema = still_store p.schema turns.schema;
     sound = turns.sound;
     counts = (let apart : ◌≢◌ {A = ℕ} 0 2 = λ e. omega (arith, e) in
         subst (Counted m.counts) (sym (turns.spares.0 apart)) p.counts);
@@ -108,9 +122,9 @@ module _ {C : List Row → List Row → Type 0} (old new : Database) (m : Six) (
   }
 
   pub with_instances : Turns C tables.instance old new → (P : Instance → Type 0)
-      → Listed P ShowsInstance (new.trees 4) → Presents new (record m { instances = P })
+      → Listed P ShowsInstance (new.trees 4) → Presents s new (record m { instances = P })
   with_instances turns P listed = record {
-    schema = turns.schema;
+    schema = still_store p.schema turns.schema;
     sound = turns.sound;
     counts = (let apart : ◌≢◌ {A = ℕ} 0 4 = λ e. omega (arith, e) in
         subst (Counted m.counts) (sym (turns.spares.0 apart)) p.counts);
@@ -126,9 +140,9 @@ module _ {C : List Row → List Row → Type 0} (old new : Database) (m : Six) (
   }
 
   pub with_groups : Turns C tables.grp old new → (P : OwnedGroup → Type 0) → Listed P ShowsGroup (new.trees 6)
-      → Presents new (record m { groups = P })
+      → Presents s new (record m { groups = P })
   with_groups turns P listed = record {
-    schema = turns.schema;
+    schema = still_store p.schema turns.schema;
     sound = turns.sound;
     counts = (let apart : ◌≢◌ {A = ℕ} 0 6 = λ e. omega (arith, e) in
         subst (Counted m.counts) (sym (turns.spares.0 apart)) p.counts);
@@ -144,9 +158,9 @@ module _ {C : List Row → List Row → Type 0} (old new : Database) (m : Six) (
   }
 
   pub with_snapshots : Turns C tables.snap old new → (P : Snapshot → Type 0) → Listed P ShowsSnapshot (new.trees 8)
-      → Presents new (record m { snapshots = P })
+      → Presents s new (record m { snapshots = P })
   with_snapshots turns P listed = record {
-    schema = turns.schema;
+    schema = still_store p.schema turns.schema;
     sound = turns.sound;
     counts = (let apart : ◌≢◌ {A = ℕ} 0 8 = λ e. omega (arith, e) in
         subst (Counted m.counts) (sym (turns.spares.0 apart)) p.counts);
@@ -162,9 +176,9 @@ module _ {C : List Row → List Row → Type 0} (old new : Database) (m : Six) (
   }
 
   pub with_launches : Turns C tables.restarter old new → (P : Launch → Type 0) → Listed P ShowsLaunch (new.trees 9)
-      → Presents new (record m { launches = P })
+      → Presents s new (record m { launches = P })
   with_launches turns P listed = record {
-    schema = turns.schema;
+    schema = still_store p.schema turns.schema;
     sound = turns.sound;
     counts = (let apart : ◌≢◌ {A = ℕ} 0 9 = λ e. omega (arith, e) in
         subst (Counted m.counts) (sym (turns.spares.0 apart)) p.counts);

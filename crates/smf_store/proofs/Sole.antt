@@ -8,7 +8,7 @@ use Rattle.sqlite.specs.Effect.{Database, IsDatabase}
 use Rattle.sqlite_rules.specs.Lists.{Has}
 use Rattle.smf_tables.specs.Scans.{AreShown, columns_at}
 use Rattle.smf_tables.specs.Rows.{AreApart, IsKeyed}
-use Rattle.smf_tables.specs.Schema.{store_schema}
+use Rattle.smf_tables.specs.Layout.{IsStore}
 use Rattle.smf_store.specs.declared.judgements.StoreRows.{StoreRows}
 use Rattle.smf_store.specs.Gathered.{Matches}
 use Rattle.smf_store.specs.Holds.{Listed}
@@ -63,7 +63,7 @@ module _ (places : List ℕ) (all rows : List Row) (seen : AreShown places all r
       once r.0 q.0 t r.1 q.1 (unlike_seen a b ha hb apart) (sym (ap (λ z. column z 1) r.2 ∙ first r.0) ∙ ea)
       (sym (ap (λ z. column z 1) q.2 ∙ first q.0) ∙ eb)
 
-pub are_sole : (db : Database) (rows : StoreRows) → db.schema ≡ store_schema → IsDatabase db → AreListed rows db.trees
+pub are_sole : (db : Database) (rows : StoreRows) → IsStore db.schema → IsDatabase db → AreListed rows db.trees
     → AreSole rows
 are_sole db rows has sound l = record {
   counts_apart = l.counts.keyed.apart;

@@ -8,11 +8,10 @@ use Rattle.sqlite.specs.Effect.{Database, IsDatabase}
 use Rattle.sqlite.specs.State.{State, Shows, IsLive, Survives}
 use Rattle.sqlite.proofs.StateLemmas.{survives_weaker}
 use Rattle.sqlite.specs.Schema.{Schema}
-use Rattle.smf_tables.specs.Layout.{Begins, Rest}
+use Rattle.smf_tables.specs.Layout.{Begins, IsStore, Rest}
 use Rattle.smf_tables.specs.Scans.{AreShown, Looks, LooksAtMeta, LooksAtServices, LooksAtInstances, LooksAtGroups, LooksAtSnapshots, LooksAtLaunches, columns_at}
 use Rattle.smf_tables.proofs.Begun.{of_store}
 use Rattle.smf_tables.specs.Rows.{IsKeyed}
-use Rattle.smf_tables.specs.Schema.{store_schema}
 use Rattle.smf_tables.specs.Statements.{AddsMeta, DropsMeta}
 use Rattle.smf_model.specs.declared.held.Instance.{Instance}
 use Rattle.smf_model.specs.declared.held.Launch.{Launch}
@@ -35,7 +34,7 @@ use Rattle.smf_store.specs.Shown.{Counter, Version, Layout, Revision, NextInstan
 use Rattle.smf_store.specs.Stages.{AreAllKeyed, AreListed, IsFailure, IsRaised, IsSaid, Lists, MayFailToRead, MayRead, Opened, Raises, RaisesFrom, Reads, Says, raised, stayed}
 use Rattle.smf_store.proofs.Begins.{stands_in}
 use Rattle.smf_store.proofs.Makes.{shows_then}
-use Rattle.smf_store.proofs.Six.{Six, Presents, holds, six_of}
+use Rattle.smf_store.proofs.Six.{Six, Presents, holds, holds_own, six_of}
 use Rattle.smf_store.proofs.Statements as step
 use Rattle.smf_store.proofs.Tables.{counts_become}
 use Rattle.smf_store.proofs.Tests.{text_apart}
@@ -148,11 +147,11 @@ launch_forth x r s = record { restarter_is = s.restarter_is; count_is = s.count_
 launch_back : (x : Launch) (r : Row) → ShowsLaunch x (columns_at (0 ∷ 1 ∷ 2 ∷ []) r) → ShowsLaunch x r
 launch_back x r s = record { restarter_is = s.restarter_is; count_is = s.count_is }
 
-module _ (db : Database) (rows : StoreRows) (h : Holdings) (has : db.schema ≡ store_schema) (sound : IsDatabase db) (l : AreListed rows db.trees) where
+module _ (db : Database) (rows : StoreRows) (h : Holdings) (has : IsStore db.schema) (sound : IsDatabase db) (l : AreListed rows db.trees) where
   pub stands_second : AreRead (rows_of versions.Second rows) h → Stands db h
   stands_second a = record {
     holds = record {
-      schema = has;
+      schema = record { store = has; same = refl };
       sound = sound;
       show = record {
         counts = counted (db.trees 0) rows.counts.items l.counts.shown l.counts.keyed.keyed a.counts;
@@ -194,11 +193,12 @@ module _ (db : Database) (rows : StoreRows) (h : Holdings) (has : db.schema ≡ 
   }
 
 is_raised : (version : StoreVersion) (old mid new : Database) (rows : StoreRows) (h : Holdings)
-    → old.schema ≡ store_schema → IsDatabase old → AreListed rows old.trees → AreRead (rows_of version rows) h
+    → IsStore old.schema → IsDatabase old → AreListed rows old.trees → AreRead (rows_of version rows) h
     → mid ≡ old → RaisesFrom version mid new → IsRaised old new h
 is_raised versions.First old mid new rows h has sound l a same r =
     let stands = stands_first old rows h has sound l a in
-    raised stands (r h (subst (λ d. StandsFirst d h) (sym same) stands))
+    let done = r h (subst (λ d. StandsFirst d h) (sym same) stands) in
+    raised stands done.0 (done.1 ∙ ap (λ (d : Database). d.schema) same)
 is_raised versions.Second old mid new rows h has sound l a same r =
     stayed (stands_second old rows h has sound l a) (r ∙ same)
 
@@ -211,7 +211,7 @@ reads_raised old mid new rows version h l said a r =
       shows = shows_then old mid new l.shows (r.shows live);
       says = λ has sound. record { rows = rows; listed = l.listed has sound; said = said };
       raised = λ has sound. is_raised version old.now mid.now new.now rows h has sound (l.listed has sound) a
-          (l.same has) (r.raised (ap (λ (d : Database). d.schema) (l.same has) ∙ has));
+          (l.same has) (r.raised (subst (λ (d : Database). IsStore d.schema) (sym (l.same has)) has));
     }
 
 -- ---- one look after another
@@ -233,11 +233,11 @@ pub lists_all : (a b c d e f g : State) (rows : StoreRows) → AreAllKeyed rows 
     → LooksAtSnapshots e f rows.snapshots.items → LooksAtLaunches f g rows.launches.items → Lists a g rows
 lists_all a b c d e f g rows keyed one two three four five six =
     let o = of_store a.now.schema in
-    let sb : a.now.schema ≡ store_schema → b.now ≡ a.now = λ has. one.same (o has).one in
-    let sc : a.now.schema ≡ store_schema → c.now ≡ a.now = λ has. same_on a b c (sb has) two (o has).two in
-    let sd : a.now.schema ≡ store_schema → d.now ≡ a.now = λ has. same_on a c d (sc has) three (o has).three in
-    let se : a.now.schema ≡ store_schema → e.now ≡ a.now = λ has. same_on a d e (sd has) four (o has).four in
-    let sf : a.now.schema ≡ store_schema → f.now ≡ a.now = λ has. same_on a e f (se has) five (o has).five in
+    let sb : IsStore a.now.schema → b.now ≡ a.now = λ has. one.same (o has).one in
+    let sc : IsStore a.now.schema → c.now ≡ a.now = λ has. same_on a b c (sb has) two (o has).two in
+    let sd : IsStore a.now.schema → d.now ≡ a.now = λ has. same_on a c d (sc has) three (o has).three in
+    let se : IsStore a.now.schema → e.now ≡ a.now = λ has. same_on a d e (sd has) four (o has).four in
+    let sf : IsStore a.now.schema → f.now ≡ a.now = λ has. same_on a e f (se has) five (o has).five in
     record {
       shows = shows_then a f g
           (shows_then a e f
@@ -292,10 +292,10 @@ next_back_by h NextSnapshot v m =
 abbrev first_six : Holdings → Six
 first_six h = record (six_of h) { counts = HasCountIn versions.First h }
 
-first_presents : (db : Database) (h : Holdings) → StandsFirst db h → Presents db (first_six h)
+first_presents : (db : Database) (h : Holdings) → StandsFirst db h → Presents db.schema db (first_six h)
 first_presents db h p =
     record {
-      schema = p.schema;
+      schema = record { store = p.schema; same = refl };
       sound = p.sound;
       counts = p.counts;
       services = p.services;
@@ -312,20 +312,22 @@ raises_first a b c d one more last = record {
   raised = λ has h p.
       let p1 = step.drop_count a b (first_six h) (first_presents a.now h p) (codes "version") one in
       let p2 = step.add_count b c _ p1 (two Version) more in
-      let p3 = step.add_count c d _ p2 (two Layout) last in
-      record {
-        holds = holds d.now h (record {
-          schema = p3.schema;
-          sound = p3.sound;
-          counts = counts_become p3.counts (next_forth h) (λ x m. next_back_by h x.counter x.value m);
-          services = p3.services;
-          instances = p3.instances;
-          groups = p3.groups;
-          snapshots = p3.snapshots;
-          launches = p3.launches;
-        }) p.arranged;
-        numbered = p.numbered;
-      };
+      let p3 = step.add_count c d _ p2 (two Layout) last in (
+        record {
+          holds = holds_own d.now h (holds d.now h (record {
+            schema = p3.schema;
+            sound = p3.sound;
+            counts = counts_become p3.counts (next_forth h) (λ x m. next_back_by h x.counter x.value m);
+            services = p3.services;
+            instances = p3.instances;
+            groups = p3.groups;
+            snapshots = p3.snapshots;
+            launches = p3.launches;
+          }) p.arranged);
+          numbered = p.numbered;
+        },
+        p3.schema.same,
+      );
 }
 
 -- ---- faults
@@ -363,11 +365,11 @@ judged_said trees rows TooManyInstances l j = record { rows = rows; listed = l; 
 
 raised_stands : (old new : Database) (h : Holdings) → IsRaised old new h → Stands new h
 raised_stands old new h (stayed stands same) = subst (λ d. Stands d h) (sym same) stands
-raised_stands old new h (raised before stands) = stands
+raised_stands old new h (raised before stands same) = stands
 
-module _ (old begun last : State) (h : Holdings) (now : begun.now ≡ old.now) (live : begun.is_open ≡ old.is_open) (has : old.now.schema ≡ store_schema) (sound : IsLive old) (r : Reads begun last h) where
-  has_six : begun.now.schema ≡ store_schema
-  has_six = ap (λ (d : Database). d.schema) now ∙ has
+module _ (old begun last : State) (h : Holdings) (now : begun.now ≡ old.now) (live : begun.is_open ≡ old.is_open) (has : IsStore old.now.schema) (sound : IsLive old) (r : Reads begun last h) where
+  has_six : IsStore begun.now.schema
+  has_six = subst (λ (d : Database). IsStore d.schema) (sym now) has
 
   is_sound : IsDatabase begun.now
   is_sound = subst IsDatabase (sym now) (sound (subst IsTrue live r.shows.was_open)).0
@@ -394,7 +396,8 @@ leaves_made a b s = survives_weaker a b (MayMake a) (MayOpen a) (λ clean db it.
 may_open : (a : State) (db : Database) (trees : Trees) (h : Holdings) → IsRaised a.now db h → trees ≡ db.trees
     → MayOpen a trees
 may_open a db trees h (stayed stands same) is = of_second h stands (is ∙ ap (λ (d : Database). d.trees) same)
-may_open a db trees h (raised before stands) is = of_first h before (stands_in db trees h stands is)
+may_open a db trees h (raised before stands same) is =
+    of_first h before (stands_in db a.now.schema trees h stands same is)
 
 -- if the database is not opened
 pub leaves_failing : (e : OpenFault) (a b : State) → Survives a b (MayFailToRead e a) → Survives a b (MayFailToOpen e a)

@@ -125,7 +125,7 @@ module _ (version : StoreVersion) (h : Holdings) (rows : StoreRows) (a : AreRead
 pub stands_again : (db : Database) (rows : StoreRows) (h : Holdings) → AreListed rows db.trees → Stands db h
     → IsConsistent h → verdict_on_rows rows ≡ Ok h
 stands_again db rows h l s c =
-    let has = s.holds.schema in
+    let has = s.holds.schema.store in
     let sound = s.holds.sound in
     let k = judged_again versions.Second h rows (read_second db rows h l s) (are_sole db rows has sound l) c in
     k.1 ∙ ap Ok (unique db k.0 h (stands_second db rows k.0 has sound l k.2) s)

@@ -1,5 +1,5 @@
 -- The verdict on the rows of a store, step by step.
-use Rattle.std.proofs.Common.{◌≡◌, Option, Some, None, Result, Ok, Err, refl, sym, ap, ◌∙◌}
+use Rattle.std.proofs.Common.{◌≡◌, Some, None, Result, Ok, Err, refl, sym, ap, ◌∙◌}
 use Rattle.smf_model.specs.Contents.{Holdings}
 use Rattle.smf_store.specs.declared.counter_rows.Counters.{Counters}
 use Rattle.smf_store.specs.declared.counter_rows.StoreVersion.{StoreVersion}
@@ -9,7 +9,6 @@ use Rattle.smf_store.specs.declared.refusal.OpenFault.TheVariants.{Memory, Datab
 use Rattle.smf_store.specs.declared.refusal.StoreTable.{StoreTable}
 use Rattle.smf_store.specs.declared.refusal.StoreTable.TheVariants as tables
 use Rattle.smf_store.specs.Begun.{empty_with_counters}
-use Rattle.smf_store.specs.FirstOther.{told_for}
 use Rattle.smf_store.specs.Judged.{IsBroken, IsJudged, IsRead, broken_by, first_broken, add_all, add_group, add_service, counters_said, holdings_within_limit, instances_said, verdict_on_rows, launches_said, snapshots_said, tables_said, version_said}
 
 module _ (rows : StoreRows) (h : Holdings) where
@@ -85,17 +84,17 @@ module _ (rows : StoreRows) where
 
 -- ---- where a table is absent or another
 
-pub broken_none : (other : Option StoreTable) (x : Holdings) (given : Result Holdings OpenFault) → given ≡ Ok x
-    → Damaged (told_for other) ≡ first_broken other given
+pub broken_none : (other : StoreTable) (x : Holdings) (given : Result Holdings OpenFault) → given ≡ Ok x
+    → Damaged other ≡ first_broken other given
 unfolding first_broken
 broken_none other x given is = sym (ap (first_broken other) is)
 
-told_by : (other : Option StoreTable) (e : OpenFault) (given : Result Holdings OpenFault) → given ≡ Err e
+told_by : (other : StoreTable) (e : OpenFault) (given : Result Holdings OpenFault) → given ≡ Err e
     → broken_by other e ≡ first_broken other given
 unfolding first_broken
 told_by other e given is = sym (ap (first_broken other) is)
 
-pub broken_some : (other : Option StoreTable) (e : OpenFault) (given : Result Holdings OpenFault)
+pub broken_some : (other : StoreTable) (e : OpenFault) (given : Result Holdings OpenFault)
     → IsJudged (Err e) given → IsBroken (broken_by other e) (first_broken other given)
 broken_some other Memory given j = tt
 broken_some other Database given j = told_by other Database given j

@@ -1,8 +1,8 @@
 -- Which of the six tables is not there as a store has it.
-use Rattle.std.specs.Prelude.{Bool, true, nat_lt, ℕ, Option, Some, None, if◌then◌else◌}
+use Rattle.std.specs.Prelude.{Bool, nat_lt, ℕ, Option, Some, None, if◌then◌else◌}
 use Rattle.sqlite.specs.Schema.{Schema}
 use Rattle.sqlite.specs.Table.{Table}
-use Rattle.smf_tables.specs.Layout.{StandsAt}
+use Rattle.smf_tables.specs.Layout.{StandsAlone}
 use Rattle.smf_tables.specs.Schema as stored
 use Rattle.smf_store.specs.declared.refusal.StoreTable.{StoreTable}
 use Rattle.smf_store.specs.declared.refusal.StoreTable.TheVariants.{Meta, Service, Instance, Group, Snapshot, Restarter}
@@ -24,9 +24,9 @@ table_of Group = stored.grp
 table_of Snapshot = stored.snap
 table_of Restarter = stored.restarter
 
--- the table is there, with its columns, keys and references, in its place
+-- the table is there, with its columns, keys and references, in its place, and no other has its tree
 abbrev pub IsThere : Schema → StoreTable → Type 0
-IsThere schema table = StandsAt schema (place_of table) (table_of table)
+IsThere schema table = StandsAlone schema (place_of table) (table_of table)
 
 -- those before it are there
 abbrev pub AreBefore : Schema → StoreTable → Type 0
@@ -43,27 +43,15 @@ IsFirstOther schema None = AreBefore schema Restarter × IsThere schema Restarte
 IsFirstOther schema (Some other) = AreBefore schema other × (IsThere schema other → ⊥)
 
 -- a table stands before the first that is absent or another, so that its rows are looked at
-abbrev pub is_before : StoreTable → Option StoreTable → Bool
-is_before table None = true
-is_before table (Some other) = nat_lt (place_of table) (place_of other)
+abbrev pub is_before : StoreTable → StoreTable → Bool
+is_before table other = nat_lt (place_of table) (place_of other)
 
 -- the snapshots are read if they stand before the first that is absent or another. If that is the table of groups, they
 -- are read too, if the first table of their name is as a store has it
-abbrev pub reads_snapshots : Option StoreTable → Bool → Bool
-reads_snapshots (Some Group) are_there = are_there
+abbrev pub reads_snapshots : StoreTable → Bool → Bool
+reads_snapshots Group are_there = are_there
 reads_snapshots other are_there = is_before Snapshot other
 
 -- the first of two tables
 abbrev pub earlier : StoreTable → StoreTable → StoreTable
-earlier a b = if nat_lt (place_of a) (place_of b) then a else b
-
--- the table that a fault names, if this table has a row that breaks a rule
-abbrev pub told_before : Option StoreTable → StoreTable → StoreTable
-told_before None table = table
-told_before (Some other) table = earlier table other
-
--- the table that a fault of the schema names, if no row breaks a rule. It is the first of all, if something stands
--- beside the six
-abbrev pub told_for : Option StoreTable → StoreTable
-told_for None = Meta
-told_for (Some other) = other
+earlier a b = if is_before a b then a else b

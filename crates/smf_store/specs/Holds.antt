@@ -1,6 +1,7 @@
 -- When a database holds a value.
 use Rattle.std.specs.Prelude.{◌≡◌, ℕ, List, Option, Some, None, IsTrue}
 use Rattle.sqlite.specs.Order.{Row}
+use Rattle.sqlite.specs.Schema.{Schema}
 use Rattle.sqlite.specs.Tree.{Trees}
 use Rattle.sqlite.specs.Effect.{Database, IsDatabase}
 use Rattle.sqlite.specs.State.{State, HasCleanDisk}
@@ -8,7 +9,7 @@ use Rattle.sqlite_rules.specs.Lists.{Has}
 use Rattle.smf_fmri.specs.ByKey.{Rises, lookup}
 use Rattle.smf_value.specs.Groups.{by_group}
 use Rattle.smf_tables.specs.Rows.{IsKeyed}
-use Rattle.smf_tables.specs.Schema.{store_schema}
+use Rattle.smf_tables.specs.Layout.{IsStore}
 use Rattle.smf_model.specs.declared.held.InstanceEntry.{InstanceEntry}
 use Rattle.smf_model.specs.declared.held.Service.{Service}
 use Rattle.smf_model.specs.Contents.{Holdings}
@@ -46,12 +47,20 @@ pub record IsArranged (h : Holdings) : Type 0 where
   pub instance_groups : (n : ℕ) (e : InstanceEntry) → lookup by_entry h.instances n ≡ Some e → Rises by_group e.groups
   pub none_at_zero : lookup by_entry h.instances 0 ≡ None
 
--- the database has the six tables, and they show this value
-pub record Holds (db : Database) (h : Holdings) : Type 0 where
-  pub schema : db.schema ≡ store_schema
+-- a schema is this one, and that of a store
+pub record IsStoreUnder (s schema : Schema) : Type 0 where
+  pub store : IsStore schema
+  pub same : schema ≡ s
+
+-- the database has the six tables, and they show this value. Its schema is this one, with all that stands beside the six
+pub record HoldsUnder (s : Schema) (db : Database) (h : Holdings) : Type 0 where
+  pub schema : IsStoreUnder s db.schema
   pub sound : IsDatabase db
   pub show : Show db.trees h
   pub arranged : IsArranged h
+
+abbrev pub Holds : Database → Holdings → Type 0
+Holds db h = HoldsUnder db.schema db h
 
 -- and numbers were given once in it
 pub record Stands (db : Database) (h : Holdings) : Type 0 where
@@ -60,7 +69,7 @@ pub record Stands (db : Database) (h : Holdings) : Type 0 where
 
 -- a database of the first version, with the same tables: their counters are others
 pub record StandsFirst (db : Database) (h : Holdings) : Type 0 where
-  pub schema : db.schema ≡ store_schema
+  pub schema : IsStore db.schema
   pub sound : IsDatabase db
   pub counts : Counted (HasCountIn versions.First h) (db.trees 0)
   pub services : Listed (HasService h) ShowsService (db.trees 2)
@@ -81,9 +90,13 @@ pub record Keeps (s : State) (h : Holdings) : Type 0 where
   pub stands : Stands s.now h
   pub settled : s.committed ≡ s.now
 
--- these trees are those of a store of this value
+-- these trees are those of a store of this value, whose schema is this one
+abbrev pub StandsUnder : Schema → Trees → Holdings → Type 0
+StandsUnder schema trees h = Stands (record { schema = schema; trees = trees }) h
+
+-- the same, with any tables, indexes and views beside its own
 abbrev pub StandsIn : Trees → Holdings → Type 0
-StandsIn trees h = Stands (record { schema = store_schema; trees = trees }) h
+StandsIn trees h = (schema : Schema) × StandsUnder schema trees h
 
 abbrev pub Leaves : Trees → Option Holdings → Type 0
 Leaves trees (Some h) = StandsIn trees h

@@ -30,7 +30,7 @@ use Rattle.smf_store.specs.declared.refusal.OpenFault.TheVariants.{Memory, Versi
 use Rattle.smf_store.specs.declared.refusal.StoreTable.{StoreTable}
 use Rattle.smf_store.specs.declared.refusal.StoreTable.TheVariants as tables
 use Rattle.smf_store.specs.Begun.{empty_with_counters}
-use Rattle.smf_store.specs.FirstOther.{told_before, told_for}
+use Rattle.smf_store.specs.FirstOther.{earlier}
 use Rattle.smf_store.specs.RowValues.{◌>>=◌, value_if, integer_in, number_in, text_in, greatest, short_service, service_said, instance_said, group_said, snapshot_said, launch_said}
 
 -- ---- the counters
@@ -260,16 +260,16 @@ judged_as rows (Ok version) =
 unfoldable pub verdict_on_rows : StoreRows → Result Holdings OpenFault
 verdict_on_rows rows = judged_as rows (version_said rows.counts.items)
 
--- the fault of a database that is no store, by the first table that is absent or another.
--- There is none, if the six are there and something stands beside them. A fault of the tables before it comes first
-abbrev pub broken_by : Option StoreTable → OpenFault → OpenFault
+-- the fault of a database that is no store, by the first table that is absent or another. A fault of the tables before
+-- it comes first
+abbrev pub broken_by : StoreTable → OpenFault → OpenFault
 broken_by other Memory = Memory
 broken_by other (Version n) = Version n
-broken_by other (Damaged table) = Damaged (told_before other table)
-broken_by other _ = Damaged (told_for other)
+broken_by other (Damaged table) = Damaged (earlier table other)
+broken_by other _ = Damaged other
 
-unfoldable pub first_broken : Option StoreTable → Result Holdings OpenFault → OpenFault
-first_broken other (Ok h) = Damaged (told_for other)
+unfoldable pub first_broken : StoreTable → Result Holdings OpenFault → OpenFault
+first_broken other (Ok h) = Damaged other
 first_broken other (Err e) = broken_by other e
 
 -- a call tells this, unless memory ran out

@@ -1,13 +1,13 @@
 -- The effects of the reading of a store.
-use Rattle.std.specs.Prelude.{◌≡◌, ◌⊎◌, ℕ, Bool, true, false, List, [], ◌∷◌, IsTrue, Option, Some, Result, Ok, Err}
+use Rattle.std.specs.Prelude.{◌≡◌, ◌⊎◌, ℕ, Bool, true, false, List, [], ◌∷◌, IsTrue, Some, Result, Ok, Err}
 use Rattle.sqlite.specs.Order.{Row}
 use Rattle.sqlite.specs.Tree.{Trees}
 use Rattle.sqlite.specs.Effect.{Database, IsDatabase}
 use Rattle.sqlite.specs.State.{State, Shows}
-use Rattle.smf_tables.specs.Layout.{StandsNamed, StandsSomewhere}
+use Rattle.smf_tables.specs.Layout.{IsStore, StandsNamed, StandsSomewhere}
 use Rattle.smf_tables.specs.Scans.{AreShown}
 use Rattle.smf_tables.specs.Rows.{AreKeyed}
-use Rattle.smf_tables.specs.Schema.{snap_at, store_schema}
+use Rattle.smf_tables.specs.Schema.{snap_at}
 use Rattle.smf_model.specs.Contents.{Holdings}
 use Rattle.smf_store.specs.declared.counter_rows.StoreVersion.{StoreVersion}
 use Rattle.smf_store.specs.declared.counter_rows.StoreVersion.TheVariants as versions
@@ -46,19 +46,20 @@ pub record AreLookedFor (db : Database) (rows : List Row) : Type 0 where
 
 -- the rows of the snapshots, which show the snapshots that are there. If the table of groups, which stands before them,
 -- is absent or another, they are looked for by their table's name
-abbrev pub AreSnapshots : Option StoreTable → Database → List Row → Type 0
-AreSnapshots (Some tables.Group) db rows = AreLookedFor db rows
+abbrev pub AreSnapshots : StoreTable → Database → List Row → Type 0
+AreSnapshots tables.Group db rows = AreLookedFor db rows
 AreSnapshots other db rows = ListedIf (is_before tables.Snapshot other) 8 (0 ∷ 0 ∷ 2 ∷ 3 ∷ []) db.trees rows
 
 -- these are the rows of the tables before the first that is absent or another
-pub record AreListedBefore (other : Option StoreTable) (rows : StoreRows) (db : Database) : Type 0 where
+pub record AreListedBefore (other : StoreTable) (rows : StoreRows) (db : Database) : Type 0 where
   pub counts : ListedIf (is_before tables.Meta other) 0 (0 ∷ 1 ∷ 2 ∷ []) db.trees rows.counts.items
   pub services : ListedIf (is_before tables.Service other) 2 (0 ∷ 1 ∷ []) db.trees rows.services.items
   pub instances : ListedIf (is_before tables.Instance other) 4
       (0 ∷ 0 ∷ 2 ∷ 3 ∷ 4 ∷ 5 ∷ 6 ∷ []) db.trees rows.instances.items
   pub groups : ListedIf (is_before tables.Group other) 6 (0 ∷ 1 ∷ 2 ∷ 3 ∷ 4 ∷ []) db.trees rows.groups.items
   pub snapshots : AreSnapshots other db rows.snapshots.items
-  pub launches : ListedIf (is_before tables.Restarter other) 9 (0 ∷ 1 ∷ 2 ∷ []) db.trees rows.launches.items
+  -- no table stands behind that of the launches, so its rows are not looked at
+  pub launches : rows.launches.items ≡ []
 
 -- a table was looked at, or it was not
 abbrev pub LooksIf : Bool → (State → State → List Row → Type 0) → State → State → List Row → Type 0
@@ -76,8 +77,8 @@ pub record AreAllKeyed (rows : StoreRows) : Type 0 where
 -- the database was looked at, and stays
 pub record Lists (old new : State) (rows : StoreRows) : Type 0 where
   pub shows : Shows old new new.now old.committed true
-  pub same : old.now.schema ≡ store_schema → new.now ≡ old.now
-  pub listed : old.now.schema ≡ store_schema → IsDatabase old.now → AreListed rows old.now.trees
+  pub same : IsStore old.now.schema → new.now ≡ old.now
+  pub listed : IsStore old.now.schema → IsDatabase old.now → AreListed rows old.now.trees
 
 -- a fault that says nothing of the store
 abbrev pub IsFailure : OpenFault → Type 0
@@ -102,44 +103,45 @@ IsSaid trees (Damaged table) = Says trees (Err (Damaged table))
 IsSaid trees TooManyInstances = Says trees (Err TooManyInstances)
 
 -- this fault comes from the rows of the tables before the first that is absent or another, or names that one
-pub record SaysBefore (other : Option StoreTable) (db : Database) (e : OpenFault) : Type 0 where
+pub record SaysBefore (other : StoreTable) (db : Database) (e : OpenFault) : Type 0 where
   pub rows : StoreRows
   pub listed : AreListedBefore other rows db
   pub said : e ≡ first_broken other (verdict_on_rows rows)
 
 -- a fault is a failure, or it comes from the rows before that table
-abbrev pub IsSaidBefore : Option StoreTable → Database → OpenFault → Type 0
+abbrev pub IsSaidBefore : StoreTable → Database → OpenFault → Type 0
 IsSaidBefore other db e = IsFailure e ⊎ SaysBefore other db e
 
--- the tables of the schema are not those of a store, and this fault comes from them
+-- this is the first of the six tables that is absent or another, and this fault comes from it and those before it
 abbrev pub IsOther : Database → OpenFault → Type 0
-IsOther db e = (db.schema ≡ store_schema → ⊥) × (other : Option StoreTable) × IsFirstOther db.schema other
-    × SaysBefore other db e
+IsOther db e = (other : StoreTable) × IsFirstOther db.schema (Some other) × SaysBefore other db e
 
 -- a fault that names a table or a version. The table is the first, in their order, that is absent, or another, or has a
 -- row that breaks a rule
 abbrev pub IsRefused : Database → OpenFault → Type 0
-IsRefused db e = IsFailure e ⊎ (IsOther db e ⊎ ((db.schema ≡ store_schema) × IsSaid db.trees e))
+IsRefused db e = IsFailure e ⊎ (IsOther db e ⊎ (IsStore db.schema × IsSaid db.trees e))
 
--- a store of the second version stays; one of the first is made one of the second, which holds the same
+-- a store of the second version stays; one of the first is made one of the second, which holds the same under the same
+-- schema
 pub data IsRaised (old new : Database) (h : Holdings) : Type 0 where
   stayed : Stands old h → new ≡ old → IsRaised old new h
-  raised : StandsFirst old h → Stands new h → IsRaised old new h
+  raised : StandsFirst old h → Stands new h → new.schema ≡ old.schema → IsRaised old new h
 
 -- inside a transaction the store was made one of the second version
 abbrev pub RaisesFrom : StoreVersion → Database → Database → Type 0
-RaisesFrom versions.First old new = (h : Holdings) → StandsFirst old h → Stands new h
+RaisesFrom versions.First old new = (h : Holdings) → StandsFirst old h
+    → Stands new h × (new.schema ≡ old.schema)
 RaisesFrom versions.Second old new = new ≡ old
 
 pub record Raises (version : StoreVersion) (old new : State) : Type 0 where
   pub shows : IsTrue old.is_open → Shows old new new.now old.committed true
-  pub raised : old.now.schema ≡ store_schema → RaisesFrom version old.now new.now
+  pub raised : IsStore old.now.schema → RaisesFrom version old.now new.now
 
 -- the same, and what the tables hold was read
 pub record Reads (old new : State) (h : Holdings) : Type 0 where
   pub shows : Shows old new new.now old.committed true
-  pub says : old.now.schema ≡ store_schema → IsDatabase old.now → Says old.now.trees (Ok h)
-  pub raised : old.now.schema ≡ store_schema → IsDatabase old.now → IsRaised old.now new.now h
+  pub says : IsStore old.now.schema → IsDatabase old.now → Says old.now.trees (Ok h)
+  pub raised : IsStore old.now.schema → IsDatabase old.now → IsRaised old.now new.now h
 
 -- the store holds what its rows said, and nothing waits to be committed
 pub record Opened (old new : State) (h : Holdings) : Type 0 where

@@ -3,6 +3,7 @@ use Rattle.std.proofs.Common.{◌≡◌, ◌<◌, ℕ, suc, zero, pos, List, [],
 use Rattle.sqlite.specs.declared.types.Value.{Value}
 use Rattle.sqlite.specs.declared.types.Value.TheVariants.{Int, Text, Blob}
 use Rattle.sqlite.specs.Order.{Row}
+use Rattle.sqlite.specs.Schema.{Schema}
 use Rattle.sqlite.specs.Tree.{Trees}
 use Rattle.sqlite.specs.Effect.{Database}
 use Rattle.sqlite.specs.State.{State}
@@ -19,7 +20,6 @@ use Rattle.smf_value.proofs.Wholes.{whole_again}
 use Rattle.smf_snap.specs.Body.{IsSnapshot, spelled_both, decoded_snapshot}
 use Rattle.smf_snap.specs.declared.body.SnapshotBody.{SnapshotBody as Kept}
 use Rattle.smf_snap.proofs.Bodies.{snapshot_again}
-use Rattle.smf_tables.specs.Schema.{store_schema}
 use Rattle.smf_model.specs.declared.held.Instance.{Instance}
 use Rattle.smf_model.specs.declared.held.InstanceEntry.{InstanceEntry}
 use Rattle.smf_model.specs.declared.held.InstanceName.{InstanceName}
@@ -294,18 +294,20 @@ name_goes is js names others same a b name e f =
     λ j. record { name = (it.2 ∙ sym key) j; number = e.number } in
     ap (lookup by_name others) (sym it.2) ∙ found ∙ ap Some is_e
 
-pub unique : (db : Database) (h k : Holdings) → Stands db h → Stands db k → h ≡ k
-unique db h k s t =
+-- also if each is a store with other tables, indexes and views beside its own
+pub unique_in : (trees : Trees) (one two : Schema) (h k : Holdings)
+    → Stands (record { schema = one; trees = trees }) h → Stands (record { schema = two; trees = trees }) k → h ≡ k
+unique_in trees one two h k s t =
     let p = s.holds.show in
     let q = t.holds.show in
     let a = s.holds.arranged in
     let b = t.holds.arranged in
     let services =
     one_list by_service h.services k.services a.ordered.services b.ordered.services
-    (service_goes db.trees h k p q a b) (service_goes db.trees k h q p b a) in
+    (service_goes trees h k p q a b) (service_goes trees k h q p b a) in
     let instances =
     one_list by_entry h.instances k.instances a.ordered.instances b.ordered.instances
-    (entry_goes db.trees h k p q a b) (entry_goes db.trees k h q p b a) in
+    (entry_goes trees h k p q a b) (entry_goes trees k h q p b a) in
     let bares : bare h.instances ≡ bare k.instances = ap bare instances in
     let names = one_list by_name h.names k.names a.ordered.names b.ordered.names
     (name_goes (bare h.instances) (bare k.instances) h.names k.names bares s.numbered.indexed t.numbered.indexed)
@@ -313,13 +315,13 @@ unique db h k s t =
     (sym bares) t.numbered.indexed s.numbered.indexed) in
     let snapshots =
     one_list by_snapshot h.snapshots k.snapshots a.ordered.snapshots b.ordered.snapshots
-    (snapshot_goes db.trees h k p q a b) (snapshot_goes db.trees k h q p b a) in
+    (snapshot_goes trees h k p q a b) (snapshot_goes trees k h q p b a) in
     let launches =
     one_list by_launch h.launches k.launches a.ordered.launches b.ordered.launches
-    (launch_goes db.trees h k p q a b) (launch_goes db.trees k h q p b a) in
-    let revision : h.revision ≡ k.revision = counts db.trees h k p q a b Revision in
-    let next_instance : h.next_instance ≡ k.next_instance = counts db.trees h k p q a b NextInstance in
-    let next_snapshot : h.next_snapshot ≡ k.next_snapshot = counts db.trees h k p q a b NextSnapshot in
+    (launch_goes trees h k p q a b) (launch_goes trees k h q p b a) in
+    let revision : h.revision ≡ k.revision = counts trees h k p q a b Revision in
+    let next_instance : h.next_instance ≡ k.next_instance = counts trees h k p q a b NextInstance in
+    let next_snapshot : h.next_snapshot ≡ k.next_snapshot = counts trees h k p q a b NextSnapshot in
     λ j. record {
       revision = revision j;
       services = services j;
@@ -331,19 +333,21 @@ unique db h k s t =
       next_snapshot = next_snapshot j;
     }
 
+pub unique : (db : Database) (h k : Holdings) → Stands db h → Stands db k → h ≡ k
+unique db h k s t = unique_in db.trees db.schema db.schema h k s t
+
 -- ---- after a crash
 
 pub leaves_one : (db : Database) (trees : Trees) (v : Holdings) (found : Option Holdings) → Stands db v
     → trees ≡ db.trees → Leaves trees found → found ≡ Some v
 leaves_one db trees v found st is left =
-    let same : ◌≡◌ {A = Database} db (record { schema = store_schema; trees = trees }) =
-    ap₂ (λ a b. record { schema = a; trees = b }) st.holds.schema (sym is) in
+    let same : ◌≡◌ {A = Database} db (record { schema = db.schema; trees = trees }) =
+    ap (λ t. record { schema = db.schema; trees = t }) (sym is) in
     go found (subst (λ d. Stands d v) same st) left
   where
-    go : (o : Option Holdings) → Stands (record { schema = store_schema; trees = trees }) v → Leaves trees o
-        → o ≡ Some v
-    go (Some k) s l = ap Some (unique (record { schema = store_schema; trees = trees }) k v l s)
-    go None s l = absurd (l v s)
+    go : (o : Option Holdings) → Stands (record { schema = db.schema; trees = trees }) v → Leaves trees o → o ≡ Some v
+    go (Some k) s l = ap Some (unique_in trees l.0 db.schema k v l.1 s)
+    go None s l = absurd (l v (db.schema, s))
 
 pub stays_settled : (s : State) (h : Holdings)
     → ((db : Trees) → IsTrue s.is_open → s.may_leave db → db ≡ s.committed.trees) → IsSound s

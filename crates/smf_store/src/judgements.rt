@@ -7,7 +7,7 @@ ghost use Rattle.smf_store.specs.Judged.{IsBroken, IsJudged, IsRead, broken_by, 
 use crate::additions::{gather_groups, gather_named, gather_services};
 use crate::agreement::{gather_counted, gather_own};
 use crate::counter_rows::{MAX_NEXT_INSTANCE, StoreVersion, begin, counters_said, version_said};
-use crate::places::{told_before, told_for};
+use crate::places::earlier;
 use crate::refusal::{OpenFault, StoreTable};
 use smf_model::Tables;
 use sqlite::Row;
@@ -114,25 +114,25 @@ pub(crate) fn judge(alloc: Global, rows: &StoreRows) -> Result<Judgement, OpenFa
 }
 
 /// The fault to report. `other` is the first table that is absent or another.
-fn broken_by(fault: OpenFault, other: Option<StoreTable>) -> OpenFault
+fn broken_by(fault: OpenFault, other: StoreTable) -> OpenFault
     ensures { result ≡ broken_by other fault }
 {
     match fault {
         OpenFault::Memory => OpenFault::Memory,
         OpenFault::Version(version) => OpenFault::Version(version),
-        OpenFault::Damaged(table) => OpenFault::Damaged(told_before(other, table)),
-        _ => OpenFault::Damaged(told_for(other)),
+        OpenFault::Damaged(table) => OpenFault::Damaged(earlier(table, other)),
+        _ => OpenFault::Damaged(other),
     }
 }
 
 /// The fault that names the first table that breaks a rule. `other` is the first table that is absent or another, and
 /// those before it have these rows.
 #[tactic(auto, using(crate::proofs::Verdicts::broken_none, crate::proofs::Verdicts::broken_some))]
-pub(crate) fn find_broken(alloc: Global, rows: &StoreRows, other: Option<StoreTable>) -> OpenFault
+pub(crate) fn find_broken(alloc: Global, rows: &StoreRows, other: StoreTable) -> OpenFault
     ensures { IsBroken result (first_broken other (verdict_on_rows rows.now)) }
 {
     let fault = match judge(alloc, rows) {
-        Ok(_) => return OpenFault::Damaged(told_for(other)),
+        Ok(_) => return OpenFault::Damaged(other),
         Err(fault) => fault,
     };
     broken_by(fault, other)

@@ -1,11 +1,11 @@
-ghost use Rattle.std.specs.Prelude.{◌≡◌, ◌↔◌, false, IfErr, IfOk, IsTrue, OnOk};
+ghost use Rattle.std.specs.Prelude.{◌≡◌, ◌↔◌, false, IfErr, IfOk, IsTrue, OnOk, Some};
 ghost use Rattle.sqlite.specs.Held.{state};
 ghost use Rattle.sqlite.specs.State.{HasCleanDisk, IsLive, KeepsCommit};
 ghost use Rattle.smf_model.specs.Laws.{IsNumbered};
 ghost use Rattle.smf_tables.specs.Calls.{CommitsNone, Does, IsInside, LeavesAsBefore};
 ghost use Rattle.smf_tables.specs.Calls.{Finds as Gives};
-ghost use Rattle.smf_tables.specs.Layout.{StandsSomewhere};
-ghost use Rattle.smf_tables.specs.Schema.{snap_at, store_schema};
+ghost use Rattle.smf_tables.specs.Layout.{IsStore, StandsSomewhere};
+ghost use Rattle.smf_tables.specs.Schema.{snap_at};
 ghost use Rattle.smf_store.specs.Agreement.{AreLaunched, NameOwn};
 ghost use Rattle.smf_store.specs.Ends.{Fails, LeavesOr};
 ghost use Rattle.smf_store.specs.FirstOther.{IsFirstOther};
@@ -20,7 +20,7 @@ use crate::refusal::{OpenFault, StoreTable};
 use smf_model::Tables;
 use smf_tables::{
     add_meta, drop_meta, has_grp_table, has_instance_table, has_meta_table, has_restarter_table,
-    has_service_table, has_snap_table, has_snapshots, is_store,
+    has_service_table, has_snap_table, has_snapshots,
 };
 use sqlite::{Alter, Connection, Transaction};
 use sqlite_schema::schema::Schema;
@@ -65,7 +65,7 @@ fn read_raised<S: Alter>(alloc: Global, tx: &mut Transaction<'_, S>) -> Result<T
     ensures err { CommitsNone S.Store tx.old.conn.now tx.new.conn.now result }
     ensures crash { LeavesAsBefore S.Store tx.old.conn.now tx.new.conn.now }
     ensures said { HasCleanDisk (state S.Store tx.new.conn.now)
-        → (state S.Store tx.old.conn.now).now.schema ≡ store_schema → IsLive (state S.Store tx.old.conn.now)
+        → IsStore (state S.Store tx.old.conn.now).now.schema → IsLive (state S.Store tx.old.conn.now)
         → IfErr result (IsSaid (state S.Store tx.old.conn.now).now.trees) }
     ensures numbered { IfOk result (λ h. IsNumbered h) }
     ensures named { IfOk result (λ h. NameOwn h) }
@@ -114,7 +114,7 @@ fn first_other(schema: &Schema) -> Option<StoreTable>
 fn find_fault<S: Alter>(
     alloc: Global,
     tx: &mut Transaction<'_, S>,
-    other: Option<StoreTable>,
+    other: StoreTable,
     are_there: bool,
 ) -> OpenFault
     requires { IsInside S.Store tx.old.conn.now }
@@ -123,7 +123,7 @@ fn find_fault<S: Alter>(
         → KeepsCommit (state S.Store tx.old.conn.now) (state S.Store tx.new.conn.now) }
     ensures crash { LeavesAsBefore S.Store tx.old.conn.now tx.new.conn.now }
     ensures said { HasCleanDisk (state S.Store tx.new.conn.now)
-        → IsFirstOther (state S.Store tx.old.conn.now).now.schema other
+        → IsFirstOther (state S.Store tx.old.conn.now).now.schema (Some other)
         → (IsTrue are_there ↔ StandsSomewhere (state S.Store tx.old.conn.now).now.schema snap_at)
         → IsLive (state S.Store tx.old.conn.now) → IsSaidBefore other (state S.Store tx.old.conn.now).now result }
 {
@@ -136,14 +136,13 @@ fn find_fault<S: Alter>(
 
 /// The same, of a database that stays as it is.
 #[tactic(auto, using(crate::proofs::Before::refused_before))]
-fn refuse<S: Alter>(alloc: Global, conn: &mut Connection<S>) -> OpenFault
+fn refuse<S: Alter>(alloc: Global, conn: &mut Connection<S>, other: StoreTable) -> OpenFault
     requires autocommits { conn.old.in_transaction ≡ false }
-    requires another { (state S.Store conn.old).now.schema ≡ store_schema → ⊥ }
+    requires first { IsFirstOther (state S.Store conn.old).now.schema (Some other) }
     ensures kept { HasCleanDisk (state S.Store conn.new) → Kept (state S.Store conn.old) (state S.Store conn.new) }
     ensures refused { HasCleanDisk (state S.Store conn.new) → IsRefused (state S.Store conn.old).now result }
     ensures crash { LeavesAsBefore S.Store conn.old conn.new }
 {
-    let other = first_other(conn.schema());
     let are_there = has_snapshots(conn.schema());
     let mut tx = conn.transaction();
     find_fault(alloc, &mut tx, other, are_there)
@@ -167,8 +166,9 @@ pub(crate) fn read_store<S: Alter>(
     if !conn.is_autocommit() {
         return Err(OpenFault::Database);
     }
-    if !is_store(conn.schema()) {
-        return Err(refuse(alloc, conn));
+    match first_other(conn.schema()) {
+        Some(other) => return Err(refuse(alloc, conn, other)),
+        None => {}
     }
     let mut tx = conn.transaction();
     let tables = read_raised(alloc, &mut tx)?;

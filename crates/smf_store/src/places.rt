@@ -1,5 +1,5 @@
 ghost use Rattle.std.specs.Prelude.{◌≡◌};
-ghost use Rattle.smf_store.specs.FirstOther.{earlier, is_before, place_of, reads_snapshots, told_before, told_for};
+ghost use Rattle.smf_store.specs.FirstOther.{earlier, is_before, place_of, reads_snapshots};
 
 use crate::refusal::StoreTable;
 
@@ -18,52 +18,29 @@ fn place_of(table: StoreTable) -> usize
 }
 
 /// True if a table stands before the first that is absent or another.
-pub(crate) fn is_before(table: StoreTable, other: Option<StoreTable>) -> bool
+pub(crate) fn is_before(table: StoreTable, other: StoreTable) -> bool
     ensures { result ≡ is_before table other }
 {
-    match other {
-        None => true,
-        Some(other) => place_of(table) < place_of(other),
-    }
+    place_of(table) < place_of(other)
 }
 
 /// True if the snapshots are read: they stand before the first table that is absent or another. If that is the table of
 /// groups, they are read too, if the first table of their name is as a store has it.
-pub(crate) fn reads_snapshots(other: Option<StoreTable>, are_there: bool) -> bool
+pub(crate) fn reads_snapshots(other: StoreTable, are_there: bool) -> bool
     ensures { result ≡ reads_snapshots other are_there }
 {
     match other {
-        Some(StoreTable::Group) => are_there,
+        StoreTable::Group => are_there,
         _ => is_before(StoreTable::Snapshot, other),
     }
 }
 
 /// The first of two tables.
-fn earlier(table: StoreTable, other: StoreTable) -> StoreTable
+pub(crate) fn earlier(table: StoreTable, other: StoreTable) -> StoreTable
     ensures { result ≡ earlier table other }
 {
-    if place_of(table) < place_of(other) {
+    if is_before(table, other) {
         return table;
     }
     other
-}
-
-/// The table that a fault names, if this table has a row that breaks a rule.
-pub(crate) fn told_before(other: Option<StoreTable>, table: StoreTable) -> StoreTable
-    ensures { result ≡ told_before other table }
-{
-    match other {
-        None => table,
-        Some(other) => earlier(table, other),
-    }
-}
-
-/// The table that a fault of the schema names, if no row breaks a rule.
-pub(crate) fn told_for(other: Option<StoreTable>) -> StoreTable
-    ensures { result ≡ told_for other }
-{
-    match other {
-        None => StoreTable::Meta,
-        Some(other) => other,
-    }
 }

@@ -1,10 +1,10 @@
-ghost use Rattle.std.specs.Prelude.{◌≡◌, ◌↔◌, IfErr, IfOk, IsTrue};
+ghost use Rattle.std.specs.Prelude.{◌≡◌, ◌↔◌, IfErr, IfOk, IsTrue, Some};
 ghost use Rattle.sqlite.specs.Held.{state};
 ghost use Rattle.sqlite.specs.State.{HasCleanDisk, IsLive, KeepsCommit};
 ghost use Rattle.smf_tables.specs.Calls.{CommitsNone, IsInside, LeavesAsBefore};
 ghost use Rattle.smf_tables.specs.Calls.{Finds as Reads};
 ghost use Rattle.smf_tables.specs.Layout.{StandsSomewhere};
-ghost use Rattle.smf_tables.specs.Scans.{LooksAtGroups, LooksAtInstances, LooksAtLaunches, LooksAtMeta, LooksAtServices, LooksAtSnapshots, LooksForSnapshots};
+ghost use Rattle.smf_tables.specs.Scans.{LooksAtGroups, LooksAtInstances, LooksAtMeta, LooksAtServices, LooksAtSnapshots, LooksForSnapshots};
 ghost use Rattle.smf_tables.specs.Schema.{snap_at};
 ghost use Rattle.smf_store.specs.FirstOther.{IsFirstOther, is_before, reads_snapshots};
 ghost use Rattle.smf_store.specs.Stages.{AreAllKeyed, AreListedBefore, IsFailure, Lists, LooksIf};
@@ -170,34 +170,12 @@ fn snapshots_if<S: Alter>(
     }
 }
 
-/// All rows of the table of restarters, if it is to be looked at.
-fn launches_if<S: Alter>(
-    alloc: Global,
-    tx: &mut Transaction<'_, S>,
-    looks: bool,
-) -> Result<Vec<Row>, OpenFault>
-    requires { IsInside S.Store tx.old.conn.now }
-    ensures same_reference { tx.new.conn.ghost_name ≡ tx.old.conn.ghost_name }
-    ensures ok { Reads (λ old new rows. LooksIf looks LooksAtLaunches old new rows.items) S.Store tx.old.conn.now
-        tx.new.conn.now result }
-    ensures kept { HasCleanDisk (state S.Store tx.new.conn.now)
-        → KeepsCommit (state S.Store tx.old.conn.now) (state S.Store tx.new.conn.now) }
-    ensures inside { IfOk result (λ _. IsInside S.Store tx.new.conn.now) }
-    ensures crash { LeavesAsBefore S.Store tx.old.conn.now tx.new.conn.now }
-    ensures fault { IfErr result IsFailure }
-{
-    match looks {
-        true => Ok(all_launches(tx)?),
-        false => Ok(Vec::new(alloc)),
-    }
-}
-
-/// All rows of the tables before the first that is absent or another. If that is the table of groups, the snapshots
-/// after it are read too, if they are there. They show which an instance may name.
+/// All rows of the tables before the first that is absent or another, which are none of the last table. If that is the
+/// table of groups, the snapshots after it are read too, if they are there. They show which an instance may name.
 pub(crate) fn read_before<S: Alter>(
     alloc: Global,
     tx: &mut Transaction<'_, S>,
-    other: Option<StoreTable>,
+    other: StoreTable,
     are_there: bool,
 ) -> Result<StoreRows, OpenFault>
     requires { IsInside S.Store tx.old.conn.now }
@@ -207,7 +185,7 @@ pub(crate) fn read_before<S: Alter>(
     ensures crash { LeavesAsBefore S.Store tx.old.conn.now tx.new.conn.now }
     ensures fault { IfErr result IsFailure }
     ensures listed { HasCleanDisk (state S.Store tx.new.conn.now)
-        → IfOk result (λ rows. IsFirstOther (state S.Store tx.old.conn.now).now.schema other
+        → IfOk result (λ rows. IsFirstOther (state S.Store tx.old.conn.now).now.schema (Some other)
         → (IsTrue are_there ↔ StandsSomewhere (state S.Store tx.old.conn.now).now.schema snap_at)
         → IsLive (state S.Store tx.old.conn.now) → AreListedBefore other rows (state S.Store tx.old.conn.now).now) }
 {
@@ -216,7 +194,7 @@ pub(crate) fn read_before<S: Alter>(
     let instances = instances_if(alloc, tx, is_before(StoreTable::Instance, other))?;
     let groups = groups_if(alloc, tx, is_before(StoreTable::Group, other))?;
     let snapshots = snapshots_if(alloc, tx, reads_snapshots(other, are_there))?;
-    let launches = launches_if(alloc, tx, is_before(StoreTable::Restarter, other))?;
+    let launches = Vec::new(alloc);
     let rows = StoreRows {
         counts,
         services,

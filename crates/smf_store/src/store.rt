@@ -5,7 +5,7 @@ ghost use Rattle.smf_laws.specs.Consistent.{IsConsistent};
 ghost use Rattle.smf_model.specs.Contents.{Holdings};
 ghost use Rattle.smf_model.specs.Laws.{IsNumbered};
 ghost use Rattle.smf_model.specs.Look.{empty};
-ghost use Rattle.smf_tables.specs.Schema.{no_schema};
+ghost use Rattle.smf_tables.specs.Schema.{no_schema, store_schema};
 ghost use Rattle.smf_store.specs.Agreement.{AreLaunched, AreUnlaunched, NameOwn};
 ghost use Rattle.smf_store.specs.Creation.{MayMake};
 ghost use Rattle.smf_store.specs.Ends.{LeavesOr};
@@ -48,6 +48,9 @@ impl<S: Alter> Store<S> {
     ) -> Result<Store<S>, (RepoFault, Connection<S>)>
         ensures stands { IfOk result (λ s. IsSound (state S.Store s.conn) → Keeps (state S.Store s.conn) empty) }
         ensures sound { IfOk result (λ s. HasCleanDisk (state S.Store s.conn) → IsSound (state S.Store s.conn)) }
+        // Nothing stands beside the six tables.
+        ensures schema { IfOk result (λ s. HasCleanDisk (state S.Store s.conn)
+            → (state S.Store s.conn).now.schema ≡ store_schema) }
         ensures crash { IfOk result (λ s. LeavesOr MayMake S.Store conn s.conn) }
         ensures crash_err { IfErr result (λ e. LeavesOr MayMake S.Store conn e.1) }
     {

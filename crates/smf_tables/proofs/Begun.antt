@@ -1,10 +1,11 @@
 -- A schema begins with those of the six tables that stand in their places.
-use Rattle.std.proofs.Common.{◌≡◌, ℕ, zero, suc, List, [], ◌∷◌, drop, Some, ap, ◌∙◌}
-use Rattle.std.specs.List.{slice_get}
+use Rattle.std.proofs.Common.{◌≡◌, ◌≢◌, ◌==◌, ℕ, zero, suc, List, [], ◌∷◌, Bool, true, false, cond, drop, filter, length, Some, refl, sym, ap, ◌∙◌, arith, eq-eqb}
+use Rattle.std.specs.List.{AllByRecursion, slice_get}
 use Rattle.sqlite.specs.Schema.{Schema}
 use Rattle.sqlite.specs.Table.{Table}
 use Rattle.smf_tables.specs.Schema.{store_schema, meta, service, instance, grp, snap, restarter}
-use Rattle.smf_tables.specs.Layout.{Begins, Rest, StandsAt, begun_1, begun_2, begun_3, begun_4, begun_5, begun_6}
+use Rattle.smf_tables.specs.Layout.{Begins, IsStore, Rest, StandsAt, begun_1, begun_2, begun_3, begun_4, begun_5, begun_6, count_of_tree}
+use Rattle.smf_tables.proofs.Actions.{IsApart}
 
 -- a list whose element at a place is known, cut there
 cut : (xs : List Table) (at : ℕ) (x : Table) → slice_get xs at ≡ Some x → drop at xs ≡ x ∷ drop (suc at) xs
@@ -77,6 +78,41 @@ begins_6 s a b c d e f = (
       ∙ ap (λ l. grp ∷ l) (cut s.tables 4 snap e ∙ ap (λ l. snap ∷ l) (cut s.tables 5 restarter f)))))),
 )
 
+-- ---- what stands behind them has other trees
+
+none_by : (tree : ℕ) (u : Table) (us : List Table) (b : Bool) → (u.tree == tree) ≡ b
+    → length (cond b (u ∷ filter (λ t. t.tree == tree) us) (filter (λ t. t.tree == tree) us)) ≡ 0
+    → (length (filter (λ t. t.tree == tree) us) ≡ 0 → AllByRecursion (λ v. tree ≢ v.tree) us)
+    → AllByRecursion (λ v. tree ≢ v.tree) (u ∷ us)
+none_by tree u us true is none more = absurd (omega (arith, none))
+none_by tree u us false is none more = (
+  λ same. absurd (let clash : true ≡ false = sym (eq-eqb u.tree tree (sym same)) ∙ is in cc),
+  more none,
+)
+
+none_with : (tree : ℕ) (tables : List Table) → length (filter (λ t. t.tree == tree) tables) ≡ 0
+    → AllByRecursion (λ u. tree ≢ u.tree) tables
+none_with tree [] none = tt
+none_with tree (u ∷ us) none = none_by tree u us (u.tree == tree) refl none (none_with tree us)
+
+apart_from : (tables : List Table) → AllByRecursion (λ u. ◌≢◌ {A = ℕ} 0 u.tree) tables
+    → AllByRecursion (λ u. ◌≢◌ {A = ℕ} 2 u.tree) tables → AllByRecursion (λ u. ◌≢◌ {A = ℕ} 4 u.tree) tables
+    → AllByRecursion (λ u. ◌≢◌ {A = ℕ} 6 u.tree) tables → AllByRecursion (λ u. ◌≢◌ {A = ℕ} 8 u.tree) tables
+    → AllByRecursion (λ u. ◌≢◌ {A = ℕ} 9 u.tree) tables → AllByRecursion IsApart tables
+apart_from [] a b c d e f = tt
+apart_from (u ∷ us) a b c d e f = (
+  (a.0, (b.0, (c.0, (d.0, (e.0, (f.0, tt)))))),
+  apart_from us a.1 b.1 c.1 d.1 e.1 f.1,
+)
+
+others : (s : Schema) (rest : Rest) (tree : ℕ) → s ≡ begun_6 rest
+    → count_of_tree (begun_6 rest) tree ≡ suc (length (filter (λ t. t.tree == tree) rest.tables))
+    → count_of_tree s tree ≡ 1 → AllByRecursion (λ u. tree ≢ u.tree) rest.tables
+others s rest tree is counted alone =
+    let one : suc (length (filter (λ t. t.tree == tree) rest.tables)) ≡ 1 =
+    sym counted ∙ ap (λ z. count_of_tree z tree) (sym is) ∙ alone in
+    none_with tree rest.tables (omega (arith, one))
+
 -- a store begins with each of these
 pub record OfStore (s : Schema) : Type 0 where
   pub one : Begins begun_1 s
@@ -85,14 +121,37 @@ pub record OfStore (s : Schema) : Type 0 where
   pub four : Begins begun_4 s
   pub five : Begins begun_5 s
   pub six : Begins begun_6 s
+  pub rest : Rest
+  pub is : s ≡ begun_6 rest
+  pub apart : AllByRecursion IsApart rest.tables
 
-pub of_store : (s : Schema) → s ≡ store_schema → OfStore s
+pub of_store : (s : Schema) → IsStore s → OfStore s
 unfolding Begins with_tables behind
-of_store s has = record {
-  one = (behind store_schema 1, has);
-  two = (behind store_schema 2, has);
-  three = (behind store_schema 3, has);
-  four = (behind store_schema 4, has);
-  five = (behind store_schema 5, has);
-  six = (behind store_schema 6, has);
+of_store s store =
+    let all = begins_6 s store.meta.there store.service.there store.instance.there store.grp.there store.snap.there
+    store.restarter.there in
+    record {
+      one = begins_1 s store.meta.there;
+      two = begins_2 s store.meta.there store.service.there;
+      three = begins_3 s store.meta.there store.service.there store.instance.there;
+      four = begins_4 s store.meta.there store.service.there store.instance.there store.grp.there;
+      five = begins_5 s store.meta.there store.service.there store.instance.there store.grp.there store.snap.there;
+      six = all;
+      rest = all.0;
+      is = all.1;
+      apart = apart_from all.0.tables (others s all.0 0 all.1 refl store.meta.alone)
+          (others s all.0 2 all.1 refl store.service.alone) (others s all.0 4 all.1 refl store.instance.alone)
+          (others s all.0 6 all.1 refl store.grp.alone) (others s all.0 8 all.1 refl store.snap.alone)
+          (others s all.0 9 all.1 refl store.restarter.alone);
+    }
+
+-- the schema that a new store has is one
+pub new_is_store : IsStore store_schema
+new_is_store = record {
+  meta = record { there = refl; alone = refl };
+  service = record { there = refl; alone = refl };
+  instance = record { there = refl; alone = refl };
+  grp = record { there = refl; alone = refl };
+  snap = record { there = refl; alone = refl };
+  restarter = record { there = refl; alone = refl };
 }

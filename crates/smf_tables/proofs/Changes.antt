@@ -1,5 +1,4 @@
--- The effect of DELETE and INSERT on the rows of any table on which no foreign key acts. No lemma here needs the order
--- of the rows.
+-- The effect of DELETE and INSERT on the rows of one of the six tables. No lemma here needs the order of the rows.
 use Rattle.std.proofs.Common.{◌≡◌, ◌≢◌, ◌⊎◌, inl, inr, ℕ, ℤ, List, [], ◌∷◌, None, Ok, Err, Option, Result, refl, sym, ap, subst, ◌∙◌, Bool, true, false, cond, true≢false, nat_le, fold}
 use Rattle.std.specs.Ordering.{is_eq}
 use Rattle.std.proofs.lemmas.Bool.{and_parts, not-true}
@@ -18,14 +17,15 @@ use Rattle.sqlite.specs.Rows.{Written, Task, Deletes, Inserts, stamped, rowids_f
 use Rattle.sqlite.specs.Source.{Source}
 use Rattle.sqlite.specs.Effect.{IsSource}
 use Rattle.sqlite.specs.Cast.{cast_row}
-use Rattle.sqlite.specs.Edit.{edit_of, with_rowid, without_all, put_all, have_rowids, is_taken, are_fresh, id_in, taken_by}
+use Rattle.sqlite.specs.Edit.{Edit, edit_of, with_rowid, without_all, put_all, have_rowids, is_taken, are_fresh, id_in}
 use Rattle.sqlite.specs.Rowids.TheVariants.{Given, Chosen, Above}
-use Rattle.sqlite_rules.specs.Action.{works}
+use Rattle.sqlite_rules.specs.Action.{Writes}
 use Rattle.sqlite_rules.specs.Calls.{ids_of}
 use Rattle.sqlite_rules.specs.Lists.{Has}
 use Rattle.sqlite_rules.proofs.TableLemmas.{int_is, without_all_has, put_has, has_put, put_all_keeps}
 use Rattle.sqlite_schema.specs.declared.schema.Keys.{Keys}
-use Rattle.sqlite.proofs.Callers.{one_step}
+use Rattle.smf_tables.specs.Schema.{store_schema}
+use Rattle.smf_tables.proofs.Actions.{Settled}
 use Rattle.smf_tables.proofs.Answers.{rows_query, AreShown, are_shown}
 use Rattle.smf_tables.proofs.Rowids.{none_left, stays_left, has_any}
 use Rattle.std.specs.List.{AllByRecursion}
@@ -125,12 +125,12 @@ gains rows new keyed int fresh =
     }
 
 -- DELETE FROM the table WHERE the filter, as the command that its text compiles to
-module _ (limit : Option ℕ) (keys : Keys) (schema : Schema) (table : Table) (params : Row) (acts : (olds news : List Row) → works schema keys 0 table.tree olds news ≡ []) where
+module _ (limit : Option ℕ) (keys : Keys) (schema : Schema) (table : Table) (params : Row) (settles : (db next : Trees) (edit : Edit) → edit.table ≡ table → Writes schema keys db edit (Ok next) → Settled db edit next) where
   abbrev pub task : Task
   task = record { limit = limit; keys = keys; schema = schema; table = table; params = params }
 
   abbrev pub Spares : Trees → Trees → Type 0
-  Spares old new = AllByRecursion (λ t. t.tree ≢ table.tree → new t.tree ≡ old t.tree) schema.tables
+  Spares old new = AllByRecursion (λ t. t.tree ≢ table.tree → new t.tree ≡ old t.tree) store_schema.tables
 
   pub deletes : (db : Trees) (filter : List Term) (w : Written) → LooksAtColumns filter params
       → IsKeyed (db table.tree)
@@ -140,7 +140,7 @@ module _ (limit : Option ℕ) (keys : Keys) (schema : Schema) (table : Table) (p
       let found = went h in
       let step = went found.2 in
       let edit = edit_of db table (ids_of found.0) Given 0 [] in
-      let applies = one_step schema keys db step.0 edit (acts (taken_by db edit) edit.news) step.1 in
+      let applies = settles db step.0 edit refl step.1 in
       let shown = are_shown (overlay db []) [] table.tree filter (col 1 0 ∷ []) params found.0 (found.1.answer Null) in
       let trees : w.trees ≡ step.0 = ap (λ (x : Written). x.trees) (same_value step.2) in (
         subst (Loses (is_picked filter params) (db table.tree))
@@ -166,7 +166,7 @@ module _ (limit : Option ℕ) (keys : Keys) (schema : Schema) (table : Table) (p
       let step = went counter.2 in
       let last = went step.2 in
       let edit = edit_of db table [] (rowids_for table (count_of counter.0)) 0 rows.0 in
-      let applies = one_step schema keys db step.0 edit (acts (taken_by db edit) edit.news) step.1 in
+      let applies = settles db step.0 edit refl step.1 in
       let news : edit.news ≡ made ∷ [] =
       ap (λ b. (edit_of db table [] (cond b (Above (count_of counter.0)) Chosen) 0 rows.0).news) uncounted
       ∙ ap (λ all. (edit_of db table [] Chosen 0 all).news) (given rows.0 rows.1) ∙ ap (λ r. r ∷ []) cast in

@@ -1,5 +1,6 @@
 pub mod Answers
 pub mod Rowids
+pub mod Actions
 pub mod Changes
 pub mod Texts
 pub mod Creates

@@ -19,6 +19,7 @@ use Rattle.smf_tables.specs.declared.lookups.NameColumns.{NameColumns}
 use Rattle.smf_tables.specs.Rows.{equal, is_picked}
 use Rattle.smf_tables.specs.Statements.{ReadsName, FindsService}
 use Rattle.smf_tables.proofs.Answers.{ordered_query, AreShown, are_shown}
+use Rattle.smf_tables.proofs.Begun.{of_store}
 use Rattle.smf_tables.proofs.Changes.{no_tables}
 use Rattle.smf_tables.proofs.Texts
 
@@ -123,11 +124,15 @@ module _ (old new : State) (rows : List Row) (on : IsTrue old.in_transaction) wh
   pub no_name : (id : ℤ) → length rows ≡ 0 → Shown Texts.name_of (Int id ∷ []) old new rows → ReadsName id old new None
   no_name id none seen = record {
     shows = shown_inside Texts.name_of (Int id ∷ []) old new rows on seen;
-    same = λ has. same_database Texts.name_of (Int id ∷ []) old new [] 4 (equal 0 0 ∷ []) (col 1 2 ∷ col 1 3 ∷ [])
-        (codes "service" ∷ codes "name" ∷ []) Texts.name_of_is Texts.name_of_plain Texts.name_of_unlisted has rows seen;
-    seen = λ has.
+    same = λ store. let b = of_store old.now.schema store in
+        same_database Texts.name_of (Int id ∷ []) old new [] 4 (equal 0 0 ∷ []) (col 1 2 ∷ col 1 3 ∷ [])
+        (codes "service" ∷ codes "name" ∷ []) (Texts.name_of_is b.rest) (Texts.name_of_plain b.rest)
+        (Texts.name_of_unlisted b.rest) b.is rows seen;
+    seen = λ store.
+        let b = of_store old.now.schema store in
         let all = shows_rows Texts.name_of (Int id ∷ []) old new [] 4 (equal 0 0 ∷ []) (col 1 2 ∷ col 1 3 ∷ [])
-        (codes "service" ∷ codes "name" ∷ []) Texts.name_of_is Texts.name_of_plain Texts.name_of_unlisted has rows
+        (codes "service" ∷ codes "name" ∷ []) (Texts.name_of_is b.rest) (Texts.name_of_plain b.rest)
+        (Texts.name_of_unlisted b.rest) b.is rows
         seen in (
           tt,
           λ r there. fails_unless (is_picked (equal 0 0 ∷ []) (Int id ∷ []) r)
@@ -140,11 +145,15 @@ module _ (old new : State) (rows : List Row) (on : IsTrue old.in_transaction) wh
       → Shown Texts.name_of (Int id ∷ []) old new rows → ReadsName id old new (Some it)
   reads_name id it x there service name seen = record {
     shows = shown_inside Texts.name_of (Int id ∷ []) old new rows on seen;
-    same = λ has. same_database Texts.name_of (Int id ∷ []) old new [] 4 (equal 0 0 ∷ []) (col 1 2 ∷ col 1 3 ∷ [])
-        (codes "service" ∷ codes "name" ∷ []) Texts.name_of_is Texts.name_of_plain Texts.name_of_unlisted has rows seen;
-    seen = λ has.
+    same = λ store. let b = of_store old.now.schema store in
+        same_database Texts.name_of (Int id ∷ []) old new [] 4 (equal 0 0 ∷ []) (col 1 2 ∷ col 1 3 ∷ [])
+        (codes "service" ∷ codes "name" ∷ []) (Texts.name_of_is b.rest) (Texts.name_of_plain b.rest)
+        (Texts.name_of_unlisted b.rest) b.is rows seen;
+    seen = λ store.
+        let b = of_store old.now.schema store in
         let all = shows_rows Texts.name_of (Int id ∷ []) old new [] 4 (equal 0 0 ∷ []) (col 1 2 ∷ col 1 3 ∷ [])
-        (codes "service" ∷ codes "name" ∷ []) Texts.name_of_is Texts.name_of_plain Texts.name_of_unlisted has rows
+        (codes "service" ∷ codes "name" ∷ []) (Texts.name_of_is b.rest) (Texts.name_of_plain b.rest)
+        (Texts.name_of_unlisted b.rest) b.is rows
         seen in
         let s = all.sound x there in (
           record {
@@ -161,12 +170,16 @@ module _ (old new : State) (rows : List Row) (on : IsTrue old.in_transaction) wh
       → Shown Texts.has_service (Text name ∷ []) old new rows → FindsService name old new found
   finds_service name found some seen = record {
     shows = shown_inside Texts.has_service (Text name ∷ []) old new rows on seen;
-    same = λ has. same_database Texts.has_service (Text name ∷ []) old new [] 2 (equal 1 0 ∷ []) (col 1 1 ∷ [])
-        (codes "name" ∷ []) Texts.has_service_is Texts.has_service_plain Texts.has_service_unlisted has rows seen;
-    seen = λ has is.
+    same = λ store. let b = of_store old.now.schema store in
+        same_database Texts.has_service (Text name ∷ []) old new [] 2 (equal 1 0 ∷ []) (col 1 1 ∷ [])
+        (codes "name" ∷ []) (Texts.has_service_is b.rest) (Texts.has_service_plain b.rest)
+        (Texts.has_service_unlisted b.rest) b.is rows seen;
+    seen = λ store is.
+        let b = of_store old.now.schema store in
         let x = some_in rows (some is) in
         let all = shows_rows Texts.has_service (Text name ∷ []) old new [] 2 (equal 1 0 ∷ []) (col 1 1 ∷ [])
-        (codes "name" ∷ []) Texts.has_service_is Texts.has_service_plain Texts.has_service_unlisted has rows seen in
+        (codes "name" ∷ []) (Texts.has_service_is b.rest) (Texts.has_service_plain b.rest)
+        (Texts.has_service_unlisted b.rest) b.is rows seen in
         let s = all.sound x.0 x.1 in
         record { row = s.0; there = s.1; picked = s.2; shows = tt };
   }

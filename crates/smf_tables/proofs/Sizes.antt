@@ -7,7 +7,7 @@ single_is [] d x least below is = absurd (omega (arith, least))
 single_is (y ∷ []) d x least below is = ap (λ z. z ∷ []) is
 single_is (y ∷ z ∷ xs) d x least below is = absurd (omega (arith, below))
 
-pub five_are : {X : Type 0} (xs : List X) (a b e f g : X) → 5 ≤ length xs → length xs < 6 → a ≡ slice_index_or xs 0 a
+five_are : {X : Type 0} (xs : List X) (a b e f g : X) → 5 ≤ length xs → length xs < 6 → a ≡ slice_index_or xs 0 a
     → b ≡ slice_index_or xs 1 b → e ≡ slice_index_or xs 2 e → f ≡ slice_index_or xs 3 f
     → g ≡ slice_index_or xs 4 g → xs ≡ a ∷ b ∷ e ∷ f ∷ g ∷ []
 five_are [] a b e f g least below p q r s t = absurd (omega (arith, least))

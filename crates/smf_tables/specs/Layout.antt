@@ -1,5 +1,5 @@
 -- When a table of a schema is one of the six.
-use Rattle.std.specs.Prelude.{◌≡◌, ◌==◌, ℕ, List, [], ◌∷◌, codes, position, Option, Some, false, true}
+use Rattle.std.specs.Prelude.{◌≡◌, ◌==◌, ℕ, List, [], ◌∷◌, codes, filter, length, position, Option, Some, false}
 use Rattle.std.specs.List.{slice_get}
 use Rattle.sqlite_value.specs.Keys.{plain}
 use Rattle.sqlite_schema.specs.declared.schema.Index.{Index}
@@ -27,10 +27,6 @@ pub record HasKeys (table : Table) (key : Option ℕ) (primary unique : List ℕ
   pub uniques_is : table.uniques ≡ unique ∷ []
   pub orders_is : table.orders ≡ plain ∷ []
 
-abbrev pub index : List ℕ → ℕ → ℕ → List ℕ → Index
-index name tree table columns =
-    record { name = name; tree = tree; table = table; columns = columns; order = plain; is_unique = true }
-
 -- the rowid alone
 pub record HasRowKey (table : Table) : Type 0 where
   pub key_is : table.key ≡ Some 0
@@ -51,6 +47,24 @@ to_service = record {
 -- the table at this place of a schema, counted from 0, is this one
 abbrev pub StandsAt : Schema → ℕ → Table → Type 0
 StandsAt schema place table = slice_get schema.tables place ≡ Some table
+
+-- so many tables of a schema have this tree
+abbrev pub count_of_tree : Schema → ℕ → ℕ
+count_of_tree schema tree = length (filter (λ t. t.tree == tree) schema.tables)
+
+-- the same, and no other table has its tree
+pub record StandsAlone (schema : Schema) (place : ℕ) (table : Table) : Type 0 where
+  pub there : StandsAt schema place table
+  pub alone : count_of_tree schema table.tree ≡ 1
+
+-- the six tables of a store stand first, each in its place. Other tables behind them, indexes and views say nothing
+pub record IsStore (schema : Schema) : Type 0 where
+  pub meta : StandsAlone schema 0 stored.meta
+  pub service : StandsAlone schema 1 stored.service
+  pub instance : StandsAlone schema 2 stored.instance
+  pub grp : StandsAlone schema 3 stored.grp
+  pub snap : StandsAlone schema 4 stored.snap
+  pub restarter : StandsAlone schema 5 stored.restarter
 
 -- this table is the first of its name, and the first of its tree, at whichever place
 pub record StandsNamed (schema : Schema) (table : Table) : Type 0 where

@@ -12,6 +12,7 @@ use Rattle.sqlite.specs.Table.{Table}
 use Rattle.sqlite.specs.Effect.{Database, IsDatabase}
 use Rattle.sqlite.specs.State.{State, Shows}
 use Rattle.sqlite_rules.specs.Lists.{Has}
+use Rattle.smf_tables.specs.Layout.{IsStore}
 use Rattle.smf_tables.specs.Schema.{store_schema}
 
 -- no table has more columns, the rowid among them
@@ -53,9 +54,10 @@ pub record Gains (row : Row) (old new : List Row) : Type 0 where
   pub fresh : (r : Row) → Has old r → rowid r ≢ rowid row
   pub keyed : IsKeyed new
 
--- the rows of one table changed so, and nothing else did
+-- the rows of one table of a store changed so, and those of the other five did not. What stands beside the six stays in
+-- the schema; a foreign key of another table may act on the rows of that table
 pub record Turns (Changes : List Row → List Row → Type 0) (table : Table) (old new : Database) : Type 0 where
-  pub schema : new.schema ≡ store_schema
+  pub schema : new.schema ≡ old.schema
   pub sound : IsDatabase new
   pub rows : Changes (old.trees table.tree) (new.trees table.tree)
   pub spares : AllByRecursion (λ t. t.tree ≢ table.tree → new.trees t.tree ≡ old.trees t.tree) store_schema.tables
@@ -63,4 +65,5 @@ pub record Turns (Changes : List Row → List Row → Type 0) (table : Table) (o
 -- the same inside a transaction, if the six tables are there
 pub record Alters (Changes : List Row → List Row → Type 0) (table : Table) (old new : State) : Type 0 where
   pub shows : Shows old new new.now old.committed true
-  pub turns : old.now.schema ≡ store_schema → IsKeyed (old.now.trees table.tree) → Turns Changes table old.now new.now
+  pub turns : IsStore old.now.schema → IsDatabase old.now → IsKeyed (old.now.trees table.tree)
+      → Turns Changes table old.now new.now

@@ -10,7 +10,8 @@ use Rattle.sqlite.specs.Term.{Term}
 use Rattle.sqlite_rules.specs.Lists.{Has}
 use Rattle.smf_tables.specs.declared.lookups.NameColumns.{NameColumns}
 use Rattle.smf_tables.specs.declared.edits.InstanceRow.{InstanceRow}
-use Rattle.smf_tables.specs.Schema.{meta, service, instance, grp, snap, restarter, store_schema}
+use Rattle.smf_tables.specs.Layout.{IsStore}
+use Rattle.smf_tables.specs.Schema.{meta, service, instance, grp, snap, restarter}
 use Rattle.smf_tables.specs.Rows.{Alters, Gains, Loses, equal, is_picked}
 
 abbrev pub DropsMeta : List ℕ → State → State → Type 0
@@ -71,8 +72,8 @@ pub record HasRow (rows : List Row) (tests : List Term) (params : Row) (Shows : 
 -- a look at the tables, which stay as they are
 pub record Sees (Seen : Trees → Type 0) (old new : State) : Type 0 where
   pub shows : Shows old new new.now old.committed true
-  pub same : old.now.schema ≡ store_schema → new.now ≡ old.now
-  pub seen : old.now.schema ≡ store_schema → Seen old.now.trees
+  pub same : IsStore old.now.schema → new.now ≡ old.now
+  pub seen : IsStore old.now.schema → Seen old.now.trees
 
 -- the columns of an instance's name
 abbrev pub ShowsName : NameColumns → Row → Type 0

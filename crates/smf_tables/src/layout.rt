@@ -2,12 +2,12 @@ ghost use Rattle.std.specs.Prelude.{◌≡◌, ◌↔◌, ◌==◌, [], ◌∷�
 ghost use Rattle.std.specs.List.{slice_get};
 ghost use Rattle.std.specs.Option.{option_copied};
 ghost use Rattle.sqlite_value.specs.Keys.{plain};
-ghost use Rattle.smf_tables.specs.Layout.{HasKeys, HasNoMore, HasRowKey, StandsAt, StandsSomewhere, index, to_service};
-ghost use Rattle.smf_tables.specs.Schema.{column, grp, meta, restarter, service, snap, snap_at, store_schema};
+ghost use Rattle.smf_tables.specs.Layout.{HasKeys, HasNoMore, HasRowKey, StandsAlone, StandsSomewhere, count_of_tree, to_service};
+ghost use Rattle.smf_tables.specs.Schema.{column, grp, meta, restarter, service, snap, snap_at};
 ghost use Rattle.smf_tables.specs.Schema.{instance as instance_table};
 
 use sqlite_items::Items;
-use sqlite_schema::schema::{Action, Column, Index, Kind, Reference, Schema, Table};
+use sqlite_schema::schema::{Action, Column, Kind, Reference, Schema, Table};
 use sqlite_value::keys::{Collation, Order};
 use sqlite_value::value::{Bytes, Value};
 
@@ -330,70 +330,6 @@ fn is_restarter(table: &Table) -> bool
     table.references.is_empty()
 }
 
-/// True if these are the six tables.
-fn are_tables(tables: &[Table]) -> bool
-    ensures { IsTrue result ↔ (tables.now ≡ store_schema.tables) }
-{
-    let [a, b, c, d, e, f] = tables else {
-        return false;
-    };
-    if !is_meta(a) || !is_service(b) || !is_instance(c) {
-        return false;
-    }
-    if !is_grp(d) || !is_snap(e) || !is_restarter(f) {
-        return false;
-    }
-    true
-}
-
-/// True if this is the index of a unique key.
-fn is_index(it: &Index, name: &str, tree: u32, table: u32, columns: &[usize]) -> bool
-    ensures { IsTrue result ↔ (it.now ≡ index name.now tree table columns.now) }
-{
-    if it.name.as_slice() != name.as_bytes() || it.tree != tree || it.table != table {
-        return false;
-    }
-    if it.columns.as_slice() != columns || it.order.digits != 0 {
-        return false;
-    }
-    it.is_unique
-}
-
-/// True if these are the indexes of their unique keys.
-fn are_indexes(indexes: &[Index]) -> bool
-    ensures { IsTrue result ↔ (indexes.now ≡ store_schema.indexes) }
-{
-    let [a, b, c, d, e] = indexes else {
-        return false;
-    };
-    if !is_index(a, "sqlite_autoindex_meta_1", 1, 0, &[1]) {
-        return false;
-    }
-    if !is_index(b, "sqlite_autoindex_service_1", 3, 2, &[1]) {
-        return false;
-    }
-    if !is_index(c, "sqlite_autoindex_instance_1", 5, 4, &[2, 3]) {
-        return false;
-    }
-    if !is_index(d, "sqlite_autoindex_grp_1", 7, 6, &[1, 2, 3]) {
-        return false;
-    }
-    if !is_index(e, "sqlite_autoindex_restarter_1", 10, 9, &[1]) {
-        return false;
-    }
-    true
-}
-
-/// True if a database has the six tables and nothing else.
-pub fn is_store(schema: &Schema) -> bool
-    ensures { IsTrue result ↔ (schema.now ≡ store_schema) }
-{
-    if !are_tables(schema.tables.as_slice()) || !are_indexes(schema.indexes.as_slice()) {
-        return false;
-    }
-    schema.views.is_empty()
-}
-
 /// The table at a place of a schema, counted from 0.
 fn table_at(schema: &Schema, place: usize) -> Option<&Table>
     ensures { option_copied result ≡ slice_get schema.now.tables place }
@@ -401,64 +337,83 @@ fn table_at(schema: &Schema, place: usize) -> Option<&Table>
     schema.tables.as_slice().get(place)
 }
 
-/// True if the table of counters stands in its place.
+/// How many tables of a schema have this tree.
+fn count_of_tree(schema: &Schema, tree: u32) -> usize
+    ensures { result ≡ count_of_tree schema.now tree }
+{
+    schema
+        .tables
+        .as_slice()
+        .iter()
+        .filter(|table| table.tree == tree)
+        .count()
+}
+
+/// True if one table of a schema has this tree.
+fn is_one(schema: &Schema, tree: u32) -> bool
+    ensures { IsTrue result ↔ (count_of_tree schema.now tree ≡ 1) }
+{
+    count_of_tree(schema, tree) == 1
+}
+
+/// True if the table of counters stands in its place, and no other has its tree.
 pub fn has_meta_table(schema: &Schema) -> bool
-    ensures { IsTrue result ↔ (StandsAt schema.now 0 meta) }
+    ensures { IsTrue result ↔ (StandsAlone schema.now 0 meta) }
 {
     let Some(table) = table_at(schema, 0) else {
         return false;
     };
-    is_meta(table)
+    is_meta(table) && is_one(schema, 0)
 }
 
-/// True if the table of services stands in its place.
+/// True if the table of services stands in its place, and no other has its tree.
 pub fn has_service_table(schema: &Schema) -> bool
-    ensures { IsTrue result ↔ (StandsAt schema.now 1 service) }
+    ensures { IsTrue result ↔ (StandsAlone schema.now 1 service) }
 {
     let Some(table) = table_at(schema, 1) else {
         return false;
     };
-    is_service(table)
+    is_service(table) && is_one(schema, 2)
 }
 
-/// True if the table of instances stands in its place.
+/// True if the table of instances stands in its place, and no other has its tree.
 pub fn has_instance_table(schema: &Schema) -> bool
-    ensures { IsTrue result ↔ (StandsAt schema.now 2 instance_table) }
+    ensures { IsTrue result ↔ (StandsAlone schema.now 2 instance_table) }
 {
     let Some(table) = table_at(schema, 2) else {
         return false;
     };
-    is_instance(table)
+    is_instance(table) && is_one(schema, 4)
 }
 
-/// True if the table of groups stands in its place.
+/// True if the table of groups stands in its place, and no other has its tree.
 pub fn has_grp_table(schema: &Schema) -> bool
-    ensures { IsTrue result ↔ (StandsAt schema.now 3 grp) }
+    ensures { IsTrue result ↔ (StandsAlone schema.now 3 grp) }
 {
     let Some(table) = table_at(schema, 3) else {
         return false;
     };
-    is_grp(table)
+    is_grp(table) && is_one(schema, 6)
 }
 
-/// True if the table of snapshots stands in its place.
+/// True if the table of snapshots stands in its place, and no other has its tree.
 pub fn has_snap_table(schema: &Schema) -> bool
-    ensures { IsTrue result ↔ (StandsAt schema.now 4 snap) }
+    ensures { IsTrue result ↔ (StandsAlone schema.now 4 snap) }
 {
     let Some(table) = table_at(schema, 4) else {
         return false;
     };
-    is_snap(table)
+    is_snap(table) && is_one(schema, 8)
 }
 
-/// True if the table of restarters stands in its place.
+/// True if the table of restarters stands in its place, and no other has its tree.
 pub fn has_restarter_table(schema: &Schema) -> bool
-    ensures { IsTrue result ↔ (StandsAt schema.now 5 restarter) }
+    ensures { IsTrue result ↔ (StandsAlone schema.now 5 restarter) }
 {
     let Some(table) = table_at(schema, 5) else {
         return false;
     };
-    is_restarter(table)
+    is_restarter(table) && is_one(schema, 9)
 }
 
 /// The place of the first table that has this tree.

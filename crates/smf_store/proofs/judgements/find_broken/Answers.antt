@@ -4,5 +4,4 @@ use Rattle.smf_store.proofs.judgements.find_broken.Goals as goal
 
 pub returns-in-Ok : goal.returns-in-Ok
 returns-in-Ok c =
-    rw c.told_for.ensures
-    (broken_none c.args.other c.in-Ok.field-0.tables (verdict_on_rows c.args.rows.now) c.in-Ok.ensures.exact)
+    broken_none c.args.other c.in-Ok.field-0.tables (verdict_on_rows c.args.rows.now) c.in-Ok.ensures.exact

@@ -1,13 +1,19 @@
-use Rattle.std.proofs.Common.{◌≡◌, ◌∙◌, refl, sym, subst, rules, arith, true}
+use Rattle.std.proofs.Common.{◌≡◌, None, Some, refl, subst, rules, arith, true}
 use Rattle.sqlite.specs.State.{HasCleanDisk, Survives}
 use Rattle.sqlite.specs.Held.{state}
 use Rattle.sqlite.proofs.StateLemmas.{survives_then}
 use Rattle.sqlite.proofs.Callers.{survives_begin}
-use Rattle.smf_tables.specs.Schema.{store_schema}
+use Rattle.smf_tables.specs.Layout.{IsStore}
 use Rattle.smf_store.specs.Stages.{Opened, MayRead}
 use Rattle.smf_store.specs.Faults.{fault_of}
+use Rattle.smf_store.specs.FirstOther.{IsFirstOther}
+use Rattle.smf_store.proofs.Before.{all_there}
 use Rattle.smf_store.proofs.Stands.{failed_leaves, may_read, nothing_left, opened, told_failure}
 use Rattle.smf_store.proofs.opens.read_store.Goals as goal
+
+pub refuse-requires-clause-first : goal.refuse-requires-clause-first
+refuse-requires-clause-first g c =
+    subst (λ s. IsFirstOther s (Some c.in-Some.other)) c.schema.ensures.value c.in-Some.ensures
 
 pub returns-clause-ok : goal.returns-clause-ok
 returns-clause-ok g c =
@@ -16,8 +22,8 @@ returns-clause-ok g c =
     let last = state g.S.Store c.read_raised.new.tx.conn.now in
     let end = c.commit.new.self.0 in
     let same : end ≡ c.conn-2-1.given.0 = search rules in
-    let has : (state g.S.Store old).now.schema ≡ store_schema =
-    sym c.schema.ensures.value ∙ c.if-not-is_store.ensures.0 refl in
+    let has : IsStore (state g.S.Store old).now.schema = all_there (state g.S.Store old).now.schema
+    (subst (λ s. IsFirstOther s None) c.schema.ensures.value c.in-None.ensures) in
     subst (λ h. HasCleanDisk (state g.S.Store h)
     → Opened (state g.S.Store old) (state g.S.Store h) c.in_ok-tables.tables) same
     (λ clean.
@@ -33,8 +39,8 @@ returns-clause-crash g c =
     let last = state g.S.Store c.read_raised.new.tx.conn.now in
     let end = c.commit.new.self.0 in
     let same : end ≡ c.conn-2-1.given.0 = search rules in
-    let has : (state g.S.Store old).now.schema ≡ store_schema =
-    sym c.schema.ensures.value ∙ c.if-not-is_store.ensures.0 refl in
+    let has : IsStore (state g.S.Store old).now.schema = all_there (state g.S.Store old).now.schema
+    (subst (λ s. IsFirstOther s None) c.schema.ensures.value c.in-None.ensures) in
     subst (λ h. Survives (state g.S.Store old) (state g.S.Store h) (MayRead (state g.S.Store old))) same
     (survives_then (state g.S.Store old) last (state g.S.Store end) _ _ (MayRead (state g.S.Store old))
     (λ _ db none. absurd none)
@@ -51,8 +57,8 @@ returns-in_err-commit-clause-crash_err g c =
     let last = state g.S.Store c.read_raised.new.tx.conn.now in
     let end = c.commit.new.self.0 in
     let same : end ≡ c.conn-2-1.given.0 = search rules in
-    let has : (state g.S.Store old).now.schema ≡ store_schema =
-    sym c.schema.ensures.value ∙ c.if-not-is_store.ensures.0 refl in
+    let has : IsStore (state g.S.Store old).now.schema = all_there (state g.S.Store old).now.schema
+    (subst (λ s. IsFirstOther s None) c.schema.ensures.value c.in-None.ensures) in
     failed_leaves c.from_residual-in_err-commit.result (state g.S.Store old) (state g.S.Store c.conn-2-1.given.0)
     (told_failure c.from_residual-in_err-commit.result
     (fault_of c.in_err-commit.field-0.0) c.from_residual-in_err-commit.ensures.1)
