@@ -26,7 +26,7 @@ install -d "$prefix/bin" "$prefix/libexec" "$prefix/share/man/man1" "$prefix/sha
 install -m 755 "$program" "$prefix/bin/smf"
 install -m 755 "$top/bin/smfd" "$top/bin/svcs" "$top/bin/svcadm" "$top/bin/svccfg" "$prefix/bin"
 install -m 755 "$top/tools/graph" "$top/tools/manifest2cfg" "$top/tools/timeline" "$prefix/bin"
-install -m 755 "$top/libexec/smf_client" "$top/libexec/smf_end" "$top/libexec/smf_keep" "$top/libexec/smf_stop" "$prefix/libexec"
+install -m 755 "$top/libexec/smf_client" "$top/libexec/smf_end" "$top/libexec/smf_keep" "$top/libexec/smf_log" "$top/libexec/smf_stop" "$prefix/libexec"
 for section in 1 7 8; do
     install -m 644 "$top"/man/*."$section" "$prefix/share/man/man$section"
 done
