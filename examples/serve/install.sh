@@ -1,16 +1,33 @@
 #!/bin/sh
 # install.sh [--unproved] PREFIX   puts smf, smfd, svcs, svcadm, svccfg, graph, manifest2cfg and timeline, with what they need
 #                                  and all pages, below PREFIX
+# install.sh --check PREFIX        says what PREFIX/bin/smf is, and fails if it is not the program that was installed there
 # The program is the one that SMF names, or that ./smf would run. It has to be the proved one, which `./smf --prove` or the gate
-# has built of these sources; with --unproved it may be any. The status is 1 if it is refused.
+# has built of these sources; with --unproved it may be any. The status is 1 if it is refused. What is known of it goes into
+# the file PREFIX/libexec/smf_version, which `smf --version` shows.
 set -eu
+
+# check PREFIX: shows the version that was noted, and compares the program's sum with it.
+check() {
+    if [ "$(tail -n 1 "$1/libexec/smf_version" 2> /dev/null)" = "sha256 $(sha256sum < "$1/bin/smf" 2> /dev/null | cut -d ' ' -f 1)" ]; then
+        cat "$1/libexec/smf_version"
+    else
+        echo "install.sh: $1/libexec/smf_version does not tell of $1/bin/smf" >&2
+        exit 1
+    fi
+}
+
+if [ "${1:-}" = --check ] && [ $# = 2 ]; then
+    check "$2"
+    exit
+fi
 unproved=
 if [ "${1:-}" = --unproved ]; then
     unproved=1
     shift
 fi
 if [ $# != 1 ] || [ -z "$1" ]; then
-    echo 'usage: install.sh [--unproved] PREFIX' >&2
+    echo 'usage: install.sh [--unproved | --check] PREFIX' >&2
     exit 2
 fi
 prefix=$1
@@ -27,6 +44,8 @@ install -m 755 "$program" "$prefix/bin/smf"
 install -m 755 "$top/bin/smfd" "$top/bin/svcs" "$top/bin/svcadm" "$top/bin/svccfg" "$prefix/bin"
 install -m 755 "$top/tools/graph" "$top/tools/manifest2cfg" "$top/tools/timeline" "$prefix/bin"
 install -m 755 "$top/libexec/smf_client" "$top/libexec/smf_end" "$top/libexec/smf_keep" "$top/libexec/smf_log" "$top/libexec/smf_stop" "$prefix/libexec"
+"$top/tools/version" ${unproved:+--unproved} "$program" > "$prefix/libexec/smf_version"
+chmod 644 "$prefix/libexec/smf_version"
 for section in 1 7 8; do
     install -m 644 "$top"/man/*."$section" "$prefix/share/man/man$section"
 done

@@ -15,14 +15,18 @@ use crate::contracts::follow_over;
 use crate::files::{cfg_over, check_over, sim_over, why_over};
 use crate::processes::run_over;
 use crate::server::serve_over;
+use sha2::{Digest, Sha256};
 use smf_edge::TableKids;
 use smf_host::{Hold, take_alone};
 use smf_lines::NotedReader;
-use smf_program::{Task, read_task, refusal_of_words, refuse, tell_no_memory};
+use smf_program::{
+    Refusal, Task, read_task, refusal_of_words, refuse, show_version, tell_no_memory,
+};
 use smf_serve::serve_sim;
 use std::io::BufReader;
+use std::path::PathBuf;
 use std::process::ExitCode;
-use std::{env, io};
+use std::{env, fs, io};
 
 /// Does a script in memory, over processes that a contract table simulates.
 fn sim(rt: &HostRuntime) -> io::Result<u8> {
@@ -81,6 +85,49 @@ fn words(rt: &HostRuntime) -> io::Result<Vec<String>> {
     Ok(words)
 }
 
+/// What the file `smf_version` beside the helpers says.
+fn facts(rt: &HostRuntime) -> io::Result<String> {
+    let alloc = rt.alloc();
+    let path = match env::var(rt, "SMF_LIBEXEC") {
+        Ok(folder) => format!(in alloc; "{folder}/smf_version")?,
+        Err(_) => {
+            let program: PathBuf = env::current_exe(rt)?;
+            let folder = match program.parent() {
+                Some(folder) => folder.as_str(),
+                None => ".",
+            };
+            format!(in alloc; "{folder}/../libexec/smf_version")?
+        }
+    };
+    fs::read_to_string(rt, path.as_str())
+}
+
+/// The line of this program's own sum, with the end of the line before it.
+fn sum_line(rt: &HostRuntime) -> io::Result<String> {
+    let program: Vec<u8> = fs::read(rt, "/proc/self/exe")?;
+    let mut line = format!(in rt.alloc(); "\nsha256 ")?;
+    for byte in &Sha256::digest(program.as_slice()) {
+        write!(line, "{byte:02x}")?;
+    }
+    line.push('\n')?;
+    Ok(line)
+}
+
+/// Shows the version, as far as the file says it of this program.
+fn version(rt: &HostRuntime) -> u8 {
+    let facts = facts(rt).unwrap_or(String::new(rt.alloc()));
+    let mut errors = rt.stderr();
+    match sum_line(rt) {
+        Ok(sum) => show_version(
+            &mut io::writer(rt),
+            &mut errors,
+            facts.as_str(),
+            Some(sum.as_str()),
+        ),
+        Err(_) => show_version(&mut io::writer(rt), &mut errors, facts.as_str(), None),
+    }
+}
+
 /// Reads the words, and does what they ask for.
 fn run(rt: &HostRuntime) -> io::Result<u8> {
     let words = match words(rt) {
@@ -92,6 +139,7 @@ fn run(rt: &HostRuntime) -> io::Result<u8> {
     };
     match read_task(rt.alloc(), words.as_slice()) {
         Ok(task) => do_task(rt, &task),
+        Err(Refusal::Version) => Ok(version(rt)),
         Err(refusal) => Ok(refuse(&mut io::writer(rt), &mut rt.stderr(), &refusal)),
     }
 }

@@ -5,7 +5,7 @@ use Rattle.clap.specs.Words.{App, HasKind, IsAmong, Kinds, fault_of, kind_of, su
 use Rattle.clap.specs.declared.error.Error.{Error}
 use Rattle.clap.specs.declared.error.kind.ErrorKind.{ErrorKind}
 use Rattle.smf_program.specs.declared.refusal.Refusal.{Refusal}
-use Rattle.smf_program.specs.declared.refusal.Refusal.TheVariants.{Help, BadUsage, NoText, Memory}
+use Rattle.smf_program.specs.declared.refusal.Refusal.TheVariants.{Help, Version, BadUsage, NoText, Memory}
 use Rattle.smf_program.specs.declared.task.Task.{Task}
 use Rattle.smf_program.specs.Refusals.{IsOfKind, IsUnread, IsWhy}
 use Rattle.smf_program.specs.Tasks.{TaskTexts, task_in, task_of, texts_of, unless_refused}
@@ -50,8 +50,10 @@ why : (words : List (List ℕ)) (e : Error) (r : Refusal) → HasKind (fault_of 
     → IsWhy r words
 why words e (Help text) (inl memory) of = absurd (of.1 memory)
 why words e (Help text) (inr among) of = subst (λ (k : ErrorKind). IsAmong k (fault_of smf_app words)) of.0 among
-why words e (BadUsage text) (inl memory) of = absurd (of.1 memory)
-why words e (BadUsage text) (inr among) of = (no_task words (kind_of e) among, inl (kind_of e, of.0, among))
+why words e Version (inl memory) of = absurd (of.1 memory)
+why words e Version (inr among) of = subst (λ (k : ErrorKind). IsAmong k (fault_of smf_app words)) of.0 among
+why words e (BadUsage text) (inl memory) of = absurd (of.2 memory)
+why words e (BadUsage text) (inr among) of = (no_task words (kind_of e) among, inl (kind_of e, of.0, of.1, among))
 why words e NoText has of = absurd of
 why words e Memory has of = tt
 

@@ -56,6 +56,12 @@ OthersAreRefused =
     × (task_of (smf (codes "check" ∷ codes "a.db" ∷ codes "web" ∷ [])) ≡ None)
     × (task_of (smf (codes "sim" ∷ codes "--follow" ∷ codes "a.db" ∷ [])) ≡ None)
 
+abbrev pub VersionIsShown : Type 0
+VersionIsShown =
+    (fault_of smf_app (smf (codes "--version" ∷ [])) ≡ kinds.DisplayVersion ∷ [])
+    × (fault_of smf_app (smf (codes "-V" ∷ [])) ≡ kinds.DisplayVersion ∷ [])
+    × (task_of (smf (codes "sim" ∷ codes "--version" ∷ [])) ≡ None)
+
 abbrev pub HelpIsShown : Type 0
 HelpIsShown =
     (fault_of smf_app (smf (codes "--help" ∷ [])) ≡ kinds.DisplayHelp ∷ [])

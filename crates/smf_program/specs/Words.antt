@@ -48,9 +48,9 @@ why_app = with_rule (with_rule (new_app (codes "why")) database_rule) fmri_rule
 abbrev pub check_app : App
 check_app = with_rule (new_app (codes "check")) database_rule
 
--- one of the six has to be named
+-- one of the six has to be named, or the version is asked for
 abbrev pub bare_app : App
-bare_app = on_top (λ s. record s { subcommand_required = true }) (new_app (codes "smf"))
+bare_app = on_top (λ s. record s { subcommand_required = true; has_version = true }) (new_app (codes "smf"))
 
 unfoldable pub smf_app : App
 smf_app =

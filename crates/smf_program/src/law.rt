@@ -1,6 +1,6 @@
 //! Laws that the definitions of this crate keep.
 
-ghost use Rattle.smf_program.specs.Examples.{ContractsAreFollowed, DatabaseIsWanted, FilesAreRead, HelpIsShown, OthersAreRefused, QuestionsAreRead, ServersAreRead, TasksAreRead};
+ghost use Rattle.smf_program.specs.Examples.{ContractsAreFollowed, DatabaseIsWanted, FilesAreRead, HelpIsShown, OthersAreRefused, QuestionsAreRead, ServersAreRead, TasksAreRead, VersionIsShown};
 
 /// Words are read as the manual page writes them: one example for each rule.
 pub fn words_are_read_so()
@@ -12,4 +12,5 @@ pub fn words_are_read_so()
     ensures database { DatabaseIsWanted }
     ensures others { OthersAreRefused }
     ensures help { HelpIsShown }
+    ensures version { VersionIsShown }
 {}

@@ -1,8 +1,8 @@
-ghost use Rattle.std.specs.Prelude.{◌≡◌, ◌++◌, IfErr, OnOk};
+ghost use Rattle.std.specs.Prelude.{◌≡◌, ◌++◌, IfErr, OnOk, option_map};
 ghost use Rattle.std.specs.Io.KnownBytes.{Appends};
 ghost use Rattle.std.specs.IoError.{error_kind};
 ghost use Rattle.clap.specs.Words.{kind_of};
-ghost use Rattle.smf_program.specs.Refusals.{IsHelped, IsOfKind, IsRefused, IsUsageTold, heading, refusal_of_words};
+ghost use Rattle.smf_program.specs.Refusals.{IsHelped, IsOfKind, IsRefused, IsUsageTold, heading, refusal_of_words, unknown_version, version_text};
 
 use clap::Error;
 use clap::error::ErrorKind;
@@ -22,6 +22,8 @@ const BAD_USAGE: u8 = 2;
 pub enum Refusal {
     /// They ask for help, which has this text.
     Help(String),
+    /// They ask for the version of the program.
+    Version,
     /// They are not taken, as this text says.
     BadUsage(String),
     /// One is no UTF-8.
@@ -45,6 +47,9 @@ pub(crate) fn refusal_of(alloc: Global, e: &Error) -> Refusal
 {
     if e.kind() == ErrorKind::OutOfMemory {
         return Refusal::Memory;
+    }
+    if e.kind() == ErrorKind::DisplayVersion {
+        return Refusal::Version;
     }
     let Ok(text) = format!(in alloc; "{e}") else {
         return Refusal::Memory;
@@ -83,14 +88,51 @@ fn show_help<W: TextWriter, E: TextWriter>(writer: &mut W, errors: &mut E, text:
     }
 }
 
+/// What is known of the version of no program.
+fn unknown_version() -> &'static str
+    ensures { result.now ≡ unknown_version }
+{
+    "smf: version unknown\n"
+}
+
+/// What a file says of the program, if it ends with the line of the program's own sum.
+fn version_text<'a>(facts: &'a str, sum: Option<&str>) -> &'a str
+    ensures { result.now ≡ version_text facts.now (option_map (λ s. s.now) sum.entry) }
+{
+    let Some(sum) = sum else {
+        return unknown_version();
+    };
+    if facts.as_bytes().ends_with(sum.as_bytes()) {
+        facts
+    } else {
+        unknown_version()
+    }
+}
+
+/// Shows what a file says of the program, if it ends with the line of the program's own sum, and that the version is unknown
+/// if not. The status is 0, or 3 for a fault.
+pub fn show_version<W: TextWriter, E: TextWriter>(
+    writer: &mut W,
+    errors: &mut E,
+    facts: &str,
+    sum: Option<&str>,
+) -> u8
+    ensures { IsHelped W.write_fails E.write_fails
+        (W.contents writer.old) (W.contents writer.new) (E.contents errors.old) (E.contents errors.new)
+        (version_text facts.now (option_map (λ s. s.now) sum.entry)) result }
+{
+    show_help(writer, errors, version_text(facts, sum))
+}
+
 /// Shows help that was asked for, or says why there is no task. The status is 0 for help, 2 for bad usage, or 3 for a
-/// fault.
+/// fault. Of a version that is asked for it knows nothing.
 pub fn refuse<W: TextWriter, E: TextWriter>(writer: &mut W, errors: &mut E, refusal: &Refusal) -> u8
     ensures { IsRefused W.write_fails E.write_fails
         (W.contents writer.old) (W.contents writer.new) (E.contents errors.old) (E.contents errors.new) refusal.now result }
 {
     match refusal {
         Refusal::Help(text) => show_help(writer, errors, text.as_str()),
+        Refusal::Version => show_help(writer, errors, unknown_version()),
         Refusal::BadUsage(why) => tell_usage(errors, why.as_str()),
         Refusal::NoText => tell_usage(errors, "error: a word is no UTF-8\n"),
         Refusal::Memory => tell(errors, "smf: no memory"),

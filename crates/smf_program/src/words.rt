@@ -123,10 +123,12 @@ fn check_command<'a>(alloc: Global) -> Result<Command<'a>, AllocError>
 fn bare_command<'a>(alloc: Global) -> Command<'a>
     ensures { app_of result ≡ bare_app }
 {
-    Command::new(alloc, "smf").subcommand_required(true)
+    Command::new(alloc, "smf")
+        .version("unknown")
+        .subcommand_required(true)
 }
 
-/// The program as clap knows it. `sim` may have a database. `run` has one, and contracts may be followed.
+/// The program as clap knows it. It may be asked for its version, which clap does not know. `sim` may have a database. `run` has one, and contracts may be followed.
 /// `cfg` has a database, and may have a file of lines after `-f`. `serve` has a folder and a database. `why` has a
 /// database and words that mean instances. `check` has a database.
 pub(crate) fn smf_command<'a>(alloc: Global) -> Result<Command<'a>, AllocError>

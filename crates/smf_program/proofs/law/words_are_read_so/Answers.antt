@@ -35,3 +35,7 @@ returns-clause-others c = (refl, refl, refl, refl, refl, refl)
 pub returns-clause-help : goal.returns-clause-help
 unfolding smf_app clap_on_literals
 returns-clause-help c = (refl, refl)
+
+pub returns-clause-version : goal.returns-clause-version
+unfolding task_of smf_app clap_on_literals
+returns-clause-version c = (refl, refl, refl)
