@@ -273,8 +273,8 @@ impl Restarter {
     }
 
     /// Makes the tick of an instance ahead, in place of another, and room for one instance and one run. It takes memory
-    /// only if room for the one or for the other is not there, or if the tick needs memory. Then neither that tick nor
-    /// its answer nor the next report needs memory. If memory runs out it knows what it knew.
+    /// only if room for the one or for the other is not there, or if the tick needs memory. Then that tick needs no more
+    /// memory, and one change, of its answer or of a report, has its room. If memory runs out it knows what it knew.
     pub fn reserve_tick(&mut self, instance: u64) -> Result<(), AllocError>
         ensures known { self.new.known ≡ self.old.known }
         ensures ready { OnOk result (self.new.ready ≡ Some instance) }
@@ -317,7 +317,7 @@ impl Restarter {
         }
     }
 
-    /// Makes a change, for which there is room.
+    /// Makes a change, for which there is room. The next change needs room of its own.
     #[tactic(auto, unfolding(crate::specs::Changes::knowledge_after))]
     pub fn change(&mut self, change: KnowledgeChange)
         requires instances_room { length change.put ≤ self.old.instances_room }
