@@ -55,4 +55,5 @@ os_skills start_fails = record {
   joins = true;
   has_device = true;
   may_refuse = MayRefuse start_fails;
+  lacks_memory = Unit {0};
 }

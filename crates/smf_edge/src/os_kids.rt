@@ -113,14 +113,16 @@ impl<R: System> Kids for OsKids<R> {
         ensures made { OnOk result (IsSpawned (run_of id cookie terms command.now) self.old.ledger self.new.ledger) }
         ensures refused { OnErr result (self.new.ledger ≡ self.old.ledger) }
         ensures not_followed { follows style ≡ false → result ≡ Err NotFollowed }
-        ensures fault { IfErr result (MayNotSpawn (MayRefuse R.facts.start_fails self.old.ledger id) (follows style)) }
+        ensures fault { IfErr result
+            (MayNotSpawn (Unit {0}) (MayRefuse R.facts.start_fails self.old.ledger id) (follows style)) }
+        ensures same { self.new.failures ≡ self.old.failures }
         ensures started { OnOk result
             (IsStarted R.facts (IsRun command.now instance.now (method_text method) restarter.now) id style
             self.old self.new) }
         ensures none { OnErr result (MadeNone (IsRun command.now instance.now (method_text method) restarter.now)
             self.old.started self.new.started) }
         ensures unfollowed { follows style ≡ false → self.new.started ≡ self.old.started }
-        ensures same { OnErr result (self.new.kids ≡ self.old.kids) }
+        ensures stay { OnErr result (self.new.kids ≡ self.old.kids) }
     {
         if !follows(style) {
             return Err(KidsFault::NotFollowed);
@@ -135,11 +137,7 @@ impl<R: System> Kids for OsKids<R> {
         )?;
         let command = command.clone()?;
         self.children.reserve(1)?;
-        match self.book.prepare(id) {
-            Ok(()) => {}
-            Err(KidsFault::Memory) => return Err(KidsFault::Memory),
-            Err(_) => return Err(KidsFault::Refused),
-        }
+        self.book.prepare(id)?;
         let kid = start(&mut self.system, &mut program, id, style)?;
         self.book.make(Run {
             contract: id,

@@ -29,6 +29,7 @@ follow_skills start_fails = record {
   joins = false;
   has_device = true;
   may_refuse = MayRefuse start_fails;
+  lacks_memory = Unit {0};
 }
 
 -- ---- one contract

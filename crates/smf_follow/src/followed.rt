@@ -201,18 +201,15 @@ impl<C: Contracts> Kids for FollowedKids<C> {
         ensures made { OnOk result (IsSpawned (run_of id cookie terms command.now) self.old.0 self.new.0) }
         ensures refused { OnErr result (self.new.0 ≡ self.old.0) }
         ensures not_followed { true ≡ false → result ≡ Err NotFollowed }
-        ensures fault { IfErr result (MayNotSpawn (MayRefuse C.facts.start_fails self.old.0 id) true) }
+        ensures fault { IfErr result (MayNotSpawn (Unit {0}) (MayRefuse C.facts.start_fails self.old.0 id) true) }
         ensures started { OnOk result
             (IsStarted C.facts (launch_of id command.now restarter.now (method_text method) instance.now) self.old.2 self.new.2) }
-        ensures same { OnErr result (self.new.2 ≡ self.old.2) }
+        ensures same { self.new.1 ≡ self.old.1 }
+        ensures stay { OnErr result (self.new.2 ≡ self.old.2) }
     {
         let words = command.clone()?;
         self.kids.reserve(1)?;
-        match self.book.prepare(id) {
-            Ok(()) => {}
-            Err(KidsFault::Memory) => return Err(KidsFault::Memory),
-            Err(_) => return Err(KidsFault::Refused),
-        }
+        self.book.prepare(id)?;
         let kid = start(&self.contracts, id, command, restarter, method, instance)?;
         self.book.make(Run {
             contract: id,

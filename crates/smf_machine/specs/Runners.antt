@@ -17,11 +17,13 @@ use Rattle.smf_machine.specs.declared.requests.MethodRequest.TheVariants.{Nothin
 use Rattle.smf_machine.specs.Children.{happens_if, run_for}
 use Rattle.smf_machine.specs.Requests.{request_of_turn}
 
--- the rules for the answers to a spawn, to a kill and to a question for an event, by what was seen before and after
+-- the rules for the answers to a spawn, to a kill and to a question for an event, by what was seen before and after, and what
+-- is so if memory ran out
 pub record Rules : Type 1 where
   pub spawns : Wanted → SpawnAnswer → Seen → Seen → Type 0
   pub kills : ℕ → Bool → Seen → Seen → Type 0
   pub polls : Option ContractEvent → Seen → Seen → Type 0
+  pub lacks_memory : Type 0
 
 -- ---- children
 
@@ -42,7 +44,13 @@ HasGiven k (Some e) s t = IsPolled (Some e) s.ledger t.ledger
 HasGiven k None s t = IsPolled None s.ledger t.ledger ⊎ (MayFail k s.failures t.failures × (t.ledger ≡ s.ledger))
 
 abbrev pub rules_of : Skills → Rules
-rules_of k = record { spawns = λ w a s t. HasSpawned k w a s.ledger t.ledger; kills = HasKilled k; polls = HasGiven k }
+rules_of k =
+    record {
+      spawns = λ w a s t. HasSpawned k w a s.ledger t.ledger;
+      kills = HasKilled k;
+      polls = HasGiven k;
+      lacks_memory = k.lacks_memory;
+    }
 
 -- ---- nobody
 
@@ -50,13 +58,14 @@ rules_of k = record { spawns = λ w a s t. HasSpawned k w a s.ledger t.ledger; k
 abbrev pub seen_of_nobody : Seen
 seen_of_nobody = record { ledger = record { notes = []; table = empty; due = []; pending = [] }; failures = 0 }
 
--- each spawn and each kill is made, and there is no event
+-- each spawn and each kill is made, there is no event, and no memory is needed
 abbrev pub table_rules : Rules
 table_rules =
     record {
       spawns = λ w a s t. (a ≡ spawns.Made) × (t ≡ s);
       kills = λ id did s t. (did ≡ true) × (t ≡ s);
       polls = λ o s t. (o ≡ None) × (t ≡ s);
+      lacks_memory = ⊥;
     }
 
 -- ---- a turn of a restarter for an instance

@@ -9,7 +9,8 @@ use smf_fmri::{InstanceFmri, Number};
 use smf_world::SpawnAnswer;
 use std::alloc::AllocError;
 
-/// Who runs the methods that restarters begin. A call fails only for want of memory, and then what is kept stays.
+/// Who runs the methods that restarters begin. A call fails only for want of memory, and then what is seen stays. The clause
+/// `lacked` says that want of memory was seen: what is refused and a device that fails are answers.
 pub trait Runner {
     /// The ledger that is kept, and how often a device failed.
     ghost seen: { Self → Seen };
@@ -23,17 +24,20 @@ pub trait Runner {
         wanted: &Wanted,
     ) -> Result<SpawnAnswer, AllocError>
         ensures answered { IfOk result (λ answer. rules.spawns wanted.now answer (seen self.old) (seen self.new)) }
-        ensures kept { OnErr result ((seen self.new).ledger ≡ (seen self.old).ledger) };
+        ensures kept { OnErr result (seen self.new ≡ seen self.old) }
+        ensures lacked { OnErr result rules.lacks_memory };
 
     /// The end of all members of a contract is asked for. Says whether it was done.
     fn end_contract(&mut self, id: Number) -> Result<bool, AllocError>
         ensures answered { IfOk result (λ did. rules.kills id did (seen self.old) (seen self.new)) }
-        ensures kept { OnErr result ((seen self.new).ledger ≡ (seen self.old).ledger) };
+        ensures kept { OnErr result (seen self.new ≡ seen self.old) }
+        ensures lacked { OnErr result rules.lacks_memory };
 
     /// The next event is asked for. None is given if a device failed.
     fn next_event(&mut self) -> Result<Option<ContractEvent>, AllocError>
         ensures answered { IfOk result (λ event. rules.polls event (seen self.old) (seen self.new)) }
-        ensures kept { OnErr result ((seen self.new).ledger ≡ (seen self.old).ledger) };
+        ensures kept { OnErr result (seen self.new ≡ seen self.old) }
+        ensures lacked { OnErr result rules.lacks_memory };
 }
 
 /// Children run methods, and answer by their own clauses.

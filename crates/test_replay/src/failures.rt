@@ -32,17 +32,25 @@ impl FailingKids {
         self.next > 0
     }
 
-    /// Counts a call, and gives back whether it fails.
-    fn fails(&mut self) -> bool
+    /// Counts a call, and gives back whether it is the one that fails.
+    fn is_next(&mut self) -> bool
         ensures kept { self.new.kids ≡ self.old.kids }
-        ensures failed { result ≡ true → HasFailed self.old.failures self.new.failures }
-        ensures same { result ≡ false → self.new.failures ≡ self.old.failures }
+        ensures same { self.new.failures ≡ self.old.failures }
     {
         if self.next == 0 {
             return false;
         }
         self.next -= 1;
-        if self.next > 0 {
+        self.next == 0
+    }
+
+    /// Counts a call of the device, and gives back whether it fails.
+    fn fails(&mut self) -> bool
+        ensures kept { self.new.kids ≡ self.old.kids }
+        ensures failed { result ≡ true → HasFailed self.old.failures self.new.failures }
+        ensures same { result ≡ false → self.new.failures ≡ self.old.failures }
+    {
+        if !self.is_next() {
             return false;
         }
         self.failures = self.failures.saturating_add(1);
@@ -57,7 +65,7 @@ impl Kids for FailingKids {
 
     ghost failures = { λ s. s.failures };
 
-    ghost skills = { record { follows = λ _. true; acts = true; joins = false; has_device = true; may_refuse = λ _ _. Unit {0} } };
+    ghost skills = { record { follows = λ _. true; acts = true; joins = false; has_device = true; may_refuse = λ _ _. Unit {0}; lacks_memory = Unit {0} } };
 
     fn spawn(
         &mut self,
@@ -70,7 +78,7 @@ impl Kids for FailingKids {
         method: Method,
         instance: &InstanceFmri,
     ) -> Result<(), KidsFault> {
-        if self.fails() {
+        if self.is_next() {
             return Err(KidsFault::Refused);
         }
         self.kids.spawn(
