@@ -28,10 +28,10 @@ fn may_pass(fault: &NodeFault) -> bool {
 }
 
 /// Replies that nothing can be done yet.
-fn refuse(rt: &HostRuntime, desk: &mut FileDesk<'_>, words: &str) {
+fn refuse(rt: &HostRuntime, desk: &FileDesk<'_>, words: &str) {
     let _is_written = match format!(in rt.alloc(); "{words}\n") {
-        Ok(text) => desk.reply(text.as_bytes(), FAULT),
-        Err(_) => desk.reply(b"", FAULT),
+        Ok(text) => desk.refuse(text.as_bytes(), FAULT),
+        Err(_) => desk.refuse(b"", FAULT),
     };
 }
 

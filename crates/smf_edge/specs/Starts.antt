@@ -1,4 +1,4 @@
--- The log of the starts that a system was asked for.
+-- Logs, and the log of the starts that a system was asked for.
 use Rattle.std.specs.Prelude.{◌≡◌, ◌⊎◌, ℕ, List, [], ◌∷◌, ◌++◌, Bool, true, false, codes, Option, option_map}
 use Rattle.std.specs.List.{AllByRecursion}
 use Rattle.std.specs.Process.{clears_env, command_args, command_program}
@@ -18,8 +18,8 @@ abbrev pub start_of : Command Global → Bool → Start
 start_of c made =
     record { program = command_program c; args = command_args c; clears = clears_env c; made = made }
 
--- the log with these starts more, if it is known
-abbrev pub log_with : List Start → Option (List Start) → Option (List Start)
+-- the log with these more, if it is known
+abbrev pub log_with : {A : Type 0} → List A → Option (List A) → Option (List A)
 log_with more old = option_map (λ first. first ++ more) old
 
 -- the log with one start more

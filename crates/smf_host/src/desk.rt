@@ -2,6 +2,7 @@
 use crate::pace::Pace;
 use crate::pipe::{Call, Pipe};
 use smf_cfg::tell;
+use smf_model::{Journal, Plain};
 use smf_watch::{Desk, ServerInput};
 use std::fs::File;
 use std::io::{Read, Write};
@@ -55,6 +56,11 @@ impl<'a> FileDesk<'a> {
     /// The folder of the requests.
     pub fn folder(&self) -> &'a str {
         self.folder
+    }
+
+    /// Replies to the request that was given last, also if nothing is held. False if the text could not be written.
+    pub fn refuse(&self, text: &[u8], status: u8) -> bool {
+        self.write(text, status).unwrap_or(false)
     }
 
     /// The text about a read of the pipe that failed; none if none did.
@@ -168,6 +174,7 @@ impl<'a> Desk for FileDesk<'a> {
     ghost passed = { λ _. None };
 
     fn next(&mut self) -> ServerInput {
+        self.pace.end_turn();
         for _ in 0..u64::MAX {
             if let Some(input) = self.input() {
                 return input;
@@ -176,11 +183,15 @@ impl<'a> Desk for FileDesk<'a> {
         ServerInput::End
     }
 
-    fn reply(&mut self, text: &[u8], status: u8) -> bool {
-        self.write(text, status).unwrap_or(false)
+    fn reply<J: Journal>(&mut self, _repository: &Plain<J>, text: &[u8], status: u8) -> bool {
+        self.refuse(text, status)
     }
 
     fn tell(&mut self, line: &str) {
         let _status = tell(&mut self.rt.stderr(), line);
+    }
+
+    fn pause(&mut self) {
+        self.pace.fail();
     }
 }

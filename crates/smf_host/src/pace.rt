@@ -1,4 +1,4 @@
-// When a server ticks: often while it is called, and seldom after that.
+// When a server ticks: often while it is called, and seldom after that or while its turns fail.
 use std::env;
 use std::rt::HostRuntime;
 use std::time::Duration;
@@ -15,6 +15,15 @@ const LATELY: u64 = 60_000;
 /// The milliseconds between a ring and its tick. Whoever rang has ended by then, and others ring too.
 const GATHERING: u64 = 10;
 
+/// The milliseconds after a turn that failed, while few have failed one after another.
+const RETRY: u64 = 1_000;
+
+/// So many are few.
+const FEW: u32 = 10;
+
+/// The milliseconds after a turn that failed, if more have.
+const LATE_RETRY: u64 = 10_000;
+
 /// When ticks are due. Each time is of the clock, and none if that could not be read.
 #[derive(Drop)]
 pub(crate) struct Pace {
@@ -26,6 +35,10 @@ pub(crate) struct Pace {
     called: Option<Duration>,
     /// When somebody rang first since the last tick.
     rang: Option<Duration>,
+    /// How many turns have failed one after another.
+    failures: u32,
+    /// True if the last turn failed.
+    has_failed: bool,
 }
 
 /// The time between two ticks that SMF_TICK names; none if that is no count from 1 on.
@@ -59,6 +72,8 @@ impl Pace {
             ticked: None,
             called: now,
             rang: now,
+            failures: 0,
+            has_failed: false,
         }
     }
 
@@ -73,9 +88,21 @@ impl Pace {
         }
     }
 
-    /// The time until the next tick is due.
+    /// The time after a turn that failed; none if the last one did not.
+    fn retry_pause(&self) -> Option<Duration> {
+        match self.failures {
+            0 => None,
+            1..=FEW => Some(Duration::from_millis(RETRY)),
+            _ => Some(Duration::from_millis(LATE_RETRY)),
+        }
+    }
+
+    /// The time until the next tick is due. Nobody who rings hastens it while turns fail.
     pub(crate) fn left(&mut self, now: Option<Duration>) -> Duration {
         self.ticked = self.ticked.or(now);
+        if let Some(pause) = self.retry_pause() {
+            return left_of(pause, self.ticked, now);
+        }
         match self.rang {
             Some(rang) => left_of(Duration::from_millis(GATHERING), Some(rang), now),
             None => left_of(self.pause(now), self.ticked, now),
@@ -87,6 +114,20 @@ impl Pace {
     pub(crate) fn tick(&mut self) {
         self.ticked = None;
         self.rang = None;
+    }
+
+    /// A turn failed.
+    pub(crate) fn fail(&mut self) {
+        self.failures = self.failures.saturating_add(1);
+        self.has_failed = true;
+    }
+
+    /// The last turn is over.
+    pub(crate) fn end_turn(&mut self) {
+        if !self.has_failed {
+            self.failures = 0;
+        }
+        self.has_failed = false;
     }
 
     /// Somebody asks something.

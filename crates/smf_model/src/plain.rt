@@ -71,6 +71,15 @@ impl<J: Journal> Plain<J> {
         }
     }
 
+    /// The journal, in which what is held stands. If it is sound, a crash at this moment leaves just that.
+    pub fn journal(&self) -> &J
+        ensures same { result.now ≡ self.now.journal }
+        ensures stands { J.stands result.now self.now.held }
+        ensures settled { J.is_sound result.now → LeavesOnly J.could result.now self.now.held }
+    {
+        &self.journal
+    }
+
     /// The journal, in which what was held stands.
     pub fn into_journal(self) -> J
         ensures same { result ≡ self.journal }

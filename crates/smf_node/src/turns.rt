@@ -148,8 +148,8 @@ impl<J: Journal> Node<J> {
         owners_in_order(self.alloc, instances.as_slice())
     }
 
-    /// The launched restarters in that order.
-    pub(crate) fn launched_names(&self) -> Result<Vec<InstanceFmri>, AllocError>
+    /// The launched restarters: svc.startd's own first, and then the others in byte order.
+    pub fn launched_names(&self) -> Result<Vec<InstanceFmri>, AllocError>
         ensures { IfOk result (λ all. all.items ≡ launched_names self.now.world) }
     {
         let names = self.names()?;
@@ -225,7 +225,7 @@ impl<J: Journal> Node<J> {
     /// True if the owners of all instances are launched, and svc.startd's own restarter. The instances are looked at
     /// only if this is not known without them.
     #[tactic(auto, unfolding(crate::specs::Owners::has_all_owners))]
-    fn has_all_owners(&self) -> Result<bool, AllocError>
+    pub fn has_all_owners(&self) -> Result<bool, AllocError>
         ensures { IfOk result (λ b. b ≡ has_all_owners self.now.world) }
     {
         let first = startd(self.alloc)?;

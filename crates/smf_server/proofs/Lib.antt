@@ -4,3 +4,4 @@ pub mod Lives
 pub mod Marked
 pub mod Served
 pub mod TurnSteps
+pub mod Watching

@@ -1,5 +1,5 @@
 -- How a server ends, out of what its parts do.
-use Rattle.std.proofs.Common.{◌≡◌, inl, inr, List, ℕ, Option, Some, None, sym, ap, subst}
+use Rattle.std.proofs.Common.{inl, inr, List, ℕ, Option, Some, None, sym, ap, subst}
 use Rattle.smf_past.specs.Lives.{LeadsTo}
 use Rattle.smf_past.proofs.RemainingWorlds.{leads_later, leads_remains}
 use Rattle.smf_script.specs.declared.fault.ScriptFault.{ScriptFault}

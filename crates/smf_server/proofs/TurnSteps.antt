@@ -1,11 +1,12 @@
 -- The state after a turn, out of the steps of its parts.
-use Rattle.std.proofs.Common.{◌≡◌, inl, ℕ, List, [], ◌∷◌, map, Bool, true, false, Option, Some, refl, ap, ◌∙◌}
+use Rattle.std.proofs.Common.{◌≡◌, inl, inr, ℕ, List, [], ◌∷◌, map, Bool, true, false, Option, Some, refl, sym, ap, subst, ◌∙◌}
 use Rattle.std.specs.declared.time.Duration.{Duration}
 use Rattle.smf_drive.specs.Moves.{Moves}
 use Rattle.smf_drive.proofs.Events.{later_driven}
 use Rattle.smf_drive.proofs.Moves.{driven_moved}
 use Rattle.smf_edge.specs.Answers.{Seen, Skills}
 use Rattle.smf_edge.specs.Ledgers.{Ledger}
+use Rattle.smf_edge.specs.Starts.{log_with}
 use Rattle.smf_model.specs.declared.journal.RepoFault.{RepoFault}
 use Rattle.smf_lines.specs.Lines.{lines_of}
 use Rattle.smf_node.specs.declared.fault.NodeFault.{NodeFault}
@@ -15,11 +16,15 @@ use Rattle.smf_run.specs.Scripts.{Stops}
 use Rattle.smf_script.specs.declared.fault.ScriptFault.{ScriptFault}
 use Rattle.smf_script.specs.declared.fault.ScriptFault.TheVariants.{Node}
 use Rattle.smf_script.specs.Script.{first_session, silent}
-use Rattle.smf_watch.specs.declared.ends.Ends.{Ends as SeenEnds}
-use Rattle.smf_watch.specs.Traffic.{Passed, Asked, Told, traffic_with, reply_in}
-use Rattle.smf_server.specs.Turns.{AgreesOrDrops, Answer, Answered, Between, Failure, Fails, GoesIf, HasAnswered, HasComeOn, HasTurned, IsFailed, IsTick, IsToldOf, IsTurn, RequestFailed, RoundsFailed, Standing, StillAgrees, TickFailed, Ticked, between, standing}
+use Rattle.smf_watch.specs.Traffic.{Passed, Asked, Told, reply_in}
+use Rattle.smf_server.specs.Turns.{AgreesOrDrops, Answer, Answered, Between, Failure, Fails, GoFails, GoesIf, HasAnswered, HasComeOn, HasTakenTurn, HasTurned, IsFailed, IsTick, IsToldOf, IsTurn, RequestFailed, RoundsFailed, StillAgrees, StillWatches, TickFailed, TickFails, Ticked, lists_if, max_rounds, wanting}
 use Rattle.smf_watch.specs.Sizes.{is_same, size_of}
+use Rattle.smf_watch.specs.Stops.{is_new, stop_lists_if, stops_of}
+use Rattle.smf_watch.specs.declared.ask.Onward.{Onward}
+use Rattle.smf_watch.specs.declared.size.Size.{Size}
+use Rattle.smf_watch.specs.declared.stops.Stop.{Stop}
 use Rattle.smf_server.proofs.Served.{asked_replied, passing_nothing}
+use Rattle.smf_server.proofs.Watching.{still_self}
 use Rattle.smf_watch.specs.declared.ask.Onward.TheVariants.{Goes}
 use Rattle.smf_world.specs.Reached.{IsLater}
 use Rattle.smf_world.specs.Schedule.{Progress}
@@ -32,13 +37,12 @@ moved_later w v l m h = later_driven w v (driven_moved w v l m h)
 -- ---- a request
 
 pub answered : (k : Skills) (clock : Duration → Type 0) (a : Answer) (before was is : Option (List Passed))
-    (s t : Standing) (kept after : SeenEnds) (done : Course) (wanted : Bool)
-    → was ≡ traffic_with (Asked a.request ∷ []) before
-    → is ≡ traffic_with (reply_in a.written a.text a.status ∷ []) was → HasAnswered k a s.course done
-    → (is_same (size_of s.course.progress.world) (size_of done.progress.world) ≡ false → wanted ≡ true)
-    → GoesIf wanted k done s.busy t → after ≡ kept
-    → IsTurn k clock before is (between s kept) (between t after)
-answered k clock a before was is s t kept after done wanted came went ran needed goes same =
+    (s t : Between) (done : Course) (wanted : Bool) → was ≡ log_with (Asked a.request ∷ []) before
+    → is ≡ log_with (reply_in a.written a.text a.status a.held ∷ []) was → HasAnswered k a s.standing.course done
+    → (is_same (size_of s.standing.course.progress.world) (size_of done.progress.world) ≡ false → wanted ≡ true)
+    → GoesIf wanted k clock (record s.standing { course = done }) t.standing → t.looked ≡ s.looked → t.ends ≡ s.ends
+    → t.noted ≡ s.noted → IsTurn k clock before is s t
+answered k clock a before was is s t done wanted came went ran needed goes looked ends noted =
     record {
       one = Answered a;
       step = record {
@@ -47,38 +51,48 @@ answered k clock a before was is s t kept after done wanted came went ran needed
         wanted = wanted;
         needed = needed;
         goes = goes;
-        looked = ap (λ (e : SeenEnds). e.looked) same;
-        ends = ap (λ (e : SeenEnds). e.seen.items) same;
+        looked = looked;
+        ends = ends;
+        noted = noted;
       };
-      passed = asked_replied a.request a.text a.status a.written before was is came went;
+      passed = asked_replied a.request a.text a.status a.written a.held before was is came went;
     }
 
-pub answered_then : (k : Skills) (stores : RepoFault → Type 0) (a : Answer) (before was is : Option (List Passed))
-    (s : Between) (done : Course) (t : Between) (e : NodeFault)
-    → was ≡ traffic_with (Asked a.request ∷ []) before
-    → is ≡ traffic_with (reply_in a.written a.text a.status ∷ []) was → HasAnswered k a s.standing.course done
-    → HasComeOn s t → StillAgrees s t → IsFailed k stores (Node e) before is s t
-answered_then k stores a before was is s done t e came went ran come agrees =
+pub answered_then : (k : Skills) (clock : Duration → Type 0) (stores : RepoFault → Type 0) (a : Answer)
+    (before was is : Option (List Passed)) (s : Between) (done : Course) (t : Between) (e : NodeFault)
+    → was ≡ log_with (Asked a.request ∷ []) before
+    → is ≡ log_with (reply_in a.written a.text a.status a.held ∷ []) was → HasAnswered k a s.standing.course done
+    → GoFails k stores max_rounds done t.standing.course e → HasComeOn clock s t → StillAgrees s t
+    → IsFailed k clock stores (Node e) before is s t
+answered_then k clock stores a before was is s done t e came went ran why come agrees =
     record {
       how = RoundsFailed e a;
       named = refl;
-      fails = (done, ran, come, agrees);
-      passed = asked_replied a.request a.text a.status a.written before was is came went;
+      fails = ((done, ran, why), come, agrees);
+      passed = asked_replied a.request a.text a.status a.written a.held before was is came went;
     }
 
-pub cut : (k : Skills) (stores : RepoFault → Type 0) (fault : ScriptFault) (request text : List ℕ)
-    (before was is : Option (List Passed)) (s t : Between) → was ≡ traffic_with (Asked request ∷ []) before
-    → IsToldOf fault text was is
+pub cut : (k : Skills) (clock : Duration → Type 0) (stores : RepoFault → Type 0) (fault : ScriptFault)
+    (request text : List ℕ) (before was is : Option (List Passed)) (s t : Between)
+    → was ≡ log_with (Asked request ∷ []) before
+    → IsToldOf fault text t.standing.course.progress.world.now was is
     → Stops k stores fault (first_session s.standing.course.progress)
     (Some request) s.standing.course.seen t.standing.course.seen t.standing.course.progress (Some []) (Some text)
-    → HasComeOn s t → AgreesOrDrops s t → IsFailed k stores fault before is s t
-cut k stores fault request text before was is s t came told stops come agrees =
+    → HasComeOn clock s t → AgreesOrDrops s t → IsFailed k clock stores fault before is s t
+cut k clock stores fault request text before was is s t came told stops come agrees =
     record {
       how = RequestFailed fault
-          (record { request = request; text = told.said; status = 3; written = told.written });
+          (record {
+            request = request;
+            text = told.said;
+            status = 3;
+            written = told.written;
+            held = t.standing.course.progress.world.now;
+          });
       named = refl;
-      fails = (record { text = text; stops = stops; said = told.ends; status = refl }, come, agrees);
-      passed = asked_replied request told.said 3 told.written before was is came told.passed;
+      fails = (record { text = text; stops = stops; said = told.ends; status = refl; stood = refl }, come, agrees);
+      passed = asked_replied request told.said 3 told.written t.standing.course.progress.world.now before was is came
+          told.passed;
     }
 
 -- memory ran out before a line was read
@@ -98,70 +112,118 @@ cut_at_once k stores p seen request =
 
 -- ---- a fault
 
-pub come_on : (p q : Progress) (c d : Seen) (b b' : Bool) (was is : SeenEnds) → IsLater p.world q.world → is ≡ was
-    → HasComeOn (between (standing p c b) was) (between (standing q d b') is)
-come_on p q c d b b' was is later same =
-    record {
-      later = later;
-      looked = ap (λ (e : SeenEnds). e.looked) same;
-      ends = ap (λ (e : SeenEnds). e.seen.items) same;
-    }
+pub come_on : (clock : Duration → Type 0) (s t : Between)
+    → IsLater s.standing.course.progress.world t.standing.course.progress.world
+    → StillWatches clock s.standing t.standing → t.looked ≡ s.looked → t.ends ≡ s.ends → t.noted ≡ s.noted
+    → HasComeOn clock s t
+come_on clock s t later watches looked ends noted =
+    record { later = later; watches = watches; looked = looked; ends = ends; noted = noted }
+
+come_nowhere : (clock : Duration → Type 0) (s : Between) → HasComeOn clock s s
+come_nowhere clock s =
+    come_on clock s s (later_self s.standing.course.progress.world) (still_self clock s.standing) refl refl refl
+
+come_wanting : (clock : Duration → Type 0) (s t : Between) → HasComeOn clock s t → HasComeOn clock s (wanting t)
+come_wanting clock s t h =
+    record { later = h.later; watches = h.watches; looked = h.looked; ends = h.ends; noted = h.noted }
 
 -- rounds are wanted after it
-fails_busy : (k : Skills) (stores : RepoFault → Type 0) (how : Failure) (s : Between) (q : Progress) (d : Seen)
-    (b : Bool) (e : SeenEnds) → Fails k stores how s (between (standing q d b) e)
-    → Fails k stores how s (between (standing q d true) e)
-fails_busy k stores (TickFailed x) s q d b e h =
-    (record { later = h.0.later; looked = h.0.looked; ends = h.0.ends }, h.1)
-fails_busy k stores (RequestFailed fault a) s q d b e h =
-    (h.0, record { later = h.1.later; looked = h.1.looked; ends = h.1.ends }, h.2)
-fails_busy k stores (RoundsFailed x a) s q d b e h =
-    (h.0, h.1, record { later = h.2.later; looked = h.2.looked; ends = h.2.ends }, h.3)
+fails_busy : (k : Skills) (clock : Duration → Type 0) (stores : RepoFault → Type 0) (how : Failure) (s t : Between)
+    → Fails k clock stores how s t → Fails k clock stores how s (wanting t)
+fails_busy k clock stores (TickFailed x) s t h = (h.0, come_wanting clock s t h.1, h.2)
+fails_busy k clock stores (RequestFailed fault a) s t h = (
+  record { text = h.0.text; stops = h.0.stops; said = h.0.said; status = h.0.status; stood = h.0.stood },
+  come_wanting clock s t h.1,
+  h.2,
+)
+fails_busy k clock stores (RoundsFailed x a) s t h = (h.0, come_wanting clock s t h.1, h.2)
 
 pub failed_busy : (k : Skills) (clock : Duration → Type 0) (stores : RepoFault → Type 0) (fault : ScriptFault)
-    (was is : Option (List Passed)) (s : Between) (q : Progress) (d : Seen) (b : Bool) (e : SeenEnds)
-    → IsFailed k stores fault was is s (between (standing q d b) e)
-    → HasTurned k clock stores Goes (Some fault) was is s (between (standing q d true) e)
-failed_busy k clock stores fault was is s q d b e h = (
-  record { how = h.how; named = h.named; fails = fails_busy k stores h.how s q d b e h.fails; passed = h.passed },
+    (was is : Option (List Passed)) (s t : Between) → IsFailed k clock stores fault was is s t
+    → HasTurned k clock stores Goes (Some fault) was is s (wanting t)
+failed_busy k clock stores fault was is s t h = (
+  record { how = h.how; named = h.named; fails = fails_busy k clock stores h.how s t h.fails; passed = h.passed },
   refl,
 )
 
 -- ---- a tick
 
 pub ticked : (k : Skills) (clock : Duration → Type 0) (was now is : Option (List Passed)) (s t : Between)
-    (lines : List (List ℕ)) → now ≡ traffic_with [] was → is ≡ traffic_with (map Told lines) now
+    (lines : List (List ℕ)) → now ≡ log_with [] was → is ≡ log_with (map Told lines) now
     → IsTick k clock s t lines → IsTurn k clock was is s t
 ticked k clock was now is s t lines came told step =
     record {
       one = Ticked lines;
       step = step;
       passed = told
-          ∙ ap (traffic_with (map Told lines)) (came ∙ passing_nothing was);
+          ∙ ap (log_with (map Told lines)) (came ∙ passing_nothing was);
     }
 
-pub tick_cut : (k : Skills) (stores : RepoFault → Type 0) (was is : Option (List Passed)) (s t : Between)
-    (e : NodeFault) → is ≡ traffic_with [] was → HasComeOn s t → StillAgrees s t → IsFailed k stores (Node e) was is s t
-tick_cut k stores was is s t e passed come agrees =
-    record { how = TickFailed e; named = refl; fails = (come, agrees); passed = passed }
+pub tick_cut : (k : Skills) (clock : Duration → Type 0) (stores : RepoFault → Type 0) (was is : Option (List Passed))
+    (s t : Between) (e : NodeFault) → is ≡ log_with [] was → TickFails k clock stores s t.standing.course e
+    → HasComeOn clock s t → StillAgrees s t → IsFailed k clock stores (Node e) was is s t
+tick_cut k clock stores was is s t e passed why come agrees =
+    record { how = TickFailed e; named = refl; fails = (inl why, come, agrees); passed = passed }
 
 -- ---- a turn that is passed over
 
 pub tick_over : (k : Skills) (clock : Duration → Type 0) (stores : RepoFault → Type 0)
-    (was is : Option (List Passed)) (p : Progress) (c : Seen) (b : Bool) (e : SeenEnds) → is ≡ traffic_with [] was
-    → HasTurned k clock stores Goes (Some (Node Memory)) was is (between (standing p c b) e)
-    (between (standing p c true) e)
-tick_over k clock stores was is p c b e passed =
-    failed_busy k clock stores (Node Memory) was is (between (standing p c b) e) p c b e
-    (tick_cut k stores was is (between (standing p c b) e) (between (standing p c b) e) Memory passed
-    (come_on p p c c b b e e (later_self p.world) refl) (λ b' a. a))
+    (was is : Option (List Passed)) (s : Between) → is ≡ log_with [] was
+    → HasTurned k clock stores Goes (Some (Node Memory)) was is s (wanting s)
+tick_over k clock stores was is s passed =
+    failed_busy k clock stores (Node Memory) was is s s
+    (record {
+      how = TickFailed Memory;
+      named = refl;
+      fails = (inr (refl, refl), come_nowhere clock s, λ b a. a);
+      passed = passed;
+    })
 
 pub request_over : (k : Skills) (clock : Duration → Type 0) (stores : RepoFault → Type 0) (request : List ℕ)
-    (before was is : Option (List Passed)) (p : Progress) (c : Seen) (b : Bool) (e : SeenEnds)
-    → was ≡ traffic_with (Asked request ∷ []) before → IsToldOf (Node Memory) [] was is
-    → HasTurned k clock stores Goes (Some (Node Memory)) before is (between (standing p c b) e)
-    (between (standing p c true) e)
-request_over k clock stores request before was is p c b e came told =
-    failed_busy k clock stores (Node Memory) before is (between (standing p c b) e) p c b e
-    (cut k stores (Node Memory) request [] before was is (between (standing p c b) e) (between (standing p c b) e) came
-    told (cut_at_once k stores p c request) (come_on p p c c b b e e (later_self p.world) refl) (λ b' a. inl a))
+    (before was is : Option (List Passed)) (s : Between) → was ≡ log_with (Asked request ∷ []) before
+    → IsToldOf (Node Memory) [] s.standing.course.progress.world.now was is
+    → HasTurned k clock stores Goes (Some (Node Memory)) before is s (wanting s)
+request_over k clock stores request before was is s came told =
+    failed_busy k clock stores (Node Memory) before is s s
+    (cut k clock stores (Node Memory) request [] before was is s s came told
+    (cut_at_once k stores s.standing.course.progress s.standing.course.seen request) (come_nowhere clock s)
+    (λ b a. inl a))
+
+-- ---- how contracts are ended, and then a turn
+
+lists_told : (b : Bool) (stops : List Stop) (was is : Option (List (List Stop))) → is ≡ stop_lists_if b stops was
+    → is ≡ log_with (lists_if b stops) was
+lists_told true stops was is told = told
+lists_told false stops was is told = told ∙ sym (passing_nothing was)
+
+pub taken_told : (k : Skills) (clock : Duration → Type 0) (stores : RepoFault → Type 0) (onward : Onward)
+    (fault : Option ScriptFault) (was is : Option (List Passed)) (stops_was stops_is : Option (List (List Stop)))
+    (s mid t : Between)
+    → stops_is ≡ stop_lists_if (is_new s.noted (size_of s.standing.course.progress.world))
+    (stops_of s.standing.course.progress.world.now) stops_was
+    → mid.noted ≡ Some (size_of s.standing.course.progress.world)
+    → HasTurned k clock stores onward fault was is (record s { noted = mid.noted }) t
+    → HasTakenTurn k clock stores onward fault was is stops_was stops_is s t
+taken_told k clock stores onward fault was is stops_was stops_is s mid t told noted turned =
+    record {
+      tells = true;
+      told = lists_told (is_new s.noted (size_of s.standing.course.progress.world))
+          (stops_of s.standing.course.progress.world.now) stops_was stops_is told;
+      turned = subst (λ (o : Option Size). HasTurned k clock stores onward fault was is (record s { noted = o }) t) noted
+          turned;
+      over = λ untold. absurd cc;
+    }
+
+pub taken_untold : (k : Skills) (clock : Duration → Type 0) (stores : RepoFault → Type 0) (onward : Onward)
+    (was is : Option (List Passed)) (stops_was stops_is : Option (List (List Stop)))
+    (s mid t : Between) → stops_is ≡ stops_was → mid.noted ≡ s.noted
+    → HasTurned k clock stores onward (Some (Node Memory)) was is (record s { noted = mid.noted }) t
+    → HasTakenTurn k clock stores onward (Some (Node Memory)) was is stops_was stops_is s t
+taken_untold k clock stores onward was is stops_was stops_is s mid t told noted turned =
+    record {
+      tells = false;
+      told = told ∙ sym (passing_nothing stops_was);
+      turned = subst (λ (o : Option Size).
+          HasTurned k clock stores onward (Some (Node Memory)) was is (record s { noted = o }) t) noted turned;
+      over = λ untold. refl;
+    }

@@ -5,9 +5,11 @@ use Rattle.std.specs.declared.time.Duration.{Duration}
 use Rattle.smf_drive.specs.Agrees.{AgreesSince, Before}
 use Rattle.smf_drive.specs.Forgets.{AgreesAnew}
 use Rattle.smf_edge.specs.Answers.{Seen, Skills}
+use Rattle.smf_edge.specs.Starts.{log_with}
 use Rattle.smf_model.specs.declared.journal.RepoFault.{RepoFault}
 use Rattle.smf_model.specs.Contents.{Holdings}
 use Rattle.smf_node.specs.Faults.{IsUnbooted}
+use Rattle.smf_node.specs.Rounds.{course}
 use Rattle.smf_node.specs.declared.fault.NodeFault.{NodeFault}
 use Rattle.smf_past.specs.Begun.{IsSafeSince}
 use Rattle.smf_past.specs.Lives.{LeadsTo}
@@ -20,8 +22,9 @@ use Rattle.smf_world.specs.declared.item.Item.{Item}
 use Rattle.smf_world.specs.Schedule.{begun_at}
 use Rattle.smf_world.specs.Happens.{happens}
 use Rattle.smf_world.specs.World.{initial_world}
-use Rattle.smf_watch.specs.Traffic.{Passed, Closed, traffic_with}
-use Rattle.smf_server.specs.Turns.{Between, Failed, IsServed, MayHaveForgotten, RequestFailed, Turn, all_shown, standing, told_anew, trail_of_state}
+use Rattle.smf_watch.specs.Traffic.{Passed, Closed}
+use Rattle.smf_server.specs.Turns.{Between, Failed, IsServed, MayHaveForgotten, RequestFailed, Turn, all_shown, all_told, noting, stops_told, told_anew, trail_of_state}
+use Rattle.smf_watch.specs.declared.stops.Stop.{Stop}
 use Rattle.smf_watch.specs.declared.ask.Onward.{Onward}
 use Rattle.smf_watch.specs.declared.ask.Onward.TheVariants.{Goes, Ends}
 
@@ -34,7 +37,7 @@ KeepsAgreement s t =
     → AgreesAnew t.standing.course.progress.world t.standing.course.seen.ledger
 
 abbrev pub is_cut : Turn → Bool
-is_cut (Failed (RequestFailed fault a) items) = true
+is_cut (Failed (RequestFailed fault a) items stops) = true
 is_cut _ = false
 
 -- no request was ended by a fault
@@ -44,18 +47,28 @@ is_uncut (turn ∷ before) = not (is_cut turn) && is_uncut before
 
 -- no more was asked, or the most turns were taken
 abbrev pub IsOver : ℕ → Onward → ℕ → Option (List Passed) → Option (List Passed) → Type 0
-IsOver most Ends count now is = is ≡ traffic_with (Closed ∷ []) now
+IsOver most Ends count now is = is ≡ log_with (Closed ∷ []) now
 IsOver most Goes count now is = (count ≡ most) × (is ≡ now)
 
+-- at the ask that ends a server it is told as at others how contracts are ended, if there is memory for it
+abbrev pub HasClosed : Onward → Bool → Between → Between → Type 0
+HasClosed Ends tells s t = t ≡ noting tells s
+HasClosed Goes tells s t = (tells ≡ false) × (t ≡ s)
+
 -- Turns were taken, whatever failed, until no more was asked, or the most that a server takes. What the trail showed at
--- first was told, and then each item that a turn added, once and in their order. Node and children still agree, unless a
--- request was ended by a fault.
+-- first was told, and then each item that a turn added, once and in their order. Before each turn it was told how contracts
+-- are ended, if anything happened since that was told. Node and children still agree, unless a request was ended by a fault.
 pub record HasStayed (k : Skills) (clock : Duration → Type 0) (stores : RepoFault → Type 0) (most : ℕ) (how : Onward)
-    (was is : Option (List Passed)) (told_was told_is : Option (List Item)) (s t : Between) : Type 0 where
+    (was is : Option (List Passed)) (told_was told_is : Option (List Item)) (stops_was stops_is : Option (List (List Stop)))
+    (s t : Between) : Type 0 where
   pub now : Option (List Passed)
-  pub served : IsServed k clock stores was now s t
+  pub still : Between
+  pub served : IsServed k clock stores was now s still
   pub over : IsOver most how (length served.turns) now is
-  pub told : told_is ≡ traffic_with (trail_of_state s ++ all_shown served.turns) told_was
+  pub told : told_is ≡ log_with (trail_of_state s ++ all_shown served.turns) told_was
+  pub tells : Bool
+  pub stops : stops_is ≡ log_with (all_told served.turns ++ stops_told tells still) stops_was
+  pub closed : HasClosed how tells still t
   pub agrees : is_uncut served.turns ≡ true → KeepsAgreement s t
 
 -- ---- after a turn
@@ -66,23 +79,33 @@ abbrev pub HasConcluded : Option ScriptFault → Option (List ℕ) → Option (L
     → Option (List Passed) → Between → Between → Type 0
 HasConcluded None last next was is s t = (next ≡ None) × (is ≡ was) × MayHaveForgotten s t
 HasConcluded (Some fault) last next was is s t =
-    (next ≡ Some (fault_text fault)) × (is ≡ traffic_with (told_anew last (Some (fault_text fault))) was) × (t ≡ s)
+    (next ≡ Some (fault_text fault)) × (is ≡ log_with (told_anew last (Some (fault_text fault))) was) × (t ≡ s)
 
 -- ---- from boot to end
 
 -- after the boot of what was found, and before the first turn
 abbrev pub state_after_boot : Holdings → Seen → Between
 state_after_boot h seen =
-    record { standing = standing (begun_at (happens (initial_world h) events.Boot)) seen true; looked = 0; ends = [] }
+    record {
+      standing = record {
+        course = course (begun_at (happens (initial_world h) events.Boot)) seen;
+        busy = true;
+        watched = [];
+      };
+      looked = 0;
+      ends = [];
+      noted = None;
+    }
 
 -- Turns were taken, and then the children that were left were asked to end: it is said whether all have. The value after
 -- the last turn stands in the journal. The trail after the last turn is safe, with all that was forgotten before it.
 pub record HasLived {J : Type 0} (k : Skills) (clock : Duration → Type 0) (stores : RepoFault → Type 0)
     (stands : J → Holdings → Type 0)
     (most : ℕ) (how : Onward) (journal : J) (was is : Option (List Passed)) (told_was told_is : Option (List Item))
-    (ended : Result Leftover AllocError) (first : Between) (new : Seen) : Type 0 where
+    (stops_was stops_is : Option (List (List Stop))) (ended : Result Leftover AllocError) (first : Between) (new : Seen)
+    : Type 0 where
   pub last : Between
-  pub stayed : HasStayed k clock stores most how was is told_was told_is first last
+  pub stayed : HasStayed k clock stores most how was is told_was told_is stops_was stops_is first last
   pub kept : stands journal last.standing.course.progress.world.now
   pub safe : IsSafeSince last.standing.course.progress.world
   pub leads : LeadsTo first.standing.course.progress.world last.standing.course.progress.world
@@ -91,9 +114,10 @@ pub record HasLived {J : Type 0} (k : Skills) (clock : Duration → Type 0) (sto
 -- there was no boot, and nothing was done
 pub record IsUnborn {J : Type 0} (stores : RepoFault → Type 0) (stands : J → Holdings → Type 0)
     (h : Holdings) (fault : NodeFault) (journal : J) (was is : Option (List Passed)) (told_was told_is : Option (List Item))
-    (old new : Seen) : Type 0 where
+    (stops_was stops_is : Option (List (List Stop))) (old new : Seen) : Type 0 where
   pub unbooted : IsUnbooted stores h fault
   pub kept : stands journal h
   pub passed : is ≡ was
   pub told : told_is ≡ told_was
+  pub stops : stops_is ≡ stops_was
   pub left : new ≡ old

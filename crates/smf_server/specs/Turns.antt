@@ -1,53 +1,72 @@
 -- The state of a server, turn by turn.
-use Rattle.std.specs.Prelude.{◌≡◌, ◌⊎◌, ℕ, nat_lt, nat_eq, ◌||◌, ◌&&◌, not, List, [], ◌∷◌, ◌++◌, length, drop, filter, map, reverse, Bool, true, false, Option, Some, None}
+use Rattle.std.specs.Prelude.{◌≡◌, ◌⊎◌, ℕ, zero, suc, nat_lt, nat_eq, ◌||◌, ◌&&◌, not, List, [], ◌∷◌, ◌++◌, length, drop, filter, map, reverse, Bool, true, false, Option, Some, None}
 use Rattle.std.specs.Cmp.Lexicographic.{pointwise}
 use Rattle.std.specs.declared.time.Duration.{Duration}
 use Rattle.smf_drive.specs.Agrees.{AgreesSince, Before}
 use Rattle.smf_drive.specs.Forgets.{HasForgotten as Forgot}
-use Rattle.smf_edge.specs.Answers.{Seen, Skills}
+use Rattle.smf_edge.specs.Answers.{Skills, children_state}
+use Rattle.smf_edge.specs.Ledgers.{Ledger}
+use Rattle.smf_edge.specs.Starts.{log_with}
 use Rattle.smf_machine.specs.Runners.{rules_of}
 use Rattle.smf_model.specs.declared.journal.RepoFault.{RepoFault}
+use Rattle.smf_model.specs.Contents.{Holdings}
 use Rattle.smf_node.specs.declared.fault.NodeFault.{NodeFault}
+use Rattle.smf_node.specs.declared.fault.NodeFault.TheVariants.{Memory}
+use Rattle.smf_node.specs.Partly.{SettleFails}
 use Rattle.smf_node.specs.Rounds.{Course, HasSettled, at, course}
 use Rattle.smf_run.specs.Agreed.{AgreesOrDroppedSince}
 use Rattle.smf_run.specs.Scripts.{HasRun, Stops}
 use Rattle.smf_script.specs.declared.fault.ScriptFault.{ScriptFault}
 use Rattle.smf_script.specs.declared.fault.ScriptFault.TheVariants.{Node}
 use Rattle.smf_script.specs.Script.{first_session}
+use Rattle.smf_server.specs.declared.server.Server.{Server}
+use Rattle.smf_server.specs.FaultTexts.{fault_line, fault_text}
+use Rattle.smf_watch.specs.Loops.{StopsMarking, hasty, is_kept, lines_of, marks, seen_by}
+use Rattle.smf_watch.specs.Sizes.{size_of, is_same}
+use Rattle.smf_watch.specs.Stops.{is_new, stops_of}
+use Rattle.smf_watch.specs.Traffic.{Passed, Asked, Closed, Told, reply_in}
+use Rattle.smf_watch.specs.Watched.{HasHeard, HaveTimedOut, StopsHearing, StopsTiming, watched_by}
+use Rattle.smf_watch.specs.declared.ask.Onward.{Onward}
+use Rattle.smf_watch.specs.declared.ask.Onward.TheVariants.{Goes, Ends}
+use Rattle.smf_watch.specs.declared.ends.End.{End}
+use Rattle.smf_watch.specs.declared.size.Size.{Size}
+use Rattle.smf_watch.specs.declared.stops.Stop.{Stop}
+use Rattle.smf_watch.specs.declared.watch.Due.{Due}
 use Rattle.smf_world.specs.declared.item.Item.{Item}
 use Rattle.smf_world.specs.declared.schedule.Settled.{Settled}
 use Rattle.smf_world.specs.declared.schedule.Settled.TheVariants.{Quiet, Busy}
 use Rattle.smf_world.specs.Schedule.{Progress}
 use Rattle.smf_world.specs.Reached.{IsLater}
 use Rattle.smf_world.specs.World.{World}
-use Rattle.smf_server.specs.FaultTexts.{fault_line, fault_text}
-use Rattle.smf_watch.specs.Loops.{hasty, is_kept, lines_of, marks, seen_by}
-use Rattle.smf_watch.specs.Sizes.{size_of, is_same}
-use Rattle.smf_watch.specs.Traffic.{Passed, Asked, Closed, Told, traffic_with, reply_in}
-use Rattle.smf_watch.specs.Watched.{HasHeard, HaveTimedOut}
-use Rattle.smf_watch.specs.declared.ask.Onward.{Onward}
-use Rattle.smf_watch.specs.declared.ends.End.{End}
-use Rattle.smf_watch.specs.declared.ends.Ends.{Ends as SeenEnds}
-use Rattle.smf_watch.specs.declared.ask.Onward.TheVariants.{Goes, Ends}
 
 -- ---- what stands between turns
 
--- a node, what is seen of its children, and whether more rounds are wanted
+-- a node, what is seen of its children, whether more rounds are wanted, and the methods that are watched
 pub record Standing : Type 0 where
   pub course : Course
   pub busy : Bool
+  pub watched : List Due
 
-abbrev pub standing : Progress → Seen → Bool → Standing
-standing p s busy = record { course = course p s; busy = busy }
-
--- and with them the ends that were seen lately, and how much of the trail was looked at for them
+-- And with them the ends that were seen lately, and how much of the trail was looked at for them. And by what it is seen
+-- whether anything happened since it was told how contracts are ended
 pub record Between : Type 0 where
   pub standing : Standing
   pub looked : ℕ
   pub ends : List End
+  pub noted : Option Size
 
-abbrev pub between : Standing → SeenEnds → Between
-between s ends = record { standing = s; looked = ends.looked; ends = ends.seen.items }
+abbrev pub between : {J K : Type 0} → (K → Ledger) → (K → ℕ) → Server J K → Between
+between ledger failures server =
+    record {
+      standing = record {
+        course = course server.node (children_state (ledger server.kids) (failures server.kids));
+        busy = server.busy;
+        watched = server.watch.dues;
+      };
+      looked = server.ends.looked;
+      ends = server.ends.seen.items;
+      noted = server.noted.size;
+    }
 
 -- ---- rounds
 
@@ -59,43 +78,56 @@ abbrev pub is_busy : Settled → Bool
 is_busy Quiet = false
 is_busy Busy = true
 
--- at most so many rounds were made, and more are wanted if their number ended them
-pub record HasGone (k : Skills) (rounds : ℕ) (c : Course) (t : Standing) : Type 0 where
+-- At most so many rounds were made, and more are wanted if their number ended them. Then the clock was read, and the
+-- methods that run are watched: one that was watched before keeps its time
+pub record HasGone (k : Skills) (clock : Duration → Type 0) (rounds : ℕ) (s t : Standing) : Type 0 where
   pub how : Settled
-  pub made : HasSettled (rules_of k) rounds c t.course how
+  pub made : HasSettled (rules_of k) rounds s.course t.course how
   pub left : t.busy ≡ is_busy how
+  pub now : Duration
+  pub read : clock now
+  pub watched : t.watched ≡ watched_by now t.course.progress.world s.watched
 
 -- rounds were made, or nothing was done
-abbrev pub GoesIf : Bool → Skills → Course → Bool → Standing → Type 0
-GoesIf true k c busy t = HasGone k max_rounds c t
-GoesIf false k c busy t = t ≡ record { course = c; busy = busy }
+abbrev pub GoesIf : Bool → Skills → (Duration → Type 0) → Standing → Standing → Type 0
+GoesIf true k clock s t = HasGone k clock max_rounds s t
+GoesIf false k clock s t = t ≡ s
 
--- one round was made, and more if they are wanted and it came to anything. Else the next one would not either: a kill
--- is owed that is not done yet
-pub record HasTried (k : Skills) (c : Course) (t : Standing) : Type 0 where
+-- more rounds are wanted, and what was done came to anything. Else the next round would not either: a kill is owed that is
+-- not done yet
+abbrev pub wants_more : Standing → Standing → Bool
+wants_more s t = t.busy && not (is_same (size_of s.course.progress.world) (size_of t.course.progress.world))
+
+-- one round was made, and more if they are wanted and it came to anything
+pub record HasTried (k : Skills) (clock : Duration → Type 0) (s t : Standing) : Type 0 where
   pub one : Standing
-  pub first : HasGone k 1 c one
-  pub more : GoesIf (one.busy && not (is_same (size_of c.progress.world) (size_of one.course.progress.world))) k
-      one.course one.busy t
+  pub first : HasGone k clock 1 s one
+  pub more : GoesIf (wants_more s one) k clock one t
 
 -- rounds were made if anything happened; if more were wanted, one at first
-abbrev pub GoesBy : Bool → Bool → Skills → Course → Standing → Type 0
-GoesBy true busy k c t = HasGone k max_rounds c t
-GoesBy false true k c t = HasTried k c t
-GoesBy false false k c t = t ≡ record { course = c; busy = false }
+abbrev pub GoesBy : Bool → Bool → Skills → (Duration → Type 0) → Standing → Standing → Type 0
+GoesBy true busy k clock s t = HasGone k clock max_rounds s t
+GoesBy false true k clock s t = HasTried k clock s t
+GoesBy false false k clock s t = t ≡ s
 
 -- ---- a tick
 
--- children told what happened, methods timed out, and rounds were made if there was anything of this, or if more were
--- wanted
-pub record HasPassed (k : Skills) (s t : Standing) : Type 0 where
+-- Those of the watched methods timed out whose time is over by the clock that was read, and rounds were made if children had
+-- told anything or there was anything of this, or if more were wanted
+pub record HasTimed (k : Skills) (clock : Duration → Type 0) (any : Bool) (s t : Standing) : Type 0 where
+  pub now : Duration
+  pub read : clock now
+  pub timed : Progress
+  pub late : Bool
+  pub times : HaveTimedOut now s.watched s.course.progress timed late
+  pub goes : GoesBy (any || late) s.busy k clock (record s { course = course timed s.course.seen }) t
+
+-- children told what happened, and then methods timed out and rounds were made
+pub record HasPassed (k : Skills) (clock : Duration → Type 0) (s t : Standing) : Type 0 where
   pub heard : Course
   pub any : Bool
   pub hears : HasHeard k s.course heard any
-  pub timed : Progress
-  pub late : Bool
-  pub times : HaveTimedOut heard.progress timed late
-  pub goes : GoesBy (any || late) s.busy k (course timed heard.seen) t
+  pub times : HasTimed k clock any (record s { course = heard }) t
 
 -- ---- instances that end again and again
 
@@ -130,6 +162,8 @@ pub record HasLooked (clock : Duration → Type 0) (s t : Between) (lines : List
   pub looked : t.looked ≡ length (trail_of_state s)
   pub kept : t.ends ≡ filter (is_kept numbers) (ends_by now s)
   pub told : lines ≡ lines_of s.standing.course.progress.world.now numbers
+  pub watched : t.standing.watched ≡ s.standing.watched
+  pub noted : t.noted ≡ s.noted
 
 -- that is done if the trail shows anything new, else nothing
 abbrev pub LooksIf : Bool → (Duration → Type 0) → Between → Between → List (List ℕ) → Type 0
@@ -139,32 +173,35 @@ LooksIf false clock s t lines = (t ≡ s) × (lines ≡ [])
 -- time has passed: what happened was done, and then the trail was looked at
 pub record IsTick (k : Skills) (clock : Duration → Type 0) (s t : Between) (lines : List (List ℕ)) : Type 0 where
   pub gone : Standing
-  pub passes : HasPassed k s.standing gone
+  pub passes : HasPassed k clock s.standing gone
   pub looks : LooksIf (has_more (record s { standing = gone })) clock (record s { standing = gone }) t lines
 
 -- ---- a request
 
--- the reply to a request, and whether its text could be written
+-- the reply to a request, whether its text could be written, and what the repository held when it went out
 pub record Answer : Type 0 where
   pub request : List ℕ
   pub text : List ℕ
   pub status : ℕ
   pub written : Bool
+  pub held : Holdings
 
--- the lines of a request were done, and this was said to them
+-- the lines of a request were done, and this was said to them when the repository held what they had come to
 abbrev pub HasAnswered : Skills → Answer → Course → Course → Type 0
 HasAnswered k a c d =
     HasRun k (first_session c.progress) (Some a.request) c.seen d.seen d.progress (Some []) (Some a.text) a.status
+    × (a.held ≡ d.progress.world.now)
 
 -- and then rounds were made, at least if anything came of them
-pub record IsAnswer (k : Skills) (a : Answer) (s t : Between) : Type 0 where
+pub record IsAnswer (k : Skills) (clock : Duration → Type 0) (a : Answer) (s t : Between) : Type 0 where
   pub done : Course
   pub ran : HasAnswered k a s.standing.course done
   pub wanted : Bool
   pub needed : is_same (size_of s.standing.course.progress.world) (size_of done.progress.world) ≡ false → wanted ≡ true
-  pub goes : GoesIf wanted k done s.standing.busy t.standing
+  pub goes : GoesIf wanted k clock (record s.standing { course = done }) t.standing
   pub looked : t.looked ≡ s.looked
   pub ends : t.ends ≡ s.ends
+  pub noted : t.noted ≡ s.noted
 
 -- ---- turns that are taken
 
@@ -175,11 +212,11 @@ pub data Doing : Type 0 where
 
 abbrev pub Step : Skills → (Duration → Type 0) → Doing → Between → Between → Type 0
 Step k clock (Ticked lines) s t = IsTick k clock s t lines
-Step k clock (Answered a) s t = IsAnswer k a s t
+Step k clock (Answered a) s t = IsAnswer k clock a s t
 
 -- a request came in, and its reply went out
 abbrev pub replied : Answer → List Passed
-replied a = Asked a.request ∷ reply_in a.written a.text a.status ∷ []
+replied a = Asked a.request ∷ reply_in a.written a.text a.status a.held ∷ []
 
 abbrev pub passed_in : Doing → List Passed
 passed_in (Ticked lines) = map Told lines
@@ -190,7 +227,7 @@ pub record IsTurn (k : Skills) (clock : Duration → Type 0) (was is : Option (L
     (s t : Between) : Type 0 where
   pub one : Doing
   pub step : Step k clock one s t
-  pub passed : is ≡ traffic_with (passed_in one) was
+  pub passed : is ≡ log_with (passed_in one) was
 
 -- ---- turns that fail
 
@@ -216,26 +253,98 @@ passed_at (RoundsFailed e a) = replied a
 abbrev pub MayEndWith : List ℕ → List ℕ → List ℕ → Type 0
 MayEndWith line was is = (is ≡ was ++ line) ⊎ (is ≡ was)
 
--- a reply went out that has the words of a fault after a text, if there was memory for them, and the status 3
-pub record IsToldOf (fault : ScriptFault) (text : List ℕ) (was is : Option (List Passed)) : Type 0 where
+-- a reply went out that has the words of a fault after a text, if there was memory for them, and the status 3, when the
+-- repository held this
+pub record IsToldOf (fault : ScriptFault) (text : List ℕ) (held : Holdings) (was is : Option (List Passed))
+    : Type 0 where
   pub said : List ℕ
   pub ends : MayEndWith (fault_line fault) text said
   pub written : Bool
-  pub passed : is ≡ traffic_with (reply_in written said 3 ∷ []) was
+  pub passed : is ≡ log_with (reply_in written said 3 held ∷ []) was
 
--- a request was ended by a fault. Its reply has what its lines wrote, then the words of the fault, and the status 3
+-- A request was ended by a fault. Its reply has what its lines wrote, then the words of the fault, and the status 3, and
+-- went out when the repository held what they had come to
 pub record IsCut (k : Skills) (stores : RepoFault → Type 0) (fault : ScriptFault) (a : Answer) (s t : Course) : Type 0 where
   pub text : List ℕ
   pub stops : Stops k stores fault (first_session s.progress) (Some a.request) s.seen t.seen t.progress (Some [])
       (Some text)
   pub said : MayEndWith (fault_line fault) text a.text
   pub status : a.status ≡ 3
+  pub stood : a.held ≡ t.progress.world.now
+
+-- ---- why a turn fails, and where
+
+-- the rounds failed, by their own reason; or memory ran out after them, before it was seen which methods run
+abbrev pub GoFails : Skills → (RepoFault → Type 0) → ℕ → Course → Course → NodeFault → Type 0
+GoFails k stores rounds c d e =
+    SettleFails (rules_of k) stores rounds c d e
+    ⊎ ((how : Settled) × HasSettled (rules_of k) rounds c d how × (e ≡ Memory))
+
+-- the first round failed, or those after it
+abbrev pub TryFails : Skills → (Duration → Type 0) → (RepoFault → Type 0) → Standing → Course → NodeFault → Type 0
+TryFails k clock stores s d e =
+    GoFails k stores 1 s.course d e
+    ⊎ ((one : Standing) × HasGone k clock 1 s one × (wants_more s one ≡ true)
+    × GoFails k stores max_rounds one.course d e)
+
+abbrev pub GoingFails : Bool → Bool → Skills → (Duration → Type 0) → (RepoFault → Type 0) → Standing → Course
+    → NodeFault → Type 0
+GoingFails true busy k clock stores s d e = GoFails k stores max_rounds s.course d e
+GoingFails false true k clock stores s d e = TryFails k clock stores s d e
+GoingFails false false k clock stores s d e = ⊥
+
+-- a method that was due did not time out, or the rounds after that failed
+abbrev pub TimingFails : Skills → (Duration → Type 0) → (RepoFault → Type 0) → Bool → Standing → Course → NodeFault
+    → Type 0
+TimingFails k clock stores any s d e =
+    (now : Duration) × clock now
+    × ((StopsTiming stores now s.watched s.course.progress d.progress e × (d.seen ≡ s.course.seen))
+    ⊎ ((timed : Progress) × (late : Bool) × HaveTimedOut now s.watched s.course.progress timed late
+    × GoingFails (any || late) s.busy k clock stores (record s { course = course timed s.course.seen }) d e))
+
+-- memory ran out while children told what happened, or it failed after that
+abbrev pub PassFails : Skills → (Duration → Type 0) → (RepoFault → Type 0) → Standing → Course → NodeFault → Type 0
+PassFails k clock stores s d e =
+    StopsHearing k s.course d e
+    ⊎ ((heard : Course) × (any : Bool) × HasHeard k s.course heard any
+    × TimingFails k clock stores any (record s { course = heard }) d e)
+
+-- memory ran out at the look at the trail, or an instance that ended too often could not be marked
+abbrev pub LookFails : (Duration → Type 0) → (RepoFault → Type 0) → Between → Course → NodeFault → Type 0
+LookFails clock stores s d e =
+    ((e ≡ Memory) × (d ≡ s.standing.course))
+    ⊎ ((now : Duration) × clock now
+    × StopsMarking stores (hasty (ends_by now s)) s.standing.course.progress d.progress e
+    × (d.seen ≡ s.standing.course.seen))
+
+-- time did not pass, or then the trail was not looked at
+abbrev pub TickFails : Skills → (Duration → Type 0) → (RepoFault → Type 0) → Between → Course → NodeFault → Type 0
+TickFails k clock stores s d e =
+    PassFails k clock stores s.standing d e
+    ⊎ ((gone : Standing) × HasPassed k clock s.standing gone
+    × LookFails clock stores (record s { standing = gone }) d e)
+
+-- there was no memory for the turn, and nothing was done
+abbrev pub IsPassedOver : Between → Course → NodeFault → Type 0
+IsPassedOver s d e = (e ≡ Memory) × (d ≡ s.standing.course)
+
+-- so often it was looked meanwhile which methods run, by the clock: one that was watched before keeps its time
+abbrev pub Watches : (Duration → Type 0) → ℕ → World → World → List Due → List Due → Type 0
+Watches clock zero w v old new = IsLater w v × (new ≡ old)
+Watches clock (suc n) w v old new =
+    (mid : World) × (now : Duration) × IsLater w mid × clock now × Watches clock n mid v (watched_by now mid old) new
+
+abbrev pub StillWatches : (Duration → Type 0) → Standing → Standing → Type 0
+StillWatches clock s t =
+    (times : ℕ) × Watches clock times s.course.progress.world t.course.progress.world s.watched t.watched
 
 -- however far a turn came, events lead there, and the ends that were seen are kept for the next turn
-pub record HasComeOn (s t : Between) : Type 0 where
+pub record HasComeOn (clock : Duration → Type 0) (s t : Between) : Type 0 where
   pub later : IsLater s.standing.course.progress.world t.standing.course.progress.world
+  pub watches : StillWatches clock s.standing t.standing
   pub looked : t.looked ≡ s.looked
   pub ends : t.ends ≡ s.ends
+  pub noted : t.noted ≡ s.noted
 
 -- if node and children agreed, they agree
 abbrev pub StillAgrees : Between → Between → Type 0
@@ -249,20 +358,24 @@ AgreesOrDrops s t =
     (b : Before) → AgreesSince b s.standing.course.progress.world s.standing.course.seen.ledger
     → AgreesOrDroppedSince b t.standing.course.progress.world t.standing.course.seen.ledger
 
-abbrev pub Fails : Skills → (RepoFault → Type 0) → Failure → Between → Between → Type 0
-Fails k stores (TickFailed e) s t = HasComeOn s t × StillAgrees s t
-Fails k stores (RequestFailed fault a) s t =
-    IsCut k stores fault a s.standing.course t.standing.course × HasComeOn s t × AgreesOrDrops s t
-Fails k stores (RoundsFailed e a) s t =
-    (done : Course) × HasAnswered k a s.standing.course done × HasComeOn s t × StillAgrees s t
+abbrev pub Fails : Skills → (Duration → Type 0) → (RepoFault → Type 0) → Failure → Between → Between → Type 0
+Fails k clock stores (TickFailed e) s t =
+    (TickFails k clock stores s t.standing.course e ⊎ IsPassedOver s t.standing.course e)
+    × HasComeOn clock s t × StillAgrees s t
+Fails k clock stores (RequestFailed fault a) s t =
+    IsCut k stores fault a s.standing.course t.standing.course × HasComeOn clock s t × AgreesOrDrops s t
+Fails k clock stores (RoundsFailed e a) s t =
+    ((done : Course) × HasAnswered k a s.standing.course done
+    × GoFails k stores max_rounds done t.standing.course e)
+    × HasComeOn clock s t × StillAgrees s t
 
 -- a turn failed with this fault
-pub record IsFailed (k : Skills) (stores : RepoFault → Type 0) (fault : ScriptFault) (was is : Option (List Passed))
-    (s t : Between) : Type 0 where
+pub record IsFailed (k : Skills) (clock : Duration → Type 0) (stores : RepoFault → Type 0) (fault : ScriptFault)
+    (was is : Option (List Passed)) (s t : Between) : Type 0 where
   pub how : Failure
   pub named : fault ≡ fault_of how
-  pub fails : Fails k stores how s t
-  pub passed : is ≡ traffic_with (passed_at how) was
+  pub fails : Fails k clock stores how s t
+  pub passed : is ≡ log_with (passed_at how) was
 
 -- ---- a turn
 
@@ -270,8 +383,38 @@ pub record IsFailed (k : Skills) (stores : RepoFault → Type 0) (fault : Script
 abbrev pub HasTurned : Skills → (Duration → Type 0) → (RepoFault → Type 0) → Onward → Option ScriptFault
     → Option (List Passed) → Option (List Passed) → Between → Between → Type 0
 HasTurned k clock stores Goes None was is s t = IsTurn k clock was is s t
-HasTurned k clock stores Goes (Some fault) was is s t = IsFailed k stores fault was is s t × (t.standing.busy ≡ true)
-HasTurned k clock stores Ends fault was is s t = (t ≡ s) × (is ≡ traffic_with (Closed ∷ []) was)
+HasTurned k clock stores Goes (Some fault) was is s t =
+    IsFailed k clock stores fault was is s t × (t.standing.busy ≡ true)
+HasTurned k clock stores Ends fault was is s t = (t ≡ s) × (is ≡ log_with (Closed ∷ []) was)
+
+-- ---- how contracts are ended
+
+-- it is told how all are ended, if anything happened since that was told
+abbrev pub lists_if : Bool → List Stop → List (List Stop)
+lists_if true stops = stops ∷ []
+lists_if false stops = []
+
+abbrev pub stops_told : Bool → Between → List (List Stop)
+stops_told false s = []
+stops_told true s =
+    lists_if (is_new s.noted (size_of s.standing.course.progress.world)) (stops_of s.standing.course.progress.world.now)
+
+abbrev pub noted_by : Bool → Between → Option Size
+noted_by false s = s.noted
+noted_by true s = Some (size_of s.standing.course.progress.world)
+
+abbrev pub noting : Bool → Between → Between
+noting tells s = record s { noted = noted_by tells s }
+
+-- First it was told how what start methods began is ended, and then the turn was taken. If memory ran out before that could
+-- be told, nothing is done of the turn but to say so
+pub record HasTakenTurn (k : Skills) (clock : Duration → Type 0) (stores : RepoFault → Type 0) (onward : Onward)
+    (fault : Option ScriptFault) (was is : Option (List Passed)) (stops_was stops_is : Option (List (List Stop)))
+    (s t : Between) : Type 0 where
+  pub tells : Bool
+  pub told : stops_is ≡ log_with (stops_told tells s) stops_was
+  pub turned : HasTurned k clock stores onward fault was is (noting tells s) t
+  pub over : tells ≡ false → fault ≡ Some (Node Memory)
 
 -- ---- what goes between turns
 
@@ -284,8 +427,10 @@ pub record HasForgotten (s t : Between) : Type 0 where
       t.standing.course.seen.ledger
   pub failures : t.standing.course.seen.failures ≡ s.standing.course.seen.failures
   pub busy : t.standing.busy ≡ s.standing.busy
+  pub watched : t.standing.watched ≡ s.standing.watched
   pub anew : t.looked ≡ 0
   pub ends : t.ends ≡ s.ends
+  pub noted : t.noted ≡ s.noted
 
 -- one more round is wanted
 abbrev pub wanting : Between → Between
@@ -297,15 +442,15 @@ MayHaveForgotten s t = (t ≡ s) ⊎ ((t ≡ wanting s) ⊎ HasForgotten s t)
 
 -- ---- turn after turn
 
--- with the items that it added to the trail
+-- with the items that it added to the trail, and what was told before it of how contracts are ended
 pub data Turn : Type 0 where
-  Taken : Doing → List Item → Turn
-  Failed : Failure → List Item → Turn
+  Taken : Doing → List Item → List (List Stop) → Turn
+  Failed : Failure → List Item → List (List Stop) → Turn
 
 -- the words of the fault, if a turn failed
 abbrev pub words_of : Turn → Option (List ℕ)
-words_of (Taken one items) = None
-words_of (Failed how items) = Some (fault_text (fault_of how))
+words_of (Taken one items stops) = None
+words_of (Failed how items stops) = Some (fault_text (fault_of how))
 
 -- and of the last of these turns, which comes first
 abbrev pub last_words : List Turn → Option (List ℕ)
@@ -325,12 +470,19 @@ abbrev pub told_anew : Option (List ℕ) → Option (List ℕ) → List Passed
 told_anew last None = []
 told_anew last (Some words) = told_if (not (is_told last words)) words
 
+-- memory ran out before it could be told how contracts are ended: so the turn failed
+abbrev pub MayTell : Bool → Failure → Type 0
+MayTell true how = Unit {0}
+MayTell false how = fault_of how ≡ Node Memory
+
 -- after a turn that was taken what is over may be forgotten; after one that failed rounds are wanted
 abbrev pub TurnStep : Skills → (Duration → Type 0) → (RepoFault → Type 0) → Turn → Between → Between → Type 0
-TurnStep k clock stores (Taken one items) s t =
-    (mid : Between) × Step k clock one s mid × (items ≡ shown_since s mid) × MayHaveForgotten mid t
-TurnStep k clock stores (Failed how items) s t =
-    Fails k stores how s t × (items ≡ shown_since s t) × (t.standing.busy ≡ true)
+TurnStep k clock stores (Taken one items stops) s t =
+    (mid : Between) × Step k clock one (noting true s) mid × (items ≡ shown_since s mid) × (stops ≡ stops_told true s)
+    × MayHaveForgotten mid t
+TurnStep k clock stores (Failed how items stops) s t =
+    (tells : Bool) × MayTell tells how × Fails k clock stores how (noting tells s) t × (items ≡ shown_since s t)
+    × (stops ≡ stops_told tells s) × (t.standing.busy ≡ true)
 
 -- turns, the last first, each on what all before it left
 abbrev pub Steps : Skills → (Duration → Type 0) → (RepoFault → Type 0) → List Turn → Between → Between → Type 0
@@ -339,8 +491,8 @@ Steps k clock stores (turn ∷ before) s t =
     (mid : Between) × Steps k clock stores before s mid × TurnStep k clock stores turn mid t
 
 abbrev pub passed_by : Turn → List Passed
-passed_by (Taken one items) = passed_in one
-passed_by (Failed how items) = passed_at how
+passed_by (Taken one items stops) = passed_in one
+passed_by (Failed how items stops) = passed_at how
 
 abbrev pub all_passed : List Turn → List Passed
 all_passed [] = []
@@ -348,28 +500,39 @@ all_passed (turn ∷ before) =
     all_passed before ++ (passed_by turn ++ told_anew (last_words before) (words_of turn))
 
 abbrev pub shown_by : Turn → List Item
-shown_by (Taken one items) = items
-shown_by (Failed how items) = items
+shown_by (Taken one items stops) = items
+shown_by (Failed how items stops) = items
 
 -- all that they added to the trail, the first first
 abbrev pub all_shown : List Turn → List Item
 all_shown [] = []
 all_shown (turn ∷ before) = all_shown before ++ shown_by turn
 
+abbrev pub told_by : Turn → List (List Stop)
+told_by (Taken one items stops) = stops
+told_by (Failed how items stops) = stops
+
+-- all that was told of how contracts are ended
+abbrev pub all_told : List Turn → List (List Stop)
+all_told [] = []
+all_told (turn ∷ before) = all_told before ++ told_by turn
+
 -- requests came in and were replied to in their order, each done on what all turns before it left; a fault was told once
 pub record IsServed (k : Skills) (clock : Duration → Type 0) (stores : RepoFault → Type 0) (was is : Option (List Passed))
     (s t : Between) : Type 0 where
   pub turns : List Turn
   pub steps : Steps k clock stores turns s t
-  pub passed : is ≡ traffic_with (all_passed turns) was
+  pub passed : is ≡ log_with (all_passed turns) was
 
 -- that is so before the first turn, and each turn keeps it so: one that is taken, and one that fails
 abbrev pub TurnsFollow : Skills → (Duration → Type 0) → (RepoFault → Type 0) → Type 0
 TurnsFollow k clock stores =
-    (was now is : Option (List Passed)) (s mid t : Between) (fault : ScriptFault)
+    (was now is : Option (List Passed)) (s mid t : Between) (fault : ScriptFault) (tells : Bool)
     → IsServed k clock stores was was s s
-    × (IsServed k clock stores was now s mid → IsTurn k clock now is mid t → IsServed k clock stores was is s t)
-    × ((served : IsServed k clock stores was now s mid) → IsFailed k stores fault now is mid t
+    × (IsServed k clock stores was now s mid → IsTurn k clock now is (noting true mid) t
+    → IsServed k clock stores was is s t)
+    × ((served : IsServed k clock stores was now s mid)
+    → (failed : IsFailed k clock stores fault now is (noting tells mid) t) → MayTell tells failed.how
     → t.standing.busy ≡ true
     → IsServed k clock stores was
-    (traffic_with (told_anew (last_words served.turns) (Some (fault_text fault))) is) s t)
+    (log_with (told_anew (last_words served.turns) (Some (fault_text fault))) is) s t)

@@ -6,11 +6,11 @@ ghost use Rattle.smf_drive.specs.Forgets.{AgreesAnew};
 ghost use Rattle.smf_edge.specs.Answers.{children_state};
 ghost use Rattle.smf_server.specs.FaultTexts.{fault_text};
 ghost use Rattle.smf_server.specs.Life.{HasConcluded, HasLived, HasStayed, IsUnborn, state_after_boot};
-ghost use Rattle.smf_server.specs.Turns.{MayHaveForgotten, between, is_told, standing, told_anew};
+ghost use Rattle.smf_server.specs.Turns.{MayHaveForgotten, between, is_told, told_anew};
 ghost use Rattle.smf_server.specs.declared.life.TheConstants.{MOST_TURNS};
 ghost use Rattle.smf_past.specs.Lives.{LeadsTo};
 ghost use Rattle.smf_past.specs.Begun.{IsSafeSince};
-ghost use Rattle.smf_watch.specs.Traffic.{traffic_with};
+ghost use Rattle.smf_edge.specs.Starts.{log_with};
 
 use crate::fault_texts::fault_text;
 use crate::server::Server;
@@ -21,7 +21,7 @@ use smf_model::{Journal, Plain};
 use smf_node::{Node, NodeFault};
 use smf_run::{Leftover, end_all};
 use smf_script::ScriptFault;
-use smf_watch::{Chronicle, Desk, Ender, Noted, Onward, Timer};
+use smf_watch::{Chronicle, Desk, Ender, Onward, Timer};
 use smf_world::Item;
 use std::alloc::{AllocError, Global};
 
@@ -43,6 +43,8 @@ fn want_round<J: Journal, K: Kids>(server: &mut Server<J, K>)
     ensures node { server.new.node ≡ server.old.node }
     ensures kids { server.new.kids ≡ server.old.kids }
     ensures ends { server.new.ends ≡ server.old.ends }
+    ensures watch { server.new.watch ≡ server.old.watch }
+    ensures noted { server.new.noted ≡ server.old.noted }
     ensures busy { (server.new.busy ≡ server.old.busy) ⊎ (server.new.busy ≡ true) }
 {
     let shown = server.node.trail().len();
@@ -56,12 +58,8 @@ fn want_round<J: Journal, K: Kids>(server: &mut Server<J, K>)
 /// It may want one more round before that. If memory runs out it does nothing, and tries again after the next turn.
 fn forget_if<J: Journal, K: Kids>(server: &mut Server<J, K>)
     ensures forgets { MayHaveForgotten
-        (between
-        (standing server.old.node (children_state (K.ledger server.old.kids) (K.failures server.old.kids)) server.old.busy)
-        server.old.ends)
-        (between
-        (standing server.new.node (children_state (K.ledger server.new.kids) (K.failures server.new.kids)) server.new.busy)
-        server.new.ends) }
+        (between K.ledger K.failures server.old)
+        (between K.ledger K.failures server.new) }
     ensures agrees { (b : Before) → AgreesSince b server.old.node.world (K.ledger server.old.kids)
         → AgreesAnew server.new.node.world (K.ledger server.new.kids) }
     ensures safe { IsSafeSince server.new.node.world }
@@ -93,7 +91,7 @@ fn tell_anew<D: Desk>(
     fault: &ScriptFault,
 ) -> Option<&'static str>
     ensures told { D.passed desk.new
-        ≡ traffic_with (told_anew (option_copied last.entry) (Some (fault_text fault.now))) (D.passed desk.old) }
+        ≡ log_with (told_anew (option_copied last.entry) (Some (fault_text fault.now))) (D.passed desk.old) }
     ensures words { option_copied result ≡ Some (fault_text fault.now) }
 {
     let words = fault_text(fault);
@@ -103,7 +101,8 @@ fn tell_anew<D: Desk>(
     Some(words)
 }
 
-/// After a turn that was taken it may forget; after one that failed it tells the fault. Gives the words of the fault.
+/// After a turn that was taken it may forget; after one that failed it tells the fault, and the next tick may come later.
+/// Gives the words of the fault.
 fn conclude<D: Desk, J: Journal, K: Kids>(
     desk: &mut D,
     server: &mut Server<J, K>,
@@ -111,12 +110,8 @@ fn conclude<D: Desk, J: Journal, K: Kids>(
     fault: &Option<ScriptFault>,
 ) -> Option<&'static str>
     ensures concluded { HasConcluded fault.now (option_copied last.entry) (option_copied result) (D.passed desk.old) (D.passed desk.new)
-        (between
-        (standing server.old.node (children_state (K.ledger server.old.kids) (K.failures server.old.kids)) server.old.busy)
-        server.old.ends)
-        (between
-        (standing server.new.node (children_state (K.ledger server.new.kids) (K.failures server.new.kids)) server.new.busy)
-        server.new.ends) }
+        (between K.ledger K.failures server.old)
+        (between K.ledger K.failures server.new) }
     ensures agrees { (b : Before) → AgreesSince b server.old.node.world (K.ledger server.old.kids)
         → AgreesAnew server.new.node.world (K.ledger server.new.kids) }
     ensures safe { IsSafeSince server.new.node.world }
@@ -128,7 +123,9 @@ fn conclude<D: Desk, J: Journal, K: Kids>(
         }
         Some(fault) => {
             let _shown = server.node.trail();
-            tell_anew(desk, last, fault)
+            let words = tell_anew(desk, last, fault);
+            desk.pause();
+            words
         }
     }
 }
@@ -150,22 +147,17 @@ fn stay<D: Desk, C: Chronicle, T: Timer, E: Ender, J: Journal, K: Kids>(
     server: &mut Server<J, K>,
 ) -> Onward
     ensures stayed { HasStayed K.skills (T.says timer.now) J.write_fails MOST_TURNS result (D.passed desk.old) (D.passed desk.new)
-        (C.told chronicle.old) (C.told chronicle.new)
-        (between
-        (standing server.old.node (children_state (K.ledger server.old.kids) (K.failures server.old.kids)) server.old.busy)
-        server.old.ends)
-        (between
-        (standing server.new.node (children_state (K.ledger server.new.kids) (K.failures server.new.kids)) server.new.busy)
-        server.new.ends) }
+        (C.told chronicle.old) (C.told chronicle.new) (E.told ender.old) (E.told ender.new)
+        (between K.ledger K.failures server.old)
+        (between K.ledger K.failures server.new) }
     ensures leads { LeadsTo server.old.node.world server.new.node.world }
     ensures safe { IsSafeSince server.new.node.world }
 {
     chronicle.tell(server.node.trail());
-    let mut noted = Noted::new();
     let mut last: Option<&'static str> = None;
     for _ in 0..MOST_TURNS {
         let told = server.node.trail().len();
-        let Turned { onward, fault } = turn(alloc, desk, timer, ender, &mut noted, server);
+        let Turned { onward, fault } = turn(alloc, desk, timer, ender, server);
         match onward {
             Onward::Goes => {
                 chronicle.tell(items_after(server.node.trail(), told));
@@ -206,10 +198,9 @@ fn live<D: Desk, C: Chronicle, T: Timer, E: Ender, J: Journal + Drop, K: Kids + 
     server: Server<J, K>,
 ) -> Life<J, K>
     ensures { HasLived K.skills (T.says timer.now) J.write_fails J.stands MOST_TURNS result.how result.journal
-        (D.passed desk.old) (D.passed desk.new) (C.told chronicle.old) (C.told chronicle.new) result.left
-        (between
-        (standing server.node (children_state (K.ledger server.kids) (K.failures server.kids)) server.busy)
-        server.ends)
+        (D.passed desk.old) (D.passed desk.new) (C.told chronicle.old) (C.told chronicle.new)
+        (E.told ender.old) (E.told ender.new) result.left
+        (between K.ledger K.failures server)
         (children_state (K.ledger result.kids) (K.failures result.kids)) }
 {
     let mut server = server;
@@ -220,6 +211,7 @@ fn live<D: Desk, C: Chronicle, T: Timer, E: Ender, J: Journal + Drop, K: Kids + 
         watch: _watch,
         busy: _,
         ends: _ends,
+        noted: _noted,
         rested: _,
     } = server;
     let left = end_all(&mut kids);
@@ -244,12 +236,13 @@ pub fn stay_over<D: Desk, C: Chronicle, T: Timer, E: Ender, J: Journal + Drop, K
 ) -> Result<Life<J, K>, Unborn<J, K>>
     ensures lived { IfOk result (λ life.
         HasLived K.skills (T.says timer.now) J.write_fails J.stands MOST_TURNS life.how life.journal
-        (D.passed desk.old) (D.passed desk.new) (C.told chronicle.old) (C.told chronicle.new) life.left
+        (D.passed desk.old) (D.passed desk.new) (C.told chronicle.old) (C.told chronicle.new)
+        (E.told ender.old) (E.told ender.new) life.left
         (state_after_boot repository.held (children_state (K.ledger kids) (K.failures kids)))
         (children_state (K.ledger life.kids) (K.failures life.kids))) }
     ensures unborn { IfErr result (λ unborn.
         IsUnborn J.write_fails J.stands repository.held unborn.fault unborn.journal (D.passed desk.old) (D.passed desk.new)
-        (C.told chronicle.old) (C.told chronicle.new)
+        (C.told chronicle.old) (C.told chronicle.new) (E.told ender.old) (E.told ender.new)
         (children_state (K.ledger kids) (K.failures kids))
         (children_state (K.ledger unborn.kids) (K.failures unborn.kids))) }
 {

@@ -1,7 +1,7 @@
 use smf_edge::Kids;
 use smf_model::Journal;
 use smf_node::Node;
-use smf_watch::{Ends, Watch};
+use smf_watch::{Ends, Noted, Watch};
 use std::alloc::Global;
 
 /// A node, the children of its services, and what is noted of them between turns.
@@ -15,12 +15,14 @@ pub struct Server<J: Journal, K: Kids> {
     pub busy: bool,
     /// The ends of instances that were seen lately.
     pub ends: Ends,
+    /// By what it is seen whether anything happened since it was told how contracts are ended.
+    pub noted: Noted,
     /// How much the trail showed when a round was last wanted so as to forget it.
     pub rested: usize,
 }
 
 impl<J: Journal, K: Kids> Server<J, K> {
-    ghost use Rattle.std.specs.Prelude.{◌≡◌, [], true};
+    ghost use Rattle.std.specs.Prelude.{◌≡◌, [], None, true};
 
     /// A node that has booted, and children that were asked nothing yet. Its first tick makes rounds.
     pub fn new(alloc: Global, node: Node<J>, kids: K) -> Server<J, K>
@@ -29,6 +31,8 @@ impl<J: Journal, K: Kids> Server<J, K> {
         ensures busy { result.busy ≡ true }
         ensures looked { result.ends.looked ≡ 0 }
         ensures seen { result.ends.seen.items ≡ [] }
+        ensures watched { result.watch.dues ≡ [] }
+        ensures noted { result.noted.size ≡ None }
     {
         Server {
             node,
@@ -36,6 +40,7 @@ impl<J: Journal, K: Kids> Server<J, K> {
             watch: Watch::new(alloc),
             busy: true,
             ends: Ends::new(alloc),
+            noted: Noted::new(),
             rested: 0,
         }
     }

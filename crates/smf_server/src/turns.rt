@@ -1,14 +1,12 @@
 ghost use Rattle.std.specs.Prelude.{◌≡◌, ◌≤◌, ◌||◌, ◌&&◌, not, List, [], ◌∷◌, Option, None, Some, length, map, nat_lt, false, true, IfErr, IfOk, OnErr, OnOk};
 ghost use Rattle.smf_drive.specs.Agrees.{AgreesSince, Before};
 ghost use Rattle.smf_drive.specs.Moves.{Moves};
-ghost use Rattle.smf_edge.specs.Answers.{children_state};
-ghost use Rattle.smf_node.specs.Rounds.{course};
+ghost use Rattle.smf_edge.specs.Starts.{log_with};
 ghost use Rattle.smf_node.specs.declared.fault.NodeFault.TheVariants as nodes;
 ghost use Rattle.smf_script.specs.declared.fault.ScriptFault.TheVariants as scripts;
-ghost use Rattle.smf_server.specs.Turns.{GoesBy, GoesIf, HasGone, HasLooked, HasPassed, HasTried, HasTurned, IsFailed, IsTick, IsToldOf, IsTurn, LooksIf, between, is_busy, shown_of, standing};
+ghost use Rattle.smf_server.specs.Turns.{GoFails, GoesBy, GoesIf, GoingFails, HasGone, HasLooked, HasPassed, HasTakenTurn, HasTimed, HasTried, HasTurned, IsFailed, IsTick, IsToldOf, IsTurn, LookFails, LooksIf, PassFails, StillWatches, TickFails, TimingFails, TryFails, between, is_busy, max_rounds, shown_of};
 ghost use Rattle.smf_watch.specs.Sizes.{is_same, size_of};
-ghost use Rattle.smf_watch.specs.Stops.{is_new, stops_of, stop_lists_if};
-ghost use Rattle.smf_watch.specs.Traffic.{Asked, Passed, Told, traffic_with};
+ghost use Rattle.smf_watch.specs.Traffic.{Asked, Passed, Told};
 ghost use Rattle.smf_world.specs.Reached.{IsLater};
 ghost use Rattle.smf_past.specs.Begun.{IsSafeSince};
 
@@ -22,8 +20,7 @@ use smf_node::{Node, NodeFault};
 use smf_run::run_script;
 use smf_script::ScriptFault;
 use smf_watch::{
-    Desk, Ender, Noted, Onward, ServerInput, Size, Timer, hear_all, is_same, lines_of, mark_all,
-    owners, size_of,
+    Desk, Ender, Onward, ServerInput, Size, Timer, hear_all, is_same, lines_of, mark_all, size_of,
 };
 use smf_world::Settled;
 use std::alloc::{AllocError, Global};
@@ -45,38 +42,45 @@ fn is_busy(how: Settled) -> bool
 
 /// Lets at most so many rounds happen, and looks which methods run then.
 fn go<T: Timer, J: Journal, K: Kids>(
+    alloc: Global,
     timer: &T,
     server: &mut Server<J, K>,
     rounds: u64,
 ) -> Result<(), NodeFault>
-    ensures gone { OnOk result (HasGone K.skills rounds
-        (course server.old.node (children_state (K.ledger server.old.kids) (K.failures server.old.kids)))
-        (standing server.new.node (children_state (K.ledger server.new.kids) (K.failures server.new.kids)) server.new.busy)) }
+    ensures gone { OnOk result (HasGone K.skills (T.says timer.now) rounds (between K.ledger K.failures server.old).standing (between K.ledger K.failures server.new).standing) }
+    ensures failed { IfErr result
+        (GoFails K.skills J.write_fails rounds (between K.ledger K.failures server.old).standing.course (between K.ledger K.failures server.new).standing.course) }
     ensures moves { Moves server.old.node.world server.new.node.world (K.ledger server.old.kids)
         (K.ledger server.new.kids) }
+    ensures watches { StillWatches (T.says timer.now) (between K.ledger K.failures server.old).standing (between K.ledger K.failures server.new).standing }
     ensures kept { server.new.ends ≡ server.old.ends }
+    ensures noted { server.new.noted ≡ server.old.noted }
 {
     let how = drive(&mut server.node, &mut server.kids, rounds)?;
+    let now = timer.now();
+    server.watch.see(alloc, now, &server.node)?;
     server.busy = is_busy(how);
-    server.watch.see(timer.now(), &server.node)?;
     Ok(())
 }
 
 /// Rounds happen if they are wanted.
 fn go_if<T: Timer, J: Journal, K: Kids>(
+    alloc: Global,
     timer: &T,
     server: &mut Server<J, K>,
     wanted: bool,
 ) -> Result<(), NodeFault>
-    ensures gone { OnOk result (GoesIf wanted K.skills
-        (course server.old.node (children_state (K.ledger server.old.kids) (K.failures server.old.kids))) server.old.busy
-        (standing server.new.node (children_state (K.ledger server.new.kids) (K.failures server.new.kids)) server.new.busy)) }
+    ensures gone { OnOk result (GoesIf wanted K.skills (T.says timer.now) (between K.ledger K.failures server.old).standing (between K.ledger K.failures server.new).standing) }
+    ensures failed { IfErr result (λ e. (wanted ≡ true)
+        × GoFails K.skills J.write_fails max_rounds (between K.ledger K.failures server.old).standing.course (between K.ledger K.failures server.new).standing.course e) }
     ensures moves { Moves server.old.node.world server.new.node.world (K.ledger server.old.kids)
         (K.ledger server.new.kids) }
+    ensures watches { StillWatches (T.says timer.now) (between K.ledger K.failures server.old).standing (between K.ledger K.failures server.new).standing }
     ensures kept { server.new.ends ≡ server.old.ends }
+    ensures noted { server.new.noted ≡ server.old.noted }
 {
     if wanted {
-        go(timer, server, ROUNDS)
+        go(alloc, timer, server, ROUNDS)
     } else {
         Ok(())
     }
@@ -92,43 +96,73 @@ fn wants_more(busy: bool, before: &Size, after: &Size) -> bool
 /// One round happens, and more if they are wanted and it came to anything. A kill that is owed comes to nothing until
 /// it is done.
 fn go_on<T: Timer, J: Journal, K: Kids>(
+    alloc: Global,
     timer: &T,
     server: &mut Server<J, K>,
 ) -> Result<(), NodeFault>
-    ensures gone { OnOk result (HasTried K.skills
-        (course server.old.node (children_state (K.ledger server.old.kids) (K.failures server.old.kids)))
-        (standing server.new.node (children_state (K.ledger server.new.kids) (K.failures server.new.kids)) server.new.busy)) }
+    ensures gone { OnOk result (HasTried K.skills (T.says timer.now) (between K.ledger K.failures server.old).standing (between K.ledger K.failures server.new).standing) }
+    ensures failed { IfErr result
+        (TryFails K.skills (T.says timer.now) J.write_fails (between K.ledger K.failures server.old).standing (between K.ledger K.failures server.new).standing.course) }
     ensures moves { Moves server.old.node.world server.new.node.world (K.ledger server.old.kids)
         (K.ledger server.new.kids) }
+    ensures watches { StillWatches (T.says timer.now) (between K.ledger K.failures server.old).standing (between K.ledger K.failures server.new).standing }
     ensures kept { server.new.ends ≡ server.old.ends }
+    ensures noted { server.new.noted ≡ server.old.noted }
 {
     let before = size_of(&server.node);
-    go(timer, server, 1)?;
+    go(alloc, timer, server, 1)?;
     let after = size_of(&server.node);
     let wanted = wants_more(server.busy, &before, &after);
-    go_if(timer, server, wanted)?;
+    go_if(alloc, timer, server, wanted)?;
     Ok(())
 }
 
 /// Rounds happen if anything happened, or if more were wanted.
 fn go_by<T: Timer, J: Journal, K: Kids>(
+    alloc: Global,
     timer: &T,
     server: &mut Server<J, K>,
     happened: bool,
 ) -> Result<(), NodeFault>
-    ensures gone { OnOk result (GoesBy happened server.old.busy K.skills
-        (course server.old.node (children_state (K.ledger server.old.kids) (K.failures server.old.kids)))
-        (standing server.new.node (children_state (K.ledger server.new.kids) (K.failures server.new.kids)) server.new.busy)) }
+    ensures gone { OnOk result
+        (GoesBy happened server.old.busy K.skills (T.says timer.now) (between K.ledger K.failures server.old).standing (between K.ledger K.failures server.new).standing) }
+    ensures failed { IfErr result
+        (GoingFails happened server.old.busy K.skills (T.says timer.now) J.write_fails (between K.ledger K.failures server.old).standing (between K.ledger K.failures server.new).standing.course) }
     ensures moves { Moves server.old.node.world server.new.node.world (K.ledger server.old.kids)
         (K.ledger server.new.kids) }
+    ensures watches { StillWatches (T.says timer.now) (between K.ledger K.failures server.old).standing (between K.ledger K.failures server.new).standing }
     ensures kept { server.new.ends ≡ server.old.ends }
+    ensures noted { server.new.noted ≡ server.old.noted }
 {
     if happened {
-        return go(timer, server, ROUNDS);
+        return go(alloc, timer, server, ROUNDS);
     }
     if server.busy {
-        return go_on(timer, server);
+        return go_on(alloc, timer, server);
     }
+    Ok(())
+}
+
+/// Methods that take too long time out, and then rounds happen if anything happened, or if more were wanted.
+fn time_out<T: Timer, J: Journal, K: Kids>(
+    alloc: Global,
+    timer: &T,
+    server: &mut Server<J, K>,
+    any: bool,
+) -> Result<(), NodeFault>
+    ensures timed { OnOk result (HasTimed K.skills (T.says timer.now) any (between K.ledger K.failures server.old).standing (between K.ledger K.failures server.new).standing) }
+    ensures failed { IfErr result
+        (TimingFails K.skills (T.says timer.now) J.write_fails any (between K.ledger K.failures server.old).standing (between K.ledger K.failures server.new).standing.course) }
+    ensures moves { Moves server.old.node.world server.new.node.world (K.ledger server.old.kids)
+        (K.ledger server.new.kids) }
+    ensures watches { StillWatches (T.says timer.now) (between K.ledger K.failures server.old).standing (between K.ledger K.failures server.new).standing }
+    ensures kept { server.new.ends ≡ server.old.ends }
+    ensures noted { server.new.noted ≡ server.old.noted }
+{
+    let now = timer.now();
+    let late = server.watch.time_out(now, &mut server.node)?;
+    let happened = has_happened(any, late);
+    go_by(alloc, timer, server, happened)?;
     Ok(())
 }
 
@@ -142,20 +176,21 @@ fn has_happened(any: bool, late: bool) -> bool
 /// Time has passed: children tell what happened, and methods that take too long time out. Rounds happen only if there
 /// was anything of this, or if more were wanted.
 fn pass<T: Timer, J: Journal, K: Kids>(
+    alloc: Global,
     timer: &T,
     server: &mut Server<J, K>,
 ) -> Result<(), NodeFault>
-    ensures passed { OnOk result (HasPassed K.skills
-        (standing server.old.node (children_state (K.ledger server.old.kids) (K.failures server.old.kids)) server.old.busy)
-        (standing server.new.node (children_state (K.ledger server.new.kids) (K.failures server.new.kids)) server.new.busy)) }
+    ensures passed { OnOk result (HasPassed K.skills (T.says timer.now) (between K.ledger K.failures server.old).standing (between K.ledger K.failures server.new).standing) }
+    ensures failed { IfErr result
+        (PassFails K.skills (T.says timer.now) J.write_fails (between K.ledger K.failures server.old).standing (between K.ledger K.failures server.new).standing.course) }
     ensures moves { Moves server.old.node.world server.new.node.world (K.ledger server.old.kids)
         (K.ledger server.new.kids) }
+    ensures watches { StillWatches (T.says timer.now) (between K.ledger K.failures server.old).standing (between K.ledger K.failures server.new).standing }
     ensures kept { server.new.ends ≡ server.old.ends }
+    ensures noted { server.new.noted ≡ server.old.noted }
 {
     let any = hear_all(&mut server.node, &mut server.kids)?;
-    let late = server.watch.time_out(timer.now(), &mut server.node)?;
-    let happened = has_happened(any, late);
-    go_by(timer, server, happened)?;
+    time_out(alloc, timer, server, any)?;
     Ok(())
 }
 
@@ -174,17 +209,14 @@ fn look<T: Timer, J: Journal, K: Kids>(
     server: &mut Server<J, K>,
 ) -> Result<Items<Text>, NodeFault>
     requires { server.old.ends.looked ≤ length (shown_of server.old.node.world) }
-    ensures looked { IfOk result (λ lines. HasLooked (T.says timer.now)
-        (between
-        (standing server.old.node (children_state (K.ledger server.old.kids) (K.failures server.old.kids)) server.old.busy)
-        server.old.ends)
-        (between
-        (standing server.new.node (children_state (K.ledger server.new.kids) (K.failures server.new.kids)) server.new.busy)
-        server.new.ends) lines) }
+    ensures looked { IfOk result (HasLooked (T.says timer.now) (between K.ledger K.failures server.old) (between K.ledger K.failures server.new)) }
+    ensures failed { IfErr result (LookFails (T.says timer.now) J.write_fails (between K.ledger K.failures server.old) (between K.ledger K.failures server.new).standing.course) }
     ensures agrees { (b : Before) → AgreesSince b server.old.node.world (K.ledger server.old.kids)
         → AgreesSince b server.new.node.world (K.ledger server.new.kids) }
     ensures later { IsLater server.old.node.world server.new.node.world }
+    ensures watches { StillWatches (T.says timer.now) (between K.ledger K.failures server.old).standing (between K.ledger K.failures server.new).standing }
     ensures kept { OnErr result (server.new.ends ≡ server.old.ends) }
+    ensures noted { server.new.noted ≡ server.old.noted }
 {
     let now = timer.now();
     let found = server.ends.look(alloc, now, server.node.trail())?;
@@ -209,19 +241,15 @@ fn look_if<T: Timer, J: Journal, K: Kids>(
     timer: &T,
     server: &mut Server<J, K>,
 ) -> Result<Items<Text>, NodeFault>
-    ensures looked { IfOk result (λ lines. LooksIf
-        (nat_lt server.old.ends.looked (length (shown_of server.old.node.world)))
-        (T.says timer.now)
-        (between
-        (standing server.old.node (children_state (K.ledger server.old.kids) (K.failures server.old.kids)) server.old.busy)
-        server.old.ends)
-        (between
-        (standing server.new.node (children_state (K.ledger server.new.kids) (K.failures server.new.kids)) server.new.busy)
-        server.new.ends) lines) }
+    ensures looked { IfOk result
+        (LooksIf (nat_lt server.old.ends.looked (length (shown_of server.old.node.world))) (T.says timer.now) (between K.ledger K.failures server.old) (between K.ledger K.failures server.new)) }
+    ensures failed { IfErr result (LookFails (T.says timer.now) J.write_fails (between K.ledger K.failures server.old) (between K.ledger K.failures server.new).standing.course) }
     ensures agrees { (b : Before) → AgreesSince b server.old.node.world (K.ledger server.old.kids)
         → AgreesSince b server.new.node.world (K.ledger server.new.kids) }
     ensures later { IsLater server.old.node.world server.new.node.world }
+    ensures watches { StillWatches (T.says timer.now) (between K.ledger K.failures server.old).standing (between K.ledger K.failures server.new).standing }
     ensures kept { OnErr result (server.new.ends ≡ server.old.ends) }
+    ensures noted { server.new.noted ≡ server.old.noted }
 {
     if has_more(server) {
         look(alloc, timer, server)
@@ -237,26 +265,23 @@ fn tick<T: Timer, J: Journal, K: Kids>(
     timer: &T,
     server: &mut Server<J, K>,
 ) -> Result<Items<Text>, NodeFault>
-    ensures ticked { IfOk result (λ lines. IsTick K.skills (T.says timer.now)
-        (between
-        (standing server.old.node (children_state (K.ledger server.old.kids) (K.failures server.old.kids)) server.old.busy)
-        server.old.ends)
-        (between
-        (standing server.new.node (children_state (K.ledger server.new.kids) (K.failures server.new.kids)) server.new.busy)
-        server.new.ends) lines) }
+    ensures ticked { IfOk result (IsTick K.skills (T.says timer.now) (between K.ledger K.failures server.old) (between K.ledger K.failures server.new)) }
+    ensures failed { IfErr result (TickFails K.skills (T.says timer.now) J.write_fails (between K.ledger K.failures server.old) (between K.ledger K.failures server.new).standing.course) }
     ensures agrees { (b : Before) → AgreesSince b server.old.node.world (K.ledger server.old.kids)
         → AgreesSince b server.new.node.world (K.ledger server.new.kids) }
     ensures later { IsLater server.old.node.world server.new.node.world }
+    ensures watches { StillWatches (T.says timer.now) (between K.ledger K.failures server.old).standing (between K.ledger K.failures server.new).standing }
     ensures kept { OnErr result (server.new.ends ≡ server.old.ends) }
+    ensures noted { server.new.noted ≡ server.old.noted }
 {
-    pass(timer, server)?;
+    pass(alloc, timer, server)?;
     let lines = look_if(alloc, timer, server)?;
     Ok(lines)
 }
 
 /// Tells lines to whoever runs the server.
 fn tell_all<D: Desk>(desk: &mut D, lines: &[Text])
-    ensures { D.passed desk.new ≡ traffic_with (map Told lines.now) (D.passed desk.old) }
+    ensures { D.passed desk.new ≡ log_with (map Told lines.now) (D.passed desk.old) }
 {
     for line in lines {
         desk.tell(line.as_str());
@@ -265,48 +290,53 @@ fn tell_all<D: Desk>(desk: &mut D, lines: &[Text])
 
 /// Tells all of these.
 fn tell_each<D: Desk>(desk: &mut D, lines: &Items<Text>)
-    ensures { D.passed desk.new ≡ traffic_with (map Told lines.now) (D.passed desk.old) }
+    ensures { D.passed desk.new ≡ log_with (map Told lines.now) (D.passed desk.old) }
 {
     tell_all(desk, lines.as_slice());
 }
 
 /// True if all restarters are launched and wait for nothing but methods that run.
-fn rests<J: Journal>(alloc: Global, node: &Node<J>) -> Result<bool, AllocError> {
-    let names = owners(alloc, node.repository().entries())?;
-    for name in names.as_slice() {
-        match node.restarter(name) {
-            Some(restarter) => {
-                if !restarter.is_at_rest() {
-                    return Ok(false);
-                }
+fn rests<J: Journal>(node: &Node<J>) -> Result<bool, AllocError> {
+    if !node.has_all_owners()? {
+        return Ok(false);
+    }
+    for name in node.launched_names()?.as_slice() {
+        if let Some(restarter) = node.restarter(name) {
+            if !restarter.is_at_rest() {
+                return Ok(false);
             }
-            None => return Ok(false),
         }
     }
     Ok(true)
 }
 
 /// True if rounds are wanted after a request: if anything came of it, or restarters have something to do.
-fn wants_rounds<J: Journal>(alloc: Global, node: &Node<J>, before: &Size) -> bool
+fn wants_rounds<J: Journal>(node: &Node<J>, before: &Size) -> bool
     ensures { is_same before.now (size_of node.now.world) ≡ false → result ≡ true }
 {
     let after = size_of(node);
     if !is_same(before, &after) {
         return true;
     }
-    match rests(alloc, node) {
+    match rests(node) {
         Ok(rests) => !rests,
         Err(_) => true,
     }
 }
 
 /// Replies to a request that was ended by a fault, and adds the text of the fault.
-fn reply_fault<D: Desk>(alloc: Global, desk: &mut D, text: Vec<u8>, fault: &ScriptFault)
-    ensures { IsToldOf fault.now text.items (D.passed desk.old) (D.passed desk.new) }
+fn reply_fault<D: Desk, J: Journal>(
+    alloc: Global,
+    desk: &mut D,
+    node: &Node<J>,
+    text: Vec<u8>,
+    fault: &ScriptFault,
+)
+    ensures { IsToldOf fault.now text.items node.now.world.now (D.passed desk.old) (D.passed desk.new) }
 {
     let mut text = text;
     add_fault(alloc, &mut text, fault);
-    let _is_written = desk.reply(&text, FAULT);
+    let _is_written = desk.reply(node.repository(), &text, FAULT);
 }
 
 /// A request is done, and replied to; then rounds happen, if anything came of it.
@@ -318,23 +348,11 @@ fn answer<D: Desk, T: Timer, J: Journal, K: Kids>(
     request: &[u8],
 ) -> Result<(), ScriptFault>
     ensures ok { OnOk result ((before : Option (List Passed))
-        → D.passed desk.old ≡ traffic_with (Asked request.now ∷ []) before
-        → IsTurn K.skills (T.says timer.now) before (D.passed desk.new)
-        (between
-        (standing server.old.node (children_state (K.ledger server.old.kids) (K.failures server.old.kids)) server.old.busy)
-        server.old.ends)
-        (between
-        (standing server.new.node (children_state (K.ledger server.new.kids) (K.failures server.new.kids)) server.new.busy)
-        server.new.ends)) }
+        → D.passed desk.old ≡ log_with (Asked request.now ∷ []) before
+        → IsTurn K.skills (T.says timer.now) before (D.passed desk.new) (between K.ledger K.failures server.old) (between K.ledger K.failures server.new)) }
     ensures err { IfErr result (λ e. (before : Option (List Passed))
-        → D.passed desk.old ≡ traffic_with (Asked request.now ∷ []) before
-        → IsFailed K.skills J.write_fails e before (D.passed desk.new)
-        (between
-        (standing server.old.node (children_state (K.ledger server.old.kids) (K.failures server.old.kids)) server.old.busy)
-        server.old.ends)
-        (between
-        (standing server.new.node (children_state (K.ledger server.new.kids) (K.failures server.new.kids)) server.new.busy)
-        server.new.ends)) }
+        → D.passed desk.old ≡ log_with (Asked request.now ∷ []) before
+        → IsFailed K.skills (T.says timer.now) J.write_fails e before (D.passed desk.new) (between K.ledger K.failures server.old) (between K.ledger K.failures server.new)) }
     ensures agrees { (b : Before) → OnOk result (
         AgreesSince b server.old.node.world (K.ledger server.old.kids)
         → AgreesSince b server.new.node.world (K.ledger server.new.kids)) }
@@ -351,15 +369,15 @@ fn answer<D: Desk, T: Timer, J: Journal, K: Kids>(
         &mut server.kids,
     ) {
         Ok(status) => {
-            let _is_written = desk.reply(&text, status);
-            let wanted = wants_rounds(alloc, &server.node, &before);
-            match go_if(timer, server, wanted) {
+            let _is_written = desk.reply(server.node.repository(), &text, status);
+            let wanted = wants_rounds(&server.node, &before);
+            match go_if(alloc, timer, server, wanted) {
                 Ok(()) => Ok(()),
                 Err(fault) => Err(ScriptFault::Node(fault)),
             }
         }
         Err(fault) => {
-            reply_fault(alloc, desk, text, &fault);
+            reply_fault(alloc, desk, &server.node, text, &fault);
             Err(fault)
         }
     }
@@ -372,21 +390,10 @@ fn do_next<D: Desk, T: Timer, J: Journal, K: Kids>(
     timer: &T,
     server: &mut Server<J, K>,
 ) -> Result<Onward, ScriptFault>
-    ensures ok { IfOk result
-        (λ onward. HasTurned K.skills (T.says timer.now) J.write_fails onward None (D.passed desk.old) (D.passed desk.new)
-        (between
-        (standing server.old.node (children_state (K.ledger server.old.kids) (K.failures server.old.kids)) server.old.busy)
-        server.old.ends)
-        (between
-        (standing server.new.node (children_state (K.ledger server.new.kids) (K.failures server.new.kids)) server.new.busy)
-        server.new.ends)) }
-    ensures err { IfErr result (λ e. IsFailed K.skills J.write_fails e (D.passed desk.old) (D.passed desk.new)
-        (between
-        (standing server.old.node (children_state (K.ledger server.old.kids) (K.failures server.old.kids)) server.old.busy)
-        server.old.ends)
-        (between
-        (standing server.new.node (children_state (K.ledger server.new.kids) (K.failures server.new.kids)) server.new.busy)
-        server.new.ends)) }
+    ensures ok { IfOk result (λ onward.
+        HasTurned K.skills (T.says timer.now) J.write_fails onward None (D.passed desk.old) (D.passed desk.new) (between K.ledger K.failures server.old) (between K.ledger K.failures server.new)) }
+    ensures err { IfErr result (λ e.
+        IsFailed K.skills (T.says timer.now) J.write_fails e (D.passed desk.old) (D.passed desk.new) (between K.ledger K.failures server.old) (between K.ledger K.failures server.new)) }
     ensures agrees { (b : Before) → OnOk result (
         AgreesSince b server.old.node.world (K.ledger server.old.kids)
         → AgreesSince b server.new.node.world (K.ledger server.new.kids)) }
@@ -429,13 +436,7 @@ fn take<D: Desk, T: Timer, J: Journal, K: Kids>(
     timer: &T,
     server: &mut Server<J, K>,
 ) -> Turned
-    ensures turned { HasTurned K.skills (T.says timer.now) J.write_fails result.onward result.fault (D.passed desk.old) (D.passed desk.new)
-        (between
-        (standing server.old.node (children_state (K.ledger server.old.kids) (K.failures server.old.kids)) server.old.busy)
-        server.old.ends)
-        (between
-        (standing server.new.node (children_state (K.ledger server.new.kids) (K.failures server.new.kids)) server.new.busy)
-        server.new.ends) }
+    ensures turned { HasTurned K.skills (T.says timer.now) J.write_fails result.onward result.fault (D.passed desk.old) (D.passed desk.new) (between K.ledger K.failures server.old) (between K.ledger K.failures server.new) }
     ensures agrees { (b : Before) → result.fault ≡ None
         → AgreesSince b server.old.node.world (K.ledger server.old.kids)
         → AgreesSince b server.new.node.world (K.ledger server.new.kids) }
@@ -466,13 +467,7 @@ fn pass_over<D: Desk, T: Timer, J: Journal, K: Kids>(
     _timer: &T,
     server: &mut Server<J, K>,
 ) -> Onward
-    ensures turned { HasTurned K.skills (T.says _timer.now) J.write_fails result (Some (scripts.Node nodes.Memory)) (D.passed desk.old) (D.passed desk.new)
-        (between
-        (standing server.old.node (children_state (K.ledger server.old.kids) (K.failures server.old.kids)) server.old.busy)
-        server.old.ends)
-        (between
-        (standing server.new.node (children_state (K.ledger server.new.kids) (K.failures server.new.kids)) server.new.busy)
-        server.new.ends) }
+    ensures turned { HasTurned K.skills (T.says _timer.now) J.write_fails result (Some (scripts.Node nodes.Memory)) (D.passed desk.old) (D.passed desk.new) (between K.ledger K.failures server.old) (between K.ledger K.failures server.new) }
     ensures node { server.new.node ≡ server.old.node }
 {
     match desk.next() {
@@ -482,7 +477,7 @@ fn pass_over<D: Desk, T: Timer, J: Journal, K: Kids>(
         }
         ServerInput::Request(_request) => {
             let fault = ScriptFault::Node(NodeFault::Memory);
-            reply_fault(alloc, desk, Vec::new(alloc), &fault);
+            reply_fault(alloc, desk, &server.node, Vec::new(alloc), &fault);
             server.busy = true;
             Onward::Goes
         }
@@ -497,23 +492,13 @@ pub fn turn<D: Desk, T: Timer, E: Ender, J: Journal, K: Kids>(
     desk: &mut D,
     timer: &T,
     ender: &mut E,
-    noted: &mut Noted,
     server: &mut Server<J, K>,
 ) -> Turned
-    // One request came in, its lines were done, and its one reply went out; or time passed, and lines were told. If this
-    // failed, the request got one reply, and nothing passed at a tick.
-    ensures turned { HasTurned K.skills (T.says timer.now) J.write_fails result.onward result.fault (D.passed desk.old) (D.passed desk.new)
-        (between
-        (standing server.old.node (children_state (K.ledger server.old.kids) (K.failures server.old.kids)) server.old.busy)
-        server.old.ends)
-        (between
-        (standing server.new.node (children_state (K.ledger server.new.kids) (K.failures server.new.kids)) server.new.busy)
-        server.new.ends) }
-    // First it was told how what start methods began is ended, if anything happened since that was told.
-    ensures told { result.fault ≡ None
-        → E.told ender.new ≡ stop_lists_if (is_new noted.old.size (size_of server.old.node.world))
-        (stops_of server.old.node.world.now) (E.told ender.old) }
-    ensures known { result.fault ≡ None → noted.new.size ≡ Some (size_of server.old.node.world) }
+    // First it was told how what start methods began is ended, if anything happened since that was told. Then one request
+    // came in, its lines were done, and its one reply went out; or time passed, and lines were told. If this failed, it was
+    // by its own reason: the request got one reply, and nothing passed at a tick.
+    ensures turned { HasTakenTurn K.skills (T.says timer.now) J.write_fails result.onward result.fault (D.passed desk.old)
+        (D.passed desk.new) (E.told ender.old) (E.told ender.new) (between K.ledger K.failures server.old) (between K.ledger K.failures server.new) }
     // If children and the node agreed, they agree.
     ensures agrees { (b : Before) → result.fault ≡ None
         → AgreesSince b server.old.node.world (K.ledger server.old.kids)
@@ -522,7 +507,7 @@ pub fn turn<D: Desk, T: Timer, E: Ender, J: Journal, K: Kids>(
     ensures later { IsLater server.old.node.world server.new.node.world }
     ensures safe { IsSafeSince server.new.node.world }
 {
-    match noted.tell(alloc, ender, &server.node) {
+    match server.noted.tell(alloc, ender, &server.node) {
         Ok(()) => take(alloc, desk, timer, server),
         Err(_) => {
             let onward = pass_over(alloc, desk, timer, server);

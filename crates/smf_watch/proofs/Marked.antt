@@ -2,7 +2,10 @@
 use Rattle.std.proofs.Common.{◌≡◌, ◌<◌, ◌+◌, ℕ, List, [], ◌∷◌, ◌++◌, length, get_or, drop, refl, sym, ap, ◌∙◌, subst, append_assoc}
 use Rattle.smf_model.specs.Contents.{Holdings}
 use Rattle.smf_model.specs.Next.{current_instance}
-use Rattle.smf_watch.specs.Loops.{AreMarked, line_of, lines_of, mark_of, marks}
+use Rattle.smf_model.specs.declared.journal.RepoFault.{RepoFault}
+use Rattle.smf_node.specs.declared.fault.NodeFault.{NodeFault}
+use Rattle.smf_node.specs.Faults.{IsLack}
+use Rattle.smf_watch.specs.Loops.{StopsMarking, line_of, lines_of, mark_of, marks}
 use Rattle.smf_watch.proofs.Hasty.{left_from}
 use Rattle.smf_world.specs.Reached.{IsLater}
 use Rattle.smf_world.specs.Schedule.{Progress, on}
@@ -55,5 +58,15 @@ one_marked all i d p q r low is h =
 pub marked_still : (all left : List ℕ) (p q r : Progress) → HaveMarked all left p q → r ≡ q → IsLater p.world r.world
 marked_still all left p q r h is = subst (λ (x : Progress). IsLater p.world x.world) (sym is) h.later
 
-pub marked_some : (all left : List ℕ) (p q r : Progress) → HaveMarked all left p q → r ≡ q → AreMarked all p r
-marked_some all left p q r h is = (h.first, left, h.whole, is ∙ h.are)
+pub marked_some : (stores : RepoFault → Type 0) (all : List ℕ) (i d : ℕ) (p q r : Progress) (e : NodeFault) → i < length all
+    → HaveMarked all (drop i all) p q → r ≡ q → IsLack stores q.world (mark_of (get_or all i d)) e
+    → StopsMarking stores all p r e
+marked_some stores all i d p q r e low h is why =
+    record {
+      first = h.first;
+      failed = get_or all i d;
+      rest = drop (i + 1) all;
+      whole = h.whole ∙ ap (λ (xs : List ℕ). h.first ++ xs) (left_from all i d low);
+      are = is ∙ h.are;
+      fault = subst (λ (x : Progress). IsLack stores x.world (mark_of (get_or all i d)) e) (sym is) why;
+    }

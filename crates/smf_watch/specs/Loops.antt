@@ -6,8 +6,11 @@ use Rattle.std.specs.List.{list_any}
 use Rattle.smf_model.specs.declared.command.Edit.TheVariants.{Mark}
 use Rattle.smf_model.specs.declared.command.Mark.TheVariants.{Maintenance}
 use Rattle.smf_model.specs.declared.held.Instance.{Instance}
+use Rattle.smf_model.specs.declared.journal.RepoFault.{RepoFault}
 use Rattle.smf_model.specs.Contents.{Holdings}
 use Rattle.smf_model.specs.Next.{current_instance}
+use Rattle.smf_node.specs.declared.fault.NodeFault.{NodeFault}
+use Rattle.smf_node.specs.Faults.{IsLack}
 use Rattle.smf_watch.specs.declared.ends.End.{End}
 use Rattle.smf_watch.specs.declared.ends.TheConstants.{MOST_ENDS, PERIOD}
 use Rattle.smf_state.specs.declared.state.State.{State}
@@ -125,9 +128,14 @@ abbrev pub marks : List ℕ → Progress → Progress
 marks [] p = p
 marks (n ∷ ns) p = marks ns (on p (mark_of n))
 
--- the first of them were marked
-abbrev pub AreMarked : List ℕ → Progress → Progress → Type 0
-AreMarked numbers p q = (first : List ℕ) × (rest : List ℕ) × (numbers ≡ first ++ rest) × (q ≡ marks first p)
+-- the first of them were marked, and at the next one memory ran out or the journal could not be written
+pub record StopsMarking (stores : RepoFault → Type 0) (numbers : List ℕ) (p q : Progress) (e : NodeFault) : Type 0 where
+  pub first : List ℕ
+  pub failed : ℕ
+  pub rest : List ℕ
+  pub whole : numbers ≡ first ++ failed ∷ rest
+  pub are : q ≡ marks first p
+  pub fault : IsLack stores q.world (mark_of failed) e
 
 unfoldable pub loop_text : List ℕ → List ℕ
 loop_text name = codes "smf: " ++ name ++ codes ": restarting too quickly, marked for maintenance"

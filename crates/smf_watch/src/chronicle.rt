@@ -1,5 +1,5 @@
 ghost use Rattle.std.specs.Prelude.{◌≡◌, List, Option};
-ghost use Rattle.smf_watch.specs.Traffic.{traffic_with};
+ghost use Rattle.smf_edge.specs.Starts.{log_with};
 ghost use Rattle.smf_world.specs.declared.item.Item.{Item};
 
 use smf_world::Item;
@@ -11,7 +11,7 @@ pub trait Chronicle {
 
     /// Tells what happened next, the first first.
     fn tell(&mut self, items: &[Item])
-        ensures { told self.new ≡ traffic_with items.now (told self.old) };
+        ensures { told self.new ≡ log_with items.now (told self.old) };
 }
 
 /// Counts what happened, and keeps nothing of it.

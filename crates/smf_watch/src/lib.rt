@@ -27,4 +27,4 @@ pub use marks::{lines_of, mark_all};
 pub use size::{Size, is_same, size_of};
 pub use stops::{Ender, Noted, Stop};
 pub use timer::Timer;
-pub use watch::{Watch, owners};
+pub use watch::{Due, Timed, Watch};

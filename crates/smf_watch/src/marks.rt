@@ -1,8 +1,9 @@
 ghost use Rattle.smf_model.specs.Next.{current_instance};
-ghost use Rattle.smf_watch.specs.Loops.{AreMarked, line_of, lines_of, loop_text, mark_of, marks};
+ghost use Rattle.smf_watch.specs.Loops.{StopsMarking, line_of, lines_of, loop_text, mark_of, marks};
 ghost use Rattle.smf_world.specs.Reached.{IsLater};
 ghost use Rattle.smf_world.specs.Schedule.{on};
-ghost use Rattle.std.specs.Prelude.{◌≡◌, ◌++◌, IfOk, OnErr, OnOk};
+ghost use Rattle.smf_node.specs.Faults.{IsLack};
+ghost use Rattle.std.specs.Prelude.{◌≡◌, ◌++◌, IfErr, IfOk, OnErr, OnOk};
 
 use smf_fmri::{InstanceFmri, Items, Text};
 use smf_model::{Edit, Journal, Mark};
@@ -55,6 +56,7 @@ pub fn lines_of<J: Journal>(
 fn mark<J: Journal>(node: &mut Node<J>, instance: u64) -> Result<(), NodeFault>
     ensures ok { OnOk result (node.new ≡ on node.old (mark_of instance)) }
     ensures err { OnErr result (node.new ≡ node.old) }
+    ensures fault { IfErr result (IsLack J.write_fails node.old.world (mark_of instance)) }
 {
     let _reply = node.apply(Edit::Mark {
         instance,
@@ -66,7 +68,7 @@ fn mark<J: Journal>(node: &mut Node<J>, instance: u64) -> Result<(), NodeFault>
 /// Marks instances for maintenance, as an administrator does. A fault leaves those that were marked before it.
 pub fn mark_all<J: Journal>(node: &mut Node<J>, numbers: &[u64]) -> Result<(), NodeFault>
     ensures ok { OnOk result (node.new ≡ marks numbers.now node.old) }
-    ensures err { OnErr result (AreMarked numbers.now node.old node.new) }
+    ensures err { IfErr result (StopsMarking J.write_fails numbers.now node.old node.new) }
     ensures later { IsLater node.old.world node.new.world }
 {
     for number in numbers {

@@ -3,7 +3,7 @@
 //! times, so that nothing is under way before the next. The last request shows the trail, of which the items are counted.
 
 use smf_edge::TableKids;
-use smf_model::{NoJournal, Plain};
+use smf_model::{Journal, NoJournal, Plain};
 use smf_script::ScriptFault;
 use smf_server::{Life, Unborn, fault_text, stay_over};
 use smf_watch::{Desk, Ender, ItemCount, ServerInput, Stop, Timer};
@@ -72,7 +72,7 @@ impl Desk for RepeatDesk<'_> {
         request
     }
 
-    fn reply(&mut self, text: &[u8], status: u8) -> bool {
+    fn reply<J: Journal>(&mut self, _repository: &Plain<J>, text: &[u8], status: u8) -> bool {
         self.shown = line_count(text);
         if status != 0 {
             self.failed = self.failed.saturating_add(1);
@@ -81,6 +81,8 @@ impl Desk for RepeatDesk<'_> {
     }
 
     fn tell(&mut self, _line: &str) {}
+
+    fn pause(&mut self) {}
 }
 
 /// A clock that stands still, so no method takes too long.

@@ -6,13 +6,13 @@ use Rattle.smf_server.proofs.life.stay.Goals as goal
 
 pub loop-init : goal.loop-init
 loop-init g c = (
-  none_taken g.K.Kids.skills _ _ _ _ _ _ (rw c.trail.ensures.shown at c.tell.ensures),
+  none_taken g.K.Kids.skills _ _ _ _ _ _ _ (rw c.trail.ensures.shown at c.tell.ensures),
   (leads_self _, c.trail.ensures.safe),
 )
 
 pub loop-preserved : goal.loop-preserved
 loop-preserved g c = (
-  goes_on g.K.Kids.skills _ _ _ _ _ c.turn-onward.result.onward c.turn-onward.result.fault _ _ _ _ _ _ _ _ _ _ _
+  goes_on g.K.Kids.skills _ _ _ _ _ c.turn-onward.result.onward c.turn-onward.result.fault _ _ _ _ _ _ _ _ _ _ _ _ _ _
       c.loop.invariant.0 c.in-Goes.is c.turn-onward.ensures.turned
       c.turn-onward.ensures.agrees
       (rw c.trail-told.ensures.shown at rw c.trail-in-Goes.ensures.shown at rw c.items_after.ensures at
@@ -26,7 +26,7 @@ loop-preserved g c = (
 
 pub returns-in-Ends-clause-stayed : goal.returns-in-Ends-clause-stayed
 returns-in-Ends-clause-stayed g c =
-    stays_closed g.K.Kids.skills _ _ _ _ _ c.turn-onward.result.onward c.turn-onward.result.fault _ _ _ _ _ _ _ _
+    stays_closed g.K.Kids.skills _ _ _ _ _ c.turn-onward.result.onward c.turn-onward.result.fault _ _ _ _ _ _ _ _ _ _ _
     c.loop.invariant.0 c.in-Ends.is c.turn-onward.ensures.turned
 
 pub returns-in-Ends-clause-leads : goal.returns-in-Ends-clause-leads
@@ -34,5 +34,5 @@ returns-in-Ends-clause-leads g c = leads_later _ _ _ c.loop.invariant.1.0 c.turn
 
 pub returns-clause-stayed : goal.returns-clause-stayed
 returns-clause-stayed g c =
-    stays_all g.K.Kids.skills _ _ _ _ _ _ _ _ _ _ _ c.loop.invariant.0
+    stays_all g.K.Kids.skills _ _ _ _ _ _ _ _ _ _ _ _ _ c.loop.invariant.0
     (omega (arith, c.loop-test.false, c.loop.auto.counter-end))

@@ -6,5 +6,5 @@ returns g c =
       said = c.add_fault.new.text.items;
       ends = c.add_fault.ensures;
       written = c.reply-is_written.result;
-      passed = rw c.deref.ensures.value at c.reply-is_written.ensures;
+      passed = rw (c.deref.ensures.value, c.repository.ensures) at c.reply-is_written.ensures;
     }

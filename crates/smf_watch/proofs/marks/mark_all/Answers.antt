@@ -1,4 +1,4 @@
-use Rattle.smf_watch.proofs.FaultExits.{on_fault}
+use Rattle.smf_watch.proofs.FaultExits.{passed_on}
 use Rattle.smf_watch.proofs.Marked.{marked_some, marked_still, none_marked, one_marked}
 use Rattle.smf_watch.proofs.marks.mark_all.Goals as goal
 
@@ -15,7 +15,9 @@ returns-in_err-mark-clause-later g c = marked_still _ _ _ _ _ c.loop-number.inva
 
 pub returns-in_err-mark-clause-err : goal.returns-in_err-mark-clause-err
 returns-in_err-mark-clause-err g c =
-    on_fault _ _ (marked_some _ _ _ _ _ c.loop-number.invariant c.in_err-mark.ensures.err)
+    passed_on _ _ _ c.from_residual.ensures.1
+    (marked_some _ _ _ _ _ _ _ _ c.loop-number-test.true c.loop-number.invariant c.in_err-mark.ensures.err
+    c.in_err-mark.ensures.fault)
 
 pub returns-clause-later : goal.returns-clause-later
 returns-clause-later g c = c.loop-number.invariant.later
