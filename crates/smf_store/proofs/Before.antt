@@ -2,14 +2,14 @@
 use Rattle.std.proofs.Common.{◌≡◌, ◌↔◌, ℕ, Bool, true, false, List, [], ◌∷◌, Some, None, IsTrue, inl, inr, refl, sym, subst, ◌∙◌}
 use Rattle.sqlite.specs.Order.{Row}
 use Rattle.sqlite.specs.Schema.{Schema}
+use Rattle.sqlite.specs.Table.{Table}
 use Rattle.sqlite.specs.Effect.{Database, IsDatabase}
 use Rattle.sqlite.specs.State.{State, IsLive, KeepsCommit, Survives}
 use Rattle.sqlite.proofs.StateLemmas.{survives_then}
-use Rattle.smf_tables.specs.Layout.{Begins, IsStore, Rest, StandsNamed, StandsSomewhere, begun_1, begun_2, begun_3, begun_4, begun_5}
-use Rattle.smf_tables.specs.Scans.{Looks, LooksAtMeta, LooksAtServices, LooksAtInstances, LooksAtGroups, LooksAtSnapshots, LooksForSnapshots, AreShown}
+use Rattle.smf_tables.specs.Layout.{IsStore, StandsSomewhere, rows_in}
+use Rattle.smf_tables.specs.Scans.{Looks, LooksAtMeta, LooksAtServices, LooksAtInstances, LooksAtGroups, LooksAtSnapshots, AreShown}
 use Rattle.smf_tables.specs.Rows.{AreKeyed}
-use Rattle.smf_tables.specs.Schema.{snap_at}
-use Rattle.smf_tables.proofs.Begun.{begins_1, begins_2, begins_3, begins_4, begins_5}
+use Rattle.smf_tables.specs.Schema.{meta_at, service_at, instance_at, grp_at, snap_at}
 use Rattle.smf_store.specs.declared.judgements.StoreRows.{StoreRows}
 use Rattle.smf_store.specs.declared.refusal.OpenFault.{OpenFault}
 use Rattle.smf_store.specs.declared.refusal.OpenFault.TheVariants.{Memory, Database as Failed, Version, Damaged, TooManyInstances}
@@ -19,129 +19,108 @@ use Rattle.smf_store.specs.FirstOther.{IsFirstOther, is_before, reads_snapshots}
 use Rattle.smf_store.specs.Judged.{IsBroken, first_broken, verdict_on_rows}
 use Rattle.smf_store.specs.Stages.{AreAllKeyed, AreListedBefore, AreLookedFor, AreSnapshots, IsRefused, IsSaidBefore, ListedIf, LooksIf}
 
--- ---- the schema begins with each table before that one
+-- ---- each table before that one is there
 
-has_1 : (s : Schema) (other : StoreTable) → IsFirstOther s (Some other) → is_before Meta other ≡ true → Begins begun_1 s
+has_1 : (s : Schema) (other : StoreTable) → IsFirstOther s (Some other) → is_before Meta other ≡ true
+    → StandsSomewhere s meta_at
 has_1 s Meta f b = absurd (let e : false ≡ true = b in cc)
-has_1 s Service f b = begins_1 s f.0.there
-has_1 s Instance f b = begins_1 s f.0.0.there
-has_1 s Group f b = begins_1 s f.0.0.there
-has_1 s Snapshot f b = begins_1 s f.0.0.there
-has_1 s Restarter f b = begins_1 s f.0.0.there
+has_1 s Service f b = f.0
+has_1 s Instance f b = f.0.0
+has_1 s Group f b = f.0.0
+has_1 s Snapshot f b = f.0.0
+has_1 s Restarter f b = f.0.0
 
 has_2 : (s : Schema) (other : StoreTable) → IsFirstOther s (Some other) → is_before Service other ≡ true
-    → Begins begun_2 s
+    → StandsSomewhere s service_at
 has_2 s Meta f b = absurd (let e : false ≡ true = b in cc)
 has_2 s Service f b = absurd (let e : false ≡ true = b in cc)
-has_2 s Instance f b = begins_2 s f.0.0.there f.0.1.there
-has_2 s Group f b = begins_2 s f.0.0.there f.0.1.there
-has_2 s Snapshot f b = begins_2 s f.0.0.there f.0.1.there
-has_2 s Restarter f b = begins_2 s f.0.0.there f.0.1.there
+has_2 s Instance f b = f.0.1
+has_2 s Group f b = f.0.1
+has_2 s Snapshot f b = f.0.1
+has_2 s Restarter f b = f.0.1
 
 has_3 : (s : Schema) (other : StoreTable) → IsFirstOther s (Some other) → is_before Instance other ≡ true
-    → Begins begun_3 s
+    → StandsSomewhere s instance_at
 has_3 s Meta f b = absurd (let e : false ≡ true = b in cc)
 has_3 s Service f b = absurd (let e : false ≡ true = b in cc)
 has_3 s Instance f b = absurd (let e : false ≡ true = b in cc)
-has_3 s Group f b = begins_3 s f.0.0.there f.0.1.there f.0.2.there
-has_3 s Snapshot f b = begins_3 s f.0.0.there f.0.1.there f.0.2.there
-has_3 s Restarter f b = begins_3 s f.0.0.there f.0.1.there f.0.2.there
+has_3 s Group f b = f.0.2
+has_3 s Snapshot f b = f.0.2
+has_3 s Restarter f b = f.0.2
 
 has_4 : (s : Schema) (other : StoreTable) → IsFirstOther s (Some other) → is_before Group other ≡ true
-    → Begins begun_4 s
+    → StandsSomewhere s grp_at
 has_4 s Meta f b = absurd (let e : false ≡ true = b in cc)
 has_4 s Service f b = absurd (let e : false ≡ true = b in cc)
 has_4 s Instance f b = absurd (let e : false ≡ true = b in cc)
 has_4 s Group f b = absurd (let e : false ≡ true = b in cc)
-has_4 s Snapshot f b = begins_4 s f.0.0.there f.0.1.there f.0.2.there f.0.3.there
-has_4 s Restarter f b = begins_4 s f.0.0.there f.0.1.there f.0.2.there f.0.3.there
+has_4 s Snapshot f b = f.0.3
+has_4 s Restarter f b = f.0.3
 
 has_5 : (s : Schema) (other : StoreTable) → IsFirstOther s (Some other) → is_before Snapshot other ≡ true
-    → Begins begun_5 s
+    → StandsSomewhere s snap_at
 has_5 s Meta f b = absurd (let e : false ≡ true = b in cc)
 has_5 s Service f b = absurd (let e : false ≡ true = b in cc)
 has_5 s Instance f b = absurd (let e : false ≡ true = b in cc)
 has_5 s Group f b = absurd (let e : false ≡ true = b in cc)
 has_5 s Snapshot f b = absurd (let e : false ≡ true = b in cc)
-has_5 s Restarter f b = begins_5 s f.0.0.there f.0.1.there f.0.2.there f.0.3.there f.0.4.there
+has_5 s Restarter f b = f.0.4
 
 -- ---- one look, which may be left out
 
-module _ (begun : Rest → Schema) (tree : ℕ) (places : List ℕ) (rows : List Row) (a p n : State) where
-  same_if : (b : Bool) → (b ≡ true → Begins begun a.now.schema) → LooksIf b (Looks begun tree places) p n rows
-      → p.now ≡ a.now → n.now ≡ a.now
-  same_if true has l is = l.same (subst (λ (d : Database). Begins begun d.schema) (sym is) (has refl)) ∙ is
-  same_if false has l is = l.0 ∙ is
+module _ (kind : ℕ → Table) (tree : ℕ) (places : List ℕ) (rows : List Row) (a p n : State) where
+  same_if : (b : Bool) → (b ≡ true → StandsSomewhere a.now.schema kind) → LooksIf b (Looks kind tree places) p n rows
+      → p.now ≡ a.now → (IsTrue p.is_open → IsTrue a.is_open) → IsLive a → n.now ≡ a.now
+  same_if true has l is back live =
+      l.same (subst (λ (d : Database). StandsSomewhere d.schema kind) (sym is) (has refl))
+      (subst IsDatabase (sym is) (live (back l.shows.was_open)).0) ∙ is
+  same_if false has l is back live = l.0 ∙ is
 
-  open_if : (b : Bool) → LooksIf b (Looks begun tree places) p n rows → (IsTrue p.is_open → IsTrue a.is_open)
+  open_if : (b : Bool) → LooksIf b (Looks kind tree places) p n rows → (IsTrue p.is_open → IsTrue a.is_open)
       → IsTrue n.is_open → IsTrue a.is_open
   open_if true l back o = back l.shows.was_open
   open_if false l back o = back (l.1 o)
 
-  listed_if : (b : Bool) → (b ≡ true → Begins begun a.now.schema) → LooksIf b (Looks begun tree places) p n rows
+  listed_if : (b : Bool) → (b ≡ true → StandsSomewhere a.now.schema kind) → LooksIf b (Looks kind tree places) p n rows
       → p.now ≡ a.now → (IsTrue p.is_open → IsTrue a.is_open) → IsLive a → AreKeyed rows
-      → ListedIf b tree places a.now.trees rows
+      → ListedIf b tree places (rows_in a.now) rows
   listed_if true has l is back live keyed = record {
-    shown = subst (λ (d : Database). AreShown places (d.trees tree) rows) is
-        (l.seen (subst (λ (d : Database). Begins begun d.schema) (sym is) (has refl))
+    shown = subst (λ (d : Database). AreShown places (rows_in d tree) rows) is
+        (l.seen (subst (λ (d : Database). StandsSomewhere d.schema kind) (sym is) (has refl))
         (subst IsDatabase (sym is) (live (back l.shows.was_open)).0));
     keyed = keyed;
   }
   listed_if false has l is back live keyed = l.2
 
--- ---- the snapshots, which are looked for where the groups before them are absent or others
+-- ---- the snapshots, which are looked for also if the groups before them are absent or others
+
+abbrev SnapshotsIf : Bool → State → State → List Row → Type 0
+SnapshotsIf b = LooksIf b (Looks snap_at 8 (0 ∷ 0 ∷ 2 ∷ 3 ∷ []))
 
 module _ (rows : List Row) (a p n : State) where
-  same_named : (are_there : Bool) → (IsTrue are_there ↔ StandsSomewhere a.now.schema snap_at)
-      → LooksIf are_there LooksForSnapshots p n rows → p.now ≡ a.now → (IsTrue p.is_open → IsTrue a.is_open) → IsLive a
-      → n.now ≡ a.now
-  same_named true has l is back live =
-      let it = has.0 refl in
-      l.same it.0 (subst (λ (d : Database). StandsNamed d.schema (snap_at it.0)) (sym is) it.1)
-      (subst IsDatabase (sym is) (live (back l.shows.was_open)).0) ∙ is
-  same_named false has l is back live = l.0 ∙ is
-
   looked_for : (are_there : Bool) → (IsTrue are_there ↔ StandsSomewhere a.now.schema snap_at)
-      → LooksIf are_there LooksForSnapshots p n rows → p.now ≡ a.now → (IsTrue p.is_open → IsTrue a.is_open) → IsLive a
+      → SnapshotsIf are_there p n rows → p.now ≡ a.now → (IsTrue p.is_open → IsTrue a.is_open) → IsLive a
       → AreKeyed rows → AreLookedFor a.now rows
   looked_for true has l is back live keyed = record {
-    listed = λ tree first. record {
-      shown = subst (λ (d : Database). AreShown (0 ∷ 0 ∷ 2 ∷ 3 ∷ []) (d.trees tree) rows) is
-          (l.seen tree (subst (λ (d : Database). StandsNamed d.schema (snap_at tree)) (sym is) first)
-          (subst IsDatabase (sym is) (live (back l.shows.was_open)).0));
-      keyed = keyed;
-    };
+    listed = λ some. listed_if snap_at 8 (0 ∷ 0 ∷ 2 ∷ 3 ∷ []) rows a p n true (λ _. some) l is back live keyed;
     none = λ away. absurd (away (has.0 refl));
   }
   looked_for false has l is back live keyed = record {
-    listed = λ tree first. absurd (let e : false ≡ true = has.1 (tree, first) in cc);
+    listed = λ some. absurd (let e : false ≡ true = has.1 some in cc);
     none = λ away. l.2;
   }
 
   module _ (are_there : Bool) (has : IsTrue are_there ↔ StandsSomewhere a.now.schema snap_at) (is : p.now ≡ a.now) (back : IsTrue p.is_open → IsTrue a.is_open) (live : IsLive a) where
-    same_snapshots : (other : StoreTable) → IsFirstOther a.now.schema (Some other)
-        → LooksIf (reads_snapshots other are_there) LooksAtSnapshots p n rows
-        → LooksIf (reads_snapshots other are_there) LooksForSnapshots p n rows → n.now ≡ a.now
-    same_snapshots Group first l named = same_named are_there has named is back live
-    same_snapshots Meta first l named = l.0 ∙ is
-    same_snapshots Service first l named = l.0 ∙ is
-    same_snapshots Instance first l named = l.0 ∙ is
-    same_snapshots Snapshot first l named = l.0 ∙ is
-    same_snapshots Restarter first l named =
-        same_if begun_5 8 (0 ∷ 0 ∷ 2 ∷ 3 ∷ []) rows a p n true (has_5 a.now.schema Restarter first) l is
-
     are_snapshots : (other : StoreTable) → IsFirstOther a.now.schema (Some other)
-        → LooksIf (reads_snapshots other are_there) LooksAtSnapshots p n rows
-        → LooksIf (reads_snapshots other are_there) LooksForSnapshots p n rows → AreKeyed rows
-        → AreSnapshots other a.now rows
-    are_snapshots Group first l named keyed = looked_for are_there has named is back live keyed
-    are_snapshots Meta first l named keyed = l.2
-    are_snapshots Service first l named keyed = l.2
-    are_snapshots Instance first l named keyed = l.2
-    are_snapshots Snapshot first l named keyed = l.2
-    are_snapshots Restarter first l named keyed =
-        listed_if begun_5 8 (0 ∷ 0 ∷ 2 ∷ 3 ∷ []) rows a p n true
-        (has_5 a.now.schema Restarter first) l is back live keyed
+        → SnapshotsIf (reads_snapshots other are_there) p n rows → AreKeyed rows → AreSnapshots other a.now rows
+    are_snapshots Group first l keyed = looked_for are_there has l is back live keyed
+    are_snapshots Meta first l keyed = l.2
+    are_snapshots Service first l keyed = l.2
+    are_snapshots Instance first l keyed = l.2
+    are_snapshots Snapshot first l keyed = l.2
+    are_snapshots Restarter first l keyed =
+        listed_if snap_at 8 (0 ∷ 0 ∷ 2 ∷ 3 ∷ []) rows a p n true (has_5 a.now.schema Restarter first) l is back live
+        keyed
 
 pub lists_before : (a b c d e f : State) (other : StoreTable) (are_there : Bool) (rows : StoreRows)
     → AreAllKeyed rows
@@ -150,37 +129,37 @@ pub lists_before : (a b c d e f : State) (other : StoreTable) (are_there : Bool)
     → LooksIf (is_before Instance other) LooksAtInstances c d rows.instances.items
     → LooksIf (is_before Group other) LooksAtGroups d e rows.groups.items
     → LooksIf (reads_snapshots other are_there) LooksAtSnapshots e f rows.snapshots.items
-    → LooksIf (reads_snapshots other are_there) LooksForSnapshots e f rows.snapshots.items
     → rows.launches.items ≡ []
     → IsFirstOther a.now.schema (Some other) → (IsTrue are_there ↔ StandsSomewhere a.now.schema snap_at) → IsLive a
     → AreListedBefore other rows a.now
-lists_before a b c d e f other are_there rows keyed one two three four five named none first has live =
+lists_before a b c d e f other are_there rows keyed one two three four five none first has live =
     let s = a.now.schema in
     let h1 = has_1 s other first in
     let h2 = has_2 s other first in
     let h3 = has_3 s other first in
     let h4 = has_4 s other first in
-    let sb = same_if begun_1 0 (0 ∷ 1 ∷ 2 ∷ []) rows.counts.items a a b (is_before Meta other) h1 one refl in
-    let sc = same_if begun_2 2 (0 ∷ 1 ∷ []) rows.services.items a b c (is_before Service other) h2 two sb in
-    let sd = same_if begun_3 4 (0 ∷ 0 ∷ 2 ∷ 3 ∷ 4 ∷ 5 ∷ 6 ∷ []) rows.instances.items a c d
-    (is_before Instance other) h3 three sc in
-    let se = same_if begun_4 6 (0 ∷ 1 ∷ 2 ∷ 3 ∷ 4 ∷ []) rows.groups.items a d e (is_before Group other) h4 four sd in
-    let ob = open_if begun_1 0 (0 ∷ 1 ∷ 2 ∷ []) rows.counts.items a a b (is_before Meta other) one (λ o. o) in
-    let oc = open_if begun_2 2 (0 ∷ 1 ∷ []) rows.services.items a b c (is_before Service other) two ob in
-    let od = open_if begun_3 4 (0 ∷ 0 ∷ 2 ∷ 3 ∷ 4 ∷ 5 ∷ 6 ∷ []) rows.instances.items a c d
+    let ob = open_if meta_at 0 (0 ∷ 1 ∷ 2 ∷ []) rows.counts.items a a b (is_before Meta other) one (λ o. o) in
+    let oc = open_if service_at 2 (0 ∷ 1 ∷ []) rows.services.items a b c (is_before Service other) two ob in
+    let od = open_if instance_at 4 (0 ∷ 0 ∷ 2 ∷ 3 ∷ 4 ∷ 5 ∷ 6 ∷ []) rows.instances.items a c d
     (is_before Instance other) three oc in
-    let oe = open_if begun_4 6 (0 ∷ 1 ∷ 2 ∷ 3 ∷ 4 ∷ []) rows.groups.items a d e (is_before Group other) four od in
+    let oe = open_if grp_at 6 (0 ∷ 1 ∷ 2 ∷ 3 ∷ 4 ∷ []) rows.groups.items a d e (is_before Group other) four od in
+    let sb = same_if meta_at 0 (0 ∷ 1 ∷ 2 ∷ []) rows.counts.items a a b (is_before Meta other) h1 one refl (λ o. o)
+    live in
+    let sc = same_if service_at 2 (0 ∷ 1 ∷ []) rows.services.items a b c (is_before Service other) h2 two sb ob live in
+    let sd = same_if instance_at 4 (0 ∷ 0 ∷ 2 ∷ 3 ∷ 4 ∷ 5 ∷ 6 ∷ []) rows.instances.items a c d
+    (is_before Instance other) h3 three sc oc live in
+    let se = same_if grp_at 6 (0 ∷ 1 ∷ 2 ∷ 3 ∷ 4 ∷ []) rows.groups.items a d e (is_before Group other) h4 four sd od
+    live in
     record {
-      counts = listed_if begun_1 0 (0 ∷ 1 ∷ 2 ∷ []) rows.counts.items a a b (is_before Meta other) h1 one refl
+      counts = listed_if meta_at 0 (0 ∷ 1 ∷ 2 ∷ []) rows.counts.items a a b (is_before Meta other) h1 one refl
           (λ o. o) live keyed.counts;
-      services = listed_if begun_2 2 (0 ∷ 1 ∷ []) rows.services.items a b c
+      services = listed_if service_at 2 (0 ∷ 1 ∷ []) rows.services.items a b c
           (is_before Service other) h2 two sb ob live keyed.services;
-      instances = listed_if begun_3 4 (0 ∷ 0 ∷ 2 ∷ 3 ∷ 4 ∷ 5 ∷ 6 ∷ []) rows.instances.items a c d
+      instances = listed_if instance_at 4 (0 ∷ 0 ∷ 2 ∷ 3 ∷ 4 ∷ 5 ∷ 6 ∷ []) rows.instances.items a c d
           (is_before Instance other) h3 three sc oc live keyed.instances;
-      groups = listed_if begun_4 6 (0 ∷ 1 ∷ 2 ∷ 3 ∷ 4 ∷ []) rows.groups.items a d e
+      groups = listed_if grp_at 6 (0 ∷ 1 ∷ 2 ∷ 3 ∷ 4 ∷ []) rows.groups.items a d e
           (is_before Group other) h4 four sd od live keyed.groups;
-      snapshots = are_snapshots rows.snapshots.items a e f are_there has se oe live other first five named
-          keyed.snapshots;
+      snapshots = are_snapshots rows.snapshots.items a e f are_there has se oe live other first five keyed.snapshots;
       launches = none;
     }
 

@@ -13,12 +13,12 @@ use Rattle.sqlite.specs.Effect.{Database, IsDatabase}
 use Rattle.sqlite.specs.Listing.{understood}
 use Rattle.sqlite.specs.State.{State, Shows, Writes, Executes, ExecutesInside}
 use Rattle.sqlite.proofs.Callers.{IsPlain, command_of, statement_of, runs_as}
-use Rattle.smf_tables.specs.Layout.{IsStore}
+use Rattle.smf_tables.specs.Layout.{IsStore, rows_in}
 use Rattle.smf_tables.specs.Rows.{IsKeyed}
 use Rattle.smf_tables.specs.Schema as tables
 use Rattle.smf_tables.specs.Schema.{no_schema, one_table, two_tables, three_tables, four_tables, five_tables, store_schema}
 use Rattle.smf_tables.specs.Statements.{AddsMeta}
-use Rattle.smf_tables.proofs.Begun.{new_is_store}
+use Rattle.smf_tables.proofs.Alone.{new_is_store, new_rows}
 use Rattle.smf_tables.proofs.Changes.{went, same_value}
 use Rattle.smf_tables.proofs.Creates as texts
 use Rattle.smf_model.specs.Look.{empty}
@@ -200,15 +200,15 @@ none = record {
 }
 
 presents_none : (db : Database) → AreBare store_schema db → IsDatabase db → Presents store_schema db none
-presents_none db bare sound = record {
+presents_none db bare sound = let same = new_rows db bare.has in record {
   schema = record { store = subst IsStore (sym bare.has) new_is_store; same = bare.has };
   sound = sound;
-  counts = counted_none (db.trees 0) bare.rows.0;
-  services = listed_none _ (db.trees 2) bare.rows.1.0;
-  instances = listed_none _ (db.trees 4) bare.rows.1.1.0;
-  groups = listed_none _ (db.trees 6) bare.rows.1.1.1.0;
-  snapshots = listed_none _ (db.trees 8) bare.rows.1.1.1.1.0;
-  launches = listed_none _ (db.trees 9) bare.rows.1.1.1.1.1.0;
+  counts = counted_none (rows_in db 0) (same.0 ∙ bare.rows.0);
+  services = listed_none _ (rows_in db 2) (same.1.0 ∙ bare.rows.1.0);
+  instances = listed_none _ (rows_in db 4) (same.1.1.0 ∙ bare.rows.1.1.0);
+  groups = listed_none _ (rows_in db 6) (same.1.1.1.0 ∙ bare.rows.1.1.1.0);
+  snapshots = listed_none _ (rows_in db 8) (same.1.1.1.1.0 ∙ bare.rows.1.1.1.1.0);
+  launches = listed_none _ (rows_in db 9) (same.1.1.1.1.1.0 ∙ bare.rows.1.1.1.1.1.0);
 }
 
 abbrev first_count : Counter → Count

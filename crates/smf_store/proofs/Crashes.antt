@@ -1,11 +1,11 @@
 -- The files that a crash of an open may leave, by what stood in the database.
-use Rattle.std.proofs.Common.{◌≡◌, ℕ, pos, Some, refl, sym, subst, ◌∙◌, arith}
+use Rattle.std.proofs.Common.{◌≡◌, ℕ, pos, Some, None, refl, sym, subst, ◌∙◌, arith}
 use Rattle.sqlite.specs.declared.types.Value.TheVariants.{Int, Text}
 use Rattle.sqlite.specs.Schema.{Schema}
 use Rattle.sqlite.specs.State.{State}
 use Rattle.sqlite.specs.Tree.{Trees}
-use Rattle.smf_tables.specs.Layout.{IsStore, StandsAt}
-use Rattle.smf_tables.specs.Schema.{meta, no_schema, store_schema}
+use Rattle.smf_tables.specs.Layout.{IsStore, StandsSomewhere}
+use Rattle.smf_tables.specs.Schema.{meta_at, no_schema, store_schema}
 use Rattle.smf_model.specs.Contents.{Holdings}
 use Rattle.smf_model.specs.Look.{empty}
 use Rattle.smf_store.specs.Holds.{Stands, StandsFirst, StandsUnder}
@@ -15,8 +15,9 @@ use Rattle.smf_store.specs.Shown.{Counter, Version, Layout, Revision, NextInstan
 
 -- a store has tables
 none_there : (s : Schema) → s ≡ no_schema → IsStore s → ⊥
-none_there s none store = absurd (let first : StandsAt no_schema 0 meta =
-    subst (λ z. StandsAt z 0 meta) none store.meta.there in cc)
+none_there s none store =
+    let gone = subst (λ z. StandsSomewhere z meta_at) none store.meta in
+    absurd (let e : None ≡ Some gone.1.place = gone.1.named in cc)
 
 -- a store of the first version is none of the second
 module _ (old : State) (h k : Holdings) (second : Stands old.now h) (first : StandsFirst old.now k) where

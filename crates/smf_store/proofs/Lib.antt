@@ -19,6 +19,7 @@ pub mod Verdicts
 pub mod Counts
 pub mod Stands
 pub mod Before
+pub mod Failed
 pub mod Crashes
 pub mod Agreements
 pub mod Keys

@@ -13,6 +13,7 @@ use Rattle.smf_fmri.specs.Patterns.{service_of}
 use Rattle.smf_fmri.specs.Name.{short}
 use Rattle.smf_fmri.proofs.SameLists.{found_key, lookup_filter}
 use Rattle.smf_value.specs.Groups.{GroupRecord, by_group}
+use Rattle.smf_tables.specs.Layout.{rows_in}
 use Rattle.smf_tables.specs.Rows.{equal}
 use Rattle.smf_tables.specs.Schema.{instance, snap}
 use Rattle.smf_tables.specs.Statements.{DropsMeta, AddsMeta, DropsService, AddsService, DropsInstance, DropsServiceGroups, DropsGroups, DropsSnapshots, DropsLaunch, AddsLaunch, HasRow, HasNoRow, Sees, ShowsName, ReadsName, FindsService}
@@ -331,7 +332,7 @@ text_is : (a b : List ℕ) → ◌≡◌ {A = Value} (Text a) (Text b) → a ≡
 text_is a b h = cc
 
 found_entry : {s : Schema} (db : Database) (h : Holdings) (n : ℕ) (it : NameColumns) → HoldsUnder s db h
-    → HasRow (db.trees 4) (equal 0 0 ∷ []) (Int (pos n) ∷ []) (ShowsName it)
+    → HasRow (rows_in db 4) (equal 0 0 ∷ []) (Int (pos n) ∷ []) (ShowsName it)
     → IsFound h n (string_bytes it.service) (string_bytes it.name)
 found_entry db h n it p f =
     let i = p.show.instances.only f.row f.there in
@@ -350,14 +351,14 @@ found_entry db h n it p f =
     }
 
 found_service : {s : Schema} (db : Database) (h : Holdings) (name : List ℕ) → HoldsUnder s db h
-    → HasRow (db.trees 2) (equal 1 0 ∷ []) (Text name ∷ []) (λ r. Unit {0}) → HasService h name
+    → HasRow (rows_in db 2) (equal 1 0 ∷ []) (Text name ∷ []) (λ r. Unit {0}) → HasService h name
 found_service db h name p f =
     let x = p.show.services.only f.row f.there in
     subst (HasService h) (step.text_found f.row x.0 name x.2 f.picked) x.1
 
 looked : {s : Schema} (a b : State) (h : Holdings) {Seen : Trees → Type 0} → Sees Seen a b → HoldsUnder s a.now h
     → HoldsUnder s b.now h
-looked {s} a b h sees p = subst (λ (db : Database). HoldsUnder s db h) (sym (sees.same p.schema.store)) p
+looked {s} a b h sees p = subst (λ (db : Database). HoldsUnder s db h) (sym (sees.same p.schema.store p.sound)) p
 
 -- the groups of an instance are those that its service and its number find
 own_forth : (h : Holdings) (n : ℕ) (front behind : List ℕ) → 0 < n → IsFound h n front behind → (x : OwnedGroup)
@@ -378,13 +379,13 @@ own_back h n front x m = (m.0, λ both. m.1 both.1)
 
 -- if no row has the number, nothing has it
 none_has : {s : Schema} (db : Database) (h : Holdings) (n : ℕ) → HoldsUnder s db h
-    → HasNoRow (db.trees 4) (equal 0 0 ∷ []) (Int (pos n) ∷ []) → (i : Instance) → HasInstance h i → i.number ≡ n → ⊥
+    → HasNoRow (rows_in db 4) (equal 0 0 ∷ []) (Int (pos n) ∷ []) → (i : Instance) → HasInstance h i → i.number ≡ n → ⊥
 none_has db h n p none i m =
     let s = p.show.instances.there i m in
     step.id_kept s.0 i.number n s.2.number_is (none s.0 s.1)
 
 none_owns : {s : Schema} (db : Database) (h : Holdings) (n : ℕ) → 0 < n → HoldsUnder s db h
-    → HasNoRow (db.trees 4) (equal 0 0 ∷ []) (Int (pos n) ∷ []) → (x : OwnedGroup) → HasGroup h x → x.number ≡ n → ⊥
+    → HasNoRow (rows_in db 4) (equal 0 0 ∷ []) (Int (pos n) ∷ []) → (x : OwnedGroup) → HasGroup h x → x.number ≡ n → ⊥
 none_owns db h n above p none x (of_service nought t e m) same = omega (arith, above, nought, same)
 none_owns db h n above p none x (of_instance some e g s m) same =
     let number : e.instance.number ≡ x.number = found_key by_entry x.number h.instances e g in
@@ -402,7 +403,7 @@ pub makes_nothing : (a b : State) (n : ℕ) → 0 < n → ReadsName (pos n) a b 
 makes_nothing a b n above look = record {
   shows = look.shows;
   made = λ schema h p.
-      let none = (look.seen p.schema.store).1 in
+      let none = (look.seen p.schema.store p.sound).1 in
       let p1 = presents b.now h (looked a b h look p) in
       holds b.now (without_entry h n) (record {
         schema = p1.schema;
@@ -425,7 +426,7 @@ makes_no_entry a b c d n it above look one two = record {
   made = λ schema h p.
       let front = string_bytes it.service in
       let behind = string_bytes it.name in
-      let found = found_entry a.now h n it p (look.seen p.schema.store).0 in
+      let found = found_entry a.now h n it p (look.seen p.schema.store p.sound).0 in
       let p1 = step.drop_groups b c (six_of h) (presents b.now h (looked a b h look p)) front n one in
       let p2 = step.drop_instance c d _ p1 n two in
       holds d.now (without_entry h n) (record {
@@ -559,7 +560,7 @@ pub makes_instance : (a b c d : State) (i : Instance) (it : NameColumns) → 0 <
 makes_instance a b c d i it above whole look one two = record {
   shows = shows_then a c d (shows_then a b c look.shows one.shows) two.shows;
   made = λ schema h p.
-      let found = found_entry a.now h i.number it p (look.seen p.schema.store).0 in
+      let found = found_entry a.now h i.number it p (look.seen p.schema.store p.sound).0 in
       let named : i.name ≡ found.entry.instance.name = whole ∙ sym found.joined in
       let p1 = step.drop_instance b c (six_of h) (presents b.now h (looked a b h look p)) i.number one in
       let p2 = step.add_instance c d _ p1 i two in
@@ -653,7 +654,7 @@ pub makes_service_groups : (a b c d : State) (name : List ℕ) (gs : List GroupR
 makes_service_groups a b c d name gs rises look one two = record {
   shows = shows_then a c d (shows_then a b c look.shows one.shows) two.shows;
   made = λ schema h p.
-      let there = found_service a.now h name p (look.seen p.schema.store refl) in
+      let there = found_service a.now h name p (look.seen p.schema.store p.sound refl) in
       let p1 = step.drop_groups b c (six_of h) (presents b.now h (looked a b h look p)) name 0 one in
       let p2 = step.add_groups c d _ p1 name 0 gs two in
       holds d.now (regroup_service h name gs) (record {
@@ -749,7 +750,7 @@ makes_instance_groups a b c d n gs it above rises look one two = record {
   made = λ schema h p.
       let front = string_bytes it.service in
       let behind = string_bytes it.name in
-      let found = found_entry a.now h n it p (look.seen p.schema.store).0 in
+      let found = found_entry a.now h n it p (look.seen p.schema.store p.sound).0 in
       let p1 = step.drop_groups b c (six_of h) (presents b.now h (looked a b h look p)) front n one in
       let p2 = step.add_groups c d _ p1 front n gs two in
       holds d.now (regroup_entry h n gs) (record {

@@ -1,5 +1,5 @@
 -- No two rows of a table share its key.
-use Rattle.std.proofs.Common.{◌≡◌, ℕ, ℤ, List, [], ◌∷◌, ◌&&◌, not, Bool, true, false, refl, sym, ap, subst, ◌∙◌, arith}
+use Rattle.std.proofs.Common.{◌≡◌, ℕ, ℤ, List, [], ◌∷◌, ◌&&◌, not, Bool, true, false, refl, sym, ap, subst, subst₂, eq-eqb, slice_get, slice_index_or, ◌∙◌, arith}
 use Rattle.std.specs.Ordering.{int_eq, is_eq, is_ne}
 use Rattle.std.specs.declared.cmp.Ordering.{Ordering}
 use Rattle.std.specs.declared.cmp.Ordering.TheVariants.{Less, Equal, Greater}
@@ -10,7 +10,6 @@ use Rattle.sqlite.specs.declared.types.Value.{Value}
 use Rattle.sqlite.specs.declared.types.Value.TheVariants.{Null, Int, Real, Text, Blob}
 use Rattle.std.specs.List.{AllByRecursion}
 use Rattle.sqlite.specs.Order.{Row, column}
-use Rattle.sqlite.specs.Schema.{Schema}
 use Rattle.sqlite.specs.Tree.{rowid}
 use Rattle.sqlite.specs.View.{is_int}
 use Rattle.sqlite.specs.Effect.{Database, IsDatabase}
@@ -22,13 +21,13 @@ use Rattle.sqlite_sql.specs.Ops.{binary, from_truth, is_true}
 use Rattle.sqlite_schema.specs.declared.schema.Constraint.TheVariants.{Unique}
 use Rattle.sqlite_schema.specs.declared.schema.Index.{Index}
 use Rattle.sqlite_schema.specs.declared.schema.Table.{Table}
-use Rattle.sqlite_schema.specs.Rules.{Keeps, agree, clashes, differ, equal, guards, passes}
+use Rattle.sqlite_schema.specs.Rules.{agree, clashes, differ, equal, guards, passes}
 use Rattle.sqlite_catalog.specs.Listing.{IsGuarded, automatic}
 use Rattle.sqlite_rules.specs.Lists.{Has}
 use Rattle.sqlite_rules.proofs.ListLemmas.{all_has, some_from, test_has}
+use Rattle.smf_tables.specs.Layout.{IsStore, StandsAlone, name_of_tree, rows_in}
 use Rattle.smf_tables.specs.Schema as tables
-use Rattle.smf_tables.specs.Layout.{IsStore, begun_6}
-use Rattle.smf_tables.proofs.Begun.{OfStore, of_store}
+use Rattle.smf_tables.proofs.Alone.{listed, rows_at}
 
 -- ---- values that are equal, and rowids that differ
 
@@ -100,75 +99,66 @@ clash_of places rows a b there same unlike =
     some_from (λ other. agree plain places other places b && differ (rowid other) (rowid b)) rows a there
     (both_true (agree plain places a places b) (differ (rowid a) (rowid b)) same unlike)
 
+abbrev Unlike : Row → Row → Type 0
+Unlike a b = (is_int (rowid a) ≡ true) × (is_int (rowid b) ≡ true) × (rowid a ≡ rowid b → ⊥)
+
+-- its own index guards a key
+guards_own : (t : Table) (key : List ℕ) (tree : ℕ) → guards (automatic t 0 key tree) t ≡ true
+guards_own t key tree = eq-eqb t.tree t.tree refl
+
+module _ (db : Database) (t : Table) (alone : StandsAlone db.schema t) (sound : IsDatabase db) (key : List ℕ) (unique : slice_get t.uniques 0 ≡ Some key) (order : slice_index_or t.orders 0 plain ≡ plain) where
+  there : Has db.schema.tables t
+  there = listed db.schema t alone
+
+  abbrev test_of : Row → Index → Bool
+  test_of row i = not (guards i t && clashes i.order i.columns (db.trees t.tree) row)
+
+  once_by : (a b : Row) → Has (db.trees t.tree) a → Has (db.trees t.tree) b → Unlike a b
+      → agree plain key a key b ≡ true → ⊥
+  once_by a b ha hb u same =
+      let index = all_has (IsGuarded db.schema.indexes) db.schema.tables t sound.lists.guarded there 0 key unique in
+      let rules = all_has (λ u. AllByRecursion (λ row. passes Unique db.schema db.trees u row ≡ true) (db.trees u.tree))
+      db.schema.tables t (sound.obeys.rules Unique) there in
+      let e : passes Unique db.schema db.trees t b ≡ true =
+      all_has (λ row. passes Unique db.schema db.trees t row ≡ true) (db.trees t.tree) b rules hb in
+      let own : test_of b (automatic t 0 key index.0) ≡ true =
+      test_has (test_of b) db.schema.indexes (automatic t 0 key index.0) e index.1 in
+      let plainly : not (true && clashes plain key (db.trees t.tree) b) ≡ true =
+      subst₂ (λ g o. not (g && clashes o key (db.trees t.tree) b) ≡ true) (guards_own t key index.0) order own in
+      refuted (clashes plain key (db.trees t.tree) b)
+      (clash_of key (db.trees t.tree) a b ha same (differ_rowids (rowid a) (rowid b) u.0 u.1 u.2)) plainly
+
+-- the rows of a table of a store
+its : (db : Database) (n : ℕ) (t : Table) (named : name_of_tree n ≡ t.name) (alone : StandsAlone db.schema t) (r : Row)
+    → Has (rows_in db n) r → Has (db.trees t.tree) r
+its db n t named alone r h = subst (λ l. Has l r) (rows_at db n t named alone) h
+
 module _ (db : Database) (has : IsStore db.schema) (sound : IsDatabase db) where
-  all : OfStore db.schema
-  all = of_store db.schema has
-
-  -- the six tables, with what stands beside them
-  abbrev six : Schema
-  six = begun_6 all.rest
-
-  rules : Keeps Unique six db.trees
-  rules = subst (λ s. Keeps Unique s db.trees) all.is (sound.obeys.rules Unique)
-
-  -- the index of each unique key is among the indexes
-  guarded : AllByRecursion (IsGuarded six.indexes) six.tables
-  guarded = subst (λ (s : Schema). AllByRecursion (IsGuarded s.indexes) s.tables) all.is sound.lists.guarded
-
-  abbrev Unlike : Row → Row → Type 0
-  Unlike a b = (is_int (rowid a) ≡ true) × (is_int (rowid b) ≡ true) × (rowid a ≡ rowid b → ⊥)
-
-  abbrev test_of : Table → Row → Index → Bool
-  test_of table row i = not (guards i table && clashes i.order i.columns (db.trees table.tree) row)
-
-  pub once_meta : (a b : Row) (t : List ℕ) → Has (db.trees 0) a → Has (db.trees 0) b → Unlike a b
+  pub once_meta : (a b : Row) (t : List ℕ) → Has (rows_in db 0) a → Has (rows_in db 0) b → Unlike a b
       → column a 1 ≡ Text t → column b 1 ≡ Text t → ⊥
   once_meta a b t ha hb u ea eb =
-      let index = guarded.0 0 (1 ∷ []) refl in
-      let e : passes Unique six db.trees tables.meta b ≡ true =
-      all_has (λ row. passes Unique six db.trees tables.meta row ≡ true) (db.trees 0) b (rules.0) hb in
-      let f : not (clashes plain (1 ∷ []) (db.trees 0) b) ≡ true =
-      test_has (test_of tables.meta b) six.indexes (automatic tables.meta 0 (1 ∷ []) index.0) e index.1 in
-      refuted (clashes plain (1 ∷ []) (db.trees 0) b)
-      (clash_of (1 ∷ []) (db.trees 0) a b ha (agree_one a b 1 t ea eb)
-      (differ_rowids (rowid a) (rowid b) u.0 u.1 u.2)) f
+      let table = tables.meta_at has.meta.0 in
+      once_by db table has.meta.1 sound (1 ∷ []) refl refl a b (its db 0 table refl has.meta.1 a ha)
+      (its db 0 table refl has.meta.1 b hb) u (agree_one a b 1 t ea eb)
 
-  pub once_service : (a b : Row) (t : List ℕ) → Has (db.trees 2) a → Has (db.trees 2) b → Unlike a b
+  pub once_service : (a b : Row) (t : List ℕ) → Has (rows_in db 2) a → Has (rows_in db 2) b → Unlike a b
       → column a 1 ≡ Text t → column b 1 ≡ Text t → ⊥
   once_service a b t ha hb u ea eb =
-      let index = guarded.1.0 0 (1 ∷ []) refl in
-      let e : passes Unique six db.trees tables.service b ≡ true =
-      all_has (λ row. passes Unique six db.trees tables.service row ≡ true) (db.trees 2) b
-      (rules.1.0) hb in
-      let f : not (clashes plain (1 ∷ []) (db.trees 2) b) ≡ true =
-      test_has (test_of tables.service b) six.indexes (automatic tables.service 0 (1 ∷ []) index.0) e index.1 in
-      refuted (clashes plain (1 ∷ []) (db.trees 2) b)
-      (clash_of (1 ∷ []) (db.trees 2) a b ha (agree_one a b 1 t ea eb)
-      (differ_rowids (rowid a) (rowid b) u.0 u.1 u.2)) f
+      let table = tables.service_at has.service.0 in
+      once_by db table has.service.1 sound (1 ∷ []) refl refl a b (its db 2 table refl has.service.1 a ha)
+      (its db 2 table refl has.service.1 b hb) u (agree_one a b 1 t ea eb)
 
-  pub once_group : (a b : Row) (s g : List ℕ) (n : ℤ) → Has (db.trees 6) a → Has (db.trees 6) b → Unlike a b
+  pub once_group : (a b : Row) (s g : List ℕ) (n : ℤ) → Has (rows_in db 6) a → Has (rows_in db 6) b → Unlike a b
       → column a 1 ≡ Text s → column b 1 ≡ Text s → column a 2 ≡ Int n → column b 2 ≡ Int n → column a 3 ≡ Text g
       → column b 3 ≡ Text g → ⊥
   once_group a b s g n ha hb u e1 f1 e2 f2 e3 f3 =
-      let index = guarded.1.1.1.0 0 (1 ∷ 2 ∷ 3 ∷ []) refl in
-      let e : passes Unique six db.trees tables.grp b ≡ true =
-      all_has (λ row. passes Unique six db.trees tables.grp row ≡ true) (db.trees 6) b
-      (rules.1.1.1.0) hb in
-      let f : not (clashes plain (1 ∷ 2 ∷ 3 ∷ []) (db.trees 6) b) ≡ true =
-      test_has (test_of tables.grp b) six.indexes (automatic tables.grp 0 (1 ∷ 2 ∷ 3 ∷ []) index.0) e index.1 in
-      refuted (clashes plain (1 ∷ 2 ∷ 3 ∷ []) (db.trees 6) b)
-      (clash_of (1 ∷ 2 ∷ 3 ∷ []) (db.trees 6) a b ha (agree_three a b s g n e1 f1 e2 f2 e3 f3)
-      (differ_rowids (rowid a) (rowid b) u.0 u.1 u.2)) f
+      let table = tables.grp_at has.grp.0 in
+      once_by db table has.grp.1 sound (1 ∷ 2 ∷ 3 ∷ []) refl refl a b (its db 6 table refl has.grp.1 a ha)
+      (its db 6 table refl has.grp.1 b hb) u (agree_three a b s g n e1 f1 e2 f2 e3 f3)
 
-  pub once_launch : (a b : Row) (t : List ℕ) → Has (db.trees 9) a → Has (db.trees 9) b → Unlike a b
+  pub once_launch : (a b : Row) (t : List ℕ) → Has (rows_in db 9) a → Has (rows_in db 9) b → Unlike a b
       → column a 1 ≡ Text t → column b 1 ≡ Text t → ⊥
   once_launch a b t ha hb u ea eb =
-      let index = guarded.1.1.1.1.1.0 0 (1 ∷ []) refl in
-      let e : passes Unique six db.trees tables.restarter b ≡ true =
-      all_has (λ row. passes Unique six db.trees tables.restarter row ≡ true) (db.trees 9) b
-      (rules.1.1.1.1.1.0) hb in
-      let f : not (clashes plain (1 ∷ []) (db.trees 9) b) ≡ true =
-      test_has (test_of tables.restarter b) six.indexes (automatic tables.restarter 0 (1 ∷ []) index.0) e index.1 in
-      refuted (clashes plain (1 ∷ []) (db.trees 9) b)
-      (clash_of (1 ∷ []) (db.trees 9) a b ha (agree_one a b 1 t ea eb)
-      (differ_rowids (rowid a) (rowid b) u.0 u.1 u.2)) f
+      let table = tables.restarter_at has.restarter.0 in
+      once_by db table has.restarter.1 sound (1 ∷ []) refl refl a b (its db 9 table refl has.restarter.1 a ha)
+      (its db 9 table refl has.restarter.1 b hb) u (agree_one a b 1 t ea eb)

@@ -2,7 +2,7 @@
 use Rattle.std.proofs.Common.{◌≡◌, inl, inr, Result, Ok, Err, sym, subst, ◌∙◌}
 use Rattle.sqlite.specs.Effect.{Database}
 use Rattle.sqlite.specs.Schema.{Schema}
-use Rattle.smf_tables.specs.Layout.{IsStore}
+use Rattle.smf_tables.specs.Layout.{IsStore, rows_in}
 use Rattle.smf_model.specs.Contents.{Holdings}
 use Rattle.smf_laws.specs.Consistent.{IsConsistent}
 use Rattle.smf_store.specs.declared.fault.WriteFault.{WriteFault}
@@ -20,13 +20,13 @@ use Rattle.smf_store.proofs.StandsAgain.{first_again, stands_again}
 
 -- the rows of a store of the second version say its value
 pub says_again : (db : Database) (h : Holdings) (what : Result Holdings OpenFault) → Stands db h → IsConsistent h
-    → Says db.trees what → what ≡ Ok h
+    → Says (rows_in db) what → what ≡ Ok h
 says_again db h what s c w = sym w.said ∙ stands_again db w.rows h w.listed s c
 
 clash : (h : Holdings) (e : OpenFault) → ◌≡◌ {A = Result Holdings OpenFault} (Err e) (Ok h) → ⊥
 clash h e is = cc
 
-never_said : (db : Database) (h : Holdings) (e : OpenFault) → IsStoreOf db h → IsConsistent h → Says db.trees (Err e)
+never_said : (db : Database) (h : Holdings) (e : OpenFault) → IsStoreOf db h → IsConsistent h → Says (rows_in db) (Err e)
     → ⊥
 never_said db h e (in_second s) c w = clash h e (says_again db h (Err e) s c w)
 never_said db h e (in_first s) c w = let k = first_again db w.rows h w.listed s c in clash k.0 e (sym w.said ∙ k.1)
@@ -44,7 +44,7 @@ are_there s Group store = store.grp
 are_there s Snapshot store = store.snap
 are_there s Restarter store = store.restarter
 
-said_alone : (db : Database) (h : Holdings) (e : OpenFault) → IsStoreOf db h → IsConsistent h → IsSaid db.trees e
+said_alone : (db : Database) (h : Holdings) (e : OpenFault) → IsStoreOf db h → IsConsistent h → IsSaid (rows_in db) e
     → IsFailure e
 said_alone db h Memory s c said = tt
 said_alone db h Failed s c said = tt

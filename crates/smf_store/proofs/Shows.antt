@@ -11,7 +11,7 @@ use Rattle.smf_state.specs.Texts.{read_row, row_text}
 use Rattle.smf_value.specs.Body.{AreGroups, bytes_of_groups}
 use Rattle.smf_value.specs.Groups.{GroupRecord}
 use Rattle.smf_snap.specs.Body.{spelled_both}
-use Rattle.smf_tables.specs.Layout.{IsStore}
+use Rattle.smf_tables.specs.Layout.{IsStore, rows_in}
 use Rattle.smf_tables.specs.Rows.{Alters, Gains}
 use Rattle.smf_tables.specs.Schema.{grp, instance, snap}
 use Rattle.smf_tables.specs.Statements.{AddsGroup, AddsSnapshot}
@@ -74,7 +74,7 @@ pub adds_group : (service : List ℕ) (number : ℕ) (g : GroupRecord) (id : ℤ
     → AreGroups (g ∷ []) → id ≡ pos number → body ≡ bytes_of_groups (g ∷ [])
     → AddsGroup service id g.name body old new → AddsRow (ShowsGroup (owned_by service number g)) grp old new
 adds_group service number g id body old new formed is bytes a =
-    let rowid = next_rowid (old.now.trees 6) in
+    let rowid = next_rowid (rows_in old.now 6) in
     adds_row (ShowsGroup (owned_by service number g)) grp
     (Int rowid ∷ Text service ∷ Int id ∷ Text g.name ∷ Blob body ∷ []) old new
     (record { formed = formed; service_is = refl; number_is = ap Int is; name_is = refl; body_is = ap Blob bytes }) a

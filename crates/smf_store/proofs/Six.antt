@@ -3,9 +3,9 @@ use Rattle.std.proofs.Common.{◌≡◌, ◌≢◌, ◌∙◌, ℕ, List, refl, 
 use Rattle.sqlite.specs.Order.{Row}
 use Rattle.sqlite.specs.Schema.{Schema}
 use Rattle.sqlite.specs.Effect.{Database, IsDatabase}
+use Rattle.smf_tables.specs.Layout.{IsStore, rows_in}
 use Rattle.smf_tables.specs.Rows.{Turns}
 use Rattle.smf_tables.specs.Schema as tables
-use Rattle.smf_tables.specs.Layout.{IsStore}
 use Rattle.smf_model.specs.declared.held.Instance.{Instance}
 use Rattle.smf_model.specs.declared.held.Launch.{Launch}
 use Rattle.smf_model.specs.declared.held.Snapshot.{Snapshot}
@@ -34,12 +34,12 @@ six_of h = record {
 pub record Presents (s : Schema) (db : Database) (m : Six) : Type 0 where
   pub schema : IsStoreUnder s db.schema
   pub sound : IsDatabase db
-  pub counts : Counted m.counts (db.trees 0)
-  pub services : Listed m.services ShowsService (db.trees 2)
-  pub instances : Listed m.instances ShowsInstance (db.trees 4)
-  pub groups : Listed m.groups ShowsGroup (db.trees 6)
-  pub snapshots : Listed m.snapshots ShowsSnapshot (db.trees 8)
-  pub launches : Listed m.launches ShowsLaunch (db.trees 9)
+  pub counts : Counted m.counts (rows_in db 0)
+  pub services : Listed m.services ShowsService (rows_in db 2)
+  pub instances : Listed m.instances ShowsInstance (rows_in db 4)
+  pub groups : Listed m.groups ShowsGroup (rows_in db 6)
+  pub snapshots : Listed m.snapshots ShowsSnapshot (rows_in db 8)
+  pub launches : Listed m.launches ShowsLaunch (rows_in db 9)
 
 pub presents : {s : Schema} (db : Database) (h : Holdings) → HoldsUnder s db h → Presents s db (six_of h)
 presents db h p =
@@ -85,7 +85,7 @@ still_store p same = record { store = subst IsStore (sym same) p.store; same = s
 
 -- one table turned, and the others are as they were
 module _ {C : List Row → List Row → Type 0} {s : Schema} (old new : Database) (m : Six) (p : Presents s old m) where
-  pub with_counts : Turns C tables.meta old new → (P : Count → Type 0) → Counted P (new.trees 0)
+  pub with_counts : Turns C tables.meta old new → (P : Count → Type 0) → Counted P (rows_in new 0)
       → Presents s new (record m { counts = P })
   with_counts turns P listed = record {
     schema = still_store p.schema turns.schema;
@@ -103,7 +103,7 @@ module _ {C : List Row → List Row → Type 0} {s : Schema} (old new : Database
         subst (Listed m.launches ShowsLaunch) (sym (turns.spares.1.1.1.1.1.0 apart)) p.launches);
   }
 
-  pub with_services : Turns C tables.service old new → (P : List ℕ → Type 0) → Listed P ShowsService (new.trees 2)
+  pub with_services : Turns C tables.service old new → (P : List ℕ → Type 0) → Listed P ShowsService (rows_in new 2)
       → Presents s new (record m { services = P })
   with_services turns P listed = record {
     schema = still_store p.schema turns.schema;
@@ -122,7 +122,7 @@ module _ {C : List Row → List Row → Type 0} {s : Schema} (old new : Database
   }
 
   pub with_instances : Turns C tables.instance old new → (P : Instance → Type 0)
-      → Listed P ShowsInstance (new.trees 4) → Presents s new (record m { instances = P })
+      → Listed P ShowsInstance (rows_in new 4) → Presents s new (record m { instances = P })
   with_instances turns P listed = record {
     schema = still_store p.schema turns.schema;
     sound = turns.sound;
@@ -139,7 +139,7 @@ module _ {C : List Row → List Row → Type 0} {s : Schema} (old new : Database
         subst (Listed m.launches ShowsLaunch) (sym (turns.spares.1.1.1.1.1.0 apart)) p.launches);
   }
 
-  pub with_groups : Turns C tables.grp old new → (P : OwnedGroup → Type 0) → Listed P ShowsGroup (new.trees 6)
+  pub with_groups : Turns C tables.grp old new → (P : OwnedGroup → Type 0) → Listed P ShowsGroup (rows_in new 6)
       → Presents s new (record m { groups = P })
   with_groups turns P listed = record {
     schema = still_store p.schema turns.schema;
@@ -157,7 +157,7 @@ module _ {C : List Row → List Row → Type 0} {s : Schema} (old new : Database
         subst (Listed m.launches ShowsLaunch) (sym (turns.spares.1.1.1.1.1.0 apart)) p.launches);
   }
 
-  pub with_snapshots : Turns C tables.snap old new → (P : Snapshot → Type 0) → Listed P ShowsSnapshot (new.trees 8)
+  pub with_snapshots : Turns C tables.snap old new → (P : Snapshot → Type 0) → Listed P ShowsSnapshot (rows_in new 8)
       → Presents s new (record m { snapshots = P })
   with_snapshots turns P listed = record {
     schema = still_store p.schema turns.schema;
@@ -175,7 +175,7 @@ module _ {C : List Row → List Row → Type 0} {s : Schema} (old new : Database
         subst (Listed m.launches ShowsLaunch) (sym (turns.spares.1.1.1.1.1.0 apart)) p.launches);
   }
 
-  pub with_launches : Turns C tables.restarter old new → (P : Launch → Type 0) → Listed P ShowsLaunch (new.trees 9)
+  pub with_launches : Turns C tables.restarter old new → (P : Launch → Type 0) → Listed P ShowsLaunch (rows_in new 9)
       → Presents s new (record m { launches = P })
   with_launches turns P listed = record {
     schema = still_store p.schema turns.schema;

@@ -6,9 +6,9 @@ use Rattle.sqlite.specs.Tree.{rowid}
 use Rattle.sqlite.specs.View.{is_int}
 use Rattle.sqlite.specs.Effect.{Database, IsDatabase}
 use Rattle.sqlite_rules.specs.Lists.{Has}
+use Rattle.smf_tables.specs.Layout.{IsStore, rows_in}
 use Rattle.smf_tables.specs.Scans.{AreShown, columns_at}
 use Rattle.smf_tables.specs.Rows.{AreApart, IsKeyed}
-use Rattle.smf_tables.specs.Layout.{IsStore}
 use Rattle.smf_store.specs.declared.judgements.StoreRows.{StoreRows}
 use Rattle.smf_store.specs.Gathered.{Matches}
 use Rattle.smf_store.specs.Holds.{Listed}
@@ -63,7 +63,7 @@ module _ (places : List ℕ) (all rows : List Row) (seen : AreShown places all r
       once r.0 q.0 t r.1 q.1 (unlike_seen a b ha hb apart) (sym (ap (λ z. column z 1) r.2 ∙ first r.0) ∙ ea)
       (sym (ap (λ z. column z 1) q.2 ∙ first q.0) ∙ eb)
 
-pub are_sole : (db : Database) (rows : StoreRows) → IsStore db.schema → IsDatabase db → AreListed rows db.trees
+pub are_sole : (db : Database) (rows : StoreRows) → IsStore db.schema → IsDatabase db → AreListed rows (rows_in db)
     → AreSole rows
 are_sole db rows has sound l = record {
   counts_apart = l.counts.keyed.apart;
@@ -72,20 +72,20 @@ are_sole db rows has sound l = record {
   groups_apart = l.groups.keyed.apart;
   snapshots_apart = l.snapshots.keyed.apart;
   launches_apart = l.launches.keyed.apart;
-  counts = one_text (0 ∷ 1 ∷ 2 ∷ []) (db.trees 0) rows.counts.items l.counts.shown l.counts.keyed.keyed (λ r. refl)
+  counts = one_text (0 ∷ 1 ∷ 2 ∷ []) (rows_in db 0) rows.counts.items l.counts.shown l.counts.keyed.keyed (λ r. refl)
       (λ r. refl) (once_meta db has sound);
-  services = one_text (0 ∷ 1 ∷ []) (db.trees 2) rows.services.items l.services.shown l.services.keyed.keyed
+  services = one_text (0 ∷ 1 ∷ []) (rows_in db 2) rows.services.items l.services.shown l.services.keyed.keyed
       (λ r. refl) (λ r. refl) (once_service db has sound);
   groups = λ a b s g n ha hb e1 f1 e2 f2 e3 f3 apart.
       let r = l.groups.shown.sound a ha in
       let q = l.groups.shown.sound b hb in
       once_group db has sound r.0 q.0 s g n r.1 q.1
-      (unlike_seen (0 ∷ 1 ∷ 2 ∷ 3 ∷ 4 ∷ []) (db.trees 6) rows.groups.items l.groups.shown l.groups.keyed.keyed
+      (unlike_seen (0 ∷ 1 ∷ 2 ∷ 3 ∷ 4 ∷ []) (rows_in db 6) rows.groups.items l.groups.shown l.groups.keyed.keyed
       (λ z. refl) a b ha hb apart)
       (sym (ap (λ z. column z 1) r.2) ∙ e1) (sym (ap (λ z. column z 1) q.2) ∙ f1)
       (sym (ap (λ z. column z 2) r.2) ∙ e2) (sym (ap (λ z. column z 2) q.2) ∙ f2)
       (sym (ap (λ z. column z 3) r.2) ∙ e3) (sym (ap (λ z. column z 3) q.2) ∙ f3);
-  launches = one_text (0 ∷ 1 ∷ 2 ∷ []) (db.trees 9) rows.launches.items l.launches.shown l.launches.keyed.keyed
+  launches = one_text (0 ∷ 1 ∷ 2 ∷ []) (rows_in db 9) rows.launches.items l.launches.shown l.launches.keyed.keyed
       (λ r. refl) (λ r. refl) (once_launch db has sound);
 }
 

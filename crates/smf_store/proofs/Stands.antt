@@ -3,14 +3,13 @@ use Rattle.std.proofs.Common.{◌≡◌, ◌⊎◌, inl, inr, ℕ, pos, codes, S
 use Rattle.std.specs.Prelude.{IfErr}
 use Rattle.std.specs.Result.{IsErrAnd}
 use Rattle.sqlite.specs.Order.{Row}
+use Rattle.sqlite.specs.Table.{Table}
 use Rattle.sqlite.specs.Tree.{Trees}
 use Rattle.sqlite.specs.Effect.{Database, IsDatabase}
 use Rattle.sqlite.specs.State.{State, Shows, IsLive, Survives}
 use Rattle.sqlite.proofs.StateLemmas.{survives_weaker}
-use Rattle.sqlite.specs.Schema.{Schema}
-use Rattle.smf_tables.specs.Layout.{Begins, IsStore, Rest}
+use Rattle.smf_tables.specs.Layout.{IsStore, StandsSomewhere, rows_in}
 use Rattle.smf_tables.specs.Scans.{AreShown, Looks, LooksAtMeta, LooksAtServices, LooksAtInstances, LooksAtGroups, LooksAtSnapshots, LooksAtLaunches, columns_at}
-use Rattle.smf_tables.proofs.Begun.{of_store}
 use Rattle.smf_tables.specs.Rows.{IsKeyed}
 use Rattle.smf_tables.specs.Statements.{AddsMeta, DropsMeta}
 use Rattle.smf_model.specs.declared.held.Instance.{Instance}
@@ -147,24 +146,24 @@ launch_forth x r s = record { restarter_is = s.restarter_is; count_is = s.count_
 launch_back : (x : Launch) (r : Row) → ShowsLaunch x (columns_at (0 ∷ 1 ∷ 2 ∷ []) r) → ShowsLaunch x r
 launch_back x r s = record { restarter_is = s.restarter_is; count_is = s.count_is }
 
-module _ (db : Database) (rows : StoreRows) (h : Holdings) (has : IsStore db.schema) (sound : IsDatabase db) (l : AreListed rows db.trees) where
+module _ (db : Database) (rows : StoreRows) (h : Holdings) (has : IsStore db.schema) (sound : IsDatabase db) (l : AreListed rows (rows_in db)) where
   pub stands_second : AreRead (rows_of versions.Second rows) h → Stands db h
   stands_second a = record {
     holds = record {
       schema = record { store = has; same = refl };
       sound = sound;
       show = record {
-        counts = counted (db.trees 0) rows.counts.items l.counts.shown l.counts.keyed.keyed a.counts;
-        services = listed (0 ∷ 1 ∷ []) (db.trees 2) rows.services.items l.services.shown l.services.keyed.keyed
+        counts = counted (rows_in db 0) rows.counts.items l.counts.shown l.counts.keyed.keyed a.counts;
+        services = listed (0 ∷ 1 ∷ []) (rows_in db 2) rows.services.items l.services.shown l.services.keyed.keyed
             (λ x r s. s) (λ x r s. s) a.services;
         instances = listed (0 ∷ 0 ∷ 2 ∷ 3 ∷ 4 ∷ 5 ∷ 6 ∷ [])
-            (db.trees 4) rows.instances.items l.instances.shown l.instances.keyed.keyed instance_forth instance_back
+            (rows_in db 4) rows.instances.items l.instances.shown l.instances.keyed.keyed instance_forth instance_back
             a.instances;
-        groups = listed (0 ∷ 1 ∷ 2 ∷ 3 ∷ 4 ∷ []) (db.trees 6) rows.groups.items l.groups.shown l.groups.keyed.keyed
+        groups = listed (0 ∷ 1 ∷ 2 ∷ 3 ∷ 4 ∷ []) (rows_in db 6) rows.groups.items l.groups.shown l.groups.keyed.keyed
             group_forth group_back a.groups;
-        snapshots = listed (0 ∷ 0 ∷ 2 ∷ 3 ∷ []) (db.trees 8) rows.snapshots.items l.snapshots.shown
+        snapshots = listed (0 ∷ 0 ∷ 2 ∷ 3 ∷ []) (rows_in db 8) rows.snapshots.items l.snapshots.shown
             l.snapshots.keyed.keyed snapshot_forth snapshot_back a.snapshots;
-        launches = listed (0 ∷ 1 ∷ 2 ∷ []) (db.trees 9) rows.launches.items l.launches.shown l.launches.keyed.keyed
+        launches = listed (0 ∷ 1 ∷ 2 ∷ []) (rows_in db 9) rows.launches.items l.launches.shown l.launches.keyed.keyed
             launch_forth launch_back a.launches;
       };
       arranged = a.arranged;
@@ -176,24 +175,24 @@ module _ (db : Database) (rows : StoreRows) (h : Holdings) (has : IsStore db.sch
   stands_first a = record {
     schema = has;
     sound = sound;
-    counts = counted (db.trees 0) rows.counts.items l.counts.shown l.counts.keyed.keyed a.counts;
-    services = listed (0 ∷ 1 ∷ []) (db.trees 2) rows.services.items l.services.shown l.services.keyed.keyed
+    counts = counted (rows_in db 0) rows.counts.items l.counts.shown l.counts.keyed.keyed a.counts;
+    services = listed (0 ∷ 1 ∷ []) (rows_in db 2) rows.services.items l.services.shown l.services.keyed.keyed
         (λ x r s. s) (λ x r s. s) a.services;
     instances = listed (0 ∷ 0 ∷ 2 ∷ 3 ∷ 4 ∷ 5 ∷ 6 ∷ [])
-        (db.trees 4) rows.instances.items l.instances.shown l.instances.keyed.keyed instance_forth instance_back
+        (rows_in db 4) rows.instances.items l.instances.shown l.instances.keyed.keyed instance_forth instance_back
         a.instances;
-    groups = listed (0 ∷ 1 ∷ 2 ∷ 3 ∷ 4 ∷ []) (db.trees 6) rows.groups.items l.groups.shown l.groups.keyed.keyed
+    groups = listed (0 ∷ 1 ∷ 2 ∷ 3 ∷ 4 ∷ []) (rows_in db 6) rows.groups.items l.groups.shown l.groups.keyed.keyed
         group_forth group_back a.groups;
-    snapshots = listed (0 ∷ 0 ∷ 2 ∷ 3 ∷ []) (db.trees 8) rows.snapshots.items l.snapshots.shown
+    snapshots = listed (0 ∷ 0 ∷ 2 ∷ 3 ∷ []) (rows_in db 8) rows.snapshots.items l.snapshots.shown
         l.snapshots.keyed.keyed snapshot_forth snapshot_back a.snapshots;
-    launches = listed (0 ∷ 1 ∷ 2 ∷ []) (db.trees 9) rows.launches.items l.launches.shown l.launches.keyed.keyed
+    launches = listed (0 ∷ 1 ∷ 2 ∷ []) (rows_in db 9) rows.launches.items l.launches.shown l.launches.keyed.keyed
         launch_forth launch_back a.launches;
     arranged = a.arranged;
     numbered = a.numbered;
   }
 
 is_raised : (version : StoreVersion) (old mid new : Database) (rows : StoreRows) (h : Holdings)
-    → IsStore old.schema → IsDatabase old → AreListed rows old.trees → AreRead (rows_of version rows) h
+    → IsStore old.schema → IsDatabase old → AreListed rows (rows_in old) → AreRead (rows_of version rows) h
     → mid ≡ old → RaisesFrom version mid new → IsRaised old new h
 is_raised versions.First old mid new rows h has sound l a same r =
     let stands = stands_first old rows h has sound l a in
@@ -211,46 +210,51 @@ reads_raised old mid new rows version h l said a r =
       shows = shows_then old mid new l.shows (r.shows live);
       says = λ has sound. record { rows = rows; listed = l.listed has sound; said = said };
       raised = λ has sound. is_raised version old.now mid.now new.now rows h has sound (l.listed has sound) a
-          (l.same has) (r.raised (subst (λ (d : Database). IsStore d.schema) (sym (l.same has)) has));
+          (l.same has sound)
+          (r.raised (subst (λ (d : Database). IsStore d.schema) (sym (l.same has sound)) has));
     }
 
 -- ---- one look after another
 
-looks_on : {begun : Rest → Schema} {tree : ℕ} {places : List ℕ} {rows : List Row} (a b c : State)
-    → Begins begun a.now.schema → b.now ≡ a.now → IsDatabase a.now → Looks begun tree places b c rows
-    → AreShown places (a.now.trees tree) rows
-looks_on {begun} {tree} {places} {rows} a b c has is sound l =
-    subst (λ (d : Database). AreShown places (d.trees tree) rows) is
-    (l.seen (subst (λ (d : Database). Begins begun d.schema) (sym is) has) (subst IsDatabase (sym is) sound))
+looks_on : {kind : ℕ → Table} {tree : ℕ} {places : List ℕ} {rows : List Row} (a b c : State)
+    → StandsSomewhere a.now.schema kind → b.now ≡ a.now → IsDatabase a.now → Looks kind tree places b c rows
+    → AreShown places (rows_in a.now tree) rows
+looks_on {kind} {tree} {places} {rows} a b c has is sound l =
+    subst (λ (d : Database). AreShown places (rows_in d tree) rows) is
+    (l.seen (subst (λ (d : Database). StandsSomewhere d.schema kind) (sym is) has) (subst IsDatabase (sym is) sound))
 
-same_on : {begun : Rest → Schema} {tree : ℕ} {places : List ℕ} {rows : List Row} (a b c : State) → b.now ≡ a.now
-    → Looks begun tree places b c rows → Begins begun a.now.schema → c.now ≡ a.now
-same_on {begun} a b c is l has = l.same (subst (λ (d : Database). Begins begun d.schema) (sym is) has) ∙ is
+same_on : {kind : ℕ → Table} {tree : ℕ} {places : List ℕ} {rows : List Row} (a b c : State) → b.now ≡ a.now
+    → Looks kind tree places b c rows → StandsSomewhere a.now.schema kind → IsDatabase a.now → c.now ≡ a.now
+same_on {kind} a b c is l has sound =
+    l.same (subst (λ (d : Database). StandsSomewhere d.schema kind) (sym is) has) (subst IsDatabase (sym is) sound) ∙ is
 
 pub lists_all : (a b c d e f g : State) (rows : StoreRows) → AreAllKeyed rows → LooksAtMeta a b rows.counts.items
     → LooksAtServices b c rows.services.items
     → LooksAtInstances c d rows.instances.items → LooksAtGroups d e rows.groups.items
     → LooksAtSnapshots e f rows.snapshots.items → LooksAtLaunches f g rows.launches.items → Lists a g rows
 lists_all a b c d e f g rows keyed one two three four five six =
-    let o = of_store a.now.schema in
-    let sb : IsStore a.now.schema → b.now ≡ a.now = λ has. one.same (o has).one in
-    let sc : IsStore a.now.schema → c.now ≡ a.now = λ has. same_on a b c (sb has) two (o has).two in
-    let sd : IsStore a.now.schema → d.now ≡ a.now = λ has. same_on a c d (sc has) three (o has).three in
-    let se : IsStore a.now.schema → e.now ≡ a.now = λ has. same_on a d e (sd has) four (o has).four in
-    let sf : IsStore a.now.schema → f.now ≡ a.now = λ has. same_on a e f (se has) five (o has).five in
+    let sb : IsStore a.now.schema → IsDatabase a.now → b.now ≡ a.now = λ has ok. one.same has.meta ok in
+    let sc : IsStore a.now.schema → IsDatabase a.now → c.now ≡ a.now =
+    λ has ok. same_on a b c (sb has ok) two has.service ok in
+    let sd : IsStore a.now.schema → IsDatabase a.now → d.now ≡ a.now =
+    λ has ok. same_on a c d (sc has ok) three has.instance ok in
+    let se : IsStore a.now.schema → IsDatabase a.now → e.now ≡ a.now =
+    λ has ok. same_on a d e (sd has ok) four has.grp ok in
+    let sf : IsStore a.now.schema → IsDatabase a.now → f.now ≡ a.now =
+    λ has ok. same_on a e f (se has ok) five has.snap ok in
     record {
       shows = shows_then a f g
           (shows_then a e f
           (shows_then a d e (shows_then a c d (shows_then a b c one.shows two.shows) three.shows) four.shows)
           five.shows) six.shows;
-      same = λ has. same_on a f g (sf has) six (o has).six;
-      listed = λ has sound. record {
-        counts = record { shown = one.seen (o has).one sound; keyed = keyed.counts };
-        services = record { shown = looks_on a b c (o has).two (sb has) sound two; keyed = keyed.services };
-        instances = record { shown = looks_on a c d (o has).three (sc has) sound three; keyed = keyed.instances };
-        groups = record { shown = looks_on a d e (o has).four (sd has) sound four; keyed = keyed.groups };
-        snapshots = record { shown = looks_on a e f (o has).five (se has) sound five; keyed = keyed.snapshots };
-        launches = record { shown = looks_on a f g (o has).six (sf has) sound six; keyed = keyed.launches };
+      same = λ has ok. same_on a f g (sf has ok) six has.restarter ok;
+      listed = λ has ok. record {
+        counts = record { shown = one.seen has.meta ok; keyed = keyed.counts };
+        services = record { shown = looks_on a b c has.service (sb has ok) ok two; keyed = keyed.services };
+        instances = record { shown = looks_on a c d has.instance (sc has ok) ok three; keyed = keyed.instances };
+        groups = record { shown = looks_on a d e has.grp (sd has ok) ok four; keyed = keyed.groups };
+        snapshots = record { shown = looks_on a e f has.snap (se has ok) ok five; keyed = keyed.snapshots };
+        launches = record { shown = looks_on a f g has.restarter (sf has ok) ok six; keyed = keyed.launches };
       };
     }
 
@@ -382,7 +386,7 @@ module _ (old begun last : State) (h : Holdings) (now : begun.now ≡ old.now) (
       let it = subst (λ d. IsRaised old.now d h) (sym s.now_is) was_raised in
       record {
         is_open = s.is_open;
-        says = subst (λ (d : Database). Says d.trees (Ok h)) now (r.says has_six is_sound);
+        says = subst (λ (d : Database). Says (rows_in d) (Ok h)) now (r.says has_six is_sound);
         raised = it;
         keeps = record { stands = raised_stands old.now end.now h it; settled = s.committed_is ∙ sym s.now_is };
       }

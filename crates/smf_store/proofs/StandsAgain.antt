@@ -15,6 +15,7 @@ use Rattle.smf_store.specs.Judged.{holdings_within_limit, verdict_on_rows, table
 use Rattle.smf_store.specs.Shown.{Count, NextInstance}
 use Rattle.smf_store.specs.Stages.{AreListed}
 use Rattle.smf_store.specs.Unique.{unique}
+use Rattle.smf_tables.specs.Layout.{rows_in}
 use Rattle.smf_tables.specs.Scans.{AreShown, columns_at}
 use Rattle.smf_store.proofs.Counts.{first_read}
 use Rattle.smf_store.proofs.Recount.{are_counters, counters_again, own_counters, next_instance_in, same_count, version_again}
@@ -49,35 +50,35 @@ count_forth all rows seen l = record {
       (t.0, ap (λ z. column z 1) s.2 ∙ t.1, t.2);
 }
 
-pub read_second : (db : Database) (rows : StoreRows) (h : Holdings) → AreListed rows db.trees → Stands db h
+pub read_second : (db : Database) (rows : StoreRows) (h : Holdings) → AreListed rows (rows_in db) → Stands db h
     → AreRead (rows_of versions.Second rows) h
 read_second db rows h l s = record {
-  counts = count_forth (db.trees 0) rows.counts.items l.counts.shown s.holds.show.counts;
-  services = matches_of (0 ∷ 1 ∷ []) (db.trees 2) rows.services.items l.services.shown
+  counts = count_forth (rows_in db 0) rows.counts.items l.counts.shown s.holds.show.counts;
+  services = matches_of (0 ∷ 1 ∷ []) (rows_in db 2) rows.services.items l.services.shown
       (λ x r e. e) s.holds.show.services;
   instances = matches_of (0 ∷ 0 ∷ 2 ∷ 3 ∷ 4 ∷ 5 ∷ 6 ∷ [])
-      (db.trees 4) rows.instances.items l.instances.shown instance_forth s.holds.show.instances;
-  groups = matches_of (0 ∷ 1 ∷ 2 ∷ 3 ∷ 4 ∷ []) (db.trees 6) rows.groups.items l.groups.shown group_forth
+      (rows_in db 4) rows.instances.items l.instances.shown instance_forth s.holds.show.instances;
+  groups = matches_of (0 ∷ 1 ∷ 2 ∷ 3 ∷ 4 ∷ []) (rows_in db 6) rows.groups.items l.groups.shown group_forth
       s.holds.show.groups;
-  snapshots = matches_of (0 ∷ 0 ∷ 2 ∷ 3 ∷ []) (db.trees 8) rows.snapshots.items l.snapshots.shown snapshot_forth
+  snapshots = matches_of (0 ∷ 0 ∷ 2 ∷ 3 ∷ []) (rows_in db 8) rows.snapshots.items l.snapshots.shown snapshot_forth
       s.holds.show.snapshots;
-  launches = matches_of (0 ∷ 1 ∷ 2 ∷ []) (db.trees 9) rows.launches.items l.launches.shown launch_forth
+  launches = matches_of (0 ∷ 1 ∷ 2 ∷ []) (rows_in db 9) rows.launches.items l.launches.shown launch_forth
       s.holds.show.launches;
   arranged = s.holds.arranged;
   numbered = s.numbered;
 }
 
-pub read_first : (db : Database) (rows : StoreRows) (h : Holdings) → AreListed rows db.trees → StandsFirst db h
+pub read_first : (db : Database) (rows : StoreRows) (h : Holdings) → AreListed rows (rows_in db) → StandsFirst db h
     → AreRead (rows_of versions.First rows) h
 read_first db rows h l s = record {
-  counts = count_forth (db.trees 0) rows.counts.items l.counts.shown s.counts;
-  services = matches_of (0 ∷ 1 ∷ []) (db.trees 2) rows.services.items l.services.shown (λ x r e. e) s.services;
+  counts = count_forth (rows_in db 0) rows.counts.items l.counts.shown s.counts;
+  services = matches_of (0 ∷ 1 ∷ []) (rows_in db 2) rows.services.items l.services.shown (λ x r e. e) s.services;
   instances = matches_of (0 ∷ 0 ∷ 2 ∷ 3 ∷ 4 ∷ 5 ∷ 6 ∷ [])
-      (db.trees 4) rows.instances.items l.instances.shown instance_forth s.instances;
-  groups = matches_of (0 ∷ 1 ∷ 2 ∷ 3 ∷ 4 ∷ []) (db.trees 6) rows.groups.items l.groups.shown group_forth s.groups;
-  snapshots = matches_of (0 ∷ 0 ∷ 2 ∷ 3 ∷ []) (db.trees 8) rows.snapshots.items l.snapshots.shown snapshot_forth
+      (rows_in db 4) rows.instances.items l.instances.shown instance_forth s.instances;
+  groups = matches_of (0 ∷ 1 ∷ 2 ∷ 3 ∷ 4 ∷ []) (rows_in db 6) rows.groups.items l.groups.shown group_forth s.groups;
+  snapshots = matches_of (0 ∷ 0 ∷ 2 ∷ 3 ∷ []) (rows_in db 8) rows.snapshots.items l.snapshots.shown snapshot_forth
       s.snapshots;
-  launches = matches_of (0 ∷ 1 ∷ 2 ∷ []) (db.trees 9) rows.launches.items l.launches.shown launch_forth s.launches;
+  launches = matches_of (0 ∷ 1 ∷ 2 ∷ []) (rows_in db 9) rows.launches.items l.launches.shown launch_forth s.launches;
   arranged = s.arranged;
   numbered = s.numbered;
 }
@@ -122,7 +123,7 @@ module _ (version : StoreVersion) (h : Holdings) (rows : StoreRows) (a : AreRead
 -- ---- a store opens again
 
 -- a store of a value that commands make says this value, whatever the order of its rows
-pub stands_again : (db : Database) (rows : StoreRows) (h : Holdings) → AreListed rows db.trees → Stands db h
+pub stands_again : (db : Database) (rows : StoreRows) (h : Holdings) → AreListed rows (rows_in db) → Stands db h
     → IsConsistent h → verdict_on_rows rows ≡ Ok h
 stands_again db rows h l s c =
     let has = s.holds.schema.store in
@@ -131,7 +132,7 @@ stands_again db rows h l s c =
     k.1 ∙ ap Ok (unique db k.0 h (stands_second db rows k.0 has sound l k.2) s)
 
 -- and so does one of the first version
-pub first_again : (db : Database) (rows : StoreRows) (h : Holdings) → AreListed rows db.trees → StandsFirst db h
+pub first_again : (db : Database) (rows : StoreRows) (h : Holdings) → AreListed rows (rows_in db) → StandsFirst db h
     → IsConsistent h → (k : Holdings) × (verdict_on_rows rows ≡ Ok k)
 first_again db rows h l s c =
     let k = judged_again versions.First h rows (read_first db rows h l s) (are_sole db rows s.schema s.sound l) c in

@@ -9,6 +9,7 @@ use Rattle.sqlite.specs.Schema.{Schema}
 use Rattle.sqlite.specs.State.{State}
 use Rattle.sqlite_typed.specs.Tests.{bytes_cmp}
 use Rattle.sqlite_typed.proofs.TestLemmas.{same_bytes}
+use Rattle.smf_tables.specs.Layout.{rows_in}
 use Rattle.smf_tables.specs.Rows.{equal, is_picked}
 use Rattle.smf_tables.specs.Schema.{instance, snap}
 use Rattle.smf_tables.specs.Statements.{DropsMeta, AddsMeta, DropsService, AddsService, DropsInstance, DropsGroups, DropsSnapshots, DropsLaunch, AddsLaunch}
@@ -110,7 +111,7 @@ module _ {under : Schema} (old new : State) (m : Six) (p : Presents under old.no
       let t = d.turns p.schema.store p.sound p.counts.keyed in
       with_counts old.now new.now m p t (λ x. (x ≡ c) ⊎ m.counts x)
       (counts_gained p.counts
-      (Int (next_rowid (old.now.trees 0)) ∷ Text (counter_text c.counter) ∷ Int (pos c.value) ∷ []) t.rows c
+      (Int (next_rowid (rows_in old.now 0)) ∷ Text (counter_text c.counter) ∷ Int (pos c.value) ∷ []) t.rows c
       (record { counter_is = refl; value_is = refl }))
 
   pub drop_service : (key : List ℕ) → DropsService key old new
@@ -126,7 +127,7 @@ module _ {under : Schema} (old new : State) (m : Six) (p : Presents under old.no
   add_service name d =
       let t = d.turns p.schema.store p.sound p.services.keyed in
       with_services old.now new.now m p t (λ x. (x ≡ name) ⊎ m.services x)
-      (gained p.services (Int (next_rowid (old.now.trees 2)) ∷ Text name ∷ []) t.rows name refl)
+      (gained p.services (Int (next_rowid (rows_in old.now 2)) ∷ Text name ∷ []) t.rows name refl)
 
   pub drop_instance : (n : ℕ) → DropsInstance (pos n) old new
       → Presents under new.now (record m { instances = λ i. m.instances i × (i.number ≡ n → ⊥) })
@@ -193,5 +194,5 @@ module _ {under : Schema} (old new : State) (m : Six) (p : Presents under old.no
   add_launch l d =
       let t = d.turns p.schema.store p.sound p.launches.keyed in
       with_launches old.now new.now m p t (λ k. (k ≡ l) ⊎ m.launches k)
-      (gained p.launches (Int (next_rowid (old.now.trees 9)) ∷ Text l.restarter ∷ Int (pos l.count) ∷ []) t.rows l
+      (gained p.launches (Int (next_rowid (rows_in old.now 9)) ∷ Text l.restarter ∷ Int (pos l.count) ∷ []) t.rows l
       (record { restarter_is = refl; count_is = refl }))

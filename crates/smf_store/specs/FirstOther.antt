@@ -2,12 +2,12 @@
 use Rattle.std.specs.Prelude.{Bool, nat_lt, ℕ, Option, Some, None, if◌then◌else◌}
 use Rattle.sqlite.specs.Schema.{Schema}
 use Rattle.sqlite.specs.Table.{Table}
-use Rattle.smf_tables.specs.Layout.{StandsAlone}
+use Rattle.smf_tables.specs.Layout.{StandsSomewhere}
 use Rattle.smf_tables.specs.Schema as stored
 use Rattle.smf_store.specs.declared.refusal.StoreTable.{StoreTable}
 use Rattle.smf_store.specs.declared.refusal.StoreTable.TheVariants.{Meta, Service, Instance, Group, Snapshot, Restarter}
 
--- the places of the tables are their order
+-- the place of a table in the order of the six
 abbrev pub place_of : StoreTable → ℕ
 place_of Meta = 0
 place_of Service = 1
@@ -16,17 +16,18 @@ place_of Group = 3
 place_of Snapshot = 4
 place_of Restarter = 5
 
-abbrev pub table_of : StoreTable → Table
-table_of Meta = stored.meta
-table_of Service = stored.service
-table_of Instance = stored.instance
-table_of Group = stored.grp
-table_of Snapshot = stored.snap
-table_of Restarter = stored.restarter
+abbrev pub table_of : StoreTable → ℕ → Table
+table_of Meta = stored.meta_at
+table_of Service = stored.service_at
+table_of Instance = stored.instance_at
+table_of Group = stored.grp_at
+table_of Snapshot = stored.snap_at
+table_of Restarter = stored.restarter_at
 
--- the table is there, with its columns, keys and references, in its place, and no other has its tree
+-- the first table of its name is there, with its columns, keys and references, at whichever place, and no other has its
+-- tree
 abbrev pub IsThere : Schema → StoreTable → Type 0
-IsThere schema table = StandsAlone schema (place_of table) (table_of table)
+IsThere schema table = StandsSomewhere schema (table_of table)
 
 -- those before it are there
 abbrev pub AreBefore : Schema → StoreTable → Type 0
@@ -42,12 +43,12 @@ abbrev pub IsFirstOther : Schema → Option StoreTable → Type 0
 IsFirstOther schema None = AreBefore schema Restarter × IsThere schema Restarter
 IsFirstOther schema (Some other) = AreBefore schema other × (IsThere schema other → ⊥)
 
--- a table stands before the first that is absent or another, so that its rows are looked at
+-- a table comes before the first that is absent or another, so that its rows are looked at
 abbrev pub is_before : StoreTable → StoreTable → Bool
 is_before table other = nat_lt (place_of table) (place_of other)
 
--- the snapshots are read if they stand before the first that is absent or another. If that is the table of groups, they
--- are read too, if the first table of their name is as a store has it
+-- the snapshots are read if they come before the first that is absent or another. If that is the table of groups, they
+-- are read too, if their table is there
 abbrev pub reads_snapshots : StoreTable → Bool → Bool
 reads_snapshots Group are_there = are_there
 reads_snapshots other are_there = is_before Snapshot other

@@ -9,7 +9,7 @@ use Rattle.sqlite_rules.specs.Lists.{Has}
 use Rattle.smf_fmri.specs.ByKey.{Rises, lookup}
 use Rattle.smf_value.specs.Groups.{by_group}
 use Rattle.smf_tables.specs.Rows.{IsKeyed}
-use Rattle.smf_tables.specs.Layout.{IsStore}
+use Rattle.smf_tables.specs.Layout.{IsStore, rows_in}
 use Rattle.smf_model.specs.declared.held.InstanceEntry.{InstanceEntry}
 use Rattle.smf_model.specs.declared.held.Service.{Service}
 use Rattle.smf_model.specs.Contents.{Holdings}
@@ -56,7 +56,7 @@ pub record IsStoreUnder (s schema : Schema) : Type 0 where
 pub record HoldsUnder (s : Schema) (db : Database) (h : Holdings) : Type 0 where
   pub schema : IsStoreUnder s db.schema
   pub sound : IsDatabase db
-  pub show : Show db.trees h
+  pub show : Show (rows_in db) h
   pub arranged : IsArranged h
 
 abbrev pub Holds : Database → Holdings → Type 0
@@ -71,12 +71,12 @@ pub record Stands (db : Database) (h : Holdings) : Type 0 where
 pub record StandsFirst (db : Database) (h : Holdings) : Type 0 where
   pub schema : IsStore db.schema
   pub sound : IsDatabase db
-  pub counts : Counted (HasCountIn versions.First h) (db.trees 0)
-  pub services : Listed (HasService h) ShowsService (db.trees 2)
-  pub instances : Listed (HasInstance h) ShowsInstance (db.trees 4)
-  pub groups : Listed (HasGroup h) ShowsGroup (db.trees 6)
-  pub snapshots : Listed (HasSnapshot h) ShowsSnapshot (db.trees 8)
-  pub launches : Listed (HasLaunch h) ShowsLaunch (db.trees 9)
+  pub counts : Counted (HasCountIn versions.First h) (rows_in db 0)
+  pub services : Listed (HasService h) ShowsService (rows_in db 2)
+  pub instances : Listed (HasInstance h) ShowsInstance (rows_in db 4)
+  pub groups : Listed (HasGroup h) ShowsGroup (rows_in db 6)
+  pub snapshots : Listed (HasSnapshot h) ShowsSnapshot (rows_in db 8)
+  pub launches : Listed (HasLaunch h) ShowsLaunch (rows_in db 9)
   pub arranged : IsArranged h
   pub numbered : IsNumbered h
 

@@ -5,6 +5,7 @@ use Rattle.sqlite.specs.Held.{Held, state}
 use Rattle.sqlite.specs.State.{State, HasCleanDisk}
 use Rattle.sqlite.specs.Store.{Ghosts}
 use Rattle.sqlite.specs.Tree.{Trees}
+use Rattle.smf_tables.specs.Layout.{rows_in}
 use Rattle.smf_tables.specs.Schema.{no_schema, store_schema}
 use Rattle.smf_model.specs.Contents.{Holdings}
 use Rattle.smf_model.specs.Look.{empty}
@@ -16,7 +17,7 @@ use Rattle.smf_store.specs.Stages.{IsFailure, IsRaised, Says}
 -- the database was empty, and now it has the six tables, and nothing is held; or this value stood in it, and its rows say so
 pub data IsFoundIn (old new : State) (h : Holdings) : Type 0 where
   made : old.now.schema ≡ no_schema → new.now.schema ≡ store_schema → h ≡ empty → IsFoundIn old new h
-  read : IsRaised old.now new.now h → Says old.now.trees (Ok h) → IsFoundIn old new h
+  read : IsRaised old.now new.now h → Says (rows_in old.now) (Ok h) → IsFoundIn old new h
 
 -- a database is a store of this value, in either version
 pub data IsStoreOf (db : Database) (h : Holdings) : Type 0 where

@@ -4,7 +4,7 @@ use Rattle.sqlite.specs.Order.{Row}
 use Rattle.sqlite.specs.Tree.{Trees}
 use Rattle.sqlite.specs.Effect.{Database, IsDatabase}
 use Rattle.sqlite.specs.State.{State, Shows}
-use Rattle.smf_tables.specs.Layout.{IsStore, StandsNamed, StandsSomewhere}
+use Rattle.smf_tables.specs.Layout.{IsStore, StandsSomewhere, rows_in}
 use Rattle.smf_tables.specs.Scans.{AreShown}
 use Rattle.smf_tables.specs.Rows.{AreKeyed}
 use Rattle.smf_tables.specs.Schema.{snap_at}
@@ -39,26 +39,26 @@ abbrev pub ListedIf : Bool → ℕ → List ℕ → Trees → List Row → Type 
 ListedIf true tree places trees rows = IsListed tree places trees rows
 ListedIf false tree places trees rows = rows ≡ []
 
--- the rows of the first table that has the name of that of snapshots, if it is one, and else none
+-- the rows of the table of snapshots, if it is there, and else none
 pub record AreLookedFor (db : Database) (rows : List Row) : Type 0 where
-  pub listed : (tree : ℕ) → StandsNamed db.schema (snap_at tree) → IsListed tree (0 ∷ 0 ∷ 2 ∷ 3 ∷ []) db.trees rows
+  pub listed : StandsSomewhere db.schema snap_at → IsListed 8 (0 ∷ 0 ∷ 2 ∷ 3 ∷ []) (rows_in db) rows
   pub none : (StandsSomewhere db.schema snap_at → ⊥) → rows ≡ []
 
--- the rows of the snapshots, which show the snapshots that are there. If the table of groups, which stands before them,
--- is absent or another, they are looked for by their table's name
+-- the rows of the snapshots, which show the snapshots that are there. If the table of groups, which comes before them, is
+-- absent or another, they are looked for all the same
 abbrev pub AreSnapshots : StoreTable → Database → List Row → Type 0
 AreSnapshots tables.Group db rows = AreLookedFor db rows
-AreSnapshots other db rows = ListedIf (is_before tables.Snapshot other) 8 (0 ∷ 0 ∷ 2 ∷ 3 ∷ []) db.trees rows
+AreSnapshots other db rows = ListedIf (is_before tables.Snapshot other) 8 (0 ∷ 0 ∷ 2 ∷ 3 ∷ []) (rows_in db) rows
 
 -- these are the rows of the tables before the first that is absent or another
 pub record AreListedBefore (other : StoreTable) (rows : StoreRows) (db : Database) : Type 0 where
-  pub counts : ListedIf (is_before tables.Meta other) 0 (0 ∷ 1 ∷ 2 ∷ []) db.trees rows.counts.items
-  pub services : ListedIf (is_before tables.Service other) 2 (0 ∷ 1 ∷ []) db.trees rows.services.items
+  pub counts : ListedIf (is_before tables.Meta other) 0 (0 ∷ 1 ∷ 2 ∷ []) (rows_in db) rows.counts.items
+  pub services : ListedIf (is_before tables.Service other) 2 (0 ∷ 1 ∷ []) (rows_in db) rows.services.items
   pub instances : ListedIf (is_before tables.Instance other) 4
-      (0 ∷ 0 ∷ 2 ∷ 3 ∷ 4 ∷ 5 ∷ 6 ∷ []) db.trees rows.instances.items
-  pub groups : ListedIf (is_before tables.Group other) 6 (0 ∷ 1 ∷ 2 ∷ 3 ∷ 4 ∷ []) db.trees rows.groups.items
+      (0 ∷ 0 ∷ 2 ∷ 3 ∷ 4 ∷ 5 ∷ 6 ∷ []) (rows_in db) rows.instances.items
+  pub groups : ListedIf (is_before tables.Group other) 6 (0 ∷ 1 ∷ 2 ∷ 3 ∷ 4 ∷ []) (rows_in db) rows.groups.items
   pub snapshots : AreSnapshots other db rows.snapshots.items
-  -- no table stands behind that of the launches, so its rows are not looked at
+  -- no table comes after that of the launches, so its rows are not looked at
   pub launches : rows.launches.items ≡ []
 
 -- a table was looked at, or it was not
@@ -77,8 +77,8 @@ pub record AreAllKeyed (rows : StoreRows) : Type 0 where
 -- the database was looked at, and stays
 pub record Lists (old new : State) (rows : StoreRows) : Type 0 where
   pub shows : Shows old new new.now old.committed true
-  pub same : IsStore old.now.schema → new.now ≡ old.now
-  pub listed : IsStore old.now.schema → IsDatabase old.now → AreListed rows old.now.trees
+  pub same : IsStore old.now.schema → IsDatabase old.now → new.now ≡ old.now
+  pub listed : IsStore old.now.schema → IsDatabase old.now → AreListed rows (rows_in old.now)
 
 -- a fault that says nothing of the store
 abbrev pub IsFailure : OpenFault → Type 0
@@ -119,7 +119,7 @@ IsOther db e = (other : StoreTable) × IsFirstOther db.schema (Some other) × Sa
 -- a fault that names a table or a version. The table is the first, in their order, that is absent, or another, or has a
 -- row that breaks a rule
 abbrev pub IsRefused : Database → OpenFault → Type 0
-IsRefused db e = IsFailure e ⊎ (IsOther db e ⊎ (IsStore db.schema × IsSaid db.trees e))
+IsRefused db e = IsFailure e ⊎ (IsOther db e ⊎ (IsStore db.schema × IsSaid (rows_in db) e))
 
 -- a store of the second version stays; one of the first is made one of the second, which holds the same under the same
 -- schema
@@ -140,13 +140,13 @@ pub record Raises (version : StoreVersion) (old new : State) : Type 0 where
 -- the same, and what the tables hold was read
 pub record Reads (old new : State) (h : Holdings) : Type 0 where
   pub shows : Shows old new new.now old.committed true
-  pub says : IsStore old.now.schema → IsDatabase old.now → Says old.now.trees (Ok h)
+  pub says : IsStore old.now.schema → IsDatabase old.now → Says (rows_in old.now) (Ok h)
   pub raised : IsStore old.now.schema → IsDatabase old.now → IsRaised old.now new.now h
 
 -- the store holds what its rows said, and nothing waits to be committed
 pub record Opened (old new : State) (h : Holdings) : Type 0 where
   pub is_open : IsTrue new.is_open
-  pub says : Says old.now.trees (Ok h)
+  pub says : Says (rows_in old.now) (Ok h)
   pub raised : IsRaised old.now new.now h
   pub keeps : Keeps new h
 

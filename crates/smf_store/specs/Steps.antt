@@ -9,7 +9,7 @@ use Rattle.sqlite.specs.State.{State, Shows, KeepsCommit}
 use Rattle.sqlite_rules.specs.Lists.{Has}
 use Rattle.smf_value.specs.Groups.{GroupRecord}
 use Rattle.smf_tables.specs.Rows.{IsKeyed, Alters, Gains, Turns}
-use Rattle.smf_tables.specs.Layout.{IsStore}
+use Rattle.smf_tables.specs.Layout.{IsStore, rows_in}
 use Rattle.smf_tables.specs.Schema.{grp}
 use Rattle.smf_model.specs.declared.change.Change.{Change}
 use Rattle.smf_model.specs.Contents.{Holdings}
@@ -31,7 +31,7 @@ pub record Grows (service : List ℕ) (number : ℕ) (gs : List GroupRecord) (ol
 -- inside a transaction, if the six tables are there
 pub record GrowsAll (service : List ℕ) (number : ℕ) (gs : List GroupRecord) (old new : State) : Type 0 where
   pub shows : Shows old new new.now old.committed true
-  pub turns : IsStore old.now.schema → IsDatabase old.now → IsKeyed (old.now.trees grp.tree)
+  pub turns : IsStore old.now.schema → IsDatabase old.now → IsKeyed (rows_in old.now grp.tree)
       → Turns (Grows service number gs) grp old.now new.now
 
 -- if the store is open; for no group nothing is asked of it

@@ -7,6 +7,8 @@ use Rattle.sqlite.specs.Schema.{Schema}
 use Rattle.sqlite.specs.Tree.{Trees}
 use Rattle.sqlite.specs.Effect.{Database}
 use Rattle.sqlite.specs.State.{State}
+use Rattle.smf_tables.specs.Layout.{rows_in}
+use Rattle.smf_tables.proofs.OneList.{one_list_of_rows}
 use Rattle.smf_fmri.specs.ByKey.{By, Rises, lookup}
 use Rattle.smf_fmri.specs.Patterns.{service_of}
 use Rattle.smf_fmri.specs.Name.{short}
@@ -298,16 +300,18 @@ name_goes is js names others same a b name e f =
 pub unique_in : (trees : Trees) (one two : Schema) (h k : Holdings)
     → Stands (record { schema = one; trees = trees }) h → Stands (record { schema = two; trees = trees }) k → h ≡ k
 unique_in trees one two h k s t =
+    let rows = rows_in (record { schema = one; trees = trees }) in
     let p = s.holds.show in
-    let q = t.holds.show in
+    let q : Show rows k = subst (λ (r : Trees). Show r k)
+    (sym (one_list_of_rows trees one two s.holds.sound t.holds.sound)) t.holds.show in
     let a = s.holds.arranged in
     let b = t.holds.arranged in
     let services =
     one_list by_service h.services k.services a.ordered.services b.ordered.services
-    (service_goes trees h k p q a b) (service_goes trees k h q p b a) in
+    (service_goes rows h k p q a b) (service_goes rows k h q p b a) in
     let instances =
     one_list by_entry h.instances k.instances a.ordered.instances b.ordered.instances
-    (entry_goes trees h k p q a b) (entry_goes trees k h q p b a) in
+    (entry_goes rows h k p q a b) (entry_goes rows k h q p b a) in
     let bares : bare h.instances ≡ bare k.instances = ap bare instances in
     let names = one_list by_name h.names k.names a.ordered.names b.ordered.names
     (name_goes (bare h.instances) (bare k.instances) h.names k.names bares s.numbered.indexed t.numbered.indexed)
@@ -315,13 +319,13 @@ unique_in trees one two h k s t =
     (sym bares) t.numbered.indexed s.numbered.indexed) in
     let snapshots =
     one_list by_snapshot h.snapshots k.snapshots a.ordered.snapshots b.ordered.snapshots
-    (snapshot_goes trees h k p q a b) (snapshot_goes trees k h q p b a) in
+    (snapshot_goes rows h k p q a b) (snapshot_goes rows k h q p b a) in
     let launches =
     one_list by_launch h.launches k.launches a.ordered.launches b.ordered.launches
-    (launch_goes trees h k p q a b) (launch_goes trees k h q p b a) in
-    let revision : h.revision ≡ k.revision = counts trees h k p q a b Revision in
-    let next_instance : h.next_instance ≡ k.next_instance = counts trees h k p q a b NextInstance in
-    let next_snapshot : h.next_snapshot ≡ k.next_snapshot = counts trees h k p q a b NextSnapshot in
+    (launch_goes rows h k p q a b) (launch_goes rows k h q p b a) in
+    let revision : h.revision ≡ k.revision = counts rows h k p q a b Revision in
+    let next_instance : h.next_instance ≡ k.next_instance = counts rows h k p q a b NextInstance in
+    let next_snapshot : h.next_snapshot ≡ k.next_snapshot = counts rows h k p q a b NextSnapshot in
     λ j. record {
       revision = revision j;
       services = services j;

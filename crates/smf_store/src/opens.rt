@@ -4,7 +4,7 @@ ghost use Rattle.sqlite.specs.State.{HasCleanDisk, IsLive, KeepsCommit};
 ghost use Rattle.smf_model.specs.Laws.{IsNumbered};
 ghost use Rattle.smf_tables.specs.Calls.{CommitsNone, Does, IsInside, LeavesAsBefore};
 ghost use Rattle.smf_tables.specs.Calls.{Finds as Gives};
-ghost use Rattle.smf_tables.specs.Layout.{IsStore, StandsSomewhere};
+ghost use Rattle.smf_tables.specs.Layout.{IsStore, StandsSomewhere, rows_in};
 ghost use Rattle.smf_tables.specs.Schema.{snap_at};
 ghost use Rattle.smf_store.specs.Agreement.{AreLaunched, NameOwn};
 ghost use Rattle.smf_store.specs.Ends.{Fails, LeavesOr};
@@ -20,7 +20,7 @@ use crate::refusal::{OpenFault, StoreTable};
 use smf_model::Tables;
 use smf_tables::{
     add_meta, drop_meta, has_grp_table, has_instance_table, has_meta_table, has_restarter_table,
-    has_service_table, has_snap_table, has_snapshots,
+    has_service_table, has_snap_table,
 };
 use sqlite::{Alter, Connection, Transaction};
 use sqlite_schema::schema::Schema;
@@ -66,7 +66,7 @@ fn read_raised<S: Alter>(alloc: Global, tx: &mut Transaction<'_, S>) -> Result<T
     ensures crash { LeavesAsBefore S.Store tx.old.conn.now tx.new.conn.now }
     ensures said { HasCleanDisk (state S.Store tx.new.conn.now)
         → IsStore (state S.Store tx.old.conn.now).now.schema → IsLive (state S.Store tx.old.conn.now)
-        → IfErr result (IsSaid (state S.Store tx.old.conn.now).now.trees) }
+        → IfErr result (IsSaid (rows_in (state S.Store tx.old.conn.now).now)) }
     ensures numbered { IfOk result (λ h. IsNumbered h) }
     ensures named { IfOk result (λ h. NameOwn h) }
     ensures launched { IfOk result (λ h. AreLaunched h) }
@@ -143,7 +143,7 @@ fn refuse<S: Alter>(alloc: Global, conn: &mut Connection<S>, other: StoreTable) 
     ensures refused { HasCleanDisk (state S.Store conn.new) → IsRefused (state S.Store conn.old).now result }
     ensures crash { LeavesAsBefore S.Store conn.old conn.new }
 {
-    let are_there = has_snapshots(conn.schema());
+    let are_there = has_snap_table(conn.schema());
     let mut tx = conn.transaction();
     find_fault(alloc, &mut tx, other, are_there)
 }

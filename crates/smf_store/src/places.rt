@@ -17,15 +17,15 @@ fn place_of(table: StoreTable) -> usize
     }
 }
 
-/// True if a table stands before the first that is absent or another.
+/// True if a table comes before the first that is absent or another.
 pub(crate) fn is_before(table: StoreTable, other: StoreTable) -> bool
     ensures { result ≡ is_before table other }
 {
     place_of(table) < place_of(other)
 }
 
-/// True if the snapshots are read: they stand before the first table that is absent or another. If that is the table of
-/// groups, they are read too, if the first table of their name is as a store has it.
+/// True if the snapshots are read: they come before the first table that is absent or another. If that is the table of
+/// groups, they are read too, if their table is there.
 pub(crate) fn reads_snapshots(other: StoreTable, are_there: bool) -> bool
     ensures { result ≡ reads_snapshots other are_there }
 {

@@ -4,7 +4,7 @@ ghost use Rattle.sqlite.specs.State.{HasCleanDisk, IsLive, KeepsCommit};
 ghost use Rattle.smf_tables.specs.Calls.{CommitsNone, IsInside, LeavesAsBefore};
 ghost use Rattle.smf_tables.specs.Calls.{Finds as Reads};
 ghost use Rattle.smf_tables.specs.Layout.{StandsSomewhere};
-ghost use Rattle.smf_tables.specs.Scans.{LooksAtGroups, LooksAtInstances, LooksAtMeta, LooksAtServices, LooksAtSnapshots, LooksForSnapshots};
+ghost use Rattle.smf_tables.specs.Scans.{LooksAtGroups, LooksAtInstances, LooksAtMeta, LooksAtServices, LooksAtSnapshots};
 ghost use Rattle.smf_tables.specs.Schema.{snap_at};
 ghost use Rattle.smf_store.specs.FirstOther.{IsFirstOther, is_before, reads_snapshots};
 ghost use Rattle.smf_store.specs.Stages.{AreAllKeyed, AreListedBefore, IsFailure, Lists, LooksIf};
@@ -154,9 +154,6 @@ fn snapshots_if<S: Alter>(
     requires { IsInside S.Store tx.old.conn.now }
     ensures same_reference { tx.new.conn.ghost_name ≡ tx.old.conn.ghost_name }
     ensures ok { Reads (λ old new rows. LooksIf looks LooksAtSnapshots old new rows.items) S.Store tx.old.conn.now
-        tx.new.conn.now result }
-    // Also if the tables before it are others than those of a store.
-    ensures named { Reads (λ old new rows. LooksIf looks LooksForSnapshots old new rows.items) S.Store tx.old.conn.now
         tx.new.conn.now result }
     ensures kept { HasCleanDisk (state S.Store tx.new.conn.now)
         → KeepsCommit (state S.Store tx.old.conn.now) (state S.Store tx.new.conn.now) }

@@ -24,11 +24,9 @@ use Rattle.sqlite_rules.specs.Calls.{ids_of}
 use Rattle.sqlite_rules.specs.Lists.{Has}
 use Rattle.sqlite_rules.proofs.TableLemmas.{int_is, without_all_has, put_has, has_put, put_all_keeps}
 use Rattle.sqlite_schema.specs.declared.schema.Keys.{Keys}
-use Rattle.smf_tables.specs.Schema.{store_schema}
 use Rattle.smf_tables.proofs.Actions.{Settled}
 use Rattle.smf_tables.proofs.Answers.{rows_query, AreShown, are_shown}
 use Rattle.smf_tables.proofs.Rowids.{none_left, stays_left, has_any}
-use Rattle.std.specs.List.{AllByRecursion}
 use Rattle.smf_tables.specs.Rows.{IsKeyed, Loses, Gains, SameColumns, is_picked}
 
 -- a part that gave a value did not stop on the way
@@ -125,12 +123,12 @@ gains rows new keyed int fresh =
     }
 
 -- DELETE FROM the table WHERE the filter, as the command that its text compiles to
-module _ (limit : Option ℕ) (keys : Keys) (schema : Schema) (table : Table) (params : Row) (settles : (db next : Trees) (edit : Edit) → edit.table ≡ table → Writes schema keys db edit (Ok next) → Settled db edit next) where
+module _ (limit : Option ℕ) (keys : Keys) (schema : Schema) (six : List Table) (table : Table) (params : Row) (settles : (db next : Trees) (edit : Edit) → edit.table ≡ table → Writes schema keys db edit (Ok next) → Settled six db edit next) where
   abbrev pub task : Task
   task = record { limit = limit; keys = keys; schema = schema; table = table; params = params }
 
   abbrev pub Spares : Trees → Trees → Type 0
-  Spares old new = AllByRecursion (λ t. t.tree ≢ table.tree → new t.tree ≡ old t.tree) store_schema.tables
+  Spares old new = (t : Table) → Has six t → t.tree ≢ table.tree → new t.tree ≡ old t.tree
 
   pub deletes : (db : Trees) (filter : List Term) (w : Written) → LooksAtColumns filter params
       → IsKeyed (db table.tree)

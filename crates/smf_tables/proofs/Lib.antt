@@ -12,4 +12,5 @@ pub mod Named
 pub mod Wide
 pub mod Rowed
 pub mod Sizes
-pub mod Begun
+pub mod Alone
+pub mod OneList

@@ -5,21 +5,25 @@ use Rattle.sqlite.specs.declared.types.Value.TheVariants.{Null, Int, Text}
 use Rattle.sqlite.specs.Order.{Row, column}
 use Rattle.sqlite.specs.Command.TheVariants.{Select}
 use Rattle.sqlite.specs.Program.{overlay}
-use Rattle.sqlite.specs.Schema.{Schema}
 use Rattle.sqlite.specs.Term.{Term, col}
-use Rattle.sqlite.specs.Listing.{understood, reads_listing}
+use Rattle.sqlite.specs.Listing.{understood}
 use Rattle.sqlite.specs.declared.error.Error.{Error}
 use Rattle.sqlite_schema.specs.declared.command.Returning.{Returning}
 use Rattle.sqlite_resolve.specs.declared.compiled.Compiled.{Compiled}
 use Rattle.sqlite.specs.State.{State, Shown, Shows, ShowsRows, IsUnchanged, IsRolledBack, KeepsCommit, RunsCommand, FailsToShow, FailsToQuery, IsNotRun, IsTooLate}
-use Rattle.sqlite.proofs.Callers.{IsPlain, command_of, reads_as}
+use Rattle.sqlite.proofs.Callers.{IsPlain, reads_as}
 use Rattle.sqlite_rules.specs.Lists.{Has}
 use Rattle.sqlite_rules.proofs.ListLemmas.{has_at}
 use Rattle.smf_tables.specs.declared.lookups.NameColumns.{NameColumns}
 use Rattle.smf_tables.specs.Rows.{equal, is_picked}
 use Rattle.smf_tables.specs.Statements.{ReadsName, FindsService}
-use Rattle.smf_tables.proofs.Answers.{ordered_query, AreShown, are_shown}
-use Rattle.smf_tables.proofs.Begun.{of_store}
+use Rattle.sqlite.specs.Effect.{IsDatabase}
+use Rattle.sqlite.specs.Table.{Table}
+use Rattle.smf_tables.specs.Layout.{IsStore, StandsSomewhere, name_of_tree, rows_in}
+use Rattle.smf_tables.specs.Schema.{instance_at, service_at}
+use Rattle.smf_tables.proofs.Alone.{is_found, rows_at}
+use Rattle.smf_tables.proofs.Answers.{ordered_query, rows_query, AreShown, are_shown}
+use Rattle.smf_tables.proofs.Named.{IsFound, Means}
 use Rattle.smf_tables.proofs.Changes.{no_tables}
 use Rattle.smf_tables.proofs.Texts
 
@@ -82,28 +86,24 @@ unchanged text params old new rows plain h =
     let it = rw (bare.0) at h.2 in
     it.3
 
-module _ {schema : Schema} (text : List ℕ) (params : Row) (old new : State) (order : List (Term × Key)) (tree : ℕ) (tests shown : List Term) (names : List (List ℕ))
-    (is : command_of (understood schema text)
-    ≡ Select (record { lets = []; body = ordered_query order tree tests shown }) names)
-    (plain : IsPlain (understood schema text)) (unlisted : reads_listing schema text ≡ false)
-    (has : old.now.schema ≡ schema) where
+module _ (text : List ℕ) (params : Row) (old new : State) (order : List (Term × Key)) (tree : ℕ) (tests shown : List Term) (names : List (List ℕ))
+    (means : Means old.now.schema text (Select (record { lets = []; body = ordered_query order tree tests shown }) names)) where
   -- the rows that pass are shown, and no other
-  pub shows_rows : (rows : List Row) → Shown text params old new rows
-      → AreShown old.now.trees tree tests shown params rows
-  shows_rows rows seen =
+  pub shows_rows : (rows all : List Row) → all ≡ old.now.trees tree → Shown text params old new rows
+      → AreShown (λ _. all) tree tests shown params rows
+  shows_rows rows all is seen =
       let it = are_shown (overlay old.now.trees []) order tree tests shown params rows
-      ((reads_as text params old new schema has
-      (Select (record { lets = []; body = ordered_query order tree tests shown }) names) is plain unlisted rows
-      seen).answer Null) in
-      let same = no_tables old.now.trees tree in
+      ((reads_as text params old new old.now.schema refl
+      (Select (record { lets = []; body = ordered_query order tree tests shown }) names) means.is means.plain
+      means.unlisted rows seen).answer Null) in
+      let same = no_tables old.now.trees tree ∙ sym is in
       record {
         sound = λ x h. let s = it.sound x h in (s.0, subst (λ l. Has l s.0) same s.1, s.2, s.3);
         complete = λ r h passes. it.complete r (subst (λ l. Has l r) (sym same) h) passes;
       }
 
   pub same_database : (rows : List Row) → Shown text params old new rows → new.now ≡ old.now
-  same_database rows seen =
-      (unchanged text params old new rows (subst (λ s. IsPlain (understood s text)) (sym has) plain) seen).0.now_is
+  same_database rows seen = (unchanged text params old new rows means.plain seen).0.now_is
 
 pub first_is : {X : Type 0} (rows : List X) (x : X) → 0 < length rows → x ≡ get_or rows 0 x → Has rows x
 first_is rows x within is = has_at rows 0 x within is
@@ -120,20 +120,43 @@ fails_unless : (b : Bool) → (b ≡ true → ⊥) → b ≡ false
 fails_unless true away = absurd (away refl)
 fails_unless false away = refl
 
+-- a table of a store, as a query finds it
+module _ (old : State) (kind : ℕ → Table) (tree : ℕ) (trees : (n : ℕ) → (kind n).tree ≡ n) (named : (n : ℕ) → name_of_tree tree ≡ (kind n).name) (some : StandsSomewhere old.now.schema kind) (sound : IsDatabase old.now) where
+  pub its_place : IsFound old.now.schema (kind some.0)
+  its_place = is_found old.now (kind some.0) some.1 sound
+
+  pub its_rows : rows_in old.now tree ≡ old.now.trees some.0
+  its_rows = rows_at old.now tree (kind some.0) (named some.0) some.1 ∙ ap old.now.trees (trees some.0)
+
 module _ (old new : State) (rows : List Row) (on : IsTrue old.in_transaction) where
+  name_means : (store : IsStore old.now.schema) → IsDatabase old.now
+      → Means old.now.schema Texts.name_of
+      (Select (record { lets = []; body = rows_query store.instance.0 (equal 0 0 ∷ []) (col 1 2 ∷ col 1 3 ∷ []) })
+      (codes "service" ∷ codes "name" ∷ []))
+  name_means store sound =
+      Texts.name_of_means old.now.schema store.instance.0
+      (its_place old instance_at 4 (λ n. refl) (λ n. refl) store.instance sound)
+
+  named_rows : (store : IsStore old.now.schema) → IsDatabase old.now → (id : ℤ)
+      → Shown Texts.name_of (Int id ∷ []) old new rows
+      → AreShown (λ _. rows_in old.now 4) store.instance.0 (equal 0 0 ∷ []) (col 1 2 ∷ col 1 3 ∷ []) (Int id ∷ []) rows
+  named_rows store sound id seen =
+      shows_rows Texts.name_of (Int id ∷ []) old new [] store.instance.0 (equal 0 0 ∷ []) (col 1 2 ∷ col 1 3 ∷ [])
+      (codes "service" ∷ codes "name" ∷ []) (name_means store sound) rows (rows_in old.now 4)
+      (its_rows old instance_at 4 (λ n. refl) (λ n. refl) store.instance sound) seen
+
+  name_same : (store : IsStore old.now.schema) → IsDatabase old.now → (id : ℤ)
+      → Shown Texts.name_of (Int id ∷ []) old new rows → new.now ≡ old.now
+  name_same store sound id seen =
+      same_database Texts.name_of (Int id ∷ []) old new [] store.instance.0 (equal 0 0 ∷ []) (col 1 2 ∷ col 1 3 ∷ [])
+      (codes "service" ∷ codes "name" ∷ []) (name_means store sound) rows seen
+
   pub no_name : (id : ℤ) → length rows ≡ 0 → Shown Texts.name_of (Int id ∷ []) old new rows → ReadsName id old new None
   no_name id none seen = record {
     shows = shown_inside Texts.name_of (Int id ∷ []) old new rows on seen;
-    same = λ store. let b = of_store old.now.schema store in
-        same_database Texts.name_of (Int id ∷ []) old new [] 4 (equal 0 0 ∷ []) (col 1 2 ∷ col 1 3 ∷ [])
-        (codes "service" ∷ codes "name" ∷ []) (Texts.name_of_is b.rest) (Texts.name_of_plain b.rest)
-        (Texts.name_of_unlisted b.rest) b.is rows seen;
-    seen = λ store.
-        let b = of_store old.now.schema store in
-        let all = shows_rows Texts.name_of (Int id ∷ []) old new [] 4 (equal 0 0 ∷ []) (col 1 2 ∷ col 1 3 ∷ [])
-        (codes "service" ∷ codes "name" ∷ []) (Texts.name_of_is b.rest) (Texts.name_of_plain b.rest)
-        (Texts.name_of_unlisted b.rest) b.is rows
-        seen in (
+    same = λ store sound. name_same store sound id seen;
+    seen = λ store sound.
+        let all = named_rows store sound id seen in (
           tt,
           λ r there. fails_unless (is_picked (equal 0 0 ∷ []) (Int id ∷ []) r)
               (λ passes. none_in rows none _ (all.complete r there passes)),
@@ -145,17 +168,9 @@ module _ (old new : State) (rows : List Row) (on : IsTrue old.in_transaction) wh
       → Shown Texts.name_of (Int id ∷ []) old new rows → ReadsName id old new (Some it)
   reads_name id it x there service name seen = record {
     shows = shown_inside Texts.name_of (Int id ∷ []) old new rows on seen;
-    same = λ store. let b = of_store old.now.schema store in
-        same_database Texts.name_of (Int id ∷ []) old new [] 4 (equal 0 0 ∷ []) (col 1 2 ∷ col 1 3 ∷ [])
-        (codes "service" ∷ codes "name" ∷ []) (Texts.name_of_is b.rest) (Texts.name_of_plain b.rest)
-        (Texts.name_of_unlisted b.rest) b.is rows seen;
-    seen = λ store.
-        let b = of_store old.now.schema store in
-        let all = shows_rows Texts.name_of (Int id ∷ []) old new [] 4 (equal 0 0 ∷ []) (col 1 2 ∷ col 1 3 ∷ [])
-        (codes "service" ∷ codes "name" ∷ []) (Texts.name_of_is b.rest) (Texts.name_of_plain b.rest)
-        (Texts.name_of_unlisted b.rest) b.is rows
-        seen in
-        let s = all.sound x there in (
+    same = λ store sound. name_same store sound id seen;
+    seen = λ store sound.
+        let s = (named_rows store sound id seen).sound x there in (
           record {
             row = s.0;
             there = s.1;
@@ -166,20 +181,26 @@ module _ (old new : State) (rows : List Row) (on : IsTrue old.in_transaction) wh
         );
   }
 
+  service_means : (store : IsStore old.now.schema) → IsDatabase old.now
+      → Means old.now.schema Texts.has_service
+      (Select (record { lets = []; body = rows_query store.service.0 (equal 1 0 ∷ []) (col 1 1 ∷ []) })
+      (codes "name" ∷ []))
+  service_means store sound =
+      Texts.has_service_means old.now.schema store.service.0
+      (its_place old service_at 2 (λ n. refl) (λ n. refl) store.service sound)
+
   pub finds_service : (name : List ℕ) (found : Bool) → (IsTrue found → 0 < length rows)
       → Shown Texts.has_service (Text name ∷ []) old new rows → FindsService name old new found
   finds_service name found some seen = record {
     shows = shown_inside Texts.has_service (Text name ∷ []) old new rows on seen;
-    same = λ store. let b = of_store old.now.schema store in
-        same_database Texts.has_service (Text name ∷ []) old new [] 2 (equal 1 0 ∷ []) (col 1 1 ∷ [])
-        (codes "name" ∷ []) (Texts.has_service_is b.rest) (Texts.has_service_plain b.rest)
-        (Texts.has_service_unlisted b.rest) b.is rows seen;
-    seen = λ store is.
-        let b = of_store old.now.schema store in
+    same = λ store sound.
+        same_database Texts.has_service (Text name ∷ []) old new [] store.service.0 (equal 1 0 ∷ []) (col 1 1 ∷ [])
+        (codes "name" ∷ []) (service_means store sound) rows seen;
+    seen = λ store sound is.
         let x = some_in rows (some is) in
-        let all = shows_rows Texts.has_service (Text name ∷ []) old new [] 2 (equal 1 0 ∷ []) (col 1 1 ∷ [])
-        (codes "name" ∷ []) (Texts.has_service_is b.rest) (Texts.has_service_plain b.rest)
-        (Texts.has_service_unlisted b.rest) b.is rows seen in
+        let all = shows_rows Texts.has_service (Text name ∷ []) old new [] store.service.0 (equal 1 0 ∷ [])
+        (col 1 1 ∷ []) (codes "name" ∷ []) (service_means store sound) rows (rows_in old.now 2)
+        (its_rows old service_at 2 (λ n. refl) (λ n. refl) store.service sound) seen in
         let s = all.sound x.0 x.1 in
         record { row = s.0; there = s.1; picked = s.2; shows = tt };
   }

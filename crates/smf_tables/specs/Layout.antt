@@ -1,13 +1,13 @@
 -- When a table of a schema is one of the six.
-use Rattle.std.specs.Prelude.{◌≡◌, ◌==◌, ℕ, List, [], ◌∷◌, codes, filter, length, position, Option, Some, false}
+use Rattle.std.specs.Prelude.{◌≡◌, ◌==◌, ℕ, List, [], ◌∷◌, codes, filter, find, length, Option, Some, false, option_and_then, option_map, unwrap_or}
 use Rattle.std.specs.List.{slice_get}
 use Rattle.sqlite_value.specs.Keys.{plain}
-use Rattle.sqlite_schema.specs.declared.schema.Index.{Index}
 use Rattle.sqlite_schema.specs.declared.schema.Action.TheVariants.{NoAction}
 use Rattle.sqlite_schema.specs.declared.schema.Reference.{Reference}
 use Rattle.sqlite.specs.Schema.{Schema}
 use Rattle.sqlite.specs.Table.{Table}
-use Rattle.sqlite_schema.specs.declared.schema.View.{View}
+use Rattle.sqlite.specs.Effect.{Database}
+use Rattle.sqlite.specs.Tree.{Trees}
 use Rattle.sqlite_schema.specs.Names.{table_named}
 use Rattle.smf_tables.specs.Schema as stored
 
@@ -52,77 +52,39 @@ StandsAt schema place table = slice_get schema.tables place ≡ Some table
 abbrev pub count_of_tree : Schema → ℕ → ℕ
 count_of_tree schema tree = length (filter (λ t. t.tree == tree) schema.tables)
 
--- the same, and no other table has its tree
-pub record StandsAlone (schema : Schema) (place : ℕ) (table : Table) : Type 0 where
+-- this table is the first of its name, at whichever place, and no other has its tree
+pub record StandsAlone (schema : Schema) (table : Table) : Type 0 where
+  pub place : ℕ
+  pub named : table_named schema table.name ≡ Some place
   pub there : StandsAt schema place table
   pub alone : count_of_tree schema table.tree ≡ 1
 
--- the six tables of a store stand first, each in its place. Other tables behind them, indexes and views say nothing
-pub record IsStore (schema : Schema) : Type 0 where
-  pub meta : StandsAlone schema 0 stored.meta
-  pub service : StandsAlone schema 1 stored.service
-  pub instance : StandsAlone schema 2 stored.instance
-  pub grp : StandsAlone schema 3 stored.grp
-  pub snap : StandsAlone schema 4 stored.snap
-  pub restarter : StandsAlone schema 5 stored.restarter
-
--- this table is the first of its name, and the first of its tree, at whichever place
-pub record StandsNamed (schema : Schema) (table : Table) : Type 0 where
-  pub place : ℕ
-  pub named : table_named schema table.name ≡ Some place
-  pub treed : position (λ t. t.tree == table.tree) schema.tables ≡ Some place
-  pub there : StandsAt schema place table
-
 -- the same, with whichever tree
 abbrev pub StandsSomewhere : Schema → (ℕ → Table) → Type 0
-StandsSomewhere schema table = (tree : ℕ) × StandsNamed schema (table tree)
+StandsSomewhere schema table = (tree : ℕ) × StandsAlone schema (table tree)
 
--- the rest of a schema after its first tables
-pub record Rest : Type 0 where
-  pub tables : List Table
-  pub indexes : List Index
-  pub views : List View
+-- each of the six tables of a store is found by its name. Other tables, indexes and views say nothing, wherever they
+-- stand
+pub record IsStore (schema : Schema) : Type 0 where
+  pub meta : StandsSomewhere schema stored.meta_at
+  pub service : StandsSomewhere schema stored.service_at
+  pub instance : StandsSomewhere schema stored.instance_at
+  pub grp : StandsSomewhere schema stored.grp_at
+  pub snap : StandsSomewhere schema stored.snap_at
+  pub restarter : StandsSomewhere schema stored.restarter_at
 
--- a schema that begins with so many of the six
-abbrev pub begun_1 : Rest → Schema
-begun_1 rest = record { tables = stored.meta ∷ rest.tables; indexes = rest.indexes; views = rest.views }
+-- the first table of this name, if there is one
+abbrev pub first_named : Schema → List ℕ → Option Table
+first_named schema name = option_and_then (slice_get schema.tables) (table_named schema name)
 
-abbrev pub begun_2 : Rest → Schema
-begun_2 rest =
-    record { tables = stored.meta ∷ stored.service ∷ rest.tables; indexes = rest.indexes; views = rest.views }
+-- its tree
+abbrev pub tree_named : Schema → List ℕ → ℕ
+tree_named schema name = unwrap_or (option_map (λ t. t.tree) (first_named schema name)) 0
 
-abbrev pub begun_3 : Rest → Schema
-begun_3 rest =
-    record {
-      tables = stored.meta ∷ stored.service ∷ stored.instance ∷ rest.tables;
-      indexes = rest.indexes;
-      views = rest.views;
-    }
+-- the name of the table that has this tree in a new store
+abbrev pub name_of_tree : ℕ → List ℕ
+name_of_tree tree = unwrap_or (option_map (λ t. t.name) (find (λ t. t.tree == tree) stored.store_schema.tables)) []
 
-abbrev pub begun_4 : Rest → Schema
-begun_4 rest =
-    record {
-      tables = stored.meta ∷ stored.service ∷ stored.instance ∷ stored.grp ∷ rest.tables;
-      indexes = rest.indexes;
-      views = rest.views;
-    }
-
-abbrev pub begun_5 : Rest → Schema
-begun_5 rest =
-    record {
-      tables = stored.meta ∷ stored.service ∷ stored.instance ∷ stored.grp ∷ stored.snap ∷ rest.tables;
-      indexes = rest.indexes;
-      views = rest.views;
-    }
-
-abbrev pub begun_6 : Rest → Schema
-begun_6 rest =
-    record {
-      tables = stored.meta ∷ stored.service ∷ stored.instance ∷ stored.grp ∷ stored.snap ∷ stored.restarter
-          ∷ rest.tables;
-      indexes = rest.indexes;
-      views = rest.views;
-    }
-
-unfoldable pub Begins : (Rest → Schema) → Schema → Type 0
-Begins begun schema = (rest : Rest) × (schema ≡ begun rest)
+-- the rows of each of the six tables of a database, under the tree that the table has in a new store
+unfoldable pub rows_in : Database → Trees
+rows_in db tree = db.trees (tree_named db.schema (name_of_tree tree))

@@ -12,7 +12,7 @@ use Rattle.sqlite.specs.Table.{Table}
 use Rattle.sqlite.specs.Effect.{Database, IsDatabase}
 use Rattle.sqlite.specs.State.{State, Shows}
 use Rattle.sqlite_rules.specs.Lists.{Has}
-use Rattle.smf_tables.specs.Layout.{IsStore}
+use Rattle.smf_tables.specs.Layout.{IsStore, rows_in}
 use Rattle.smf_tables.specs.Schema.{store_schema}
 
 -- no table has more columns, the rowid among them
@@ -59,11 +59,11 @@ pub record Gains (row : Row) (old new : List Row) : Type 0 where
 pub record Turns (Changes : List Row → List Row → Type 0) (table : Table) (old new : Database) : Type 0 where
   pub schema : new.schema ≡ old.schema
   pub sound : IsDatabase new
-  pub rows : Changes (old.trees table.tree) (new.trees table.tree)
-  pub spares : AllByRecursion (λ t. t.tree ≢ table.tree → new.trees t.tree ≡ old.trees t.tree) store_schema.tables
+  pub rows : Changes (rows_in old table.tree) (rows_in new table.tree)
+  pub spares : AllByRecursion (λ t. t.tree ≢ table.tree → rows_in new t.tree ≡ rows_in old t.tree) store_schema.tables
 
 -- the same inside a transaction, if the six tables are there
 pub record Alters (Changes : List Row → List Row → Type 0) (table : Table) (old new : State) : Type 0 where
   pub shows : Shows old new new.now old.committed true
-  pub turns : IsStore old.now.schema → IsDatabase old.now → IsKeyed (old.now.trees table.tree)
+  pub turns : IsStore old.now.schema → IsDatabase old.now → IsKeyed (rows_in old.now table.tree)
       → Turns Changes table old.now new.now

@@ -4,13 +4,14 @@ use Rattle.sqlite.specs.declared.types.Value.TheVariants.{Null, Int, Text, Blob}
 use Rattle.sqlite.specs.Values.{or_null}
 use Rattle.sqlite.specs.Order.{Row, column}
 use Rattle.sqlite.specs.Edit.{next_rowid}
+use Rattle.sqlite.specs.Effect.{IsDatabase}
 use Rattle.sqlite.specs.Tree.{Trees}
 use Rattle.sqlite.specs.State.{State, Shows}
 use Rattle.sqlite.specs.Term.{Term}
 use Rattle.sqlite_rules.specs.Lists.{Has}
 use Rattle.smf_tables.specs.declared.lookups.NameColumns.{NameColumns}
 use Rattle.smf_tables.specs.declared.edits.InstanceRow.{InstanceRow}
-use Rattle.smf_tables.specs.Layout.{IsStore}
+use Rattle.smf_tables.specs.Layout.{IsStore, rows_in}
 use Rattle.smf_tables.specs.Schema.{meta, service, instance, grp, snap, restarter}
 use Rattle.smf_tables.specs.Rows.{Alters, Gains, Loses, equal, is_picked}
 
@@ -18,13 +19,13 @@ abbrev pub DropsMeta : List ℕ → State → State → Type 0
 DropsMeta key = Alters (Loses (is_picked (equal 1 0 ∷ []) (Text key ∷ []))) meta
 
 abbrev pub AddsMeta : List ℕ → ℤ → State → State → Type 0
-AddsMeta key n old = Alters (Gains (Int (next_rowid (old.now.trees 0)) ∷ Text key ∷ Int n ∷ [])) meta old
+AddsMeta key n old = Alters (Gains (Int (next_rowid (rows_in old.now 0)) ∷ Text key ∷ Int n ∷ [])) meta old
 
 abbrev pub DropsService : List ℕ → State → State → Type 0
 DropsService name = Alters (Loses (is_picked (equal 1 0 ∷ []) (Text name ∷ []))) service
 
 abbrev pub AddsService : List ℕ → State → State → Type 0
-AddsService name old = Alters (Gains (Int (next_rowid (old.now.trees 2)) ∷ Text name ∷ [])) service old
+AddsService name old = Alters (Gains (Int (next_rowid (rows_in old.now 2)) ∷ Text name ∷ [])) service old
 
 abbrev pub DropsInstance : ℤ → State → State → Type 0
 DropsInstance id = Alters (Loses (is_picked (equal 0 0 ∷ []) (Int id ∷ []))) instance
@@ -47,7 +48,7 @@ DropsServiceGroups name = DropsGroups name (pos 0)
 
 abbrev pub AddsGroup : List ℕ → ℤ → List ℕ → List ℕ → State → State → Type 0
 AddsGroup service id name body old =
-    Alters (Gains (Int (next_rowid (old.now.trees 6)) ∷ Text service ∷ Int id ∷ Text name ∷ Blob body ∷ [])) grp old
+    Alters (Gains (Int (next_rowid (rows_in old.now 6)) ∷ Text service ∷ Int id ∷ Text name ∷ Blob body ∷ [])) grp old
 
 abbrev pub DropsSnapshots : ℤ → State → State → Type 0
 DropsSnapshots id = Alters (Loses (is_picked (equal 2 0 ∷ []) (Int id ∷ []))) snap
@@ -60,7 +61,7 @@ DropsLaunch name = Alters (Loses (is_picked (equal 1 0 ∷ []) (Text name ∷ []
 
 abbrev pub AddsLaunch : List ℕ → ℤ → State → State → Type 0
 AddsLaunch name count old =
-    Alters (Gains (Int (next_rowid (old.now.trees 9)) ∷ Text name ∷ Int count ∷ [])) restarter old
+    Alters (Gains (Int (next_rowid (rows_in old.now 9)) ∷ Text name ∷ Int count ∷ [])) restarter old
 
 -- there is such a row
 pub record HasRow (rows : List Row) (tests : List Term) (params : Row) (Shows : Row → Type 0) : Type 0 where
@@ -72,8 +73,8 @@ pub record HasRow (rows : List Row) (tests : List Term) (params : Row) (Shows : 
 -- a look at the tables, which stay as they are
 pub record Sees (Seen : Trees → Type 0) (old new : State) : Type 0 where
   pub shows : Shows old new new.now old.committed true
-  pub same : IsStore old.now.schema → new.now ≡ old.now
-  pub seen : IsStore old.now.schema → Seen old.now.trees
+  pub same : IsStore old.now.schema → IsDatabase old.now → new.now ≡ old.now
+  pub seen : IsStore old.now.schema → IsDatabase old.now → Seen (rows_in old.now)
 
 -- the columns of an instance's name
 abbrev pub ShowsName : NameColumns → Row → Type 0

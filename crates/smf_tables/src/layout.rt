@@ -1,10 +1,9 @@
-ghost use Rattle.std.specs.Prelude.{◌≡◌, ◌↔◌, ◌==◌, [], ◌∷◌, IsTrue, Some, position};
+ghost use Rattle.std.specs.Prelude.{◌≡◌, ◌↔◌, [], ◌∷◌, IsTrue, Some};
 ghost use Rattle.std.specs.List.{slice_get};
 ghost use Rattle.std.specs.Option.{option_copied};
 ghost use Rattle.sqlite_value.specs.Keys.{plain};
-ghost use Rattle.smf_tables.specs.Layout.{HasKeys, HasNoMore, HasRowKey, StandsAlone, StandsSomewhere, count_of_tree, to_service};
-ghost use Rattle.smf_tables.specs.Schema.{column, grp, meta, restarter, service, snap, snap_at};
-ghost use Rattle.smf_tables.specs.Schema.{instance as instance_table};
+ghost use Rattle.smf_tables.specs.Layout.{HasKeys, HasNoMore, HasRowKey, StandsSomewhere, count_of_tree, first_named, to_service};
+ghost use Rattle.smf_tables.specs.Schema.{column, grp_at, instance_at, meta_at, restarter_at, service_at, snap_at};
 
 use sqlite_items::Items;
 use sqlite_schema::schema::{Action, Column, Kind, Reference, Schema, Table};
@@ -133,7 +132,7 @@ fn has_reference(table: &Table) -> bool
 
 /// True if these are the columns of the table of counters.
 fn are_meta_columns(columns: &[Column]) -> bool
-    ensures { IsTrue result ↔ (columns.now ≡ meta.columns) }
+    ensures { IsTrue result ↔ (columns.now ≡ (meta_at 0).columns) }
 {
     let [a, b] = columns else {
         return false;
@@ -147,11 +146,11 @@ fn are_meta_columns(columns: &[Column]) -> bool
     true
 }
 
-/// True if this is the table of counters.
-fn is_meta(table: &Table) -> bool
-    ensures { IsTrue result ↔ (table.now ≡ meta) }
+/// True if this is the table of counters, with this tree.
+fn is_meta(table: &Table, tree: u32) -> bool
+    ensures { IsTrue result ↔ (table.now ≡ meta_at tree) }
 {
-    if !has_no_more(table, "meta", 0) || !has_keys(table, None, &[1], &[1]) {
+    if !has_no_more(table, "meta", tree) || !has_keys(table, None, &[1], &[1]) {
         return false;
     }
     if !are_meta_columns(table.columns.as_slice()) {
@@ -162,7 +161,7 @@ fn is_meta(table: &Table) -> bool
 
 /// True if these are the columns of the table of services.
 fn are_service_columns(columns: &[Column]) -> bool
-    ensures { IsTrue result ↔ (columns.now ≡ service.columns) }
+    ensures { IsTrue result ↔ (columns.now ≡ (service_at 0).columns) }
 {
     let [a] = columns else {
         return false;
@@ -173,11 +172,11 @@ fn are_service_columns(columns: &[Column]) -> bool
     true
 }
 
-/// True if this is the table of services.
-fn is_service(table: &Table) -> bool
-    ensures { IsTrue result ↔ (table.now ≡ service) }
+/// True if this is the table of services, with this tree.
+fn is_service(table: &Table, tree: u32) -> bool
+    ensures { IsTrue result ↔ (table.now ≡ service_at tree) }
 {
-    if !has_no_more(table, "service", 2) || !has_keys(table, None, &[1], &[1]) {
+    if !has_no_more(table, "service", tree) || !has_keys(table, None, &[1], &[1]) {
         return false;
     }
     if !are_service_columns(table.columns.as_slice()) {
@@ -188,7 +187,7 @@ fn is_service(table: &Table) -> bool
 
 /// True if these are the columns of the table of instances.
 fn are_instance_columns(columns: &[Column]) -> bool
-    ensures { IsTrue result ↔ (columns.now ≡ instance_table.columns) }
+    ensures { IsTrue result ↔ (columns.now ≡ (instance_at 0).columns) }
 {
     let [a, b, c, d, e, f] = columns else {
         return false;
@@ -214,11 +213,11 @@ fn are_instance_columns(columns: &[Column]) -> bool
     true
 }
 
-/// True if this is the table of instances.
-fn is_instance(table: &Table) -> bool
-    ensures { IsTrue result ↔ (table.now ≡ instance_table) }
+/// True if this is the table of instances, with this tree.
+fn is_instance(table: &Table, tree: u32) -> bool
+    ensures { IsTrue result ↔ (table.now ≡ instance_at tree) }
 {
-    if !has_no_more(table, "instance", 4) || !has_keys(table, Some(0), &[0], &[2, 3]) {
+    if !has_no_more(table, "instance", tree) || !has_keys(table, Some(0), &[0], &[2, 3]) {
         return false;
     }
     if !are_instance_columns(table.columns.as_slice()) {
@@ -229,7 +228,7 @@ fn is_instance(table: &Table) -> bool
 
 /// True if these are the columns of the table of groups.
 fn are_grp_columns(columns: &[Column]) -> bool
-    ensures { IsTrue result ↔ (columns.now ≡ grp.columns) }
+    ensures { IsTrue result ↔ (columns.now ≡ (grp_at 0).columns) }
 {
     let [a, b, c, d] = columns else {
         return false;
@@ -249,11 +248,11 @@ fn are_grp_columns(columns: &[Column]) -> bool
     true
 }
 
-/// True if this is the table of groups.
-fn is_grp(table: &Table) -> bool
-    ensures { IsTrue result ↔ (table.now ≡ grp) }
+/// True if this is the table of groups, with this tree.
+fn is_grp(table: &Table, tree: u32) -> bool
+    ensures { IsTrue result ↔ (table.now ≡ grp_at tree) }
 {
-    if !has_no_more(table, "grp", 6) || !has_keys(table, None, &[1, 2, 3], &[1, 2, 3]) {
+    if !has_no_more(table, "grp", tree) || !has_keys(table, None, &[1, 2, 3], &[1, 2, 3]) {
         return false;
     }
     if !are_grp_columns(table.columns.as_slice()) {
@@ -264,7 +263,7 @@ fn is_grp(table: &Table) -> bool
 
 /// True if these are the columns of the table of snapshots.
 fn are_snap_columns(columns: &[Column]) -> bool
-    ensures { IsTrue result ↔ (columns.now ≡ snap.columns) }
+    ensures { IsTrue result ↔ (columns.now ≡ (snap_at 0).columns) }
 {
     let [a, b, c] = columns else {
         return false;
@@ -282,7 +281,7 @@ fn are_snap_columns(columns: &[Column]) -> bool
 }
 
 /// True if this is the table of snapshots, with this tree.
-fn is_snap_of(table: &Table, tree: u32) -> bool
+fn is_snap(table: &Table, tree: u32) -> bool
     ensures { IsTrue result ↔ (table.now ≡ snap_at tree) }
 {
     if !has_no_more(table, "snap", tree) || !has_row_key(table) {
@@ -294,16 +293,9 @@ fn is_snap_of(table: &Table, tree: u32) -> bool
     table.references.is_empty()
 }
 
-/// True if this is the table of snapshots.
-fn is_snap(table: &Table) -> bool
-    ensures { IsTrue result ↔ (table.now ≡ snap) }
-{
-    is_snap_of(table, 8)
-}
-
 /// True if these are the columns of the table of restarters.
 fn are_restarter_columns(columns: &[Column]) -> bool
-    ensures { IsTrue result ↔ (columns.now ≡ restarter.columns) }
+    ensures { IsTrue result ↔ (columns.now ≡ (restarter_at 0).columns) }
 {
     let [a, b] = columns else {
         return false;
@@ -317,11 +309,11 @@ fn are_restarter_columns(columns: &[Column]) -> bool
     true
 }
 
-/// True if this is the table of restarters.
-fn is_restarter(table: &Table) -> bool
-    ensures { IsTrue result ↔ (table.now ≡ restarter) }
+/// True if this is the table of restarters, with this tree.
+fn is_restarter(table: &Table, tree: u32) -> bool
+    ensures { IsTrue result ↔ (table.now ≡ restarter_at tree) }
 {
-    if !has_no_more(table, "restarter", 9) || !has_keys(table, None, &[1], &[1]) {
+    if !has_no_more(table, "restarter", tree) || !has_keys(table, None, &[1], &[1]) {
         return false;
     }
     if !are_restarter_columns(table.columns.as_slice()) {
@@ -356,96 +348,90 @@ fn is_one(schema: &Schema, tree: u32) -> bool
     count_of_tree(schema, tree) == 1
 }
 
-/// True if the table of counters stands in its place, and no other has its tree.
+/// The first table of a schema that has this name.
+fn first_named<'a>(schema: &'a Schema, name: &str) -> Option<&'a Table>
+    ensures { option_copied result ≡ first_named schema.now name.now }
+{
+    let Some(place) = schema.table_named(name.as_bytes()) else {
+        return None;
+    };
+    table_at(schema, place)
+}
+
+/// True if the first table with the name of the table of counters is one, and no other has its tree.
 pub fn has_meta_table(schema: &Schema) -> bool
-    ensures { IsTrue result ↔ (StandsAlone schema.now 0 meta) }
+    ensures { IsTrue result ↔ StandsSomewhere schema.now meta_at }
 {
-    let Some(table) = table_at(schema, 0) else {
+    let Some(table) = first_named(schema, "meta") else {
         return false;
     };
-    is_meta(table) && is_one(schema, 0)
-}
-
-/// True if the table of services stands in its place, and no other has its tree.
-pub fn has_service_table(schema: &Schema) -> bool
-    ensures { IsTrue result ↔ (StandsAlone schema.now 1 service) }
-{
-    let Some(table) = table_at(schema, 1) else {
-        return false;
-    };
-    is_service(table) && is_one(schema, 2)
-}
-
-/// True if the table of instances stands in its place, and no other has its tree.
-pub fn has_instance_table(schema: &Schema) -> bool
-    ensures { IsTrue result ↔ (StandsAlone schema.now 2 instance_table) }
-{
-    let Some(table) = table_at(schema, 2) else {
-        return false;
-    };
-    is_instance(table) && is_one(schema, 4)
-}
-
-/// True if the table of groups stands in its place, and no other has its tree.
-pub fn has_grp_table(schema: &Schema) -> bool
-    ensures { IsTrue result ↔ (StandsAlone schema.now 3 grp) }
-{
-    let Some(table) = table_at(schema, 3) else {
-        return false;
-    };
-    is_grp(table) && is_one(schema, 6)
-}
-
-/// True if the table of snapshots stands in its place, and no other has its tree.
-pub fn has_snap_table(schema: &Schema) -> bool
-    ensures { IsTrue result ↔ (StandsAlone schema.now 4 snap) }
-{
-    let Some(table) = table_at(schema, 4) else {
-        return false;
-    };
-    is_snap(table) && is_one(schema, 8)
-}
-
-/// True if the table of restarters stands in its place, and no other has its tree.
-pub fn has_restarter_table(schema: &Schema) -> bool
-    ensures { IsTrue result ↔ (StandsAlone schema.now 5 restarter) }
-{
-    let Some(table) = table_at(schema, 5) else {
-        return false;
-    };
-    is_restarter(table) && is_one(schema, 9)
-}
-
-/// The place of the first table that has this tree.
-fn place_of_tree(schema: &Schema, tree: u32) -> Option<usize>
-    ensures { result ≡ position (λ t. t.tree == tree) schema.now.tables }
-{
-    schema
-        .tables
-        .as_slice()
-        .iter()
-        .position(|table| table.tree == tree)
-}
-
-/// True if the first table that has this tree stands at this place.
-fn is_first_of_tree(schema: &Schema, place: usize, tree: u32) -> bool
-    ensures { IsTrue result ↔ (position (λ t. t.tree == tree) schema.now.tables ≡ Some place) }
-{
-    place_of_tree(schema, tree) == Some(place)
-}
-
-/// True if the first table with the name of the table of snapshots is one, wherever it stands.
-pub fn has_snapshots(schema: &Schema) -> bool
-    ensures { IsTrue result ↔ StandsSomewhere schema.now snap_at }
-{
-    let Some(place) = schema.table_named("snap".as_bytes()) else {
-        return false;
-    };
-    let Some(table) = table_at(schema, place) else {
-        return false;
-    };
-    if !is_snap_of(table, table.tree) {
+    if !is_meta(table, table.tree) {
         return false;
     }
-    is_first_of_tree(schema, place, table.tree)
+    is_one(schema, table.tree)
+}
+
+/// True if the first table with the name of the table of services is one, and no other has its tree.
+pub fn has_service_table(schema: &Schema) -> bool
+    ensures { IsTrue result ↔ StandsSomewhere schema.now service_at }
+{
+    let Some(table) = first_named(schema, "service") else {
+        return false;
+    };
+    if !is_service(table, table.tree) {
+        return false;
+    }
+    is_one(schema, table.tree)
+}
+
+/// True if the first table with the name of the table of instances is one, and no other has its tree.
+pub fn has_instance_table(schema: &Schema) -> bool
+    ensures { IsTrue result ↔ StandsSomewhere schema.now instance_at }
+{
+    let Some(table) = first_named(schema, "instance") else {
+        return false;
+    };
+    if !is_instance(table, table.tree) {
+        return false;
+    }
+    is_one(schema, table.tree)
+}
+
+/// True if the first table with the name of the table of groups is one, and no other has its tree.
+pub fn has_grp_table(schema: &Schema) -> bool
+    ensures { IsTrue result ↔ StandsSomewhere schema.now grp_at }
+{
+    let Some(table) = first_named(schema, "grp") else {
+        return false;
+    };
+    if !is_grp(table, table.tree) {
+        return false;
+    }
+    is_one(schema, table.tree)
+}
+
+/// True if the first table with the name of the table of snapshots is one, and no other has its tree.
+pub fn has_snap_table(schema: &Schema) -> bool
+    ensures { IsTrue result ↔ StandsSomewhere schema.now snap_at }
+{
+    let Some(table) = first_named(schema, "snap") else {
+        return false;
+    };
+    if !is_snap(table, table.tree) {
+        return false;
+    }
+    is_one(schema, table.tree)
+}
+
+/// True if the first table with the name of the table of restarters is one, and no other has its tree.
+pub fn has_restarter_table(schema: &Schema) -> bool
+    ensures { IsTrue result ↔ StandsSomewhere schema.now restarter_at }
+{
+    let Some(table) = first_named(schema, "restarter") else {
+        return false;
+    };
+    if !is_restarter(table, table.tree) {
+        return false;
+    }
+    is_one(schema, table.tree)
 }

@@ -15,7 +15,7 @@ pub use edits::{
 };
 pub use layout::{
     has_grp_table, has_instance_table, has_meta_table, has_restarter_table, has_service_table,
-    has_snap_table, has_snapshots,
+    has_snap_table,
 };
 pub use lookups::{NameColumns, has_service, name_of};
 pub use scans::{

@@ -1,6 +1,6 @@
 ghost use Rattle.std.specs.Prelude.{◌≡◌, ◌<ℤ◌, IfSome, IsTrue};
 ghost use Rattle.smf_tables.specs.Calls.{CommitsNone, Finds, IsInside, LeavesAsBefore};
-ghost use Rattle.smf_tables.specs.Scans.{LooksAtGroups, LooksAtInstances, LooksAtLaunches, LooksAtMeta, LooksAtServices, LooksAtSnapshots, LooksForSnapshots};
+ghost use Rattle.smf_tables.specs.Scans.{LooksAtGroups, LooksAtInstances, LooksAtLaunches, LooksAtMeta, LooksAtServices, LooksAtSnapshots};
 ghost use Rattle.smf_tables.specs.Rows.{AreKeyed};
 
 use sqlite::{Alter, Error, Row, Transaction};
@@ -76,9 +76,6 @@ pub fn all_snapshots<S: Alter>(tx: &mut Transaction<'_, S>) -> Result<Vec<Row>, 
     ensures same_reference { tx.new.conn.ghost_name ≡ tx.old.conn.ghost_name }
     ensures ok { Finds (λ old new rows. LooksAtSnapshots old new rows.items) S.Store tx.old.conn.now tx.new.conn.now
         result }
-    // The same, if the tables before it are others than those of a store.
-    ensures named { Finds (λ old new rows. LooksForSnapshots old new rows.items) S.Store tx.old.conn.now
-        tx.new.conn.now result }
     ensures err { CommitsNone S.Store tx.old.conn.now tx.new.conn.now result }
     ensures crash { LeavesAsBefore S.Store tx.old.conn.now tx.new.conn.now }
 {

@@ -2,6 +2,7 @@ use Rattle.std.proofs.Common.{arith}
 use Rattle.sqlite.specs.Held.{state}
 use Rattle.sqlite.specs.State.{HasCleanDisk}
 use Rattle.smf_store.proofs.Stands.{failing_said, failure_said, judged_said, reads_raised, told_failure}
+use Rattle.smf_tables.specs.Layout.{rows_in}
 use Rattle.smf_store.proofs.opens.read_raised.Goals as goal
 
 pub returns-clause-ok : goal.returns-clause-ok
@@ -16,15 +17,15 @@ returns-clause-ok g c clean =
 
 pub returns-in-Err-clause-said : goal.returns-in-Err-clause-said
 returns-in-Err-clause-said g c clean has live =
-    failure_said (state g.S.Store c.args.tx.now.conn.now).now.trees c.in-Err.fault c.in-Err.ensures.fault
+    failure_said (rows_in (state g.S.Store c.args.tx.now.conn.now).now) c.in-Err.fault c.in-Err.ensures.fault
 
 pub returns-in-Err-judge-clause-said : goal.returns-in-Err-judge-clause-said
 returns-in-Err-judge-clause-said g c clean has live =
     let l = c.in-Ok.ensures.ok clean in
-    judged_said (state g.S.Store c.args.tx.now.conn.now).now.trees c.in-Ok.rows c.in-Err-judge.fault
+    judged_said (rows_in (state g.S.Store c.args.tx.now.conn.now).now) c.in-Ok.rows c.in-Err-judge.fault
     (l.listed has (live l.shows.was_open).0) c.in-Err-judge.ensures.exact
 
 pub returns-in_err-raise-clause-said : goal.returns-in_err-raise-clause-said
 returns-in_err-raise-clause-said g c clean has live =
-    failing_said (state g.S.Store c.args.tx.now.conn.now).now.trees c.from_residual.result
+    failing_said (rows_in (state g.S.Store c.args.tx.now.conn.now).now) c.from_residual.result
     (told_failure c.from_residual.result c.in_err-raise.field-0.0 c.from_residual.ensures.1)

@@ -14,8 +14,8 @@ returns-clause-refused g c =
     let last = state g.S.Store c.find_fault.new.tx.conn.now in
     let end = c.drop-tx.new.self.0 in
     let same : end ≡ c.conn-1.given.0 = search rules in
-    let has = subst (λ s. IsTrue c.has_snapshots-are_there.result ↔ StandsSomewhere s snap_at)
-    c.schema.ensures.value c.has_snapshots-are_there.ensures in
+    let has = subst (λ s. IsTrue c.has_snap_table-are_there.result ↔ StandsSomewhere s snap_at)
+    c.schema.ensures.value c.has_snap_table-are_there.ensures in
     subst (λ h. HasCleanDisk (state g.S.Store h) → IsRefused (state g.S.Store old).now c.find_fault.result) same
     (λ clean.
     let early : HasCleanDisk last = omega (arith, clean, c.drop-tx.ensures.survives.clean) in

@@ -1,7 +1,7 @@
 use Rattle.std.proofs.Common.{arith, refl, subst}
 use Rattle.sqlite.specs.Held.{state}
 use Rattle.sqlite.specs.State.{HasCleanDisk}
-use Rattle.smf_tables.specs.Scans.{LooksAtMeta, LooksAtServices, LooksAtInstances, LooksAtGroups, LooksAtSnapshots, LooksForSnapshots}
+use Rattle.smf_tables.specs.Scans.{LooksAtMeta, LooksAtServices, LooksAtInstances, LooksAtGroups, LooksAtSnapshots}
 use Rattle.smf_store.specs.Stages.{LooksIf}
 use Rattle.smf_store.proofs.Before.{kept_five, lists_before, none_left_five}
 use Rattle.smf_store.proofs.queries.read_before.Goals as goal
@@ -39,8 +39,6 @@ returns-clause-listed g c clean first has live =
     (c.in_ok-groups.ensures.ok k4))
     (subst (λ b. LooksIf b LooksAtSnapshots four five c.in_ok-snapshots.snapshots.items) c.reads_snapshots.ensures
     (c.in_ok-snapshots.ensures.ok clean))
-    (subst (λ b. LooksIf b LooksForSnapshots four five c.in_ok-snapshots.snapshots.items) c.reads_snapshots.ensures
-    (c.in_ok-snapshots.ensures.named clean))
     c.new-launches.ensures.items
     first has live
 

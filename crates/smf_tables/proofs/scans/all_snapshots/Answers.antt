@@ -2,7 +2,7 @@ use Rattle.std.proofs.Common.{arith}
 use Rattle.sqlite.specs.Held.{state}
 use Rattle.sqlite.specs.State.{HasCleanDisk}
 use Rattle.smf_tables.proofs.Looks.{fails_kept}
-use Rattle.smf_tables.proofs.Wide.{looks_at_snapshots, looks_for_snapshots}
+use Rattle.smf_tables.proofs.Wide.{looks_at_snapshots}
 use Rattle.smf_tables.proofs.scans.all_snapshots.Goals as goal
 
 pub returns-in-Err-clause-err : goal.returns-in-Err-clause-err
@@ -15,11 +15,4 @@ returns-in-Ok-clause-ok g c clean =
     let old = state g.S.Store c.args.tx.now.conn.now in
     let early : HasCleanDisk old = omega (arith, c.query_all.ensures.survives.clean) in
     looks_at_snapshots old (state g.S.Store c.query_all.new.self.conn.now) c.in-Ok.rows.items (c.requires early)
-    (c.in-Ok.ensures.ok clean)
-
-pub returns-in-Ok-clause-named : goal.returns-in-Ok-clause-named
-returns-in-Ok-clause-named g c clean =
-    let old = state g.S.Store c.args.tx.now.conn.now in
-    let early : HasCleanDisk old = omega (arith, c.query_all.ensures.survives.clean) in
-    looks_for_snapshots old (state g.S.Store c.query_all.new.self.conn.now) c.in-Ok.rows.items (c.requires early)
     (c.in-Ok.ensures.ok clean)

@@ -5,6 +5,7 @@ use Rattle.smf_laws.proofs.Commands.{consistent_first}
 use Rattle.smf_store.proofs.ConsistentAgain.{consistent_read}
 use Rattle.smf_store.proofs.OpensAgain.{failed_alone, refused_alone}
 use Rattle.smf_store.proofs.Stands.{leaves_failing, leaves_read}
+use Rattle.smf_tables.specs.Layout.{rows_in}
 use Rattle.smf_store.proofs.store.Store.open.Goals as goal
 
 pub returns-in-Ok-read_store-clause-crash : goal.returns-in-Ok-read_store-clause-crash
@@ -30,5 +31,5 @@ returns-in-Ok-clause-consistent g c = λ clean unlaunched. subst IsConsistent (s
 
 pub returns-in-Ok-read_store-clause-consistent : goal.returns-in-Ok-read_store-clause-consistent
 returns-in-Ok-read_store-clause-consistent g c = λ clean unlaunched.
-    consistent_read (state g.S.Store c.args.conn).now.trees c.in-Ok-read_store.tables
+    consistent_read (rows_in (state g.S.Store c.args.conn).now) c.in-Ok-read_store.tables
     (c.in-Ok-read_store.ensures.ok clean).says unlaunched
