@@ -1,3 +1,4 @@
+pub mod Caused
 pub mod FaultExits
 pub mod Hasty
 pub mod Hears

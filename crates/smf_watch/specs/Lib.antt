@@ -1,3 +1,4 @@
+pub mod Causes
 pub mod Loops
 pub mod Sizes
 pub mod Stops

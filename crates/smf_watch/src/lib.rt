@@ -4,10 +4,11 @@
 //! Modules: `ask` (the next ask), `desk` (requests and replies), `timer` (the clock), `chronicle` (what is told of what
 //! happened); `child_events` (the events of children), `watch` (methods that may take too long); `ends` (ends of instances
 //! that nobody asked for), `marks` (instances that are marked for maintenance), `size` (how much has happened), `stops`
-//! (how contracts are ended).
+//! (how contracts are ended), `causes` (why instances are in maintenance).
 #![tactic(auto)]
 
 mod ask;
+mod causes;
 mod child_events;
 mod chronicle;
 mod desk;
@@ -19,6 +20,7 @@ mod timer;
 mod watch;
 
 pub use ask::{Onward, ServerInput};
+pub use causes::{Causes, KnownRow, MaintenanceCause, ShownRow, causes_are_told_so};
 pub use child_events::hear_all;
 pub use chronicle::{Chronicle, ItemCount};
 pub use desk::Desk;
