@@ -1,12 +1,11 @@
 -- The output of lines of svccfg over a database, and the end of such a run.
-use Rattle.std.specs.Prelude.{◌≡◌, ℕ, List, Option, IfSome}
+use Rattle.std.specs.Prelude.{◌≡◌, ℕ, List, Option}
 use Rattle.std_io.specs.declared.io.error.Error.{Error}
 use Rattle.sqlite.specs.Held.{Held, state}
 use Rattle.sqlite.specs.State.{HasCleanDisk}
 use Rattle.sqlite.specs.Store.{Ghosts}
-use Rattle.smf_cfg.specs.Runs.{Ends, start_place, run}
+use Rattle.smf_cfg.specs.Runs.{HasRun, start_place}
 use Rattle.smf_cfg.specs.Outcomes.{IsFaulted}
-use Rattle.smf_lines.specs.Lines.{lines_of}
 use Rattle.smf_model.specs.declared.journal.RepoFault.{RepoFault}
 use Rattle.smf_model.specs.Contents.{Holdings}
 use Rattle.smf_database.specs.FaultTexts.{IsOpenTold}
@@ -43,8 +42,7 @@ pub record IsDone {S : Type 0} (g : Ghosts S) (conn after : Held S)
   pub opened : IsOpenedAs g conn held
   pub left : Holdings
   pub stands : IsLeft g after left
-  pub ends : IfSome input
-      (λ bytes. Ends (run (start_place held) (lines_of bytes)) left out_old out_new errors_old errors_new status)
+  pub ran : HasRun (start_place held) input left out_old out_new errors_old errors_new status
 
 -- a fault ended it, and was told
 pub data IsEnded {S : Type 0} (g : Ghosts S) (conn after : Held S) (reads : Error → Type 0)

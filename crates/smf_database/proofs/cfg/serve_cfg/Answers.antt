@@ -11,7 +11,7 @@ returns-in-Ok-clause-ok g c = λ fine.
       left = c.serve_cfg-status.new.client.held;
       stands = subst (λ conn. IsLeft g.S.Store conn c.serve_cfg-status.new.client.held)
           (sym c.release-conn.ensures) c.into_journal.ensures.stands;
-      ends = c.serve_cfg-status.ensures.ok fine;
+      ran = c.serve_cfg-status.ensures.ran fine;
     }
 
 pub returns-in-Ok-clause-fault : goal.returns-in-Ok-clause-fault
