@@ -27,14 +27,6 @@ fn may_pass(fault: &NodeFault) -> bool {
     matches!(fault, NodeFault::Database | NodeFault::Memory)
 }
 
-/// Replies that nothing can be done yet.
-fn refuse(rt: &HostRuntime, desk: &FileDesk<'_>, words: &str) {
-    let _is_written = match format!(in rt.alloc(); "{words}\n") {
-        Ok(text) => desk.refuse(text.as_bytes(), FAULT),
-        Err(_) => desk.refuse(b"", FAULT),
-    };
-}
-
 impl Tries {
     pub(crate) fn new() -> Tries {
         Tries {
@@ -76,7 +68,9 @@ impl Tries {
                         return true;
                     }
                 }
-                ServerInput::Request(_request) => refuse(rt, desk, self.words),
+                ServerInput::Request(_request) => {
+                    let _is_written = desk.refuse(self.words.as_bytes(), FAULT);
+                }
                 ServerInput::End => return false,
             }
         }

@@ -5,7 +5,7 @@ use smf_cfg::tell;
 use smf_model::{Journal, Plain};
 use smf_watch::{Desk, ServerInput};
 use std::fs::File;
-use std::io::{Read, Write};
+use std::io::{ErrorKind, Read, Write};
 use std::os::unix::fs::OpenOptionsExt;
 use std::rt::{Clock, HostRuntime};
 use std::time::Duration;
@@ -14,23 +14,63 @@ use std::{fs, io};
 /// The status of a request that is not done.
 const REFUSED: u8 = 1;
 
+/// The status of a request for which there is no memory.
+const LACKING: u8 = 3;
+
 /// The status of a request whose text cannot be written.
 const UNWRITTEN: u8 = 4;
+
+/// The most bytes of a path in the folder after that of the folder.
+const MOST_MORE: usize = 96;
 
 /// The most bytes of a request.
 const MAX_REQUEST: u64 = 4_194_304;
 
-/// Requests in a folder, and replies to them. A line of a pipe says that one has come.
+/// Requests in a folder, and replies to them. A line of a pipe says that one has come. A reply takes no memory of the program.
 #[derive(Drop)]
 pub struct FileDesk<'a> {
     rt: &'a HostRuntime,
     folder: &'a str,
+    /// What is asked; its name is that of the request that was given last.
     wake: Pipe,
     pace: Pace,
-    /// The name of the request that was given last.
-    name: String,
+    /// The path of a file, for which there has been room since this was opened.
+    path: String,
     /// The text about a read of the pipe that failed.
     failed: Option<&'static str>,
+}
+
+/// The path of a file in a folder of a folder, by its name and what stands after that.
+fn path_in<'p>(
+    path: &'p mut String,
+    folder: &str,
+    inner: &str,
+    name: &str,
+    after: &str,
+) -> io::Result<&'p str> {
+    path.clear();
+    for part in [folder, inner, name, after] {
+        path.push_str(part)?;
+    }
+    Ok(path.as_str())
+}
+
+/// Writes a status as a line, in one write.
+fn write_status(told: &mut File, status: u8) -> io::Result<()> {
+    let line = [
+        b'0' + status / 100,
+        b'0' + status / 10 % 10,
+        b'0' + status % 10,
+        b'\n',
+    ];
+    let first = if status >= 100 {
+        0
+    } else if status >= 10 {
+        1
+    } else {
+        2
+    };
+    told.write_all(&line[first..])
 }
 
 /// The time of the clock, if it can be read.
@@ -48,7 +88,7 @@ impl<'a> FileDesk<'a> {
             folder,
             wake: Pipe::open(rt, path.as_str())?,
             pace: Pace::new(rt, time_of(rt)),
-            name: String::new(alloc),
+            path: String::with_capacity(alloc, folder.len() + MOST_MORE)?,
             failed: None,
         })
     }
@@ -59,7 +99,7 @@ impl<'a> FileDesk<'a> {
     }
 
     /// Replies to the request that was given last, also if nothing is held. False if the text could not be written.
-    pub fn refuse(&self, text: &[u8], status: u8) -> bool {
+    pub fn refuse(&mut self, text: &[u8], status: u8) -> bool {
         self.write(text, status).unwrap_or(false)
     }
 
@@ -75,7 +115,7 @@ impl<'a> FileDesk<'a> {
         if left.is_zero() || !self.wake.wait(self.rt, left) {
             return None;
         }
-        match self.wake.read(self.rt.alloc()) {
+        match self.wake.read() {
             Ok(call) => Some(call),
             Err(_) => {
                 // A pipe from which nothing can be read ends the server.
@@ -85,28 +125,33 @@ impl<'a> FileDesk<'a> {
         }
     }
 
-    /// The script of a request, which is gone then. One that is too long is read a little past the most.
-    fn script(&self) -> io::Result<Vec<u8>> {
-        let alloc = self.rt.alloc();
-        let path = format!(in alloc; "{}/requests/{}", self.folder, self.name.as_str())?;
-        let mut script: Vec<u8> = Vec::new(alloc);
-        let file = File::open(self.rt, path.as_str())?;
+    /// The script of a request, which is gone then, also if it cannot be read. One that is too long is read a little past
+    /// the most.
+    fn script(&mut self) -> io::Result<Vec<u8>> {
+        let path = path_in(
+            &mut self.path,
+            self.folder,
+            "/requests/",
+            self.wake.name(),
+            "",
+        )?;
+        let file = File::open(self.rt, path)?;
+        fs::remove_file(self.rt, path)?;
+        let mut script: Vec<u8> = Vec::new(self.rt.alloc());
         let _count = file.take(MAX_REQUEST + 1).read_to_end(&mut script)?;
-        fs::remove_file(self.rt, path.as_str())?;
         Ok(script)
     }
 
     /// A request. One that cannot be read, or is too long, is refused.
     fn ask(&mut self) -> Option<ServerInput> {
-        let Ok(script) = self.script() else {
-            let _written = self.write(b"smf: request cannot be read\n", REFUSED);
-            return None;
+        let (words, status) = match self.script() {
+            Ok(script) if script.len() as u64 > MAX_REQUEST => ("smf: request too long\n", REFUSED),
+            Ok(script) => return Some(ServerInput::Request(script)),
+            Err(fault) if fault.kind() == ErrorKind::OutOfMemory => ("smf: no memory\n", LACKING),
+            Err(_) => ("smf: request cannot be read\n", REFUSED),
         };
-        if script.len() as u64 > MAX_REQUEST {
-            let _written = self.write(b"smf: request too long\n", REFUSED);
-            return None;
-        }
-        Some(ServerInput::Request(script))
+        let _is_written = self.refuse(words.as_bytes(), status);
+        None
     }
 
     /// What comes next, if a call asks for anything or a tick is due.
@@ -120,9 +165,8 @@ impl<'a> FileDesk<'a> {
                 self.pace.ring(time_of(self.rt));
                 None
             }
-            Some(Call::Named(name)) => {
+            Some(Call::Named) => {
                 self.pace.ask(time_of(self.rt));
-                self.name = name;
                 self.ask()
             }
             Some(Call::End) => Some(ServerInput::End),
@@ -130,25 +174,25 @@ impl<'a> FileDesk<'a> {
         }
     }
 
-    /// The pipe of the client that made the request. The client has it open, so that a write never waits.
-    fn pipe(&self) -> io::Result<String> {
-        let pipe = format!(in self.rt.alloc(); "{}/replies/{}", self.folder, self.name.as_str())?;
-        Ok(pipe)
-    }
-
     /// The text goes into a file.
-    fn write_text(&self, text: &[u8]) -> io::Result<()> {
-        let path = format!(in self.rt.alloc(); "{}.text", self.pipe()?.as_str())?;
+    fn write_text(&mut self, text: &[u8]) -> io::Result<()> {
+        let path = path_in(
+            &mut self.path,
+            self.folder,
+            "/replies/",
+            self.wake.name(),
+            ".text",
+        )?;
         let mut file = File::options()
             .write(true)
             .create_new(true)
             .mode(0o600)
-            .open(self.rt, path.as_str())?;
+            .open(self.rt, path)?;
         match file.write_all(text) {
             Ok(()) => Ok(()),
             Err(fault) => {
                 // A part of the text is no answer.
-                let _removed = fs::remove_file(self.rt, path.as_str());
+                let _removed = fs::remove_file(self.rt, path);
                 Err(fault)
             }
         }
@@ -156,14 +200,19 @@ impl<'a> FileDesk<'a> {
 
     /// The text goes into a file, and its status into the pipe of the client. If the file cannot be written, the status
     /// says that, and this is false. For a client that is gone no file is made.
-    fn write(&self, text: &[u8], status: u8) -> io::Result<bool> {
-        let mut told = File::options()
-            .read(true)
-            .write(true)
-            .open(self.rt, self.pipe()?.as_str())?;
+    fn write(&mut self, text: &[u8], status: u8) -> io::Result<bool> {
+        // The client has its pipe open, so that a write never waits.
+        let pipe = path_in(
+            &mut self.path,
+            self.folder,
+            "/replies/",
+            self.wake.name(),
+            "",
+        )?;
+        let mut told = File::options().read(true).write(true).open(self.rt, pipe)?;
         let is_written = self.write_text(text).is_ok();
         let status = if is_written { status } else { UNWRITTEN };
-        told.write_all(format!(in self.rt.alloc(); "{status}\n")?.as_bytes())?;
+        write_status(&mut told, status)?;
         Ok(is_written)
     }
 }
@@ -172,6 +221,8 @@ impl<'a> Desk for FileDesk<'a> {
     ghost use Rattle.std.specs.Prelude.{None};
 
     ghost passed = { λ _. None };
+
+    ghost leaves = { λ _ _ _. ⊥ };
 
     fn next(&mut self) -> ServerInput {
         self.pace.end_turn();

@@ -1,11 +1,11 @@
-// How contracts are ended, as a file in their folder has it.
+// How contracts are ended and logs are renamed, as a file in their folder has it.
 use smf_keeper::Room;
-use smf_watch::{Ender, Stop};
+use smf_watch::{Ender, LogLimit, Stop, Term};
 use std::alloc::{AllocError, Global};
 use std::rt::HostRuntime;
 use std::{fs, io};
 
-/// A file in the folder of contracts, by which `smf_keep` knows how they are ended.
+/// A file in the folder of contracts, by which `smf_keep` knows how they are ended and when logs are renamed.
 #[derive(Drop)]
 pub struct FileEnder<'a> {
     rt: &'a HostRuntime,
@@ -15,17 +15,45 @@ pub struct FileEnder<'a> {
     text: String,
 }
 
-/// A line for each: the instance, the signal, and the seconds, which are 0 if there is no time-out. A last word says
-/// that the first process stays.
-fn lines_of(alloc: Global, stops: &[Stop]) -> Result<String, AllocError> {
+/// The instance, the signal, and the seconds, which are 0 if there is no time-out. A last word says that the first process
+/// stays.
+fn stop_line(alloc: Global, stop: &Stop) -> Result<String, AllocError> {
+    let seconds = match stop.timeout {
+        Some(timeout) => timeout.seconds(),
+        None => 0,
+    };
+    let child = if stop.child { " child" } else { "" };
+    format!(in alloc; "{} {} {seconds}{child}\n", stop.instance, stop.signal)
+}
+
+/// A number, or a minus if there is none.
+fn push_number(alloc: Global, text: &mut String, number: Option<u64>) -> Result<(), AllocError> {
+    match number {
+        Some(number) => text.push_str(format!(in alloc; " {number}")?.as_str()),
+        None => text.push_str(" -"),
+    }
+}
+
+/// The instance, `log`, the most bytes of its log, and how many are kept; nothing, if the instance names neither.
+fn log_line(alloc: Global, limit: &LogLimit) -> Result<String, AllocError> {
+    if limit.most.is_none() && limit.kept.is_none() {
+        return Ok(String::new(alloc));
+    }
+    let mut line = format!(in alloc; "{} log", limit.instance)?;
+    push_number(alloc, &mut line, limit.most)?;
+    push_number(alloc, &mut line, limit.kept)?;
+    line.push_str("\n")?;
+    Ok(line)
+}
+
+/// A line for each.
+fn lines_of(alloc: Global, terms: &[Term]) -> Result<String, AllocError> {
     let mut text = String::new(alloc);
-    for stop in stops {
-        let seconds = match stop.timeout {
-            Some(timeout) => timeout.seconds(),
-            None => 0,
+    for term in terms {
+        let line = match term {
+            Term::Stops(stop) => stop_line(alloc, stop)?,
+            Term::Logs(limit) => log_line(alloc, limit)?,
         };
-        let child = if stop.child { " child" } else { "" };
-        let line = format!(in alloc; "{} {} {seconds}{child}\n", stop.instance, stop.signal)?;
         text.push_str(line.as_str())?;
     }
     Ok(text)
@@ -55,9 +83,9 @@ impl<'a> Ender for FileEnder<'a> {
 
     ghost told = { λ _. None };
 
-    /// Writes the stops, unless they are the same as before. If they cannot be written, contracts are ended as before.
-    fn end_by(&mut self, stops: &[Stop]) {
-        match lines_of(self.rt.alloc(), stops) {
+    /// Writes the terms, unless they are the same as before. If they cannot be written, contracts are kept as before.
+    fn keep_by(&mut self, terms: &[Term]) {
+        match lines_of(self.rt.alloc(), terms) {
             Ok(text) if text.as_str() != self.text.as_str() => {
                 let _written = self.write(text);
             }
@@ -68,6 +96,6 @@ impl<'a> Ender for FileEnder<'a> {
 
 /// The file in the folder of contracts, of which nothing is written yet.
 pub fn ender_in<'a>(rt: &'a HostRuntime, room: &Room) -> io::Result<FileEnder<'a>> {
-    let path = format!(in rt.alloc(); "{}/stops", room.path())?;
+    let path = format!(in rt.alloc(); "{}/terms", room.path())?;
     Ok(FileEnder::new(rt, path))
 }

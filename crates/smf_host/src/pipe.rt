@@ -1,7 +1,7 @@
 // The pipe by which a server is called.
 use libc::net::poll;
 use libc::types::pollfd;
-use std::alloc::{AllocError, Global};
+use std::alloc::AllocError;
 use std::fs::File;
 use std::io::{BufRead, BufReader, ErrorKind, Write};
 use std::os::fd::AsRawFd;
@@ -26,19 +26,20 @@ const KEPT: usize = MAX_NAME + 1;
 pub(crate) enum Call {
     /// An empty line.
     Ring,
-    /// The name of a request.
-    Named(String),
+    /// The name of a request, by `name`.
+    Named,
     /// A line `.`, or the end of the pipe.
     End,
     /// A line that says nothing, or one that has not come to its end.
     Other,
 }
 
-/// A pipe, and what has come of its next line.
+/// A pipe, what has come of its next line, and the name of a request that came last.
 #[derive(Drop)]
 pub(crate) struct Pipe {
     reader: BufReader<File>,
     line: Vec<u8>,
+    name: String,
 }
 
 /// Letters, digits, `_` and `-` name a request.
@@ -48,15 +49,16 @@ fn is_name(text: &str) -> bool {
         && text.bytes().all(|byte| byte.is_ascii_alphanumeric() || byte == b'_' || byte == b'-')
 }
 
-/// The call of a line. One for which there is no memory is a ring.
-fn call_of(alloc: Global, line: &[u8]) -> Call {
+/// The call of a line. A name that it brings is kept: there has been room for it since the pipe was opened.
+fn call_of(line: &[u8], kept: &mut String) -> Call {
     match str::from_utf8(line) {
         Ok("") => Call::Ring,
         Ok(".") => Call::End,
-        Ok(name) if is_name(name) => match format!(in alloc; "{name}") {
-            Ok(name) => Call::Named(name),
-            Err(_) => Call::Ring,
-        },
+        Ok(name) if is_name(name) => {
+            kept.clear();
+            let _kept = kept.push_str(name);
+            Call::Named
+        }
         _ => Call::Other,
     }
 }
@@ -89,7 +91,13 @@ impl Pipe {
         Ok(Pipe {
             reader: BufReader::new(alloc, file)?,
             line: Vec::with_capacity(alloc, KEPT)?,
+            name: String::with_capacity(alloc, MAX_NAME)?,
         })
+    }
+
+    /// The name of the request that came last.
+    pub(crate) fn name(&self) -> &str {
+        self.name.as_str()
     }
 
     /// Asks the system whether there is something to read, and waits for that for so long at most. None if it does not
@@ -123,7 +131,7 @@ impl Pipe {
     }
 
     /// Reads at most once, and gives what that brings. It waits if there is nothing to read.
-    pub(crate) fn read(&mut self, alloc: Global) -> io::Result<Call> {
+    pub(crate) fn read(&mut self) -> io::Result<Call> {
         let shown = match self.reader.fill_buf() {
             Ok(shown) => shown,
             Err(fault) if fault.kind() == ErrorKind::Interrupted => return Ok(Call::Other),
@@ -140,7 +148,7 @@ impl Pipe {
             return Ok(Call::Other);
         }
         self.reader.consume(end + 1);
-        let call = call_of(alloc, &self.line);
+        let call = call_of(&self.line, &mut self.name);
         self.line.clear();
         Ok(call)
     }

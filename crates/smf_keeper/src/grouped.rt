@@ -12,7 +12,9 @@ pub struct Grouped<H: Host> {
     pub(crate) mark: String,
     /// The group was told to end.
     pub(crate) asked: bool,
-    /// The log says how the first process ended, or there is no log.
-    pub(crate) logged: bool,
+    /// There is a log.
+    pub(crate) logs: bool,
+    /// The log says how the first process ended, and others are left.
+    pub(crate) told: bool,
     ghost noted: { ∥ IsAskedIf H.facts (string_bytes group) asked ∥₁ },
 }

@@ -153,20 +153,21 @@ fn is_empty<H: Host>(
     Ok(!some)
 }
 
-/// Tells in a log how a first process ended, if there is a log and it does not say so yet.
+/// Tells in a log how a first process ended, and what of its group, if there is a log: `ended` if others are left, `over`
+/// if the group has ended by itself, and `gone` if it was to end.
 fn tell_end<H: Host>(
     alloc: Global,
     host: &H,
     keeper: &str,
     grouped: &mut Grouped<H>,
+    what: &str,
     status: ExitStatus,
 ) {
-    if grouped.logged {
+    if !grouped.logs {
         return;
     }
-    grouped.logged = true;
     let raw = status.into_raw();
-    if let Ok(words) = format!(in alloc; "--ended={raw}") {
+    if let Ok(words) = format!(in alloc; "--{what}={raw}") {
         let _ = host.run(
             alloc,
             &mut grouped.process,
@@ -217,7 +218,7 @@ fn see_end<H: Host>(
     let some = is_populated(alloc, host, &mut grouped.process, grouped.group.as_str())?;
     if !some {
         let _ = host.remove_folder(&mut grouped.process, grouped.group.as_str());
-        tell_end(alloc, host, keeper, grouped, status);
+        tell_end(alloc, host, keeper, grouped, "gone", status);
     }
     Ok(!some)
 }
@@ -331,7 +332,8 @@ impl<H: Host> Contracts for Groups<H> {
             group,
             mark,
             asked: false,
-            logged: !self.room.is_gentle(),
+            logs: self.room.is_gentle(),
+            told: false,
         })
     }
 
@@ -349,12 +351,30 @@ impl<H: Host> Contracts for Groups<H> {
             grouped.group.as_str(),
         )?;
         if some {
-            tell_end(self.alloc, &self.host, self.room.keeper(), grouped, status);
+            if !grouped.told {
+                grouped.told = true;
+                tell_end(
+                    self.alloc,
+                    &self.host,
+                    self.room.keeper(),
+                    grouped,
+                    "ended",
+                    status,
+                );
+            }
             return Ok(Stand::Left(end));
         }
         self.host
             .remove_folder(&mut grouped.process, grouped.group.as_str())?;
-        tell_end(self.alloc, &self.host, self.room.keeper(), grouped, status);
+        let asked = grouped.asked;
+        tell_end(
+            self.alloc,
+            &self.host,
+            self.room.keeper(),
+            grouped,
+            if asked { "gone" } else { "over" },
+            status,
+        );
         Ok(Stand::Gone(end))
     }
 

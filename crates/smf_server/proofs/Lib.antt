@@ -1,4 +1,5 @@
 pub mod Hears
+pub mod Lasting
 pub mod Late
 pub mod Lives
 pub mod Marked

@@ -14,10 +14,10 @@ use Rattle.smf_server.specs.FaultTexts.{fault_text}
 use Rattle.smf_server.specs.Life.{HasConcluded, HasStayed, KeepsAgreement, is_uncut}
 use Rattle.smf_watch.specs.Traffic.{Passed, Asked, Told, reply_in}
 use Rattle.smf_world.specs.declared.item.Item.{Item}
-use Rattle.smf_server.specs.Turns.{Between, Failed, Failure, Fails, HasTakenTurn, HasTurned, IsFailed, IsServed, IsTurn, MayHaveForgotten, MayTell, RequestFailed, RoundsFailed, StillAgrees, Taken, TickFailed, Turn, TurnsFollow, all_passed, all_shown, all_told, fault_of, last_words, noting, passed_at, passed_in, shown_since, stops_told, told_anew, trail_of_state}
+use Rattle.smf_server.specs.Turns.{Between, Failed, Failure, Fails, HasTakenTurn, HasTurned, IsFailed, IsServed, IsTurn, MayHaveForgotten, MayTell, RequestFailed, RoundsFailed, StillAgrees, Taken, TickFailed, Turn, TurnsFollow, all_passed, all_shown, all_told, fault_of, last_words, noting, passed_at, passed_in, shown_since, terms_told, told_anew, trail_of_state}
 use Rattle.smf_watch.specs.declared.ask.Onward.{Onward}
 use Rattle.smf_watch.specs.declared.ask.Onward.TheVariants.{Goes, Ends}
-use Rattle.smf_watch.specs.declared.stops.Stop.{Stop}
+use Rattle.smf_watch.specs.declared.terms.Term.{Term}
 use Rattle.smf_watch.proofs.Hasty.{left_at}
 
 -- ---- what passed
@@ -58,9 +58,9 @@ told_more first before next was now is so_far then =
     ∙ ap (λ (xs : List Item). log_with xs was) (append_assoc first before next)
 
 -- what was told first, and what was told next
-stops_more : (first next : List (List Stop)) (was now is : Option (List (List Stop))) → now ≡ log_with first was
+terms_more : (first next : List (List Term)) (was now is : Option (List (List Term))) → now ≡ log_with first was
     → is ≡ log_with next now → is ≡ log_with (first ++ next) was
-stops_more first next was now is so_far then = then ∙ ap (log_with next) so_far ∙ passing_then first next was
+terms_more first next was now is so_far then = then ∙ ap (log_with next) so_far ∙ passing_then first next was
 
 -- ---- turns
 
@@ -73,7 +73,7 @@ pub taken_more : (k : Skills) (clock : Duration → Type 0) (stores : RepoFault 
     → IsTurn k clock now is (noting true mid) t → MayHaveForgotten t u → IsServed k clock stores was is s u
 taken_more k clock stores was now is s mid t u served turn rest =
     record {
-      turns = Taken turn.one (shown_since mid t) (stops_told true mid) ∷ served.turns;
+      turns = Taken turn.one (shown_since mid t) (terms_told true mid) ∷ served.turns;
       steps = (mid, served.steps, (t, turn.step, refl, refl, rest));
       passed = turn.passed ∙ ap (log_with (passed_in turn.one)) served.passed
           ∙ passing_then (all_passed served.turns) (passed_in turn.one) was
@@ -95,7 +95,7 @@ failed_more k clock stores fault was now turned is s mid t tells served failed m
     let first : List Passed = passed_at failed.how in
     let more : List Passed = told_anew last (Some (fault_text (fault_of failed.how))) in
     record {
-      turns = Failed failed.how (shown_since mid t) (stops_told tells mid) ∷ served.turns;
+      turns = Failed failed.how (shown_since mid t) (terms_told tells mid) ∷ served.turns;
       steps = (mid, served.steps, (tells, may, failed.fails, refl, refl, busy));
       passed = told
           ∙ ap (λ (x : ScriptFault). log_with (told_anew last (Some (fault_text x))) turned) failed.named
@@ -118,24 +118,24 @@ turns_follow k clock stores was now is s mid t fault tells = (
 -- told, and how contracts are ended
 pub record HaveTaken (k : Skills) (clock : Duration → Type 0) (stores : RepoFault → Type 0) (count : ℕ)
     (last : Option (List ℕ)) (was is : Option (List Passed)) (told_was told_is : Option (List Item))
-    (stops_was stops_is : Option (List (List Stop))) (s t : Between) : Type 0 where
+    (terms_was terms_is : Option (List (List Term))) (s t : Between) : Type 0 where
   pub served : IsServed k clock stores was is s t
   pub told : told_is ≡ log_with (trail_of_state s ++ all_shown served.turns) told_was
-  pub stops : stops_is ≡ log_with (all_told served.turns) stops_was
+  pub terms : terms_is ≡ log_with (all_told served.turns) terms_was
   pub many : length served.turns ≡ count
   pub words : last ≡ last_words served.turns
   pub agrees : is_uncut served.turns ≡ true → KeepsAgreement s t
 
 pub none_taken : (k : Skills) (clock : Duration → Type 0) (stores : RepoFault → Type 0) (was : Option (List Passed))
-    (told_was told_is : Option (List Item)) (stops_was : Option (List (List Stop))) (s : Between)
+    (told_was told_is : Option (List Item)) (terms_was : Option (List (List Term))) (s : Between)
     → told_is ≡ log_with (trail_of_state s) told_was
-    → HaveTaken k clock stores zero None was was told_was told_is stops_was stops_was s s
+    → HaveTaken k clock stores zero None was was told_was told_is terms_was terms_was s s
 unfolding nothing_yet
-none_taken k clock stores was told_was told_is stops_was s told =
+none_taken k clock stores was told_was told_is terms_was s told =
     record {
       served = nothing_yet k clock stores was s;
       told = told ∙ ap (λ (xs : List Item). log_with xs told_was) (sym (append-nil (trail_of_state s)));
-      stops = sym (passing_nothing stops_was);
+      terms = sym (passing_nothing terms_was);
       many = refl;
       words = refl;
       agrees = λ uncut b a. record { before = b; agrees = a };
@@ -148,13 +148,13 @@ agrees_on s mid t u before turn rest b a =
     rest now.before (turn now.before now.agrees)
 
 how_agrees : (k : Skills) (clock : Duration → Type 0) (stores : RepoFault → Type 0) (how : Failure) (items : List Item)
-    (stops : List (List Stop)) (turns : List Turn) (s mid t u : Between) (tells : Bool)
+    (terms : List (List Term)) (turns : List Turn) (s mid t u : Between) (tells : Bool)
     → Fails k clock stores how (noting tells mid) t → (is_uncut turns ≡ true → KeepsAgreement s mid)
-    → KeepsAgreement t u → is_uncut (Failed how items stops ∷ turns) ≡ true → KeepsAgreement s u
-how_agrees k clock stores (TickFailed e) items stops turns s mid t u tells fails before rest uncut =
+    → KeepsAgreement t u → is_uncut (Failed how items terms ∷ turns) ≡ true → KeepsAgreement s u
+how_agrees k clock stores (TickFailed e) items terms turns s mid t u tells fails before rest uncut =
     agrees_on s mid t u (before uncut) fails.2 rest
-how_agrees k clock stores (RequestFailed fault a) items stops turns s mid t u tells fails before rest uncut = absurd cc
-how_agrees k clock stores (RoundsFailed e a) items stops turns s mid t u tells fails before rest uncut =
+how_agrees k clock stores (RequestFailed fault a) items terms turns s mid t u tells fails before rest uncut = absurd cc
+how_agrees k clock stores (RoundsFailed e a) items terms turns s mid t u tells fails before rest uncut =
     agrees_on s mid t u (before uncut) fails.2 rest
 
 -- a turn that was not told of failed for want of memory
@@ -170,21 +170,21 @@ may_tell false how fault named over = sym named ∙ ap (either fault) (over refl
 
 taken_one : (k : Skills) (clock : Duration → Type 0) (stores : RepoFault → Type 0) (n : ℕ)
     (last next : Option (List ℕ)) (was now turned is : Option (List Passed))
-    (told_was told_now told_is : Option (List Item)) (stops_was stops_now stops_is : Option (List (List Stop)))
-    (s mid t u : Between) → HaveTaken k clock stores n last was now told_was told_now stops_was stops_now s mid
-    → IsTurn k clock now turned (noting true mid) t → stops_is ≡ log_with (stops_told true mid) stops_now
+    (told_was told_now told_is : Option (List Item)) (terms_was terms_now terms_is : Option (List (List Term)))
+    (s mid t u : Between) → HaveTaken k clock stores n last was now told_was told_now terms_was terms_now s mid
+    → IsTurn k clock now turned (noting true mid) t → terms_is ≡ log_with (terms_told true mid) terms_now
     → StillAgrees mid t → told_is ≡ log_with (shown_since mid t) told_now
     → HasConcluded None last next turned is t u → KeepsAgreement t u
-    → HaveTaken k clock stores (suc n) next was is told_was told_is stops_was stops_is s u
+    → HaveTaken k clock stores (suc n) next was is told_was told_is terms_was terms_is s u
 unfolding taken_more
-taken_one k clock stores n last next was now turned is told_was told_now told_is stops_was stops_now stops_is s mid t u
+taken_one k clock stores n last next was now turned is told_was told_now told_is terms_was terms_now terms_is s mid t u
     taken turn tells agrees shown (cleared, same, rest) then =
     record {
       served = taken_more k clock stores was now is s mid t u taken.served
           (record { one = turn.one; step = turn.step; passed = same ∙ turn.passed }) rest;
       told = told_more (trail_of_state s) (all_shown taken.served.turns) (shown_since mid t) told_was told_now told_is
           taken.told shown;
-      stops = stops_more (all_told taken.served.turns) (stops_told true mid) stops_was stops_now stops_is taken.stops
+      terms = terms_more (all_told taken.served.turns) (terms_told true mid) terms_was terms_now terms_is taken.terms
           tells;
       many = ap suc taken.many;
       words = cleared;
@@ -193,16 +193,16 @@ taken_one k clock stores n last next was now turned is told_was told_now told_is
 
 failed_one : (k : Skills) (clock : Duration → Type 0) (stores : RepoFault → Type 0) (n : ℕ)
     (last next : Option (List ℕ)) (fault : ScriptFault) (was now turned is : Option (List Passed))
-    (told_was told_now told_is : Option (List Item)) (stops_was stops_now stops_is : Option (List (List Stop)))
+    (told_was told_now told_is : Option (List Item)) (terms_was terms_now terms_is : Option (List (List Term)))
     (s mid t u : Between) (tells : Bool)
-    → HaveTaken k clock stores n last was now told_was told_now stops_was stops_now s mid
+    → HaveTaken k clock stores n last was now told_was told_now terms_was terms_now s mid
     → HasTurned k clock stores Goes (Some fault) now turned (noting tells mid) t
-    → stops_is ≡ log_with (stops_told tells mid) stops_now → (tells ≡ false → Some fault ≡ Some (Node Memory))
+    → terms_is ≡ log_with (terms_told tells mid) terms_now → (tells ≡ false → Some fault ≡ Some (Node Memory))
     → told_is ≡ log_with (shown_since mid t) told_now → HasConcluded (Some fault) last next turned is t u
-    → HaveTaken k clock stores (suc n) next was is told_was told_is stops_was stops_is s u
+    → HaveTaken k clock stores (suc n) next was is told_was told_is terms_was terms_is s u
 unfolding failed_more
-failed_one k clock stores n last next fault was now turned is told_was told_now told_is stops_was stops_now stops_is
-    s mid t u tells taken turn stops over shown (kept, told, same) =
+failed_one k clock stores n last next fault was now turned is told_was told_now told_is terms_was terms_now terms_is
+    s mid t u tells taken turn terms over shown (kept, told, same) =
     let failed : IsFailed k clock stores fault now turned (noting tells mid) u =
     subst (λ (x : Between). IsFailed k clock stores fault now turned (noting tells mid) x) (sym same) turn.0 in
     record {
@@ -212,57 +212,57 @@ failed_one k clock stores n last next fault was now turned is told_was told_now 
           (told ∙ ap (λ (x : Option (List ℕ)). log_with (told_anew x (Some (fault_text fault))) turned) taken.words);
       told = told_more (trail_of_state s) (all_shown taken.served.turns) (shown_since mid u) told_was told_now told_is
           taken.told (shown ∙ ap (λ (x : Between). log_with (shown_since mid x) told_now) (sym same));
-      stops = stops_more (all_told taken.served.turns) (stops_told tells mid) stops_was stops_now stops_is taken.stops
-          stops;
+      terms = terms_more (all_told taken.served.turns) (terms_told tells mid) terms_was terms_now terms_is taken.terms
+          terms;
       many = ap suc taken.many;
       words = kept ∙ ap (λ (x : ScriptFault). Some (fault_text x)) failed.named;
-      agrees = how_agrees k clock stores failed.how (shown_since mid u) (stops_told tells mid) taken.served.turns s mid u
+      agrees = how_agrees k clock stores failed.how (shown_since mid u) (terms_told tells mid) taken.served.turns s mid u
           u tells failed.fails taken.agrees (λ b a. record { before = b; agrees = a });
     }
 
 pub one_more : (k : Skills) (clock : Duration → Type 0) (stores : RepoFault → Type 0) (n : ℕ)
     (last next : Option (List ℕ)) (fault : Option ScriptFault) (was now turned is : Option (List Passed))
-    (told_was told_now told_is : Option (List Item)) (stops_was stops_now stops_is : Option (List (List Stop)))
+    (told_was told_now told_is : Option (List Item)) (terms_was terms_now terms_is : Option (List (List Term)))
     (s mid t u : Between) (tells : Bool)
-    → HaveTaken k clock stores n last was now told_was told_now stops_was stops_now s mid
+    → HaveTaken k clock stores n last was now told_was told_now terms_was terms_now s mid
     → HasTurned k clock stores Goes fault now turned (noting tells mid) t
-    → stops_is ≡ log_with (stops_told tells mid) stops_now → (tells ≡ false → fault ≡ Some (Node Memory))
+    → terms_is ≡ log_with (terms_told tells mid) terms_now → (tells ≡ false → fault ≡ Some (Node Memory))
     → ((b : Before) → fault ≡ None
     → AgreesSince b mid.standing.course.progress.world mid.standing.course.seen.ledger
     → AgreesSince b t.standing.course.progress.world t.standing.course.seen.ledger)
     → told_is ≡ log_with (shown_since mid t) told_now
     → HasConcluded fault last next turned is t u → KeepsAgreement t u
-    → HaveTaken k clock stores (suc n) next was is told_was told_is stops_was stops_is s u
-one_more k clock stores n last next None was now turned is told_was told_now told_is stops_was stops_now stops_is
-    s mid t u true taken turn stops over agrees shown concluded then =
-    taken_one k clock stores n last next was now turned is told_was told_now told_is stops_was stops_now stops_is
-    s mid t u taken turn stops (λ b a. agrees b refl a) shown concluded then
-one_more k clock stores n last next None was now turned is told_was told_now told_is stops_was stops_now stops_is
-    s mid t u false taken turn stops over agrees shown concluded then = absurd (none_is (Node Memory) (over refl))
+    → HaveTaken k clock stores (suc n) next was is told_was told_is terms_was terms_is s u
+one_more k clock stores n last next None was now turned is told_was told_now told_is terms_was terms_now terms_is
+    s mid t u true taken turn terms over agrees shown concluded then =
+    taken_one k clock stores n last next was now turned is told_was told_now told_is terms_was terms_now terms_is
+    s mid t u taken turn terms (λ b a. agrees b refl a) shown concluded then
+one_more k clock stores n last next None was now turned is told_was told_now told_is terms_was terms_now terms_is
+    s mid t u false taken turn terms over agrees shown concluded then = absurd (none_is (Node Memory) (over refl))
   where
     none_is : (e : ScriptFault) → ◌≡◌ {A = Option ScriptFault} None (Some e) → ⊥
     none_is e is = absurd cc
-one_more k clock stores n last next (Some fault) was now turned is told_was told_now told_is stops_was stops_now stops_is
-    s mid t u tells taken turn stops over agrees shown concluded then =
-    failed_one k clock stores n last next fault was now turned is told_was told_now told_is stops_was stops_now stops_is
-    s mid t u tells taken turn stops over shown concluded
+one_more k clock stores n last next (Some fault) was now turned is told_was told_now told_is terms_was terms_now terms_is
+    s mid t u tells taken turn terms over agrees shown concluded then =
+    failed_one k clock stores n last next fault was now turned is told_was told_now told_is terms_was terms_now terms_is
+    s mid t u tells taken turn terms over shown concluded
 
 pub goes_on : (k : Skills) (clock : Duration → Type 0) (stores : RepoFault → Type 0) (n : ℕ)
     (last next : Option (List ℕ)) (o : Onward) (fault : Option ScriptFault) (was now turned is : Option (List Passed))
-    (told_was told_now told_is : Option (List Item)) (stops_was stops_now stops_is : Option (List (List Stop)))
-    (s mid t u : Between) → HaveTaken k clock stores n last was now told_was told_now stops_was stops_now s mid
-    → o ≡ Goes → HasTakenTurn k clock stores o fault now turned stops_now stops_is mid t
+    (told_was told_now told_is : Option (List Item)) (terms_was terms_now terms_is : Option (List (List Term)))
+    (s mid t u : Between) → HaveTaken k clock stores n last was now told_was told_now terms_was terms_now s mid
+    → o ≡ Goes → HasTakenTurn k clock stores o fault now turned terms_now terms_is mid t
     → ((b : Before) → fault ≡ None
     → AgreesSince b mid.standing.course.progress.world mid.standing.course.seen.ledger
     → AgreesSince b t.standing.course.progress.world t.standing.course.seen.ledger)
     → told_is ≡ log_with (shown_since mid t) told_now
     → HasConcluded fault last next turned is t u → KeepsAgreement t u
-    → HaveTaken k clock stores (n + 1) next was is told_was told_is stops_was stops_is s u
-goes_on k clock stores n last next o fault was now turned is told_was told_now told_is stops_was stops_now stops_is
+    → HaveTaken k clock stores (n + 1) next was is told_was told_is terms_was terms_is s u
+goes_on k clock stores n last next o fault was now turned is told_was told_now told_is terms_was terms_now terms_is
     s mid t u taken goes turn agrees shown concluded then =
     let more : suc n ≡ n + 1 = omega arith in
-    subst (λ (m : ℕ). HaveTaken k clock stores m next was is told_was told_is stops_was stops_is s u) more
-    (one_more k clock stores n last next fault was now turned is told_was told_now told_is stops_was stops_now stops_is
+    subst (λ (m : ℕ). HaveTaken k clock stores m next was is told_was told_is terms_was terms_is s u) more
+    (one_more k clock stores n last next fault was now turned is told_was told_now told_is terms_was terms_now terms_is
     s mid t u turn.tells taken
     (subst (λ (x : Onward). HasTurned k clock stores x fault now turned (noting turn.tells mid) t) goes turn.turned)
     turn.told turn.over agrees shown concluded then)
@@ -270,11 +270,11 @@ goes_on k clock stores n last next o fault was now turned is told_was told_now t
 -- no more was asked
 pub stays_closed : (k : Skills) (clock : Duration → Type 0) (stores : RepoFault → Type 0) (most n : ℕ)
     (last : Option (List ℕ)) (o : Onward) (fault : Option ScriptFault) (was now is : Option (List Passed))
-    (told_was told_is : Option (List Item)) (stops_was stops_now stops_is : Option (List (List Stop)))
-    (s mid t : Between) → HaveTaken k clock stores n last was now told_was told_is stops_was stops_now s mid
-    → o ≡ Ends → HasTakenTurn k clock stores o fault now is stops_now stops_is mid t
-    → HasStayed k clock stores most Ends was is told_was told_is stops_was stops_is s t
-stays_closed k clock stores most n last o fault was now is told_was told_is stops_was stops_now stops_is s mid t taken
+    (told_was told_is : Option (List Item)) (terms_was terms_now terms_is : Option (List (List Term)))
+    (s mid t : Between) → HaveTaken k clock stores n last was now told_was told_is terms_was terms_now s mid
+    → o ≡ Ends → HasTakenTurn k clock stores o fault now is terms_now terms_is mid t
+    → HasStayed k clock stores most Ends was is told_was told_is terms_was terms_is s t
+stays_closed k clock stores most n last o fault was now is told_was told_is terms_was terms_now terms_is s mid t taken
     ends turn =
     let closed : HasTurned k clock stores Ends fault now is (noting turn.tells mid) t =
     subst (λ (x : Onward). HasTurned k clock stores x fault now is (noting turn.tells mid) t) ends turn.turned in
@@ -285,8 +285,8 @@ stays_closed k clock stores most n last o fault was now is told_was told_is stop
       over = closed.1;
       told = taken.told;
       tells = turn.tells;
-      stops = stops_more (all_told taken.served.turns) (stops_told turn.tells mid) stops_was stops_now stops_is
-          taken.stops turn.told;
+      terms = terms_more (all_told taken.served.turns) (terms_told turn.tells mid) terms_was terms_now terms_is
+          taken.terms turn.told;
       closed = closed.0;
       agrees = λ uncut. subst (λ (x : Between). KeepsAgreement s x) (sym closed.0) (taken.agrees uncut);
     }
@@ -294,10 +294,10 @@ stays_closed k clock stores most n last o fault was now is told_was told_is stop
 -- the most turns were taken
 pub stays_all : (k : Skills) (clock : Duration → Type 0) (stores : RepoFault → Type 0) (most n : ℕ)
     (last : Option (List ℕ)) (was is : Option (List Passed)) (told_was told_is : Option (List Item))
-    (stops_was stops_is : Option (List (List Stop))) (s t : Between)
-    → HaveTaken k clock stores n last was is told_was told_is stops_was stops_is s t → n ≡ most
-    → HasStayed k clock stores most Goes was is told_was told_is stops_was stops_is s t
-stays_all k clock stores most n last was is told_was told_is stops_was stops_is s t taken all =
+    (terms_was terms_is : Option (List (List Term))) (s t : Between)
+    → HaveTaken k clock stores n last was is told_was told_is terms_was terms_is s t → n ≡ most
+    → HasStayed k clock stores most Goes was is told_was told_is terms_was terms_is s t
+stays_all k clock stores most n last was is told_was told_is terms_was terms_is s t taken all =
     record {
       now = is;
       still = t;
@@ -305,8 +305,8 @@ stays_all k clock stores most n last was is told_was told_is stops_was stops_is 
       over = (taken.many ∙ all, refl);
       told = taken.told;
       tells = false;
-      stops = taken.stops
-          ∙ ap (λ (xs : List (List Stop)). log_with xs stops_was) (sym (append-nil (all_told taken.served.turns)));
+      terms = taken.terms
+          ∙ ap (λ (xs : List (List Term)). log_with xs terms_was) (sym (append-nil (all_told taken.served.turns)));
       closed = (refl, refl);
       agrees = taken.agrees;
     }

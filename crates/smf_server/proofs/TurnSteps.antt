@@ -19,10 +19,10 @@ use Rattle.smf_script.specs.Script.{first_session, silent}
 use Rattle.smf_watch.specs.Traffic.{Passed, Asked, Told, reply_in}
 use Rattle.smf_server.specs.Turns.{AgreesOrDrops, Answer, Answered, Between, Failure, Fails, GoFails, GoesIf, HasAnswered, HasComeOn, HasTakenTurn, HasTurned, IsFailed, IsTick, IsToldOf, IsTurn, RequestFailed, RoundsFailed, StillAgrees, StillWatches, TickFailed, TickFails, Ticked, lists_if, max_rounds, wanting}
 use Rattle.smf_watch.specs.Sizes.{is_same, size_of}
-use Rattle.smf_watch.specs.Stops.{is_new, stop_lists_if, stops_of}
+use Rattle.smf_watch.specs.Terms.{is_new, term_lists_if, terms_of}
 use Rattle.smf_watch.specs.declared.ask.Onward.{Onward}
 use Rattle.smf_watch.specs.declared.size.Size.{Size}
-use Rattle.smf_watch.specs.declared.stops.Stop.{Stop}
+use Rattle.smf_watch.specs.declared.terms.Term.{Term}
 use Rattle.smf_server.proofs.Served.{asked_replied, passing_nothing}
 use Rattle.smf_server.proofs.Watching.{still_self}
 use Rattle.smf_watch.specs.declared.ask.Onward.TheVariants.{Goes}
@@ -90,7 +90,7 @@ cut k clock stores fault request text before was is s t came told stops come agr
             held = t.standing.course.progress.world.now;
           });
       named = refl;
-      fails = (record { text = text; stops = stops; said = told.ends; status = refl; stood = refl }, come, agrees);
+      fails = (record { text = text; stops = stops; said = told.says; status = refl; stood = refl }, come, agrees);
       passed = asked_replied request told.said 3 told.written t.standing.course.progress.world.now before was is came
           told.passed;
     }
@@ -191,38 +191,38 @@ request_over k clock stores request before was is s came told =
 
 -- ---- how contracts are ended, and then a turn
 
-lists_told : (b : Bool) (stops : List Stop) (was is : Option (List (List Stop))) → is ≡ stop_lists_if b stops was
-    → is ≡ log_with (lists_if b stops) was
-lists_told true stops was is told = told
-lists_told false stops was is told = told ∙ sym (passing_nothing was)
+lists_told : (b : Bool) (terms : List Term) (was is : Option (List (List Term))) → is ≡ term_lists_if b terms was
+    → is ≡ log_with (lists_if b terms) was
+lists_told true terms was is told = told
+lists_told false terms was is told = told ∙ sym (passing_nothing was)
 
 pub taken_told : (k : Skills) (clock : Duration → Type 0) (stores : RepoFault → Type 0) (onward : Onward)
-    (fault : Option ScriptFault) (was is : Option (List Passed)) (stops_was stops_is : Option (List (List Stop)))
+    (fault : Option ScriptFault) (was is : Option (List Passed)) (terms_was terms_is : Option (List (List Term)))
     (s mid t : Between)
-    → stops_is ≡ stop_lists_if (is_new s.noted (size_of s.standing.course.progress.world))
-    (stops_of s.standing.course.progress.world.now) stops_was
+    → terms_is ≡ term_lists_if (is_new s.noted (size_of s.standing.course.progress.world))
+    (terms_of s.standing.course.progress.world.now) terms_was
     → mid.noted ≡ Some (size_of s.standing.course.progress.world)
     → HasTurned k clock stores onward fault was is (record s { noted = mid.noted }) t
-    → HasTakenTurn k clock stores onward fault was is stops_was stops_is s t
-taken_told k clock stores onward fault was is stops_was stops_is s mid t told noted turned =
+    → HasTakenTurn k clock stores onward fault was is terms_was terms_is s t
+taken_told k clock stores onward fault was is terms_was terms_is s mid t told noted turned =
     record {
       tells = true;
       told = lists_told (is_new s.noted (size_of s.standing.course.progress.world))
-          (stops_of s.standing.course.progress.world.now) stops_was stops_is told;
+          (terms_of s.standing.course.progress.world.now) terms_was terms_is told;
       turned = subst (λ (o : Option Size). HasTurned k clock stores onward fault was is (record s { noted = o }) t) noted
           turned;
       over = λ untold. absurd cc;
     }
 
 pub taken_untold : (k : Skills) (clock : Duration → Type 0) (stores : RepoFault → Type 0) (onward : Onward)
-    (was is : Option (List Passed)) (stops_was stops_is : Option (List (List Stop)))
-    (s mid t : Between) → stops_is ≡ stops_was → mid.noted ≡ s.noted
+    (was is : Option (List Passed)) (terms_was terms_is : Option (List (List Term)))
+    (s mid t : Between) → terms_is ≡ terms_was → mid.noted ≡ s.noted
     → HasTurned k clock stores onward (Some (Node Memory)) was is (record s { noted = mid.noted }) t
-    → HasTakenTurn k clock stores onward (Some (Node Memory)) was is stops_was stops_is s t
-taken_untold k clock stores onward was is stops_was stops_is s mid t told noted turned =
+    → HasTakenTurn k clock stores onward (Some (Node Memory)) was is terms_was terms_is s t
+taken_untold k clock stores onward was is terms_was terms_is s mid t told noted turned =
     record {
       tells = false;
-      told = told ∙ sym (passing_nothing stops_was);
+      told = told ∙ sym (passing_nothing terms_was);
       turned = subst (λ (o : Option Size).
           HasTurned k clock stores onward (Some (Node Memory)) was is (record s { noted = o }) t) noted turned;
       over = λ untold. refl;

@@ -23,8 +23,8 @@ use Rattle.smf_world.specs.Schedule.{begun_at}
 use Rattle.smf_world.specs.Happens.{happens}
 use Rattle.smf_world.specs.World.{initial_world}
 use Rattle.smf_watch.specs.Traffic.{Passed, Closed}
-use Rattle.smf_server.specs.Turns.{Between, Failed, IsServed, MayHaveForgotten, RequestFailed, Turn, all_shown, all_told, noting, stops_told, told_anew, trail_of_state}
-use Rattle.smf_watch.specs.declared.stops.Stop.{Stop}
+use Rattle.smf_server.specs.Turns.{Between, Failed, IsServed, MayHaveForgotten, RequestFailed, Turn, all_shown, all_told, noting, terms_told, told_anew, trail_of_state}
+use Rattle.smf_watch.specs.declared.terms.Term.{Term}
 use Rattle.smf_watch.specs.declared.ask.Onward.{Onward}
 use Rattle.smf_watch.specs.declared.ask.Onward.TheVariants.{Goes, Ends}
 
@@ -37,7 +37,7 @@ KeepsAgreement s t =
     → AgreesAnew t.standing.course.progress.world t.standing.course.seen.ledger
 
 abbrev pub is_cut : Turn → Bool
-is_cut (Failed (RequestFailed fault a) items stops) = true
+is_cut (Failed (RequestFailed fault a) items terms) = true
 is_cut _ = false
 
 -- no request was ended by a fault
@@ -50,16 +50,16 @@ abbrev pub IsOver : ℕ → Onward → ℕ → Option (List Passed) → Option (
 IsOver most Ends count now is = is ≡ log_with (Closed ∷ []) now
 IsOver most Goes count now is = (count ≡ most) × (is ≡ now)
 
--- at the ask that ends a server it is told as at others how contracts are ended, if there is memory for it
+-- at the ask that ends a server it is told as at others how contracts are kept, if there is memory for it
 abbrev pub HasClosed : Onward → Bool → Between → Between → Type 0
 HasClosed Ends tells s t = t ≡ noting tells s
 HasClosed Goes tells s t = (tells ≡ false) × (t ≡ s)
 
 -- Turns were taken, whatever failed, until no more was asked, or the most that a server takes. What the trail showed at
 -- first was told, and then each item that a turn added, once and in their order. Before each turn it was told how contracts
--- are ended, if anything happened since that was told. Node and children still agree, unless a request was ended by a fault.
+-- are kept, if anything happened since that was told. Node and children still agree, unless a request was ended by a fault.
 pub record HasStayed (k : Skills) (clock : Duration → Type 0) (stores : RepoFault → Type 0) (most : ℕ) (how : Onward)
-    (was is : Option (List Passed)) (told_was told_is : Option (List Item)) (stops_was stops_is : Option (List (List Stop)))
+    (was is : Option (List Passed)) (told_was told_is : Option (List Item)) (terms_was terms_is : Option (List (List Term)))
     (s t : Between) : Type 0 where
   pub now : Option (List Passed)
   pub still : Between
@@ -67,7 +67,7 @@ pub record HasStayed (k : Skills) (clock : Duration → Type 0) (stores : RepoFa
   pub over : IsOver most how (length served.turns) now is
   pub told : told_is ≡ log_with (trail_of_state s ++ all_shown served.turns) told_was
   pub tells : Bool
-  pub stops : stops_is ≡ log_with (all_told served.turns ++ stops_told tells still) stops_was
+  pub terms : terms_is ≡ log_with (all_told served.turns ++ terms_told tells still) terms_was
   pub closed : HasClosed how tells still t
   pub agrees : is_uncut served.turns ≡ true → KeepsAgreement s t
 
@@ -102,10 +102,10 @@ state_after_boot h seen =
 pub record HasLived {J : Type 0} (k : Skills) (clock : Duration → Type 0) (stores : RepoFault → Type 0)
     (stands : J → Holdings → Type 0)
     (most : ℕ) (how : Onward) (journal : J) (was is : Option (List Passed)) (told_was told_is : Option (List Item))
-    (stops_was stops_is : Option (List (List Stop))) (ended : Result Leftover AllocError) (first : Between) (new : Seen)
+    (terms_was terms_is : Option (List (List Term))) (ended : Result Leftover AllocError) (first : Between) (new : Seen)
     : Type 0 where
   pub last : Between
-  pub stayed : HasStayed k clock stores most how was is told_was told_is stops_was stops_is first last
+  pub stayed : HasStayed k clock stores most how was is told_was told_is terms_was terms_is first last
   pub kept : stands journal last.standing.course.progress.world.now
   pub safe : IsSafeSince last.standing.course.progress.world
   pub leads : LeadsTo first.standing.course.progress.world last.standing.course.progress.world
@@ -114,10 +114,10 @@ pub record HasLived {J : Type 0} (k : Skills) (clock : Duration → Type 0) (sto
 -- there was no boot, and nothing was done
 pub record IsUnborn {J : Type 0} (stores : RepoFault → Type 0) (stands : J → Holdings → Type 0)
     (h : Holdings) (fault : NodeFault) (journal : J) (was is : Option (List Passed)) (told_was told_is : Option (List Item))
-    (stops_was stops_is : Option (List (List Stop))) (old new : Seen) : Type 0 where
+    (terms_was terms_is : Option (List (List Term))) (old new : Seen) : Type 0 where
   pub unbooted : IsUnbooted stores h fault
   pub kept : stands journal h
   pub passed : is ≡ was
   pub told : told_is ≡ told_was
-  pub stops : stops_is ≡ stops_was
+  pub terms : terms_is ≡ terms_was
   pub left : new ≡ old

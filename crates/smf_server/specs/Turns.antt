@@ -23,14 +23,14 @@ use Rattle.smf_server.specs.declared.server.Server.{Server}
 use Rattle.smf_server.specs.FaultTexts.{fault_line, fault_text}
 use Rattle.smf_watch.specs.Loops.{StopsMarking, hasty, is_kept, lines_of, marks, seen_by}
 use Rattle.smf_watch.specs.Sizes.{size_of, is_same}
-use Rattle.smf_watch.specs.Stops.{is_new, stops_of}
+use Rattle.smf_watch.specs.Terms.{is_new, terms_of}
 use Rattle.smf_watch.specs.Traffic.{Passed, Asked, Closed, Told, reply_in}
 use Rattle.smf_watch.specs.Watched.{HasHeard, HaveTimedOut, StopsHearing, StopsTiming, watched_by}
 use Rattle.smf_watch.specs.declared.ask.Onward.{Onward}
 use Rattle.smf_watch.specs.declared.ask.Onward.TheVariants.{Goes, Ends}
 use Rattle.smf_watch.specs.declared.ends.End.{End}
 use Rattle.smf_watch.specs.declared.size.Size.{Size}
-use Rattle.smf_watch.specs.declared.stops.Stop.{Stop}
+use Rattle.smf_watch.specs.declared.terms.Term.{Term}
 use Rattle.smf_watch.specs.declared.watch.Due.{Due}
 use Rattle.smf_world.specs.declared.item.Item.{Item}
 use Rattle.smf_world.specs.declared.schedule.Settled.{Settled}
@@ -48,7 +48,7 @@ pub record Standing : Type 0 where
   pub watched : List Due
 
 -- And with them the ends that were seen lately, and how much of the trail was looked at for them. And by what it is seen
--- whether anything happened since it was told how contracts are ended
+-- whether anything happened since it was told how contracts are kept
 pub record Between : Type 0 where
   pub standing : Standing
   pub looked : ℕ
@@ -249,26 +249,25 @@ passed_at (TickFailed e) = []
 passed_at (RequestFailed fault a) = replied a
 passed_at (RoundsFailed e a) = replied a
 
--- a line more, unless there was no memory for it
-abbrev pub MayEndWith : List ℕ → List ℕ → List ℕ → Type 0
-MayEndWith line was is = (is ≡ was ++ line) ⊎ (is ≡ was)
+-- the words of a fault after a text, or alone if there was no memory for both
+abbrev pub SaysFault : ScriptFault → List ℕ → List ℕ → Type 0
+SaysFault fault text said = (said ≡ text ++ fault_line fault) ⊎ (said ≡ fault_text fault)
 
--- a reply went out that has the words of a fault after a text, if there was memory for them, and the status 3, when the
--- repository held this
+-- a reply went out that has the words of a fault and the status 3, when the repository held this
 pub record IsToldOf (fault : ScriptFault) (text : List ℕ) (held : Holdings) (was is : Option (List Passed))
     : Type 0 where
   pub said : List ℕ
-  pub ends : MayEndWith (fault_line fault) text said
+  pub says : SaysFault fault text said
   pub written : Bool
   pub passed : is ≡ log_with (reply_in written said 3 held ∷ []) was
 
--- A request was ended by a fault. Its reply has what its lines wrote, then the words of the fault, and the status 3, and
+-- A request was ended by a fault. Its reply has the words of the fault after what its lines wrote, and the status 3, and
 -- went out when the repository held what they had come to
 pub record IsCut (k : Skills) (stores : RepoFault → Type 0) (fault : ScriptFault) (a : Answer) (s t : Course) : Type 0 where
   pub text : List ℕ
   pub stops : Stops k stores fault (first_session s.progress) (Some a.request) s.seen t.seen t.progress (Some [])
       (Some text)
-  pub said : MayEndWith (fault_line fault) text a.text
+  pub said : SaysFault fault text a.text
   pub status : a.status ≡ 3
   pub stood : a.held ≡ t.progress.world.now
 
@@ -387,17 +386,17 @@ HasTurned k clock stores Goes (Some fault) was is s t =
     IsFailed k clock stores fault was is s t × (t.standing.busy ≡ true)
 HasTurned k clock stores Ends fault was is s t = (t ≡ s) × (is ≡ log_with (Closed ∷ []) was)
 
--- ---- how contracts are ended
+-- ---- how contracts are kept
 
 -- it is told how all are ended, if anything happened since that was told
-abbrev pub lists_if : Bool → List Stop → List (List Stop)
-lists_if true stops = stops ∷ []
-lists_if false stops = []
+abbrev pub lists_if : Bool → List Term → List (List Term)
+lists_if true terms = terms ∷ []
+lists_if false terms = []
 
-abbrev pub stops_told : Bool → Between → List (List Stop)
-stops_told false s = []
-stops_told true s =
-    lists_if (is_new s.noted (size_of s.standing.course.progress.world)) (stops_of s.standing.course.progress.world.now)
+abbrev pub terms_told : Bool → Between → List (List Term)
+terms_told false s = []
+terms_told true s =
+    lists_if (is_new s.noted (size_of s.standing.course.progress.world)) (terms_of s.standing.course.progress.world.now)
 
 abbrev pub noted_by : Bool → Between → Option Size
 noted_by false s = s.noted
@@ -406,13 +405,13 @@ noted_by true s = Some (size_of s.standing.course.progress.world)
 abbrev pub noting : Bool → Between → Between
 noting tells s = record s { noted = noted_by tells s }
 
--- First it was told how what start methods began is ended, and then the turn was taken. If memory ran out before that could
+-- First it was told how contracts are kept, and then the turn was taken. If memory ran out before that could
 -- be told, nothing is done of the turn but to say so
 pub record HasTakenTurn (k : Skills) (clock : Duration → Type 0) (stores : RepoFault → Type 0) (onward : Onward)
-    (fault : Option ScriptFault) (was is : Option (List Passed)) (stops_was stops_is : Option (List (List Stop)))
+    (fault : Option ScriptFault) (was is : Option (List Passed)) (terms_was terms_is : Option (List (List Term)))
     (s t : Between) : Type 0 where
   pub tells : Bool
-  pub told : stops_is ≡ log_with (stops_told tells s) stops_was
+  pub told : terms_is ≡ log_with (terms_told tells s) terms_was
   pub turned : HasTurned k clock stores onward fault was is (noting tells s) t
   pub over : tells ≡ false → fault ≡ Some (Node Memory)
 
@@ -442,15 +441,15 @@ MayHaveForgotten s t = (t ≡ s) ⊎ ((t ≡ wanting s) ⊎ HasForgotten s t)
 
 -- ---- turn after turn
 
--- with the items that it added to the trail, and what was told before it of how contracts are ended
+-- with the items that it added to the trail, and what was told before it of how contracts are kept
 pub data Turn : Type 0 where
-  Taken : Doing → List Item → List (List Stop) → Turn
-  Failed : Failure → List Item → List (List Stop) → Turn
+  Taken : Doing → List Item → List (List Term) → Turn
+  Failed : Failure → List Item → List (List Term) → Turn
 
 -- the words of the fault, if a turn failed
 abbrev pub words_of : Turn → Option (List ℕ)
-words_of (Taken one items stops) = None
-words_of (Failed how items stops) = Some (fault_text (fault_of how))
+words_of (Taken one items terms) = None
+words_of (Failed how items terms) = Some (fault_text (fault_of how))
 
 -- and of the last of these turns, which comes first
 abbrev pub last_words : List Turn → Option (List ℕ)
@@ -470,19 +469,19 @@ abbrev pub told_anew : Option (List ℕ) → Option (List ℕ) → List Passed
 told_anew last None = []
 told_anew last (Some words) = told_if (not (is_told last words)) words
 
--- memory ran out before it could be told how contracts are ended: so the turn failed
+-- memory ran out before it could be told how contracts are kept: so the turn failed
 abbrev pub MayTell : Bool → Failure → Type 0
 MayTell true how = Unit {0}
 MayTell false how = fault_of how ≡ Node Memory
 
 -- after a turn that was taken what is over may be forgotten; after one that failed rounds are wanted
 abbrev pub TurnStep : Skills → (Duration → Type 0) → (RepoFault → Type 0) → Turn → Between → Between → Type 0
-TurnStep k clock stores (Taken one items stops) s t =
-    (mid : Between) × Step k clock one (noting true s) mid × (items ≡ shown_since s mid) × (stops ≡ stops_told true s)
+TurnStep k clock stores (Taken one items terms) s t =
+    (mid : Between) × Step k clock one (noting true s) mid × (items ≡ shown_since s mid) × (terms ≡ terms_told true s)
     × MayHaveForgotten mid t
-TurnStep k clock stores (Failed how items stops) s t =
+TurnStep k clock stores (Failed how items terms) s t =
     (tells : Bool) × MayTell tells how × Fails k clock stores how (noting tells s) t × (items ≡ shown_since s t)
-    × (stops ≡ stops_told tells s) × (t.standing.busy ≡ true)
+    × (terms ≡ terms_told tells s) × (t.standing.busy ≡ true)
 
 -- turns, the last first, each on what all before it left
 abbrev pub Steps : Skills → (Duration → Type 0) → (RepoFault → Type 0) → List Turn → Between → Between → Type 0
@@ -491,8 +490,8 @@ Steps k clock stores (turn ∷ before) s t =
     (mid : Between) × Steps k clock stores before s mid × TurnStep k clock stores turn mid t
 
 abbrev pub passed_by : Turn → List Passed
-passed_by (Taken one items stops) = passed_in one
-passed_by (Failed how items stops) = passed_at how
+passed_by (Taken one items terms) = passed_in one
+passed_by (Failed how items terms) = passed_at how
 
 abbrev pub all_passed : List Turn → List Passed
 all_passed [] = []
@@ -500,20 +499,20 @@ all_passed (turn ∷ before) =
     all_passed before ++ (passed_by turn ++ told_anew (last_words before) (words_of turn))
 
 abbrev pub shown_by : Turn → List Item
-shown_by (Taken one items stops) = items
-shown_by (Failed how items stops) = items
+shown_by (Taken one items terms) = items
+shown_by (Failed how items terms) = items
 
 -- all that they added to the trail, the first first
 abbrev pub all_shown : List Turn → List Item
 all_shown [] = []
 all_shown (turn ∷ before) = all_shown before ++ shown_by turn
 
-abbrev pub told_by : Turn → List (List Stop)
-told_by (Taken one items stops) = stops
-told_by (Failed how items stops) = stops
+abbrev pub told_by : Turn → List (List Term)
+told_by (Taken one items terms) = terms
+told_by (Failed how items terms) = terms
 
--- all that was told of how contracts are ended
-abbrev pub all_told : List Turn → List (List Stop)
+-- all that was told of how contracts are kept
+abbrev pub all_told : List Turn → List (List Term)
 all_told [] = []
 all_told (turn ∷ before) = all_told before ++ told_by turn
 

@@ -18,6 +18,6 @@ pub use server::Server;
 pub use smf_run::Leftover;
 pub use smf_watch::{
     Chronicle, Desk, End, Ender, Ends, ItemCount, MOST_ENDS, Noted, Onward, PERIOD, ServerInput,
-    Size, Stop, Timer, Watch,
+    Size, Term, Timer, Watch,
 };
 pub use turns::{Turned, turn};

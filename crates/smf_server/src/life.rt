@@ -11,6 +11,7 @@ ghost use Rattle.smf_server.specs.declared.life.TheConstants.{MOST_TURNS};
 ghost use Rattle.smf_past.specs.Lives.{LeadsTo};
 ghost use Rattle.smf_past.specs.Begun.{IsSafeSince};
 ghost use Rattle.smf_edge.specs.Starts.{log_with};
+ghost use Rattle.smf_watch.specs.Traffic.{LeavesNoMore, RepliesLast};
 
 use crate::fault_texts::fault_text;
 use crate::server::Server;
@@ -93,6 +94,7 @@ fn tell_anew<D: Desk>(
     ensures told { D.passed desk.new
         ≡ log_with (told_anew (option_copied last.entry) (Some (fault_text fault.now))) (D.passed desk.old) }
     ensures words { option_copied result ≡ Some (fault_text fault.now) }
+    ensures leaves { LeavesNoMore (D.leaves desk.old) (D.leaves desk.new) }
 {
     let words = fault_text(fault);
     if !is_told(last, words) {
@@ -115,6 +117,7 @@ fn conclude<D: Desk, J: Journal, K: Kids>(
     ensures agrees { (b : Before) → AgreesSince b server.old.node.world (K.ledger server.old.kids)
         → AgreesAnew server.new.node.world (K.ledger server.new.kids) }
     ensures safe { IsSafeSince server.new.node.world }
+    ensures leaves { LeavesNoMore (D.leaves desk.old) (D.leaves desk.new) }
 {
     match fault {
         None => {
@@ -152,6 +155,7 @@ fn stay<D: Desk, C: Chronicle, T: Timer, E: Ender, J: Journal, K: Kids>(
         (between K.ledger K.failures server.new) }
     ensures leads { LeadsTo server.old.node.world server.new.node.world }
     ensures safe { IsSafeSince server.new.node.world }
+    ensures lasts { RepliesLast (D.leaves desk.old) (D.leaves desk.new) }
 {
     chronicle.tell(server.node.trail());
     let mut last: Option<&'static str> = None;
@@ -197,11 +201,12 @@ fn live<D: Desk, C: Chronicle, T: Timer, E: Ender, J: Journal + Drop, K: Kids + 
     ender: &mut E,
     server: Server<J, K>,
 ) -> Life<J, K>
-    ensures { HasLived K.skills (T.says timer.now) J.write_fails J.stands MOST_TURNS result.how result.journal
+    ensures lived { HasLived K.skills (T.says timer.now) J.write_fails J.stands MOST_TURNS result.how result.journal
         (D.passed desk.old) (D.passed desk.new) (C.told chronicle.old) (C.told chronicle.new)
         (E.told ender.old) (E.told ender.new) result.left
         (between K.ledger K.failures server)
         (children_state (K.ledger result.kids) (K.failures result.kids)) }
+    ensures lasts { RepliesLast (D.leaves desk.old) (D.leaves desk.new) }
 {
     let mut server = server;
     let how = stay(alloc, desk, chronicle, timer, ender, &mut server);
@@ -245,6 +250,7 @@ pub fn stay_over<D: Desk, C: Chronicle, T: Timer, E: Ender, J: Journal + Drop, K
         (C.told chronicle.old) (C.told chronicle.new) (E.told ender.old) (E.told ender.new)
         (children_state (K.ledger kids) (K.failures kids))
         (children_state (K.ledger unborn.kids) (K.failures unborn.kids))) }
+    ensures lasts { RepliesLast (D.leaves desk.old) (D.leaves desk.new) }
 {
     match Node::new(alloc, repository) {
         Ok(node) => Ok(live(

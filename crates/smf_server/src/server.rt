@@ -15,7 +15,7 @@ pub struct Server<J: Journal, K: Kids> {
     pub busy: bool,
     /// The ends of instances that were seen lately.
     pub ends: Ends,
-    /// By what it is seen whether anything happened since it was told how contracts are ended.
+    /// By what it is seen whether anything happened since it was told how contracts are kept.
     pub noted: Noted,
     /// How much the trail showed when a round was last wanted so as to forget it.
     pub rested: usize,

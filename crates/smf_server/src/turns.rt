@@ -6,11 +6,11 @@ ghost use Rattle.smf_node.specs.declared.fault.NodeFault.TheVariants as nodes;
 ghost use Rattle.smf_script.specs.declared.fault.ScriptFault.TheVariants as scripts;
 ghost use Rattle.smf_server.specs.Turns.{GoFails, GoesBy, GoesIf, GoingFails, HasGone, HasLooked, HasPassed, HasTakenTurn, HasTimed, HasTried, HasTurned, IsFailed, IsTick, IsToldOf, IsTurn, LookFails, LooksIf, PassFails, StillWatches, TickFails, TimingFails, TryFails, between, is_busy, max_rounds, shown_of};
 ghost use Rattle.smf_watch.specs.Sizes.{is_same, size_of};
-ghost use Rattle.smf_watch.specs.Traffic.{Asked, Passed, Told};
+ghost use Rattle.smf_watch.specs.Traffic.{Asked, LeavesNoMore, Passed, RepliesLast, Told, reply_in};
 ghost use Rattle.smf_world.specs.Reached.{IsLater};
 ghost use Rattle.smf_past.specs.Begun.{IsSafeSince};
 
-use crate::fault_texts::add_fault;
+use crate::fault_texts::{add_fault, fault_text};
 use crate::server::Server;
 use smf_drive::drive;
 use smf_edge::Kids;
@@ -281,7 +281,8 @@ fn tick<T: Timer, J: Journal, K: Kids>(
 
 /// Tells lines to whoever runs the server.
 fn tell_all<D: Desk>(desk: &mut D, lines: &[Text])
-    ensures { D.passed desk.new ≡ log_with (map Told lines.now) (D.passed desk.old) }
+    ensures passed { D.passed desk.new ≡ log_with (map Told lines.now) (D.passed desk.old) }
+    ensures leaves { LeavesNoMore (D.leaves desk.old) (D.leaves desk.new) }
 {
     for line in lines {
         desk.tell(line.as_str());
@@ -290,7 +291,8 @@ fn tell_all<D: Desk>(desk: &mut D, lines: &[Text])
 
 /// Tells all of these.
 fn tell_each<D: Desk>(desk: &mut D, lines: &Items<Text>)
-    ensures { D.passed desk.new ≡ log_with (map Told lines.now) (D.passed desk.old) }
+    ensures passed { D.passed desk.new ≡ log_with (map Told lines.now) (D.passed desk.old) }
+    ensures leaves { LeavesNoMore (D.leaves desk.old) (D.leaves desk.new) }
 {
     tell_all(desk, lines.as_slice());
 }
@@ -324,19 +326,37 @@ fn wants_rounds<J: Journal>(node: &Node<J>, before: &Size) -> bool
     }
 }
 
-/// Replies to a request that was ended by a fault, and adds the text of the fault.
+/// Replies to the request that was given last. A crash from now on leaves what the node's repository holds.
+fn reply<D: Desk, J: Journal>(desk: &mut D, node: &Node<J>, text: &[u8], status: u8) -> bool
+    ensures passed { D.passed desk.new
+        ≡ log_with (reply_in result text.now status node.now.world.now ∷ []) (D.passed desk.old) }
+    ensures lasts { RepliesLast (D.leaves desk.old) (D.leaves desk.new) }
+{
+    let repository = node.repository();
+    let _journal = repository.journal();
+    desk.reply(repository, text, status)
+}
+
+/// Replies to a request that was ended by a fault, and adds the text of the fault. It is told alone if there is no memory
+/// for both.
 fn reply_fault<D: Desk, J: Journal>(
-    alloc: Global,
     desk: &mut D,
     node: &Node<J>,
     text: Vec<u8>,
     fault: &ScriptFault,
 )
-    ensures { IsToldOf fault.now text.items node.now.world.now (D.passed desk.old) (D.passed desk.new) }
+    ensures told { IsToldOf fault.now text.items node.now.world.now (D.passed desk.old) (D.passed desk.new) }
+    ensures lasts { RepliesLast (D.leaves desk.old) (D.leaves desk.new) }
 {
     let mut text = text;
-    add_fault(alloc, &mut text, fault);
-    let _is_written = desk.reply(node.repository(), &text, FAULT);
+    match add_fault(&mut text, fault) {
+        Ok(()) => {
+            let _is_written = reply(desk, node, &text, FAULT);
+        }
+        Err(_) => {
+            let _is_written = reply(desk, node, fault_text(fault).as_bytes(), FAULT);
+        }
+    }
 }
 
 /// A request is done, and replied to; then rounds happen, if anything came of it.
@@ -357,6 +377,7 @@ fn answer<D: Desk, T: Timer, J: Journal, K: Kids>(
         AgreesSince b server.old.node.world (K.ledger server.old.kids)
         → AgreesSince b server.new.node.world (K.ledger server.new.kids)) }
     ensures later { IsLater server.old.node.world server.new.node.world }
+    ensures lasts { RepliesLast (D.leaves desk.old) (D.leaves desk.new) }
 {
     let before = size_of(&server.node);
     let mut text: Vec<u8> = Vec::new(alloc);
@@ -369,7 +390,7 @@ fn answer<D: Desk, T: Timer, J: Journal, K: Kids>(
         &mut server.kids,
     ) {
         Ok(status) => {
-            let _is_written = desk.reply(server.node.repository(), &text, status);
+            let _is_written = reply(desk, &server.node, &text, status);
             let wanted = wants_rounds(&server.node, &before);
             match go_if(alloc, timer, server, wanted) {
                 Ok(()) => Ok(()),
@@ -377,7 +398,7 @@ fn answer<D: Desk, T: Timer, J: Journal, K: Kids>(
             }
         }
         Err(fault) => {
-            reply_fault(alloc, desk, &server.node, text, &fault);
+            reply_fault(desk, &server.node, text, &fault);
             Err(fault)
         }
     }
@@ -398,6 +419,7 @@ fn do_next<D: Desk, T: Timer, J: Journal, K: Kids>(
         AgreesSince b server.old.node.world (K.ledger server.old.kids)
         → AgreesSince b server.new.node.world (K.ledger server.new.kids)) }
     ensures later { IsLater server.old.node.world server.new.node.world }
+    ensures lasts { RepliesLast (D.leaves desk.old) (D.leaves desk.new) }
 {
     match desk.next() {
         ServerInput::Tick => match tick(alloc, timer, server) {
@@ -441,6 +463,7 @@ fn take<D: Desk, T: Timer, J: Journal, K: Kids>(
         → AgreesSince b server.old.node.world (K.ledger server.old.kids)
         → AgreesSince b server.new.node.world (K.ledger server.new.kids) }
     ensures later { IsLater server.old.node.world server.new.node.world }
+    ensures lasts { RepliesLast (D.leaves desk.old) (D.leaves desk.new) }
     ensures safe { IsSafeSince server.new.node.world }
 {
     let how = do_next(alloc, desk, timer, server);
@@ -469,6 +492,7 @@ fn pass_over<D: Desk, T: Timer, J: Journal, K: Kids>(
 ) -> Onward
     ensures turned { HasTurned K.skills (T.says _timer.now) J.write_fails result (Some (scripts.Node nodes.Memory)) (D.passed desk.old) (D.passed desk.new) (between K.ledger K.failures server.old) (between K.ledger K.failures server.new) }
     ensures node { server.new.node ≡ server.old.node }
+    ensures lasts { RepliesLast (D.leaves desk.old) (D.leaves desk.new) }
 {
     match desk.next() {
         ServerInput::Tick => {
@@ -477,7 +501,7 @@ fn pass_over<D: Desk, T: Timer, J: Journal, K: Kids>(
         }
         ServerInput::Request(_request) => {
             let fault = ScriptFault::Node(NodeFault::Memory);
-            reply_fault(alloc, desk, &server.node, Vec::new(alloc), &fault);
+            reply_fault(desk, &server.node, Vec::new(alloc), &fault);
             server.busy = true;
             Onward::Goes
         }
@@ -485,7 +509,7 @@ fn pass_over<D: Desk, T: Timer, J: Journal, K: Kids>(
     }
 }
 
-/// Tells how contracts are ended, and then does the next ask of the desk: a tick, or a request, which gets a reply. A
+/// Tells how contracts are kept, and then does the next ask of the desk: a tick, or a request, which gets a reply. A
 /// fault leaves what was done before it. If memory ran out before that is told, nothing is done of the ask.
 pub fn turn<D: Desk, T: Timer, E: Ender, J: Journal, K: Kids>(
     alloc: Global,
@@ -494,7 +518,7 @@ pub fn turn<D: Desk, T: Timer, E: Ender, J: Journal, K: Kids>(
     ender: &mut E,
     server: &mut Server<J, K>,
 ) -> Turned
-    // First it was told how what start methods began is ended, if anything happened since that was told. Then one request
+    // First it was told how contracts are kept, if anything happened since that was told. Then one request
     // came in, its lines were done, and its one reply went out; or time passed, and lines were told. If this failed, it was
     // by its own reason: the request got one reply, and nothing passed at a tick.
     ensures turned { HasTakenTurn K.skills (T.says timer.now) J.write_fails result.onward result.fault (D.passed desk.old)
@@ -505,6 +529,8 @@ pub fn turn<D: Desk, T: Timer, E: Ender, J: Journal, K: Kids>(
         → AgreesSince b server.new.node.world (K.ledger server.new.kids) }
     // However it ends, what is held is what some events make of what was, and what the trail shows is what happened.
     ensures later { IsLater server.old.node.world server.new.node.world }
+    // A crash at the moment of its reply leaves what is held then.
+    ensures lasts { RepliesLast (D.leaves desk.old) (D.leaves desk.new) }
     ensures safe { IsSafeSince server.new.node.world }
 {
     match server.noted.tell(alloc, ender, &server.node) {

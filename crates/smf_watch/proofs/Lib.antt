@@ -4,4 +4,4 @@ pub mod Hasty
 pub mod Hears
 pub mod Late
 pub mod Marked
-pub mod Stopped
+pub mod Termed

@@ -1,6 +1,6 @@
 pub mod Causes
 pub mod Loops
 pub mod Sizes
-pub mod Stops
+pub mod Terms
 pub mod Traffic
 pub mod Watched

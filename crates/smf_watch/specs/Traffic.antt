@@ -1,5 +1,5 @@
 -- The traffic over a desk.
-use Rattle.std.specs.Prelude.{ℕ, List, [], ◌∷◌, Bool, true, false}
+use Rattle.std.specs.Prelude.{◌≡◌, ◌⊎◌, ℕ, List, [], ◌∷◌, Bool, true, false, Option, Some}
 use Rattle.smf_model.specs.Contents.{Holdings}
 use Rattle.smf_watch.specs.declared.ask.ServerInput.{ServerInput}
 use Rattle.smf_watch.specs.declared.ask.ServerInput.TheVariants as asks
@@ -22,3 +22,23 @@ asked_in asks.End = Closed ∷ []
 abbrev pub reply_in : Bool → List ℕ → ℕ → Holdings → Passed
 reply_in true text status held = Replied text status held
 reply_in false text status held = Unwritten held
+
+-- ---- what a crash leaves
+
+-- what a crash may leave in the store at the moment of a reply, by what the repository holds then
+abbrev pub Leavings : Type 1
+Leavings = Holdings → Option Holdings → Type 0
+
+-- no reply went out
+abbrev pub LeavesNoMore : Leavings → Leavings → Type 0
+LeavesNoMore old new = (held : Holdings) (found : Option Holdings) → new held found → old held found
+
+-- one reply went out, when the repository held this and a crash may leave these
+abbrev pub LeavesAt : Holdings → (Option Holdings → Type 0) → Leavings → Leavings → Type 0
+LeavesAt h may old new =
+    (held : Holdings) (found : Option Holdings) → new held found → old held found ⊎ ((held ≡ h) × may found)
+
+-- a crash at the moment of any reply that went out leaves just what was held then
+abbrev pub RepliesLast : Leavings → Leavings → Type 0
+RepliesLast old new =
+    (held : Holdings) (found : Option Holdings) → new held found → old held found ⊎ (found ≡ Some held)

@@ -1,10 +1,10 @@
 //! The desk and the clock of a server, and all that it watches: the events of its children, methods that may take too
-//! long, and instances that end again and again. It tells how contracts are ended, and what happened. Nothing here knows
+//! long, and instances that end again and again. It tells how contracts are kept, and what happened. Nothing here knows
 //! scripts.
 //! Modules: `ask` (the next ask), `desk` (requests and replies), `timer` (the clock), `chronicle` (what is told of what
 //! happened); `child_events` (the events of children), `watch` (methods that may take too long); `ends` (ends of instances
-//! that nobody asked for), `marks` (instances that are marked for maintenance), `size` (how much has happened), `stops`
-//! (how contracts are ended), `causes` (why instances are in maintenance).
+//! that nobody asked for), `marks` (instances that are marked for maintenance), `size` (how much has happened), `terms`
+//! (how contracts are kept), `causes` (why instances are in maintenance).
 #![tactic(auto)]
 
 mod ask;
@@ -15,7 +15,7 @@ mod desk;
 mod ends;
 mod marks;
 mod size;
-mod stops;
+mod terms;
 mod timer;
 mod watch;
 
@@ -27,6 +27,6 @@ pub use desk::Desk;
 pub use ends::{End, Ends, Found, MOST_ENDS, PERIOD};
 pub use marks::{lines_of, mark_all};
 pub use size::{Size, is_same, size_of};
-pub use stops::{Ender, Noted, Stop};
+pub use terms::{Ender, LogLimit, Noted, Stop, Term};
 pub use timer::Timer;
 pub use watch::{Due, Timed, Watch};

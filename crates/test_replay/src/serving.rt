@@ -6,7 +6,7 @@ use smf_edge::TableKids;
 use smf_model::{Journal, NoJournal, Plain};
 use smf_script::ScriptFault;
 use smf_server::{Life, Unborn, fault_text, stay_over};
-use smf_watch::{Desk, Ender, ItemCount, ServerInput, Stop, Timer};
+use smf_watch::{Desk, Ender, ItemCount, ServerInput, Term, Timer};
 use std::alloc::Global;
 use std::io::{self, BufReader, Read};
 use std::time::Duration;
@@ -52,6 +52,8 @@ impl Desk for RepeatDesk<'_> {
     ghost use Rattle.std.specs.Prelude.{None};
 
     ghost passed = { λ _. None };
+
+    ghost leaves = { λ _ _ _. ⊥ };
 
     fn next(&mut self) -> ServerInput {
         if self.ticks > 0 {
@@ -106,7 +108,7 @@ impl Ender for Nobody {
 
     ghost told = { λ _. None };
 
-    fn end_by(&mut self, _stops: &[Stop]) {}
+    fn keep_by(&mut self, _terms: &[Term]) {}
 }
 
 /// The last line of a text, with its end.

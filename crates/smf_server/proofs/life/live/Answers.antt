@@ -1,8 +1,8 @@
 use Rattle.smf_server.specs.Turns.{between}
 use Rattle.smf_server.proofs.life.live.Goals as goal
 
-pub returns : goal.returns
-returns g c =
+pub returns-clause-lived : goal.returns-clause-lived
+returns-clause-lived g c =
     record {
       last = between g.K.Kids.ledger g.K.Kids.failures c.stay-how.new.server;
       stayed = c.stay-how.ensures.stayed;

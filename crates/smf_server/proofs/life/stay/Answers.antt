@@ -1,5 +1,6 @@
-use Rattle.std.proofs.Common.{arith}
+use Rattle.std.proofs.Common.{arith, inl}
 use Rattle.smf_past.proofs.RemainingWorlds.{leads_later, leads_self}
+use Rattle.smf_server.proofs.Lasting.{lasts_same, lasts_then}
 use Rattle.smf_server.proofs.Lives.{leads_on}
 use Rattle.smf_server.proofs.Served.{goes_on, none_taken, stays_all, stays_closed}
 use Rattle.smf_server.proofs.life.stay.Goals as goal
@@ -7,7 +8,7 @@ use Rattle.smf_server.proofs.life.stay.Goals as goal
 pub loop-init : goal.loop-init
 loop-init g c = (
   none_taken g.K.Kids.skills _ _ _ _ _ _ _ (rw c.trail.ensures.shown at c.tell.ensures),
-  (leads_self _, c.trail.ensures.safe),
+  (leads_self _, (c.trail.ensures.safe, λ held found may. inl may)),
 )
 
 pub loop-preserved : goal.loop-preserved
@@ -20,7 +21,11 @@ loop-preserved g c = (
       c.conclude-last.ensures.concluded c.conclude-last.ensures.agrees,
   (
     leads_on _ c.turn-onward.result.fault _ _ _ _ _ _ _ c.loop.invariant.1.0 c.turn-onward.ensures.later c.conclude-last.ensures.concluded,
-    c.conclude-last.ensures.safe,
+    (
+      c.conclude-last.ensures.safe,
+      lasts_then _ _ _ (lasts_then _ _ _ c.loop.invariant.1.1.1 c.turn-onward.ensures.lasts)
+          (lasts_same _ _ c.conclude-last.ensures.leaves),
+    ),
   ),
 )
 
@@ -36,3 +41,6 @@ pub returns-clause-stayed : goal.returns-clause-stayed
 returns-clause-stayed g c =
     stays_all g.K.Kids.skills _ _ _ _ _ _ _ _ _ _ _ _ _ c.loop.invariant.0
     (omega (arith, c.loop-test.false, c.loop.auto.counter-end))
+
+pub returns-in-Ends-clause-lasts : goal.returns-in-Ends-clause-lasts
+returns-in-Ends-clause-lasts g c = lasts_then _ _ _ c.loop.invariant.1.1.1 c.turn-onward.ensures.lasts

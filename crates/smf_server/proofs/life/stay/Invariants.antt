@@ -3,6 +3,7 @@ use Rattle.smf_past.specs.Begun.{IsSafeSince}
 use Rattle.smf_past.specs.Lives.{LeadsTo}
 use Rattle.smf_server.specs.Turns.{between}
 use Rattle.smf_server.proofs.Served.{HaveTaken}
+use Rattle.smf_watch.specs.Traffic.{RepliesLast}
 use Rattle.smf_server.proofs.life.stay.Given as goal
 
 abbrev pub invariant-loop : goal.invariant-loop
@@ -12,4 +13,5 @@ invariant-loop g l =
     (g.C.Chronicle.told l.fn.chronicle) (g.C.Chronicle.told l.chronicle)
     (g.E.Ender.told l.fn.ender) (g.E.Ender.told l.ender)
     (between g.K.Kids.ledger g.K.Kids.failures l.fn.server) (between g.K.Kids.ledger g.K.Kids.failures l.server)
-    × (LeadsTo l.fn.server.node.world l.server.node.world × IsSafeSince l.server.node.world)
+    × (LeadsTo l.fn.server.node.world l.server.node.world
+    × (IsSafeSince l.server.node.world × RepliesLast (g.D.Desk.leaves l.fn.desk) (g.D.Desk.leaves l.desk)))

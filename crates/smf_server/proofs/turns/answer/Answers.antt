@@ -6,7 +6,7 @@ use Rattle.smf_server.specs.Turns.{between}
 use Rattle.smf_server.proofs.TurnSteps.{answered, answered_then, come_on, cut, moved_later}
 use Rattle.smf_server.proofs.Watching.{still_same, still_then}
 use Rattle.smf_watch.specs.declared.ends.Ends.{Ends as SeenEnds}
-use Rattle.smf_watch.specs.declared.stops.Noted.{Noted}
+use Rattle.smf_watch.specs.declared.terms.Noted.{Noted}
 use Rattle.smf_world.proofs.LaterWorlds.{later_then}
 use Rattle.smf_server.proofs.turns.answer.Goals as goal
 
@@ -24,7 +24,7 @@ returns-in-Ok-go_if-clause-ok g c =
     (course c.run_script.new.node
     (children_state (g.K.Kids.ledger c.run_script.new.kids) (g.K.Kids.failures c.run_script.new.kids)))
     c.wants_rounds-wanted.result came
-    (rw (c.deref.ensures.value, c.repository.ensures) at c.reply-is_written.ensures)
+    (rw c.deref.ensures.value at c.reply-is_written.ensures.passed)
     (rw c.new-text.ensures.items at c.in-Ok.ensures.ran, refl)
     (rw c.size_of-before.ensures at c.wants_rounds-wanted.ensures) c.in-Ok-go_if.ensures.gone
     (ap (λ (e : SeenEnds). e.looked) c.go_if.ensures.kept)
@@ -44,7 +44,7 @@ returns-in-Ok-clause-err g c =
     }) before _ _ (between g.K.Kids.ledger g.K.Kids.failures c.args.server.now)
     (course c.run_script.new.node
     (children_state (g.K.Kids.ledger c.run_script.new.kids) (g.K.Kids.failures c.run_script.new.kids))) _ _ came
-    (rw (c.deref.ensures.value, c.repository.ensures) at c.reply-is_written.ensures)
+    (rw c.deref.ensures.value at c.reply-is_written.ensures.passed)
     (rw c.new-text.ensures.items at c.in-Ok.ensures.ran, refl) c.in-Err-go_if.ensures.failed.1
     (come_on _ _ _
     (later_then _ _ _ c.run_script.ensures.later (moved_later _ _ _ _ c.go_if.ensures.moves))
@@ -65,7 +65,7 @@ pub returns-clause-err : goal.returns-clause-err
 returns-clause-err g c =
     λ before came.
     cut g.K.Kids.skills _ g.J.Journal.write_fails _ c.args.request.now c.run_script.new.writer.items before _ _
-    (between g.K.Kids.ledger g.K.Kids.failures c.args.server.now) _ came c.reply_fault.ensures
+    (between g.K.Kids.ledger g.K.Kids.failures c.args.server.now) _ came c.reply_fault.ensures.told
     (rw c.new-text.ensures.items at c.in-Err.ensures.err)
     (come_on _ _ _ c.run_script.ensures.later (still_same _ _ _ _ _ c.run_script.ensures.later refl) refl refl refl)
     (λ b agrees. c.in-Err.ensures.dropped b agrees)

@@ -6,7 +6,7 @@ use Rattle.smf_server.proofs.TurnSteps.{moved_later}
 use Rattle.smf_server.proofs.Watching.{still_then}
 use Rattle.smf_watch.proofs.FaultExits.{on_fault, passed_on}
 use Rattle.smf_watch.specs.declared.ends.Ends.{Ends as SeenEnds}
-use Rattle.smf_watch.specs.declared.stops.Noted.{Noted}
+use Rattle.smf_watch.specs.declared.terms.Noted.{Noted}
 use Rattle.smf_world.proofs.LaterWorlds.{later_then}
 use Rattle.smf_server.proofs.turns.tick.Goals as goal
 

@@ -2,7 +2,7 @@ ghost use Rattle.smf_method.specs.Commands.{is_signal, is_signal_byte};
 ghost use Rattle.smf_method.specs.Properties.{timeout_by, timeout_in};
 ghost use Rattle.smf_model.specs.Next.{named_snapshot};
 ghost use Rattle.smf_watch.specs.Sizes.{size_of};
-ghost use Rattle.smf_watch.specs.Stops.{is_child, is_new, named_stop, stop_by, stop_in, stop_of, stops_among, stops_of, stop_lists_if, timed_stop};
+ghost use Rattle.smf_watch.specs.Terms.{count_by, count_in, is_child, is_new, composed_in, log_by, log_in, named_stop, stop_by, stop_in, term_lists_if, terms_among, terms_by, terms_of, timed_stop};
 ghost use Rattle.std.specs.List.{list_all};
 ghost use Rattle.std.specs.Option.{option_copied};
 ghost use Rattle.std.specs.Prelude.{◌≡◌, ◌++◌, IfOk, OnErr, OnOk, Some};
@@ -29,20 +29,37 @@ pub struct Stop {
     pub child: bool,
 }
 
-/// Whoever ends contracts.
+/// When the log of an instance is renamed, by the group `startd` of its running snapshot.
+#[derive(Drop)]
+pub struct LogLimit {
+    pub instance: InstanceFmri,
+    /// `log_max`: it is renamed when it has more bytes. 0 is no limit.
+    pub most: Option<u64>,
+    /// `log_keep`: so many that were renamed are kept.
+    pub kept: Option<u64>,
+}
+
+/// What an instance says of itself to whoever keeps its contracts.
+#[derive(Drop)]
+pub enum Term {
+    Stops(Stop),
+    Logs(LogLimit),
+}
+
+/// Whoever keeps contracts, ends them and writes their logs.
 pub trait Ender {
-    ghost use Rattle.smf_watch.specs.declared.stops.Stop.{Stop};
+    ghost use Rattle.smf_watch.specs.declared.terms.Term.{Term};
     ghost use Rattle.std.specs.Prelude.{List, Option, true};
 
     /// All that was told, the first first, if that is known.
-    ghost told: { Self → Option (List (List Stop)) };
+    ghost told: { Self → Option (List (List Term)) };
 
-    /// From now on what start methods began is ended so, and all else by TERM.
-    fn end_by(&mut self, stops: &[Stop])
-        ensures { told self.new ≡ stop_lists_if true stops.now (told self.old) };
+    /// From now on what start methods began is ended so, and all else by TERM; and logs are renamed so.
+    fn keep_by(&mut self, terms: &[Term])
+        ensures { told self.new ≡ term_lists_if true terms.now (told self.old) };
 }
 
-/// By what it is seen whether anything happened since whoever ends contracts was told how.
+/// By what it is seen whether anything happened since whoever keeps contracts was told how.
 #[derive(Drop)]
 pub struct Noted {
     pub size: Option<Size>,
@@ -130,15 +147,15 @@ fn push_timed(
     instance: &Instance,
     signal: &str,
     timeout: Option<Option<Timeout>>,
-    stops: &mut Items<Stop>,
+    terms: &mut Items<Term>,
 ) -> Result<(), AllocError>
-    ensures { OnOk result (stops.new ≡ stops.old ++ timed_stop instance.now signal.now timeout) }
+    ensures { OnOk result (terms.new ≡ terms.old ++ timed_stop instance.now signal.now timeout) }
 {
     match timeout {
         None => Ok(()),
         Some(timeout) => {
             let stop = stop_with(alloc, instance, signal, timeout)?;
-            stops.push(stop)?;
+            terms.push(Term::Stops(stop))?;
             Ok(())
         }
     }
@@ -149,13 +166,13 @@ fn push_named(
     instance: &Instance,
     signal: Option<&str>,
     timeout: Option<Option<Timeout>>,
-    stops: &mut Items<Stop>,
+    terms: &mut Items<Term>,
 ) -> Result<(), AllocError>
-    ensures { OnOk result (stops.new ≡ stops.old ++ named_stop instance.now (option_copied signal.entry) timeout) }
+    ensures { OnOk result (terms.new ≡ terms.old ++ named_stop instance.now (option_copied signal.entry) timeout) }
 {
     match signal {
         Some(signal) if is_signal(signal.as_bytes()) => {
-            push_timed(alloc, instance, signal, timeout, stops)
+            push_timed(alloc, instance, signal, timeout, terms)
         }
         _ => Ok(()),
     }
@@ -166,14 +183,14 @@ fn push_by(
     instance: &Instance,
     exec: &str,
     timeout: Option<Option<Timeout>>,
-    stops: &mut Items<Stop>,
+    terms: &mut Items<Term>,
 ) -> Result<(), AllocError>
-    ensures { OnOk result (stops.new ≡ stops.old ++ stop_by instance.now (Some exec.now) timeout) }
+    ensures { OnOk result (terms.new ≡ terms.old ++ stop_by instance.now (Some exec.now) timeout) }
 {
     if exec == ":kill" {
-        return push_timed(alloc, instance, "TERM", timeout, stops);
+        return push_timed(alloc, instance, "TERM", timeout, terms);
     }
-    push_named(alloc, instance, strip(":kill -", exec), timeout, stops)
+    push_named(alloc, instance, strip(":kill -", exec), timeout, terms)
 }
 
 /// Adds how an instance is ended by its group `stop`.
@@ -181,9 +198,9 @@ fn push_in(
     alloc: Global,
     instance: &Instance,
     group: &Group,
-    stops: &mut Items<Stop>,
+    terms: &mut Items<Term>,
 ) -> Result<(), AllocError>
-    ensures { OnOk result (stops.new ≡ stops.old ++ stop_in instance.now (Some group.now)) }
+    ensures { OnOk result (terms.new ≡ terms.old ++ stop_in instance.now (Some group.now)) }
 {
     match group.text("exec") {
         None => Ok(()),
@@ -192,7 +209,7 @@ fn push_in(
             instance,
             exec.as_str(),
             timeout_in(group.find("timeout_seconds")),
-            stops,
+            terms,
         ),
     }
 }
@@ -201,33 +218,73 @@ fn push_if_there(
     alloc: Global,
     instance: &Instance,
     group: Option<&Group>,
-    stops: &mut Items<Stop>,
+    terms: &mut Items<Term>,
 ) -> Result<(), AllocError>
-    ensures { OnOk result (stops.new ≡ stops.old ++ stop_in instance.now (option_copied group.entry)) }
+    ensures { OnOk result (terms.new ≡ terms.old ++ stop_in instance.now (option_copied group.entry)) }
 {
     match group {
         None => Ok(()),
-        Some(group) => push_in(alloc, instance, group, stops),
+        Some(group) => push_in(alloc, instance, group, terms),
     }
 }
 
-/// Adds how an instance is ended by a snapshot.
-fn push_stop(
-    alloc: Global,
+fn count_by(values: &[Value]) -> Option<u64>
+    ensures { result ≡ count_by values.now }
+{
+    match values {
+        [Value::Count(count)] => Some(*count),
+        _ => None,
+    }
+}
+
+/// The one count of a property.
+fn count_in(property: Option<&Property>) -> Option<u64>
+    ensures { result ≡ count_in (option_copied property.entry) }
+{
+    match property {
+        None => None,
+        Some(property) => count_by(property.values()),
+    }
+}
+
+/// When the log of an instance is renamed.
+fn log_by(instance: &Instance, most: Option<u64>, kept: Option<u64>) -> Result<Term, AllocError>
+    ensures { IfOk result (λ term. term ≡ log_by instance.now most kept) }
+{
+    let name = instance.name.clone()?;
+    Ok(Term::Logs(LogLimit {
+        instance: name,
+        most,
+        kept,
+    }))
+}
+
+/// Adds when the log of an instance is renamed by its group `startd`.
+fn push_log_in(
     instance: &Instance,
-    snapshot: Option<&Snapshot>,
-    stops: &mut Items<Stop>,
+    group: Option<&Group>,
+    terms: &mut Items<Term>,
 ) -> Result<(), AllocError>
-    ensures { OnOk result (stops.new ≡ stops.old ++ stop_of instance.now (option_copied snapshot.entry)) }
+    ensures { OnOk result (terms.new ≡ terms.old ++ log_in instance.now (option_copied group.entry)) }
+{
+    match group {
+        None => Ok(()),
+        Some(group) => {
+            let most = count_in(group.find("log_max"));
+            let kept = count_in(group.find("log_keep"));
+            let term = log_by(instance, most, kept)?;
+            terms.push(term)
+        }
+    }
+}
+
+/// A composed group of a snapshot, if there is a snapshot.
+fn composed_in<'a>(name: &str, snapshot: Option<&'a Snapshot>) -> Option<&'a Group>
+    ensures { option_copied result ≡ composed_in name.now (option_copied snapshot.entry) }
 {
     match snapshot {
-        None => Ok(()),
-        Some(snapshot) => push_if_there(
-            alloc,
-            instance,
-            composed_group(&snapshot.instance_groups, &snapshot.service_groups, "stop"),
-            stops,
-        ),
+        None => None,
+        Some(snapshot) => composed_group(&snapshot.instance_groups, &snapshot.service_groups, name),
     }
 }
 
@@ -241,43 +298,57 @@ fn snapshot_of<J: Journal>(repository: &Plain<J>, number: Option<u64>) -> Option
     }
 }
 
-/// Adds how an instance is ended by its running snapshot.
+/// Adds what is told of an instance by a snapshot.
+fn push_terms(
+    alloc: Global,
+    instance: &Instance,
+    snapshot: Option<&Snapshot>,
+    terms: &mut Items<Term>,
+) -> Result<(), AllocError>
+    ensures { OnOk result (terms.new ≡ terms.old ++ terms_by instance.now (option_copied snapshot.entry)) }
+{
+    push_if_there(alloc, instance, composed_in("stop", snapshot), terms)?;
+    push_log_in(instance, composed_in("startd", snapshot), terms)?;
+    Ok(())
+}
+
+/// Adds what is told of an instance by its running snapshot.
 fn push_entry<J: Journal>(
     alloc: Global,
     repository: &Plain<J>,
     entry: &InstanceEntry,
-    stops: &mut Items<Stop>,
+    terms: &mut Items<Term>,
 ) -> Result<(), AllocError>
     ensures { OnOk result
-        (stops.new ≡ stops.old ++ stop_of entry.now.instance
+        (terms.new ≡ terms.old ++ terms_by entry.now.instance
         (named_snapshot repository.now.held entry.now.instance.row.running)) }
 {
     let running = snapshot_of(repository, entry.instance.row.running);
-    push_stop(alloc, &entry.instance, running, stops)?;
+    push_terms(alloc, &entry.instance, running, terms)?;
     Ok(())
 }
 
-/// How those of these instances are ended whose stop method is `:kill`.
-fn stops_among<J: Journal>(
+/// What is told of these instances.
+fn terms_among<J: Journal>(
     alloc: Global,
     repository: &Plain<J>,
     entries: &[InstanceEntry],
-) -> Result<Items<Stop>, AllocError>
-    ensures { IfOk result (λ stops. stops ≡ stops_among repository.now.held entries.now) }
+) -> Result<Items<Term>, AllocError>
+    ensures { IfOk result (λ terms. terms ≡ terms_among repository.now.held entries.now) }
 {
-    let mut stops: Items<Stop> = Items::new(alloc);
+    let mut terms: Items<Term> = Items::new(alloc);
     for entry in entries {
-        push_entry(alloc, repository, entry, &mut stops)?;
+        push_entry(alloc, repository, entry, &mut terms)?;
     }
-    Ok(stops)
+    Ok(terms)
 }
 
-/// How all are ended whose stop method is `:kill`.
-fn stops_of<J: Journal>(alloc: Global, repository: &Plain<J>) -> Result<Items<Stop>, AllocError>
-    ensures { IfOk result (λ stops. stops ≡ stops_of repository.now.held) }
+/// What is told of all instances.
+fn terms_of<J: Journal>(alloc: Global, repository: &Plain<J>) -> Result<Items<Term>, AllocError>
+    ensures { IfOk result (λ terms. terms ≡ terms_of repository.now.held) }
 {
-    let stops = stops_among(alloc, repository, repository.entries())?;
-    Ok(stops)
+    let terms = terms_among(alloc, repository, repository.entries())?;
+    Ok(terms)
 }
 
 /// True if anything happened since it was told.
@@ -297,14 +368,14 @@ fn tell_if<E: Ender, J: Journal>(
     is_new: bool,
 ) -> Result<(), AllocError>
     ensures told { OnOk result
-        (E.told ender.new ≡ stop_lists_if is_new (stops_of repository.now.held) (E.told ender.old)) }
+        (E.told ender.new ≡ term_lists_if is_new (terms_of repository.now.held) (E.told ender.old)) }
     ensures fault { OnErr result (E.told ender.new ≡ E.told ender.old) }
 {
     if !is_new {
         return Ok(());
     }
-    let stops = stops_of(alloc, repository)?;
-    ender.end_by(stops.as_slice());
+    let terms = terms_of(alloc, repository)?;
+    ender.keep_by(terms.as_slice());
     Ok(())
 }
 
@@ -318,8 +389,8 @@ impl Noted {
         Noted { size: None }
     }
 
-    /// Tells how all are ended whose stop method is `:kill`, if anything happened since it was told. An error tells
-    /// nothing.
+    /// Tells how all are ended whose stop method is `:kill`, and when logs are renamed, if anything happened since it was
+    /// told. An error tells nothing.
     pub fn tell<E: Ender, J: Journal>(
         &mut self,
         alloc: Global,
@@ -327,8 +398,8 @@ impl Noted {
         node: &Node<J>,
     ) -> Result<(), AllocError>
         ensures told { OnOk result
-            (E.told ender.new ≡ stop_lists_if (is_new self.old.size (size_of node.now.world))
-            (stops_of node.now.world.now) (E.told ender.old)) }
+            (E.told ender.new ≡ term_lists_if (is_new self.old.size (size_of node.now.world))
+            (terms_of node.now.world.now) (E.told ender.old)) }
         ensures noted { OnOk result (self.new.size ≡ Some (size_of node.now.world)) }
         ensures fault { OnErr result (E.told ender.new ≡ E.told ender.old) }
         ensures kept { OnErr result (self.new.size ≡ self.old.size) }

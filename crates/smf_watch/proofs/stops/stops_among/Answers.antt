@@ -1,8 +1,0 @@
-use Rattle.smf_watch.proofs.Stopped.{one_stop}
-use Rattle.smf_watch.proofs.stops.stops_among.Goals as goal
-
-pub loop-entry-preserved : goal.loop-entry-preserved
-loop-entry-preserved g c =
-    one_stop c.args.repository.now.held c.args.entries.now c.loop-entry.entry-index c.entry-item.result
-    c.loop-entry.stops _ _ c.loop-entry-test.true
-    c.entry-item.is c.in_ok-push_entry.ensures c.loop-entry.invariant
