@@ -5,13 +5,13 @@ use smf_database::{Closed, Served, close, tell_open};
 use smf_edge::Kids;
 use smf_follow::{Contracts, FollowedKids};
 use smf_host::{
-    Database, FileDesk, FileEnder, Hold, SystemTimer, end_listed, ender_in, folder_lock, room_text,
-    staying_room, take_alone, take_lock, wants_groups,
+    CauseFile, Database, FileDesk, FileEnder, Hold, SystemTimer, causes_in, end_listed, ender_in,
+    folder_lock, room_text, staying_room, take_alone, take_lock, wants_groups,
 };
 use smf_keeper::{Groups, Keepers, Room};
 use smf_model::{Journal, Plain};
 use smf_program::tell_no_database;
-use smf_server::{ItemCount, Leftover, Life, Unborn, stay_over};
+use smf_server::{Leftover, Life, Unborn, stay_over};
 use smf_store::open_repository;
 use sqlite::{Alter, Connection};
 use std::alloc::AllocError;
@@ -35,6 +35,7 @@ enum Stayed<J: Journal, K: Kids> {
 fn stay<J: Journal + Drop, K: Kids + Drop>(
     rt: &HostRuntime,
     desk: &mut FileDesk<'_>,
+    causes: &mut CauseFile<'_>,
     ender: &mut FileEnder<'_>,
     repository: Plain<J>,
     kids: K,
@@ -42,7 +43,7 @@ fn stay<J: Journal + Drop, K: Kids + Drop>(
     let stayed = stay_over(
         rt.alloc(),
         desk,
-        &mut ItemCount { items: 0 },
+        causes,
         &SystemTimer { rt },
         ender,
         repository,
@@ -81,6 +82,7 @@ fn tell_left(rt: &HostRuntime, left: &Result<Leftover, AllocError>) -> u8 {
 fn serve_store<S: Alter + Drop, K: Kids + Drop>(
     rt: &HostRuntime,
     desk: &mut FileDesk<'_>,
+    causes: &mut CauseFile<'_>,
     ender: &mut FileEnder<'_>,
     conn: Connection<S>,
     kids: K,
@@ -98,7 +100,7 @@ fn serve_store<S: Alter + Drop, K: Kids + Drop>(
                 };
             }
         };
-        let unborn = match stay(rt, desk, ender, repository, kids) {
+        let unborn = match stay(rt, desk, causes, ender, repository, kids) {
             Stayed::Over(status, journal) => {
                 return Served {
                     status,
@@ -126,12 +128,13 @@ fn serve_store<S: Alter + Drop, K: Kids + Drop>(
 fn serve_with<C: Contracts + Drop>(
     rt: &HostRuntime,
     desk: &mut FileDesk<'_>,
+    causes: &mut CauseFile<'_>,
     ender: &mut FileEnder<'_>,
     database: Database,
     contracts: C,
 ) -> u8 {
     let kids = FollowedKids::new(rt.alloc(), contracts);
-    let served = serve_store(rt, desk, ender, database.into_connection(), kids);
+    let served = serve_store(rt, desk, causes, ender, database.into_connection(), kids);
     let Closed { status, files: _ } = close(served, &mut rt.stderr());
     status
 }
@@ -144,9 +147,10 @@ fn keep(
     room: Room,
 ) -> io::Result<u8> {
     eprintln!(rt; "smf: contracts: each has a keeper")?;
+    let mut causes = causes_in(rt, &room)?;
     let mut ender = ender_in(rt, &room)?;
     let keepers = Keepers::new(rt.alloc(), rt, room, rt.stderr());
-    Ok(serve_with(rt, desk, &mut ender, database, keepers))
+    Ok(serve_with(rt, desk, &mut causes, &mut ender, database, keepers))
 }
 
 /// Stays with contracts that are control groups, if these can be made; else keepers follow them.
@@ -156,11 +160,12 @@ fn group(
     database: Database,
     room: Room,
 ) -> io::Result<u8> {
+    let mut causes = causes_in(rt, &room)?;
     let mut ender = ender_in(rt, &room)?;
     match Groups::make(rt.alloc(), rt, room, rt.stderr()) {
         Ok(groups) => {
             eprintln!(rt; "smf: contracts: each is a control group")?;
-            Ok(serve_with(rt, desk, &mut ender, database, groups))
+            Ok(serve_with(rt, desk, &mut causes, &mut ender, database, groups))
         }
         Err((_, room)) => keep(rt, desk, database, room),
     }

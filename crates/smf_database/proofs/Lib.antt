@@ -4,3 +4,4 @@ pub mod Copied
 pub mod Excused
 pub mod Asked
 pub mod Taken
+pub mod Unlike

@@ -11,8 +11,10 @@ use Rattle.smf_model.specs.Look.{groups_of, instance}
 use Rattle.smf_model.specs.Next.{snapshot_of}
 use Rattle.smf_model.specs.GeneralGroup.{restarter_name, service_owner}
 use Rattle.smf_model.specs.Shown.{body_of as body_of_snapshot, made_group, shown_groups, shown_with}
-use Rattle.smf_database.specs.Reasons.{body_of, taken_of}
+use Rattle.smf_database.specs.Reasons.{body_of}
+use Rattle.smf_database.specs.Unrefreshed.{groups_after_refresh, groups_in, taken_of}
 use Rattle.smf_snap.specs.Body.{spelled_both}
+use Rattle.smf_snap.specs.Composed.{composition}
 use Rattle.smf_snap.specs.Snapshots.{is_left_out, is_snapped, snapshot_groups}
 use Rattle.smf_value.specs.Groups.{GroupRecord, by_group}
 
@@ -58,3 +60,8 @@ services_taken h i = refl
 pub same_body : (h : Holdings) (i : Instance) → instance h i.number ≡ Some i
     → body_of h i ≡ body_of_snapshot (snapshot_of h i)
 same_body h i there = ap₂ spelled_both (services_taken h i) (own_taken h i there)
+
+-- a refresh takes the groups that are compared
+pub same_groups : (h : Holdings) (i : Instance) → instance h i.number ≡ Some i
+    → groups_after_refresh h i ≡ groups_in (snapshot_of h i)
+same_groups h i there = ap₂ composition (own_taken h i there) (services_taken h i)

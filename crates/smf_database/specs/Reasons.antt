@@ -9,23 +9,21 @@ use Rattle.smf_admin.specs.Output.{is_named, patterns_of, unmatched_words}
 use Rattle.smf_admin.specs.Messages.{no_match_text}
 use Rattle.smf_cfg.specs.Outcomes.{IsTold as IsSaid}
 use Rattle.smf_model.specs.declared.held.Instance.{Instance}
-use Rattle.smf_model.specs.declared.held.Owner.{Owner}
 use Rattle.smf_model.specs.declared.held.Owner.TheVariants as owners
 use Rattle.smf_model.specs.Contents.{Holdings}
 use Rattle.smf_model.specs.Next.{current_instance}
 use Rattle.smf_model.specs.GeneralGroup.{service_owner}
-use Rattle.smf_model.specs.Shown.{shown_groups, view}
+use Rattle.smf_model.specs.Shown.{view}
 use Rattle.smf_reasons.specs.Flaws.{IsChecked}
 use Rattle.smf_reasons.specs.Reasons.{IsTold}
 use Rattle.smf_reasons.specs.Texts.{check_text_of, text_of}
 use Rattle.smf_reasons.specs.declared.reason.Told.{Told}
 use Rattle.smf_database.specs.declared.questions.Answer.{Answer}
+use Rattle.smf_database.specs.Unrefreshed.{noted_all, taken_of}
 use Rattle.smf_snap.specs.Body.{spelled_both}
-use Rattle.smf_snap.specs.Snapshots.{snapshot_groups}
 use Rattle.smf_state.specs.declared.view.View.{View}
 use Rattle.smf_state.specs.declared.view.ViewItem.{ViewItem}
 use Rattle.smf_store.specs.Opens.{IsOpenedAs}
-use Rattle.smf_value.specs.Groups.{GroupRecord}
 
 -- ---- which instances words mean
 
@@ -42,17 +40,18 @@ missed_text word = no_match_text (codes "smf") word
 
 -- ---- why instances do not run
 
--- the reasons of the instances that are asked for, in number order, of all that svc.startd's graph sees
-pub record AreTold (v : View) (words : List (List ℕ)) (text : List ℕ) : Type 0 where
+-- the reasons of the instances that are asked for, in number order, of all that svc.startd's graph sees, and what of them
+-- is unrefreshed
+pub record AreTold (h : Holdings) (words : List (List ℕ)) (text : List ℕ) : Type 0 where
   pub all : List Told
-  pub told : AllZip (IsTold v) v.items all
-  pub printed : text ≡ text_of (reasons_by_words words all)
+  pub told : AllZip (IsTold (view h)) (view h).items all
+  pub printed : text ≡ text_of (reasons_by_words words (noted_all h (view h).items all))
 
 -- those reasons, and the words that match no instance
-pub record IsAnswer (v : View) (words : List (List ℕ)) (answer : Answer) : Type 0 where
-  pub reasons : AreTold v words answer.text
-  pub missed : answer.missed ≡ flat_map missed_text (unmatched_words v.items words)
-  pub all_matched : answer.all_matched ≡ (length (unmatched_words v.items words) == 0)
+pub record IsAnswer (h : Holdings) (words : List (List ℕ)) (answer : Answer) : Type 0 where
+  pub reasons : AreTold h words answer.text
+  pub missed : answer.missed ≡ flat_map missed_text (unmatched_words (view h).items words)
+  pub all_matched : answer.all_matched ≡ (length (unmatched_words (view h).items words) == 0)
 
 -- words without a match were told, as far as that could be written, and the status says so
 abbrev pub IsNoted : (Error → Type 0) → Option (List ℕ) → Option (List ℕ) → List ℕ → Bool → ℕ → Type 0
@@ -69,7 +68,7 @@ pub record IsWritten (tells : Error → Type 0) (answer : Answer) (old new told_
 pub record AreWritten (tells : Error → Type 0) (h : Holdings) (words : List (List ℕ))
     (old new told_old told_new : Option (List ℕ)) (status : ℕ) : Type 0 where
   pub answer : Answer
-  pub is : IsAnswer (view h) words answer
+  pub is : IsAnswer h words answer
   pub said : IsWritten tells answer old new told_old told_new status
 
 -- that of what a database was opened with
@@ -85,10 +84,6 @@ pub record IsExcused (tells : Error → Type 0) (old new : Option (List ℕ)) : 
   pub said : IsSaid tells old new text
 
 -- ---- what is wrong of instances
-
--- the groups of an owner that a snapshot would keep today
-abbrev pub taken_of : Holdings → Owner → List GroupRecord
-taken_of h owner = snapshot_groups (shown_groups h owner)
 
 -- the bytes of a snapshot that an instance would have
 abbrev pub body_of : Holdings → Instance → List ℕ

@@ -7,7 +7,8 @@ ghost use Rattle.smf_model.specs.Contents.{Holdings};
 ghost use Rattle.smf_model.specs.Look.{instance};
 ghost use Rattle.smf_model.specs.Next.{current_instance, snapshot_of};
 ghost use Rattle.smf_model.specs.Shown.{body_of as body_of_snapshot};
-ghost use Rattle.smf_database.specs.Reasons.{body_of, view_after_refresh, item_after_refresh, taken_of};
+ghost use Rattle.smf_database.specs.Reasons.{body_of, view_after_refresh, item_after_refresh};
+ghost use Rattle.smf_database.specs.Unrefreshed.{taken_of};
 ghost use Rattle.smf_state.specs.Patched.{by_item};
 
 use smf_fmri::{Bytes, Ordered, SharedOrdered};
@@ -18,7 +19,7 @@ use smf_value::Group;
 use std::alloc::{AllocError, Global};
 
 /// The groups of an owner that a snapshot would keep today.
-fn taken_of<J: Journal>(
+pub(crate) fn taken_of<J: Journal>(
     alloc: Global,
     repository: &Plain<J>,
     owner: &Owner,

@@ -2,8 +2,8 @@
 //! over any open database or a copy of one.
 //! Modules: `fault_texts` (why a database was not opened), `cfg` (lines of svccfg over a database); `copies` (a copy of a
 //! database, and a question over it), `questions` (why instances do not run, and what is wrong of them), `patterns` (the
-//! instances that words mean); `configured` (the graph's view after a refresh), `database_close` (the close of a database
-//! in files), `served` (the end of a run).
+//! instances that words mean); `configured` (the graph's view after a refresh), `unrefreshed` (changes that no refresh has
+//! taken up), `database_close` (the close of a database in files), `served` (the end of a run).
 #![tactic(auto)]
 
 mod cfg;
@@ -14,6 +14,7 @@ mod fault_texts;
 mod patterns;
 mod questions;
 mod served;
+mod unrefreshed;
 
 pub use cfg::{serve_cfg, serve_cfg_file};
 pub use configured::a_check_sees_what_a_refresh_takes;
@@ -21,3 +22,4 @@ pub use copies::{check_copy, open_copy, why_copy};
 pub use database_close::{a_closed_file_holds_what_was_left, close};
 pub use fault_texts::tell_open;
 pub use served::{Closed, Served};
+pub use unrefreshed::a_change_is_told_until_a_refresh;

@@ -5,6 +5,7 @@ ghost use Rattle.smf_model.specs.Shown.{view};
 use crate::configured::view_after_refresh;
 use crate::fault_texts::tell_open;
 use crate::patterns::{missed_text, reasons_by_words, texts_of, words_without_match};
+use crate::unrefreshed::noted_all;
 use smf_cfg::tell;
 use smf_fmri::Text;
 use smf_lines::TextWriter;
@@ -31,19 +32,32 @@ enum Unwritten {
     Output,
 }
 
-/// The reasons of the instances that words mean.
-fn reasons(alloc: Global, view: &View, words: &[Text]) -> Result<Text, AllocError>
-    ensures { IfOk result (AreTold view.now words.now) }
+/// The reasons of the instances that words mean, and what of them is unrefreshed.
+fn reasons<J: Journal>(
+    alloc: Global,
+    repository: &Plain<J>,
+    view: &View,
+    words: &[Text],
+) -> Result<Text, AllocError>
+    requires { view.now ≡ view repository.now.held }
+    ensures { IfOk result (AreTold repository.now.held words.now) }
 {
     let all = smf_reasons::tell(alloc, view)?;
+    let all = noted_all(alloc, repository, view, all)?;
     let all = reasons_by_words(alloc, words, all)?;
     text_of(alloc, all.as_slice())
 }
 
-fn answer_in(alloc: Global, view: &View, words: &[Text]) -> Result<Answer, AllocError>
-    ensures { IfOk result (IsAnswer view.now words.now) }
+fn answer_in<J: Journal>(
+    alloc: Global,
+    repository: &Plain<J>,
+    view: &View,
+    words: &[Text],
+) -> Result<Answer, AllocError>
+    requires { view.now ≡ view repository.now.held }
+    ensures { IfOk result (IsAnswer repository.now.held words.now) }
 {
-    let text = reasons(alloc, view, words)?;
+    let text = reasons(alloc, repository, view, words)?;
     let unmatched = words_without_match(alloc, view.items.as_slice(), words)?;
     let missed = missed_text(alloc, unmatched.as_slice())?;
     Ok(Answer {
@@ -59,11 +73,11 @@ fn answer_of<J: Journal>(
     repository: &Plain<J>,
     words: &[&str],
 ) -> Result<Answer, AllocError>
-    ensures { IfOk result (IsAnswer (view repository.now.held) (map (λ w. w.now) words.now)) }
+    ensures { IfOk result (IsAnswer repository.now.held (map (λ w. w.now) words.now)) }
 {
     let words = texts_of(alloc, words)?;
     let view = repository.view()?;
-    answer_in(alloc, &view, words.as_slice())
+    answer_in(alloc, repository, &view, words.as_slice())
 }
 
 /// Tells of words that match no instance, as far as that can be written, and gives the status.

@@ -2,9 +2,10 @@
 //! Modules: `database` (a database file, its log and its journal), `lock` (who has a database alone), `contracts` (the
 //! folder of contracts), `children` (the list of children beside a database).
 //! A server has `folder` (who has a folder alone), `desk` (requests in a folder), `pipe` (by which it is called), `pace`
-//! (when it ticks), `ender` (how contracts are ended), `timer` (the clock).
+//! (when it ticks), `ender` (how contracts are ended), `causes` (why instances are in maintenance), `timer` (the clock).
 #![tactic(auto)]
 
+mod causes;
 mod children;
 mod contracts;
 mod database;
@@ -16,6 +17,7 @@ mod pace;
 mod pipe;
 mod timer;
 
+pub use causes::{CauseFile, causes_in};
 pub use children::{end_listed, list_of, place_of, tell_sweep};
 pub use contracts::{room_of, room_text, staying_room, wants_groups};
 pub use database::{Database, read_files};

@@ -57,13 +57,14 @@ order_holds : (v : View) (i : ViewItem) (o : Option Order) → order_by_view (So
 order_holds v i None e = tt
 order_holds v i (Some o) e = errand_holds v i o.what (λ to leads. subst (IsOrdered i.row.state to) (sym e) leads)
 
-state_holds : (v : View) (i : ViewItem) (s : State) → i.row.state ≡ s → AllHold v i (in_maintenance s)
+state_holds : (v : View) (i : ViewItem) (s : State) → i.row.state ≡ s
+    → AllHold v i (in_maintenance i.instance i.row.number s)
 state_holds v i states.Uninitialized e = tt
 state_holds v i states.Disabled e = tt
 state_holds v i states.Offline e = tt
 state_holds v i states.Online e = tt
 state_holds v i states.Degraded e = tt
-state_holds v i states.Maintenance e = (e, tt)
+state_holds v i states.Maintenance e = ((e, refl, refl), tt)
 
 pub readable_holds : (v : View) (i : ViewItem) (b : Bool) → i.readable ≡ b → AllHold v i (restarter_read b)
 readable_holds v i true e = tt
@@ -208,7 +209,7 @@ all_hold : (v : View) (i : ViewItem) (cycle : List (List ℕ)) → NamesCycle (m
 all_hold v i cycle names =
     let a = under_way i.row.next in
     let b = reasons_of_order i.row.state (order_by_view (Some v) i.instance) in
-    let c = in_maintenance i.row.state in
+    let c = in_maintenance i.instance i.row.number i.row.state in
     let d = restarter_read i.readable in
     let e = snapshot_read (snapshot_in i.body) in
     let f = flat_map (of_group (members v.items)) (member_of i).composed in

@@ -64,7 +64,7 @@ order_is v i seen = ap (order_in v.revision v.items) seen
 pub record IsQuiet (v : View) (i : ViewItem) (m : GraphMember) (cycle : List (List ℕ)) : Type 0 where
   pub next : IsNil (under_way i.row.next)
   pub order : IsNil (reasons_of_order i.row.state (order_by_view (Some v) i.instance))
-  pub state : IsNil (in_maintenance i.row.state)
+  pub state : IsNil (in_maintenance i.instance i.row.number i.row.state)
   pub restarter : IsNil (restarter_read i.readable)
   pub snapshot : IsNil (snapshot_read (snapshot_in i.body))
   pub groups : IsNil (flat_map (of_group (members v.items)) m.composed)
@@ -77,7 +77,7 @@ parts_of : (v : View) (i : ViewItem) (m : GraphMember) (cycle : List (List ℕ))
 parts_of v i m cycle p =
     let a = under_way i.row.next in
     let b = reasons_of_order i.row.state (order_by_view (Some v) i.instance) in
-    let c = in_maintenance i.row.state in
+    let c = in_maintenance i.instance i.row.number i.row.state in
     let d = restarter_read i.readable in
     let e = snapshot_read (snapshot_in i.body) in
     let f = flat_map (of_group (members v.items)) m.composed in
@@ -109,7 +109,7 @@ joined_of : (v : View) (i : ViewItem) (m : GraphMember) (cycle : List (List ℕ)
 joined_of v i m cycle q =
     let a = under_way i.row.next in
     let b = reasons_of_order i.row.state (order_by_view (Some v) i.instance) in
-    let c = in_maintenance i.row.state in
+    let c = in_maintenance i.instance i.row.number i.row.state in
     let d = restarter_read i.readable in
     let e = snapshot_read (snapshot_in i.body) in
     let f = flat_map (of_group (members v.items)) m.composed in
@@ -145,7 +145,7 @@ started v i cycle seen names enabled idle q =
     (readable_is ms m ∙ there_if_met ms m.dependencies met)
     (on_cycle_is ms m ∙ cycle_quiet ms m cycle names q.turning) fine.1 in
     let some = order_some v.revision i m (finding_of ms m) i.row.next (next_quiet i.row.next q.next) enabled idle
-    (maintenance_quiet i.row.state q.state) sound (all_met_is ms m ∙ met) fine.0 in
+    (maintenance_quiet i.instance i.row.number i.row.state q.state) sound (all_met_is ms m ∙ met) fine.0 in
     some_not (order_by_view (Some v) i.instance) (ap is_some (order_is v i seen) ∙ some)
     (ordered_quiet i.row.state (order_by_view (Some v) i.instance) q.order)
 
@@ -169,8 +169,8 @@ silent v i rs seen (given amiss way) none =
 
 -- ---- a start, so no reason
 
-offline_well : (s : _) → s ≡ states.Offline → IsNil (in_maintenance s)
-offline_well s e = subst (λ t. IsNil (in_maintenance t)) (sym e) tt
+offline_well : (n r : ℕ) (s : _) → s ≡ states.Offline → IsNil (in_maintenance n r s)
+offline_well n r s e = subst (λ t. IsNil (in_maintenance n r t)) (sym e) tt
 
 still : (o : Option _) → o ≡ None → IsNil (under_way o)
 still o e = subst (λ t. IsNil (under_way t)) (sym e) tt
@@ -194,7 +194,7 @@ quiet_of found v i cycle seen names start =
     record {
       next = still i.row.next under.0;
       order = ordered_loud i.row.state (order_by_view (Some v) i.instance) start;
-      state = offline_well i.row.state due.0;
+      state = offline_well i.instance i.row.number i.row.state due.0;
       restarter = read_well i.readable well.0;
       snapshot = read.0;
       groups = subst (λ gs. IsNil (flat_map (of_group ms) gs)) (sym (groups_are i))

@@ -222,13 +222,13 @@ pub ordered_loud : (s : State) (o : Option Order) → IsStart o → IsNil (reaso
 ordered_loud s None p = absurd p
 ordered_loud s (Some o) p = errand_loud s o.what p
 
-pub maintenance_quiet : (s : State) → IsNil (in_maintenance s) → same_state s states.Maintenance ≡ false
-maintenance_quiet states.Uninitialized p = refl
-maintenance_quiet states.Disabled p = refl
-maintenance_quiet states.Offline p = refl
-maintenance_quiet states.Online p = refl
-maintenance_quiet states.Degraded p = refl
-maintenance_quiet states.Maintenance p = absurd p
+pub maintenance_quiet : (n r : ℕ) (s : State) → IsNil (in_maintenance n r s) → same_state s states.Maintenance ≡ false
+maintenance_quiet n r states.Uninitialized p = refl
+maintenance_quiet n r states.Disabled p = refl
+maintenance_quiet n r states.Offline p = refl
+maintenance_quiet n r states.Online p = refl
+maintenance_quiet n r states.Degraded p = refl
+maintenance_quiet n r states.Maintenance p = absurd p
 
 pub readable_quiet : (b : Bool) → IsNil (restarter_read b) → b ≡ true
 readable_quiet true p = refl

@@ -118,7 +118,8 @@ pub record IsNamedCycle (ms : List GraphMember) (m : GraphMember) (names : List 
 abbrev pub Holds : View → ViewItem → Reason → Type 0
 Holds v i (reasons.UnderWay next) = i.row.next ≡ Some next
 Holds v i (reasons.Ordered to) = IsOrdered i.row.state to (order_by_view (Some v) i.instance)
-Holds v i reasons.Maintenance = i.row.state ≡ states.Maintenance
+Holds v i (reasons.Maintenance instance row) =
+    (i.row.state ≡ states.Maintenance) × (i.instance ≡ instance) × (i.row.number ≡ row)
 Holds v i reasons.UnreadableRestarter = i.readable ≡ false
 Holds v i reasons.UnreadableSnapshot = (fault : BodyFault) × (snapshot_in i.body ≡ Err fault)
 Holds v i (reasons.UnreadableGroup group fault) = IsUnreadable (member_of i).composed group fault
@@ -130,3 +131,5 @@ Holds v i reasons.NoStartMethod = method_by i.row.owner i.name (member_of i).com
 Holds v i (reasons.UnreadableMethod method fault) =
     method_by i.row.owner i.name (member_of i).composed method ≡ Err fault
 Holds v i (reasons.OnCycle names) = IsNamedCycle (members v.items) (member_of i) names
+-- a view does not show what is configured
+Holds v i reasons.Unrefreshed = ⊥

@@ -51,9 +51,10 @@ abbrev pub reasons_of_order : State → Option Order → List Reason
 reasons_of_order state None = []
 reasons_of_order state (Some o) = errand state o.what
 
-abbrev pub in_maintenance : State → List Reason
-in_maintenance states.Maintenance = reasons.Maintenance ∷ []
-in_maintenance _ = []
+-- an instance whose row has this number
+abbrev pub in_maintenance : ℕ → ℕ → State → List Reason
+in_maintenance instance row states.Maintenance = reasons.Maintenance instance row ∷ []
+in_maintenance instance row _ = []
 
 -- ---- parts that can't be read
 
@@ -144,7 +145,7 @@ abbrev pub of_row : Option View → ViewItem → List Reason
 of_row seen i =
     under_way i.row.next
     ++ reasons_of_order i.row.state (order_by_view seen i.instance)
-    ++ in_maintenance i.row.state
+    ++ in_maintenance i.instance i.row.number i.row.state
     ++ restarter_read i.readable
     ++ snapshot_read (snapshot_in i.body)
 

@@ -64,7 +64,9 @@ names_text (name ∷ names) = name ++ flat_map later_name names
 abbrev pub words : Reason → List ℕ
 words (reasons.UnderWay next) = codes "Transition to " ++ state_text next ++ codes " is under way."
 words (reasons.Ordered to) = codes "Transition to " ++ state_text to ++ codes " is due."
-words reasons.Maintenance = codes "In maintenance until it is cleared."
+words (reasons.Maintenance instance row) =
+    codes "In maintenance until it is cleared (instance " ++ decimal instance ++ codes ", row " ++ decimal row
+    ++ codes ")."
 words reasons.UnreadableRestarter = codes "Property general/restarter can't be read."
 words reasons.UnreadableSnapshot = codes "Snapshot running can't be read."
 words (reasons.UnreadableGroup group fault) =
@@ -80,6 +82,8 @@ words reasons.NoStartMethod = codes "Method start is missing."
 words (reasons.UnreadableMethod method fault) =
     codes "Method " ++ method_text method ++ codes " can't be read (" ++ part_text fault ++ codes ")."
 words (reasons.OnCycle names) = codes "It depends on itself (" ++ names_text names ++ codes ")."
+words reasons.Unrefreshed =
+    codes "Its configuration was changed after it was last refreshed; svcadm refresh takes it up."
 
 abbrev pub line_end : List ℕ
 line_end = 10 ∷ []

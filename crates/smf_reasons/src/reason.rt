@@ -19,7 +19,11 @@ pub enum Reason {
     UnderWay(State),
     /// svc.startd's graph orders it to this state, before anything else.
     Ordered(State),
-    Maintenance,
+    /// Its row of this number says so.
+    Maintenance {
+        instance: u64,
+        row: u64,
+    },
     /// `general/restarter` can't be read.
     UnreadableRestarter,
     /// The snapshot `running` can't be read.
@@ -49,6 +53,8 @@ pub enum Reason {
     },
     /// The instances of a cycle, each of which cites the next, and the last the first.
     OnCycle(Items<InstanceFmri>),
+    /// What is configured is not what its snapshot `running` holds. No view tells that.
+    Unrefreshed,
 }
 
 /// An instance, and why it does not run, or what of it is wrong. There are no reasons why if it runs, is not enabled,

@@ -63,11 +63,16 @@ fn put_ordered(
     }
 }
 
-fn put_maintenance(all: &mut Items<Reason>, state: State) -> Result<(), AllocError>
-    ensures { OnOk result (all.new ≡ all.old ++ in_maintenance state) }
+fn put_maintenance(
+    all: &mut Items<Reason>,
+    instance: u64,
+    row: u64,
+    state: State,
+) -> Result<(), AllocError>
+    ensures { OnOk result (all.new ≡ all.old ++ in_maintenance instance row state) }
 {
     match state {
-        State::Maintenance => all.push(Reason::Maintenance),
+        State::Maintenance => all.push(Reason::Maintenance { instance, row }),
         _ => Ok(()),
     }
 }
@@ -137,7 +142,7 @@ fn put_row(
 {
     put_under_way(all, item.row.next)?;
     put_order(alloc, engine, item, all)?;
-    put_maintenance(all, item.row.state)?;
+    put_maintenance(all, item.instance, item.row.number, item.row.state)?;
     put_restarter_read(all, item.readable)?;
     put_snapshot_read(alloc, all, item)
 }

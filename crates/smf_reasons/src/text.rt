@@ -1,4 +1,5 @@
 ghost use Rattle.smf_state.specs.States.{state_text};
+ghost use Rattle.std.specs.Fmt.{decimal};
 ghost use Rattle.std.specs.Prelude.{◌≡◌, ◌++◌, IfOk, OnOk, codes, flat_map, string_bytes};
 ghost use Rattle.smf_reasons.specs.Texts.{block, check_block, check_text_of, checked_text, grouping_text, later_name, later_standing, names_text, part_text, property_text, reason_line, standing_text, standings_text, state_or_absent, text_of, told_text, words};
 
@@ -187,6 +188,21 @@ fn put_cycle(out: &mut String, names: &[InstanceFmri]) -> Result<(), AllocError>
     out.push_str(").")
 }
 
+fn put_maintenance(out: &mut String, instance: u64, row: u64) -> Result<(), AllocError>
+    ensures { OnOk result
+        (string_bytes out.new ≡ string_bytes out.old
+        ++ (codes "In maintenance until it is cleared (instance " ++ decimal instance ++ codes ", row " ++ decimal row
+        ++ codes ").")) }
+{
+    match write!(
+        out,
+        "In maintenance until it is cleared (instance {instance}, row {row})."
+    ) {
+        Ok(()) => Ok(()),
+        Err(_) => Err(AllocError),
+    }
+}
+
 /// The words of a reason.
 fn put_words(out: &mut String, reason: &Reason) -> Result<(), AllocError>
     ensures { OnOk result (string_bytes out.new ≡ string_bytes out.old ++ words reason.now) }
@@ -194,7 +210,7 @@ fn put_words(out: &mut String, reason: &Reason) -> Result<(), AllocError>
     match reason {
         Reason::UnderWay(next) => put_transition(out, *next, " is under way."),
         Reason::Ordered(to) => put_transition(out, *to, " is due."),
-        Reason::Maintenance => out.push_str("In maintenance until it is cleared."),
+        Reason::Maintenance { instance, row } => put_maintenance(out, *instance, *row),
         Reason::UnreadableRestarter => { out.push_str("Property general/restarter can't be read.") }
         Reason::UnreadableSnapshot => out.push_str("Snapshot running can't be read."),
         Reason::UnreadableGroup { group, fault } => put_group(out, group.as_str(), *fault),
@@ -214,6 +230,9 @@ fn put_words(out: &mut String, reason: &Reason) -> Result<(), AllocError>
             put_method(out, method_text(*method), *fault)
         }
         Reason::OnCycle(names) => put_cycle(out, names.as_slice()),
+        Reason::Unrefreshed => out.push_str(
+            "Its configuration was changed after it was last refreshed; svcadm refresh takes it up.",
+        ),
     }
 }
 
