@@ -1,6 +1,6 @@
 ghost use Rattle.std.specs.Prelude.{◌≡◌, ◌≢◌, IfOk, OnErr, map};
 ghost use Rattle.smf_database.specs.Reasons.{AreChecked, AreFound, AreTold, AreWritten, IsAnswer, IsAnswered, IsExcused, IsInspected, IsNoted, IsWritten, view_after_refresh, status_of};
-ghost use Rattle.smf_model.specs.Shown.{view};
+ghost use Rattle.smf_model.specs.Shown.{view as view_of};
 
 use crate::configured::view_after_refresh;
 use crate::fault_texts::tell_open;
@@ -39,7 +39,7 @@ fn reasons<J: Journal>(
     view: &View,
     words: &[Text],
 ) -> Result<Text, AllocError>
-    requires { view.now ≡ view repository.now.held }
+    requires { view.now ≡ view_of repository.now.held }
     ensures { IfOk result (AreTold repository.now.held words.now) }
 {
     let all = smf_reasons::tell(alloc, view)?;
@@ -54,7 +54,7 @@ fn answer_in<J: Journal>(
     view: &View,
     words: &[Text],
 ) -> Result<Answer, AllocError>
-    requires { view.now ≡ view repository.now.held }
+    requires { view.now ≡ view_of repository.now.held }
     ensures { IfOk result (IsAnswer repository.now.held words.now) }
 {
     let text = reasons(alloc, repository, view, words)?;
