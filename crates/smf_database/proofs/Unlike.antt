@@ -1,5 +1,5 @@
 -- Groups are told apart by their bytes.
-use Rattle.std.proofs.Common.{◌≡◌, ℕ, List, [], Bool, true, false, not, Result, Ok, Err, refl, ap, sym, ◌∙◌}
+use Rattle.std.proofs.Common.{◌≡◌, List, [], Bool, true, false, not, Result, Ok, Err, refl, ap, sym, ◌∙◌}
 use Rattle.smf_fmri.proofs.Patterns.{same_text}
 use Rattle.smf_value.specs.declared.fault.BodyFault.{BodyFault}
 use Rattle.smf_value.specs.Body.{AreGroups, bytes_of_groups}
