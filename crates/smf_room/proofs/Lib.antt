@@ -1,0 +1,3 @@
+mod Contracts
+mod Rooms
+mod Tokens

@@ -1,0 +1,12 @@
+//! Contracts that outlive the server which made them. A contract is a folder of a room. The name of one file in it, the
+//! token, is the contract's state, and who renames the token first takes the next step.
+//! Modules: `token` (the states and their names), `note` (what a contract is for), `law` (no instance runs twice).
+#![tactic(auto)]
+
+mod law;
+mod note;
+mod token;
+
+pub use law::{a_number_is_given_once, no_instance_runs_twice};
+pub use note::Note;
+pub use token::{Token, name_of, read_token};
