@@ -1,3 +1,6 @@
 mod Contracts
+mod Hearing
+mod Looking
 mod Rooms
+mod Sweeping
 mod Tokens

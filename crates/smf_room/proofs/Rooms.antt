@@ -3,11 +3,13 @@ use Rattle.std.proofs.Common.{◌≡◌, ◌≢◌, ◌⊎◌, inl, inr, ℕ, �
 use Rattle.std.specs.List.{AllByRecursion, list_any}
 use Rattle.smf_fmri.proofs.Patterns.{same_text}
 use Rattle.smf_room.specs.declared.note.Note.{Note}
+use Rattle.smf_room.specs.declared.sight.Sight.{Sight}
+use Rattle.smf_room.specs.declared.sight.Sight.TheVariants.{Unseen, Once, Nothing}
 use Rattle.smf_room.specs.declared.token.Token.{Token}
 use Rattle.smf_room.specs.declared.token.Token.TheVariants.{Go, Void, Begun, Ended, Over}
-use Rattle.smf_room.specs.Tellings.{Act, Reserved, Made, Renamed, Asked, AskedEnd, Killed, Forgot, Outcome, Done, NotDone, Unsure, Telling, NextIs, Listed, TokenIs, Free, NoteIs, Populated, Marked, Locked, Unlocked, Did, NoAnswer}
+use Rattle.smf_room.specs.Tellings.{Act, Reserved, Made, Renamed, Asked, AskedEnd, Killed, KilledGroup, Unlinked, Ungrouped, Forgot, Outcome, Done, NotDone, Unsure, Telling, NextIs, Listed, TokenIs, Free, NoteIs, Populated, Marked, Locked, Unlocked, Did, NoAnswer}
 use Rattle.smf_room.specs.Worlds.{AreApart, AreNumbered, Contract, Event, MayHappen, NoneTwice, Of, World, after_event, change, change_one, is_active, is_begun, is_go, is_held, may_run}
-use Rattle.smf_room.specs.Lives.{IsCareful, Known, Life, MayDo, MayForget, MayMake, MayRename, Nothing, Once, Sight, Unseen, after_deed, after_lock, after_note, after_sight, after_token, is_known, is_number, is_of, is_settled, life_after, may_be, named, new_life, next_sight, over_of, sight_of, sight_of_group, unread, without}
+use Rattle.smf_room.specs.Lives.{IsCareful, Known, Life, MayDo, MayForget, MayMake, MayRename, after_deed, after_lock, after_note, after_sight, after_token, is_known, is_number, is_of, is_settled, life_after, may_be, named, new_life, next_sight, numbers_of, over_of, sight_of, sight_of_group, unread, without}
 use Rattle.smf_room.specs.Runs.{Begins, Comes, Happens, Hears, IsAfter, IsAfterDeed, IsDone, IsLocked, IsMarked, IsMove, IsPartly, IsPopulated, IsRead, IsTrue, Move, State, after_act, made_with, new_room, unlocked, with_change, with_made, with_server, with_token}
 use Rattle.smf_room.proofs.Contracts.{IsLess, IsSound, event_less, event_members, event_server, event_sound, no_r, not_active, not_running, or_by, or_l, or_r, same_less, swept_inactive}
 
@@ -442,18 +444,18 @@ number_some : (o : Option ℕ) (id : ℕ) → is_number o id ≡ true → o ≡ 
 number_some None id e = absurd cc
 number_some (Some x) id e = ap Some (eqb-true x id e)
 
-group_clear : (id : ℕ) (some : Option Bool) (cs : List Contract) → IsPopulated id some cs
-    → sight_of_group some ≡ Nothing → Of id (λ c. c.members ≡ false) cs
-group_clear id None cs p e = absurd cc
-group_clear id (Some true) cs p e = absurd cc
-group_clear id (Some false) cs p e = p
+group_clear : (id : ℕ) (some : Option Bool) (l : Life) (w : World) → l.locked ≡ Some id → IsPopulated id some w.contracts
+    → sight_of_group some l.sight ≡ Nothing → IsGood w l → Of id (λ c. c.members ≡ false) w.contracts
+group_clear id None l w k p e g = g.clear id k e
+group_clear id (Some true) l w k p e g = absurd cc
+group_clear id (Some false) l w k p e g = p
 
 group_good : (b : Bool) (id : ℕ) (some : Option Bool) (w : World) (l : Life) → is_number l.locked id ≡ b
-    → IsPopulated id some w.contracts → IsGood w l → IsGood w (after_sight b (sight_of_group some) l)
+    → IsPopulated id some w.contracts → IsGood w l → IsGood w (after_sight b (sight_of_group some l.sight) l)
 group_good true id some w l e p g =
-    sight_good (sight_of_group some) w l
+    sight_good (sight_of_group some l.sight) w l
     (λ at k s. subst (λ (n : ℕ). Of n (λ c. c.members ≡ false) w.contracts) (sym (number_is l.locked id at e k))
-    (group_clear id some w.contracts p s)) g
+    (group_clear id some l w (number_some l.locked id e) p s g)) g
 group_good false id some w l e p g = g
 
 seen_twice : (s : Sight) → next_sight s ≡ Nothing → s ≢ Unseen
@@ -757,7 +759,16 @@ deed_good (Renamed id from to) Unsure w v l m (inr (inr a)) g = absurd a
 deed_good (Asked id) outcome w v l m a g = good_as w v l (nothing (Asked id) outcome w v refl (λ x y k. k) (λ x y k. absurd k) a) g
 deed_good (AskedEnd id signal seconds) outcome w v l m a g =
     good_as w v l (nothing (AskedEnd id signal seconds) outcome w v refl (λ x y k. k) (λ x y k. absurd k) a) g
-deed_good (Killed id) outcome w v l m a g = good_as w v l (nothing (Killed id) outcome w v refl (λ x y k. k) (λ x y k. absurd k) a) g
+deed_good (Killed id found) outcome w v l m a g = good_as w v l (nothing (Killed id found) outcome w v refl (λ x y k. k) (λ x y k. absurd k) a) g
+deed_good (KilledGroup id) outcome w v l m a g = good_as w v l (nothing (KilledGroup id) outcome w v refl (λ x y k. k) (λ x y k. absurd k) a) g
+deed_good (Ungrouped id) outcome w v l m a g = good_as w v l (nothing (Ungrouped id) outcome w v refl (λ x y k. k) (λ x y k. absurd k) a) g
+deed_good (Unlinked id t) Done w v l m a g =
+    good_as (with_change id (with_token None) w) v l a (good_forgot id w l m g)
+deed_good (Unlinked id t) NotDone w v l m a g = good_as w v l a g
+deed_good (Unlinked id t) Unsure w v l m (inl a) g = good_as w v l a g
+deed_good (Unlinked id t) Unsure w v l m (inr (inl a)) g =
+    good_as (with_change id (with_token None) w) v l a (good_forgot id w l m g)
+deed_good (Unlinked id t) Unsure w v l m (inr (inr a)) g = absurd a
 deed_good (Forgot id) Done w v l m a g =
     good_as (with_change id (with_token None) w) v l a (good_forgot id w l m g)
 deed_good (Forgot id) NotDone w v l m a g = good_as w v l a g
@@ -804,7 +815,7 @@ heard_good (NoteIs id note) w v l c s a g =
 heard_good (Populated id some) w v l c s a g =
     good_as w v (life_after (Populated id some) l) a (group_good (is_number l.locked id) id some w l refl s g)
 heard_good (Marked id own found) w v l c s a g =
-    good_as w v (life_after (Marked id own found) l) a (mark_good (is_number l.locked id) id own found w l refl s g)
+    good_as w v (life_after (Marked id own found) l) a (mark_good (is_number l.locked id) id own (numbers_of found) w l refl s g)
 heard_good (Locked id done) w v l c s a g =
     good_as (with_change id (with_server done) (unlocked w)) v (after_lock done id l) a (lock_good done id w l s g)
 heard_good Unlocked w v l c s a g = good_as (unlocked w) v (life_after Unlocked l) a (good_unlocked w l g)

@@ -3,22 +3,18 @@ use Rattle.std.specs.Prelude.{◌≡◌, ◌⊎◌, ℕ, ◌+◌, ◌<◌, ◌�
 use Rattle.std.specs.Cmp.Lexicographic.{pointwise}
 use Rattle.std.specs.List.{list_any}
 use Rattle.smf_room.specs.declared.note.Note.{Note}
+use Rattle.smf_room.specs.declared.process.Process.{Process}
+use Rattle.smf_room.specs.declared.sight.Sight.{Sight}
+use Rattle.smf_room.specs.declared.sight.Sight.TheVariants.{Unseen, Once, Nothing}
 use Rattle.smf_room.specs.declared.token.Token.{Token}
 use Rattle.smf_room.specs.declared.token.Token.TheVariants.{Go, Void, Ended, Over}
-use Rattle.smf_room.specs.Tellings.{Act, Reserved, Made, Renamed, Asked, AskedEnd, Killed, Forgot, Outcome, Done, Telling, NextIs, Listed, TokenIs, NoteIs, Populated, Marked, Locked, Unlocked, Did}
+use Rattle.smf_room.specs.Tellings.{Act, Reserved, Made, Renamed, Asked, AskedEnd, Killed, KilledGroup, Unlinked, Ungrouped, Forgot, Outcome, Done, Telling, NextIs, Listed, TokenIs, NoteIs, Populated, Marked, Locked, Unlocked, Did}
 use Rattle.smf_room.specs.Worlds.{is_begun}
 
 -- a contract that may run, for all that a server knows, and its instance, if that was read
 pub record Known : Type 0 where
   pub id : ℕ
   pub instance : Option (List ℕ)
-
--- how many looks found nothing left, one after the other, since the server has the lock
-pub data Sight : Type 0 where
-  Unseen : Sight
-  Once : Sight
-  -- a control group said that it has no process, or two looks found none with the mark
-  Nothing : Sight
 
 pub record Life : Type 0 where
   -- the next number, as the disk has it
@@ -31,6 +27,7 @@ pub record Life : Type 0 where
   pub unsettled : List Known
   -- the contract whose lock it has
   pub locked : Option ℕ
+  -- what it has seen of that since it has the lock
   pub sight : Sight
 
 abbrev pub new_life : Life
@@ -74,14 +71,20 @@ abbrev pub next_sight : Sight → Sight
 next_sight Unseen = Once
 next_sight _ = Nothing
 
--- what a look for marks leaves known
+-- Only processes of the server's own user count: the mark is a variable that anybody can set.
+abbrev pub numbers_of : List Process → List ℕ
+numbers_of found = map (λ p. p.number) (filter (λ p. p.ours) found)
+
+-- what is known after a look for marks, by whether it found the server's own process and which of its user
 abbrev pub sight_of : Bool → List ℕ → Sight → Sight
 sight_of true [] s = next_sight s
 sight_of _ _ s = Unseen
 
-abbrev pub sight_of_group : Option Bool → Sight
-sight_of_group (Some false) = Nothing
-sight_of_group _ = Unseen
+-- what is known after a group was asked; without a group no more than before
+abbrev pub sight_of_group : Option Bool → Sight → Sight
+sight_of_group None s = s
+sight_of_group (Some true) s = Unseen
+sight_of_group (Some false) s = Nothing
 
 -- ---- what a life knows after it was told something
 
@@ -121,8 +124,8 @@ life_after (NextIs n) l = record l { next = Some n }
 life_after (Listed ids) l = record l { listed = true; unsettled = map unread ids }
 life_after (TokenIs id t) l = after_token (is_settled t) id l
 life_after (NoteIs id note) l = after_note note id l
-life_after (Populated id some) l = after_sight (is_number l.locked id) (sight_of_group some) l
-life_after (Marked id own found) l = after_sight (is_number l.locked id) (sight_of own found l.sight) l
+life_after (Populated id some) l = after_sight (is_number l.locked id) (sight_of_group some l.sight) l
+life_after (Marked id own found) l = after_sight (is_number l.locked id) (sight_of own (numbers_of found) l.sight) l
 life_after (Locked id done) l = after_lock done id l
 life_after Unlocked l = record l { locked = None; sight = Unseen }
 life_after (Did d) l = after_deed d.act d.outcome l
@@ -155,7 +158,7 @@ pub record MayMake (l : Life) (id : ℕ) (instance : List ℕ) : Type 0 where
   pub listed : l.listed ≡ true
   pub settled : list_any (may_be instance) l.unsettled ≡ false
 
--- it forgets a contract only if it has listed the room, and has seen the contract settled
+-- it removes a contract, or its token, only if it has listed the room, and has seen the contract settled
 pub record MayForget (l : Life) (id : ℕ) : Type 0 where
   pub listed : l.listed ≡ true
   pub settled : list_any (is_known id) l.unsettled ≡ false
@@ -166,7 +169,10 @@ MayDo l (Made id note) = MayMake l id (string_bytes note.instance)
 MayDo l (Renamed id from to) = MayRename l id from to
 MayDo l (Asked id) = Unit {0}
 MayDo l (AskedEnd id signal seconds) = Unit {0}
-MayDo l (Killed id) = Unit {0}
+MayDo l (Killed id found) = Unit {0}
+MayDo l (KilledGroup id) = Unit {0}
+MayDo l (Unlinked id t) = MayForget l id
+MayDo l (Ungrouped id) = Unit {0}
 MayDo l (Forgot id) = MayForget l id
 
 abbrev pub IsCareful : Life → Telling → Type 0

@@ -3,11 +3,12 @@
 use Rattle.std.specs.Prelude.{◌≡◌, ◌≢◌, ◌⊎◌, ℕ, List, [], ◌∷◌, ◌++◌, map, Bool, true, false, ◌==◌, Option, Some, None, string_bytes}
 use Rattle.std.specs.List.{AllByRecursion, list_any}
 use Rattle.smf_room.specs.declared.note.Note.{Note}
+use Rattle.smf_room.specs.declared.sight.Sight.TheVariants.{Unseen}
 use Rattle.smf_room.specs.declared.token.Token.{Token}
 use Rattle.smf_room.specs.declared.token.Token.TheVariants.{Go}
-use Rattle.smf_room.specs.Tellings.{Act, Reserved, Made, Renamed, Forgot, Outcome, Done, NotDone, Unsure, Telling, NextIs, Listed, TokenIs, NoteIs, Populated, Marked, Locked, Unlocked, Did}
+use Rattle.smf_room.specs.Tellings.{Act, Reserved, Made, Renamed, Unlinked, Forgot, Outcome, Done, NotDone, Unsure, Telling, NextIs, Listed, TokenIs, NoteIs, Populated, Marked, Locked, Unlocked, Did}
 use Rattle.smf_room.specs.Worlds.{Contract, Event, MayHappen, Of, Off, World, after_event, change, is_held}
-use Rattle.smf_room.specs.Lives.{IsCareful, Life, Unseen, life_after, new_life}
+use Rattle.smf_room.specs.Lives.{IsCareful, Life, life_after, new_life, numbers_of}
 
 -- ---- what a call does
 
@@ -46,6 +47,7 @@ abbrev pub after_act : Act → World → World
 after_act (Reserved low high) w = record w { next = high }
 after_act (Made id note) w = with_made (Some Go) id note w
 after_act (Renamed id from to) w = with_change id (with_token (Some to)) w
+after_act (Unlinked id t) w = with_change id (with_token None) w
 after_act (Forgot id) w = with_change id (with_token None) w
 after_act _ w = w
 
@@ -83,8 +85,8 @@ abbrev pub IsPopulated : ℕ → Option Bool → List Contract → Type 0
 IsPopulated id (Some false) cs = Of id (λ c. c.members ≡ false) cs
 IsPopulated id _ cs = Unit {0}
 
--- Without a group: if two looks, one after the other, show the server's own process and none with the contract's mark,
--- there is none.
+-- Without a group: if two looks, one after the other, show the server's own process and none of its user with the
+-- contract's mark, there is none.
 abbrev pub IsMarked : Life → ℕ → Bool → List ℕ → List Contract → Type 0
 IsMarked l id true [] cs = l.locked ≡ Some id → l.sight ≢ Unseen → Of id (λ c. c.members ≡ false) cs
 IsMarked l id _ _ cs = Unit {0}
@@ -101,7 +103,7 @@ IsTrue l w (Listed ids) = AllByRecursion (λ c. c.token ≢ None → list_any (�
 IsTrue l w (TokenIs id t) = Of id (λ c. c.token ≡ t) w.contracts
 IsTrue l w (NoteIs id note) = IsRead id note w.contracts
 IsTrue l w (Populated id some) = IsPopulated id some w.contracts
-IsTrue l w (Marked id own found) = IsMarked l id own found w.contracts
+IsTrue l w (Marked id own found) = IsMarked l id own (numbers_of found) w.contracts
 IsTrue l w (Locked id done) = IsLocked id done w.contracts
 IsTrue l w _ = Unit {0}
 

@@ -1,6 +1,7 @@
 -- What the system is asked for a room, and what it answers; and the log of what was asked to change something.
-use Rattle.std.specs.Prelude.{◌≡◌, ℕ, List, [], ◌∷◌, ◌++◌, Bool, Option, option_map}
+use Rattle.std.specs.Prelude.{◌≡◌, ◌⊎◌, ℕ, List, [], ◌∷◌, ◌++◌, Bool, true, false, Option, option_map}
 use Rattle.smf_room.specs.declared.note.Note.{Note}
+use Rattle.smf_room.specs.declared.process.Process.{Process}
 use Rattle.smf_room.specs.declared.token.Token.{Token}
 
 -- a call that changes something
@@ -15,9 +16,15 @@ pub data Act : Type 0 where
   Asked : ℕ → Act
   -- the keeper was asked to send this signal to all, and to kill them after so many seconds
   AskedEnd : ℕ → List ℕ → ℕ → Act
-  -- all processes of the contract were killed: those of its group, or those with its mark
-  Killed : ℕ → Act
-  -- the folder was removed, the token first
+  -- these processes were killed, which had the contract's mark
+  Killed : ℕ → List ℕ → Act
+  -- all processes of the contract's control group were killed
+  KilledGroup : ℕ → Act
+  -- the token was removed
+  Unlinked : ℕ → Token → Act
+  -- the contract's control group was removed, if there was one
+  Ungrouped : ℕ → Act
+  -- the folder was removed
   Forgot : ℕ → Act
 
 pub data Outcome : Type 0 where
@@ -26,6 +33,11 @@ pub data Outcome : Type 0 where
   NotDone : Outcome
   -- the call failed, and may have been done
   Unsure : Outcome
+
+-- what a call came to that says whether it did something
+abbrev pub outcome_of : Bool → Outcome
+outcome_of true = Done
+outcome_of false = NotDone
 
 pub record Deed : Type 0 where
   pub act : Act
@@ -48,8 +60,8 @@ pub data Telling : Type 0 where
   NoteIs : ℕ → Option Note → Telling
   -- whether the control group has a process; none if there is no group
   Populated : ℕ → Option Bool → Telling
-  -- whether the look found its own process, and which processes it found with the contract's mark
-  Marked : ℕ → Bool → List ℕ → Telling
+  -- a look at all processes: whether it found the server's own, and which it found with the contract's mark
+  Marked : ℕ → Bool → List Process → Telling
   -- the server let go any lock that it had, and took this one alone, or could not
   Locked : ℕ → Bool → Telling
   -- it let go any lock that it had
@@ -61,10 +73,9 @@ pub data Telling : Type 0 where
 abbrev pub Tells : Type 0 → Type 1
 Tells S = S → Telling → S → Type 0
 
--- all that was told between two moments, in order
-abbrev pub Told : {S : Type 0} → Tells S → List Telling → S → S → Type 0
-Told tells [] p q = p ≡ q
-Told {S} tells (t ∷ ts) p q = (r : S) × (tells p t r) × Told tells ts r q
+-- the log of the calls that were to change something; none if it is not known
+abbrev pub Log : Type 0 → Type 0
+Log S = S → Option (List Deed)
 
 abbrev pub deeds_in : Telling → List Deed
 deeds_in (Did d) = d ∷ []
@@ -77,3 +88,45 @@ all_deeds (t ∷ ts) = deeds_in t ++ all_deeds ts
 -- the log with these more, if it is known
 abbrev pub log_with : List Deed → Option (List Deed) → Option (List Deed)
 log_with more old = option_map (λ first. first ++ more) old
+
+-- one call: what was told leads from moment to moment, and the log has the call if it was to change something
+pub record Call {S : Type 0} (tells : Tells S) (did : Log S) (t : Telling) (p q : S) : Type 0 where
+  pub told : tells p t q
+  pub logged : did q ≡ log_with (deeds_in t) (did p)
+
+-- these calls, one after the other, and no other
+abbrev pub Calls : {S : Type 0} → Tells S → Log S → List Telling → S → S → Type 0
+Calls tells did [] p q = p ≡ q
+Calls {S} tells did (t ∷ ts) p q = (r : S) × Call tells did t p r × Calls tells did ts r q
+
+-- this one call
+abbrev pub Only : Telling → List Telling → Type 0
+Only t ts = ts ≡ t ∷ []
+
+-- calls of which the first holds, and then such of which the second holds
+abbrev pub Then : (List Telling → Type 0) → (List Telling → Type 0) → List Telling → Type 0
+Then P Q ts = (us : List Telling) × (vs : List Telling) × (P us) × (Q vs) × (ts ≡ us ++ vs)
+
+-- calls of which this holds, and no other; so the log has exactly their deeds
+pub record Heard {S : Type 0} (tells : Tells S) (did : Log S) (P : List Telling → Type 0) (p q : S) : Type 0 where
+  pub calls : List Telling
+  pub holds : P calls
+  pub told : Calls tells did calls p q
+  pub logged : did q ≡ log_with (all_deeds calls) (did p)
+
+-- a call that failed: a question was not answered, or nobody knows whether a deed was done
+abbrev pub failed : Telling → Telling
+failed (Did d) = Did (deed d.act Unsure)
+failed t = NoAnswer
+
+-- the next call failed
+abbrev pub FailsNext : List Telling → List Telling → List Telling → Type 0
+FailsNext before [] ts = ⊥
+FailsNext before (t ∷ rest) ts = ts ≡ before ++ failed t ∷ []
+
+-- the calls are a beginning of such of which this holds; the last may have failed
+pub record EndsEarly (P : List Telling → Type 0) (ts : List Telling) : Type 0 where
+  pub before : List Telling
+  pub rest : List Telling
+  pub whole : P (before ++ rest)
+  pub ends : (ts ≡ before) ⊎ FailsNext before rest ts
