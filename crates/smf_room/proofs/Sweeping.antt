@@ -12,7 +12,7 @@ use Rattle.smf_room.specs.Sweeps.{IsAnyEnding, IsAnyForget, IsAnyMarkRound, IsAn
 use Rattle.smf_room.specs.Tellings.{Did, Done, Forgot, Killed, KilledGroup, Locked, Marked, NotDone, Only, Populated, Renamed, Telling, Then, TokenIs, Ungrouped, Unlinked, Unlocked, deed, outcome_of}
 use Rattle.smf_room.proofs.Looking.{two}
 
-whole : (P : List Telling → Type 0) (ts : List Telling) → P ts → (more : List Telling) × P (ts ++ more)
+pub whole : (P : List Telling → Type 0) (ts : List Telling) → P ts → (more : List Telling) × P (ts ++ more)
 whole P ts p = ([], subst P (sym (append-nil ts)) p)
 
 -- ---- kills

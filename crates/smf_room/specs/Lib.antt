@@ -1,6 +1,8 @@
+pub mod Beginnings
 pub mod Lives
 pub mod Looks
 pub mod Runs
+pub mod Starts
 pub mod Sweeps
 pub mod Tellings
 pub mod Tokens

@@ -4,19 +4,23 @@
 #![tactic(auto)]
 
 mod law;
+mod life;
 mod look;
 mod note;
 mod process;
 mod room;
 mod sight;
+mod start;
 mod sweep;
 mod token;
 
 pub use law::{a_number_is_given_once, no_instance_runs_twice};
+pub use life::{Found, Stand, begin_life};
 pub use look::{Look, cancel, look_at};
 pub use note::Note;
 pub use process::Process;
 pub use room::{Marks, Room};
 pub use sight::Sight;
+pub use start::{Numbers, Started, end_contract, start_contract};
 pub use sweep::{Swept, forget, sweep_contract};
 pub use token::{Token, name_of, read_token};
