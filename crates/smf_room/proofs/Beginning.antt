@@ -111,10 +111,10 @@ pub could_look_at : (id : ℕ) (done : Bool) (ts : List Telling) → Then (IsCan
     → (more : List Telling) × IsAnySettling id (ts ++ more)
 could_look_at id done ts h = could_look id h.3.0 ts (h.0, h.1, (done, h.2), h.3.1, h.4)
 
-pub could_cancel : (id : ℕ) (ts : List Telling) → IsAnyCancel id ts → (more : List Telling) × IsAnySettling id (ts ++ more)
+pub could_cancel : (id : ℕ) (ts : List Telling) → IsCancel id true ts → (more : List Telling) × IsAnySettling id (ts ++ more)
 could_cancel id ts h =
     let us = TokenIs id (Some Void) ∷ [] in
-    let more = could_look id Never (ts ++ us) (ts, us, h, says_first id (Some Void) Never refl us refl, refl) in
+    let more = could_look id Never (ts ++ us) (ts, us, (true, h), says_first id (Some Void) Never refl us refl, refl) in
     (us ++ more.0, (more.1.0, subst (IsSettling id more.1.0) (append_assoc ts us more.0) more.1.1))
 
 pub could_settle : (id : ℕ) (done : Bool) (look : Look) (ts : List Telling)

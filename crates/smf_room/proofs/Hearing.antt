@@ -1,6 +1,6 @@
 -- Calls that are put together, and calls that end early.
 use Rattle.std.proofs.Common.{◌≡◌, ◌⊎◌, inl, inr, List, [], ◌∷◌, ◌++◌, Option, Some, None, Result, Ok, Err, OnErr, refl, sym, ◌∙◌, ap, subst, append_assoc, append-nil}
-use Rattle.smf_room.specs.Tellings.{Call, Calls, Deed, EndsEarly, FailsNext, Heard, Log, Only, Telling, Tells, Then, all_deeds, deeds_in, failed, log_with}
+use Rattle.smf_room.specs.Tellings.{Call, Calls, Deed, EndsEarly, Fails, FailsNext, Heard, Log, Only, Telling, Tells, Then, all_deeds, deeds_in, failed, log_with}
 
 -- ---- the log
 
@@ -138,3 +138,76 @@ heard_when f x y e h = heard_as f e h
 pub call_as : {S A : Type 0} {tells : Tells S} {did : Log S} {p q : S} (f : A → Telling) {x y : A} → x ≡ y
     → Call tells did (f x) p q → Call tells did (f y) p q
 call_as {tells = tells} {did = did} {p = p} {q = q} f e h = subst (λ a. Call tells did (f a) p q) e h
+
+-- ---- calls of which one failed
+
+fails_one : (t : Telling) (ts : List Telling) → Only (failed t) ts → Fails (Only t) ts
+fails_one t ts e = record { before = []; next = t; rest = []; whole = refl; ends = inr e }
+
+pub call_fails : {S : Type 0} {tells : Tells S} {did : Log S} {p q : S} (t : Telling) → Call tells did (failed t) p q
+    → Heard tells did (Fails (Only t)) p q
+call_fails t c = weaker (Fails (Only t)) (fails_one t) (one c)
+
+fails_then : (P Q : List Telling → Type 0) (us ts : List Telling) → P us → Fails Q ts → Fails (Then P Q) (us ++ ts)
+fails_then P Q us ts p e =
+    record {
+      before = us ++ e.before;
+      next = e.next;
+      rest = e.rest;
+      whole = (us, e.before ++ e.next ∷ e.rest, p, e.whole, append_assoc us e.before (e.next ∷ e.rest));
+      ends = ends us e.before e.next ts e.ends;
+    }
+  where
+    ends : (us before : List Telling) (next : Telling) (ts : List Telling)
+        → (ts ≡ before) ⊎ (ts ≡ before ++ failed next ∷ [])
+        → (us ++ ts ≡ us ++ before) ⊎ (us ++ ts ≡ (us ++ before) ++ failed next ∷ [])
+    ends us before next ts (inl e) = inl (ap (λ x. us ++ x) e)
+    ends us before next ts (inr e) = inr (ap (λ x. us ++ x) e ∙ sym (append_assoc us before (failed next ∷ [])))
+
+pub both_fails : {S : Type 0} {tells : Tells S} {did : Log S} {P Q : List Telling → Type 0} {p q r : S}
+    → Heard tells did P p q → Heard tells did (Fails Q) q r → Heard tells did (Fails (Then P Q)) p r
+both_fails {tells = tells} {did = did} {P = P} {Q = Q} {p = p} {q = q} {r = r} a b =
+    heard tells did (Fails (Then P Q)) (a.calls ++ b.calls) p r
+    (fails_then P Q a.calls b.calls a.holds b.holds) (calls_both tells did a.calls b.calls p q r a.told b.told)
+
+pub fails_weaker : {S : Type 0} {tells : Tells S} {did : Log S} {P : List Telling → Type 0} {p q : S}
+    (Q : List Telling → Type 0) → ((ts : List Telling) → P ts → Q ts) → Heard tells did (Fails P) p q
+    → Heard tells did (Fails Q) p q
+fails_weaker Q k h =
+    weaker (Fails Q)
+    (λ ts f. record { before = f.before; next = f.next; rest = f.rest; whole = k _ f.whole; ends = f.ends }) h
+
+-- calls that ended early, and after which one more had to come
+fails_more_by : (P Q : List Telling → Type 0)
+    → ((ts : List Telling) → P ts → (t : Telling) × (more : List Telling) × Q (ts ++ t ∷ more))
+    → (ts before rest : List Telling) → P (before ++ rest) → (ts ≡ before) ⊎ FailsNext before rest ts → Fails Q ts
+fails_more_by P Q k ts before [] w (inl e) =
+    let n = k (before ++ []) w in
+    record {
+      before = before;
+      next = n.0;
+      rest = n.1;
+      whole = subst (λ x. Q (x ++ n.0 ∷ n.1)) (append-nil before) n.2;
+      ends = inl e;
+    }
+fails_more_by P Q k ts before [] w (inr f) = absurd f
+fails_more_by P Q k ts before (r ∷ rest) w e =
+    let n = k (before ++ r ∷ rest) w in
+    record {
+      before = before;
+      next = r;
+      rest = rest ++ n.0 ∷ n.1;
+      whole = subst Q (append_assoc before (r ∷ rest) (n.0 ∷ n.1)) n.2;
+      ends = e;
+    }
+
+pub fails_of : {S : Type 0} {tells : Tells S} {did : Log S} {P : List Telling → Type 0} {p q : S}
+    (Q : List Telling → Type 0)
+    → ((ts : List Telling) → P ts → (t : Telling) × (more : List Telling) × Q (ts ++ t ∷ more))
+    → Heard tells did (EndsEarly P) p q → Heard tells did (Fails Q) p q
+fails_of {P = P} Q k h = weaker (Fails Q) (λ ts e. fails_more_by P Q k ts e.before e.rest e.whole e.ends) h
+
+pub early_of : {S : Type 0} {tells : Tells S} {did : Log S} {P : List Telling → Type 0} {p q : S}
+    → Heard tells did (Fails P) p q → Heard tells did (EndsEarly P) p q
+early_of {P = P} h =
+    weaker (EndsEarly P) (λ ts f. record { before = f.before; rest = f.next ∷ f.rest; whole = f.whole; ends = f.ends }) h

@@ -3,9 +3,9 @@ use Rattle.std.proofs.Common.{◌≡◌, inl, inr, ℕ, true, false, List, [], �
 use Rattle.smf_room.specs.declared.look.Look.{Look}
 use Rattle.smf_room.specs.declared.look.Look.TheVariants.{Waits, Lives}
 use Rattle.smf_room.specs.declared.token.Token.{Token}
-use Rattle.smf_room.specs.declared.token.Token.TheVariants.{Go, Void}
-use Rattle.smf_room.specs.Looks.{IsAnyCancel, IsAnyLook, IsLook, end_in, first_look, then_look}
-use Rattle.smf_room.specs.Tellings.{Did, Done, Free, Renamed, deed, Only, Telling, Then, TokenIs}
+use Rattle.smf_room.specs.declared.token.Token.TheVariants.{Go}
+use Rattle.smf_room.specs.Looks.{IsAnyLook, IsLook, end_in, first_look, then_look}
+use Rattle.smf_room.specs.Tellings.{Free, Only, Telling, Then, TokenIs}
 
 pub says_first : (id : ℕ) (t : Option Token) (look : Look) → first_look t ≡ Some look → (ts : List Telling)
     → Only (TokenIs id t) ts → IsLook id look ts
@@ -59,7 +59,3 @@ pub lost_then : (id : ℕ) (t : Option Token) → first_look t ≡ None → (ts 
 lost_then id t n ts h =
     let e : ts ≡ ts ++ [] = sym (append-nil ts) in
     ([], (then_look t None, subst (IsLook id (then_look t None)) e (says_then id t None (then_look t None) n refl ts h)))
-
-pub any_cancel : (id : ℕ) (ts : List Telling) → Only (Did (deed (Renamed id Go Void) Done)) ts
-    → (more : List Telling) × IsAnyCancel id (ts ++ more)
-any_cancel id ts h = ([], (true, append-nil ts ∙ h))

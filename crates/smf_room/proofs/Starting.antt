@@ -1,11 +1,11 @@
 -- What was asked to start a contract.
-use Rattle.std.proofs.Common.{inl, inr, ℕ, ◌+◌, ◌<◌, ◌≤◌, Bool, true, false, List, [], ◌∷◌, ◌++◌, refl, sym, append_assoc}
+use Rattle.std.proofs.Common.{inl, inr, ℕ, ◌+◌, ◌<◌, ◌≤◌, Bool, true, false, List, [], ◌∷◌, ◌++◌, refl}
 use Rattle.smf_room.specs.declared.note.Note.{Note}
 use Rattle.smf_room.specs.declared.start.Given.{Given}
 use Rattle.smf_room.specs.declared.start.Numbers.{Numbers}
 use Rattle.smf_room.specs.declared.start.TheConstants.{BLOCK}
-use Rattle.smf_room.specs.Starts.{IsAnyGiven, IsAnyStart, IsAsk, IsEndAsk, IsGiven, IsStart}
-use Rattle.smf_room.specs.Tellings.{Asked, AskedEnd, Did, Done, Made, NextIs, NotDone, Only, Reserved, Telling, Then, Unsure, deed, outcome_of}
+use Rattle.smf_room.specs.Starts.{IsAnyGiven, IsAnyMaking, IsAsk, IsGiven, IsStart}
+use Rattle.smf_room.specs.Tellings.{Asked, Did, Done, Made, NextIs, NotDone, Only, Reserved, Telling, Then, Unsure, deed, outcome_of}
 use Rattle.smf_room.proofs.Looking.{two}
 use Rattle.smf_room.proofs.Sweeping.{whole}
 
@@ -44,32 +44,12 @@ pub is_start : (before : Numbers) (note : Note) (given : Given) (asked : Bool) (
     → IsStart before note (record { id = given.id; asked = asked; left = given.left }) ts
 is_start before note given asked ts h = record { given = given; id = refl; left = refl; calls = h }
 
-pub could_make : (before : Numbers) (note : Note) (given : Given) (ts : List Telling)
-    → Then (IsGiven before given) (Only (Did (deed (Made given.id note) Done))) ts
-    → (more : List Telling) × IsAnyStart before note (ts ++ more)
-could_make before note given ts h =
-    let last = Did (deed (Asked given.id) Done) ∷ [] in
-    (last, (_, is_start before note given true (ts ++ last) (ts, last, h, (Done, refl, refl), refl)))
+pub makes : (before : Numbers) (note : Note) (given : Given) (ts : List Telling)
+    → Then (IsGiven before given) (Only (Did (deed (Made given.id note) Done))) ts → IsAnyMaking before note ts
+makes before note given ts h = (given, h)
 
 pub could_give : (before : Numbers) (note : Note) (ts : List Telling) → IsAnyGiven before ts
-    → (more : List Telling) × IsAnyStart before note (ts ++ more)
+    → (t : Telling) × (more : List Telling) × IsAnyMaking before note (ts ++ t ∷ more)
 could_give before note ts h =
-    let made = Did (deed (Made h.0.id note) Done) ∷ [] in
-    let last = made ++ Did (deed (Asked h.0.id) Done) ∷ [] in (
-      last,
-      (
-        _,
-        is_start before note h.0 true (ts ++ last) (
-          ts ++ made,
-          Did (deed (Asked h.0.id) Done) ∷ [],
-          (ts, made, h.1, refl, refl),
-          (Done, refl, refl),
-          sym (append_assoc ts made (Did (deed (Asked h.0.id) Done) ∷ [])),
-        ),
-      ),
-    )
-
-pub could_ask_end : (id : ℕ) (signal : List ℕ) (seconds : ℕ) (ts : List Telling)
-    → Only (Did (deed (AskedEnd id signal seconds) Done)) ts
-    → (more : List Telling) × IsEndAsk id signal seconds true (ts ++ more)
-could_ask_end id signal seconds ts h = whole (IsEndAsk id signal seconds true) ts h
+    let made = Did (deed (Made h.0.id note) Done) in
+    (made, [], (h.0, (ts, made ∷ [], h.1, refl, refl)))

@@ -35,15 +35,16 @@ is_done _ = false
 abbrev pub IsAsk : ℕ → Bool → List Telling → Type 0
 IsAsk id asked ts = (outcome : Outcome) × (asked ≡ is_done outcome) × Only (Did (deed (Asked id) outcome)) ts
 
+-- one contract was made
+abbrev pub IsAnyMaking : Numbers → Note → List Telling → Type 0
+IsAnyMaking before note ts = (given : Given) × Then (IsGiven before given) (Only (Did (deed (Made given.id note) Done))) ts
+
 -- one contract was made, and then its start was asked for, once
 pub record IsStart (before : Numbers) (note : Note) (started : Started) (ts : List Telling) : Type 0 where
   pub given : Given
   pub id : started.id ≡ given.id
   pub left : started.left ≡ given.left
   pub calls : Then (Then (IsGiven before given) (Only (Did (deed (Made given.id note) Done)))) (IsAsk given.id started.asked) ts
-
-abbrev pub IsAnyStart : Numbers → Note → List Telling → Type 0
-IsAnyStart before note ts = (started : Started) × IsStart before note started ts
 
 abbrev pub IsEndAsk : ℕ → List ℕ → ℕ → Bool → List Telling → Type 0
 IsEndAsk id signal seconds done ts = Only (Did (deed (AskedEnd id signal seconds) (outcome_of done))) ts

@@ -130,3 +130,11 @@ pub record EndsEarly (P : List Telling → Type 0) (ts : List Telling) : Type 0 
   pub rest : List Telling
   pub whole : P (before ++ rest)
   pub ends : (ts ≡ before) ⊎ FailsNext before rest ts
+
+-- The calls are a beginning of such of which this holds, and not all of them: one was not made, or failed.
+pub record Fails (P : List Telling → Type 0) (ts : List Telling) : Type 0 where
+  pub before : List Telling
+  pub next : Telling
+  pub rest : List Telling
+  pub whole : P (before ++ next ∷ rest)
+  pub ends : (ts ≡ before) ⊎ (ts ≡ before ++ failed next ∷ [])

@@ -1,6 +1,6 @@
-ghost use Rattle.smf_room.specs.Looks.{IsAnyCancel, IsAnyLook, IsCancel, IsLook, end_in, first_look, then_look};
-ghost use Rattle.smf_room.specs.Tellings.{EndsEarly, Heard};
-ghost use Rattle.std.specs.Prelude.{◌≡◌, IfOk, OnErr};
+ghost use Rattle.smf_room.specs.Looks.{IsAnyLook, IsCancel, IsLook, end_in, first_look, then_look};
+ghost use Rattle.smf_room.specs.Tellings.{EndsEarly, Fails, Heard};
+ghost use Rattle.std.specs.Prelude.{◌≡◌, true, IfOk, OnErr};
 
 use crate::room::Room;
 use crate::token::Token;
@@ -24,7 +24,7 @@ pub enum Look {
 /// Takes back a start that has not begun, and says whether it did.
 pub fn cancel<R: Room>(room: &mut R, id: u64) -> io::Result<bool>
     ensures done { IfOk result (λ done. Heard R.tells R.did (IsCancel id done) room.old room.new) }
-    ensures lost { OnErr result (Heard R.tells R.did (EndsEarly (IsAnyCancel id)) room.old room.new) }
+    ensures lost { OnErr result (Heard R.tells R.did (Fails (IsCancel id true)) room.old room.new) }
 {
     let done = room.rename(id, Token::Go, Token::Void)?;
     Ok(done)

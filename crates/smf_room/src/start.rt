@@ -1,5 +1,5 @@
-ghost use Rattle.smf_room.specs.Starts.{IsAnyGiven, IsAnyStart, IsAsk, IsEndAsk, IsGiven, IsStart};
-ghost use Rattle.smf_room.specs.Tellings.{EndsEarly, Heard};
+ghost use Rattle.smf_room.specs.Starts.{IsAnyGiven, IsAnyMaking, IsAsk, IsEndAsk, IsGiven, IsStart};
+ghost use Rattle.smf_room.specs.Tellings.{EndsEarly, Fails, Heard};
 ghost use Rattle.std.specs.Prelude.{◌≡◌, true, IfOk, OnErr};
 
 use crate::note::Note;
@@ -79,10 +79,11 @@ fn ask<R: Room>(room: &mut R, id: u64) -> bool
 }
 
 /// Makes a contract, under a number that was never given, and asks the holder to start it. After an error no holder was
-/// asked; but the contract may be there, so that the room has to be listed before the next one of its instance is made.
+/// asked, and no call said that the contract was made. It may be there, so that the room has to be listed before the next
+/// one of its instance is made.
 pub fn start_contract<R: Room>(room: &mut R, numbers: Numbers, note: &Note) -> io::Result<Started>
     ensures started { IfOk result (λ started. Heard R.tells R.did (IsStart numbers note.now started) room.old room.new) }
-    ensures lost { OnErr result (Heard R.tells R.did (EndsEarly (IsAnyStart numbers note.now)) room.old room.new) }
+    ensures lost { OnErr result (Heard R.tells R.did (Fails (IsAnyMaking numbers note.now)) room.old room.new) }
 {
     let given = give(room, numbers)?;
     room.make(given.id, note)?;
@@ -98,7 +99,7 @@ pub fn start_contract<R: Room>(room: &mut R, numbers: Numbers, note: &Note) -> i
 /// nobody reads: the contract has no keeper.
 pub fn end_contract<R: Room>(room: &mut R, id: u64, signal: &str, seconds: u64) -> io::Result<bool>
     ensures asked { IfOk result (λ done. Heard R.tells R.did (IsEndAsk id signal.now seconds done) room.old room.new) }
-    ensures lost { OnErr result (Heard R.tells R.did (EndsEarly (IsEndAsk id signal.now seconds true)) room.old room.new) }
+    ensures lost { OnErr result (Heard R.tells R.did (Fails (IsEndAsk id signal.now seconds true)) room.old room.new) }
 {
     let done = room.ask_end(id, signal, seconds)?;
     Ok(done)

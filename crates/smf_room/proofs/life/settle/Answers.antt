@@ -1,12 +1,12 @@
 use Rattle.smf_room.specs.Beginnings.{IsAnySettling, IsSettling}
 use Rattle.smf_room.proofs.Beginning.{could_cancel, could_look_at, could_settle, settling}
-use Rattle.smf_room.proofs.Hearing.{both, both_lost, lost_of, on_err, weaker}
+use Rattle.smf_room.proofs.Hearing.{both, both_lost, early_of, lost_of, on_err, weaker}
 use Rattle.smf_room.proofs.life.settle.Goals as goal
 
 pub returns-in_err-_cancelled-clause-lost : goal.returns-in_err-_cancelled-clause-lost
 returns-in_err-_cancelled-clause-lost g c =
     on_err c.from_residual.result
-    (lost_of (IsAnySettling c.args.id) (could_cancel c.args.id) c.in_err-_cancelled.ensures.lost)
+    (lost_of (IsAnySettling c.args.id) (could_cancel c.args.id) (early_of c.in_err-_cancelled.ensures.lost))
 
 pub returns-in_err-look-clause-lost : goal.returns-in_err-look-clause-lost
 returns-in_err-look-clause-lost g c =
