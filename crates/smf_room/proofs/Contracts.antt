@@ -20,7 +20,7 @@ pub is_true_or_false : (b : Bool) → (b ≡ true) ⊎ (b ≡ false)
 is_true_or_false true = inl refl
 is_true_or_false false = inr refl
 
-no_l : (a b : Bool) → (a || b) ≡ false → a ≡ false
+pub no_l : (a b : Bool) → (a || b) ≡ false → a ≡ false
 no_l true b e = absurd cc
 no_l false b e = refl
 

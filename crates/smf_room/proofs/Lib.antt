@@ -1,4 +1,5 @@
 mod Beginning
+mod Careful
 mod Contracts
 mod Hearing
 mod Looking

@@ -1,4 +1,5 @@
 pub mod Beginnings
+pub mod Carefuls
 pub mod Lives
 pub mod Looks
 pub mod Runs

@@ -14,7 +14,9 @@ mod start;
 mod sweep;
 mod token;
 
-pub use law::{a_number_is_given_once, no_instance_runs_twice};
+pub use law::{
+    a_beginning_is_careful, a_number_is_given_once, a_start_is_careful, no_instance_runs_twice,
+};
 pub use life::{Found, Stand, begin_life};
 pub use look::{Look, cancel, look_at};
 pub use note::Note;
