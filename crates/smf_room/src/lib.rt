@@ -3,6 +3,7 @@
 //! Modules: `token` (the states and their names), `note` (what a contract is for), `law` (no instance runs twice).
 #![tactic(auto)]
 
+mod folder;
 mod law;
 mod life;
 mod look;
@@ -14,6 +15,7 @@ mod start;
 mod sweep;
 mod token;
 
+pub use folder::Folder;
 pub use law::{
     a_beginning_is_careful, a_number_is_given_once, a_start_is_careful, no_instance_runs_twice,
 };
