@@ -1,6 +1,9 @@
 //! Contracts that outlive the server which made them. A contract is a folder of a room. The name of one file in it, the
 //! token, is the contract's state, and who renames the token first takes the next step.
-//! Modules: `token` (the states and their names), `note` (what a contract is for), `law` (no instance runs twice).
+//! Modules: `token` (the states and their names), `note` (what a contract is for), `process` (one that has its mark);
+//! `room` (what is asked of the system), `folder` (a room of files); `look` (how a contract stands), `sight` (what was seen
+//! of one that is swept), `sweep` (the end of what is left, and its folder), `life` (how a server begins), `start` (a start
+//! and an end); `law` (no instance runs twice).
 #![tactic(auto)]
 
 mod folder;
