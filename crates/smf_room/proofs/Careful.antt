@@ -23,6 +23,7 @@ use Rattle.smf_room.specs.Lives.{AreCareful, IsCareful, Known, Life, MayForget, 
 use Rattle.smf_room.specs.Looks.{IsCancel, IsLook}
 use Rattle.smf_room.specs.declared.start.Given.{Given}
 use Rattle.smf_room.specs.declared.start.TheConstants.{BLOCK}
+use Rattle.smf_room.specs.Runs.{Begins, Comes, Happens, Hears, Lasts, Move, State, calls_of}
 use Rattle.smf_room.specs.Starts.{IsAnyMaking, IsGiven, IsStart}
 use Rattle.smf_room.specs.Sweeps.{IsForget, IsMarkRound, IsRemoval, IsRound, IsRounds, IsSweep, IsSwept, IsUnlink, begun_token, killed, no_round, one_more}
 use Rattle.smf_room.specs.Tellings.{Asked, Did, Done, EndsEarly, Fails, FailsNext, Forgot, Free, KilledGroup, Listed, Locked, Made, Marked, NextIs, NoAnswer, NoteIs, Only, Populated, Telling, Then, TokenIs, Ungrouped, Unlocked, deed, failed}
@@ -722,3 +723,21 @@ start_others other ns note started ts l a h s n =
           (record { id = h.given.id; instance = Some (string_bytes note.instance) })
           (ap (list_any (may_be other)) g.unsettled ∙ s.settled) n;
     })
+
+-- ---- a careful life is one of those of the law
+
+pub life_comes : (ms : List Move) (s v : State) → Lasts s ms v → AreCareful s.life (calls_of ms) → Comes s ms v
+life_comes [] s v h a = h
+life_comes (Happens id e ∷ ms) s v h a =
+    let same : h.0.life ≡ s.life = ap (λ (x : State). x.life) h.1.1 in
+    (h.0, h.1, life_comes ms h.0 v h.2 (subst (λ (x : Life). AreCareful x (calls_of ms)) (sym same) a))
+life_comes (Hears t ∷ ms) s v h a = (
+  h.0,
+  record { careful = a.0; so = h.1.so; does = h.1.does; knows = h.1.knows },
+  life_comes ms h.0 v h.2 (subst (λ (x : Life). AreCareful x (calls_of ms)) (sym h.1.knows) a.1),
+)
+life_comes (Begins ∷ ms) s v h a = absurd h.1
+
+pub comes_both : (ms ns : List Move) (s r v : State) → Comes s ms r → Comes r ns v → Comes s (ms ++ ns) v
+comes_both [] ns s r v a b = subst (λ (x : State). Comes x ns v) (sym a) b
+comes_both (m ∷ ms) ns s r v a b = (a.0, a.1, comes_both ms ns a.0 r v a.2 b)

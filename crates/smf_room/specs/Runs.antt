@@ -142,3 +142,30 @@ IsMove s Begins r = r ≡ record { world = unlocked s.world; life = new_life }
 abbrev pub Comes : State → List Move → State → Type 0
 Comes s [] v = s ≡ v
 Comes s (m ∷ ms) v = (r : State) × IsMove s m r × Comes r ms v
+
+-- ---- one life, with what happens meanwhile
+
+-- the call does what it says, and what is told is so, whether the server is careful or not
+pub record IsSo (s : State) (t : Telling) (r : State) : Type 0 where
+  pub so : IsTrue s.life s.world t
+  pub does : IsAfter t s.world r.world
+  pub knows : r.life ≡ life_after t s.life
+
+abbrev pub IsStep : State → Move → State → Type 0
+IsStep s (Happens id e) r = IsMove s (Happens id e) r
+IsStep s (Hears t) r = IsSo s t r
+IsStep s Begins r = ⊥
+
+-- what comes of one life, cut off anywhere
+abbrev pub Lasts : State → List Move → State → Type 0
+Lasts s [] v = s ≡ v
+Lasts s (m ∷ ms) v = (r : State) × IsStep s m r × Lasts r ms v
+
+abbrev pub heard_by : Move → List Telling → List Telling
+heard_by (Hears t) ts = t ∷ ts
+heard_by _ ts = ts
+
+-- the calls of the server
+abbrev pub calls_of : List Move → List Telling
+calls_of [] = []
+calls_of (m ∷ ms) = heard_by m (calls_of ms)

@@ -22,6 +22,9 @@ use std::{fs, io, thread};
 /// The event of poll that something may be written.
 const POLLOUT: i16 = 4;
 
+/// ESRCH: there is no such process.
+const NO_PROCESS: i32 = 3;
+
 /// The folder of a room. A contract is a folder in it that is called as its number.
 #[derive(Drop)]
 pub struct Folder<R> {
@@ -58,6 +61,29 @@ fn text_of<R: Files<File = File>>(alloc: Global, rt: &R, path: &str) -> io::Resu
         Some(file) => Ok(Some(read_all(alloc, file)?)),
         None => Ok(None),
     }
+}
+
+fn bytes_of<R: Files<File = File>>(alloc: Global, rt: &R, path: &str) -> io::Result<Vec<u8>> {
+    let mut bytes = Vec::new(alloc);
+    File::open(rt, path)?.read_to_end(&mut bytes)?;
+    Ok(bytes)
+}
+
+/// None in place of what is not to be seen of a process: it ended, or its user alone may see it.
+fn if_seen<T: Drop>(answer: io::Result<T>) -> io::Result<Option<T>> {
+    match answer {
+        Ok(value) => Ok(Some(value)),
+        Err(e) if e.kind() == io::ErrorKind::NotFound => Ok(None),
+        Err(e) if e.kind() == io::ErrorKind::PermissionDenied => Ok(None),
+        Err(e) if e.raw_os_error() == Some(NO_PROCESS) => Ok(None),
+        Err(e) => Err(e),
+    }
+}
+
+fn has_variable(variables: &[u8], wanted: &str) -> bool {
+    variables
+        .split(|byte| *byte == 0)
+        .any(|variable| variable == wanted.as_bytes())
 }
 
 /// Makes a file that was not there, with this text.
@@ -203,21 +229,13 @@ impl<R: Processes + Files<File = File> + Clock + AllocGlobal + Clone + Drop> Fol
     }
 
     /// True if a process has the variable that marks a contract. Those of a process that ended, and of another user's,
-    /// cannot be read.
+    /// cannot be read. If they cannot be read for another reason, nothing is known.
     fn has_mark(&self, process: &str, mark: &str) -> io::Result<bool> {
         let path = format!(in self.alloc; "{process}/environ")?;
-        let mut bytes = Vec::new(self.alloc);
-        let Ok(mut file) = File::open(&self.rt, path.as_str()) else {
-            return Ok(false);
-        };
-        if file.read_to_end(&mut bytes).is_err() {
-            return Ok(false);
+        match if_seen(bytes_of(self.alloc, &self.rt, path.as_str()))? {
+            Some(bytes) => Ok(has_variable(&bytes, mark)),
+            None => Ok(false),
         }
-        Ok(
-            bytes
-                .split(|byte| *byte == 0)
-                .any(|variable| variable == mark.as_bytes()),
-        )
     }
 }
 
@@ -345,8 +363,13 @@ impl<R: Processes + Files<File = File> + Clock + AllocGlobal + Clone + Drop> Roo
         if let Some(text) = text_of(self.alloc, &self.rt, events.as_str())? {
             return Ok(Some(has_process(text.as_str())?));
         }
-        let above = format!(in self.alloc; "{group}/../cgroup.events")?;
-        match fs::metadata(&self.rt, above.as_str()) {
+        // A group that is not there has no process, if the folder of groups is to be seen.
+        let Some(groups) = &self.groups else {
+            return Err(unclear());
+        };
+        let groups = groups.as_str();
+        let all = format!(in self.alloc; "{groups}/cgroup.events")?;
+        match fs::metadata(&self.rt, all.as_str()) {
             Ok(_) => Ok(Some(false)),
             Err(e) => Err(e),
         }

@@ -9,8 +9,8 @@ ghost use Rattle.smf_room.specs.declared.start.Numbers.{Numbers as AnyNumbers};
 ghost use Rattle.smf_room.specs.declared.start.Started.{Started as AnyStarted};
 ghost use Rattle.std.specs.List.{list_any};
 ghost use Rattle.std.specs.Cmp.Lexicographic.{pointwise};
-ghost use Rattle.std.specs.Prelude.{◌≡◌, ℕ, List, false, nat_eq, string_bytes};
-ghost use Rattle.smf_room.specs.Runs.{Comes, Move, State, new_room};
+ghost use Rattle.std.specs.Prelude.{◌≡◌, ◌++◌, ℕ, List, false, nat_eq, string_bytes};
+ghost use Rattle.smf_room.specs.Runs.{Comes, Lasts, Move, State, calls_of, new_room};
 ghost use Rattle.smf_room.specs.Worlds.{AreNumbered, NoneTwice};
 
 /// However often the server is killed, wherever that is, and whatever the holder, the keepers and the processes do
@@ -46,4 +46,11 @@ pub fn a_start_is_careful()
     ensures others { (other : List ℕ) (ns : AnyNumbers) (note : AnyNote) (started : AnyStarted) (ts : List Telling) (l : Life)
         → AreLeft ns l → IsStart ns note started ts → MayStart other l
         → pointwise nat_eq (string_bytes note.instance) other ≡ false → MayStart other (life_after_all ts l) }
+{}
+
+/// Whatever happens between the calls of a life, and wherever it is cut off: if what it asks is what a careful server
+/// asks, it is one of the lives of which `no_instance_runs_twice` speaks. Lives follow one another.
+pub fn a_careful_life_is_one_of_those()
+    ensures life { (ms : List Move) (s v : State) → Lasts s ms v → AreCareful s.life (calls_of ms) → Comes s ms v }
+    ensures lives { (ms ns : List Move) (s r v : State) → Comes s ms r → Comes r ns v → Comes s (ms ++ ns) v }
 {}

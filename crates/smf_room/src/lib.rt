@@ -1,9 +1,9 @@
 //! Contracts that outlive the server which made them. A contract is a folder of a room. The name of one file in it, the
 //! token, is the contract's state, and who renames the token first takes the next step.
-//! Modules: `token` (the states and their names), `note` (what a contract is for), `process` (one that has its mark);
-//! `room` (what is asked of the system), `folder` (a room of files); `look` (how a contract stands), `sight` (what was seen
-//! of one that is swept), `sweep` (the end of what is left, and its folder), `life` (how a server begins), `start` (a start
-//! and an end); `law` (no instance runs twice).
+//! Modules: `token` (the states and their names), `note` (what a contract is for), `process` and `sight` (looks at what is
+//! left); `room` (questions to the system), `folder` (its answers at the kit); `look` (what is known of a contract),
+//! `sweep` (what is left of it is ended, and it is forgotten), `life` (a server begins), `start` (contracts are made and
+//! ended); `law` (no instance runs twice).
 #![tactic(auto)]
 
 mod folder;
@@ -20,7 +20,8 @@ mod token;
 
 pub use folder::Folder;
 pub use law::{
-    a_beginning_is_careful, a_number_is_given_once, a_start_is_careful, no_instance_runs_twice,
+    a_beginning_is_careful, a_careful_life_is_one_of_those, a_number_is_given_once,
+    a_start_is_careful, no_instance_runs_twice,
 };
 pub use life::{Found, Stand, begin_life};
 pub use look::{Look, cancel, look_at};
