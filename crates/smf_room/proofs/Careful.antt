@@ -13,7 +13,6 @@ use Rattle.smf_room.specs.declared.note.Note.{Note}
 use Rattle.smf_room.specs.declared.sight.Sight.{Sight}
 use Rattle.smf_room.specs.declared.sight.Sight.TheVariants.{Unseen, Nothing}
 use Rattle.smf_room.specs.declared.start.Numbers.{Numbers}
-use Rattle.smf_room.specs.declared.start.Started.{Started}
 use Rattle.smf_room.specs.declared.token.Token.{Token}
 use Rattle.smf_room.specs.declared.token.Token.TheVariants.{Begun, Ended, Go, Void}
 use Rattle.smf_room.specs.declared.token.Token.TheVariants as tokens
@@ -24,25 +23,25 @@ use Rattle.smf_room.specs.Looks.{IsCancel, IsLook}
 use Rattle.smf_room.specs.declared.start.Given.{Given}
 use Rattle.smf_room.specs.declared.start.TheConstants.{BLOCK}
 use Rattle.smf_room.specs.Runs.{Begins, Comes, Happens, Hears, Lasts, Move, State, calls_of}
-use Rattle.smf_room.specs.Starts.{IsAnyMaking, IsGiven, IsStart}
+use Rattle.smf_room.specs.Starts.{IsGiven}
 use Rattle.smf_room.specs.Sweeps.{IsForget, IsMarkRound, IsRemoval, IsRound, IsRounds, IsSweep, IsSwept, IsUnlink, begun_token, killed, no_round, one_more}
-use Rattle.smf_room.specs.Tellings.{Asked, Did, Done, EndsEarly, Fails, FailsNext, Forgot, Free, KilledGroup, Listed, Locked, Made, Marked, NextIs, NoAnswer, NoteIs, Only, Populated, Telling, Then, TokenIs, Ungrouped, Unlocked, deed, failed}
+use Rattle.smf_room.specs.Tellings.{Did, Done, EndsEarly, Fails, FailsNext, Forgot, Free, HolderIs, KilledGroup, Listed, Locked, Marked, NextIs, NoAnswer, NoteIs, Populated, Telling, TokenIs, Ungrouped, Unlocked, deed, failed}
 use Rattle.smf_room.specs.declared.sweep.Swept.{Swept}
 use Rattle.smf_room.specs.Worlds.{is_begun}
 use Rattle.smf_room.proofs.Contracts.{no_l, no_r}
 
-both_no : (a b : Bool) → a ≡ false → b ≡ false → (a || b) ≡ false
+pub both_no : (a b : Bool) → a ≡ false → b ≡ false → (a || b) ≡ false
 both_no true b e f = absurd cc
 both_no false b e f = f
 
 -- ---- lists of calls
 
-careful_both : (us vs : List Telling) (l : Life) → AreCareful l us → AreCareful (life_after_all us l) vs
+pub careful_both : (us vs : List Telling) (l : Life) → AreCareful l us → AreCareful (life_after_all us l) vs
     → AreCareful l (us ++ vs)
 careful_both [] vs l a b = b
 careful_both (u ∷ us) vs l a b = (a.0, careful_both us vs (life_after u l) a.1 b)
 
-after_both : (us vs : List Telling) (l : Life) → life_after_all (us ++ vs) l ≡ life_after_all vs (life_after_all us l)
+pub after_both : (us vs : List Telling) (l : Life) → life_after_all (us ++ vs) l ≡ life_after_all vs (life_after_all us l)
 after_both [] vs l = refl
 after_both (u ∷ us) vs l = after_both us vs (life_after u l)
 
@@ -61,6 +60,7 @@ failed_careful (Populated id s) l a = tt
 failed_careful (Marked id o f) l a = tt
 failed_careful (Locked id d) l a = tt
 failed_careful Unlocked l a = tt
+failed_careful (HolderIs there) l a = tt
 failed_careful NoAnswer l a = tt
 
 careful_failed : (us : List Telling) (t : Telling) (vs : List Telling) (l : Life) → AreCareful l (us ++ t ∷ vs)
@@ -87,16 +87,16 @@ fails_careful P l k ts e =
 -- ---- what stays of what a life knows
 
 -- it knows no more contracts that may run than before, and as many numbers
-record Stays (l m : Life) : Type 0 where
-  listed : m.listed ≡ l.listed
-  low : m.low ≡ l.low
-  high : m.high ≡ l.high
-  less : (q : Known → Bool) → list_any q l.unsettled ≡ false → list_any q m.unsettled ≡ false
+pub record Stays (l m : Life) : Type 0 where
+  pub listed : m.listed ≡ l.listed
+  pub low : m.low ≡ l.low
+  pub high : m.high ≡ l.high
+  pub less : (q : Known → Bool) → list_any q l.unsettled ≡ false → list_any q m.unsettled ≡ false
 
-stays : (l : Life) → Stays l l
+pub stays : (l : Life) → Stays l l
 stays l = record { listed = refl; low = refl; high = refl; less = λ q e. e }
 
-stays_then : (l m n : Life) → Stays l m → Stays m n → Stays l n
+pub stays_then : (l m n : Life) → Stays l m → Stays m n → Stays l n
 stays_then l m n a b =
     record {
       listed = b.listed ∙ a.listed;
@@ -127,9 +127,9 @@ lacks id (k ∷ ks) = by (is_known id k) refl (lacks id ks)
     by false e h = rw e h
 
 -- what calls of this kind leave: they are careful, and no more may run
-record Keeps (l : Life) (ts : List Telling) : Type 0 where
-  careful : AreCareful l ts
-  stays : Stays l (life_after_all ts l)
+pub record Keeps (l : Life) (ts : List Telling) : Type 0 where
+  pub careful : AreCareful l ts
+  pub stays : Stays l (life_after_all ts l)
 
 keeps_both : (l : Life) (us vs ts : List Telling) → ts ≡ us ++ vs → Keeps l us → Keeps (life_after_all us l) vs → Keeps l ts
 keeps_both l us vs ts e a b =
@@ -146,7 +146,7 @@ keeps_as l us ts e k = subst (Keeps l) (sym e) k
 keeps_same : (l : Life) (t : Telling) → IsCareful l t → life_after t l ≡ l → Keeps l (t ∷ [])
 keeps_same l t a e = record { careful = (a, tt); stays = subst (Stays l) (sym e) (stays l) }
 
-token_stays : (b : Bool) (id : ℕ) (l : Life) → Stays l (after_token b id l)
+pub token_stays : (b : Bool) (id : ℕ) (l : Life) → Stays l (after_token b id l)
 token_stays true id l =
     record { listed = refl; low = refl; high = refl; less = λ q e. none_without id q l.unsettled e }
 token_stays false id l = stays l
@@ -154,7 +154,7 @@ token_stays false id l = stays l
 keeps_token : (l : Life) (id : ℕ) (t : Option Token) → Keeps l (TokenIs id t ∷ [])
 keeps_token l id t = record { careful = (tt, tt); stays = token_stays (is_settled t) id l }
 
-sight_stays : (b : Bool) (s : Sight) (l : Life) → Stays l (after_sight b s l)
+pub sight_stays : (b : Bool) (s : Sight) (l : Life) → Stays l (after_sight b s l)
 sight_stays true s l = record { listed = refl; low = refl; high = refl; less = λ q e. e }
 sight_stays false s l = stays l
 
@@ -163,7 +163,7 @@ keeps_group l id some = record { careful = (tt, tt); stays = sight_stays _ _ l }
 
 -- ---- a look
 
-keeps_look : (l : Life) (id : ℕ) (look : Look) (ts : List Telling) → IsLook id look ts → Keeps l ts
+pub keeps_look : (l : Life) (id : ℕ) (look : Look) (ts : List Telling) → IsLook id look ts → Keeps l ts
 keeps_look l id look ts (inl h) = keeps_as l _ ts h.asked (keeps_token l id h.token)
 keeps_look l id look ts (inr (inl h)) =
     keeps_both l (TokenIs id h.token ∷ []) (Free id false ∷ []) ts h.asked (keeps_token l id h.token)
@@ -174,7 +174,7 @@ keeps_look l id look ts (inr (inr h)) =
     (keeps_both _ (Free id true ∷ []) (TokenIs id h.after ∷ []) _ refl (keeps_same _ (Free id true) tt refl)
     (keeps_token _ id h.after))
 
-keeps_cancel : (l : Life) (id : ℕ) (done : Bool) (ts : List Telling) → IsCancel id done ts → Keeps l ts
+pub keeps_cancel : (l : Life) (id : ℕ) (done : Bool) (ts : List Telling) → IsCancel id done ts → Keeps l ts
 keeps_cancel l id done ts h = keeps_as l _ ts h (keeps_same l _ (inl (refl, refl)) refl)
 
 -- ---- a contract is forgotten
@@ -197,11 +197,11 @@ settled_goes true id l e s = record { listed = e; settled = lacks id l.unsettled
 settled_goes false id l e s = absurd cc
 
 -- after it was forgotten none of this number may run
-record Forgets (l : Life) (id : ℕ) (gone : Bool) (ts : List Telling) : Type 0 where
-  keeps : Keeps l ts
-  goes : gone ≡ true → list_any (is_known id) (life_after_all ts l).unsettled ≡ false
+pub record Forgets (l : Life) (id : ℕ) (gone : Bool) (ts : List Telling) : Type 0 where
+  pub keeps : Keeps l ts
+  pub goes : gone ≡ true → list_any (is_known id) (life_after_all ts l).unsettled ≡ false
 
-keeps_forget : (l : Life) (id : ℕ) (gone : Bool) (ts : List Telling) → l.listed ≡ true → IsForget id gone ts
+pub keeps_forget : (l : Life) (id : ℕ) (gone : Bool) (ts : List Telling) → l.listed ≡ true → IsForget id gone ts
     → Forgets l id gone ts
 keeps_forget l id gone ts e (inl h) =
     record {
@@ -343,7 +343,7 @@ keeps_swept l id swept ts k (inr (inr h)) =
       sight = both.sees.sight;
     })) refl))
 
-lock_stays : (b : Bool) (id : ℕ) (l : Life) → Stays l (after_lock b id l)
+pub lock_stays : (b : Bool) (id : ℕ) (l : Life) → Stays l (after_lock b id l)
 lock_stays true id l = record { listed = refl; low = refl; high = refl; less = λ q e. e }
 lock_stays false id l = record { listed = refl; low = refl; high = refl; less = λ q e. e }
 
@@ -360,9 +360,9 @@ keeps_sweep l id swept ts (inr h) =
 
 -- ---- a contract is settled
 
-record Settles (l : Life) (id : ℕ) (stand : Stand) (ts : List Telling) : Type 0 where
-  keeps : Keeps l ts
-  goes : is_gone stand ≡ true → list_any (is_known id) (life_after_all ts l).unsettled ≡ false
+pub record Settles (l : Life) (id : ℕ) (stand : Stand) (ts : List Telling) : Type 0 where
+  pub keeps : Keeps l ts
+  pub goes : is_gone stand ≡ true → list_any (is_known id) (life_after_all ts l).unsettled ≡ false
 
 settles_then : (l : Life) (id : ℕ) (stand : Stand) (us vs ts : List Telling) → ts ≡ us ++ vs → Keeps l us
     → Settles (life_after_all us l) id stand vs → Settles l id stand ts
@@ -388,7 +388,7 @@ stays_here : (l : Life) (id : ℕ) (stand other : Stand) (ts : List Telling) →
 stays_here l id stand other ts e f k =
     record { keeps = k; goes = λ g. absurd (let n : is_gone stand ≡ false = ap is_gone e ∙ f in cc) }
 
-settles_clean : (l : Life) (id : ℕ) (stand : Stand) (ts : List Telling) → l.listed ≡ true → IsClean id stand ts
+pub settles_clean : (l : Life) (id : ℕ) (stand : Stand) (ts : List Telling) → l.listed ≡ true → IsClean id stand ts
     → Settles l id stand ts
 settles_clean l id stand ts e (inl h) =
     stays_here l id stand TakenUp ts h.is refl
@@ -415,7 +415,7 @@ settles_by l id Never stand ts e h = settles_forget l id stand ts e h
 settles_by l id (Over s) stand ts e h = settles_forget l id stand ts e h
 settles_by l id (Unclean t) stand ts e h = settles_clean l id stand ts e h
 
-settles : (l : Life) (id : ℕ) (stand : Stand) (ts : List Telling) → l.listed ≡ true → IsSettling id stand ts
+pub settles : (l : Life) (id : ℕ) (stand : Stand) (ts : List Telling) → l.listed ≡ true → IsSettling id stand ts
     → Settles l id stand ts
 settles l id stand ts e h =
     let two = h.calls.2 in
@@ -431,11 +431,11 @@ abbrev others : List ℕ → List ℕ → Known → Bool
 others instance rest k = may_be instance k && not (list_any (λ x. k.id == x) rest)
 
 -- the calls are careful, and what the server does not know of contracts stays
-record Holds (l : Life) (ts : List Telling) : Type 0 where
-  careful : AreCareful l ts
-  listed : (life_after_all ts l).listed ≡ l.listed
-  low : (life_after_all ts l).low ≡ l.low
-  high : (life_after_all ts l).high ≡ l.high
+pub record Holds (l : Life) (ts : List Telling) : Type 0 where
+  pub careful : AreCareful l ts
+  pub listed : (life_after_all ts l).listed ≡ l.listed
+  pub low : (life_after_all ts l).low ≡ l.low
+  pub high : (life_after_all ts l).high ≡ l.high
 
 holds : (l : Life) (ts : List Telling) → Keeps l ts → Holds l ts
 holds l ts k = record { careful = k.careful; listed = k.stays.listed; low = k.stays.low; high = k.stays.high }
@@ -455,13 +455,13 @@ holds_note : (l : Life) (id : ℕ) (note : Option Note) → Holds l (NoteIs id n
 holds_note l id None = record { careful = (tt, tt); listed = refl; low = refl; high = refl }
 holds_note l id (Some n) = record { careful = (tt, tt); listed = refl; low = refl; high = refl }
 
-holds_one : (l : Life) (id : ℕ) (one : Option Found) (ts : List Telling) → l.listed ≡ true → IsOne id one ts → Holds l ts
+pub holds_one : (l : Life) (id : ℕ) (one : Option Found) (ts : List Telling) → l.listed ≡ true → IsOne id one ts → Holds l ts
 holds_one l id one ts e (inl h) = holds l ts (settles l id h.0 ts e h.3).keeps
 holds_one l id one ts e (inr h) =
     holds_both l h.2.0 h.2.1 ts h.2.4 (holds l h.2.0 (settles l id h.0 h.2.0 e h.2.2).keeps)
     (subst (Holds _) (sym h.2.3.asked) (holds_note _ id h.2.3.note))
 
-holds_finding : (ids : List ℕ) (fs : List Found) (ts : List Telling) (l : Life) → l.listed ≡ true → IsFinding ids fs ts
+pub holds_finding : (ids : List ℕ) (fs : List Found) (ts : List Telling) (l : Life) → l.listed ≡ true → IsFinding ids fs ts
     → Holds l ts
 holds_finding [] fs ts l e h =
     subst (Holds l) (sym h.1) (record { careful = tt; listed = refl; low = refl; high = refl })
@@ -603,13 +603,13 @@ early_beginning ts l e = early_careful IsAnyBeginning l (λ us h. beginning_care
 -- ---- a contract is started
 
 -- the number was taken in this life and was not given
-record Gives (l : Life) (id high : ℕ) (ts : List Telling) : Type 0 where
-  careful : AreCareful l ts
-  low : (life_after_all ts l).low ≤ id
-  above : id < (life_after_all ts l).high
-  most : (life_after_all ts l).high ≡ high
-  listed : (life_after_all ts l).listed ≡ l.listed
-  unsettled : (life_after_all ts l).unsettled ≡ l.unsettled
+pub record Gives (l : Life) (id high : ℕ) (ts : List Telling) : Type 0 where
+  pub careful : AreCareful l ts
+  pub low : (life_after_all ts l).low ≤ id
+  pub above : id < (life_after_all ts l).high
+  pub most : (life_after_all ts l).high ≡ high
+  pub listed : (life_after_all ts l).listed ≡ l.listed
+  pub unsettled : (life_after_all ts l).unsettled ≡ l.unsettled
 
 left_low : (a b c d id : ℕ) → a < b → (b ≤ a) ⊎ ((a ≡ c) × (b ≡ d)) → id ≡ a → (c ≤ id) × (id < d)
 left_low a b c d id h (inl e) i = absurd (omega arith)
@@ -619,7 +619,7 @@ left_high : (a b c d : ℕ) → a < b → (b ≤ a) ⊎ ((a ≡ c) × (b ≡ d))
 left_high a b c d h (inl e) = absurd (omega arith)
 left_high a b c d h (inr e) = sym e.1
 
-gives : (ns : Numbers) (given : Given) (ts : List Telling) (l : Life) → AreLeft ns l → IsGiven ns given ts
+pub gives : (ns : Numbers) (given : Given) (ts : List Telling) (l : Life) → AreLeft ns l → IsGiven ns given ts
     → Gives l given.id given.left.high ts
 gives ns given ts l a (inl h) =
     let in_block = left_low ns.low ns.high l.low l.high given.id h.left a h.id in
@@ -644,7 +644,7 @@ gives ns given ts l a (inr h) =
       unsettled = refl;
     })
 
-may_make : (l m : Life) (id : ℕ) (instance : List ℕ) → m.low ≤ id → id < m.high → m.listed ≡ l.listed
+pub may_make : (l m : Life) (id : ℕ) (instance : List ℕ) → m.low ≤ id → id < m.high → m.listed ≡ l.listed
     → m.unsettled ≡ l.unsettled → MayStart instance l → MayMake m id instance
 may_make l m id instance a b e f s =
     record {
@@ -654,75 +654,16 @@ may_make l m id instance a b e f s =
       settled = ap (list_any (may_be instance)) f ∙ s.settled;
     }
 
-making_careful : (ns : Numbers) (note : Note) (given : Given) (ts : List Telling) (l : Life) → AreLeft ns l
-    → MayStart (string_bytes note.instance) l
-    → Then (IsGiven ns given) (Only (Did (deed (Made given.id note) Done))) ts → AreCareful l ts
-making_careful ns note given ts l a s h =
-    let g = gives ns given h.0 l a h.2 in
-    let m = life_after_all h.0 l in
-    subst (AreCareful l) (sym (h.4 ∙ ap (λ x. h.0 ++ x) h.3))
-    (careful_both h.0 (Did (deed (Made given.id note) Done) ∷ []) l g.careful
-    (may_make l m given.id (string_bytes note.instance) g.low g.above g.listed g.unsettled s, tt))
-
-pub start_careful : (ns : Numbers) (note : Note) (started : Started) (ts : List Telling) (l : Life) → AreLeft ns l
-    → MayStart (string_bytes note.instance) l → IsStart ns note started ts → AreCareful l ts
-start_careful ns note started ts l a s h =
-    subst (AreCareful l) (sym (h.calls.4 ∙ ap (λ x. h.calls.0 ++ x) h.calls.3.2))
-    (careful_both h.calls.0 (Did (deed (Asked h.given.id) h.calls.3.0) ∷ []) l
-    (making_careful ns note h.given h.calls.0 l a s h.calls.2) (tt, tt))
-
-pub start_fails : (ns : Numbers) (note : Note) (ts : List Telling) (l : Life) → AreLeft ns l
-    → MayStart (string_bytes note.instance) l → Fails (IsAnyMaking ns note) ts → AreCareful l ts
-start_fails ns note ts l a s f =
-    fails_careful (IsAnyMaking ns note) l (λ us h. making_careful ns note h.0 us l a s h.1) ts f
-
--- what a life knows after a start: what it knew after it took the number, and the contract that it made
-after_start : (ns : Numbers) (note : Note) (started : Started) (ts : List Telling) (l : Life)
-    → (h : IsStart ns note started ts)
-    → life_after_all ts l ≡ life_after (Did (deed (Made h.given.id note) Done)) (life_after_all h.calls.2.0 l)
-after_start ns note started ts l h =
-    let made = h.calls.2 in
-    let asked = Did (deed (Asked h.given.id) h.calls.3.0) in
-    let last = Did (deed (Made h.given.id note) Done) in
-    ap (λ (x : List Telling). life_after_all x l) (h.calls.4 ∙ ap (λ x. h.calls.0 ++ x) h.calls.3.2)
-    ∙ after_both h.calls.0 (asked ∷ []) l
-    ∙ ap (λ (x : List Telling). life_after_all x l) (made.4 ∙ ap (λ x. made.0 ++ x) made.3)
-    ∙ after_both made.0 (last ∷ []) l
-
-next_low : (ns : Numbers) (given : Given) (ts : List Telling) → IsGiven ns given ts → given.left.low ≡ given.id + 1
+pub next_low : (ns : Numbers) (given : Given) (ts : List Telling) → IsGiven ns given ts → given.left.low ≡ given.id + 1
 next_low ns given ts (inl h) = h.low ∙ ap (λ (n : ℕ). n + 1) (sym h.id)
 next_low ns given ts (inr h) = h.low
 
-pub start_left : (ns : Numbers) (note : Note) (started : Started) (ts : List Telling) (l : Life) → AreLeft ns l
-    → IsStart ns note started ts → AreLeft started.left (life_after_all ts l)
-start_left ns note started ts l a h =
-    let g = gives ns h.given h.calls.2.0 l a h.calls.2.2 in
-    subst (AreLeft started.left) (sym (after_start ns note started ts l h))
-    (inr (
-      ap (λ (n : Numbers). n.low) h.left ∙ next_low ns h.given h.calls.2.0 h.calls.2.2,
-      ap (λ (n : Numbers). n.high) h.left ∙ sym g.most,
-    ))
-
-none_more : (q : Known → Bool) (ks : List Known) (k : Known) → list_any q ks ≡ false → q k ≡ false
+pub none_more : (q : Known → Bool) (ks : List Known) (k : Known) → list_any q ks ≡ false → q k ≡ false
     → list_any q (ks ++ k ∷ []) ≡ false
 none_more q [] k a b = both_no (q k) false b refl
 none_more q (x ∷ ks) k a b =
     both_no (q x) (list_any q (ks ++ k ∷ [])) (no_l (q x) (list_any q ks) a)
     (none_more q ks k (no_r (q x) (list_any q ks) a) b)
-
-pub start_others : (other : List ℕ) (ns : Numbers) (note : Note) (started : Started) (ts : List Telling) (l : Life)
-    → AreLeft ns l → IsStart ns note started ts → MayStart other l
-    → pointwise nat_eq (string_bytes note.instance) other ≡ false → MayStart other (life_after_all ts l)
-start_others other ns note started ts l a h s n =
-    let g = gives ns h.given h.calls.2.0 l a h.calls.2.2 in
-    let m = life_after_all h.calls.2.0 l in
-    subst (MayStart other) (sym (after_start ns note started ts l h))
-    (record {
-      listed = g.listed ∙ s.listed;
-      settled = none_more (may_be other) m.unsettled
-          (record { id = h.given.id; instance = Some (string_bytes note.instance) })
-          (ap (list_any (may_be other)) g.unsettled ∙ s.settled) n;
-    })
 
 -- ---- a careful life is one of those of the law
 

@@ -25,7 +25,7 @@ heard : {S : Type 0} (tells : Tells S) (did : Log S) (P : List Telling → Type 
     → P ts → Calls tells did ts p q → Heard tells did P p q
 heard tells did P ts p q h c = record { calls = ts; holds = h; told = c; logged = logged tells did ts p q c }
 
-calls_both : {S : Type 0} (tells : Tells S) (did : Log S) (us ts : List Telling) (p q r : S)
+pub calls_both : {S : Type 0} (tells : Tells S) (did : Log S) (us ts : List Telling) (p q r : S)
     → Calls tells did us p q → Calls tells did ts q r → Calls tells did (us ++ ts) p r
 calls_both tells did [] ts p q r a b = subst (λ x. Calls tells did ts x r) (sym a) b
 calls_both tells did (u ∷ us) ts p q r a b = (a.0, a.1, calls_both tells did us ts a.0 q r a.2 b)

@@ -1,7 +1,10 @@
 mod Beginning
 mod Careful
+mod Clearing
 mod Contracts
-mod Hearing
+pub mod Hearing
+mod Lifetimes
+pub mod Living
 mod Looking
 mod Rooms
 mod Starting

@@ -14,7 +14,7 @@ says_first id t look e ts h = inl (record { token = t; says = e; asked = h })
 pub two : (a b : Telling) (ts : List Telling) → Then (Only a) (Only b) ts → ts ≡ a ∷ b ∷ []
 two a b ts h = h.4 ∙ ap (λ x. x ++ h.1) h.2 ∙ ap (λ x. a ∷ x) h.3
 
-three : (a b c : Telling) (ts : List Telling) → Then (Then (Only a) (Only b)) (Only c) ts → ts ≡ a ∷ b ∷ c ∷ []
+pub three : (a b c : Telling) (ts : List Telling) → Then (Then (Only a) (Only b)) (Only c) ts → ts ≡ a ∷ b ∷ c ∷ []
 three a b c ts h = h.4 ∙ ap (λ x. x ++ h.1) (two a b h.0 h.2) ∙ ap (λ x. a ∷ b ∷ x) h.3
 
 pub says_held : (id : ℕ) (t : Option Token) (look : Look) → first_look t ≡ None → look ≡ Lives (end_in t)

@@ -7,7 +7,7 @@ use Rattle.smf_room.specs.declared.sight.Sight.{Sight}
 use Rattle.smf_room.specs.declared.sight.Sight.TheVariants.{Unseen, Once, Nothing}
 use Rattle.smf_room.specs.declared.token.Token.{Token}
 use Rattle.smf_room.specs.declared.token.Token.TheVariants.{Go, Void, Begun, Ended, Over}
-use Rattle.smf_room.specs.Tellings.{Act, Reserved, Made, Renamed, Asked, AskedEnd, Killed, KilledGroup, Unlinked, Ungrouped, Forgot, Outcome, Done, NotDone, Unsure, Telling, NextIs, Listed, TokenIs, Free, NoteIs, Populated, Marked, Locked, Unlocked, Did, NoAnswer}
+use Rattle.smf_room.specs.Tellings.{Act, Reserved, Made, Renamed, Asked, AskedEnd, Killed, KilledGroup, Unlinked, Ungrouped, Forgot, Outcome, Done, NotDone, Unsure, Telling, NextIs, Listed, TokenIs, Free, NoteIs, Populated, Marked, Locked, Unlocked, HolderIs, Did, NoAnswer}
 use Rattle.smf_room.specs.Worlds.{AreApart, AreNumbered, Contract, Event, MayHappen, NoneTwice, Of, World, after_event, change, change_one, is_active, is_begun, is_go, is_held, may_run}
 use Rattle.smf_room.specs.Lives.{IsCareful, Known, Life, MayDo, MayForget, MayMake, MayRename, after_deed, after_lock, after_note, after_sight, after_token, is_known, is_number, is_of, is_settled, life_after, may_be, named, new_life, next_sight, numbers_of, over_of, sight_of, sight_of_group, unread, without}
 use Rattle.smf_room.specs.Runs.{Begins, Comes, Happens, Hears, IsAfter, IsAfterDeed, IsDone, IsLocked, IsMarked, IsMove, IsPartly, IsPopulated, IsRead, IsTrue, Move, State, after_act, made_with, new_room, unlocked, with_change, with_made, with_server, with_token}
@@ -820,6 +820,7 @@ heard_good (Locked id done) w v l c s a g =
     good_as (with_change id (with_server done) (unlocked w)) v (after_lock done id l) a (lock_good done id w l s g)
 heard_good Unlocked w v l c s a g = good_as (unlocked w) v (life_after Unlocked l) a (good_unlocked w l g)
 heard_good (Did d) w v l c s a g = deed_good d.act d.outcome w v l c a g
+heard_good (HolderIs there) w v l c s a g = good_as w v l a g
 heard_good NoAnswer w v l c s a g = good_as w v l a g
 
 -- ---- all that comes of a room

@@ -1,6 +1,9 @@
 pub mod Beginnings
 pub mod Carefuls
+pub mod Clearings
+pub mod Helds
 pub mod Lives
+pub mod LiveRooms
 pub mod Looks
 pub mod Runs
 pub mod Starts

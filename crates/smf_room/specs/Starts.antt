@@ -1,11 +1,11 @@
--- What a server asks to start a contract, and to end one.
-use Rattle.std.specs.Prelude.{◌≡◌, ◌⊎◌, ◌<◌, ◌≤◌, ◌+◌, ℕ, List, [], ◌∷◌, Bool, true, false}
+-- What a server asks to make and start a contract, and to end one.
+use Rattle.std.specs.Prelude.{◌≡◌, ◌⊎◌, ◌<◌, ◌≤◌, ◌+◌, ℕ, List, [], ◌∷◌, ◌++◌, Bool, true, false, Some, string_bytes}
 use Rattle.smf_room.specs.declared.note.Note.{Note}
 use Rattle.smf_room.specs.declared.start.Given.{Given}
 use Rattle.smf_room.specs.declared.start.Numbers.{Numbers}
-use Rattle.smf_room.specs.declared.start.Started.{Started}
 use Rattle.smf_room.specs.declared.start.TheConstants.{BLOCK}
-use Rattle.smf_room.specs.Tellings.{Asked, AskedEnd, Did, Done, Made, NextIs, Only, Outcome, Reserved, Telling, Then, deed, outcome_of}
+use Rattle.smf_room.specs.Helds.{Held}
+use Rattle.smf_room.specs.Tellings.{Asked, AskedEnd, Did, Done, EndsEarly, HolderIs, Made, NextIs, NoAnswer, NotDone, Only, Outcome, Reserved, Telling, Then, Unsure, deed, outcome_of}
 
 -- a number is left
 pub record HasNumber (before : Numbers) (given : Given) (ts : List Telling) : Type 0 where
@@ -28,23 +28,62 @@ IsGiven before given ts = HasNumber before given ts ⊎ TakesBlock before given 
 abbrev pub IsAnyGiven : Numbers → List Telling → Type 0
 IsAnyGiven before ts = (given : Given) × IsGiven before given ts
 
-abbrev pub is_done : Outcome → Bool
-is_done Done = true
-is_done _ = false
+-- ---- a contract is made
 
-abbrev pub IsAsk : ℕ → Bool → List Telling → Type 0
-IsAsk id asked ts = (outcome : Outcome) × (asked ≡ is_done outcome) × Only (Did (deed (Asked id) outcome)) ts
+abbrev pub made : ℕ → Note → Outcome → Telling
+made id note outcome = Did (deed (Made id note) outcome)
 
--- one contract was made
-abbrev pub IsAnyMaking : Numbers → Note → List Telling → Type 0
-IsAnyMaking before note ts = (given : Given) × Then (IsGiven before given) (Only (Did (deed (Made given.id note) Done))) ts
+-- a contract of this number and of a note's instance, whose making failed or not
+abbrev pub held_as : ℕ → Note → Bool → Held
+held_as id note failed =
+    record { known = record { id = id; instance = Some (string_bytes note.instance) }; failed = failed }
 
--- one contract was made, and then its start was asked for, once
-pub record IsStart (before : Numbers) (note : Note) (started : Started) (ts : List Telling) : Type 0 where
+-- one contract was made, under a number that was not given before, and it may run from now on
+pub record IsMade (before after : Numbers) (hs ks : List Held) (note : Note) (id : ℕ) (ts : List Telling) : Type 0 where
   pub given : Given
-  pub id : started.id ≡ given.id
-  pub left : started.left ≡ given.left
-  pub calls : Then (Then (IsGiven before given) (Only (Did (deed (Made given.id note) Done)))) (IsAsk given.id started.asked) ts
+  pub is : given.id ≡ id
+  pub left : after ≡ given.left
+  pub noted : ks ≡ hs ++ held_as id note false ∷ []
+  pub calls : Then (IsGiven before given) (Only (made given.id note Done)) ts
+
+-- there was no memory or no number, and no contract was made
+pub record HasNoNumber (before after : Numbers) (hs ks : List Held) (ts : List Telling) : Type 0 where
+  pub left : after ≡ before
+  pub noted : ks ≡ hs
+  pub calls : EndsEarly (IsAnyGiven before) ts
+
+-- a contract may have been made, which nobody was asked to start; its number is not given again
+pub record IsPartlyMade (before after : Numbers) (hs ks : List Held) (note : Note) (ts : List Telling) : Type 0 where
+  pub given : Given
+  pub left : after ≡ given.left
+  pub noted : ks ≡ hs ++ held_as given.id note true ∷ []
+  pub calls : Then (IsGiven before given) (Only (made given.id note Unsure)) ts
+
+abbrev pub IsUnmade : Numbers → Numbers → List Held → List Held → Note → List Telling → Type 0
+IsUnmade before after hs ks note ts =
+    HasNoNumber before after hs ks ts ⊎ IsPartlyMade before after hs ks note ts
+
+-- ---- a start is asked for
+
+abbrev pub asked_start : ℕ → Outcome → Telling
+asked_start id outcome = Did (deed (Asked id) outcome)
+
+-- somebody read; or a holder was asked for, and the start once more if there was one
+abbrev pub IsAsking : ℕ → Bool → List Telling → Type 0
+IsAsking id done ts =
+    ((done ≡ true) × Only (asked_start id Done) ts)
+    ⊎ (((done ≡ false) × (ts ≡ asked_start id NotDone ∷ HolderIs false ∷ []))
+    ⊎ (ts ≡ asked_start id NotDone ∷ HolderIs true ∷ asked_start id (outcome_of done) ∷ []))
+
+-- one of these calls failed
+abbrev pub IsAskLost : ℕ → List Telling → Type 0
+IsAskLost id ts =
+    Only (asked_start id Unsure) ts
+    ⊎ ((ts ≡ asked_start id NotDone ∷ NoAnswer ∷ [])
+    ⊎ (ts ≡ asked_start id NotDone ∷ HolderIs true ∷ asked_start id Unsure ∷ []))
+
+abbrev pub IsTried : ℕ → List Telling → Type 0
+IsTried id ts = ((done : Bool) × IsAsking id done ts) ⊎ IsAskLost id ts
 
 abbrev pub IsEndAsk : ℕ → List ℕ → ℕ → Bool → List Telling → Type 0
 IsEndAsk id signal seconds done ts = Only (Did (deed (AskedEnd id signal seconds) (outcome_of done))) ts

@@ -66,6 +66,8 @@ pub data Telling : Type 0 where
   Locked : ℕ → Bool → Telling
   -- it let go any lock that it had
   Unlocked : Telling
+  -- whether a holder was there; if not, one was begun
+  HolderIs : Bool → Telling
   Did : Deed → Telling
   -- the system did not answer
   NoAnswer : Telling

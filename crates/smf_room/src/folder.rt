@@ -9,30 +9,42 @@ use crate::token::{Token, name_of, read_token};
 use libc::net::poll;
 use libc::types::pollfd;
 use smf_fmri::read_count;
-use std::alloc::{AllocGlobal, Global};
-use std::fs::{File, TryLockError};
-use std::io::{Read, Write};
+use std::alloc::{AllocError, AllocGlobal, Global};
+use std::env::VarError;
+use std::fs::{DirBuilder, File, TryLockError};
+use std::io::{Read, Stderr, Write};
 use std::os::fd::AsRawFd;
-use std::os::unix::fs::{MetadataExt, OpenOptionsExt};
-use std::process::{Command, Processes};
-use std::rt::{Clock, Files};
+use std::os::unix::fs::{DirBuilderExt, OpenOptionsExt};
+use std::process::{Child, Command, Processes, Stdio};
+use std::rt::{Clock, Env, Files};
 use std::time::Duration;
-use std::{fs, io, thread};
+use std::{env, fs, io, thread};
 
 /// The event of poll that something may be written.
 const POLLOUT: i16 = 4;
+
+/// The bytes of the secret in a contract's mark.
+const SECRET: usize = 16;
 
 /// ESRCH: there is no such process.
 const NO_PROCESS: i32 = 3;
 
 /// The folder of a room. A contract is a folder in it that is called as its number.
 #[derive(Drop)]
-pub struct Folder<R> {
+pub struct Folder<R: Processes> {
     alloc: Global,
     rt: R,
     path: String,
-    /// The folder of the control groups, if each contract has one.
+    /// The folder of all control groups of this room, if each contract has one.
     groups: Option<String>,
+    /// The path of the program smf_hold.
+    holder: String,
+    /// The holder's output goes there.
+    output: Stderr,
+    /// The room is this server's as long as this is open.
+    _server: File,
+    /// A holder that this server began and has not waited for.
+    child: Option<Child<R::Started>>,
     lock: Option<File>,
 }
 
@@ -96,6 +108,39 @@ fn make_file<R: Files<File = File>>(rt: &R, path: &str, text: &str) -> io::Resul
     file.write_all(text.as_bytes())
 }
 
+/// Makes a folder for its owner alone, if it is not there.
+fn make_folder<R: Files>(rt: &R, path: &str) -> io::Result<()> {
+    match DirBuilder::new().mode(0o700).create(rt, path) {
+        Err(e) if e.kind() == io::ErrorKind::AlreadyExists => Ok(()),
+        made => made,
+    }
+}
+
+/// Opens a file, which is made if it is not there.
+fn touch<R: Files<File = File>>(rt: &R, path: &str) -> io::Result<File> {
+    File::options()
+        .write(true)
+        .create(true)
+        .mode(0o600)
+        .open(rt, path)
+}
+
+/// Gives a program a variable that this process has.
+fn pass_variable<R: Env + AllocGlobal>(
+    rt: &R,
+    program: &mut Command,
+    name: &str,
+) -> Result<(), AllocError> {
+    match env::var(rt, name) {
+        Ok(value) => {
+            program.env(name, value.as_str())?;
+            Ok(())
+        }
+        Err(VarError::OutOfMemory) => Err(AllocError),
+        Err(_) => Ok(()),
+    }
+}
+
 /// Writes a line into a pipe that is there, if it takes one at once. The pipe is opened both ways, so that nothing waits.
 fn write_line<R: Files<File = File>>(rt: &R, path: &str, line: &str) -> io::Result<bool> {
     let Some(mut pipe) = if_there(File::options().read(true).write(true).open(rt, path))? else {
@@ -133,16 +178,72 @@ fn has_process(events: &str) -> io::Result<bool> {
     }
 }
 
-impl<R: Processes + Files<File = File> + Clock + AllocGlobal + Clone + Drop> Folder<R> {
-    /// The room of a folder that is there. Each contract that is made gets a control group if there is a folder for them.
-    pub fn new(alloc: Global, rt: R, path: &str, groups: Option<String>) -> io::Result<Folder<R>> {
-        Ok(Folder {
+impl<R: Processes + Env + Files<File = File> + Clock + AllocGlobal + Clone + Drop> Folder<R> {
+    /// Takes the room of a folder, which is made if it is not there. None if another server has it. Each contract that is
+    /// made gets a control group in `groups`, the folder of all groups of this room, if there is one. `holder` is the path
+    /// of the program smf_hold.
+    pub fn take(
+        alloc: Global,
+        rt: R,
+        path: &str,
+        groups: Option<String>,
+        holder: &str,
+        output: Stderr,
+    ) -> io::Result<Option<Folder<R>>> {
+        make_folder(&rt, path)?;
+        let server = format!(in alloc; "{path}/server")?;
+        let server = touch(&rt, server.as_str())?;
+        if !is_taken(server.try_lock())? {
+            return Ok(None);
+        }
+        Ok(Some(Folder {
             alloc,
             rt,
             path: format!(in alloc; "{path}")?,
             groups,
+            holder: format!(in alloc; "{holder}")?,
+            output,
+            _server: server,
+            child: None,
             lock: None,
-        })
+        }))
+    }
+
+    /// True if a holder that this server began has not ended. One that has is waited for.
+    fn has_child(&mut self) -> io::Result<bool> {
+        let Some(child) = &mut self.child else {
+            return Ok(false);
+        };
+        let ended = child.try_wait()?.is_some();
+        if ended {
+            self.child = None;
+        }
+        Ok(!ended)
+    }
+
+    /// True if somebody has the lock of the holder.
+    fn has_holder(&self) -> io::Result<bool> {
+        let path = self.in_room("hold")?;
+        match if_there(File::open(&self.rt, path.as_str()))? {
+            Some(lock) => Ok(!is_taken(lock.try_lock_shared())?),
+            None => Ok(false),
+        }
+    }
+
+    /// Begins a holder, with few variables.
+    fn begin_holder(&self) -> io::Result<Child<R::Started>> {
+        let mut program = Command::new(self.alloc, "/usr/bin/perl")?;
+        program.arg(self.holder.as_str())?;
+        program.arg(self.path.as_str())?;
+        program.env_clear();
+        program.env("PATH", "/usr/sbin:/usr/bin:/sbin:/bin")?;
+        pass_variable(&self.rt, &mut program, "SMF_PATIENCE")?;
+        pass_variable(&self.rt, &mut program, "SMF_LOG_MAX")?;
+        pass_variable(&self.rt, &mut program, "SMF_LOG_KEEP")?;
+        program.stdin(Stdio::null());
+        program.stdout(self.output);
+        program.stderr(self.output);
+        program.spawn(&self.rt)
     }
 
     fn in_room(&self, name: &str) -> io::Result<String> {
@@ -196,9 +297,38 @@ impl<R: Processes + Files<File = File> + Clock + AllocGlobal + Clone + Drop> Fol
         File::open(&self.rt, path)?.sync_all()
     }
 
-    /// Makes what stands in a contract's folder, the token last.
+    /// A text that nobody can guess.
+    fn secret(&self) -> io::Result<String> {
+        let mut bytes = [0; SECRET];
+        File::open(&self.rt, "/dev/urandom")?.read_exact(&mut bytes)?;
+        let mut text = String::new(self.alloc);
+        for byte in &bytes {
+            write!(text, "{byte:02x}")?;
+        }
+        Ok(text)
+    }
+
+    /// Removes the groups that stand in a group. One that has a process or a group stays.
+    fn remove_below(&self, group: &str) -> io::Result<()> {
+        let Some(entries) = if_there(fs::read_dir(&self.rt, group))? else {
+            return Ok(());
+        };
+        for entry in entries {
+            let entry = entry?;
+            let path = entry.path();
+            if fs::metadata(&self.rt, path.as_str())?.is_dir() {
+                let _removed = fs::remove_dir(&self.rt, path.as_str());
+            }
+        }
+        Ok(())
+    }
+
+    /// Makes what stands in a contract's folder, the token last. Its mark ends with a secret, by which its processes are known,
+    /// whatever user they become; and no other user's process has it.
     fn fill(&self, id: u64, note: &Note, group: Option<&str>) -> io::Result<()> {
-        let mark = self.folder_of(id)?;
+        let folder = self.folder_of(id)?;
+        let secret = self.secret()?;
+        let mark = format!(in self.alloc; "{}/{}", folder.as_str(), secret.as_str())?;
         let text = note_text(self.alloc, note, mark.as_str(), group)?;
         let file = self.in_contract(id, "note")?;
         let lock = self.in_contract(id, "lock")?;
@@ -208,9 +338,15 @@ impl<R: Processes + Files<File = File> + Clock + AllocGlobal + Clone + Drop> Fol
         make_file(&self.rt, go.as_str(), "")
     }
 
-    /// The user of this process.
-    fn own_user(&self) -> io::Result<u32> {
-        Ok(fs::metadata(&self.rt, "/proc/self")?.uid())
+    /// The variable that marks the processes of a contract, as its note has it.
+    fn mark_of(&self, id: u64) -> io::Result<String> {
+        let Some(text) = self.text_of_note(id)? else {
+            return Err(unclear());
+        };
+        match field_in(text.as_str(), "env=SMF_CONTRACT=") {
+            Some(mark) => Ok(format!(in self.alloc; "SMF_CONTRACT={mark}")?),
+            None => Err(unclear()),
+        }
     }
 
     /// The number of this process.
@@ -241,7 +377,8 @@ impl<R: Processes + Files<File = File> + Clock + AllocGlobal + Clone + Drop> Fol
 
 /// The kit says nothing of files and locks. So these bodies are trusted: each asks the system once, for what its name
 /// says, and tells what that answered.
-impl<R: Processes + Files<File = File> + Clock + AllocGlobal + Clone + Drop> Room for Folder<R> {
+impl<R: Processes + Env + Files<File = File> + Clock + AllocGlobal + Clone + Drop> Room
+    for Folder<R> {
     ghost tells = { λ _ _ _. Unit {0} };
 
     ghost did = { λ _. None };
@@ -325,12 +462,30 @@ impl<R: Processes + Files<File = File> + Clock + AllocGlobal + Clone + Drop> Roo
     }
 
     fn ask_start(&mut self, id: u64) -> io::Result<bool> {
+        // The pipe is opened both ways, so whether somebody reads is known by the holder's lock.
+        if !self.holder()? {
+            return Ok(false);
+        }
         let path = self.in_room("asks")?;
         let line = format!(in self.alloc; "start {id}\n")?;
         write_line(&self.rt, path.as_str(), line.as_str())
     }
 
+    fn holder(&mut self) -> io::Result<bool> {
+        if self.has_holder()? {
+            return Ok(true);
+        }
+        if !self.has_child()? {
+            self.child = Some(self.begin_holder()?);
+        }
+        Ok(false)
+    }
+
     fn ask_end(&mut self, id: u64, signal: &str, seconds: u64) -> io::Result<bool> {
+        // As in `ask_start`: who reads has the contract's lock.
+        if self.is_free(id)? {
+            return Ok(false);
+        }
         let path = self.in_contract(id, "ctl")?;
         let line = format!(in self.alloc; "end {signal} {seconds}\n")?;
         write_line(&self.rt, path.as_str(), line.as_str())
@@ -363,9 +518,10 @@ impl<R: Processes + Files<File = File> + Clock + AllocGlobal + Clone + Drop> Roo
         if let Some(text) = text_of(self.alloc, &self.rt, events.as_str())? {
             return Ok(Some(has_process(text.as_str())?));
         }
-        // A group that is not there has no process, if the folder of groups is to be seen.
+        // A group that is not there has no process, if the folder of groups is to be seen. A room without groups looks for
+        // marks.
         let Some(groups) = &self.groups else {
-            return Err(unclear());
+            return Ok(None);
         };
         let groups = groups.as_str();
         let all = format!(in self.alloc; "{groups}/cgroup.events")?;
@@ -376,11 +532,8 @@ impl<R: Processes + Files<File = File> + Clock + AllocGlobal + Clone + Drop> Roo
     }
 
     fn marks(&mut self, id: u64) -> io::Result<Marks> {
-        let path = self.folder_of(id)?;
-        let path = path.as_str();
-        let mark = format!(in self.alloc; "SMF_CONTRACT={path}")?;
+        let mark = self.mark_of(id)?;
         let number = self.own_number()?;
-        let user = self.own_user()?;
         let mut marks = Marks {
             own: false,
             found: Vec::new(self.alloc),
@@ -393,12 +546,11 @@ impl<R: Processes + Files<File = File> + Clock + AllocGlobal + Clone + Drop> Roo
             if found == number {
                 marks.own = true;
             } else if self.has_mark(entry.path().as_str(), mark.as_str())? {
-                if let Some(whose) = if_there(fs::metadata(&self.rt, entry.path().as_str()))? {
-                    marks.found.push(Process {
-                        number: found,
-                        ours: whose.uid() == user,
-                    })?;
-                }
+                // Nobody else knows the mark, so it is of this room, also if it became another user's.
+                marks.found.push(Process {
+                    number: found,
+                    ours: true,
+                })?;
             }
         }
         Ok(marks)
@@ -433,6 +585,7 @@ impl<R: Processes + Files<File = File> + Clock + AllocGlobal + Clone + Drop> Roo
         let Some(group) = self.group_of(id)? else {
             return Ok(true);
         };
+        self.remove_below(group.as_str())?;
         match if_there(fs::remove_dir(&self.rt, group.as_str())) {
             Ok(_) => Ok(true),
             Err(e) if e.kind() == io::ErrorKind::ResourceBusy => Ok(false),

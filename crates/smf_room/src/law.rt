@@ -1,17 +1,16 @@
 ghost use Rattle.smf_room.specs.Beginnings.{IsAnyBeginning, IsBeginning};
-ghost use Rattle.smf_room.specs.Carefuls.{AreLeft, MayStart, may_run_as};
-ghost use Rattle.smf_room.specs.Lives.{AreCareful, Life, life_after_all};
-ghost use Rattle.smf_room.specs.Starts.{IsAnyMaking, IsStart};
-ghost use Rattle.smf_room.specs.Tellings.{EndsEarly, Fails, Telling};
+ghost use Rattle.smf_room.specs.Carefuls.{MayStart, may_run_as};
+ghost use Rattle.smf_room.specs.Lives.{AreCareful, Life, life_after_all, new_life};
+ghost use Rattle.smf_room.specs.LiveRooms.{BeginsWell, EndsWell, Failed, GoesOn, IsCutOff, IsHistory, Lived};
+ghost use Rattle.smf_room.specs.Tellings.{EndsEarly, Telling};
 ghost use Rattle.smf_room.specs.declared.life.Found.{Found as AnyFound};
-ghost use Rattle.smf_room.specs.declared.note.Note.{Note as AnyNote};
-ghost use Rattle.smf_room.specs.declared.start.Numbers.{Numbers as AnyNumbers};
-ghost use Rattle.smf_room.specs.declared.start.Started.{Started as AnyStarted};
+ghost use Rattle.smf_room.specs.declared.live_room.LiveRoom.{LiveRoom};
 ghost use Rattle.std.specs.List.{list_any};
-ghost use Rattle.std.specs.Cmp.Lexicographic.{pointwise};
-ghost use Rattle.std.specs.Prelude.{◌≡◌, ◌++◌, ℕ, List, false, nat_eq, string_bytes};
+ghost use Rattle.std.specs.Prelude.{◌≡◌, ◌++◌, ℕ, List, false};
 ghost use Rattle.smf_room.specs.Runs.{Comes, Lasts, Move, State, calls_of, new_room};
 ghost use Rattle.smf_room.specs.Worlds.{AreNumbered, NoneTwice};
+
+use crate::room::Room;
 
 /// However often the server is killed, wherever that is, and whatever the holder, the keepers and the processes do
 /// meanwhile: no two contracts of one instance run at one time, nor can both still begin. A server is asked to make a
@@ -34,18 +33,20 @@ pub fn a_beginning_is_careful()
         → list_any (may_run_as instance) fs ≡ false → MayStart instance (life_after_all ts l) }
 {}
 
-/// So is what `start_contract` asks, if no contract of the instance may run. The numbers that it gives back are left, and
-/// contracts of other instances may still be made.
-pub fn a_start_is_careful()
-    ensures careful { (ns : AnyNumbers) (note : AnyNote) (started : AnyStarted) (ts : List Telling) (l : Life) → AreLeft ns l
-        → MayStart (string_bytes note.instance) l → IsStart ns note started ts → AreCareful l ts }
-    ensures fails { (ns : AnyNumbers) (note : AnyNote) (ts : List Telling) (l : Life) → AreLeft ns l
-        → MayStart (string_bytes note.instance) l → Fails (IsAnyMaking ns note) ts → AreCareful l ts }
-    ensures left { (ns : AnyNumbers) (note : AnyNote) (started : AnyStarted) (ts : List Telling) (l : Life) → AreLeft ns l
-        → IsStart ns note started ts → AreLeft started.left (life_after_all ts l) }
-    ensures others { (other : List ℕ) (ns : AnyNumbers) (note : AnyNote) (started : AnyStarted) (ts : List Telling) (l : Life)
-        → AreLeft ns l → IsStart ns note started ts → MayStart other l
-        → pointwise nat_eq (string_bytes note.instance) other ≡ false → MayStart other (life_after_all ts l) }
+/// Whatever a server asks of a `LiveRoom`, in whatever order, however often it is killed and begins anew, and whatever
+/// the holder, the keepers and the processes do meanwhile: no two contracts of one instance run at one time, nor can both
+/// still begin. A life is what `begin` asks, and then what any calls of the `LiveRoom` ask.
+pub fn whatever_is_asked_is_careful<R: Room>()
+    ensures begins { (p : R) (a : LiveRoom R) → BeginsWell R.tells R.did p a
+        → (ts : List Telling) × Lived R.tells R.did a ts }
+    ensures ends { (p q : R) → EndsWell R.tells R.did p q → (ts : List Telling) × Failed R.tells R.did q ts }
+    ensures goes_on { (a b : LiveRoom R) (ts : List Telling) → Lived R.tells R.did a ts → GoesOn R.tells R.did a b
+        → (us : List Telling) × Lived R.tells R.did b (ts ++ us) }
+    ensures follows { (a b c : LiveRoom R) → GoesOn R.tells R.did a b → GoesOn R.tells R.did b c
+        → GoesOn R.tells R.did a c }
+    ensures comes { (ms : List Move) (s v : State) → s.life ≡ new_life → IsCutOff R.tells R.did s ms v → Comes s ms v }
+    ensures once { (next : ℕ) (mss : List (List Move)) (s : State) → IsHistory R.tells R.did (new_room next) mss s
+        → NoneTwice s.world.contracts }
 {}
 
 /// Whatever happens between the calls of a life, and wherever it is cut off: if what it asks is what a careful server

@@ -36,7 +36,7 @@ fn stand_of(gone: bool) -> Stand
     if gone { Stand::Gone } else { Stand::Left }
 }
 
-fn is_gone(stand: Stand) -> bool
+pub(crate) fn is_gone(stand: Stand) -> bool
     ensures { result ≡ is_gone stand }
 {
     matches!(stand, Stand::Gone)
@@ -63,7 +63,7 @@ fn forget_settled<R: Room>(room: &mut R, id: u64) -> io::Result<Stand>
 }
 
 /// Has a contract taken up whose group has a process. Else it ends what is left of it, and forgets it.
-fn clean<R: Room>(alloc: Global, room: &mut R, id: u64) -> io::Result<Stand>
+pub(crate) fn clean<R: Room>(alloc: Global, room: &mut R, id: u64) -> io::Result<Stand>
     ensures done { IfOk result (λ stand. Heard R.tells R.did (IsClean id stand) room.old room.new) }
     ensures lost { OnErr result (Heard R.tells R.did (EndsEarly (IsAnyClean id)) room.old room.new) }
 {

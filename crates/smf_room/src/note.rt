@@ -37,8 +37,8 @@ pub(crate) fn note_text(
     Ok(text)
 }
 
-/// The value of the first field of this name.
-pub(crate) fn field_in<'a>(text: &'a str, name: &str) -> Option<&'a str> {
+/// The value of the first field that begins with this name, as `group=`, in a text of fields with a byte 0 behind each.
+pub fn field_in<'a>(text: &'a str, name: &str) -> Option<&'a str> {
     for field in text.split('\0') {
         if let Some(value) = strip(name, field) {
             return Some(value);

@@ -1,4 +1,4 @@
-ghost use Rattle.smf_room.specs.Tellings.{Call, Deed, Asked, AskedEnd, Did, Done, Forgot, Free, Killed, KilledGroup, Listed, Locked, Made, Marked, NextIs, NoAnswer, NoteIs, Populated, Renamed, Reserved, Telling, TokenIs, Ungrouped, Unlinked, Unlocked, Unsure, deed, outcome_of};
+ghost use Rattle.smf_room.specs.Tellings.{Call, Deed, Asked, AskedEnd, Did, Done, Forgot, Free, HolderIs, Killed, KilledGroup, Listed, Locked, Made, Marked, NextIs, NoAnswer, NoteIs, Populated, Renamed, Reserved, Telling, TokenIs, Ungrouped, Unlinked, Unlocked, Unsure, deed, outcome_of};
 ghost use Rattle.std.specs.Prelude.{List, Option, IfOk, OnErr, OnOk};
 
 use crate::note::Note;
@@ -69,6 +69,11 @@ pub trait Room {
         ensures told { IfOk result
             (λ done. Call tells did (Did (deed (Asked id) (outcome_of done))) self.old self.new) }
         ensures lost { OnErr result (Call tells did (Did (deed (Asked id) Unsure)) self.old self.new) };
+
+    /// Asks whether a holder is there. If none is, one is begun, which reads later.
+    fn holder(&mut self) -> io::Result<bool>
+        ensures told { IfOk result (λ there. Call tells did (HolderIs there) self.old self.new) }
+        ensures lost { OnErr result (Call tells did NoAnswer self.old self.new) };
 
     /// Asks for a signal to all processes of the contract, and for their end after so many seconds. False if nobody
     /// reads.

@@ -1,9 +1,10 @@
-ghost use Rattle.smf_room.specs.Starts.{IsAnyGiven, IsAnyMaking, IsAsk, IsEndAsk, IsGiven, IsStart};
+ghost use Rattle.smf_room.specs.Starts.{IsAnyGiven, IsAskLost, IsAsking, IsEndAsk, IsGiven, IsMade, IsUnmade};
 ghost use Rattle.smf_room.specs.Tellings.{EndsEarly, Fails, Heard};
 ghost use Rattle.std.specs.Prelude.{◌≡◌, true, IfOk, OnErr};
 
 use crate::note::Note;
 use crate::room::Room;
+use crate::unsettled::{Unsettled, set_last_made};
 use std::io;
 
 /// How many numbers are taken at a time.
@@ -20,16 +21,6 @@ pub struct Numbers {
 struct Given {
     id: u64,
     left: Numbers,
-}
-
-/// A contract that was made.
-#[derive(Clone, Copy)]
-pub struct Started {
-    pub id: u64,
-    /// Whether a holder was asked to start it. If not, it has to be asked again.
-    pub asked: bool,
-    /// The numbers that are left.
-    pub left: Numbers,
 }
 
 impl Numbers {
@@ -68,31 +59,45 @@ fn give<R: Room>(room: &mut R, numbers: Numbers) -> io::Result<Given>
     })
 }
 
-/// Asks the holder, and says whether it was asked.
-fn ask<R: Room>(room: &mut R, id: u64) -> bool
-    ensures { Heard R.tells R.did (IsAsk id result) room.old room.new }
+/// Makes a contract under a number that was never given. Memory is asked for first. It is unsettled before it is made, so
+/// that it is so too if that fails.
+pub(crate) fn make<R: Room>(
+    room: &mut R,
+    numbers: &mut Numbers,
+    unsettled: &mut Vec<Unsettled>,
+    note: &Note,
+) -> io::Result<u64>
+    ensures made { IfOk result (λ id. Heard R.tells R.did
+        (IsMade numbers.old numbers.new unsettled.old.items unsettled.new.items note.now id) room.old room.new) }
+    ensures lost { OnErr result (Heard R.tells R.did
+        (IsUnmade numbers.old numbers.new unsettled.old.items unsettled.new.items note.now) room.old room.new) }
 {
-    match room.ask_start(id) {
-        Ok(done) => done,
-        Err(_) => false,
-    }
+    let instance = note.instance.clone()?;
+    unsettled.reserve(1)?;
+    let given = give(room, *numbers)?;
+    *numbers = given.left;
+    unsettled.push_reserved(Unsettled::to_make(given.id, instance));
+    room.make(given.id, note)?;
+    set_last_made(unsettled);
+    Ok(given.id)
 }
 
-/// Makes a contract, under a number that was never given, and asks the holder to start it. After an error no holder was
-/// asked, and no call said that the contract was made. It may be there, so that the room has to be listed before the next
-/// one of its instance is made.
-pub fn start_contract<R: Room>(room: &mut R, numbers: Numbers, note: &Note) -> io::Result<Started>
-    ensures started { IfOk result (λ started. Heard R.tells R.did (IsStart numbers note.now started) room.old room.new) }
-    ensures lost { OnErr result (Heard R.tells R.did (Fails (IsAnyMaking numbers note.now)) room.old room.new) }
+/// Asks the holder to start a contract, or to take it up. If nobody reads, a holder is begun, and asked once more if it was
+/// there already. False if nobody read.
+pub(crate) fn ask<R: Room>(room: &mut R, id: u64) -> io::Result<bool>
+    ensures asked { IfOk result (λ done. Heard R.tells R.did (IsAsking id done) room.old room.new) }
+    ensures lost { OnErr result (Heard R.tells R.did (IsAskLost id) room.old room.new) }
 {
-    let given = give(room, numbers)?;
-    room.make(given.id, note)?;
-    let asked = ask(room, given.id);
-    Ok(Started {
-        id: given.id,
-        asked,
-        left: given.left,
-    })
+    let first = room.ask_start(id)?;
+    if first {
+        return Ok(true);
+    }
+    let there = room.holder()?;
+    if !there {
+        return Ok(false);
+    }
+    let done = room.ask_start(id)?;
+    Ok(done)
 }
 
 /// Asks for a signal to all processes of a contract, and for their end after so many seconds. It does not wait. False if
