@@ -1,10 +1,10 @@
 // The contracts of the system, and what is known of them.
-ghost use Rattle.std.specs.Prelude.{◌≡◌, IfErr, IfOk, OnErr, false, true};
-ghost use Rattle.smf_follow.specs.Facts.{ContractFacts, launch_of};
+ghost use Rattle.std.specs.Prelude.{◌≡◌, ℕ, IfErr, IfOk, OnErr, OnOk, Option, false, true};
+ghost use Rattle.smf_follow.specs.Facts.{ContractFacts, launch_of, one_more_made};
 ghost use Rattle.smf_method.specs.Tokens.{method_text};
 
 use crate::stand::Stand;
-use smf_contract::Method;
+use smf_contract::{Method, Terms};
 use smf_fmri::{InstanceFmri, Number};
 use smf_method::CommandText;
 use std::io;
@@ -16,27 +16,37 @@ pub trait Contracts {
 
     ghost facts: { ContractFacts Self.Held };
 
-    /// Starts the first process of a contract of its own. If it fails, it leaves no process.
+    /// How many contracts were made, each by one start, if that is known.
+    ghost made: { Self → Option ℕ };
+
+    /// Starts the first process of a contract of its own. If it fails, it leaves no process. The cookie and the terms are
+    /// kept with the contract, for whoever finds it later.
     fn start(
-        &self,
+        &mut self,
         id: Number,
+        cookie: u64,
+        terms: Terms,
         command: &CommandText,
         restarter: &InstanceFmri,
         method: Method,
         instance: &InstanceFmri,
     ) -> io::Result<Self::Held>
-        ensures started { IfOk result
-            (λ held. facts.is_of (launch_of id command.now restarter.now (method_text method) instance.now) held) }
-        ensures failed { IfErr result facts.start_fails };
+        ensures started { IfOk result (λ held.
+            facts.is_of (launch_of id cookie terms command.now restarter.now (method_text method) instance.now) held) }
+        ensures failed { IfErr result facts.start_fails }
+        ensures one { OnOk result (made self.new ≡ one_more_made (made self.old)) }
+        ensures none { OnErr result (made self.new ≡ made self.old) };
 
     /// How the contract stands. It does not wait.
-    fn stand(&self, held: &mut Self::Held) -> io::Result<Stand>
+    fn stand(&mut self, held: &mut Self::Held) -> io::Result<Stand>
         ensures stood { IfOk result (facts.stands held.old) }
-        ensures lost { OnErr result (facts.is_lost held.old) };
+        ensures lost { OnErr result (facts.is_lost held.old) }
+        ensures none { made self.new ≡ made self.old };
 
     /// Ends all of the contract, and says whether nothing is left of it.
-    fn end(&self, held: &mut Self::Held) -> io::Result<bool>
+    fn end(&mut self, held: &mut Self::Held) -> io::Result<bool>
         ensures ended { IfOk result (λ done. done ≡ true → facts.is_ended held.old) }
         ensures living { IfOk result (λ done. done ≡ false → facts.may_live held.old) }
-        ensures lost { OnErr result (facts.may_live held.old) };
+        ensures lost { OnErr result (facts.may_live held.old) }
+        ensures none { made self.new ≡ made self.old };
 }

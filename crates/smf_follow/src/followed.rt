@@ -1,10 +1,10 @@
-ghost use Rattle.std.specs.Prelude.{◌≡◌, ◌≢◌, ◌⊎◌, IfErr, IfOk};
+ghost use Rattle.std.specs.Prelude.{◌≡◌, ◌≢◌, ◌⊎◌, IfErr, IfOk, OnErr, OnOk};
 ghost use Rattle.std.specs.IoError.{error_kind};
 ghost use Rattle.std_io.specs.declared.io.kind.ErrorKind.TheVariants.{OutOfMemory};
 ghost use Rattle.smf_edge.specs.Answers.{HasFailed};
 ghost use Rattle.smf_edge.specs.Ends.{StartRefused};
 ghost use Rattle.smf_edge.specs.declared.fault.KidsFault.TheVariants.{Memory, Refused};
-ghost use Rattle.smf_follow.specs.Facts.{launch_of};
+ghost use Rattle.smf_follow.specs.Facts.{launch_of, one_more_made};
 ghost use Rattle.smf_follow.specs.declared.kid.Phase.TheVariants.{First};
 ghost use Rattle.smf_method.specs.Tokens.{method_text};
 
@@ -42,8 +42,10 @@ fn start_fault(error: &io::Error) -> KidsFault
 
 /// Starts a method in a contract of the system.
 fn start<C: Contracts>(
-    contracts: &C,
+    contracts: &mut C,
     id: Number,
+    cookie: u64,
+    terms: Terms,
     command: &CommandText,
     restarter: &InstanceFmri,
     method: Method,
@@ -52,10 +54,12 @@ fn start<C: Contracts>(
     ensures contract { IfOk result (λ kid. kid.contract ≡ id) }
     ensures phase { IfOk result (λ kid. kid.phase ≡ First) }
     ensures of { IfOk result
-        (λ kid. C.facts.is_of (launch_of id command.now restarter.now (method_text method) instance.now) kid.held) }
+        (λ kid. C.facts.is_of (launch_of id cookie terms command.now restarter.now (method_text method) instance.now) kid.held) }
     ensures fault { IfErr result (λ e. (e ≡ Memory) ⊎ ((e ≡ Refused) × StartRefused C.facts.start_fails)) }
+    ensures one { OnOk result (C.made contracts.new ≡ one_more_made (C.made contracts.old)) }
+    ensures none { OnErr result (C.made contracts.new ≡ C.made contracts.old) }
 {
-    match contracts.start(id, command, restarter, method, instance) {
+    match contracts.start(id, cookie, terms, command, restarter, method, instance) {
         Ok(held) => Ok(Kid {
             contract: id,
             phase: Phase::First,
@@ -78,17 +82,20 @@ pub struct FollowedKids<C: Contracts> {
 }
 
 impl<C: Contracts> Model for FollowedKids<C> {
-    ghost use Rattle.std.specs.Prelude.{ℕ, List};
-    ghost use Rattle.smf_edge.specs.Ledgers.{Ledger};
-    ghost use Rattle.smf_follow.specs.declared.kid.Kid.{Kid};
+    ghost use Rattle.smf_follow.specs.Followed.{Following};
 
-    ghost Value = { Ledger × ℕ × List (Kid C.Held) };
+    ghost Value = { Following C.Held };
 
     ghost use Rattle.smf_follow.specs.Books.{ledger_of};
     ghost use Rattle.smf_follow.specs.Followed.{IsKept};
     ghost use Rattle.smf_follow.specs.Phases.{posts};
 
-    ghost view = { λ s. (ledger_of s.book, s.faults, s.kids.items) };
+    ghost view = { λ s. record {
+      ledger = ledger_of s.book;
+      faults = s.faults;
+      kids = s.kids.items;
+      made = C.made s.contracts;
+    } };
 
     ghost invariant = { λ s. IsKept (ledger_of s.book) (posts s.kids.items) };
 }
@@ -105,7 +112,12 @@ impl<C: Contracts> FollowedKids<C> {
 
     /// No children yet.
     pub fn new(alloc: Global, contracts: C) -> FollowedKids<C>
-        ensures { result ≡ (record { notes = []; table = empty; due = []; pending = [] }, 0, []) }
+        ensures { result ≡ record {
+          ledger = record { notes = []; table = empty; due = []; pending = [] };
+          faults = 0;
+          kids = [];
+          made = C.made contracts;
+        } }
     {
         FollowedKids {
             alloc,
@@ -126,7 +138,12 @@ impl<C: Contracts> FollowedKids<C> {
         requires ordered { IsOrdered table.table }
         requires held { AllByRecursion (λ c. c.holder ≡ holders.Held 0) table.table.contracts }
         requires followed { IsFollowed (ledger_over table.table) (posts kids.items) }
-        ensures { result ≡ (ledger_over table.table, 0, kids.items) }
+        ensures { result ≡ record {
+          ledger = ledger_over table.table;
+          faults = 0;
+          kids = kids.items;
+          made = C.made contracts;
+        } }
     {
         FollowedKids {
             alloc,
@@ -158,8 +175,12 @@ impl<C: Contracts + Drop> FollowedKids<C> {
     ) -> Result<FollowedKids<C>, ContractFault>
         requires ascend { Ascends 0 (map (λ f. f.id) found.now) last }
         requires kids { posts kids.items ≡ found_posts found.now }
-        ensures { IfOk result (λ made.
-            made ≡ (ledger_over (table_of_found (holders.Held 0) last found.now), 0, kids.items)) }
+        ensures { IfOk result (λ new. new ≡ record {
+          ledger = ledger_over (table_of_found (holders.Held 0) last found.now);
+          faults = 0;
+          kids = kids.items;
+          made = C.made contracts;
+        }) }
     {
         let table = ContractTable::found(alloc, Holder::Held(0), last, found)?;
         let made = FollowedKids::over(alloc, contracts, table, kids);
@@ -176,14 +197,14 @@ impl<C: Contracts> Kids for FollowedKids<C> {
     ghost use Rattle.smf_edge.specs.Processes.{run_of};
     ghost use Rattle.smf_edge.specs.Steps.{IsKilled, IsPolled, IsSpawned};
     ghost use Rattle.smf_edge.specs.declared.fault.KidsFault.TheVariants.{Device, NotFollowed};
-    ghost use Rattle.smf_follow.specs.Facts.{launch_of};
+    ghost use Rattle.smf_follow.specs.Facts.{launch_of, one_more_made};
     ghost use Rattle.smf_follow.specs.Followed.{IsFollowed};
     ghost use Rattle.smf_follow.specs.Phases.{SomeKid, is_other_post, posts};
     ghost use Rattle.smf_follow.specs.Sights.{EmptiesOnly, IsStarted, OneFails, PollsKids, follow_skills};
 
-    ghost ledger = { λ s. s.0 };
+    ghost ledger = { λ s. s.ledger };
 
-    ghost failures = { λ s. s.1 };
+    ghost failures = { λ s. s.faults };
 
     ghost skills = { follow_skills C.facts.start_fails };
 
@@ -198,19 +219,30 @@ impl<C: Contracts> Kids for FollowedKids<C> {
         method: Method,
         instance: &InstanceFmri,
     ) -> Result<(), KidsFault>
-        ensures made { OnOk result (IsSpawned (run_of id cookie terms command.now) self.old.0 self.new.0) }
-        ensures refused { OnErr result (self.new.0 ≡ self.old.0) }
+        ensures made { OnOk result (IsSpawned (run_of id cookie terms command.now) self.old.ledger self.new.ledger) }
+        ensures refused { OnErr result (self.new.ledger ≡ self.old.ledger) }
         ensures not_followed { true ≡ false → result ≡ Err NotFollowed }
-        ensures fault { IfErr result (MayNotSpawn (Unit {0}) (MayRefuse C.facts.start_fails self.old.0 id) true) }
+        ensures fault { IfErr result (MayNotSpawn (Unit {0}) (MayRefuse C.facts.start_fails self.old.ledger id) true) }
         ensures started { OnOk result
-            (IsStarted C.facts (launch_of id command.now restarter.now (method_text method) instance.now) self.old.2 self.new.2) }
-        ensures same { self.new.1 ≡ self.old.1 }
-        ensures stay { OnErr result (self.new.2 ≡ self.old.2) }
+            (IsStarted C.facts (launch_of id cookie terms command.now restarter.now (method_text method) instance.now) self.old.kids self.new.kids) }
+        ensures one { OnOk result (self.new.made ≡ one_more_made self.old.made) }
+        ensures none { OnErr result (self.new.made ≡ self.old.made) }
+        ensures same { self.new.faults ≡ self.old.faults }
+        ensures stay { OnErr result (self.new.kids ≡ self.old.kids) }
     {
         let words = command.clone()?;
         self.kids.reserve(1)?;
         self.book.prepare(id)?;
-        let kid = start(&self.contracts, id, command, restarter, method, instance)?;
+        let kid = start(
+            &mut self.contracts,
+            id,
+            cookie,
+            terms,
+            command,
+            restarter,
+            method,
+            instance,
+        )?;
         self.book.make(Run {
             contract: id,
             cookie,
@@ -225,18 +257,19 @@ impl<C: Contracts> Kids for FollowedKids<C> {
     /// The last end is told only after the system said that nothing is left. The clause `empties` says that of all
     /// contracts.
     fn poll(&mut self) -> Result<Option<ContractEvent>, KidsFault>
-        ensures polled { IfOk result (λ event. IsPolled event self.old.0 self.new.0) }
-        ensures refused { OnErr result (self.new.0 ≡ self.old.0) }
-        ensures fault { IfErr result (MayNotAnswer (follow_skills C.facts.start_fails) true self.old.1 self.new.1) }
-        ensures seen { IfOk result (λ event. PollsKids C.facts event self.old.0 self.new.0 self.old.2 self.new.2) }
-        ensures empties { OnOk result (EmptiesOnly C.facts self.old.2 self.old.0 self.new.0) }
-        ensures failed { IfErr result (λ e. e ≡ Device → OneFails C.facts self.old.2) }
-        ensures same { OnErr result (posts self.new.2 ≡ posts self.old.2) }
+        ensures polled { IfOk result (λ event. IsPolled event self.old.ledger self.new.ledger) }
+        ensures refused { OnErr result (self.new.ledger ≡ self.old.ledger) }
+        ensures fault { IfErr result (MayNotAnswer (follow_skills C.facts.start_fails) true self.old.faults self.new.faults) }
+        ensures seen { IfOk result (λ event. PollsKids C.facts event self.old.ledger self.new.ledger self.old.kids self.new.kids) }
+        ensures empties { OnOk result (EmptiesOnly C.facts self.old.kids self.old.ledger self.new.ledger) }
+        ensures failed { IfErr result (λ e. e ≡ Device → OneFails C.facts self.old.kids) }
+        ensures same { OnErr result (posts self.new.kids ≡ posts self.old.kids) }
+        ensures none { self.new.made ≡ self.old.made }
     {
         if let Some(event) = self.book.give() {
             return Ok(Some(event));
         }
-        let sight = see_all(&self.contracts, &self.book, &mut self.kids);
+        let sight = see_all(&mut self.contracts, &self.book, &mut self.kids);
         match sight {
             Sight::Still => Ok(None),
             Sight::Failed => {
@@ -266,17 +299,18 @@ impl<C: Contracts> Kids for FollowedKids<C> {
     }
 
     fn kill(&mut self, id: Number) -> Result<(), KidsFault>
-        ensures killed { OnOk result (IsKilled id self.old.0 self.new.0) }
-        ensures refused { OnErr result (self.new.0 ≡ self.old.0) }
+        ensures killed { OnOk result (IsKilled id self.old.ledger self.new.ledger) }
+        ensures refused { OnErr result (self.new.ledger ≡ self.old.ledger) }
         ensures fault { IfErr result
-            (MayNotDo (follow_skills C.facts.start_fails) true (members_left self.old.0 id) self.old.1 self.new.1) }
-        ensures ended { OnOk result (SomeKid id self.old.2 (λ kid. C.facts.is_ended kid.held)) }
-        ensures failed { IfErr result (λ e. e ≡ Device → SomeKid id self.old.2 (λ kid. C.facts.may_live kid.held)) }
-        ensures forgotten { OnOk result (posts self.new.2 ≡ filter (is_other_post id) (posts self.old.2)) }
-        ensures same { OnErr result (posts self.new.2 ≡ posts self.old.2) }
+            (MayNotDo (follow_skills C.facts.start_fails) true (members_left self.old.ledger id) self.old.faults self.new.faults) }
+        ensures ended { OnOk result (SomeKid id self.old.kids (λ kid. C.facts.is_ended kid.held)) }
+        ensures failed { IfErr result (λ e. e ≡ Device → SomeKid id self.old.kids (λ kid. C.facts.may_live kid.held)) }
+        ensures forgotten { OnOk result (posts self.new.kids ≡ filter (is_other_post id) (posts self.old.kids)) }
+        ensures same { OnErr result (posts self.new.kids ≡ posts self.old.kids) }
+        ensures none { self.new.made ≡ self.old.made }
     {
         let kill = self.book.prepare_kill(id)?;
-        if !end_one(&self.contracts, &mut self.kids, id) {
+        if !end_one(&mut self.contracts, &mut self.kids, id) {
             self.faults = one_more(self.faults);
             return Err(KidsFault::Device);
         }
@@ -300,8 +334,8 @@ impl<C: Contracts> Kids for FollowedKids<C> {
 
     /// The clause `followed` says that each contract with members stands with the system, and has as many as was told.
     fn faults(&self) -> u64
-        ensures faults { result ≡ self.now.1 }
-        ensures followed { IsFollowed self.now.0 (posts self.now.2) }
+        ensures faults { result ≡ self.now.faults }
+        ensures followed { IsFollowed self.now.ledger (posts self.now.kids) }
     {
         self.faults
     }

@@ -64,9 +64,10 @@ pub(crate) fn put<H>(kids: &mut [Kid<H>], contract: Number, phase: Phase)
 }
 
 /// Ends all of a contract, and says whether nothing is left of it.
-pub(crate) fn is_ended<C: Contracts>(contracts: &C, held: &mut C::Held) -> bool
+pub(crate) fn is_ended<C: Contracts>(contracts: &mut C, held: &mut C::Held) -> bool
     ensures ended { result ≡ true → C.facts.is_ended held.old }
     ensures living { result ≡ false → C.facts.may_live held.old }
+    ensures none { C.made contracts.new ≡ C.made contracts.old }
 {
     match contracts.end(held) {
         Ok(done) => done,
@@ -75,17 +76,18 @@ pub(crate) fn is_ended<C: Contracts>(contracts: &C, held: &mut C::Held) -> bool
 }
 
 /// Ends all of one contract.
-fn end<C: Contracts>(contracts: &C, kid: &mut Kid<C::Held>) -> bool
+fn end<C: Contracts>(contracts: &mut C, kid: &mut Kid<C::Held>) -> bool
     ensures same { post_of kid.new ≡ post_of kid.old }
     ensures ended { result ≡ true → C.facts.is_ended kid.old.held }
     ensures living { result ≡ false → C.facts.may_live kid.old.held }
+    ensures none { C.made contracts.new ≡ C.made contracts.old }
 {
     is_ended(contracts, &mut kid.held)
 }
 
 /// Ends all of a contract, and says whether nothing is left of it. It is not done if there is no such contract.
 pub(crate) fn end_one<C: Contracts>(
-    contracts: &C,
+    contracts: &mut C,
     kids: &mut [Kid<C::Held>],
     contract: Number,
 ) -> bool
@@ -93,6 +95,7 @@ pub(crate) fn end_one<C: Contracts>(
     ensures ended { result ≡ true → SomeKid contract kids.old (λ kid. C.facts.is_ended kid.held) }
     ensures living { result ≡ false → IsAbsent contract (posts kids.old)
         ⊎ SomeKid contract kids.old (λ kid. C.facts.may_live kid.held) }
+    ensures none { C.made contracts.new ≡ C.made contracts.old }
 {
     match place_of(kids, contract) {
         Some(place) => end(contracts, &mut kids[place]),

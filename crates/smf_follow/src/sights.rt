@@ -29,9 +29,10 @@ pub(crate) enum Sight {
 }
 
 /// The sight of a contract whose first process was started.
-fn see_first<C: Contracts>(contracts: &C, id: Number, held: &mut C::Held) -> Sight
+fn see_first<C: Contracts>(contracts: &mut C, id: Number, held: &mut C::Held) -> Sight
     ensures of { IsSightOf result id }
     ensures seen { (c : Option Contract) → SeenIn C.facts c result First held.old }
+    ensures none { C.made contracts.new ≡ C.made contracts.old }
 {
     match contracts.stand(held) {
         Ok(Stand::Runs) => Sight::Still,
@@ -43,7 +44,7 @@ fn see_first<C: Contracts>(contracts: &C, id: Number, held: &mut C::Held) -> Sig
 
 /// The sight of a contract whose first process ended, which is told next. A fatal end ends all of it first.
 fn see_forked<C: Contracts>(
-    contracts: &C,
+    contracts: &mut C,
     book: &Book,
     id: Number,
     end: FirstEnd,
@@ -51,6 +52,7 @@ fn see_forked<C: Contracts>(
 ) -> Sight
     ensures of { IsSightOf result id }
     ensures seen { SeenIn C.facts (contract (ledger_of book.now).table id) result (Forked end) held.old }
+    ensures none { C.made contracts.new ≡ C.made contracts.old }
 {
     if !book.is_fatal(id, end) {
         return Sight::Over(id, end);
@@ -62,9 +64,10 @@ fn see_forked<C: Contracts>(
 }
 
 /// The sight of a contract whose first process's end was told.
-fn see_others<C: Contracts>(contracts: &C, id: Number, held: &mut C::Held) -> Sight
+fn see_others<C: Contracts>(contracts: &mut C, id: Number, held: &mut C::Held) -> Sight
     ensures of { IsSightOf result id }
     ensures seen { (c : Option Contract) → SeenIn C.facts c result Others held.old }
+    ensures none { C.made contracts.new ≡ C.made contracts.old }
 {
     match contracts.stand(held) {
         Ok(Stand::Runs) => Sight::Still,
@@ -76,7 +79,7 @@ fn see_others<C: Contracts>(contracts: &C, id: Number, held: &mut C::Held) -> Si
 
 /// The sight of a contract of which so much was told.
 fn see_in<C: Contracts>(
-    contracts: &C,
+    contracts: &mut C,
     book: &Book,
     id: Number,
     phase: Phase,
@@ -84,6 +87,7 @@ fn see_in<C: Contracts>(
 ) -> Sight
     ensures of { IsSightOf result id }
     ensures seen { SeenIn C.facts (contract (ledger_of book.now).table id) result phase held.old }
+    ensures none { C.made contracts.new ≡ C.made contracts.old }
 {
     match phase {
         Phase::First => see_first(contracts, id, held),
@@ -93,18 +97,24 @@ fn see_in<C: Contracts>(
 }
 
 /// The sight of one contract.
-fn see<C: Contracts>(contracts: &C, book: &Book, kid: &mut Kid<C::Held>) -> Sight
+fn see<C: Contracts>(contracts: &mut C, book: &Book, kid: &mut Kid<C::Held>) -> Sight
     ensures same { post_of kid.new ≡ post_of kid.old }
     ensures seen { IsSeen C.facts (ledger_of book.now).table result kid.old }
+    ensures none { C.made contracts.new ≡ C.made contracts.old }
 {
     see_in(contracts, book, kid.contract, kid.phase, &mut kid.held)
 }
 
 /// Looks for something to tell of a contract, and does not wait. A contract of which the system does not answer keeps
 /// no other from being told of.
-pub(crate) fn see_all<C: Contracts>(contracts: &C, book: &Book, kids: &mut [Kid<C::Held>]) -> Sight
+pub(crate) fn see_all<C: Contracts>(
+    contracts: &mut C,
+    book: &Book,
+    kids: &mut [Kid<C::Held>],
+) -> Sight
     ensures same { posts kids.new ≡ posts kids.old }
     ensures seen { AreSeen C.facts (ledger_of book.now).table result kids.old }
+    ensures none { C.made contracts.new ≡ C.made contracts.old }
 {
     let mut sight = Sight::Still;
     for kid in kids {

@@ -23,6 +23,9 @@ returns-in-Gone-clause-same g c =
     same_kids c.loop-kid.kid-items c.loop-kid.kid-index c.see-seen.new.kid c.kid-item.result c.see-seen.ensures.same
     ∙ c.loop-kid.invariant.same
 
+pub returns-in-Left-clause-none : goal.returns-in-Left-clause-none
+returns-in-Left-clause-none g c = c.see-seen.ensures.none ∙ c.loop-kid.invariant.none
+
 pub returns-in-Left-clause-seen : goal.returns-in-Left-clause-seen
 returns-in-Left-clause-seen g c =
     let here = here_left c.loop-kid.kid-items c.args.kids.now c.loop-kid.kid-index c.kid-item.result
@@ -38,6 +41,9 @@ returns-in-Left-clause-seen g c =
       seen,
     )
 
+pub returns-in-Over-clause-none : goal.returns-in-Over-clause-none
+returns-in-Over-clause-none g c = c.see-seen.ensures.none ∙ c.loop-kid.invariant.none
+
 pub returns-in-Over-clause-seen : goal.returns-in-Over-clause-seen
 returns-in-Over-clause-seen g c =
     let here = here_left c.loop-kid.kid-items c.args.kids.now c.loop-kid.kid-index c.kid-item.result
@@ -52,6 +58,9 @@ returns-in-Over-clause-seen g c =
       slice_get-get_or c.args.kids.now c.loop-kid.kid-index c.kid-item.result c.loop-kid-test.true,
       seen,
     )
+
+pub returns-in-Gone-clause-none : goal.returns-in-Gone-clause-none
+returns-in-Gone-clause-none g c = c.see-seen.ensures.none ∙ c.loop-kid.invariant.none
 
 pub returns-in-Gone-clause-seen : goal.returns-in-Gone-clause-seen
 returns-in-Gone-clause-seen g c =
@@ -81,6 +90,7 @@ loop-kid-preserved g c =
     record {
       same = same_kids c.loop-kid.kid-items c.loop-kid.kid-index c.see-seen.new.kid c.kid-item.result
           c.see-seen.ensures.same ∙ c.loop-kid.invariant.same;
+      none = c.see-seen.ensures.none ∙ c.loop-kid.invariant.none;
       left = left_after c.loop-kid.kid-items c.args.kids.now c.loop-kid.kid-index c.see-seen.new.kid here.1;
       seen = elim c.match-seen.branch [
         | in-Failed w ↦ subst P (sym w.sight-is) (

@@ -1,4 +1,4 @@
-use Rattle.std.proofs.Common.{◌≡◌, [], List, sym, ap, subst}
+use Rattle.std.proofs.Common.{◌≡◌, [], List, sym, subst}
 use Rattle.std.specs.List.{AllByRecursion}
 use Rattle.smf_contract.specs.declared.contract.Holder.TheVariants.{Held}
 use Rattle.smf_contract.specs.Begun.{table_of_found}

@@ -17,7 +17,7 @@ returns-then-not-end_one-clause-failed g c = λ _.
     λ ks. SomeKid c.args.id ks (λ kid. g.C.Contracts.facts.may_live kid.held) in
     let failed = subst N c.deref_mut.ensures.value (c.end_one.ensures.living c.if-not-end_one.true) in
     let L : Ledger → Type 0 = λ l. 0 < members_left l c.args.id in
-    subst S (ap (λ h. h.2) c.self.view_is)
+    subst S (ap (λ h. h.kids) c.self.view_is)
     (living_kid c.args.id (ledger_of c.self.inside.book) c.self.inside.kids.items
     (λ kid. g.C.Contracts.facts.may_live kid.held) c.self.invariant.followed
     (subst L c.prepare_kill.ensures.same c.in_ok-kill.ensures.some) failed)
@@ -26,14 +26,14 @@ pub returns-clause-ended : goal.returns-clause-ended
 returns-clause-ended g c =
     let P : List (Kid g.row.C-Held.Denot) → Type 0 =
     λ ks. SomeKid c.args.id ks (λ kid. g.C.Contracts.facts.is_ended kid.held) in
-    subst P (c.deref_mut.ensures.value ∙ ap (λ h. h.2) c.self.view_is) (c.end_one.ensures.ended c.if-not-end_one.false)
+    subst P (c.deref_mut.ensures.value ∙ ap (λ h. h.kids) c.self.view_is) (c.end_one.ensures.ended c.if-not-end_one.false)
 
 pub returns-clause-forgotten : goal.returns-clause-forgotten
 returns-clause-forgotten g c =
     left_posts c.args.id c.self.inside.kids.len c.self.inside.kids.items c.deref_mut.result.now c.end_one.new.kids
     c.forget.new.kids.items c.forget.ensures c.deref_mut.ensures.value c.deref_mut.ensures.len
     c.end_one.ensures.same
-    ∙ ap (λ h. filter (is_other_post c.args.id) (posts h.2)) c.self.view_is
+    ∙ ap (λ h. filter (is_other_post c.args.id) (posts h.kids)) c.self.view_is
 
 pub invariant_of-self-2 : goal.invariant_of-self-2
 invariant_of-self-2 g c =

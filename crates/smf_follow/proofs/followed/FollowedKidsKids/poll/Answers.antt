@@ -1,4 +1,4 @@
-use Rattle.std.proofs.Common.{ℕ, List, ◌++◌, Some, refl, subst, sym, ap, ◌∙◌, inl, inr, take, drop, length}
+use Rattle.std.proofs.Common.{List, ◌++◌, Some, refl, subst, sym, ap, ◌∙◌, inl, inr, take, drop, length}
 use Rattle.smf_edge.specs.declared.deed.Happening.{Happening}
 use Rattle.smf_edge.specs.Ledgers.{Ledger}
 use Rattle.smf_edge.specs.Processes.{HasTold}
@@ -6,6 +6,7 @@ use Rattle.smf_follow.specs.declared.kid.Kid.{Kid}
 use Rattle.smf_follow.specs.declared.sights.Sight.{Sight}
 use Rattle.smf_follow.specs.declared.sights.Sight.TheVariants as sights
 use Rattle.smf_follow.specs.Books.{ledger_of}
+use Rattle.smf_follow.specs.Followed.{Following}
 use Rattle.smf_follow.specs.Sights.{AreSeen, EmptiesOnly, OneFails, OneSeen, PollsEvent, TellsEnd, TellsFork, TellsLast}
 use Rattle.smf_follow.proofs.Preservation.{followed_along}
 use Rattle.smf_follow.proofs.Polls.{empties, gone_kid, left_kid, member_is_there, over_kid, poll_gone, poll_left, poll_over}
@@ -49,7 +50,7 @@ returns-in-Failed-clause-failed g c = λ _.
     let S : Sight → Type 0 =
     λ sight. AreSeen g.C.Contracts.facts (ledger_of c.give.new.self).table sight c.deref_mut.result.now in
     let K : List (Kid g.row.C-Held.Denot) → Type 0 = λ ks. OneFails g.C.Contracts.facts ks in
-    subst K (c.deref_mut.ensures.value ∙ ap (λ h. h.2) c.self.view_is)
+    subst K (c.deref_mut.ensures.value ∙ ap (λ h. h.kids) c.self.view_is)
     (subst S c.in-Failed.is c.see_all-sight.ensures.seen)
 
 pub invariant_of-self-in-Left : goal.invariant_of-self-in-Left
@@ -132,8 +133,8 @@ returns-in_ok-event-in-Left-clause-seen g c =
     let tells = subst Q c.in_default.ensures.none.0 both.0 in
     let polls : PollsEvent g.C.Contracts.facts c.in_ok-event-in-Left.event
     (ledger_of c.self.inside.book) m items now = inr (c.in_default.ensures.none.1, inl tells) in
-    let V : Ledger × ℕ × List (Kid g.row.C-Held.Denot) → Type 0 =
-    λ h. PollsEvent g.C.Contracts.facts c.in_ok-event-in-Left.event h.0 m h.2 now in
+    let V : Following g.row.C-Held.Denot → Type 0 =
+    λ h. PollsEvent g.C.Contracts.facts c.in_ok-event-in-Left.event h.ledger m h.kids now in
     subst V c.self.view_is polls
 
 pub returns-in_ok-event-in-Left-clause-empties : goal.returns-in_ok-event-in-Left-clause-empties
@@ -158,7 +159,7 @@ returns-in_ok-event-in-Left-clause-empties g c =
     let tells = subst Q c.in_default.ensures.none.0 both.0 in
     let polls : PollsEvent g.C.Contracts.facts c.in_ok-event-in-Left.event
     (ledger_of c.self.inside.book) m items now = inr (c.in_default.ensures.none.1, inl tells) in
-    let V : Ledger × ℕ × List (Kid g.row.C-Held.Denot) → Type 0 = λ h. EmptiesOnly g.C.Contracts.facts h.2 h.0 m in
+    let V : Following g.row.C-Held.Denot → Type 0 = λ h. EmptiesOnly g.C.Contracts.facts h.kids h.ledger m in
     subst V c.self.view_is
     (empties g.C.Contracts.facts (Some c.in_ok-event-in-Left.event)
     (ledger_of c.self.inside.book) m items now c.self.invariant.followed both.1 polls)
@@ -186,8 +187,8 @@ returns-in_ok-event-in-Over-clause-seen g c =
     let tells = subst Q c.in_default.ensures.none.0 both.0 in
     let polls : PollsEvent g.C.Contracts.facts c.in_ok-event-in-Over.event
     (ledger_of c.self.inside.book) m items now = inr (c.in_default.ensures.none.1, inr (inl tells)) in
-    let V : Ledger × ℕ × List (Kid g.row.C-Held.Denot) → Type 0 =
-    λ h. PollsEvent g.C.Contracts.facts c.in_ok-event-in-Over.event h.0 m h.2 now in
+    let V : Following g.row.C-Held.Denot → Type 0 =
+    λ h. PollsEvent g.C.Contracts.facts c.in_ok-event-in-Over.event h.ledger m h.kids now in
     subst V c.self.view_is polls
 
 pub returns-in_ok-event-in-Over-clause-empties : goal.returns-in_ok-event-in-Over-clause-empties
@@ -213,7 +214,7 @@ returns-in_ok-event-in-Over-clause-empties g c =
     let tells = subst Q c.in_default.ensures.none.0 both.0 in
     let polls : PollsEvent g.C.Contracts.facts c.in_ok-event-in-Over.event
     (ledger_of c.self.inside.book) m items now = inr (c.in_default.ensures.none.1, inr (inl tells)) in
-    let V : Ledger × ℕ × List (Kid g.row.C-Held.Denot) → Type 0 = λ h. EmptiesOnly g.C.Contracts.facts h.2 h.0 m in
+    let V : Following g.row.C-Held.Denot → Type 0 = λ h. EmptiesOnly g.C.Contracts.facts h.kids h.ledger m in
     subst V c.self.view_is
     (empties g.C.Contracts.facts (Some c.in_ok-event-in-Over.event)
     (ledger_of c.self.inside.book) m items now c.self.invariant.followed both.1 polls)
@@ -237,8 +238,8 @@ returns-in_ok-event-in-Gone-clause-seen g c =
     let tells = subst Q c.in_default.ensures.none.0 both.0 in
     let polls : PollsEvent g.C.Contracts.facts c.in_ok-event-in-Gone.event
     (ledger_of c.self.inside.book) m items now = inr (c.in_default.ensures.none.1, inr (inr tells)) in
-    let V : Ledger × ℕ × List (Kid g.row.C-Held.Denot) → Type 0 =
-    λ h. PollsEvent g.C.Contracts.facts c.in_ok-event-in-Gone.event h.0 m h.2 now in
+    let V : Following g.row.C-Held.Denot → Type 0 =
+    λ h. PollsEvent g.C.Contracts.facts c.in_ok-event-in-Gone.event h.ledger m h.kids now in
     subst V c.self.view_is polls
 
 pub returns-in_ok-event-in-Gone-clause-empties : goal.returns-in_ok-event-in-Gone-clause-empties
@@ -260,7 +261,7 @@ returns-in_ok-event-in-Gone-clause-empties g c =
     let tells = subst Q c.in_default.ensures.none.0 both.0 in
     let polls : PollsEvent g.C.Contracts.facts c.in_ok-event-in-Gone.event
     (ledger_of c.self.inside.book) m items now = inr (c.in_default.ensures.none.1, inr (inr tells)) in
-    let V : Ledger × ℕ × List (Kid g.row.C-Held.Denot) → Type 0 = λ h. EmptiesOnly g.C.Contracts.facts h.2 h.0 m in
+    let V : Following g.row.C-Held.Denot → Type 0 = λ h. EmptiesOnly g.C.Contracts.facts h.kids h.ledger m in
     subst V c.self.view_is
     (empties g.C.Contracts.facts (Some c.in_ok-event-in-Gone.event)
     (ledger_of c.self.inside.book) m items now c.self.invariant.followed both.1 polls)

@@ -13,8 +13,8 @@ returns-clause-started g c =
       of = c.in_ok-kid.ensures.of;
       is =
           items
-          ∙ ap (λ h. h.2 ++ c.in_ok-kid.kid ∷ []) c.self.view_is
-          ∙ ap (λ kid. c.args.self.now.2 ++ kid ∷ [])
+          ∙ ap (λ h. h.kids ++ c.in_ok-kid.kid ∷ []) c.self.view_is
+          ∙ ap (λ kid. c.args.self.now.kids ++ kid ∷ [])
           (kid_is c.in_ok-kid.kid c.args.id c.in_ok-kid.ensures.contract c.in_ok-kid.ensures.phase);
     }
 
