@@ -1,4 +1,7 @@
-pub mod Later
-pub mod Failures
-pub mod GroupFacts
-pub mod KeeperFacts
+pub mod Goes
+pub mod Made
+pub mod Standing
+pub mod Starting
+pub mod Ending
+pub mod Noting
+pub mod Finding

@@ -1,6 +1,6 @@
-pub mod Words
-pub mod Replies
-pub mod Kit
 pub mod Ends
-pub mod Groups
-pub mod Keepers
+pub mod Notes
+pub mod Stands
+pub mod Endings
+pub mod Rooms
+pub mod Founds

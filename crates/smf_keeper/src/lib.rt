@@ -1,21 +1,16 @@
-//! Contracts of processes that the system runs, in two forms: a control group for each, or a keeper, which is a program
-//! of its own.
-//! Modules: `host` (questions to the system), `room` (a server's folder), `keepers` and `kept`, `groups` and `grouped`
-//! (the two forms), `program` (what is started), `reports` (their reports).
+//! Contracts of processes that the system runs, in a room that outlives the server which made them. One body serves both
+//! forms: control groups, and keepers, which are programs of their own.
+//! Modules: `note` (what a contract's note says), `ends` (how its first process ended), `held` and `rooms` (contracts that
+//! are started, asked and ended), `begin` (contracts of an older life are found, or ended).
 #![tactic(auto)]
 
-mod grouped;
-mod groups;
-mod host;
-mod keepers;
-mod kept;
-mod program;
-mod reports;
-mod room;
+mod begin;
+mod ends;
+mod held;
+mod note;
+mod rooms;
 
-pub use grouped::Grouped;
-pub use groups::Groups;
-pub use host::Host;
-pub use keepers::Keepers;
-pub use kept::KeptContract;
-pub use room::{Room, RoomFault};
+pub use begin::{Adopted, BeginFault, boot, go_on};
+pub use held::HeldContract;
+pub use note::{found_in, note_of};
+pub use rooms::{Manner, RoomContracts};
