@@ -1,3 +1,4 @@
+pub mod Continuing
 pub mod Hears
 pub mod Lasting
 pub mod Late

@@ -1,5 +1,5 @@
 -- How a server goes on, turn by turn.
-use Rattle.std.proofs.Common.{◌≡◌, inl, ◌<◌, ◌+◌, ℕ, zero, suc, List, [], ◌∷◌, ◌++◌, length, get_or, drop, map, Bool, true, false, Option, Some, None, refl, sym, ap, subst, ◌∙◌, append_assoc, append-nil, arith}
+use Rattle.std.proofs.Common.{◌≡◌, ◌⊎◌, inl, inr, ◌<◌, ◌+◌, ℕ, zero, suc, List, [], ◌∷◌, ◌++◌, length, get_or, drop, map, Bool, true, false, Option, Some, None, refl, sym, ap, subst, ◌∙◌, append_assoc, append-nil, arith}
 use Rattle.std.specs.declared.time.Duration.{Duration}
 use Rattle.smf_drive.specs.Agrees.{AgreesSince, Before}
 use Rattle.smf_drive.specs.Forgets.{AgreesAnew}
@@ -11,12 +11,12 @@ use Rattle.smf_node.specs.declared.fault.NodeFault.TheVariants.{Memory}
 use Rattle.smf_script.specs.declared.fault.ScriptFault.{ScriptFault}
 use Rattle.smf_script.specs.declared.fault.ScriptFault.TheVariants.{Node}
 use Rattle.smf_server.specs.FaultTexts.{fault_text}
-use Rattle.smf_server.specs.Life.{HasConcluded, HasStayed, KeepsAgreement, is_uncut}
+use Rattle.smf_server.specs.Life.{HasClosed, HasConcluded, HasStayed, IsOver, KeepsAgreement, is_uncut}
 use Rattle.smf_watch.specs.Traffic.{Passed, Asked, Told, reply_in}
 use Rattle.smf_world.specs.declared.item.Item.{Item}
 use Rattle.smf_server.specs.Turns.{Between, Failed, Failure, Fails, HasTakenTurn, HasTurned, IsFailed, IsServed, IsTurn, MayHaveForgotten, MayTell, RequestFailed, RoundsFailed, StillAgrees, Taken, TickFailed, Turn, TurnsFollow, all_passed, all_shown, all_told, fault_of, last_words, noting, passed_at, passed_in, shown_since, terms_told, told_anew, trail_of_state}
 use Rattle.smf_watch.specs.declared.ask.Onward.{Onward}
-use Rattle.smf_watch.specs.declared.ask.Onward.TheVariants.{Goes, Ends}
+use Rattle.smf_watch.specs.declared.ask.Onward.TheVariants.{Goes, Ends, Leaves}
 use Rattle.smf_watch.specs.declared.terms.Term.{Term}
 use Rattle.smf_watch.proofs.Hasty.{left_at}
 
@@ -267,17 +267,27 @@ goes_on k clock stores n last next o fault was now turned is told_was told_now t
     (subst (λ (x : Onward). HasTurned k clock stores x fault now turned (noting turn.tells mid) t) goes turn.turned)
     turn.told turn.over agrees shown concluded then)
 
--- no more was asked
+-- no more was asked, and nothing was done
+closed_by : (k : Skills) (clock : Duration → Type 0) (stores : RepoFault → Type 0) (most n : ℕ) (o : Onward)
+    (fault : Option ScriptFault) (now is : Option (List Passed)) (tells : Bool) (mid t : Between)
+    → (o ≡ Ends) ⊎ (o ≡ Leaves) → HasTurned k clock stores o fault now is (noting tells mid) t
+    → (t ≡ noting tells mid) × IsOver most o n now is × HasClosed o tells mid t
+closed_by k clock stores most n Goes fault now is tells mid t (inl goes) h = absurd cc
+closed_by k clock stores most n Goes fault now is tells mid t (inr goes) h = absurd cc
+closed_by k clock stores most n Ends fault now is tells mid t last h = (h.0, h.1, h.0)
+closed_by k clock stores most n Leaves fault now is tells mid t last h = (h.0, h.1, h.0)
+
 pub stays_closed : (k : Skills) (clock : Duration → Type 0) (stores : RepoFault → Type 0) (most n : ℕ)
     (last : Option (List ℕ)) (o : Onward) (fault : Option ScriptFault) (was now is : Option (List Passed))
     (told_was told_is : Option (List Item)) (terms_was terms_now terms_is : Option (List (List Term)))
     (s mid t : Between) → HaveTaken k clock stores n last was now told_was told_is terms_was terms_now s mid
-    → o ≡ Ends → HasTakenTurn k clock stores o fault now is terms_now terms_is mid t
-    → HasStayed k clock stores most Ends was is told_was told_is terms_was terms_is s t
+    → (o ≡ Ends) ⊎ (o ≡ Leaves) → HasTakenTurn k clock stores o fault now is terms_now terms_is mid t
+    → HasStayed k clock stores most o was is told_was told_is terms_was terms_is s t
 stays_closed k clock stores most n last o fault was now is told_was told_is terms_was terms_now terms_is s mid t taken
-    ends turn =
-    let closed : HasTurned k clock stores Ends fault now is (noting turn.tells mid) t =
-    subst (λ (x : Onward). HasTurned k clock stores x fault now is (noting turn.tells mid) t) ends turn.turned in
+    over turn =
+    let closed : (t ≡ noting turn.tells mid) × IsOver most o (length taken.served.turns) now is
+    × HasClosed o turn.tells mid t =
+    closed_by k clock stores most (length taken.served.turns) o fault now is turn.tells mid t over turn.turned in
     record {
       now = now;
       still = mid;
@@ -287,7 +297,7 @@ stays_closed k clock stores most n last o fault was now is told_was told_is term
       tells = turn.tells;
       terms = terms_more (all_told taken.served.turns) (terms_told turn.tells mid) terms_was terms_now terms_is
           taken.terms turn.told;
-      closed = closed.0;
+      closed = closed.2;
       agrees = λ uncut. subst (λ (x : Between). KeepsAgreement s x) (sym closed.0) (taken.agrees uncut);
     }
 

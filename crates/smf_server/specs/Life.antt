@@ -5,13 +5,15 @@ use Rattle.std.specs.declared.time.Duration.{Duration}
 use Rattle.smf_drive.specs.Agrees.{AgreesSince, Before}
 use Rattle.smf_drive.specs.Forgets.{AgreesAnew}
 use Rattle.smf_edge.specs.Answers.{Seen, Skills}
+use Rattle.smf_contract.specs.Begun.{table_of_found}
+use Rattle.smf_contract.specs.declared.contract.Holder.TheVariants.{Inherited}
+use Rattle.smf_contract.specs.declared.found.Found.{Found}
 use Rattle.smf_edge.specs.Starts.{log_with}
 use Rattle.smf_model.specs.declared.journal.RepoFault.{RepoFault}
 use Rattle.smf_model.specs.Contents.{Holdings}
-use Rattle.smf_node.specs.Faults.{IsUnbooted}
 use Rattle.smf_node.specs.Rounds.{course}
-use Rattle.smf_node.specs.declared.fault.NodeFault.{NodeFault}
 use Rattle.smf_past.specs.Begun.{IsSafeSince}
+use Rattle.smf_past.specs.Lived.{continued}
 use Rattle.smf_past.specs.Lives.{LeadsTo}
 use Rattle.smf_run.specs.Ends.{HasEndedAll}
 use Rattle.smf_run.specs.declared.ends.Leftover.{Leftover}
@@ -21,12 +23,12 @@ use Rattle.smf_world.specs.declared.event.Event.TheVariants as events
 use Rattle.smf_world.specs.declared.item.Item.{Item}
 use Rattle.smf_world.specs.Schedule.{begun_at}
 use Rattle.smf_world.specs.Happens.{happens}
-use Rattle.smf_world.specs.World.{initial_world}
-use Rattle.smf_watch.specs.Traffic.{Passed, Closed}
+use Rattle.smf_world.specs.World.{World, initial_world}
+use Rattle.smf_watch.specs.Traffic.{Passed, Closed, Left}
 use Rattle.smf_server.specs.Turns.{Between, Failed, IsServed, MayHaveForgotten, RequestFailed, Turn, all_shown, all_told, noting, terms_told, told_anew, trail_of_state}
 use Rattle.smf_watch.specs.declared.terms.Term.{Term}
 use Rattle.smf_watch.specs.declared.ask.Onward.{Onward}
-use Rattle.smf_watch.specs.declared.ask.Onward.TheVariants.{Goes, Ends}
+use Rattle.smf_watch.specs.declared.ask.Onward.TheVariants.{Goes, Ends, Leaves}
 
 -- ---- turns
 
@@ -48,12 +50,13 @@ is_uncut (turn ∷ before) = not (is_cut turn) && is_uncut before
 -- no more was asked, or the most turns were taken
 abbrev pub IsOver : ℕ → Onward → ℕ → Option (List Passed) → Option (List Passed) → Type 0
 IsOver most Ends count now is = is ≡ log_with (Closed ∷ []) now
+IsOver most Leaves count now is = is ≡ log_with (Left ∷ []) now
 IsOver most Goes count now is = (count ≡ most) × (is ≡ now)
 
--- at the ask that ends a server it is told as at others how contracts are kept, if there is memory for it
+-- at the ask that is a server's last it is told as at others how contracts are kept, if there is memory for it
 abbrev pub HasClosed : Onward → Bool → Between → Between → Type 0
-HasClosed Ends tells s t = t ≡ noting tells s
 HasClosed Goes tells s t = (tells ≡ false) × (t ≡ s)
+HasClosed _ tells s t = t ≡ noting tells s
 
 -- Turns were taken, whatever failed, until no more was asked, or the most that a server takes. What the trail showed at
 -- first was told, and then each item that a turn added, once and in their order. Before each turn it was told how contracts
@@ -81,14 +84,14 @@ HasConcluded None last next was is s t = (next ≡ None) × (is ≡ was) × MayH
 HasConcluded (Some fault) last next was is s t =
     (next ≡ Some (fault_text fault)) × (is ≡ log_with (told_anew last (Some (fault_text fault))) was) × (t ≡ s)
 
--- ---- from boot to end
+-- ---- from its begin to its end
 
--- after the boot of what was found, and before the first turn
-abbrev pub state_after_boot : Holdings → Seen → Between
-state_after_boot h seen =
+-- before the first turn
+abbrev pub state_at_first : World → Seen → Between
+state_at_first w seen =
     record {
       standing = record {
-        course = course (begun_at (happens (initial_world h) events.Boot)) seen;
+        course = course (begun_at w) seen;
         busy = true;
         watched = [];
       };
@@ -97,25 +100,38 @@ state_after_boot h seen =
       noted = None;
     }
 
--- Turns were taken, and then the children that were left were asked to end: it is said whether all have. The value after
+-- after the boot of what was held
+abbrev pub state_after_boot : Holdings → Seen → Between
+state_after_boot h seen = state_at_first (happens (initial_world h) events.Boot) seen
+
+-- over what was held and the contracts that were found, with the last id that was given
+abbrev pub state_after_find : Holdings → ℕ → List Found → Seen → Between
+state_after_find h last found seen = state_at_first (continued h (table_of_found Inherited last found)) seen
+
+-- children that were left were asked to end, and it is said whether all have; if the services go on, nothing was asked
+abbrev pub EndsOrLeaves : Skills → Onward → Option (Result Leftover AllocError) → Seen → Seen → Type 0
+EndsOrLeaves k Leaves left old new = (left ≡ None) × (new ≡ old)
+EndsOrLeaves k _ left old new =
+    (ended : Result Leftover AllocError) × (left ≡ Some ended) × HasEndedAll k ended old new
+
+-- Turns were taken, and then the children that were left were asked to end, unless the services go on. The value after
 -- the last turn stands in the journal. The trail after the last turn is safe, with all that was forgotten before it.
 pub record HasLived {J : Type 0} (k : Skills) (clock : Duration → Type 0) (stores : RepoFault → Type 0)
     (stands : J → Holdings → Type 0)
     (most : ℕ) (how : Onward) (journal : J) (was is : Option (List Passed)) (told_was told_is : Option (List Item))
-    (terms_was terms_is : Option (List (List Term))) (ended : Result Leftover AllocError) (first : Between) (new : Seen)
-    : Type 0 where
+    (terms_was terms_is : Option (List (List Term))) (left : Option (Result Leftover AllocError)) (first : Between)
+    (new : Seen) : Type 0 where
   pub last : Between
   pub stayed : HasStayed k clock stores most how was is told_was told_is terms_was terms_is first last
   pub kept : stands journal last.standing.course.progress.world.now
   pub safe : IsSafeSince last.standing.course.progress.world
   pub leads : LeadsTo first.standing.course.progress.world last.standing.course.progress.world
-  pub left : HasEndedAll k ended last.standing.course.seen new
+  pub ends : EndsOrLeaves k how left last.standing.course.seen new
 
--- there was no boot, and nothing was done
-pub record IsUnborn {J : Type 0} (stores : RepoFault → Type 0) (stands : J → Holdings → Type 0)
-    (h : Holdings) (fault : NodeFault) (journal : J) (was is : Option (List Passed)) (told_was told_is : Option (List Item))
+-- there was no node, and nothing was done
+pub record IsUntouched {J : Type 0} (stands : J → Holdings → Type 0) (h : Holdings) (journal : J)
+    (was is : Option (List Passed)) (told_was told_is : Option (List Item))
     (terms_was terms_is : Option (List (List Term))) (old new : Seen) : Type 0 where
-  pub unbooted : IsUnbooted stores h fault
   pub kept : stands journal h
   pub passed : is ≡ was
   pub told : told_is ≡ told_was

@@ -24,10 +24,10 @@ use Rattle.smf_server.specs.FaultTexts.{fault_line, fault_text}
 use Rattle.smf_watch.specs.Loops.{StopsMarking, hasty, is_kept, lines_of, marks, seen_by}
 use Rattle.smf_watch.specs.Sizes.{size_of, is_same}
 use Rattle.smf_watch.specs.Terms.{is_new, terms_of}
-use Rattle.smf_watch.specs.Traffic.{Passed, Asked, Closed, Told, reply_in}
+use Rattle.smf_watch.specs.Traffic.{Passed, Asked, Closed, Left, Told, reply_in}
 use Rattle.smf_watch.specs.Watched.{HasHeard, HaveTimedOut, StopsHearing, StopsTiming, watched_by}
 use Rattle.smf_watch.specs.declared.ask.Onward.{Onward}
-use Rattle.smf_watch.specs.declared.ask.Onward.TheVariants.{Goes, Ends}
+use Rattle.smf_watch.specs.declared.ask.Onward.TheVariants.{Goes, Ends, Leaves}
 use Rattle.smf_watch.specs.declared.ends.End.{End}
 use Rattle.smf_watch.specs.declared.size.Size.{Size}
 use Rattle.smf_watch.specs.declared.terms.Term.{Term}
@@ -385,6 +385,7 @@ HasTurned k clock stores Goes None was is s t = IsTurn k clock was is s t
 HasTurned k clock stores Goes (Some fault) was is s t =
     IsFailed k clock stores fault was is s t × (t.standing.busy ≡ true)
 HasTurned k clock stores Ends fault was is s t = (t ≡ s) × (is ≡ log_with (Closed ∷ []) was)
+HasTurned k clock stores Leaves fault was is s t = (t ≡ s) × (is ≡ log_with (Left ∷ []) was)
 
 -- ---- how contracts are kept
 

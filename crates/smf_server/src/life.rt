@@ -1,13 +1,20 @@
-//! A server from its boot to its end.
+//! A server from its boot to its end; or from the server before it to the one after it.
 ghost use Rattle.std.specs.Option.{option_copied};
-ghost use Rattle.std.specs.Prelude.{◌≡◌, ◌⊎◌, drop, true, IfErr, IfOk, Some};
-ghost use Rattle.smf_drive.specs.Agrees.{AgreesSince, Before};
+ghost use Rattle.std.specs.Prelude.{◌≡◌, ◌⊎◌, ℕ, drop, false, true, IfErr, IfOk, None, OnOk, Some};
+ghost use Rattle.smf_contract.specs.Begun.{table_of_found};
+ghost use Rattle.smf_contract.specs.declared.contract.Holder.TheVariants.{Held, Inherited};
+ghost use Rattle.smf_drive.specs.Agrees.{AgreesSince, Before, before_over};
 ghost use Rattle.smf_drive.specs.Forgets.{AgreesAnew};
 ghost use Rattle.smf_edge.specs.Answers.{children_state};
+ghost use Rattle.smf_edge.specs.Ledgers.{ledger_over};
+ghost use Rattle.smf_node.specs.declared.fault.ContinueFault.TheVariants.{Foreign, Unfit};
+ghost use Rattle.smf_node.specs.Faults.{IsUnbooted};
+ghost use Rattle.smf_node.specs.FoundContracts.{are_fit, first_foreign};
 ghost use Rattle.smf_server.specs.FaultTexts.{fault_text};
-ghost use Rattle.smf_server.specs.Life.{HasConcluded, HasLived, HasStayed, IsUnborn, state_after_boot};
+ghost use Rattle.smf_server.specs.Life.{EndsOrLeaves, HasConcluded, HasLived, HasStayed, IsUntouched, state_after_boot, state_after_find};
 ghost use Rattle.smf_server.specs.Turns.{MayHaveForgotten, between, is_told, told_anew};
 ghost use Rattle.smf_server.specs.declared.life.TheConstants.{MOST_TURNS};
+ghost use Rattle.smf_past.specs.Lived.{continued};
 ghost use Rattle.smf_past.specs.Lives.{LeadsTo};
 ghost use Rattle.smf_past.specs.Begun.{IsSafeSince};
 ghost use Rattle.smf_edge.specs.Starts.{log_with};
@@ -16,10 +23,12 @@ ghost use Rattle.smf_watch.specs.Traffic.{LeavesNoMore, RepliesLast};
 use crate::fault_texts::fault_text;
 use crate::server::Server;
 use crate::turns::{Turned, has_more, turn};
+use smf_contract::Found;
 use smf_drive::forget;
 use smf_edge::Kids;
+use smf_fmri::Number;
 use smf_model::{Journal, Plain};
-use smf_node::{Node, NodeFault};
+use smf_node::{ContinueFault, Node, NodeFault};
 use smf_run::{Leftover, end_all};
 use smf_script::ScriptFault;
 use smf_watch::{Chronicle, Desk, Ender, Onward, Timer};
@@ -167,19 +176,32 @@ fn stay<D: Desk, C: Chronicle, T: Timer, E: Ender, J: Journal, K: Kids>(
                 chronicle.tell(items_after(server.node.trail(), told));
                 last = conclude(desk, server, last, &fault);
             }
-            Onward::Ends => return Onward::Ends,
+            Onward::Ends | Onward::Leaves => return onward,
         }
     }
     Onward::Goes
 }
 
+/// Ends every child that is left, and says what is left then. If the services go on without this server it asks no
+/// child anything, and there is nothing to say.
+fn end_or_leave<K: Kids>(how: Onward, kids: &mut K) -> Option<Result<Leftover, AllocError>>
+    ensures { EndsOrLeaves K.skills how result (children_state (K.ledger kids.old) (K.failures kids.old))
+        (children_state (K.ledger kids.new) (K.failures kids.new)) }
+{
+    match how {
+        Onward::Leaves => None,
+        Onward::Ends | Onward::Goes => Some(end_all(kids)),
+    }
+}
+
 /// The end of a server: how it ended, and the journal and the children that it leaves.
 #[derive(Drop)]
 pub struct Life<J: Journal, K: Kids> {
-    /// `Ends` if no more was asked.
+    /// `Ends` if no more was asked, and `Leaves` if the services go on without it.
     pub how: Onward,
-    /// What children have left. `AllocError` if memory ran out when they were to end.
-    pub left: Result<Leftover, AllocError>,
+    /// What children have left. `AllocError` if memory ran out when they were to end. None if the services go on: then
+    /// no child was asked to end.
+    pub left: Option<Result<Leftover, AllocError>>,
     pub journal: J,
     pub kids: K,
 }
@@ -192,7 +214,16 @@ pub struct Unborn<J: Journal, K: Kids> {
     pub kids: K,
 }
 
-/// Takes turns, and ends all children that are left.
+/// A server that could not go on with the contracts that were found: why, and the journal and the children as they
+/// were.
+#[derive(Drop)]
+pub struct Uncontinued<J: Journal, K: Kids> {
+    pub fault: ContinueFault,
+    pub journal: J,
+    pub kids: K,
+}
+
+/// Takes turns, and ends all children that are left, unless the services go on.
 fn live<D: Desk, C: Chronicle, T: Timer, E: Ender, J: Journal + Drop, K: Kids + Drop>(
     alloc: Global,
     desk: &mut D,
@@ -219,7 +250,7 @@ fn live<D: Desk, C: Chronicle, T: Timer, E: Ender, J: Journal + Drop, K: Kids + 
         noted: _noted,
         rested: _,
     } = server;
-    let left = end_all(&mut kids);
+    let left = end_or_leave(how, &mut kids);
     Life {
         how,
         left,
@@ -228,8 +259,9 @@ fn live<D: Desk, C: Chronicle, T: Timer, E: Ender, J: Journal + Drop, K: Kids + 
     }
 }
 
-/// Boots what a repository holds, takes turns until no more is asked, and ends all children that are left. What happens is
-/// told in its order, each item once, before it is forgotten. Without a boot it does nothing.
+/// Boots what a repository holds, takes turns until no more is asked, and ends all children that are left, unless the
+/// services go on. What happens is told in its order, each item once, before it is forgotten. Without a boot it does
+/// nothing.
 pub fn stay_over<D: Desk, C: Chronicle, T: Timer, E: Ender, J: Journal + Drop, K: Kids + Drop>(
     alloc: Global,
     desk: &mut D,
@@ -245,8 +277,9 @@ pub fn stay_over<D: Desk, C: Chronicle, T: Timer, E: Ender, J: Journal + Drop, K
         (E.told ender.old) (E.told ender.new) life.left
         (state_after_boot repository.held (children_state (K.ledger kids) (K.failures kids)))
         (children_state (K.ledger life.kids) (K.failures life.kids))) }
-    ensures unborn { IfErr result (λ unborn.
-        IsUnborn J.write_fails J.stands repository.held unborn.fault unborn.journal (D.passed desk.old) (D.passed desk.new)
+    ensures unbooted { IfErr result (λ unborn. IsUnbooted J.write_fails repository.held unborn.fault) }
+    ensures untouched { IfErr result (λ unborn.
+        IsUntouched J.stands repository.held unborn.journal (D.passed desk.old) (D.passed desk.new)
         (C.told chronicle.old) (C.told chronicle.new) (E.told ender.old) (E.told ender.new)
         (children_state (K.ledger kids) (K.failures kids))
         (children_state (K.ledger unborn.kids) (K.failures unborn.kids))) }
@@ -263,6 +296,59 @@ pub fn stay_over<D: Desk, C: Chronicle, T: Timer, E: Ender, J: Journal + Drop, K
         )),
         Err((fault, repository)) => Err(Unborn {
             fault,
+            journal: repository.into_journal(),
+            kids,
+        }),
+    }
+}
+
+/// Goes on with what a repository holds and with the contracts that are found, as an older server left them when its
+/// services went on. `last` is the last id of a contract that was given. It takes turns, and ends as a server does that
+/// has booted. If it cannot go on it does nothing, and the fault says why.
+pub fn continue_over<D: Desk, C: Chronicle, T: Timer, E: Ender, J: Journal + Drop, K: Kids + Drop>(
+    alloc: Global,
+    desk: &mut D,
+    chronicle: &mut C,
+    timer: &T,
+    ender: &mut E,
+    repository: Plain<J>,
+    last: Number,
+    found: &[Found],
+    kids: K,
+) -> Result<Life<J, K>, Uncontinued<J, K>>
+    ensures lived { IfOk result (λ life.
+        HasLived K.skills (T.says timer.now) J.write_fails J.stands MOST_TURNS life.how life.journal
+        (D.passed desk.old) (D.passed desk.new) (C.told chronicle.old) (C.told chronicle.new)
+        (E.told ender.old) (E.told ender.new) life.left
+        (state_after_find repository.held last found.now (children_state (K.ledger kids) (K.failures kids)))
+        (children_state (K.ledger life.kids) (K.failures life.kids))) }
+    ensures fit { OnOk result (are_fit 0 last found.now ≡ true) }
+    ensures known { OnOk result (first_foreign repository.held found.now ≡ None) }
+    // Node and children agree at first if the children begin with the same contracts. How long, `lived` says.
+    ensures agrees { OnOk result (K.ledger kids ≡ ledger_over (table_of_found (Held 0) last found.now)
+        → AgreesSince (before_over (table_of_found Inherited last found.now))
+        (continued repository.held (table_of_found Inherited last found.now)) (K.ledger kids)) }
+    ensures unfit { IfErr result (λ e. e.fault ≡ Unfit → are_fit 0 last found.now ≡ false) }
+    ensures foreign { IfErr result
+        (λ e. (id : ℕ) → e.fault ≡ Foreign id → first_foreign repository.held found.now ≡ Some id) }
+    ensures untouched { IfErr result (λ uncontinued.
+        IsUntouched J.stands repository.held uncontinued.journal (D.passed desk.old) (D.passed desk.new)
+        (C.told chronicle.old) (C.told chronicle.new) (E.told ender.old) (E.told ender.new)
+        (children_state (K.ledger kids) (K.failures kids))
+        (children_state (K.ledger uncontinued.kids) (K.failures uncontinued.kids))) }
+    ensures lasts { RepliesLast (D.leaves desk.old) (D.leaves desk.new) }
+{
+    match Node::continued(alloc, repository, last, found) {
+        Ok(successor) => Ok(live(
+            alloc,
+            desk,
+            chronicle,
+            timer,
+            ender,
+            Server::new(alloc, successor, kids),
+        )),
+        Err((why, repository)) => Err(Uncontinued {
+            fault: why,
             journal: repository.into_journal(),
             kids,
         }),

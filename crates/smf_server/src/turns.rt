@@ -440,6 +440,7 @@ fn do_next<D: Desk, T: Timer, J: Journal, K: Kids>(
             Err(fault) => Err(fault),
         },
         ServerInput::End => Ok(Onward::Ends),
+        ServerInput::Leave => Ok(Onward::Leaves),
     }
 }
 
@@ -506,6 +507,7 @@ fn pass_over<D: Desk, T: Timer, J: Journal, K: Kids>(
             Onward::Goes
         }
         ServerInput::End => Onward::Ends,
+        ServerInput::Leave => Onward::Leaves,
     }
 }
 

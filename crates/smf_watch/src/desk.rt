@@ -13,7 +13,8 @@ pub trait Desk {
     /// What a crash may leave at the moments of the replies at which the store is sound.
     ghost leaves: { Self → Leavings };
 
-    /// The next ask. The server replies to a request before the next call.
+    /// The next ask. The server replies to a request before the next call. After `End` and after `Leave` there is no next
+    /// one: at `End` the server ends the services that still run, and at `Leave` they go on without it.
     fn next(&mut self) -> ServerInput
         ensures passed { passed self.new ≡ log_with (asked_in result) (passed self.old) }
         ensures leaves { LeavesNoMore (leaves self.old) (leaves self.new) };

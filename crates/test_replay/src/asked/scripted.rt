@@ -1,5 +1,5 @@
 // Contracts whose answers are written down.
-use smf_contract::Method;
+use smf_contract::{Method, Terms};
 use smf_fmri::{InstanceFmri, Number};
 use smf_follow::{Contracts, FirstEnd, Stand};
 use smf_method::CommandText;
@@ -76,6 +76,8 @@ fn no_answer() -> io::Error {
 }
 
 impl Contracts for Scripted {
+    ghost use Rattle.std.specs.Prelude.{None};
+
     type Held = Script;
 
     ghost facts = { record {
@@ -87,9 +89,13 @@ impl Contracts for Scripted {
       may_live = λ _. Unit {0};
     } };
 
+    ghost made = { λ _. None };
+
     fn start(
-        &self,
+        &mut self,
         _id: Number,
+        _cookie: u64,
+        _terms: Terms,
         command: &CommandText,
         _restarter: &InstanceFmri,
         _method: Method,
@@ -116,13 +122,13 @@ impl Contracts for Scripted {
         })
     }
 
-    fn stand(&self, script: &mut Script) -> io::Result<Stand> {
+    fn stand(&mut self, script: &mut Script) -> io::Result<Stand> {
         let (answer, at) = next(script.stands.as_slice(), script.stood);
         script.stood = at;
         answer.ok_or_else(no_answer)
     }
 
-    fn end(&self, script: &mut Script) -> io::Result<bool> {
+    fn end(&mut self, script: &mut Script) -> io::Result<bool> {
         let (answer, at) = next(script.ends.as_slice(), script.ended);
         script.ended = at;
         answer.ok_or_else(no_answer)

@@ -9,5 +9,5 @@ returns-clause-lived g c =
       kept = rw c.into_repository.ensures at c.into_journal.ensures.stands;
       safe = c.stay-how.ensures.safe;
       leads = c.stay-how.ensures.leads;
-      left = c.end_all-left.ensures;
+      ends = c.end_or_leave-left.ensures;
     }

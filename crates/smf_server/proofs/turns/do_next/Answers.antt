@@ -38,5 +38,8 @@ returns-in-Ok-answer-clause-lasts g c = lasts_then _ _ _ (lasts_same _ _ c.in-Re
 pub returns-in-Request-clause-lasts : goal.returns-in-Request-clause-lasts
 returns-in-Request-clause-lasts g c = lasts_then _ _ _ (lasts_same _ _ c.in-Request.ensures.leaves) c.answer.ensures.lasts
 
+pub returns-in-End-clause-lasts : goal.returns-in-End-clause-lasts
+returns-in-End-clause-lasts g c = lasts_same _ _ c.in-End.ensures.leaves
+
 pub returns-clause-lasts : goal.returns-clause-lasts
-returns-clause-lasts g c = lasts_same _ _ c.in-End.ensures.leaves
+returns-clause-lasts g c = lasts_same _ _ c.in-Leave.ensures.leaves

@@ -22,3 +22,6 @@ returns-in-Request-clause-lasts g c = lasts_then _ _ _ (lasts_same _ _ c.in-Requ
 
 pub returns-in-End-clause-lasts : goal.returns-in-End-clause-lasts
 returns-in-End-clause-lasts g c = lasts_same _ _ c.in-End.ensures.leaves
+
+pub returns-in-Leave-clause-lasts : goal.returns-in-Leave-clause-lasts
+returns-in-Leave-clause-lasts g c = lasts_same _ _ c.in-Leave.ensures.leaves
