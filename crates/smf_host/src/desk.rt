@@ -23,6 +23,12 @@ const UNWRITTEN: u8 = 4;
 /// The most bytes of a path in the folder after that of the folder.
 const MOST_MORE: usize = 96;
 
+/// What is told of a store that failed.
+const STORE_FAILED: &str = "smf: store: database failed";
+
+/// A disk that takes so many bytes more is not full.
+const ROOM: usize = 16_384;
+
 /// The most bytes of a request.
 const MAX_REQUEST: u64 = 4_194_304;
 
@@ -38,6 +44,12 @@ pub struct FileDesk<'a> {
     path: String,
     /// The text about a read of the pipe that failed.
     failed: Option<&'static str>,
+    /// The name of a file on the disk of the store, if that is known.
+    probe: Option<String>,
+    /// True if the last fault that was told is one of the store.
+    store_failed: bool,
+    /// True if another server should take over.
+    leaves: bool,
 }
 
 /// The path of a file in a folder of a folder, by its name and what stands after that.
@@ -73,6 +85,14 @@ fn write_status(told: &mut File, status: u8) -> io::Result<()> {
     told.write_all(&line[first..])
 }
 
+/// Writes a file, and removes it. False if the disk is full.
+fn has_room(rt: &HostRuntime, path: &str) -> bool {
+    let zeros = [0; ROOM];
+    let written = fs::write(rt, path, zeros);
+    let _removed = fs::remove_file(rt, path);
+    written.is_ok()
+}
+
 /// The time of the clock, if it can be read.
 fn time_of(rt: &HostRuntime) -> Option<Duration> {
     rt.monotonic().ok()
@@ -90,7 +110,23 @@ impl<'a> FileDesk<'a> {
             pace: Pace::new(rt, time_of(rt)),
             path: String::with_capacity(alloc, folder.len() + MOST_MORE)?,
             failed: None,
+            probe: None,
+            store_failed: false,
+            leaves: false,
         })
+    }
+
+    /// Names a file on the disk of the store, which tells whether that is full.
+    pub fn set_probe(&mut self, path: String) {
+        self.probe = Some(path);
+    }
+
+    /// True if the store has failed, and not for want of room: it may be closed for good, and another server opens it anew.
+    fn is_hopeless(&self) -> bool {
+        match &self.probe {
+            Some(path) => self.store_failed && has_room(self.rt, path.as_str()),
+            None => false,
+        }
     }
 
     /// The folder of the requests.
@@ -118,9 +154,9 @@ impl<'a> FileDesk<'a> {
         match self.wake.read() {
             Ok(call) => Some(call),
             Err(_) => {
-                // A pipe from which nothing can be read ends the server.
+                // Nothing can be read from this pipe: the next server opens another.
                 self.failed = Some("smf: input failed");
-                Some(Call::End)
+                Some(Call::Leave)
             }
         }
     }
@@ -170,6 +206,7 @@ impl<'a> FileDesk<'a> {
                 self.ask()
             }
             Some(Call::End) => Some(ServerInput::End),
+            Some(Call::Leave) => Some(ServerInput::Leave),
             Some(Call::Other) => None,
         }
     }
@@ -226,6 +263,9 @@ impl<'a> Desk for FileDesk<'a> {
 
     fn next(&mut self) -> ServerInput {
         self.pace.end_turn();
+        if self.leaves {
+            return ServerInput::Leave;
+        }
         for _ in 0..u64::MAX {
             if let Some(input) = self.input() {
                 return input;
@@ -239,10 +279,12 @@ impl<'a> Desk for FileDesk<'a> {
     }
 
     fn tell(&mut self, line: &str) {
+        self.store_failed = line == STORE_FAILED;
         let _status = tell(&mut self.rt.stderr(), line);
     }
 
     fn pause(&mut self) {
         self.pace.fail();
+        self.leaves = self.is_hopeless();
     }
 }

@@ -1,18 +1,18 @@
 // How contracts are ended and logs are renamed, as a file in their folder has it.
-use smf_keeper::Room;
+use crate::contracts::write_whole;
 use smf_watch::{Ender, LogLimit, Stop, Term};
 use std::alloc::{AllocError, Global};
+use std::io;
 use std::rt::HostRuntime;
-use std::{fs, io};
 
-/// A file in the folder of contracts, by which `smf_keep` knows how they are ended and when logs are renamed.
+/// A file in the folder of contracts, by which `smf_hold` knows how they are ended and when logs are renamed.
 #[derive(Drop)]
 pub struct FileEnder<'a> {
     rt: &'a HostRuntime,
     /// The path of the file.
     path: String,
-    /// The text that was written last.
-    text: String,
+    /// The text that was written last. None was written for what an older server left.
+    text: Option<String>,
 }
 
 /// The instance, the signal, and the seconds, which are 0 if there is no time-out. A last word says that the first process
@@ -64,17 +64,21 @@ impl<'a> FileEnder<'a> {
         FileEnder {
             rt,
             path,
-            text: String::new(rt.alloc()),
+            text: None,
         }
     }
 
-    /// Another file takes the place of this one, so that no half of it is ever read.
     fn write(&mut self, text: String) -> io::Result<()> {
-        let part = format!(in self.rt.alloc(); "{}.part", self.path.as_str())?;
-        fs::write(self.rt, part.as_str(), text.as_str())?;
-        fs::rename(self.rt, part.as_str(), self.path.as_str())?;
-        self.text = text;
+        write_whole(self.rt, self.path.as_str(), text.as_str())?;
+        self.text = Some(text);
         Ok(())
+    }
+
+    fn is_written(&self, text: &str) -> bool {
+        match &self.text {
+            None => false,
+            Some(written) => written.as_str() == text,
+        }
     }
 }
 
@@ -86,7 +90,7 @@ impl<'a> Ender for FileEnder<'a> {
     /// Writes the terms, unless they are the same as before. If they cannot be written, contracts are kept as before.
     fn keep_by(&mut self, terms: &[Term]) {
         match lines_of(self.rt.alloc(), terms) {
-            Ok(text) if text.as_str() != self.text.as_str() => {
+            Ok(text) if !self.is_written(text.as_str()) => {
                 let _written = self.write(text);
             }
             _ => {}
@@ -95,7 +99,7 @@ impl<'a> Ender for FileEnder<'a> {
 }
 
 /// The file in the folder of contracts, of which nothing is written yet.
-pub fn ender_in<'a>(rt: &'a HostRuntime, room: &Room) -> io::Result<FileEnder<'a>> {
-    let path = format!(in rt.alloc(); "{}/terms", room.path())?;
+pub fn ender_in<'a>(rt: &'a HostRuntime, room: &str) -> io::Result<FileEnder<'a>> {
+    let path = format!(in rt.alloc(); "{room}/terms")?;
     Ok(FileEnder::new(rt, path))
 }

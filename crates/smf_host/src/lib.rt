@@ -1,10 +1,12 @@
 //! The system's side of the program: files, locks, pipes and programs by their names. It decides nothing of services.
 //! Modules: `database` (a database file, its log and its journal), `lock` (who has a database alone), `contracts` (the
-//! folder of contracts), `children` (the list of children beside a database).
+//! room of contracts), `groups` (its control groups), `children` (the list of children beside a database).
 //! A server has `folder` (who has a folder alone), `desk` (requests in a folder), `pipe` (by which it is called), `pace`
-//! (when it ticks), `ender` (how contracts are ended), `causes` (why instances are in maintenance), `timer` (the clock).
+//! (when it ticks), `ender` (how contracts are ended), `causes` (why instances are in maintenance), `boots`
+//! (whether it boots or goes on), `timer` (the clock).
 #![tactic(auto)]
 
+mod boots;
 mod causes;
 mod children;
 mod contracts;
@@ -12,14 +14,18 @@ mod database;
 mod desk;
 mod ender;
 mod folder;
+mod groups;
 mod lock;
 mod pace;
 mod pipe;
 mod timer;
 
-pub use causes::{CauseFile, causes_in};
+pub use boots::{forget_boot, has_booted};
+pub use causes::{CauseFile, new_causes, older_causes};
 pub use children::{end_listed, list_of, place_of, tell_sweep};
-pub use contracts::{room_of, room_text, staying_room, wants_groups};
+pub use contracts::{
+    RoomFault, RoomHold, close_room, form_text, note_run, note_stay, room_text, take_room,
+};
 pub use database::{Database, read_files};
 pub use desk::FileDesk;
 pub use ender::{FileEnder, ender_in};

@@ -47,10 +47,11 @@ fn open_lock(rt: &HostRuntime, path: &str) -> io::Result<File> {
 
 /// Leaves the number of this process in a lock that it holds.
 fn leave_number(rt: &HostRuntime, lock: &mut File) -> io::Result<()> {
-    let number = process_number(rt)?;
-    lock.set_len(0)?;
-    lock.write_all(number.as_str().as_bytes())?;
-    lock.write_all(b"\n")
+    let mut line = process_number(rt)?;
+    line.push_str("\n")?;
+    // An older number goes only then, so that there is room for this one on a full disk.
+    lock.write_all(line.as_str().as_bytes())?;
+    lock.set_len(line.as_str().len() as u64)
 }
 
 /// Says which process has a database.

@@ -30,6 +30,8 @@ pub(crate) enum Call {
     Named,
     /// A line `.`, or the end of the pipe.
     End,
+    /// A line `!`.
+    Leave,
     /// A line that says nothing, or one that has not come to its end.
     Other,
 }
@@ -54,6 +56,7 @@ fn call_of(line: &[u8], kept: &mut String) -> Call {
     match str::from_utf8(line) {
         Ok("") => Call::Ring,
         Ok(".") => Call::End,
+        Ok("!") => Call::Leave,
         Ok(name) if is_name(name) => {
             kept.clear();
             let _kept = kept.push_str(name);
