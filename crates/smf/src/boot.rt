@@ -71,7 +71,7 @@ impl Tries {
                 ServerInput::Request(_request) => {
                     let _is_written = desk.refuse(self.words.as_bytes(), FAULT);
                 }
-                ServerInput::End => return false,
+                ServerInput::End | ServerInput::Leave => return false,
             }
         }
         false

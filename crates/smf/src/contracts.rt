@@ -1,13 +1,23 @@
 // Scripts over a database, with contracts that are followed through forks.
 use smf_cfg::tell;
 use smf_follow::{Contracts, FollowedKids};
-use smf_host::{Database, end_listed, room_of, room_text, wants_groups};
-use smf_keeper::{Groups, Keepers, Room};
+use smf_host::{
+    Database, RoomHold, close_room, end_listed, form_text, note_run, room_text, take_room,
+};
+use smf_keeper::{BeginFault, Manner, boot};
 use smf_lines::NotedReader;
 use smf_program::tell_no_database;
 use smf_serve::{Closed, serve_file};
 use std::io;
 use std::io::BufReader;
+
+/// The text that tells why no life begins in a room.
+pub(crate) fn begin_text(fault: &BeginFault) -> &'static str {
+    match fault {
+        BeginFault::Left => "smf: contracts: what an older server left does not end",
+        BeginFault::Io(_) => "smf: contracts: they cannot be followed",
+    }
+}
 
 /// Does a script over an open database, with contracts that are followed. It takes any contracts: a proof that names those
 /// of the system together with the children takes far longer.
@@ -30,21 +40,22 @@ fn serve<C: Contracts + Drop>(
     Ok(status)
 }
 
-/// Does a script with contracts that keepers follow.
-fn keep(rt: &HostRuntime, database: Database, room: Room) -> io::Result<u8> {
-    eprintln!(rt; "smf: contracts: each has a keeper")?;
-    let keepers = Keepers::new(rt.alloc(), rt, room, rt.stderr());
-    serve(rt, database, keepers)
-}
-
-/// Does a script with contracts that are control groups, if these can be made; else keepers follow them.
-fn group(rt: &HostRuntime, database: Database, room: Room) -> io::Result<u8> {
-    match Groups::make(rt.alloc(), rt, room, rt.stderr()) {
-        Ok(groups) => {
-            eprintln!(rt; "smf: contracts: each is a control group")?;
-            serve(rt, database, groups)
+/// Does a script with the contracts of a room. What an older life left there is ended first.
+fn follow(rt: &HostRuntime, database: Database, hold: RoomHold<'_>) -> io::Result<u8> {
+    let RoomHold {
+        folder,
+        path,
+        groups,
+    } = hold;
+    note_run(rt, path.as_str())?;
+    match boot(rt.alloc(), folder, Manner::AtOnce) {
+        Ok(contracts) => {
+            eprintln!(rt; "{}", form_text(&groups))?;
+            let status = serve(rt, database, contracts)?;
+            close_room(rt, path.as_str(), &groups);
+            Ok(status)
         }
-        Err((_, room)) => keep(rt, database, room),
+        Err(fault) => Ok(tell(&mut rt.stderr(), begin_text(&fault))),
     }
 }
 
@@ -58,9 +69,8 @@ pub(crate) fn follow_over(rt: &HostRuntime, path: &str) -> io::Result<u8> {
     if let Some(status) = end_listed(rt, path)? {
         return Ok(status);
     }
-    match room_of(rt, path) {
-        Ok(room) if wants_groups(rt) => group(rt, database, room),
-        Ok(room) => keep(rt, database, room),
+    match take_room(rt, path) {
+        Ok(hold) => follow(rt, database, hold),
         Err(fault) => Ok(tell(&mut errors, room_text(&fault))),
     }
 }

@@ -1,17 +1,28 @@
 // A service manager that stays, over a database and the requests of a folder.
+ghost use Rattle.smf_contract.specs.Laws.{Ascends};
+ghost use Rattle.smf_follow.specs.Beginnings.{found_posts};
+ghost use Rattle.smf_follow.specs.Phases.{posts};
+ghost use Rattle.std.specs.Prelude.{◌≡◌, map};
+
 use crate::boot::Tries;
+use crate::contracts::begin_text;
 use smf_cfg::tell;
+use smf_contract::Found;
 use smf_database::{Closed, Served, close, tell_open};
 use smf_edge::Kids;
-use smf_follow::{Contracts, FollowedKids};
+use smf_fmri::Number;
+use smf_follow::FollowedKids;
 use smf_host::{
-    CauseFile, Database, FileDesk, FileEnder, Hold, SystemTimer, causes_in, end_listed, ender_in,
-    folder_lock, room_text, staying_room, take_alone, take_lock, wants_groups,
+    CauseFile, Database, FileDesk, FileEnder, Hold, RoomFault, RoomHold, SystemTimer, close_room,
+    end_listed, ender_in, folder_lock, forget_boot, form_text, has_booted, new_causes, note_stay,
+    older_causes, path_beside, room_text, take_alone, take_lock, take_room,
 };
-use smf_keeper::{Groups, Keepers, Room};
+use smf_keeper::{Adopted, Manner, boot, go_on};
 use smf_model::{Journal, Plain};
+use smf_node::{ContinueFault, NodeFault};
 use smf_program::tell_no_database;
-use smf_server::{Leftover, Life, Unborn, stay_over};
+use smf_room::Room;
+use smf_server::{Leftover, Life, Onward, Unborn, Uncontinued, continue_over, stay_over};
 use smf_store::open_repository;
 use sqlite::{Alter, Connection};
 use std::alloc::AllocError;
@@ -25,10 +36,54 @@ fn tell_end(rt: &HostRuntime, desk: &FileDesk<'_>) -> u8 {
     }
 }
 
-/// A stay that is over, with the status of the run; or one that did not begin.
+/// How a life begins: what is held boots, or it goes on with the contracts of an older life, of which the last had this id.
+#[derive(Drop)]
+enum Beginning {
+    Boots,
+    GoesOn(Number, Vec<Found>),
+}
+
+/// A stay that is over, with the status of the run; or one that did not begin, and why.
 enum Stayed<J: Journal, K: Kids> {
-    Over(u8, J),
-    Unborn(Unborn<J, K>),
+    Over(u8, Onward, J),
+    Unborn(NodeFault, J, K),
+}
+
+fn over<J: Journal + Drop, K: Kids + Drop>(
+    rt: &HostRuntime,
+    desk: &FileDesk<'_>,
+    life: Life<J, K>,
+) -> Stayed<J, K> {
+    let Life {
+        how,
+        left,
+        journal,
+        kids: _kids,
+    } = life;
+    let told = tell_left(rt, &left);
+    Stayed::Over(told.max(tell_end(rt, desk)), how, journal)
+}
+
+/// A server cannot go on with what an older one left. If it is of another database, that is told, and all of it stays.
+fn not_continued<J: Journal + Drop, K: Kids + Drop>(
+    rt: &HostRuntime,
+    uncontinued: Uncontinued<J, K>,
+) -> Stayed<J, K> {
+    let Uncontinued {
+        fault,
+        journal,
+        kids,
+    } = uncontinued;
+    match fault {
+        ContinueFault::Memory => Stayed::Unborn(NodeFault::Memory, journal, kids),
+        ContinueFault::Unfit | ContinueFault::Foreign(_) => {
+            let status = tell(
+                &mut rt.stderr(),
+                "smf: contracts: what an older server left is not of this database",
+            );
+            Stayed::Over(status, Onward::Leaves, journal)
+        }
+    }
 }
 
 /// Stays over what a repository holds, and children.
@@ -37,43 +92,41 @@ fn stay<J: Journal + Drop, K: Kids + Drop>(
     desk: &mut FileDesk<'_>,
     causes: &mut CauseFile<'_>,
     ender: &mut FileEnder<'_>,
+    beginning: &Beginning,
     repository: Plain<J>,
     kids: K,
 ) -> Stayed<J, K> {
-    let stayed = stay_over(
-        rt.alloc(),
-        desk,
-        causes,
-        &SystemTimer { rt },
-        ender,
-        repository,
-        kids,
-    );
-    match stayed {
-        Ok(
-            Life {
-                how: _,
-                left,
-                journal,
-                kids: _kids,
-            },
-        ) => {
-            let told = tell_left(rt, &left);
-            Stayed::Over(told.max(tell_end(rt, desk)), journal)
-        }
-        Err(unborn) => Stayed::Unborn(unborn),
+    let alloc = rt.alloc();
+    let timer = SystemTimer { rt };
+    match beginning {
+        Beginning::Boots => match stay_over(alloc, desk, causes, &timer, ender, repository, kids) {
+            Ok(life) => over(rt, desk, life),
+            Err(
+                Unborn {
+                    fault,
+                    journal,
+                    kids,
+                },
+            ) => Stayed::Unborn(fault, journal, kids),
+        },
+        Beginning::GoesOn(last, found) => match continue_over(
+            alloc, desk, causes, &timer, ender, repository, *last, found, kids,
+        ) {
+            Ok(life) => over(rt, desk, life),
+            Err(uncontinued) => not_continued(rt, uncontinued),
+        },
     }
 }
 
 /// Tells what children have left at the end, if anything, and gives the status of the run for that.
-fn tell_left(rt: &HostRuntime, left: &Result<Leftover, AllocError>) -> u8 {
+fn tell_left(rt: &HostRuntime, left: &Option<Result<Leftover, AllocError>>) -> u8 {
     match left {
-        Ok(Leftover::NoneLeft) => 0,
-        Ok(Leftover::SomeLeft | Leftover::Unlisted) => {
+        None | Some(Ok(Leftover::NoneLeft)) => 0,
+        Some(Ok(Leftover::SomeLeft | Leftover::Unlisted)) => {
             let _ = eprintln!(rt; "smf: serve: some contracts have not ended yet");
             0
         }
-        Err(_) => tell(&mut rt.stderr(), "smf: no memory"),
+        Some(Err(_)) => tell(&mut rt.stderr(), "smf: no memory"),
     }
 }
 
@@ -84,9 +137,10 @@ fn serve_store<S: Alter + Drop, K: Kids + Drop>(
     desk: &mut FileDesk<'_>,
     causes: &mut CauseFile<'_>,
     ender: &mut FileEnder<'_>,
+    beginning: &Beginning,
     conn: Connection<S>,
     kids: K,
-) -> Served<S> {
+) -> (Onward, Served<S>) {
     let mut conn = conn;
     let mut kids = kids;
     let mut tries = Tries::new();
@@ -94,80 +148,173 @@ fn serve_store<S: Alter + Drop, K: Kids + Drop>(
         let repository = match open_repository(rt.alloc(), conn) {
             Ok(repository) => repository,
             Err((fault, conn)) => {
-                return Served {
-                    status: tell_open(rt.alloc(), &mut rt.stderr(), &fault),
-                    conn,
-                };
+                let status = tell_open(rt.alloc(), &mut rt.stderr(), &fault);
+                return (Onward::Leaves, Served { status, conn });
             }
         };
-        let unborn = match stay(rt, desk, causes, ender, repository, kids) {
-            Stayed::Over(status, journal) => {
-                return Served {
-                    status,
-                    conn: journal.release(),
-                };
+        match stay(rt, desk, causes, ender, beginning, repository, kids) {
+            Stayed::Over(status, how, journal) => {
+                let conn = journal.release();
+                return (how, Served { status, conn });
             }
-            Stayed::Unborn(unborn) => unborn,
-        };
-        let Unborn {
-            fault,
-            journal,
-            kids: unasked,
-        } = unborn;
-        conn = journal.release();
-        kids = unasked;
-        if let Some(status) = tries.fail(rt, desk, fault) {
-            return Served { status, conn };
+            Stayed::Unborn(fault, journal, unasked) => {
+                conn = journal.release();
+                kids = unasked;
+                if let Some(status) = tries.fail(rt, desk, fault) {
+                    return (Onward::Leaves, Served { status, conn });
+                }
+            }
         }
     }
-    Served { status: 0, conn }
+    (Onward::Leaves, Served { status: 0, conn })
 }
 
-/// Stays over an open database, with contracts that are followed. It takes any contracts: a proof that names those of the
-/// system together with the children takes far longer.
-fn serve_with<C: Contracts + Drop>(
+/// Stays over an open database, with children. How it ended, and the status of the run.
+fn serve_with<K: Kids + Drop>(
     rt: &HostRuntime,
     desk: &mut FileDesk<'_>,
     causes: &mut CauseFile<'_>,
     ender: &mut FileEnder<'_>,
+    beginning: &Beginning,
     database: Database,
-    contracts: C,
-) -> u8 {
-    let kids = FollowedKids::new(rt.alloc(), contracts);
-    let served = serve_store(rt, desk, causes, ender, database.into_connection(), kids);
+    kids: K,
+) -> (Onward, u8) {
+    let (how, served) = serve_store(
+        rt,
+        desk,
+        causes,
+        ender,
+        beginning,
+        database.into_connection(),
+        kids,
+    );
     let Closed { status, files: _ } = close(served, &mut rt.stderr());
-    status
+    (how, status)
 }
 
-/// Stays with contracts that keepers follow.
-fn keep(
-    rt: &HostRuntime,
+/// Boots, and stays. What an older server left is ended first.
+fn serve_from_boot<'a, R: Room + Drop>(
+    rt: &'a HostRuntime,
     desk: &mut FileDesk<'_>,
     database: Database,
-    room: Room,
-) -> io::Result<u8> {
-    eprintln!(rt; "smf: contracts: each has a keeper")?;
-    let mut causes = causes_in(rt, &room)?;
-    let mut ender = ender_in(rt, &room)?;
-    let keepers = Keepers::new(rt.alloc(), rt, room, rt.stderr());
-    Ok(serve_with(rt, desk, &mut causes, &mut ender, database, keepers))
-}
-
-/// Stays with contracts that are control groups, if these can be made; else keepers follow them.
-fn group(
-    rt: &HostRuntime,
-    desk: &mut FileDesk<'_>,
-    database: Database,
-    room: Room,
-) -> io::Result<u8> {
-    let mut causes = causes_in(rt, &room)?;
-    let mut ender = ender_in(rt, &room)?;
-    match Groups::make(rt.alloc(), rt, room, rt.stderr()) {
-        Ok(groups) => {
-            eprintln!(rt; "smf: contracts: each is a control group")?;
-            Ok(serve_with(rt, desk, &mut causes, &mut ender, database, groups))
+    folder: R,
+    room: &'a str,
+) -> io::Result<(Onward, u8)> {
+    let alloc = rt.alloc();
+    let contracts = match boot(alloc, folder, Manner::ByTerms) {
+        Ok(contracts) => contracts,
+        Err(fault) => {
+            let status = tell(&mut rt.stderr(), begin_text(&fault));
+            return Ok((Onward::Leaves, status));
         }
-        Err((_, room)) => keep(rt, desk, database, room),
+    };
+    let mut causes = new_causes(rt, room);
+    let mut ender = ender_in(rt, room)?;
+    let kids = FollowedKids::new(alloc, contracts);
+    let beginning = Beginning::Boots;
+    Ok(serve_with(
+        rt,
+        desk,
+        &mut causes,
+        &mut ender,
+        &beginning,
+        database,
+        kids,
+    ))
+}
+
+/// Goes on with contracts that were found, and stays.
+fn serve_adopted<'a, R: Room + Drop>(
+    rt: &'a HostRuntime,
+    desk: &mut FileDesk<'_>,
+    database: Database,
+    adopted: Adopted<R>,
+    room: &'a str,
+) -> io::Result<(Onward, u8)>
+    requires ascend { Ascends 0 (map (λ f. f.id) adopted.found.items) adopted.last }
+    requires kids { posts adopted.kids.items ≡ found_posts adopted.found.items }
+{
+    let Adopted {
+        contracts,
+        found,
+        kids,
+        last,
+    } = adopted;
+    let kids = match FollowedKids::found(rt.alloc(), contracts, last, &found, kids) {
+        Ok(kids) => kids,
+        Err(_) => return Err(io::Error::from(io::ErrorKind::OutOfMemory)),
+    };
+    let mut causes = older_causes(rt, room)?;
+    let mut ender = ender_in(rt, room)?;
+    let beginning = Beginning::GoesOn(last, found);
+    Ok(serve_with(
+        rt,
+        desk,
+        &mut causes,
+        &mut ender,
+        &beginning,
+        database,
+        kids,
+    ))
+}
+
+/// Goes on with the contracts that an older server left, and stays.
+fn serve_further<'a, R: Room + Drop>(
+    rt: &'a HostRuntime,
+    desk: &mut FileDesk<'_>,
+    database: Database,
+    folder: R,
+    room: &'a str,
+) -> io::Result<(Onward, u8)> {
+    match go_on(rt.alloc(), folder, Manner::ByTerms) {
+        Ok(adopted) => serve_adopted(rt, desk, database, adopted, room),
+        Err(fault) => {
+            let status = tell(&mut rt.stderr(), begin_text(&fault));
+            Ok((Onward::Leaves, status))
+        }
+    }
+}
+
+/// Stays over a database with the contracts of a room.
+fn serve_in(
+    rt: &HostRuntime,
+    desk: &mut FileDesk<'_>,
+    database: Database,
+    hold: RoomHold<'_>,
+) -> io::Result<u8> {
+    let RoomHold {
+        folder,
+        path,
+        groups,
+    } = hold;
+    let room = path.as_str();
+    let goes_on = has_booted(rt, room)?;
+    // A server that goes on does so on a full disk too: the notes of the one before it stand there.
+    if let Err(fault) = note_stay(rt, room, desk.folder()) {
+        if !goes_on {
+            return Ok(tell(&mut rt.stderr(), room_text(&RoomFault::Io(fault))));
+        }
+    }
+    eprintln!(rt; "{}", form_text(&groups))?;
+    let (how, status) = if goes_on {
+        serve_further(rt, desk, database, folder, room)?
+    } else {
+        serve_from_boot(rt, desk, database, folder, room)?
+    };
+    if how == Onward::Ends {
+        forget_boot(rt, room)?;
+        close_room(rt, room, &groups);
+    }
+    Ok(status)
+}
+
+/// Tells a fault of the system that kept a server from serving. Want of memory is told by whoever called this.
+fn tell_broken(rt: &HostRuntime, served: io::Result<u8>) -> io::Result<u8> {
+    match served {
+        Err(fault) if fault.kind() != io::ErrorKind::OutOfMemory => {
+            Ok(tell(&mut rt.stderr(), room_text(&RoomFault::Io(fault))))
+        }
+        served => served,
     }
 }
 
@@ -181,9 +328,9 @@ fn serve(rt: &HostRuntime, desk: &mut FileDesk<'_>, path: &str) -> io::Result<u8
     if let Some(status) = end_listed(rt, path)? {
         return Ok(status);
     }
-    match staying_room(rt, desk.folder(), path) {
-        Ok(room) if wants_groups(rt) => group(rt, desk, database, room),
-        Ok(room) => keep(rt, desk, database, room),
+    desk.set_probe(path_beside(rt, path, "room")?);
+    match take_room(rt, path) {
+        Ok(hold) => tell_broken(rt, serve_in(rt, desk, database, hold)),
         Err(fault) => Ok(tell(&mut errors, room_text(&fault))),
     }
 }
