@@ -48,6 +48,7 @@ class Property:
 class Group:
     """A group. Its source is the element or the directive that it comes of; its context is that of a method alone."""
 
+    name: str
     source: object
     type: str
     properties: dict = field(default_factory=dict)
@@ -83,7 +84,7 @@ class Owner:
             raise LeftOut("smf makes the group 'restarter' of an instance itself")
         if name not in self.groups and len(self.groups) >= MANY:
             raise LeftOut(f"{self.fmri} has {MANY} groups already")
-        group = self.groups.setdefault(name, Group(source, group_type))
+        group = self.groups.setdefault(name, Group(name, source, group_type))
         if group.type != group_type:
             raise LeftOut(f"{self.fmri} has a group of this name, of type {group.type!r}")
         return group
@@ -176,7 +177,7 @@ def read_property(kind, texts):
 
 # The parts of a context, each a list of words of a shell, in the order in which they stand before a command.
 PARTS = ("user", "folder", "variables", "mask", "limits", "niceness", "capabilities", "privileges")
-ACCOUNT = re.compile(r"[A-Za-z0-9_][A-Za-z0-9_.-]*[$]?")
+ACCOUNT = re.compile(r"[A-Za-z0-9_][A-Za-z0-9_.-]*")
 VARIABLE = re.compile(r"[A-Za-z_][A-Za-z0-9_]*")
 OWN_VARIABLES = ("SMF_CONTRACT", "SMF_FMRI", "SMF_LIBEXEC", "SMF_METHOD", "SMF_RESTARTER")
 # A command of these is the same to a shell and without one, but for the quotes, if no word of a shell's own begins it.
@@ -221,6 +222,14 @@ def account(text):
     if ACCOUNT.fullmatch(text) is None:
         raise LeftOut(f"{text!r} names no user or group")
     return text
+
+
+def user_words(user, group, more):
+    """The user, the group and more groups. If there are more and no group, the shell looks up the user's."""
+    if not group and not more:
+        return ["-u", user]
+    text = f"{user}:{'+'.join([group or f'$(id -gn {user})', *more])}"
+    return ["-u", text if group else f'"{text}"']
 
 
 def home_word(user):
