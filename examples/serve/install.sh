@@ -1,6 +1,6 @@
 #!/bin/sh
-# install.sh [--unproved] PREFIX   puts smf, smfd, svcs, svcadm, svccfg, graph, manifest2cfg and timeline, with what they need,
-#                                  smf_exec and smf_ready, which methods find by SMF_LIBEXEC, and all pages, below PREFIX
+# install.sh [--unproved] PREFIX   puts smf, smfd, svcs, svcadm, svccfg, graph, manifest2cfg, timeline and unit2cfg, with what they
+#                                  need, smf_exec and smf_ready, which methods find by SMF_LIBEXEC, and all pages, below PREFIX
 # install.sh --check PREFIX        says what PREFIX/bin/smf is, and fails if it is not the program that was installed there
 # The program is the one that SMF names, or that ./smf would run. It has to be the proved one, which `./smf --prove` or the gate
 # has built of these sources; with --unproved it may be any. The status is 1 if it is refused. What is known of it goes into
@@ -42,9 +42,10 @@ fi
 install -d "$prefix/bin" "$prefix/libexec" "$prefix/share/man/man1" "$prefix/share/man/man7" "$prefix/share/man/man8"
 install -m 755 "$program" "$prefix/bin/smf"
 install -m 755 "$top/bin/smfd" "$top/bin/svcs" "$top/bin/svcadm" "$top/bin/svccfg" "$prefix/bin"
-install -m 755 "$top/tools/graph" "$top/tools/manifest2cfg" "$top/tools/timeline" "$prefix/bin"
+install -m 755 "$top/tools/graph" "$top/tools/manifest2cfg" "$top/tools/timeline" "$top/tools/unit2cfg" "$prefix/bin"
 install -m 755 "$top/libexec/smf_client" "$top/libexec/smf_hold" "$top/libexec/smf_log" "$top/libexec/smf_stop" "$prefix/libexec"
 install -m 755 "$top/libexec/smf_exec" "$top/libexec/smf_ready" "$prefix/libexec"
+install -m 644 "$top/libexec/svccfg_lines.py" "$prefix/libexec"
 # These are for a terminal, where SMF_LIBEXEC is not set.
 ln -sf ../libexec/smf_exec ../libexec/smf_ready "$prefix/bin"
 "$top/tools/version" ${unproved:+--unproved} "$program" > "$prefix/libexec/smf_version"
