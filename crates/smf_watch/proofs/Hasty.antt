@@ -1,6 +1,7 @@
 -- Ends of instances, noted one by one.
-use Rattle.std.proofs.Common.{◌≡◌, ◌<◌, ◌+◌, ℕ, suc, List, ◌∷◌, ◌++◌, length, get_or, drop, Bool, Option, None, sym, ap, ◌∙◌, arith, drop-cons}
+use Rattle.std.proofs.Common.{◌≡◌, ◌<◌, ◌+◌, ◌-◌, ℕ, suc, List, ◌∷◌, ◌++◌, length, get_or, drop, Bool, Option, None, sym, ap, ◌∙◌, arith, drop-cons}
 use Rattle.std.specs.declared.time.Duration.{Duration}
+use Rattle.smf_model.specs.Contents.{Holdings}
 use Rattle.smf_watch.specs.declared.ends.End.{End}
 use Rattle.smf_watch.specs.Loops.{end_at, ended_now, hasty_among, ends_after_items, steady_at, steady_or, was_steady, with_hasty}
 use Rattle.smf_state.specs.declared.state.State.{State}
@@ -33,9 +34,14 @@ noted_more base shown at first k ends new is made =
     made ∙ ap (λ (es : List End). es ++ ended_now at (end_at shown (first + k))) is
     ∙ ap (ends_after_items base shown at first) next
 
-pub one_hasty : (ends : List End) (i : ℕ) (d : End) (numbers new all : List ℕ) → i < length ends
-    → new ≡ with_hasty ends numbers (get_or ends i d) → hasty_among ends numbers (drop i ends) ≡ all
-    → hasty_among ends new (drop (i + 1) ends) ≡ all
-one_hasty ends i d numbers new all low made so_far =
-    ap (λ (ns : List ℕ). hasty_among ends ns (drop (i + 1) ends)) made
-    ∙ ap (hasty_among ends numbers) (sym (left_from ends i d low)) ∙ so_far
+pub one_hasty : (h : Holdings) (ends : List End) (i : ℕ) (d : End) (numbers new all : List ℕ) → i < length ends
+    → new ≡ with_hasty h ends numbers (get_or ends i d) → hasty_among h ends numbers (drop i ends) ≡ all
+    → hasty_among h ends new (drop (i + 1) ends) ≡ all
+one_hasty h ends i d numbers new all low made so_far =
+    ap (λ (ns : List ℕ). hasty_among h ends ns (drop (i + 1) ends)) made
+    ∙ ap (hasty_among h ends numbers) (sym (left_from ends i d low)) ∙ so_far
+
+-- a trail that was looked at tells of no more ends
+pub none_more : (ends : List End) (shown : List Item) (at : Duration) (looked : ℕ) → length shown - looked ≡ 0
+    → ends ≡ ends_after_items ends shown at looked (length shown - looked)
+none_more ends shown at looked none = sym (ap (ends_after_items ends shown at looked) none)

@@ -3,5 +3,6 @@ pub mod FaultExits
 pub mod Hasty
 pub mod Hears
 pub mod Late
-pub mod Marked
+pub mod Remedied
+pub mod Retried
 pub mod Termed

@@ -1,6 +1,11 @@
+pub mod Bounds
 pub mod Causes
+pub mod LastStart
 pub mod Loops
+pub mod Remedies
+pub mod Retries
 pub mod Sizes
 pub mod Terms
 pub mod Traffic
+pub mod Troubles
 pub mod Watched

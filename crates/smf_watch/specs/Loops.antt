@@ -3,24 +3,16 @@ use Rattle.std.specs.Prelude.{◌≡◌, ℕ, zero, suc, ◌+◌, ◌-◌, ◌==
 use Rattle.std.specs.Duration.{as_nanos}
 use Rattle.std.specs.declared.time.Duration.{Duration}
 use Rattle.std.specs.List.{list_any}
-use Rattle.smf_model.specs.declared.command.Edit.TheVariants.{Mark}
-use Rattle.smf_model.specs.declared.command.Mark.TheVariants.{Maintenance}
 use Rattle.smf_model.specs.declared.held.Instance.{Instance}
-use Rattle.smf_model.specs.declared.journal.RepoFault.{RepoFault}
 use Rattle.smf_model.specs.Contents.{Holdings}
 use Rattle.smf_model.specs.Next.{current_instance}
-use Rattle.smf_node.specs.declared.fault.NodeFault.{NodeFault}
-use Rattle.smf_node.specs.Faults.{IsLack}
 use Rattle.smf_watch.specs.declared.ends.End.{End}
-use Rattle.smf_watch.specs.declared.ends.TheConstants.{MOST_ENDS, PERIOD}
+use Rattle.smf_watch.specs.Bounds.{bounds_of, nanoseconds_in}
 use Rattle.smf_state.specs.declared.state.State.{State}
 use Rattle.smf_state.specs.Rows.{same_state}
 use Rattle.smf_state.specs.States.{runs}
-use Rattle.smf_world.specs.declared.event.Event.{Event}
-use Rattle.smf_world.specs.declared.event.Event.TheVariants.{Client}
 use Rattle.smf_world.specs.declared.item.Item.{Item}
 use Rattle.smf_world.specs.declared.item.Item.TheVariants.{Committed}
-use Rattle.smf_world.specs.Schedule.{Progress, on}
 
 -- ---- ends that nobody asked for
 
@@ -80,13 +72,14 @@ ends_after_items ends shown at first zero = ends
 ends_after_items ends shown at first (suc k) =
     ends_after_items ends shown at first k ++ ended_now at (end_at shown (first + k))
 
--- it is less than ten seconds ago
-abbrev pub is_recent : Duration → End → Bool
-is_recent now e = nat_lt (as_nanos now - as_nanos e.at) PERIOD
+-- it is within the period of its instance
+abbrev pub is_recent : Holdings → Duration → End → Bool
+is_recent h now e = nat_lt (as_nanos now - as_nanos e.at) (nanoseconds_in (bounds_of h e.instance).period)
 
--- those of the last ten seconds, with those of which a trail tells past the items that were looked at
-abbrev pub seen_by : Duration → List Item → ℕ → List End → List End
-seen_by now shown looked ends = ends_after_items (filter (is_recent now) ends) shown now looked (length shown - looked)
+-- those of the last periods, with those of which a trail tells past the items that were looked at
+abbrev pub seen_by : Holdings → Duration → List Item → ℕ → List End → List End
+seen_by h now shown looked ends =
+    ends_after_items (filter (is_recent h now) ends) shown now looked (length shown - looked)
 
 -- ---- instances that ended too often
 
@@ -96,46 +89,33 @@ is_end_of n e = e.instance == n
 abbrev pub is_number : ℕ → ℕ → Bool
 is_number n m = m == n
 
-abbrev pub is_hasty : List End → ℕ → Bool
-is_hasty ends n = nat_lt MOST_ENDS (count_by (is_end_of n) ends)
+-- 0 is no bound
+abbrev pub is_many : ℕ → ℕ → Bool
+is_many most count = nat_lt 0 most && nat_lt most count
+
+abbrev pub is_hasty : Holdings → List End → ℕ → Bool
+is_hasty h ends n = is_many (bounds_of h n).ends (count_by (is_end_of n) ends)
 
 abbrev pub number_if : Bool → List ℕ → ℕ → List ℕ
 number_if true numbers n = numbers ++ n ∷ []
 number_if false numbers n = numbers
 
-abbrev pub with_hasty : List End → List ℕ → End → List ℕ
-with_hasty ends numbers e =
-    number_if (is_hasty ends e.instance && not (list_any (is_number e.instance) numbers)) numbers e.instance
+abbrev pub with_hasty : Holdings → List End → List ℕ → End → List ℕ
+with_hasty h ends numbers e =
+    number_if (is_hasty h ends e.instance && not (list_any (is_number e.instance) numbers)) numbers e.instance
 
-abbrev pub hasty_among : List End → List ℕ → List End → List ℕ
-hasty_among ends numbers [] = numbers
-hasty_among ends numbers (e ∷ es) = hasty_among ends (with_hasty ends numbers e) es
+abbrev pub hasty_among : Holdings → List End → List ℕ → List End → List ℕ
+hasty_among h ends numbers [] = numbers
+hasty_among h ends numbers (e ∷ es) = hasty_among h ends (with_hasty h ends numbers e) es
 
 -- the instances that ended too often, each once, in the order of their first ends
-abbrev pub hasty : List End → List ℕ
-hasty ends = hasty_among ends [] ends
+abbrev pub hasty : Holdings → List End → List ℕ
+hasty h ends = hasty_among h ends [] ends
 
 abbrev pub is_kept : List ℕ → End → Bool
 is_kept numbers e = not (list_any (is_number e.instance) numbers)
 
--- ---- marks
-
--- `svcadm mark maintenance`, as an administrator gives it
-abbrev pub mark_of : ℕ → Event
-mark_of n = Client (Mark n Maintenance)
-
-abbrev pub marks : List ℕ → Progress → Progress
-marks [] p = p
-marks (n ∷ ns) p = marks ns (on p (mark_of n))
-
--- the first of them were marked, and at the next one memory ran out or the journal could not be written
-pub record StopsMarking (stores : RepoFault → Type 0) (numbers : List ℕ) (p q : Progress) (e : NodeFault) : Type 0 where
-  pub first : List ℕ
-  pub failed : ℕ
-  pub rest : List ℕ
-  pub whole : numbers ≡ first ++ failed ∷ rest
-  pub are : q ≡ marks first p
-  pub fault : IsLack stores q.world (mark_of failed) e
+-- ---- what is told of them
 
 unfoldable pub loop_text : List ℕ → List ℕ
 loop_text name = codes "smf: " ++ name ++ codes ": restarting too quickly, marked for maintenance"

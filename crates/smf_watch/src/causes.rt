@@ -202,7 +202,7 @@ fn cause_in(before: Option<&KnownRow>) -> Option<MaintenanceCause>
 }
 
 /// What is known of an instance after one more row.
-fn known_after(before: Option<&KnownRow>, instance: u64, row: ShownRow) -> KnownRow
+pub(crate) fn known_after(before: Option<&KnownRow>, instance: u64, row: ShownRow) -> KnownRow
     ensures { result ≡ known_after (option_copied before.entry) instance row }
 {
     let failed = starts_after(&row, started_in(before), failed_in(before));

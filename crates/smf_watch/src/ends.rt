@@ -1,39 +1,22 @@
-ghost use Rattle.smf_watch.specs.Loops.{end_at, end_if, end_in, ended_now, hasty, is_end_of, is_hasty, is_kept, is_number, is_recent, ends_after_items, seen_by, steady_at, steady_if, steady_in, was_steady, with_hasty};
+ghost use Rattle.smf_watch.specs.Loops.{end_at, end_if, end_in, ended_now, hasty, is_end_of, is_hasty, is_kept, is_many, is_number, is_recent, ends_after_items, steady_at, steady_if, steady_in, was_steady, with_hasty};
 ghost use Rattle.std.specs.List.{list_any};
 ghost use Rattle.std.specs.Option.{option_copied};
 ghost use Rattle.std.specs.Prelude.{◌≡◌, ◌++◌, ◌+◌, ◌≤◌, IfOk, OnOk, count_by, filter, length, slice_get};
 
+use crate::bounds::bounds_of;
+use crate::retries::nanoseconds_in;
 use smf_fmri::Items;
+use smf_model::{Journal, Plain};
 use smf_state::State;
 use smf_world::Item;
 use std::alloc::{AllocError, Global};
 use std::time::Duration;
-
-/// An instance with more ends than these within `PERIOD` is marked for maintenance.
-pub const MOST_ENDS: usize = 5;
-
-/// Ten seconds, in nanoseconds.
-pub const PERIOD: u128 = 10_000_000_000;
 
 /// An end of an instance that nobody asked for, and when it was seen.
 #[derive(Clone, Copy)]
 pub struct End {
     pub instance: u64,
     pub at: Duration,
-}
-
-/// The ends that were seen lately, and how many items of the trail were looked at for them.
-#[derive(Drop)]
-pub struct Ends {
-    pub looked: usize,
-    pub seen: Vec<End>,
-}
-
-/// What a look finds: the instances that ended too often, each once, and the ends that are kept then.
-#[derive(Drop)]
-pub struct Found {
-    pub numbers: Items<u64>,
-    pub left: Ends,
 }
 
 fn steady_if(is_row: bool, is_steady: bool) -> Option<bool>
@@ -132,7 +115,7 @@ fn push_end(ends: &mut Vec<End>, at: Duration, end: Option<u64>) -> Result<(), A
 }
 
 /// Adds the ends of which so many items of a trail tell.
-fn push_ends(
+pub(crate) fn push_ends(
     ends: &mut Vec<End>,
     trail: &[Item],
     at: Duration,
@@ -148,16 +131,18 @@ fn push_ends(
     Ok(())
 }
 
-fn is_recent(now: Duration, end: &End) -> bool
-    ensures { result ≡ is_recent now end.now }
+/// Whether an end is within the period of its instance.
+fn is_recent<J: Journal>(repository: &Plain<J>, now: Duration, end: &End) -> bool
+    ensures { result ≡ is_recent repository.now.held now end.now }
 {
-    now.saturating_sub(end.at).as_nanos() < PERIOD
+    let bounds = bounds_of(repository, end.instance);
+    now.saturating_sub(end.at).as_nanos() < nanoseconds_in(bounds.period)
 }
 
-fn drop_old(ends: &mut Vec<End>, now: Duration)
-    ensures { ends.new.items ≡ filter (is_recent now) ends.old.items }
+pub(crate) fn drop_old<J: Journal>(repository: &Plain<J>, ends: &mut Vec<End>, now: Duration)
+    ensures { ends.new.items ≡ filter (is_recent repository.now.held now) ends.old.items }
 {
-    ends.retain(|end| is_recent(now, end));
+    ends.retain(|end| is_recent(repository, now, end));
 }
 
 fn is_end_of(instance: u64, end: &End) -> bool
@@ -172,11 +157,20 @@ fn count_of(instance: u64, ends: &[End]) -> usize
     ends.iter().filter(|end| is_end_of(instance, end)).count()
 }
 
-/// True if an instance ended too often.
-fn is_hasty(ends: &[End], instance: u64) -> bool
-    ensures { result ≡ is_hasty ends.now instance }
+fn is_many(most: u64, count: usize) -> bool
+    ensures { result ≡ is_many most count }
 {
-    MOST_ENDS < count_of(instance, ends)
+    0 < most && most < count as u64
+}
+
+/// True if an instance ended too often.
+fn is_hasty<J: Journal>(repository: &Plain<J>, ends: &[End], instance: u64) -> bool
+    ensures { result ≡ is_hasty repository.now.held ends.now instance }
+{
+    is_many(
+        bounds_of(repository, instance).ends,
+        count_of(instance, ends),
+    )
 }
 
 fn is_among(instance: u64, numbers: &[u64]) -> bool
@@ -186,22 +180,31 @@ fn is_among(instance: u64, numbers: &[u64]) -> bool
 }
 
 /// Adds the instance of an end if it ended too often, and is not among them.
-fn push_hasty(ends: &[End], found: &mut Items<u64>, end: &End) -> Result<(), AllocError>
-    ensures { OnOk result (found.new ≡ with_hasty ends.now found.old end.now) }
+fn push_hasty<J: Journal>(
+    repository: &Plain<J>,
+    ends: &[End],
+    found: &mut Items<u64>,
+    end: &End,
+) -> Result<(), AllocError>
+    ensures { OnOk result (found.new ≡ with_hasty repository.now.held ends.now found.old end.now) }
 {
-    if is_hasty(ends, end.instance) && !is_among(end.instance, found.as_slice()) {
+    if is_hasty(repository, ends, end.instance) && !is_among(end.instance, found.as_slice()) {
         found.push(end.instance)?;
     }
     Ok(())
 }
 
 /// The instances that ended too often, each once.
-fn hasty(alloc: Global, ends: &[End]) -> Result<Items<u64>, AllocError>
-    ensures { IfOk result (λ found. found ≡ hasty ends.now) }
+pub(crate) fn hasty<J: Journal>(
+    alloc: Global,
+    repository: &Plain<J>,
+    ends: &[End],
+) -> Result<Items<u64>, AllocError>
+    ensures { IfOk result (λ found. found ≡ hasty repository.now.held ends.now) }
 {
     let mut found: Items<u64> = Items::new(alloc);
     for end in ends {
-        push_hasty(ends, &mut found, end)?;
+        push_hasty(repository, ends, &mut found, end)?;
     }
     Ok(found)
 }
@@ -213,53 +216,8 @@ fn is_kept(hasty: &[u64], end: &End) -> bool
 }
 
 /// Drops the ends of these instances.
-fn forget(ends: &mut Vec<End>, hasty: &[u64])
+pub(crate) fn forget(ends: &mut Vec<End>, hasty: &[u64])
     ensures { ends.new.items ≡ filter (is_kept hasty.now) ends.old.items }
 {
     ends.retain(|end| is_kept(hasty, end));
-}
-
-impl Ends {
-    ghost use Rattle.std.specs.Prelude.{[]};
-
-    /// Nothing was looked at yet.
-    pub fn new(alloc: Global) -> Ends
-        ensures looked { result.looked ≡ 0 }
-        ensures seen { result.seen.items ≡ [] }
-    {
-        Ends {
-            looked: 0,
-            seen: Vec::new(alloc),
-        }
-    }
-
-    /// Looks at the items of a trail that are new, and drops the ends that are too long ago. Finds the instances that
-    /// ended too often, whose ends are dropped too. Nothing is kept of a look that fails, or whose finding is let go.
-    pub fn look(&self, alloc: Global, now: Duration, trail: &[Item]) -> Result<Found, AllocError>
-        requires { self.now.looked ≤ length trail.now }
-        ensures numbers { IfOk result (λ found.
-            found.numbers ≡ hasty (seen_by now trail.now self.now.looked self.now.seen.items)) }
-        ensures looked { IfOk result (λ found. found.left.looked ≡ length trail.now) }
-        ensures kept { IfOk result (λ found. found.left.seen.items
-            ≡ filter (is_kept found.numbers) (seen_by now trail.now self.now.looked self.now.seen.items)) }
-    {
-        let mut seen = Vec::from_slice(alloc, &self.seen)?;
-        drop_old(&mut seen, now);
-        push_ends(
-            &mut seen,
-            trail,
-            now,
-            self.looked,
-            trail.len() - self.looked,
-        )?;
-        let numbers = hasty(alloc, &seen)?;
-        forget(&mut seen, numbers.as_slice());
-        Ok(Found {
-            numbers,
-            left: Ends {
-                looked: trail.len(),
-                seen,
-            },
-        })
-    }
 }

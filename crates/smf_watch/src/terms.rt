@@ -238,7 +238,7 @@ fn count_by(values: &[Value]) -> Option<u64>
 }
 
 /// The one count of a property.
-fn count_in(property: Option<&Property>) -> Option<u64>
+pub(crate) fn count_in(property: Option<&Property>) -> Option<u64>
     ensures { result ≡ count_in (option_copied property.entry) }
 {
     match property {
@@ -279,7 +279,7 @@ fn push_log_in(
 }
 
 /// A composed group of a snapshot, if there is a snapshot.
-fn composed_in<'a>(name: &str, snapshot: Option<&'a Snapshot>) -> Option<&'a Group>
+pub(crate) fn composed_in<'a>(name: &str, snapshot: Option<&'a Snapshot>) -> Option<&'a Group>
     ensures { option_copied result ≡ composed_in name.now (option_copied snapshot.entry) }
 {
     match snapshot {
@@ -289,7 +289,10 @@ fn composed_in<'a>(name: &str, snapshot: Option<&'a Snapshot>) -> Option<&'a Gro
 }
 
 /// The snapshot of a number, if there is a number.
-fn snapshot_of<J: Journal>(repository: &Plain<J>, number: Option<u64>) -> Option<&Snapshot>
+pub(crate) fn snapshot_of<J: Journal>(
+    repository: &Plain<J>,
+    number: Option<u64>,
+) -> Option<&Snapshot>
     ensures { option_copied result ≡ named_snapshot repository.now.held number }
 {
     match number {

@@ -1,5 +1,5 @@
-use Rattle.smf_watch.proofs.Marked.{one_line}
-use Rattle.smf_watch.proofs.marks.lines_of.Goals as goal
+use Rattle.smf_watch.proofs.Remedied.{one_line}
+use Rattle.smf_watch.proofs.remedies.lines_of.Goals as goal
 
 pub loop-number-preserved : goal.loop-number-preserved
 loop-number-preserved g c =
