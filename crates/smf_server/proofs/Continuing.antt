@@ -20,6 +20,7 @@ use Rattle.smf_server.specs.Life.{HasStayed, is_uncut, state_after_find}
 use Rattle.smf_server.specs.Turns.{Between}
 use Rattle.smf_watch.specs.Traffic.{Passed}
 use Rattle.smf_watch.specs.declared.ask.Onward.{Onward}
+use Rattle.smf_watch.specs.declared.retries.Retry.{Retry}
 use Rattle.smf_watch.specs.declared.terms.Term.{Term}
 use Rattle.smf_world.specs.declared.item.Item.{Item}
 
@@ -53,11 +54,11 @@ found_agrees h last fs l fit same =
 
 -- they agree at last, unless a request was ended by a fault
 pub stay_agrees : (k : Skills) (clock : Duration → Type 0) (stores : RepoFault → Type 0) (h : Holdings) (last : ℕ)
-    (fs : List Found) (seen : Seen) (t : Between) (most : ℕ) (how : Onward) (was is : Option (List Passed))
+    (fs : List Found) (seen : Seen) (retries : List Retry) (t : Between) (most : ℕ) (how : Onward) (was is : Option (List Passed))
     (told_was told_is : Option (List Item)) (terms_was terms_is : Option (List (List Term)))
     → are_fit 0 last fs ≡ true → seen.ledger ≡ ledger_over (table_of_found (Held 0) last fs)
     → (stayed : HasStayed k clock stores most how was is told_was told_is terms_was terms_is
-    (state_after_find h last fs seen) t) → is_uncut stayed.served.turns ≡ true
+    (state_after_find h last fs seen retries) t) → is_uncut stayed.served.turns ≡ true
     → AgreesAnew t.standing.course.progress.world t.standing.course.seen.ledger
-stay_agrees k clock stores h last fs seen t most how was is told_was told_is terms_was terms_is fit same stayed uncut =
+stay_agrees k clock stores h last fs seen retries t most how was is told_was told_is terms_was terms_is fit same stayed uncut =
     stayed.agrees uncut (before_over (table_of_found Inherited last fs)) (found_agrees h last fs seen.ledger fit same)

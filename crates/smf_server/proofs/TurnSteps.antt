@@ -40,9 +40,9 @@ pub answered : (k : Skills) (clock : Duration → Type 0) (a : Answer) (before w
     (s t : Between) (done : Course) (wanted : Bool) → was ≡ log_with (Asked a.request ∷ []) before
     → is ≡ log_with (reply_in a.written a.text a.status a.held ∷ []) was → HasAnswered k a s.standing.course done
     → (is_same (size_of s.standing.course.progress.world) (size_of done.progress.world) ≡ false → wanted ≡ true)
-    → GoesIf wanted k clock (record s.standing { course = done }) t.standing → t.looked ≡ s.looked → t.ends ≡ s.ends
+    → GoesIf wanted k clock (record s.standing { course = done }) t.standing → t.looked ≡ s.looked → t.noticed ≡ s.noticed
     → t.noted ≡ s.noted → IsTurn k clock before is s t
-answered k clock a before was is s t done wanted came went ran needed goes looked ends noted =
+answered k clock a before was is s t done wanted came went ran needed goes looked noticed noted =
     record {
       one = Answered a;
       step = record {
@@ -52,7 +52,7 @@ answered k clock a before was is s t done wanted came went ran needed goes looke
         needed = needed;
         goes = goes;
         looked = looked;
-        ends = ends;
+        noticed = noticed;
         noted = noted;
       };
       passed = asked_replied a.request a.text a.status a.written a.held before was is came went;
@@ -114,10 +114,10 @@ cut_at_once k stores p seen request =
 
 pub come_on : (clock : Duration → Type 0) (s t : Between)
     → IsLater s.standing.course.progress.world t.standing.course.progress.world
-    → StillWatches clock s.standing t.standing → t.looked ≡ s.looked → t.ends ≡ s.ends → t.noted ≡ s.noted
+    → StillWatches clock s.standing t.standing → t.looked ≡ s.looked → t.noticed ≡ s.noticed → t.noted ≡ s.noted
     → HasComeOn clock s t
-come_on clock s t later watches looked ends noted =
-    record { later = later; watches = watches; looked = looked; ends = ends; noted = noted }
+come_on clock s t later watches looked noticed noted =
+    record { later = later; watches = watches; looked = looked; noticed = noticed; noted = noted }
 
 come_nowhere : (clock : Duration → Type 0) (s : Between) → HasComeOn clock s s
 come_nowhere clock s =
@@ -125,7 +125,7 @@ come_nowhere clock s =
 
 come_wanting : (clock : Duration → Type 0) (s t : Between) → HasComeOn clock s t → HasComeOn clock s (wanting t)
 come_wanting clock s t h =
-    record { later = h.later; watches = h.watches; looked = h.looked; ends = h.ends; noted = h.noted }
+    record { later = h.later; watches = h.watches; looked = h.looked; noticed = h.noticed; noted = h.noted }
 
 -- rounds are wanted after it
 fails_busy : (k : Skills) (clock : Duration → Type 0) (stores : RepoFault → Type 0) (how : Failure) (s t : Between)

@@ -25,7 +25,9 @@ use Rattle.smf_world.specs.Schedule.{begun_at}
 use Rattle.smf_world.specs.Happens.{happens}
 use Rattle.smf_world.specs.World.{World, initial_world}
 use Rattle.smf_watch.specs.Traffic.{Passed, Closed, Left}
+use Rattle.smf_watch.specs.Troubles.{noticed_at_first}
 use Rattle.smf_server.specs.Turns.{Between, Failed, IsServed, MayHaveForgotten, RequestFailed, Turn, all_shown, all_told, noting, terms_told, told_anew, trail_of_state}
+use Rattle.smf_watch.specs.declared.retries.Retry.{Retry}
 use Rattle.smf_watch.specs.declared.terms.Term.{Term}
 use Rattle.smf_watch.specs.declared.ask.Onward.{Onward}
 use Rattle.smf_watch.specs.declared.ask.Onward.TheVariants.{Goes, Ends, Leaves}
@@ -87,8 +89,8 @@ HasConcluded (Some fault) last next was is s t =
 -- ---- from its begin to its end
 
 -- before the first turn
-abbrev pub state_at_first : World → Seen → Between
-state_at_first w seen =
+abbrev pub state_at_first : World → Seen → List Retry → Between
+state_at_first w seen retries =
     record {
       standing = record {
         course = course (begun_at w) seen;
@@ -96,17 +98,19 @@ state_at_first w seen =
         watched = [];
       };
       looked = 0;
-      ends = [];
+      noticed = noticed_at_first retries;
       noted = None;
     }
 
 -- after the boot of what was held
 abbrev pub state_after_boot : Holdings → Seen → Between
-state_after_boot h seen = state_at_first (happens (initial_world h) events.Boot) seen
+state_after_boot h seen = state_at_first (happens (initial_world h) events.Boot) seen []
 
--- over what was held and the contracts that were found, with the last id that was given
-abbrev pub state_after_find : Holdings → ℕ → List Found → Seen → Between
-state_after_find h last found seen = state_at_first (continued h (table_of_found Inherited last found)) seen
+-- over what was held and the contracts that were found, with the last id that was given, and the instances that are tried
+-- again
+abbrev pub state_after_find : Holdings → ℕ → List Found → Seen → List Retry → Between
+state_after_find h last found seen retries =
+    state_at_first (continued h (table_of_found Inherited last found)) seen retries
 
 -- children that were left were asked to end, and it is said whether all have; if the services go on, nothing was asked
 abbrev pub EndsOrLeaves : Skills → Onward → Option (Result Leftover AllocError) → Seen → Seen → Type 0

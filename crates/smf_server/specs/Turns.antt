@@ -21,7 +21,11 @@ use Rattle.smf_script.specs.declared.fault.ScriptFault.TheVariants.{Node}
 use Rattle.smf_script.specs.Script.{first_session}
 use Rattle.smf_server.specs.declared.server.Server.{Server}
 use Rattle.smf_server.specs.FaultTexts.{fault_line, fault_text}
-use Rattle.smf_watch.specs.Loops.{StopsMarking, hasty, is_kept, lines_of, marks, seen_by}
+use Rattle.smf_contract.specs.Entries.{Contracts}
+use Rattle.smf_watch.specs.Loops.{hasty, lines_of, seen_by}
+use Rattle.smf_watch.specs.Remedies.{StopsAtOne, clears_of, marks_of, remedied}
+use Rattle.smf_watch.specs.Retries.{any_waits, owed}
+use Rattle.smf_watch.specs.Troubles.{Noticed, noticed, noticed_after, retries_marked}
 use Rattle.smf_watch.specs.Sizes.{size_of, is_same}
 use Rattle.smf_watch.specs.Terms.{is_new, terms_of}
 use Rattle.smf_watch.specs.Traffic.{Passed, Asked, Closed, Left, Told, reply_in}
@@ -29,6 +33,7 @@ use Rattle.smf_watch.specs.Watched.{HasHeard, HaveTimedOut, StopsHearing, StopsT
 use Rattle.smf_watch.specs.declared.ask.Onward.{Onward}
 use Rattle.smf_watch.specs.declared.ask.Onward.TheVariants.{Goes, Ends, Leaves}
 use Rattle.smf_watch.specs.declared.ends.End.{End}
+use Rattle.smf_watch.specs.declared.remedies.Remedy.{Remedy}
 use Rattle.smf_watch.specs.declared.size.Size.{Size}
 use Rattle.smf_watch.specs.declared.terms.Term.{Term}
 use Rattle.smf_watch.specs.declared.watch.Due.{Due}
@@ -47,12 +52,12 @@ pub record Standing : Type 0 where
   pub busy : Bool
   pub watched : List Due
 
--- And with them the ends that were seen lately, and how much of the trail was looked at for them. And by what it is seen
--- whether anything happened since it was told how contracts are kept
+-- And with them what was noticed of instances that fail, and how much of the trail was looked at for it. And by what it is
+-- seen whether anything happened since it was told how contracts are kept
 pub record Between : Type 0 where
   pub standing : Standing
   pub looked : ℕ
-  pub ends : List End
+  pub noticed : Noticed
   pub noted : Option Size
 
 abbrev pub between : {J K : Type 0} → (K → Ledger) → (K → ℕ) → Server J K → Between
@@ -63,8 +68,8 @@ between ledger failures server =
         busy = server.busy;
         watched = server.watch.dues;
       };
-      looked = server.ends.looked;
-      ends = server.ends.seen.items;
+      looked = server.troubles.looked;
+      noticed = noticed server.troubles;
       noted = server.noted.size;
     }
 
@@ -146,26 +151,52 @@ shown_since s t = drop (length (trail_of_state s)) (trail_of_state t)
 abbrev pub has_more : Between → Bool
 has_more s = nat_lt s.looked (length (trail_of_state s))
 
--- the ends of the last ten seconds, with those of which the trail tells anew
-abbrev pub ends_by : Duration → Between → List End
-ends_by now s = seen_by now (trail_of_state s) s.looked s.ends
+-- true if it is to be looked at the trail: it shows anything new, or an instance waits for a retry
+abbrev pub wants_look : Between → Bool
+wants_look s = has_more s || any_waits s.noticed.retries
 
--- the clock was read, and the instances that ended too often were marked for maintenance, each once. This is told of
--- them, their ends are forgotten, and rounds are wanted
+abbrev pub held_of : Between → Holdings
+held_of s = s.standing.course.progress.world.now
+
+abbrev pub table_of : Between → Contracts
+table_of s = s.standing.course.progress.world.table
+
+-- the ends of the last periods, with those of which the trail tells anew
+abbrev pub ends_by : Duration → Between → List End
+ends_by now s = seen_by (held_of s) now (trail_of_state s) s.looked s.noticed.ends
+
+-- the instances that ended too often
+abbrev pub hasty_at : Duration → Between → List ℕ
+hasty_at now s = hasty (held_of s) (ends_by now s)
+
+-- the instances that are owed a retry
+abbrev pub owed_at : Duration → Between → List ℕ
+owed_at now s =
+    owed (held_of s) now
+    (retries_marked (held_of s) (table_of s) now (hasty_at now s) (drop s.looked (trail_of_state s)) s.noticed)
+
+-- the first are marked, and then the others are cleared
+abbrev pub remedies_at : Duration → Between → List Remedy
+remedies_at now s = marks_of (hasty_at now s) ++ clears_of (owed_at now s)
+
+-- what is noticed then
+abbrev pub noticed_at : Duration → Between → Noticed
+noticed_at now s = noticed_after (held_of s) (table_of s) now (hasty_at now s) (trail_of_state s) s.looked s.noticed
+
+-- The clock was read. The instances that ended too often were marked for maintenance, each once, and exactly those that were
+-- owed a retry were cleared. Of the first this is told, and their ends are forgotten. Rounds are wanted then
 pub record HasLooked (clock : Duration → Type 0) (s t : Between) (lines : List (List ℕ)) : Type 0 where
   pub now : Duration
   pub read : clock now
-  pub numbers : List ℕ
-  pub are : numbers ≡ hasty (ends_by now s)
-  pub marked : t.standing.course ≡ at s.standing.course (marks numbers s.standing.course.progress)
-  pub busy : t.standing.busy ≡ (s.standing.busy || nat_lt 0 (length numbers))
+  pub done : t.standing.course ≡ at s.standing.course (remedied (remedies_at now s) s.standing.course.progress)
+  pub busy : t.standing.busy ≡ (s.standing.busy || nat_lt 0 (length (remedies_at now s)))
   pub looked : t.looked ≡ length (trail_of_state s)
-  pub kept : t.ends ≡ filter (is_kept numbers) (ends_by now s)
-  pub told : lines ≡ lines_of s.standing.course.progress.world.now numbers
+  pub kept : t.noticed ≡ noticed_at now s
+  pub told : lines ≡ lines_of (held_of s) (hasty_at now s)
   pub watched : t.standing.watched ≡ s.standing.watched
   pub noted : t.noted ≡ s.noted
 
--- that is done if the trail shows anything new, else nothing
+-- that is done if it is wanted, else nothing
 abbrev pub LooksIf : Bool → (Duration → Type 0) → Between → Between → List (List ℕ) → Type 0
 LooksIf true clock s t lines = HasLooked clock s t lines
 LooksIf false clock s t lines = (t ≡ s) × (lines ≡ [])
@@ -174,7 +205,7 @@ LooksIf false clock s t lines = (t ≡ s) × (lines ≡ [])
 pub record IsTick (k : Skills) (clock : Duration → Type 0) (s t : Between) (lines : List (List ℕ)) : Type 0 where
   pub gone : Standing
   pub passes : HasPassed k clock s.standing gone
-  pub looks : LooksIf (has_more (record s { standing = gone })) clock (record s { standing = gone }) t lines
+  pub looks : LooksIf (wants_look (record s { standing = gone })) clock (record s { standing = gone }) t lines
 
 -- ---- a request
 
@@ -200,7 +231,7 @@ pub record IsAnswer (k : Skills) (clock : Duration → Type 0) (a : Answer) (s t
   pub needed : is_same (size_of s.standing.course.progress.world) (size_of done.progress.world) ≡ false → wanted ≡ true
   pub goes : GoesIf wanted k clock (record s.standing { course = done }) t.standing
   pub looked : t.looked ≡ s.looked
-  pub ends : t.ends ≡ s.ends
+  pub noticed : t.noticed ≡ s.noticed
   pub noted : t.noted ≡ s.noted
 
 -- ---- turns that are taken
@@ -308,12 +339,12 @@ PassFails k clock stores s d e =
     ⊎ ((heard : Course) × (any : Bool) × HasHeard k s.course heard any
     × TimingFails k clock stores any (record s { course = heard }) d e)
 
--- memory ran out at the look at the trail, or an instance that ended too often could not be marked
+-- memory ran out at the look at the trail, or an instance could not be marked or cleared
 abbrev pub LookFails : (Duration → Type 0) → (RepoFault → Type 0) → Between → Course → NodeFault → Type 0
 LookFails clock stores s d e =
     ((e ≡ Memory) × (d ≡ s.standing.course))
     ⊎ ((now : Duration) × clock now
-    × StopsMarking stores (hasty (ends_by now s)) s.standing.course.progress d.progress e
+    × StopsAtOne stores (remedies_at now s) s.standing.course.progress d.progress e
     × (d.seen ≡ s.standing.course.seen))
 
 -- time did not pass, or then the trail was not looked at
@@ -337,12 +368,12 @@ abbrev pub StillWatches : (Duration → Type 0) → Standing → Standing → Ty
 StillWatches clock s t =
     (times : ℕ) × Watches clock times s.course.progress.world t.course.progress.world s.watched t.watched
 
--- however far a turn came, events lead there, and the ends that were seen are kept for the next turn
+-- however far a turn came, events lead there, and what was noticed is kept for the next turn
 pub record HasComeOn (clock : Duration → Type 0) (s t : Between) : Type 0 where
   pub later : IsLater s.standing.course.progress.world t.standing.course.progress.world
   pub watches : StillWatches clock s.standing t.standing
   pub looked : t.looked ≡ s.looked
-  pub ends : t.ends ≡ s.ends
+  pub noticed : t.noticed ≡ s.noticed
   pub noted : t.noted ≡ s.noted
 
 -- if node and children agreed, they agree
@@ -429,7 +460,7 @@ pub record HasForgotten (s t : Between) : Type 0 where
   pub busy : t.standing.busy ≡ s.standing.busy
   pub watched : t.standing.watched ≡ s.standing.watched
   pub anew : t.looked ≡ 0
-  pub ends : t.ends ≡ s.ends
+  pub noticed : t.noticed ≡ s.noticed
   pub noted : t.noted ≡ s.noted
 
 -- one more round is wanted

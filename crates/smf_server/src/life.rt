@@ -31,7 +31,7 @@ use smf_model::{Journal, Plain};
 use smf_node::{ContinueFault, Node, NodeFault};
 use smf_run::{Leftover, end_all};
 use smf_script::ScriptFault;
-use smf_watch::{Chronicle, Desk, Ender, Onward, Timer};
+use smf_watch::{Chronicle, Desk, Ender, Onward, Retry, Timer, plans_of};
 use smf_world::Item;
 use std::alloc::{AllocError, Global};
 
@@ -52,7 +52,7 @@ fn has_gathered<J: Journal>(node: &Node<J>) -> bool {
 fn want_round<J: Journal, K: Kids>(server: &mut Server<J, K>)
     ensures node { server.new.node ≡ server.old.node }
     ensures kids { server.new.kids ≡ server.old.kids }
-    ensures ends { server.new.ends ≡ server.old.ends }
+    ensures troubles { server.new.troubles ≡ server.old.troubles }
     ensures watch { server.new.watch ≡ server.old.watch }
     ensures noted { server.new.noted ≡ server.old.noted }
     ensures busy { (server.new.busy ≡ server.old.busy) ⊎ (server.new.busy ≡ true) }
@@ -79,7 +79,7 @@ fn forget_if<J: Journal, K: Kids>(server: &mut Server<J, K>)
         return;
     }
     match forget(&mut server.node, &mut server.kids) {
-        Ok(true) => server.ends.looked = 0,
+        Ok(true) => server.troubles.looked = 0,
         Ok(false) => want_round(server),
         Err(_) => {}
     }
@@ -149,6 +149,20 @@ fn items_after(trail: &[Item], count: usize) -> &[Item]
     &trail[count.min(trail.len())..]
 }
 
+/// Tells which instances are tried again, if there is memory for it.
+fn tell_plans<C: Chronicle, J: Journal, K: Kids>(
+    alloc: Global,
+    chronicle: &mut C,
+    server: &Server<J, K>,
+)
+    ensures { C.told chronicle.new ≡ C.told chronicle.old }
+{
+    let retries = &server.troubles.retries;
+    if let Ok(plans) = plans_of(alloc, server.node.repository(), retries) {
+        chronicle.plan(&plans);
+    }
+}
+
 /// Takes turns until no more is asked, whatever fails. Tells what the trail shows, and after each turn what it added.
 fn stay<D: Desk, C: Chronicle, T: Timer, E: Ender, J: Journal, K: Kids>(
     alloc: Global,
@@ -174,6 +188,7 @@ fn stay<D: Desk, C: Chronicle, T: Timer, E: Ender, J: Journal, K: Kids>(
         match onward {
             Onward::Goes => {
                 chronicle.tell(items_after(server.node.trail(), told));
+                tell_plans(alloc, chronicle, server);
                 last = conclude(desk, server, last, &fault);
             }
             Onward::Ends | Onward::Leaves => return onward,
@@ -246,7 +261,7 @@ fn live<D: Desk, C: Chronicle, T: Timer, E: Ender, J: Journal + Drop, K: Kids + 
         mut kids,
         watch: _watch,
         busy: _,
-        ends: _ends,
+        troubles: _troubles,
         noted: _noted,
         rested: _,
     } = server;
@@ -292,7 +307,7 @@ pub fn stay_over<D: Desk, C: Chronicle, T: Timer, E: Ender, J: Journal + Drop, K
             chronicle,
             timer,
             ender,
-            Server::new(alloc, node, kids),
+            Server::new(alloc, node, kids, Vec::new(alloc)),
         )),
         Err((fault, repository)) => Err(Unborn {
             fault,
@@ -303,7 +318,8 @@ pub fn stay_over<D: Desk, C: Chronicle, T: Timer, E: Ender, J: Journal + Drop, K
 }
 
 /// Goes on with what a repository holds and with the contracts that are found, as an older server left them when its
-/// services went on. `last` is the last id of a contract that was given. It takes turns, and ends as a server does that
+/// services went on. `last` is the last id of a contract that was given, and `retries` are the instances that the older one
+/// was to try again. It takes turns, and ends as a server does that
 /// has booted. If it cannot go on it does nothing, and the fault says why.
 pub fn continue_over<D: Desk, C: Chronicle, T: Timer, E: Ender, J: Journal + Drop, K: Kids + Drop>(
     alloc: Global,
@@ -314,13 +330,14 @@ pub fn continue_over<D: Desk, C: Chronicle, T: Timer, E: Ender, J: Journal + Dro
     repository: Plain<J>,
     last: Number,
     found: &[Found],
+    retries: &[Retry],
     kids: K,
 ) -> Result<Life<J, K>, Uncontinued<J, K>>
     ensures lived { IfOk result (λ life.
         HasLived K.skills (T.says timer.now) J.write_fails J.stands MOST_TURNS life.how life.journal
         (D.passed desk.old) (D.passed desk.new) (C.told chronicle.old) (C.told chronicle.new)
         (E.told ender.old) (E.told ender.new) life.left
-        (state_after_find repository.held last found.now (children_state (K.ledger kids) (K.failures kids)))
+        (state_after_find repository.held last found.now (children_state (K.ledger kids) (K.failures kids)) retries.now)
         (children_state (K.ledger life.kids) (K.failures life.kids))) }
     ensures fit { OnOk result (are_fit 0 last found.now ≡ true) }
     ensures known { OnOk result (first_foreign repository.held found.now ≡ None) }
@@ -338,6 +355,13 @@ pub fn continue_over<D: Desk, C: Chronicle, T: Timer, E: Ender, J: Journal + Dro
         (children_state (K.ledger uncontinued.kids) (K.failures uncontinued.kids))) }
     ensures lasts { RepliesLast (D.leaves desk.old) (D.leaves desk.new) }
 {
+    let Ok(retries) = Vec::from_slice(alloc, retries) else {
+        return Err(Uncontinued {
+            fault: ContinueFault::Memory,
+            journal: repository.into_journal(),
+            kids,
+        });
+    };
     match Node::continued(alloc, repository, last, found) {
         Ok(successor) => Ok(live(
             alloc,
@@ -345,7 +369,7 @@ pub fn continue_over<D: Desk, C: Chronicle, T: Timer, E: Ender, J: Journal + Dro
             chronicle,
             timer,
             ender,
-            Server::new(alloc, successor, kids),
+            Server::new(alloc, successor, kids, retries),
         )),
         Err((why, repository)) => Err(Uncontinued {
             fault: why,

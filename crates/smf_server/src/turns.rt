@@ -4,7 +4,8 @@ ghost use Rattle.smf_drive.specs.Moves.{Moves};
 ghost use Rattle.smf_edge.specs.Starts.{log_with};
 ghost use Rattle.smf_node.specs.declared.fault.NodeFault.TheVariants as nodes;
 ghost use Rattle.smf_script.specs.declared.fault.ScriptFault.TheVariants as scripts;
-ghost use Rattle.smf_server.specs.Turns.{GoFails, GoesBy, GoesIf, GoingFails, HasGone, HasLooked, HasPassed, HasTakenTurn, HasTimed, HasTried, HasTurned, IsFailed, IsTick, IsToldOf, IsTurn, LookFails, LooksIf, PassFails, StillWatches, TickFails, TimingFails, TryFails, between, is_busy, max_rounds, shown_of};
+ghost use Rattle.smf_server.specs.Turns.{GoFails, GoesBy, GoesIf, GoingFails, HasGone, HasLooked, HasPassed, HasTakenTurn, HasTimed, HasTried, HasTurned, IsFailed, IsTick, IsToldOf, IsTurn, LookFails, LooksIf, PassFails, StillWatches, TickFails, TimingFails, TryFails, between, is_busy, hasty_at, max_rounds, noticed_at, remedies_at, shown_of, wants_look};
+ghost use Rattle.smf_watch.specs.Troubles.{noticed};
 ghost use Rattle.smf_watch.specs.Sizes.{is_same, size_of};
 ghost use Rattle.smf_watch.specs.Traffic.{Asked, LeavesNoMore, Passed, RepliesLast, Told, reply_in};
 ghost use Rattle.smf_world.specs.Reached.{IsLater};
@@ -20,10 +21,12 @@ use smf_node::{Node, NodeFault};
 use smf_run::run_script;
 use smf_script::ScriptFault;
 use smf_watch::{
-    Desk, Ender, Onward, ServerInput, Size, Timer, hear_all, is_same, lines_of, mark_all, size_of,
+    Desk, Ender, Found, Onward, Remedy, ServerInput, Size, Timer, hear_all, is_same, lines_of,
+    remedy_all, size_of,
 };
 use smf_world::Settled;
 use std::alloc::{AllocError, Global};
+use std::time::Duration;
 
 /// The most rounds before it is looked what comes next.
 const ROUNDS: u64 = 20;
@@ -53,7 +56,7 @@ fn go<T: Timer, J: Journal, K: Kids>(
     ensures moves { Moves server.old.node.world server.new.node.world (K.ledger server.old.kids)
         (K.ledger server.new.kids) }
     ensures watches { StillWatches (T.says timer.now) (between K.ledger K.failures server.old).standing (between K.ledger K.failures server.new).standing }
-    ensures kept { server.new.ends ≡ server.old.ends }
+    ensures kept { server.new.troubles ≡ server.old.troubles }
     ensures noted { server.new.noted ≡ server.old.noted }
 {
     let how = drive(&mut server.node, &mut server.kids, rounds)?;
@@ -76,7 +79,7 @@ fn go_if<T: Timer, J: Journal, K: Kids>(
     ensures moves { Moves server.old.node.world server.new.node.world (K.ledger server.old.kids)
         (K.ledger server.new.kids) }
     ensures watches { StillWatches (T.says timer.now) (between K.ledger K.failures server.old).standing (between K.ledger K.failures server.new).standing }
-    ensures kept { server.new.ends ≡ server.old.ends }
+    ensures kept { server.new.troubles ≡ server.old.troubles }
     ensures noted { server.new.noted ≡ server.old.noted }
 {
     if wanted {
@@ -106,7 +109,7 @@ fn go_on<T: Timer, J: Journal, K: Kids>(
     ensures moves { Moves server.old.node.world server.new.node.world (K.ledger server.old.kids)
         (K.ledger server.new.kids) }
     ensures watches { StillWatches (T.says timer.now) (between K.ledger K.failures server.old).standing (between K.ledger K.failures server.new).standing }
-    ensures kept { server.new.ends ≡ server.old.ends }
+    ensures kept { server.new.troubles ≡ server.old.troubles }
     ensures noted { server.new.noted ≡ server.old.noted }
 {
     let before = size_of(&server.node);
@@ -131,7 +134,7 @@ fn go_by<T: Timer, J: Journal, K: Kids>(
     ensures moves { Moves server.old.node.world server.new.node.world (K.ledger server.old.kids)
         (K.ledger server.new.kids) }
     ensures watches { StillWatches (T.says timer.now) (between K.ledger K.failures server.old).standing (between K.ledger K.failures server.new).standing }
-    ensures kept { server.new.ends ≡ server.old.ends }
+    ensures kept { server.new.troubles ≡ server.old.troubles }
     ensures noted { server.new.noted ≡ server.old.noted }
 {
     if happened {
@@ -156,7 +159,7 @@ fn time_out<T: Timer, J: Journal, K: Kids>(
     ensures moves { Moves server.old.node.world server.new.node.world (K.ledger server.old.kids)
         (K.ledger server.new.kids) }
     ensures watches { StillWatches (T.says timer.now) (between K.ledger K.failures server.old).standing (between K.ledger K.failures server.new).standing }
-    ensures kept { server.new.ends ≡ server.old.ends }
+    ensures kept { server.new.troubles ≡ server.old.troubles }
     ensures noted { server.new.noted ≡ server.old.noted }
 {
     let now = timer.now();
@@ -186,7 +189,7 @@ fn pass<T: Timer, J: Journal, K: Kids>(
     ensures moves { Moves server.old.node.world server.new.node.world (K.ledger server.old.kids)
         (K.ledger server.new.kids) }
     ensures watches { StillWatches (T.says timer.now) (between K.ledger K.failures server.old).standing (between K.ledger K.failures server.new).standing }
-    ensures kept { server.new.ends ≡ server.old.ends }
+    ensures kept { server.new.troubles ≡ server.old.troubles }
     ensures noted { server.new.noted ≡ server.old.noted }
 {
     let any = hear_all(&mut server.node, &mut server.kids)?;
@@ -194,72 +197,100 @@ fn pass<T: Timer, J: Journal, K: Kids>(
     Ok(())
 }
 
-/// True if rounds were wanted before, or if instances are marked.
-fn is_busy_with(busy: bool, numbers: &[u64]) -> bool
-    ensures { result ≡ (busy || nat_lt 0 (length numbers.now)) }
+/// True if rounds were wanted before, or if instances are marked or cleared.
+fn is_busy_with(busy: bool, remedies: &[Remedy]) -> bool
+    ensures { result ≡ (busy || nat_lt 0 (length remedies.now)) }
 {
-    busy || 0 < numbers.len()
+    busy || 0 < remedies.len()
 }
 
-/// Looks at what is new in the trail, and marks the instances that ended too often for maintenance. Gives what is told
-/// of them. After a fault the next look is at the same items again.
+/// What a look at the trail finds now.
+fn find<J: Journal, K: Kids>(
+    alloc: Global,
+    now: Duration,
+    server: &Server<J, K>,
+) -> Result<Found, AllocError>
+    ensures numbers { IfOk result
+        (λ found. found.numbers ≡ hasty_at now (between K.ledger K.failures server.now)) }
+    ensures remedies { IfOk result
+        (λ found. found.remedies.items ≡ remedies_at now (between K.ledger K.failures server.now)) }
+    ensures looked { IfOk result (λ found. found.left.looked ≡ length (shown_of server.now.node.world)) }
+    ensures kept { IfOk result
+        (λ found. noticed found.left ≡ noticed_at now (between K.ledger K.failures server.now)) }
+{
+    let trail = server.node.trail();
+    let repository = server.node.repository();
+    let table = server.node.table();
+    let found = server.troubles.look(alloc, now, trail, repository, table)?;
+    Ok(found)
+}
+
+/// Looks at what is new in the trail, marks the instances that ended too often for maintenance, and clears those that are
+/// tried again now. Gives what is told of the first. After a fault the next look is at the same items again.
 fn look<T: Timer, J: Journal, K: Kids>(
     alloc: Global,
     timer: &T,
     server: &mut Server<J, K>,
 ) -> Result<Items<Text>, NodeFault>
-    requires { server.old.ends.looked ≤ length (shown_of server.old.node.world) }
     ensures looked { IfOk result (HasLooked (T.says timer.now) (between K.ledger K.failures server.old) (between K.ledger K.failures server.new)) }
     ensures failed { IfErr result (LookFails (T.says timer.now) J.write_fails (between K.ledger K.failures server.old) (between K.ledger K.failures server.new).standing.course) }
     ensures agrees { (b : Before) → AgreesSince b server.old.node.world (K.ledger server.old.kids)
         → AgreesSince b server.new.node.world (K.ledger server.new.kids) }
     ensures later { IsLater server.old.node.world server.new.node.world }
     ensures watches { StillWatches (T.says timer.now) (between K.ledger K.failures server.old).standing (between K.ledger K.failures server.new).standing }
-    ensures kept { OnErr result (server.new.ends ≡ server.old.ends) }
+    ensures kept { OnErr result (server.new.troubles ≡ server.old.troubles) }
     ensures noted { server.new.noted ≡ server.old.noted }
 {
     let now = timer.now();
-    let found = server.ends.look(alloc, now, server.node.trail())?;
-    let hasty = found.numbers.as_slice();
-    let lines = lines_of(alloc, &server.node, hasty)?;
-    mark_all(&mut server.node, hasty)?;
-    server.busy = is_busy_with(server.busy, hasty);
-    server.ends = found.left;
+    let found = find(alloc, now, server)?;
+    let numbers = found.numbers.as_slice();
+    let lines = lines_of(alloc, &server.node, numbers)?;
+    let remedies = found.remedies.as_slice();
+    remedy_all(&mut server.node, remedies)?;
+    server.busy = is_busy_with(server.busy, remedies);
+    server.troubles = found.left;
     Ok(lines)
 }
 
 /// True if the trail shows anything new.
 pub(crate) fn has_more<J: Journal, K: Kids>(server: &Server<J, K>) -> bool
-    ensures { result ≡ nat_lt server.now.ends.looked (length (shown_of server.now.node.world)) }
+    ensures { result ≡ nat_lt server.now.troubles.looked (length (shown_of server.now.node.world)) }
 {
-    server.ends.looked < server.node.trail().len()
+    server.troubles.looked < server.node.trail().len()
 }
 
-/// Looks at the trail, if it shows anything new.
+/// True if it is to be looked at the trail: it shows anything new, or an instance waits for a retry.
+fn wants_look<J: Journal, K: Kids>(server: &Server<J, K>) -> bool
+    ensures { result ≡ wants_look (between K.ledger K.failures server.now) }
+{
+    has_more(server) || server.troubles.any_waits()
+}
+
+/// Looks at the trail, if that is wanted.
 fn look_if<T: Timer, J: Journal, K: Kids>(
     alloc: Global,
     timer: &T,
     server: &mut Server<J, K>,
 ) -> Result<Items<Text>, NodeFault>
     ensures looked { IfOk result
-        (LooksIf (nat_lt server.old.ends.looked (length (shown_of server.old.node.world))) (T.says timer.now) (between K.ledger K.failures server.old) (between K.ledger K.failures server.new)) }
+        (LooksIf (wants_look (between K.ledger K.failures server.old)) (T.says timer.now) (between K.ledger K.failures server.old) (between K.ledger K.failures server.new)) }
     ensures failed { IfErr result (LookFails (T.says timer.now) J.write_fails (between K.ledger K.failures server.old) (between K.ledger K.failures server.new).standing.course) }
     ensures agrees { (b : Before) → AgreesSince b server.old.node.world (K.ledger server.old.kids)
         → AgreesSince b server.new.node.world (K.ledger server.new.kids) }
     ensures later { IsLater server.old.node.world server.new.node.world }
     ensures watches { StillWatches (T.says timer.now) (between K.ledger K.failures server.old).standing (between K.ledger K.failures server.new).standing }
-    ensures kept { OnErr result (server.new.ends ≡ server.old.ends) }
+    ensures kept { OnErr result (server.new.troubles ≡ server.old.troubles) }
     ensures noted { server.new.noted ≡ server.old.noted }
 {
-    if has_more(server) {
+    if wants_look(server) {
         look(alloc, timer, server)
     } else {
         Ok(Items::new(alloc))
     }
 }
 
-/// Time has passed: what happened is done, and the instances that ended too often are marked for maintenance. Gives
-/// what is told of them.
+/// Time has passed: what happened is done, the instances that ended too often are marked for maintenance, and those that
+/// are tried again are cleared. Gives what is told of the first.
 fn tick<T: Timer, J: Journal, K: Kids>(
     alloc: Global,
     timer: &T,
@@ -271,7 +302,7 @@ fn tick<T: Timer, J: Journal, K: Kids>(
         → AgreesSince b server.new.node.world (K.ledger server.new.kids) }
     ensures later { IsLater server.old.node.world server.new.node.world }
     ensures watches { StillWatches (T.says timer.now) (between K.ledger K.failures server.old).standing (between K.ledger K.failures server.new).standing }
-    ensures kept { OnErr result (server.new.ends ≡ server.old.ends) }
+    ensures kept { OnErr result (server.new.troubles ≡ server.old.troubles) }
     ensures noted { server.new.noted ≡ server.old.noted }
 {
     pass(alloc, timer, server)?;

@@ -5,7 +5,8 @@ use Rattle.smf_node.specs.Rounds.{course}
 use Rattle.smf_server.specs.Turns.{between}
 use Rattle.smf_server.proofs.TurnSteps.{answered, answered_then, come_on, cut, moved_later}
 use Rattle.smf_server.proofs.Watching.{still_same, still_then}
-use Rattle.smf_watch.specs.declared.ends.Ends.{Ends as SeenEnds}
+use Rattle.smf_watch.specs.Troubles.{noticed}
+use Rattle.smf_watch.specs.declared.troubles.Troubles.{Troubles}
 use Rattle.smf_watch.specs.declared.terms.Noted.{Noted}
 use Rattle.smf_world.proofs.LaterWorlds.{later_then}
 use Rattle.smf_server.proofs.turns.answer.Goals as goal
@@ -27,8 +28,8 @@ returns-in-Ok-go_if-clause-ok g c =
     (rw c.deref.ensures.value at c.reply-is_written.ensures.passed)
     (rw c.new-text.ensures.items at c.in-Ok.ensures.ran, refl)
     (rw c.size_of-before.ensures at c.wants_rounds-wanted.ensures) c.in-Ok-go_if.ensures.gone
-    (ap (λ (e : SeenEnds). e.looked) c.go_if.ensures.kept)
-    (ap (λ (e : SeenEnds). e.seen.items) c.go_if.ensures.kept)
+    (ap (λ (e : Troubles). e.looked) c.go_if.ensures.kept)
+    (ap noticed c.go_if.ensures.kept)
     (ap (λ (n : Noted). n.size) c.go_if.ensures.noted)
 
 pub returns-in-Ok-clause-err : goal.returns-in-Ok-clause-err
@@ -56,8 +57,8 @@ returns-in-Ok-clause-err g c =
     })
     (between g.K.Kids.ledger g.K.Kids.failures c.go_if.new.server).standing
     (still_same _ _ _ _ _ c.run_script.ensures.later refl) c.go_if.ensures.watches)
-    (ap (λ (e : SeenEnds). e.looked) c.go_if.ensures.kept)
-    (ap (λ (e : SeenEnds). e.seen.items) c.go_if.ensures.kept)
+    (ap (λ (e : Troubles). e.looked) c.go_if.ensures.kept)
+    (ap noticed c.go_if.ensures.kept)
     (ap (λ (n : Noted). n.size) c.go_if.ensures.noted))
     (λ b agrees. agree_moves {b = b} _ _ _ _ c.go_if.ensures.moves (c.in-Ok.ensures.agrees b agrees))
 

@@ -1,7 +1,8 @@
 use Rattle.std.proofs.Common.{ap, sym}
 use Rattle.smf_server.proofs.Lasting.{lasts_same, lasts_then, none_then}
 use Rattle.smf_server.proofs.TurnSteps.{come_on, tick_cut, ticked}
-use Rattle.smf_watch.specs.declared.ends.Ends.{Ends as SeenEnds}
+use Rattle.smf_watch.specs.Troubles.{noticed}
+use Rattle.smf_watch.specs.declared.troubles.Troubles.{Troubles}
 use Rattle.smf_watch.specs.declared.terms.Noted.{Noted}
 use Rattle.smf_server.proofs.turns.do_next.Goals as goal
 
@@ -13,7 +14,7 @@ pub returns-in-Tick-clause-err : goal.returns-in-Tick-clause-err
 returns-in-Tick-clause-err g c =
     tick_cut g.K.Kids.skills _ g.J.Journal.write_fails _ _ _ _ _ c.in-Tick.ensures.passed c.in-Err.ensures.failed
     (come_on _ _ _ c.tick.ensures.later c.tick.ensures.watches
-    (ap (λ (e : SeenEnds). e.looked) c.in-Err.ensures.kept) (ap (λ (e : SeenEnds). e.seen.items) c.in-Err.ensures.kept)
+    (ap (λ (e : Troubles). e.looked) c.in-Err.ensures.kept) (ap noticed c.in-Err.ensures.kept)
     (ap (λ (n : Noted). n.size) c.tick.ensures.noted))
     c.tick.ensures.agrees
 

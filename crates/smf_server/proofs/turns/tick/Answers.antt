@@ -5,7 +5,8 @@ use Rattle.smf_server.proofs.Marked.{look_fails_after, looks_after}
 use Rattle.smf_server.proofs.TurnSteps.{moved_later}
 use Rattle.smf_server.proofs.Watching.{still_then}
 use Rattle.smf_watch.proofs.FaultExits.{on_fault, passed_on}
-use Rattle.smf_watch.specs.declared.ends.Ends.{Ends as SeenEnds}
+use Rattle.smf_watch.specs.Troubles.{noticed}
+use Rattle.smf_watch.specs.declared.troubles.Troubles.{Troubles}
 use Rattle.smf_watch.specs.declared.terms.Noted.{Noted}
 use Rattle.smf_world.proofs.LaterWorlds.{later_then}
 use Rattle.smf_server.proofs.turns.tick.Goals as goal
@@ -20,8 +21,8 @@ returns-clause-ticked g c =
           (between g.K.Kids.ledger g.K.Kids.failures c.args.server.now)
           (between g.K.Kids.ledger g.K.Kids.failures c.pass.new.server)
           (between g.K.Kids.ledger g.K.Kids.failures c.look_if.new.server)
-          c.in_ok-lines.lines (ap (λ (e : SeenEnds). e.looked) c.pass.ensures.kept)
-          (ap (λ (e : SeenEnds). e.seen.items) c.pass.ensures.kept) (ap (λ (n : Noted). n.size) c.pass.ensures.noted)
+          c.in_ok-lines.lines (ap (λ (e : Troubles). e.looked) c.pass.ensures.kept)
+          (ap noticed c.pass.ensures.kept) (ap (λ (n : Noted). n.size) c.pass.ensures.noted)
           c.in_ok-lines.ensures.looked;
     }
 
@@ -37,8 +38,8 @@ returns-in_err-lines-clause-failed g c =
       look_fails_after (g.T.Timer.says c.args.timer.now) g.J.Journal.write_fails
           (between g.K.Kids.ledger g.K.Kids.failures c.args.server.now)
           (between g.K.Kids.ledger g.K.Kids.failures c.pass.new.server) _ _
-          (ap (λ (e : SeenEnds). e.looked) c.pass.ensures.kept)
-          (ap (λ (e : SeenEnds). e.seen.items) c.pass.ensures.kept) (ap (λ (n : Noted). n.size) c.pass.ensures.noted)
+          (ap (λ (e : Troubles). e.looked) c.pass.ensures.kept)
+          (ap noticed c.pass.ensures.kept) (ap (λ (n : Noted). n.size) c.pass.ensures.noted)
           c.in_err-lines.ensures.failed,
     ))
 
