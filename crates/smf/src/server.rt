@@ -15,7 +15,7 @@ use smf_follow::FollowedKids;
 use smf_host::{
     CauseFile, Database, FileDesk, FileEnder, Hold, RoomFault, RoomHold, SystemTimer, close_room,
     end_listed, ender_in, folder_lock, forget_boot, form_text, has_booted, new_causes, note_stay,
-    older_causes, path_beside, room_text, take_alone, take_lock, take_room,
+    older_causes, older_retries, path_beside, room_text, take_alone, take_lock, take_room,
 };
 use smf_keeper::{Adopted, Manner, boot, go_on};
 use smf_model::{Journal, Plain};
@@ -24,6 +24,7 @@ use smf_program::tell_no_database;
 use smf_room::Room;
 use smf_server::{Leftover, Life, Onward, Unborn, Uncontinued, continue_over, stay_over};
 use smf_store::open_repository;
+use smf_watch::Retry;
 use sqlite::{Alter, Connection};
 use std::alloc::AllocError;
 use std::io;
@@ -36,11 +37,12 @@ fn tell_end(rt: &HostRuntime, desk: &FileDesk<'_>) -> u8 {
     }
 }
 
-/// How a life begins: what is held boots, or it goes on with the contracts of an older life, of which the last had this id.
+/// How a life begins: what is held boots, or it goes on with the contracts of an older life, of which the last had this id,
+/// and with its retries.
 #[derive(Drop)]
 enum Beginning {
     Boots,
-    GoesOn(Number, Vec<Found>),
+    GoesOn(Number, Vec<Found>, Vec<Retry>),
 }
 
 /// A stay that is over, with the status of the run; or one that did not begin, and why.
@@ -109,8 +111,8 @@ fn stay<J: Journal + Drop, K: Kids + Drop>(
                 },
             ) => Stayed::Unborn(fault, journal, kids),
         },
-        Beginning::GoesOn(last, found) => match continue_over(
-            alloc, desk, causes, &timer, ender, repository, *last, found, kids,
+        Beginning::GoesOn(last, found, retries) => match continue_over(
+            alloc, desk, causes, &timer, ender, repository, *last, found, retries, kids,
         ) {
             Ok(life) => over(rt, desk, life),
             Err(uncontinued) => not_continued(rt, uncontinued),
@@ -246,7 +248,7 @@ fn serve_adopted<'a, R: Room + Drop>(
     };
     let mut causes = older_causes(rt, room)?;
     let mut ender = ender_in(rt, room)?;
-    let beginning = Beginning::GoesOn(last, found);
+    let beginning = Beginning::GoesOn(last, found, older_retries(rt, room)?);
     Ok(serve_with(
         rt,
         desk,

@@ -1,7 +1,8 @@
 // Why instances are in maintenance, as a file in the folder of contracts has it.
 use crate::boots::note_boot;
 use crate::contracts::write_whole;
-use smf_watch::{Causes, Chronicle, KnownRow};
+use crate::retries::RetryFile;
+use smf_watch::{Causes, Chronicle, KnownRow, Plan};
 use smf_world::Item;
 use std::alloc::{AllocError, Global};
 use std::rt::HostRuntime;
@@ -20,6 +21,7 @@ pub struct CauseFile<'a> {
     /// Whether it is still to be noted that the system has booted.
     boots: bool,
     causes: Causes,
+    retries: RetryFile<'a>,
 }
 
 /// Puts a line of an instance that is in maintenance, if it is known why: its number, that of its row, and the cause.
@@ -53,6 +55,7 @@ impl<'a> CauseFile<'a> {
             text: None,
             boots,
             causes: Causes::new(rt.alloc()),
+            retries: RetryFile::new(rt, room),
         }
     }
 
@@ -99,6 +102,10 @@ impl<'a> Chronicle for CauseFile<'a> {
     fn tell(&mut self, items: &[Item]) {
         self.note_boot();
         let _written = self.add(items);
+    }
+
+    fn plan(&mut self, plans: &[Plan]) {
+        let _written = self.retries.write(plans);
     }
 }
 

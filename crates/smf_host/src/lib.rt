@@ -2,8 +2,8 @@
 //! Modules: `database` (a database file, its log and its journal), `lock` (who has a database alone), `contracts` (the
 //! room of contracts), `groups` (its control groups), `children` (the list of children beside a database).
 //! A server has `folder` (who has a folder alone), `desk` (requests in a folder), `pipe` (by which it is called), `pace`
-//! (when it ticks), `ender` (how contracts are ended), `causes` (why instances are in maintenance), `boots`
-//! (whether it boots or goes on), `timer` (the clock).
+//! (when it ticks), `ender` (how contracts are ended), `causes` (why instances are in maintenance), `retries` (which are
+//! tried again), `boots` (whether it boots or goes on), `timer` (the clock).
 #![tactic(auto)]
 
 mod boots;
@@ -18,6 +18,7 @@ mod groups;
 mod lock;
 mod pace;
 mod pipe;
+mod retries;
 mod timer;
 
 pub use boots::{forget_boot, has_booted};
@@ -31,4 +32,5 @@ pub use desk::FileDesk;
 pub use ender::{FileEnder, ender_in};
 pub use folder::{folder_lock, take_lock};
 pub use lock::{Hold, path_beside, take_alone};
+pub use retries::older_retries;
 pub use timer::SystemTimer;
