@@ -23,6 +23,9 @@ use std::{env, fs, io, thread};
 /// The event of poll that something may be written.
 const POLLOUT: i16 = 4;
 
+/// So many names of a control group are tried.
+const NAMES: u32 = 100;
+
 /// The bytes of the secret in a contract's mark.
 const SECRET: usize = 16;
 
@@ -282,15 +285,32 @@ impl<R: Processes + Env + Files<File = File> + Clock + AllocGlobal + Clone + Dro
         }
     }
 
-    /// Makes the control group of a new contract, if there is a folder for it.
+    /// The name of a control group: the number of its contract, and one more after others were taken.
+    fn group_named(&self, groups: &str, id: u64, taken: u32) -> io::Result<String> {
+        if taken == 0 {
+            return Ok(format!(in self.alloc; "{groups}/{id}")?);
+        }
+        Ok(format!(in self.alloc; "{groups}/{id}.{taken}")?)
+    }
+
+    /// Makes the control group of a new contract, if there is a folder for it. A room on another disk may have the same folder,
+    /// since that is called as an inode: then the number may be taken, or the folder was removed.
     fn make_group(&self, id: u64) -> io::Result<Option<String>> {
         let Some(groups) = &self.groups else {
             return Ok(None);
         };
-        let groups = groups.as_str();
-        let group = format!(in self.alloc; "{groups}/{id}")?;
-        fs::create_dir(&self.rt, group.as_str())?;
-        Ok(Some(group))
+        for taken in 0..NAMES {
+            let group = self.group_named(groups.as_str(), id, taken)?;
+            match fs::create_dir(&self.rt, group.as_str()) {
+                Ok(()) => return Ok(Some(group)),
+                Err(e) if e.kind() == io::ErrorKind::AlreadyExists => {}
+                Err(e) if e.kind() == io::ErrorKind::NotFound => {
+                    let _made = fs::create_dir(&self.rt, groups.as_str());
+                }
+                Err(e) => return Err(e),
+            }
+        }
+        Err(unclear())
     }
 
     fn sync(&self, path: &str) -> io::Result<()> {
