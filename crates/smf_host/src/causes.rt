@@ -2,7 +2,14 @@
 use crate::boots::note_boot;
 use crate::contracts::write_whole;
 use crate::retries::RetryFile;
-use smf_watch::{Causes, Chronicle, KnownRow, Plan};
+use smf_fmri::{InstanceFmri, Items};
+use smf_model::Journal;
+use smf_node::Node;
+use smf_reasons::{Reason, Told, check};
+use smf_watch::{
+    Causes, Chronicle, KnownRow, MaintenanceCause, MaintenanceReason, Retry, plans_of, push_reason,
+    reason_of,
+};
 use smf_world::Item;
 use std::alloc::{AllocError, Global};
 use std::rt::HostRuntime;
@@ -24,26 +31,106 @@ pub struct CauseFile<'a> {
     retries: RetryFile<'a>,
 }
 
-/// Puts a line of an instance that is in maintenance, if it is known why: its number, that of its row, and the cause.
-fn put_line(text: &mut String, alloc: Global, known: &KnownRow) -> Result<(), AllocError> {
-    let Some(cause) = known.cause else {
-        return Ok(());
-    };
-    let line = format!(in alloc;
-        "{} {} {}\n",
-        known.instance,
-        known.row.number,
-        cause.text()
-    )?;
-    text.push_str(line.as_str())
+/// What tells why instances are in maintenance: a node, the instances that are tried again, and the flaws of the node's
+/// instances, once they were looked for.
+#[derive(Drop)]
+struct Sight<'b, J: Journal> {
+    node: &'b Node<J>,
+    retries: &'b [Retry],
+    flaws: Option<Items<Told>>,
 }
 
-fn lines_of(alloc: Global, known: &[KnownRow]) -> Result<String, AllocError> {
-    let mut text = String::new(alloc);
-    for known in known {
-        put_line(&mut text, alloc, known)?;
+/// Whether an instance with this flaw cannot be run.
+fn is_fault(reason: &Reason) -> bool {
+    matches!(
+        reason,
+        Reason::UnreadableRestarter
+            | Reason::UnreadableSnapshot
+            | Reason::UnreadableGroup { .. }
+            | Reason::NoStartMethod
+            | Reason::UnreadableMethod { .. }
+            | Reason::OnCycle(_)
+    )
+}
+
+fn has_fault(flaws: &[Told], name: &InstanceFmri) -> bool {
+    flaws.iter().any(|told| told.name == *name && told.reasons.as_slice().iter().any(is_fault))
+}
+
+impl<'b, J: Journal> Sight<'b, J> {
+    /// Whether the configuration of an instance has a fault. The flaws of all are looked for at most once.
+    fn is_faulty(&mut self, alloc: Global, instance: u64) -> Result<bool, AllocError> {
+        let repository = self.node.repository();
+        if self.flaws.is_none() {
+            let view = repository.view()?;
+            self.flaws = Some(check(alloc, &view)?);
+        }
+        let entry = repository
+            .entries()
+            .iter()
+            .find(|entry| entry.instance.number.get() == instance);
+        match (&self.flaws, entry) {
+            (Some(flaws), Some(entry)) => Ok(has_fault(flaws.as_slice(), &entry.instance.name)),
+            _ => Ok(false),
+        }
     }
-    Ok(text)
+
+    /// Why an instance is in maintenance by a row.
+    fn reason(
+        &mut self,
+        alloc: Global,
+        known: &KnownRow,
+    ) -> Result<Option<MaintenanceReason>, AllocError> {
+        let is_faulty = match known.cause {
+            Some(MaintenanceCause::Moved) => self.is_faulty(alloc, known.instance)?,
+            _ => false,
+        };
+        Ok(reason_of(
+            self.node.repository(),
+            self.node.table(),
+            self.retries,
+            is_faulty,
+            known,
+        ))
+    }
+}
+
+/// The words with which a line begins: the number of an instance, and that of its row.
+fn head_of(alloc: Global, known: &KnownRow) -> Result<String, AllocError> {
+    format!(in alloc; "{} {} ", known.instance, known.row.number)
+}
+
+/// The line that begins so, in what was written before.
+fn line_in<'b>(written: &'b Option<String>, head: &str) -> Option<&'b str> {
+    match written {
+        Some(text) => text.lines().find(|line| line.starts_with(head)),
+        None => None,
+    }
+}
+
+/// Puts a line of an instance that is in maintenance, if it is known why: its number, that of its row, and the reason. What
+/// was written of the row stays, since what tells the reason may be forgotten.
+fn put_line<J: Journal>(
+    text: &mut String,
+    alloc: Global,
+    known: &KnownRow,
+    written: &Option<String>,
+    sight: &mut Sight<'_, J>,
+) -> Result<(), AllocError> {
+    if known.cause.is_none() {
+        return Ok(());
+    }
+    let head = head_of(alloc, known)?;
+    if let Some(line) = line_in(written, head.as_str()) {
+        text.push_str(line)?;
+        return text.push('\n');
+    }
+    let Some(reason) = sight.reason(alloc, known)? else {
+        return Ok(());
+    };
+    text.push_str(head.as_str())?;
+    push_reason(text, reason)?;
+    text.push('\n')
 }
 
 impl<'a> CauseFile<'a> {
@@ -76,12 +163,24 @@ impl<'a> CauseFile<'a> {
         Ok(())
     }
 
-    /// Adds items, and writes the causes that are known then, unless they are the same as before.
-    fn add(&mut self, items: &[Item]) -> io::Result<()> {
+    /// A line for each instance that is in maintenance, and those of an older life.
+    fn lines<J: Journal>(&self, sight: &mut Sight<'_, J>) -> Result<String, AllocError> {
         let alloc = self.rt.alloc();
-        self.causes.add(alloc, items)?;
-        let mut text = lines_of(alloc, self.causes.known())?;
+        let mut text = String::new(alloc);
+        for known in self.causes.known() {
+            put_line(&mut text, alloc, known, &self.text, sight)?;
+        }
         text.push_str(self.older.as_str())?;
+        Ok(text)
+    }
+
+    /// Adds items, and writes the reasons that are known then, unless they are the same as before.
+    fn add<J: Journal>(&mut self, items: &[Item], sight: &mut Sight<'_, J>) -> io::Result<()> {
+        if items.is_empty() {
+            return Ok(());
+        }
+        self.causes.add(self.rt.alloc(), items)?;
+        let text = self.lines(sight)?;
         self.write(text)
     }
 
@@ -99,13 +198,17 @@ impl<'a> Chronicle for CauseFile<'a> {
     ghost told = { λ _. None };
 
     /// If the causes cannot be written, the file stays as it is. Its lines name rows, so those of an older row tell nothing.
-    fn tell(&mut self, items: &[Item]) {
+    fn tell<J: Journal>(&mut self, items: &[Item], node: &Node<J>, retries: &[Retry]) {
         self.note_boot();
-        let _written = self.add(items);
-    }
-
-    fn plan(&mut self, plans: &[Plan]) {
-        let _written = self.retries.write(plans);
+        let mut sight = Sight {
+            node,
+            retries,
+            flaws: None,
+        };
+        let _written = self.add(items, &mut sight);
+        if let Ok(plans) = plans_of(self.rt.alloc(), node.repository(), retries) {
+            let _written = self.retries.write(&plans);
+        }
     }
 }
 

@@ -31,7 +31,7 @@ use smf_model::{Journal, Plain};
 use smf_node::{ContinueFault, Node, NodeFault};
 use smf_run::{Leftover, end_all};
 use smf_script::ScriptFault;
-use smf_watch::{Chronicle, Desk, Ender, Onward, Retry, Timer, plans_of};
+use smf_watch::{Chronicle, Desk, Ender, Onward, Retry, Timer};
 use smf_world::Item;
 use std::alloc::{AllocError, Global};
 
@@ -149,20 +149,6 @@ fn items_after(trail: &[Item], count: usize) -> &[Item]
     &trail[count.min(trail.len())..]
 }
 
-/// Tells which instances are tried again, if there is memory for it.
-fn tell_plans<C: Chronicle, J: Journal, K: Kids>(
-    alloc: Global,
-    chronicle: &mut C,
-    server: &Server<J, K>,
-)
-    ensures { C.told chronicle.new ≡ C.told chronicle.old }
-{
-    let retries = &server.troubles.retries;
-    if let Ok(plans) = plans_of(alloc, server.node.repository(), retries) {
-        chronicle.plan(&plans);
-    }
-}
-
 /// Takes turns until no more is asked, whatever fails. Tells what the trail shows, and after each turn what it added.
 fn stay<D: Desk, C: Chronicle, T: Timer, E: Ender, J: Journal, K: Kids>(
     alloc: Global,
@@ -180,15 +166,15 @@ fn stay<D: Desk, C: Chronicle, T: Timer, E: Ender, J: Journal, K: Kids>(
     ensures safe { IsSafeSince server.new.node.world }
     ensures lasts { RepliesLast (D.leaves desk.old) (D.leaves desk.new) }
 {
-    chronicle.tell(server.node.trail());
+    chronicle.tell(server.node.trail(), &server.node, &server.troubles.retries);
     let mut last: Option<&'static str> = None;
     for _ in 0..MOST_TURNS {
         let told = server.node.trail().len();
         let Turned { onward, fault } = turn(alloc, desk, timer, ender, server);
         match onward {
             Onward::Goes => {
-                chronicle.tell(items_after(server.node.trail(), told));
-                tell_plans(alloc, chronicle, server);
+                let items = items_after(server.node.trail(), told);
+                chronicle.tell(items, &server.node, &server.troubles.retries);
                 last = conclude(desk, server, last, &fault);
             }
             Onward::Ends | Onward::Leaves => return onward,

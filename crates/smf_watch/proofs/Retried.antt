@@ -1,5 +1,5 @@
 -- Instances that are tried again, one after another.
-use Rattle.std.proofs.Common.{◌≡◌, ◌<◌, ◌+◌, ℕ, suc, List, [], ◌∷◌, ◌++◌, length, get_or, drop, map, Option, refl, sym, ap, ◌∙◌, arith, append_assoc}
+use Rattle.std.proofs.Common.{◌≡◌, ◌<◌, ◌+◌, ℕ, suc, List, [], ◌∷◌, ◌++◌, length, get_or, drop, map, Option, sym, ap, ◌∙◌, arith, append_assoc}
 use Rattle.std.specs.declared.time.Duration.{Duration}
 use Rattle.smf_contract.specs.declared.contract.Contract.{Contract}
 use Rattle.smf_model.specs.Contents.{Holdings}

@@ -1,5 +1,5 @@
 -- How often an instance may end, and when it is tried again.
-use Rattle.std.specs.Prelude.{ℕ, ◌==◌, ◌*◌, List, Bool, Option, Some, None, find, unwrap_or, codes}
+use Rattle.std.specs.Prelude.{ℕ, ◌==◌, ◌*◌, Bool, Option, Some, None, find, unwrap_or, codes}
 use Rattle.smf_model.specs.declared.held.InstanceEntry.{InstanceEntry}
 use Rattle.smf_model.specs.Contents.{Holdings}
 use Rattle.smf_model.specs.Next.{named_snapshot}

@@ -1,5 +1,5 @@
 -- Why an instance is in maintenance, by what a trail shows of it.
-use Rattle.std.specs.Prelude.{◌≡◌, ℕ, ◌+◌, ◌==◌, ◌&&◌, nat_lt, List, [], ◌∷◌, ◌++◌, Bool, false, Option, Some, None, is_none, codes, if◌then◌else◌}
+use Rattle.std.specs.Prelude.{◌≡◌, ℕ, ◌+◌, ◌==◌, ◌&&◌, nat_lt, List, [], ◌∷◌, ◌++◌, Bool, false, Option, Some, None, is_none, if◌then◌else◌}
 use Rattle.smf_fmri.specs.declared.limits.TheConstants.{FAILED_STARTS_ALLOWED}
 use Rattle.smf_fmri.specs.ByKey.{By, by_number, list_with_item, lookup}
 use Rattle.smf_state.specs.declared.state.State.{State}
@@ -136,15 +136,6 @@ with_item _ known = known
 abbrev pub with_items : List Item → List KnownRow → List KnownRow
 with_items [] known = known
 with_items (x ∷ xs) known = with_items xs (with_item x known)
-
--- ---- words
-
-abbrev pub cause_text : MaintenanceCause → List ℕ
-cause_text StartsFailed = codes "method start failed repeatedly"
-cause_text StartFailed = codes "method start failed for good"
-cause_text StopFailed = codes "method stop failed"
-cause_text Stopped = codes "it was marked while it ran, or its configuration has a fault"
-cause_text Moved = codes "it was marked, or its configuration has a fault"
 
 -- ---- examples
 

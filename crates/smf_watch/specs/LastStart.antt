@@ -1,5 +1,5 @@
 -- How the last start of an instance ended.
-use Rattle.std.specs.Prelude.{ℕ, ◌==◌, ◌&&◌, List, [], ◌∷◌, Bool, true, false, Option, Some, None, if◌then◌else◌}
+use Rattle.std.specs.Prelude.{ℕ, ◌==◌, ◌&&◌, List, [], ◌∷◌, Bool, true, false, Option, Some, None, find, if◌then◌else◌}
 use Rattle.std.specs.List.{list_any}
 use Rattle.smf_contract.specs.declared.contract.Contract.{Contract}
 use Rattle.smf_contract.specs.declared.cookie.Cookie.{Cookie}
@@ -9,6 +9,7 @@ use Rattle.smf_contract.specs.declared.event.ContractEvent.{ContractEvent}
 use Rattle.smf_contract.specs.declared.event.EventKind.{EventKind}
 use Rattle.smf_contract.specs.declared.event.EventKind.TheVariants as kinds
 use Rattle.smf_contract.specs.declared.event.Exit.{Exit}
+use Rattle.smf_contract.specs.declared.event.Exit.TheVariants as exits
 use Rattle.smf_contract.specs.Cookies.{cookie_of_bits}
 use Rattle.smf_contract.specs.Entries.{Contracts}
 use Rattle.smf_method.specs.declared.outcome.MethodOutcome.{MethodOutcome}
@@ -61,3 +62,19 @@ fails_for_good events (Some c) = list_any (is_final_of c) events
 -- the last start of an instance ended so
 unfoldable pub failed_for_good : Contracts → ℕ → Bool
 failed_for_good t n = fails_for_good t.events (last_start t.contracts n)
+
+abbrev pub code_of : EventKind → Option ℕ
+code_of (kinds.Exit process (exits.Code code)) = Some code
+code_of _ = None
+
+abbrev pub code_in : Option ContractEvent → Option ℕ
+code_in None = None
+code_in (Some e) = code_of e.kind
+
+abbrev pub final_code_by : List ContractEvent → Option Contract → Option ℕ
+final_code_by events None = None
+final_code_by events (Some c) = code_in (find (is_final_of c) events)
+
+-- the code by which it ended then
+unfoldable pub final_code : Contracts → ℕ → Option ℕ
+final_code t n = final_code_by t.events (last_start t.contracts n)

@@ -2,6 +2,7 @@ pub mod Bounds
 pub mod Causes
 pub mod LastStart
 pub mod Loops
+pub mod Maintenance
 pub mod Remedies
 pub mod Retries
 pub mod Sizes

@@ -1,5 +1,5 @@
 -- What a server notices of instances that fail, look by look.
-use Rattle.std.specs.Prelude.{ℕ, ◌&&◌, not, List, [], ◌∷◌, drop, filter, find}
+use Rattle.std.specs.Prelude.{ℕ, List, [], ◌∷◌, drop, filter, find}
 use Rattle.std.specs.declared.time.Duration.{Duration}
 use Rattle.smf_contract.specs.Entries.{Contracts}
 use Rattle.smf_fmri.specs.ByKey.{list_with_item, lookup}

@@ -1,7 +1,7 @@
 //! Why instances are in maintenance.
 
 ghost use Rattle.smf_fmri.specs.ByKey.{list_with_item, lookup};
-ghost use Rattle.smf_watch.specs.Causes.{Knows, MovesAreTold, OthersHaveNone, StartsAreCounted, StopsAreTold, SuccessEndsTheCount, by_instance, cause_by, cause_in, cause_of_end, cause_of_start, cause_text, failed_in, is_offline, is_starting, known_after, leads_to, one_more, started_in, starts_after, with_item, with_items, with_row};
+ghost use Rattle.smf_watch.specs.Causes.{Knows, MovesAreTold, OthersHaveNone, StartsAreCounted, StopsAreTold, SuccessEndsTheCount, by_instance, cause_by, cause_in, cause_of_end, cause_of_start, failed_in, is_offline, is_starting, known_after, leads_to, one_more, started_in, starts_after, with_item, with_items, with_row};
 ghost use Rattle.smf_world.specs.declared.item.Item.{Item as AnyItem};
 ghost use Rattle.std.specs.Option.{option_copied};
 ghost use Rattle.std.specs.Prelude.{◌≡◌, ◌++◌, [], List, OnErr, OnOk};
@@ -13,7 +13,7 @@ use smf_world::Item;
 use std::alloc::{AllocError, Global};
 use std::marker::Model;
 
-/// Why an instance is in maintenance.
+/// Why an instance is in maintenance, as far as rows tell.
 #[derive(Clone, Copy)]
 pub enum MaintenanceCause {
     /// One start after another failed, and then one more than is allowed.
@@ -26,22 +26,6 @@ pub enum MaintenanceCause {
     Stopped,
     /// It did not run.
     Moved,
-}
-
-impl MaintenanceCause {
-    pub fn text(self) -> &'static str
-        ensures { result.now ≡ cause_text self }
-    {
-        match self {
-            MaintenanceCause::StartsFailed => "method start failed repeatedly",
-            MaintenanceCause::StartFailed => "method start failed for good",
-            MaintenanceCause::StopFailed => "method stop failed",
-            MaintenanceCause::Stopped => {
-                "it was marked while it ran, or its configuration has a fault"
-            }
-            MaintenanceCause::Moved => "it was marked, or its configuration has a fault",
-        }
-    }
 }
 
 /// A row that a trail shows.

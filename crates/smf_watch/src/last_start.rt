@@ -1,8 +1,9 @@
 //! How the last start of an instance ended.
 
-ghost use Rattle.smf_watch.specs.LastStart.{failed_for_good, fails_for_good, is_final, is_final_by, is_final_of, is_start_by, is_start_of, last_start, newer};
+ghost use Rattle.smf_watch.specs.LastStart.{code_in, code_of, failed_for_good, fails_for_good, final_code, final_code_by, is_final, is_final_by, is_final_of, is_start_by, is_start_of, last_start, newer};
 ghost use Rattle.std.specs.List.{list_any};
-ghost use Rattle.std.specs.Prelude.{◌≡◌, None};
+ghost use Rattle.std.specs.Option.{option_copied};
+ghost use Rattle.std.specs.Prelude.{◌≡◌, None, find};
 
 use smf_contract::{Contract, ContractEvent, ContractTable, Cookie, EventKind, Exit, Method};
 use smf_fmri::Number;
@@ -89,4 +90,45 @@ pub(crate) fn failed_for_good(table: &ContractTable, instance: u64) -> bool
     ensures { result ≡ failed_for_good table.now.table instance }
 {
     fails_for_good(table.events(), last_start(table.contracts(), instance))
+}
+
+fn code_of(kind: EventKind) -> Option<u8>
+    ensures { result ≡ code_of kind }
+{
+    match kind {
+        EventKind::Exit(_, Exit::Code(code)) => Some(code),
+        _ => None,
+    }
+}
+
+fn code_in(event: Option<&ContractEvent>) -> Option<u8>
+    ensures { result ≡ code_in (option_copied event.entry) }
+{
+    match event {
+        None => None,
+        Some(event) => code_of(event.kind),
+    }
+}
+
+fn final_event<'a>(events: &'a [ContractEvent], contract: &Contract) -> Option<&'a ContractEvent>
+    ensures { option_copied result ≡ find (is_final_of contract.now) events.now }
+{
+    events.iter().find(|event| is_final_of(contract, event))
+}
+
+fn final_code_by(events: &[ContractEvent], contract: Option<Contract>) -> Option<u8>
+    ensures { result ≡ final_code_by events.now contract }
+{
+    match contract {
+        None => None,
+        Some(contract) => code_in(final_event(events, &contract)),
+    }
+}
+
+/// The code by which the last start of an instance ended, if no further start would succeed after it.
+#[tactic(auto, unfolding(crate::specs::LastStart::final_code))]
+pub(crate) fn final_code(table: &ContractTable, instance: u64) -> Option<u8>
+    ensures { result ≡ final_code table.now.table instance }
+{
+    final_code_by(table.events(), last_start(table.contracts(), instance))
 }

@@ -3,9 +3,10 @@
 //! scripts.
 //! Modules: `ask` (the next ask), `desk` (requests and replies), `timer` (the clock), `chronicle` (what is told of what
 //! happened); `child_events` (the events of children), `watch` (methods that may take too long); `bounds` (how often
-//! instances may end), `ends` (ends of instances that nobody asked for), `causes` (why instances are in maintenance),
-//! `last_start` (how starts ended), `retries` (instances that are tried again), `troubles` (looks at all of this),
-//! `remedies` (instances that are marked or cleared); `size` (how much has happened), `terms` (how contracts are kept).
+//! instances may end), `ends` (ends of instances that nobody asked for), `causes` (why instances are in maintenance, by what
+//! a trail shows), `last_start` (how starts ended), `retries` (instances that are tried again), `troubles` (looks at all of
+//! this), `remedies` (instances that are marked or cleared), `maintenance` (why instances are in maintenance, by all that is
+//! known); `size` (how much has happened), `terms` (how contracts are kept).
 #![tactic(auto)]
 
 mod ask;
@@ -16,6 +17,7 @@ mod chronicle;
 mod desk;
 mod ends;
 mod last_start;
+mod maintenance;
 mod remedies;
 mod retries;
 mod size;
@@ -31,6 +33,7 @@ pub use child_events::hear_all;
 pub use chronicle::{Chronicle, ItemCount};
 pub use desk::Desk;
 pub use ends::End;
+pub use maintenance::{MaintenanceReason, push_reason, reason_of};
 pub use remedies::{Remedy, lines_of, remedy_all};
 pub use retries::{Plan, Retry, RetryStage, plans_of};
 pub use size::{Size, is_same, size_of};

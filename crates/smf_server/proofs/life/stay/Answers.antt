@@ -16,9 +16,8 @@ loop-preserved g c = (
   goes_on g.K.Kids.skills _ _ _ _ _ c.turn-onward.result.onward c.turn-onward.result.fault _ _ _ _ _ _ _ _ _ _ _ _ _ _
       c.loop.invariant.0 c.in-Goes.is c.turn-onward.ensures.turned
       c.turn-onward.ensures.agrees
-      (c.tell_plans.ensures ∙
-      (rw c.trail-told.ensures.shown at rw c.trail-in-Goes.ensures.shown at rw c.items_after.ensures at
-      c.tell-in-Goes.ensures))
+      (rw c.trail-told.ensures.shown at rw c.trail-in-Goes.ensures.shown at rw c.items_after-items.ensures at
+      c.tell-in-Goes.ensures)
       c.conclude-last.ensures.concluded c.conclude-last.ensures.agrees,
   (
     leads_on _ c.turn-onward.result.fault _ _ _ _ _ _ _ c.loop.invariant.1.0 c.turn-onward.ensures.later c.conclude-last.ensures.concluded,

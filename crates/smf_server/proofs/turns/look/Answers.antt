@@ -1,7 +1,7 @@
 use Rattle.std.proofs.Common.{ap, inl, inr, refl}
 use Rattle.smf_edge.specs.Answers.{children_state}
 use Rattle.smf_node.specs.Rounds.{at, course}
-use Rattle.smf_server.specs.Turns.{between, remedies_at}
+use Rattle.smf_server.specs.Turns.{between}
 use Rattle.smf_server.proofs.Marked.{remedied_agree, some_agree}
 use Rattle.smf_server.proofs.Watching.{still_same, still_self}
 use Rattle.smf_watch.proofs.FaultExits.{passed_on}
