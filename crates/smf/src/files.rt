@@ -1,12 +1,14 @@
 // Scripts, questions and lines of svccfg over the database in a file.
 use smf_edge::TableKids;
+use smf_fmri::{Items, Text};
 use smf_host::{Database, read_files};
 use smf_lines::{LineReader, NotedReader};
-use smf_program::{tell_no_database, tell_no_input};
-use smf_serve::{Closed, check_copy, serve_cfg_file, serve_copy, why_copy};
+use smf_program::{tell_no_database, tell_no_input, tell_no_memory};
+use smf_serve::{Closed, check_copy, programs_copy, serve_cfg_file, serve_copy, why_copy};
+use std::alloc::AllocError;
 use std::fs::File;
-use std::io;
 use std::io::BufReader;
+use std::{fs, io};
 
 /// Does a script over a copy in memory of the database in a file, with processes that a contract table simulates. No
 /// file is written.
@@ -47,14 +49,41 @@ pub(crate) fn why_over(rt: &HostRuntime, database: &str, words: &[&str]) -> u8 {
     }
 }
 
-/// Tells what is wrong of the instances that the database in a file has. No file is written.
+/// False only if the system says that a file is not there.
+fn may_be_there(rt: &HostRuntime, path: &str) -> bool {
+    fs::exists(rt, path).unwrap_or(true)
+}
+
+/// Those of some programs that are not there.
+fn missing_of(rt: &HostRuntime, programs: &[Text]) -> Result<Items<Text>, AllocError> {
+    let mut missing = Items::new(rt.alloc());
+    for program in programs {
+        if !may_be_there(rt, program.as_str()) {
+            missing.push(program.clone()?)?;
+        }
+    }
+    Ok(missing)
+}
+
+/// Tells what is wrong of the instances that the database in a file has, and what is likely a mistake. No file is
+/// written.
 pub(crate) fn check_over(rt: &HostRuntime, database: &str) -> u8 {
+    let alloc = rt.alloc();
     let mut errors = rt.stderr();
     let found = match read_files(rt, database) {
         Ok(found) => found,
         Err(fault) => return tell_no_database(&mut errors, &fault),
     };
-    match check_copy(rt.alloc(), &found, &mut io::writer(rt), &mut errors) {
+    let programs = match programs_copy(alloc, &found, &mut errors) {
+        Ok(Some(programs)) => programs,
+        Ok(None) => return 3,
+        Err(fault) => return tell_no_database(&mut errors, &fault),
+    };
+    let Ok(missing) = missing_of(rt, programs.as_slice()) else {
+        return tell_no_memory(&mut errors);
+    };
+    let missing = missing.as_slice();
+    match check_copy(alloc, &found, missing, &mut io::writer(rt), &mut errors) {
         Ok(status) => status,
         Err(fault) => tell_no_database(&mut errors, &fault),
     }

@@ -5,3 +5,4 @@ pub mod Excused
 pub mod Asked
 pub mod Taken
 pub mod Unlike
+mod Programs

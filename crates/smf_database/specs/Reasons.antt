@@ -1,5 +1,5 @@
 -- The texts that say why instances of a database do not run, and what is wrong of them.
-use Rattle.std.specs.Prelude.{◌≡◌, ◌⊎◌, ◌==◌, ℕ, List, [], ◌∷◌, Bool, true, false, codes, filter, flat_map, if◌then◌else◌, length, map, Option, option_map}
+use Rattle.std.specs.Prelude.{◌≡◌, ◌⊎◌, ◌==◌, ℕ, List, [], ◌∷◌, ◌++◌, Bool, true, false, codes, filter, flat_map, if◌then◌else◌, length, map, Option, option_map}
 use Rattle.std.specs.Io.KnownBytes.{Appends}
 use Rattle.std.specs.List.{AllZip}
 use Rattle.std_io.specs.declared.io.error.Error.{Error}
@@ -14,11 +14,14 @@ use Rattle.smf_model.specs.Contents.{Holdings}
 use Rattle.smf_model.specs.Next.{current_instance}
 use Rattle.smf_model.specs.GeneralGroup.{service_owner}
 use Rattle.smf_model.specs.Shown.{view}
+use Rattle.smf_dep.specs.Members.{members}
 use Rattle.smf_reasons.specs.Flaws.{IsChecked}
 use Rattle.smf_reasons.specs.Reasons.{IsTold}
 use Rattle.smf_reasons.specs.Texts.{check_text_of, text_of}
+use Rattle.smf_reasons.specs.ViewHints.{hint_text, programs_of}
 use Rattle.smf_reasons.specs.declared.reason.Told.{Told}
 use Rattle.smf_database.specs.declared.questions.Answer.{Answer}
+use Rattle.smf_database.specs.declared.questions.Checked.{Checked}
 use Rattle.smf_database.specs.Unrefreshed.{noted_all, taken_of}
 use Rattle.smf_snap.specs.Body.{spelled_both}
 use Rattle.smf_state.specs.declared.view.View.{View}
@@ -107,16 +110,29 @@ pub record AreFound (v : View) (text : List ℕ) : Type 0 where
 abbrev pub status_of : List ℕ → ℕ
 status_of text = if length text == 0 then 0 else 1
 
--- the flaws of each instance of a value were written, and the status says if there are any
-pub record AreChecked (h : Holdings) (old new : Option (List ℕ)) (status : ℕ) : Type 0 where
-  pub text : List ℕ
-  pub found : AreFound (view_after_refresh h) text
-  pub written : Appends old new text
-  pub says : status ≡ status_of text
+-- the flaws of a view, and behind them its hints if these programs are missing. The status says if there are flaws
+pub record IsCheckText (v : View) (missing : List (List ℕ)) (c : Checked) : Type 0 where
+  pub flaws : List ℕ
+  pub found : AreFound v flaws
+  pub text : c.text ≡ flaws ++ hint_text missing (members v.items)
+  pub says : c.status ≡ status_of flaws
+
+-- those of a value were written
+pub record AreChecked (h : Holdings) (missing : List (List ℕ)) (old new : Option (List ℕ)) (status : ℕ) : Type 0 where
+  pub checked : Checked
+  pub is : IsCheckText (view_after_refresh h) missing checked
+  pub written : Appends old new checked.text
+  pub says : status ≡ checked.status
 
 -- that of what a database was opened with
-pub record IsInspected {S : Type 0} (g : Ghosts S) (conn : Held S) (old new : Option (List ℕ))
+pub record IsInspected {S : Type 0} (g : Ghosts S) (conn : Held S) (missing : List (List ℕ)) (old new : Option (List ℕ))
     (status : ℕ) : Type 0 where
   pub held : Holdings
   pub opened : IsOpenedAs g conn held
-  pub flaws : AreChecked held old new status
+  pub flaws : AreChecked held missing old new status
+
+-- the programs of the methods of what a database was opened with
+pub record ArePrograms {S : Type 0} (g : Ghosts S) (conn : Held S) (programs : List (List ℕ)) : Type 0 where
+  pub held : Holdings
+  pub opened : IsOpenedAs g conn held
+  pub all : programs ≡ programs_of (members (view_after_refresh held).items)

@@ -1,13 +1,14 @@
-ghost use Rattle.std.specs.Prelude.{◌≡◌, ◌≢◌, IfErr, IfOk, IsTrue, OnErr, map};
+ghost use Rattle.std.specs.Prelude.{◌≡◌, ◌≢◌, IfErr, IfNone, IfOk, IfSome, IsTrue, OnErr, OnSome, map};
 ghost use Rattle.sqlite.specs.Files.{IsOpened, file_state, image_of, over_files};
 ghost use Rattle.sqlite.specs.Held.{IsNew};
 ghost use Rattle.sqlite.specs.Start.{FindsIn};
 ghost use Rattle.sqlite.specs.State.{HasCleanDisk};
 ghost use Rattle.sqlite_disk.specs.Memory.{memory_bytes, memory_is_usable};
 ghost use Rattle.smf_database.specs.Copies.{IsOverCopy, IsUncopied, IsUnopened, image_in};
-ghost use Rattle.smf_database.specs.Reasons.{IsAnswered, IsExcused, IsInspected};
+ghost use Rattle.smf_database.specs.Reasons.{ArePrograms, IsAnswered, IsExcused, IsInspected};
 
-use crate::questions::{check, why};
+use crate::questions::{check, programs, why};
+use smf_fmri::{Items, Text};
 use smf_lines::TextWriter;
 use smf_store::FileBytes;
 use sqlite::{Connection, Error, ErrorCode, Options};
@@ -102,17 +103,42 @@ pub fn why_copy<W: TextWriter, E: TextWriter>(
     }
 }
 
+/// Opens a copy in memory of the database that these bytes hold. Gives the programs of the methods of its instances, for
+/// whoever looks which of them are there. It gives none for a fault, which is told.
+pub fn programs_copy<E: TextWriter>(
+    alloc: Global,
+    found: &FileBytes,
+    errors: &mut E,
+) -> Result<Option<Items<Text>>, Error>
+    ensures found { IfOk result (λ found_or_none. IfSome found_or_none
+        (λ programs. IsOverCopy ⟦<Memory as Disk>⟧ (image_in found.now)
+        (λ conn after. ArePrograms over_files conn programs))) }
+    ensures quiet { IfOk result (λ found_or_none. OnSome found_or_none
+        (E.contents errors.new ≡ E.contents errors.old)) }
+    ensures fault { IfOk result (λ found_or_none. IfNone found_or_none
+        (IsExcused E.write_fails (E.contents errors.old) (E.contents errors.new))) }
+    ensures err { IfErr result (λ fault. IsUncopied ⟦<Memory as Disk>⟧ (image_in found.now) fault) }
+    ensures silent { OnErr result (E.contents errors.new ≡ E.contents errors.old) }
+{
+    match open_copy(alloc, found) {
+        Ok(conn) => Ok(programs(alloc, conn, errors)),
+        Err(fault) => Err(fault),
+    }
+}
+
 /// Opens a copy in memory of the database that these bytes hold. Writes what is wrong of each of its instances, enabled
-/// or not, before it is started. The status is 0, 1 if something was written, or 3 for a fault.
+/// or not, before it is started, and then what is likely a mistake; `missing` has the programs of methods that are not
+/// there. The status is 0, 1 if an instance has a flaw, or 3 for a fault.
 pub fn check_copy<W: TextWriter, E: TextWriter>(
     alloc: Global,
     found: &FileBytes,
+    missing: &[Text],
     writer: &mut W,
     errors: &mut E,
 ) -> Result<u8, Error>
     ensures ok { IfOk result (λ status. status ≢ 3
         → IsOverCopy ⟦<Memory as Disk>⟧ (image_in found.now)
-        (λ conn after. IsInspected over_files conn (W.contents writer.old) (W.contents writer.new) status)) }
+        (λ conn after. IsInspected over_files conn missing.now (W.contents writer.old) (W.contents writer.new) status)) }
     ensures fault { IfOk result (λ status. status ≡ 3
         → IsExcused E.write_fails (E.contents errors.old) (E.contents errors.new)) }
     ensures quiet { IfOk result (λ status. status ≢ 3 → (E.contents errors.new ≡ E.contents errors.old)) }
@@ -121,7 +147,7 @@ pub fn check_copy<W: TextWriter, E: TextWriter>(
         × (E.contents errors.new ≡ E.contents errors.old)) }
 {
     match open_copy(alloc, found) {
-        Ok(conn) => Ok(check(alloc, conn, writer, errors)),
+        Ok(conn) => Ok(check(alloc, conn, missing, writer, errors)),
         Err(fault) => Err(fault),
     }
 }

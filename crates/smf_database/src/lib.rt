@@ -18,7 +18,7 @@ mod unrefreshed;
 
 pub use cfg::{serve_cfg, serve_cfg_file};
 pub use configured::a_check_sees_what_a_refresh_takes;
-pub use copies::{check_copy, open_copy, why_copy};
+pub use copies::{check_copy, open_copy, programs_copy, why_copy};
 pub use database_close::{a_closed_file_holds_what_was_left, close};
 pub use fault_texts::tell_open;
 pub use served::{Closed, Served};

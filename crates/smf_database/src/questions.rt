@@ -1,5 +1,7 @@
-ghost use Rattle.std.specs.Prelude.{◌≡◌, ◌≢◌, IfOk, OnErr, map};
-ghost use Rattle.smf_database.specs.Reasons.{AreChecked, AreFound, AreTold, AreWritten, IsAnswer, IsAnswered, IsExcused, IsInspected, IsNoted, IsWritten, view_after_refresh, status_of};
+ghost use Rattle.std.specs.Prelude.{◌≡◌, ◌≢◌, ◌++◌, IfNone, IfOk, IfSome, None, Ok, OnErr, OnSome, map};
+ghost use Rattle.smf_dep.specs.Members.{members};
+ghost use Rattle.smf_reasons.specs.ViewHints.{programs_of};
+ghost use Rattle.smf_database.specs.Reasons.{AreChecked, AreFound, ArePrograms, AreTold, AreWritten, IsCheckText, IsAnswer, IsAnswered, IsExcused, IsInspected, IsNoted, IsWritten, view_after_refresh, status_of};
 ghost use Rattle.smf_model.specs.Shown.{view as view_of};
 
 use crate::configured::view_after_refresh;
@@ -7,12 +9,12 @@ use crate::fault_texts::tell_open;
 use crate::patterns::{missed_text, reasons_by_words, texts_of, words_without_match};
 use crate::unrefreshed::noted_all;
 use smf_cfg::tell;
-use smf_fmri::Text;
+use smf_fmri::{Items, Text};
 use smf_lines::TextWriter;
 use smf_model::{Journal, Plain};
-use smf_reasons::{check_text_of, text_of};
+use smf_reasons::{check_text_of, hint_text, programs_of, text_of};
 use smf_state::View;
-use smf_store::open_repository;
+use smf_store::{OpenFault, open_repository};
 use sqlite::{Alter, Connection};
 use std::alloc::{AllocError, Global};
 
@@ -23,6 +25,13 @@ struct Answer {
     /// The lines about words that match no instance.
     missed: Text,
     all_matched: bool,
+}
+
+/// What a check prints, and its status.
+#[derive(Drop)]
+struct Checked {
+    text: Text,
+    status: u8,
 }
 
 /// Why a text was not written.
@@ -176,12 +185,38 @@ fn flaws(alloc: Global, view: &View) -> Result<Text, AllocError>
     check_text_of(alloc, all.as_slice())
 }
 
+/// Flaws, and behind them hints.
+fn joined(alloc: Global, flaws: &Text, hints: &Text) -> Result<Text, AllocError>
+    ensures { IfOk result (λ text. text ≡ flaws.now ++ hints.now) }
+{
+    let mut text = String::from_str(alloc, flaws.as_str())?;
+    text.push_str(hints.as_str())?;
+    Ok(Text::from_string(text))
+}
+
+/// What a check prints of a view, and the status that its flaws give.
+fn check_view(alloc: Global, view: &View, missing: &[Text]) -> Result<Checked, AllocError>
+    ensures { IfOk result (IsCheckText view.now missing.now) }
+{
+    let flaws = flaws(alloc, view)?;
+    let hints = hint_text(alloc, view, missing)?;
+    let text = joined(alloc, &flaws, &hints)?;
+    Ok(Checked {
+        text,
+        status: status_of(flaws.as_str()),
+    })
+}
+
 /// The same of what a repository holds, as it would be after a refresh.
-fn flaws_of<J: Journal>(alloc: Global, repository: &Plain<J>) -> Result<Text, AllocError>
-    ensures { IfOk result (AreFound (view_after_refresh repository.now.held)) }
+fn checked_of<J: Journal>(
+    alloc: Global,
+    repository: &Plain<J>,
+    missing: &[Text],
+) -> Result<Checked, AllocError>
+    ensures { IfOk result (IsCheckText (view_after_refresh repository.now.held) missing.now) }
 {
     let view = view_after_refresh(alloc, repository)?;
-    flaws(alloc, &view)
+    check_view(alloc, &view, missing)
 }
 
 fn status_of(text: &str) -> u8
@@ -194,36 +229,39 @@ fn status_of(text: &str) -> u8
 fn write_flaws<J: Journal, W: TextWriter>(
     alloc: Global,
     repository: &Plain<J>,
+    missing: &[Text],
     writer: &mut W,
 ) -> Result<u8, Unwritten>
     ensures status { IfOk result (λ status. status ≢ 3) }
     ensures written { IfOk result
-        (λ status. AreChecked repository.now.held (W.contents writer.old) (W.contents writer.new) status) }
+        (λ status. AreChecked repository.now.held missing.now (W.contents writer.old) (W.contents writer.new) status) }
 {
-    let Ok(text) = flaws_of(alloc, repository) else {
+    let Ok(found) = checked_of(alloc, repository, missing) else {
         return Err(Unwritten::Memory);
     };
-    match writer.write_text(text.as_str().as_bytes()) {
-        Ok(()) => Ok(status_of(text.as_str())),
+    match writer.write_text(found.text.as_str().as_bytes()) {
+        Ok(()) => Ok(found.status),
         Err(_) => Err(Unwritten::Output),
     }
 }
 
-/// Writes what is wrong of each instance that a database has, enabled or not, before it is started. The status is 0, 1
-/// if something was written, or 3 for a fault.
+/// Writes what is wrong of each instance that a database has, enabled or not, before it is started, and then what is
+/// likely a mistake. The status is 0, 1 if an instance has a flaw, or 3 for a fault.
 pub(crate) fn check<S: Alter + Drop, W: TextWriter, E: TextWriter>(
     alloc: Global,
     conn: Connection<S>,
+    missing: &[Text],
     writer: &mut W,
     errors: &mut E,
 ) -> u8
-    ensures ok { result ≢ 3 → IsInspected S.Store conn (W.contents writer.old) (W.contents writer.new) result }
+    ensures ok { result ≢ 3
+        → IsInspected S.Store conn missing.now (W.contents writer.old) (W.contents writer.new) result }
     ensures fault { result ≡ 3 → IsExcused E.write_fails (E.contents errors.old) (E.contents errors.new) }
     ensures silent { result ≢ 3 → (E.contents errors.new ≡ E.contents errors.old) }
 {
     match open_repository(alloc, conn) {
         Ok(repository) => {
-            let written = write_flaws(alloc, &repository, writer);
+            let written = write_flaws(alloc, &repository, missing, writer);
             let _conn = repository.into_journal().release();
             match written {
                 Ok(status) => status,
@@ -231,5 +269,66 @@ pub(crate) fn check<S: Alter + Drop, W: TextWriter, E: TextWriter>(
             }
         }
         Err((fault, _conn)) => tell_open(alloc, errors, &fault),
+    }
+}
+
+/// The programs of the methods in a repository, as they would be after a refresh.
+fn programs_in<J: Journal>(alloc: Global, repository: &Plain<J>) -> Result<Items<Text>, AllocError>
+    ensures { IfOk result
+        (λ programs. programs ≡ programs_of (members (view_after_refresh repository.now.held).items)) }
+{
+    let view = view_after_refresh(alloc, repository)?;
+    programs_of(alloc, &view)
+}
+
+/// Tells why a store was not opened, which gives no programs.
+#[tactic(auto, using(crate::proofs::Excused::open_excused))]
+fn tell_unopened<E: TextWriter>(
+    alloc: Global,
+    errors: &mut E,
+    fault: &OpenFault,
+) -> Option<Items<Text>>
+    ensures none { result ≡ None }
+    ensures told { IsExcused E.write_fails (E.contents errors.old) (E.contents errors.new) }
+{
+    let _status = tell_open(alloc, errors, fault);
+    None
+}
+
+/// The programs that were found, or none if memory ran out, which is told.
+fn found_or_told<E: TextWriter>(
+    errors: &mut E,
+    found: Result<Items<Text>, AllocError>,
+) -> Option<Items<Text>>
+    ensures found { IfSome result (λ programs. found ≡ Ok programs) }
+    ensures quiet { OnSome result (E.contents errors.new ≡ E.contents errors.old) }
+    ensures fault { IfNone result (IsExcused E.write_fails (E.contents errors.old) (E.contents errors.new)) }
+{
+    match found {
+        Ok(programs) => Some(programs),
+        Err(_) => {
+            let _status = excuse(errors, Unwritten::Memory);
+            None
+        }
+    }
+}
+
+/// The programs of the methods in a database, or none if that can't be said, which is told.
+pub(crate) fn programs<S: Alter + Drop, E: TextWriter>(
+    alloc: Global,
+    conn: Connection<S>,
+    errors: &mut E,
+) -> Option<Items<Text>>
+    ensures found { IfSome result (ArePrograms S.Store conn) }
+    ensures quiet { OnSome result (E.contents errors.new ≡ E.contents errors.old) }
+    ensures fault { IfNone result (IsExcused E.write_fails (E.contents errors.old) (E.contents errors.new)) }
+{
+    match open_repository(alloc, conn) {
+        Ok(repository) => {
+            let found = programs_in(alloc, &repository);
+            let _conn = repository.into_journal().release();
+            found_or_told(errors, found)
+        }
+        Err((fault, _conn)) => tell_unopened(alloc, errors, &fault),
     }
 }

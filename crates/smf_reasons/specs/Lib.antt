@@ -4,3 +4,6 @@ pub mod Sights
 pub mod Flaws
 pub mod Claims
 pub mod Texts
+pub mod Hints
+pub mod ViewHints
+pub mod HintExamples

@@ -16,5 +16,5 @@ pub use sim::serve_sim;
 pub use smf_cfg::tell;
 pub use smf_database::{
     Closed, Served, a_check_sees_what_a_refresh_takes, a_closed_file_holds_what_was_left,
-    check_copy, serve_cfg, serve_cfg_file, why_copy,
+    check_copy, programs_copy, serve_cfg, serve_cfg_file, why_copy,
 };
