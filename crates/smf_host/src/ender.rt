@@ -1,11 +1,12 @@
 // How contracts are ended and logs are renamed, as a file in their folder has it.
 use crate::contracts::write_whole;
-use smf_watch::{Ender, LogLimit, Stop, Term};
+use smf_watch::{Ender, LogLimit, Stop, Term, UntimedMethods};
 use std::alloc::{AllocError, Global};
 use std::io;
 use std::rt::HostRuntime;
 
-/// A file in the folder of contracts, by which `smf_hold` knows how they are ended and when logs are renamed.
+/// A file in the folder of contracts, by which `smf_hold` knows how they are ended, when logs are renamed, and which methods
+/// name no time-out.
 #[derive(Drop)]
 pub struct FileEnder<'a> {
     rt: &'a HostRuntime,
@@ -46,6 +47,25 @@ fn log_line(alloc: Global, limit: &LogLimit) -> Result<String, AllocError> {
     Ok(line)
 }
 
+/// The instance, `untimed`, and the methods that name no time-out; nothing, if each names one.
+fn untimed_line(alloc: Global, methods: &UntimedMethods) -> Result<String, AllocError> {
+    if !methods.start && !methods.stop && !methods.refresh {
+        return Ok(String::new(alloc));
+    }
+    let mut line = format!(in alloc; "{} untimed", methods.instance)?;
+    if methods.start {
+        line.push_str(" start")?;
+    }
+    if methods.stop {
+        line.push_str(" stop")?;
+    }
+    if methods.refresh {
+        line.push_str(" refresh")?;
+    }
+    line.push_str("\n")?;
+    Ok(line)
+}
+
 /// A line for each.
 fn lines_of(alloc: Global, terms: &[Term]) -> Result<String, AllocError> {
     let mut text = String::new(alloc);
@@ -53,6 +73,7 @@ fn lines_of(alloc: Global, terms: &[Term]) -> Result<String, AllocError> {
         let line = match term {
             Term::Stops(stop) => stop_line(alloc, stop)?,
             Term::Logs(limit) => log_line(alloc, limit)?,
+            Term::Untimed(methods) => untimed_line(alloc, methods)?,
         };
         text.push_str(line.as_str())?;
     }

@@ -243,6 +243,7 @@ impl<R: Processes + Env + Files<File = File> + Clock + AllocGlobal + Clone + Dro
         pass_variable(&self.rt, &mut program, "SMF_PATIENCE")?;
         pass_variable(&self.rt, &mut program, "SMF_LOG_MAX")?;
         pass_variable(&self.rt, &mut program, "SMF_LOG_KEEP")?;
+        pass_variable(&self.rt, &mut program, "SMF_METHOD_TIMEOUT")?;
         program.stdin(Stdio::null());
         program.stdout(self.output);
         program.stderr(self.output);

@@ -1,6 +1,6 @@
 -- What whoever keeps contracts is told of an instance: how what its start method began is ended, if the stop method is
--- `:kill`, and when its log is renamed.
-use Rattle.std.specs.Prelude.{ℕ, not, nat_eq, List, [], ◌∷◌, ◌++◌, Bool, true, false, Option, Some, None, option_map, codes, if◌then◌else◌}
+-- `:kill`, when its log is renamed, and which of its methods name no time-out.
+use Rattle.std.specs.Prelude.{ℕ, ◌&&◌, not, nat_eq, List, [], ◌∷◌, ◌++◌, Bool, true, false, Option, Some, None, is_none, is_some, option_map, codes, if◌then◌else◌}
 use Rattle.std.specs.Cmp.Lexicographic.{pointwise}
 use Rattle.smf_fmri.specs.Name.{strip}
 use Rattle.smf_method.specs.Commands.{is_signal}
@@ -17,7 +17,7 @@ use Rattle.smf_value.specs.Groups.{GroupRecord, PropertyRecord, property_of, tex
 use Rattle.smf_value.specs.declared.value.Value.{Value}
 use Rattle.smf_value.specs.declared.value.Value.TheVariants.{Count}
 use Rattle.smf_watch.specs.declared.terms.Term.{Term}
-use Rattle.smf_watch.specs.declared.terms.Term.TheVariants.{Stops, Logs}
+use Rattle.smf_watch.specs.declared.terms.Term.TheVariants.{Stops, Logs, Untimed}
 use Rattle.smf_watch.specs.Sizes.{is_same}
 use Rattle.smf_watch.specs.declared.size.Size.{Size}
 
@@ -75,10 +75,29 @@ log_in i None = []
 log_in i (Some g) =
     log_by i (count_in (property_of (codes "log_max") g)) (count_in (property_of (codes "log_keep") g)) ∷ []
 
+-- ---- a method that names no time-out
+
+-- it has a command; a time-out of 0, which is none, is named
+abbrev pub is_untimed : Option GroupRecord → Bool
+is_untimed None = false
+is_untimed (Some g) =
+    is_some (text_in (property_of (codes "exec") g)) && is_none (property_of (codes "timeout_seconds") g)
+
+-- each method by its group; the start of a child service has succeeded when its process is there
+abbrev pub untimed_in : Instance → Option Snapshot → Term
+untimed_in i s =
+    Untimed (record {
+      instance = i.name;
+      start = not (is_child i.row.duration) && is_untimed (composed_in (codes "start") s);
+      stop = is_untimed (composed_in (codes "stop") s);
+      refresh = is_untimed (composed_in (codes "refresh") s);
+    })
+
 -- ---- all instances
 
 abbrev pub terms_by : Instance → Option Snapshot → List Term
-terms_by i s = stop_in i (composed_in (codes "stop") s) ++ log_in i (composed_in (codes "startd") s)
+terms_by i s =
+    (stop_in i (composed_in (codes "stop") s) ++ log_in i (composed_in (codes "startd") s)) ++ untimed_in i s ∷ []
 
 -- each by its running snapshot
 abbrev pub terms_among : Holdings → List InstanceEntry → List Term

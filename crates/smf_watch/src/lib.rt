@@ -37,7 +37,7 @@ pub use maintenance::{MaintenanceReason, push_reason, reason_of};
 pub use remedies::{Remedy, lines_of, remedy_all};
 pub use retries::{Plan, Retry, RetryStage, plans_of};
 pub use size::{Size, is_same, size_of};
-pub use terms::{Ender, LogLimit, Noted, Stop, Term};
+pub use terms::{Ender, LogLimit, Noted, Stop, Term, UntimedMethods};
 pub use timer::Timer;
 pub use troubles::{Found, Troubles};
 pub use watch::{Due, Timed, Watch};

@@ -2,7 +2,7 @@ ghost use Rattle.smf_method.specs.Commands.{is_signal, is_signal_byte};
 ghost use Rattle.smf_method.specs.Properties.{timeout_by, timeout_in};
 ghost use Rattle.smf_model.specs.Next.{named_snapshot};
 ghost use Rattle.smf_watch.specs.Sizes.{size_of};
-ghost use Rattle.smf_watch.specs.Terms.{count_by, count_in, is_child, is_new, composed_in, log_by, log_in, named_stop, stop_by, stop_in, term_lists_if, terms_among, terms_by, terms_of, timed_stop};
+ghost use Rattle.smf_watch.specs.Terms.{count_by, count_in, is_child, is_new, composed_in, log_by, log_in, named_stop, stop_by, stop_in, is_untimed, term_lists_if, terms_among, terms_by, terms_of, timed_stop, untimed_in};
 ghost use Rattle.std.specs.List.{list_all};
 ghost use Rattle.std.specs.Option.{option_copied};
 ghost use Rattle.std.specs.Prelude.{◌≡◌, ◌++◌, IfOk, OnErr, OnOk, Some};
@@ -39,11 +39,23 @@ pub struct LogLimit {
     pub kept: Option<u64>,
 }
 
+/// The methods of an instance that have a command and name no time-out, by its running snapshot. One of 0 seconds, which is
+/// none, is named.
+#[derive(Drop)]
+pub struct UntimedMethods {
+    pub instance: InstanceFmri,
+    /// False for a child service, whose start has succeeded when its process is there.
+    pub start: bool,
+    pub stop: bool,
+    pub refresh: bool,
+}
+
 /// What an instance says of itself to whoever keeps its contracts.
 #[derive(Drop)]
 pub enum Term {
     Stops(Stop),
     Logs(LogLimit),
+    Untimed(UntimedMethods),
 }
 
 /// Whoever keeps contracts, ends them and writes their logs.
@@ -54,7 +66,8 @@ pub trait Ender {
     /// All that was told, the first first, if that is known.
     ghost told: { Self → Option (List (List Term)) };
 
-    /// From now on what start methods began is ended so, and all else by TERM; and logs are renamed so.
+    /// From now on what start methods began is ended so, and all else by TERM; logs are renamed so; and these methods name
+    /// no time-out.
     fn keep_by(&mut self, terms: &[Term])
         ensures { told self.new ≡ term_lists_if true terms.now (told self.old) };
 }
@@ -278,6 +291,33 @@ fn push_log_in(
     }
 }
 
+/// True if a method has a command, and names no time-out.
+fn is_untimed(group: Option<&Group>) -> bool
+    ensures { result ≡ is_untimed (option_copied group.entry) }
+{
+    match group {
+        None => false,
+        Some(group) => group.text("exec").is_some() && group.find("timeout_seconds").is_none(),
+    }
+}
+
+/// The methods of an instance that name no time-out.
+fn untimed_in(instance: &Instance, snapshot: Option<&Snapshot>) -> Result<Term, AllocError>
+    ensures { IfOk result (λ term. term ≡ untimed_in instance.now (option_copied snapshot.entry)) }
+{
+    let is_child = is_child(instance.row.duration);
+    let start = !is_child && is_untimed(composed_in("start", snapshot));
+    let stop = is_untimed(composed_in("stop", snapshot));
+    let refresh = is_untimed(composed_in("refresh", snapshot));
+    let name = instance.name.clone()?;
+    Ok(Term::Untimed(UntimedMethods {
+        instance: name,
+        start,
+        stop,
+        refresh,
+    }))
+}
+
 /// A composed group of a snapshot, if there is a snapshot.
 pub(crate) fn composed_in<'a>(name: &str, snapshot: Option<&'a Snapshot>) -> Option<&'a Group>
     ensures { option_copied result ≡ composed_in name.now (option_copied snapshot.entry) }
@@ -312,6 +352,8 @@ fn push_terms(
 {
     push_if_there(alloc, instance, composed_in("stop", snapshot), terms)?;
     push_log_in(instance, composed_in("startd", snapshot), terms)?;
+    let untimed = untimed_in(instance, snapshot)?;
+    terms.push(untimed)?;
     Ok(())
 }
 
@@ -392,8 +434,8 @@ impl Noted {
         Noted { size: None }
     }
 
-    /// Tells how all are ended whose stop method is `:kill`, and when logs are renamed, if anything happened since it was
-    /// told. An error tells nothing.
+    /// Tells how all are ended whose stop method is `:kill`, when logs are renamed, and which methods name no time-out, if
+    /// anything happened since it was told. An error tells nothing.
     pub fn tell<E: Ender, J: Journal>(
         &mut self,
         alloc: Global,
