@@ -1,6 +1,7 @@
 #!/bin/sh
 # install.sh [--unproved] PREFIX   puts smf, smfd, svcs, svcadm, svccfg, graph, manifest2cfg, timeline and unit2cfg, with what they
-#                                  need, smf_exec and smf_ready, which methods find by SMF_LIBEXEC, and all pages, below PREFIX
+#                                  need, smf_exec and smf_ready, which methods find by SMF_LIBEXEC, all pages, and the completion
+#                                  of bash, below PREFIX
 # install.sh --check PREFIX        says what PREFIX/bin/smf is, and fails if it is not the program that was installed there
 # The program is the one that SMF names, or that ./smf would run. It has to be the proved one, which `./smf --prove` or the gate
 # has built of these sources; with --unproved it may be any. The status is 1 if it is refused. What is known of it goes into
@@ -53,3 +54,8 @@ chmod 644 "$prefix/libexec/smf_version"
 for section in 1 7 8; do
     install -m 644 "$top"/man/*."$section" "$prefix/share/man/man$section"
 done
+# bash looks for a file with the name of the program.
+completions=$prefix/share/bash-completion/completions
+install -d "$completions"
+install -m 644 "$top/share/smf.bash" "$completions/smf"
+for program in smfd svcs svcadm svccfg; do ln -sf smf "$completions/$program"; done
