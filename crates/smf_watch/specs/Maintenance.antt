@@ -81,7 +81,7 @@ reason_of h t rs faulty k = reason_of_entry (find (is_entry k.instance) h.instan
 abbrev pub reason_text : MaintenanceReason → List ℕ
 reason_text StartsFailed = codes "method start failed repeatedly"
 reason_text (StartExited code) = codes "method start failed for good, with exit status " ++ decimal code
-reason_text StartFailed = codes "method start failed for good"
+reason_text StartFailed = codes "method start failed"
 reason_text StopFailed = codes "method stop failed"
 reason_text TooQuick = codes "it restarted too quickly"
 reason_text Marked = codes "an administrator marked it"

@@ -13,7 +13,7 @@ use Rattle.smf_state.specs.States.{runs}
 use Rattle.smf_watch.specs.declared.bounds.Bounds.{Bounds}
 use Rattle.smf_watch.specs.declared.causes.KnownRow.{KnownRow}
 use Rattle.smf_watch.specs.declared.causes.MaintenanceCause.{MaintenanceCause}
-use Rattle.smf_watch.specs.declared.causes.MaintenanceCause.TheVariants.{StartsFailed}
+use Rattle.smf_watch.specs.declared.causes.MaintenanceCause.TheVariants.{StartsFailed, StartFailed}
 use Rattle.smf_watch.specs.declared.retries.Plan.{Plan}
 use Rattle.smf_watch.specs.declared.retries.Retry.{Retry}
 use Rattle.smf_watch.specs.declared.retries.RetryStage.{RetryStage}
@@ -49,10 +49,11 @@ tries_of b now (Some r) = if has_run b now r then 0 else r.tries
 
 -- ---- after a row
 
--- one start after another failed
-abbrev pub fails_repeatedly : Option MaintenanceCause → Bool
-fails_repeatedly (Some StartsFailed) = true
-fails_repeatedly _ = false
+-- a start was given up; those that failed before it may have been another server's, and are not counted then
+abbrev pub is_given_up : Option MaintenanceCause → Bool
+is_given_up (Some StartsFailed) = true
+is_given_up (Some StartFailed) = true
+is_given_up _ = false
 
 abbrev pub was_marked : Option Retry → Bool
 was_marked None = false
@@ -92,12 +93,12 @@ retry_if b now (Some r) running = Some (retry_now b now r running)
 
 abbrev pub retry_by : State → Bounds → Duration → Bool → Option Retry → KnownRow → Option Retry
 retry_by Maintenance b now fatal before k =
-    waits_if (was_marked before || (fails_repeatedly k.cause && not fatal)) b now before k
+    waits_if (was_marked before || (is_given_up k.cause && not fatal)) b now before k
 retry_by Disabled b now fatal before k = None
 retry_by s b now fatal before k = retry_if b now before (runs s)
 
 -- After a row that was seen now. An instance is to be tried again if it is in maintenance by the server's own mark, or since
--- one start after another failed and the last did not fail for good
+-- a start was given up that did not fail for good
 abbrev pub retry_after : Bounds → Duration → Bool → Option Retry → KnownRow → Option Retry
 retry_after b now fatal before k = retry_by k.row.state b now fatal before k
 

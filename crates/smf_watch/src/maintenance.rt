@@ -25,7 +25,7 @@ pub enum MaintenanceReason {
     StartsFailed,
     /// Its last start ended with this code, after which no further start would succeed.
     StartExited(u8),
-    /// A start was given up for another reason: it could not be followed.
+    /// A start was given up: it could not be followed, or those that failed before it were another server's.
     StartFailed,
     StopFailed,
     /// The server marked it, since it ended too often.
@@ -176,7 +176,7 @@ pub fn push_reason(text: &mut String, reason: MaintenanceReason) -> Result<(), A
     match reason {
         MaintenanceReason::StartsFailed => text.push_str("method start failed repeatedly"),
         MaintenanceReason::StartExited(code) => push_code(text, code),
-        MaintenanceReason::StartFailed => text.push_str("method start failed for good"),
+        MaintenanceReason::StartFailed => text.push_str("method start failed"),
         MaintenanceReason::StopFailed => text.push_str("method stop failed"),
         MaintenanceReason::TooQuick => text.push_str("it restarted too quickly"),
         MaintenanceReason::Marked => text.push_str("an administrator marked it"),

@@ -1,7 +1,7 @@
 //! Instances that are tried again, as an administrator would who clears them.
 
 ghost use Rattle.smf_watch.specs.Bounds.{bounds_of, is_entry, nanoseconds_in};
-ghost use Rattle.smf_watch.specs.Retries.{any_waits, delay, delay_after, doubled, due_by, fails_repeatedly, has_run, is_due, is_due_by, is_marked, is_other, is_retry_of, is_running, is_unmarked, is_unmarked_row, is_waiting, leads_to_maintenance, least, may_try, next_count, owed, owed_if, passed, plan_of, plans_of, retry_after, retry_now, runs_now, stands_in, sum_of, tried, tried_if, tries_now, tries_of, waits_if, was_marked, with_mark, with_marks, with_retry};
+ghost use Rattle.smf_watch.specs.Retries.{any_waits, delay, delay_after, doubled, due_by, is_given_up, has_run, is_due, is_due_by, is_marked, is_other, is_retry_of, is_running, is_unmarked, is_unmarked_row, is_waiting, leads_to_maintenance, least, may_try, next_count, owed, owed_if, passed, plan_of, plans_of, retry_after, retry_now, runs_now, stands_in, sum_of, tried, tried_if, tries_now, tries_of, waits_if, was_marked, with_mark, with_marks, with_retry};
 ghost use Rattle.std.specs.Option.{option_copied};
 ghost use Rattle.std.specs.Prelude.{◌≡◌, ◌++◌, find, filter, map, option_map, IfOk, OnOk};
 
@@ -101,11 +101,14 @@ fn tries_of(bounds: &Bounds, now: Duration, before: Option<&Retry>) -> u64
 
 // ---- after a row
 
-/// Whether one start after another failed.
-fn fails_repeatedly(cause: Option<MaintenanceCause>) -> bool
-    ensures { result ≡ fails_repeatedly cause }
+/// Whether a start was given up. Those that failed before it may have been another server's, and are not counted then.
+fn is_given_up(cause: Option<MaintenanceCause>) -> bool
+    ensures { result ≡ is_given_up cause }
 {
-    matches!(cause, Some(MaintenanceCause::StartsFailed))
+    matches!(
+        cause,
+        Some(MaintenanceCause::StartsFailed | MaintenanceCause::StartFailed)
+    )
 }
 
 fn was_marked(before: Option<&Retry>) -> bool
@@ -194,7 +197,7 @@ pub(crate) fn retry_after(
 {
     match known.row.state {
         State::Maintenance => waits_if(
-            was_marked(before) || (fails_repeatedly(known.cause) && !fatal),
+            was_marked(before) || (is_given_up(known.cause) && !fatal),
             bounds,
             now,
             before,
