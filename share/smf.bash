@@ -75,7 +75,7 @@ _smf_smf() {
     local word=$1
     shift 2
     case "${1:-} $word" in
-    ' '*) _smf_offer "$word" sim run cfg why check serve --version ;;
+    ' '*) _smf_offer "$word" sim run cfg why check compile serve --version ;;
     'run -'*) _smf_offer "$word" --follow ;;
     'cfg -'*) _smf_offer "$word" -f ;;
     *) _smf_files "$word" ;;

@@ -1,4 +1,5 @@
 // Scripts, questions and lines of svccfg over the database in a file.
+use crate::sites::lines_of_site;
 use smf_edge::TableKids;
 use smf_fmri::{Items, Text};
 use smf_host::{Database, read_files};
@@ -89,10 +90,25 @@ pub(crate) fn check_over(rt: &HostRuntime, database: &str) -> u8 {
     }
 }
 
-/// Does lines of svccfg over the database in a file: those of another file, or of standard input.
+/// True for the name of a file of tables.
+fn is_site(path: &str) -> bool {
+    path.ends_with(".toml")
+}
+
+/// Does the lines that make the services of a file of tables.
+fn site_over(rt: &HostRuntime, site: &str, database: &str) -> u8 {
+    match lines_of_site(rt, site) {
+        Ok(lines) => cfg_of(rt, &mut lines.as_slice(), database),
+        Err(status) => status,
+    }
+}
+
+/// Does lines of svccfg over the database in a file: those of another file, those that make the services of a file of
+/// tables, or those of standard input.
 pub(crate) fn cfg_over(rt: &HostRuntime, lines: Option<&str>, database: &str) -> io::Result<u8> {
     let alloc = rt.alloc();
     match lines {
+        Some(path) if is_site(path) => Ok(site_over(rt, path, database)),
         Some(path) => {
             let Ok(file) = File::open(rt, path) else {
                 return Ok(tell_no_input(&mut rt.stderr()));

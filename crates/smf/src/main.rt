@@ -1,7 +1,7 @@
 //! `smf`: does scripts of a service manager on standard input, and lines of svccfg over a database. A script runs over
 //! a repository in memory, a copy in memory of a database, or a database and the processes of its services. This crate
 //! joins what the system has with what the crates below decide.
-//! Modules: `files` (databases in files), `contracts` (contracts that are followed through forks), `processes`
+//! Modules: `files` (databases in files), `sites` (files of tables), `contracts` (contracts that are followed through forks), `processes`
 //! (processes of the system), `server` (a service manager that stays), `boot` (boots that fail).
 #![tactic(auto)]
 
@@ -10,11 +10,13 @@ mod contracts;
 mod files;
 mod processes;
 mod server;
+mod sites;
 
 use crate::contracts::follow_over;
 use crate::files::{cfg_over, check_over, sim_over, why_over};
 use crate::processes::run_over;
 use crate::server::serve_over;
+use crate::sites::compile;
 use sha2::{Digest, Sha256};
 use smf_edge::TableKids;
 use smf_host::{Hold, take_alone};
@@ -49,6 +51,7 @@ fn do_task(rt: &HostRuntime, task: &Task<'_>) -> io::Result<u8> {
         } => sim_over(rt, database),
         Task::Why { database, words } => Ok(why_over(rt, database, words.as_slice())),
         Task::Check { database } => Ok(check_over(rt, database)),
+        Task::Compile { site } => Ok(compile(rt, site)),
         Task::Run { database, .. } => do_alone(rt, database, task),
         Task::Cfg { database, .. } => do_alone(rt, database, task),
         Task::Serve { folder, database } => serve_over(rt, folder, database),

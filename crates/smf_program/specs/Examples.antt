@@ -3,7 +3,7 @@ use Rattle.std.specs.Prelude.{◌≡◌, ℕ, List, [], ◌∷◌, codes, Some, 
 use Rattle.clap.specs.Words.{fault_of}
 use Rattle.clap.specs.declared.error.kind.ErrorKind.TheVariants as kinds
 use Rattle.smf_program.specs.Tasks.{task_of}
-use Rattle.smf_program.specs.Tasks.TaskTexts.{Sim, Run, Cfg, Check, Serve, Why}
+use Rattle.smf_program.specs.Tasks.TaskTexts.{Sim, Run, Cfg, Check, Compile, Serve, Why}
 use Rattle.smf_program.specs.Words.{smf_app}
 
 -- the program's name is the first of its words
@@ -40,6 +40,7 @@ QuestionsAreRead =
     × (task_of (smf (codes "why" ∷ codes "a.db" ∷ codes "web" ∷ codes "db" ∷ []))
     ≡ Some (Why (codes "a.db") (codes "web" ∷ codes "db" ∷ [])))
     × (task_of (smf (codes "check" ∷ codes "a.db" ∷ [])) ≡ Some (Check (codes "a.db")))
+    × (task_of (smf (codes "compile" ∷ codes "a.toml" ∷ [])) ≡ Some (Compile (codes "a.toml")))
 
 abbrev pub DatabaseIsWanted : Type 0
 DatabaseIsWanted =

@@ -15,6 +15,7 @@ pub data TaskTexts : Type 0 where
   Serve : List ℕ → List ℕ → TaskTexts
   Why : List ℕ → List (List ℕ) → TaskTexts
   Check : List ℕ → TaskTexts
+  Compile : List ℕ → TaskTexts
 
 abbrev pub texts_of : Task → TaskTexts
 texts_of (tasks.Sim database) = Sim (option_map (λ s. s.now) database)
@@ -23,6 +24,7 @@ texts_of (tasks.Cfg lines database) = Cfg (option_map (λ s. s.now) lines) datab
 texts_of (tasks.Serve folder database) = Serve folder.now database.now
 texts_of (tasks.Why database words) = Why database.now (map (λ w. w.now) words.items)
 texts_of (tasks.Check database) = Check database.now
+texts_of (tasks.Compile site) = Compile site.now
 
 abbrev pub rows_in : ArgMatches → List Row
 rows_in m = rows_of (found_of m)
@@ -54,6 +56,9 @@ why_in rows = option_map (λ database. Why database (words_in rows)) (first_of (
 abbrev pub check_in : List Row → Option TaskTexts
 check_in rows = option_map Check (first_of (codes "DB") rows)
 
+abbrev pub compile_in : List Row → Option TaskTexts
+compile_in rows = option_map Compile (first_of (codes "SITE") rows)
+
 -- the task of a subcommand, by its name and by the rows of the words after it
 abbrev pub task_at : List ℕ → List Row → Option TaskTexts
 task_at name rows =
@@ -63,6 +68,7 @@ task_at name rows =
     else if pointwise nat_eq name (codes "serve") then serve_in rows
     else if pointwise nat_eq name (codes "why") then why_in rows
     else if pointwise nat_eq name (codes "check") then check_in rows
+    else if pointwise nat_eq name (codes "compile") then compile_in rows
     else None
 
 abbrev pub task_in : Option (List ℕ × List Row) → Option TaskTexts

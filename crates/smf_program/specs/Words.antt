@@ -48,7 +48,14 @@ why_app = with_rule (with_rule (new_app (codes "why")) database_rule) fmri_rule
 abbrev pub check_app : App
 check_app = with_rule (new_app (codes "check")) database_rule
 
--- one of the six has to be named, or the version is asked for
+-- a file of tables
+abbrev pub site_rule : Rule
+site_rule = record (new_rule (codes "SITE")) { required = true }
+
+abbrev pub compile_app : App
+compile_app = with_rule (new_app (codes "compile")) site_rule
+
+-- one of the seven has to be named, or the version is asked for
 abbrev pub bare_app : App
 bare_app = on_top (λ s. record s { subcommand_required = true; has_version = true }) (new_app (codes "smf"))
 
@@ -57,10 +64,12 @@ smf_app =
     with_subcommand
     (with_subcommand
     (with_subcommand
+    (with_subcommand
     (with_subcommand (with_subcommand (with_subcommand bare_app sim_app.top) run_app.top) cfg_app.top)
     serve_app.top)
     why_app.top)
-    check_app.top
+    check_app.top)
+    compile_app.top
 
 -- true if a flag was found
 abbrev pub is_set : List ℕ → List Row → Bool

@@ -3,7 +3,7 @@ ghost use Rattle.std.specs.String.{string_bytes};
 ghost use Rattle.clap.specs.Words.{HasKind, app_of, fault_of, is_simple, is_simple_and_free, subcommand_of, subcommand_rows_of};
 ghost use Rattle.smf_program.specs.Refusals.{IsWhy};
 ghost use Rattle.smf_program.specs.Words.{is_set};
-ghost use Rattle.smf_program.specs.Tasks.{cfg_in, check_in, rows_in, run_in, serve_in, sim_in, task_at, task_in, task_of, texts_of, why_in, words_in};
+ghost use Rattle.smf_program.specs.Tasks.{cfg_in, check_in, compile_in, rows_in, run_in, serve_in, sim_in, task_at, task_in, task_of, texts_of, why_in, words_in};
 
 use crate::refusal::{Refusal, refusal_of};
 use crate::words::smf_command;
@@ -41,6 +41,10 @@ pub enum Task<'a> {
     /// The mistakes in the instances that the database in a file has. It is only read.
     Check {
         database: &'a str,
+    },
+    /// The lines that make the services of a file of TOML.
+    Compile {
+        site: &'a str,
     },
 }
 
@@ -133,6 +137,15 @@ fn check_in<'a>(found: &ArgMatches<'a>) -> Option<Task<'a>>
     }
 }
 
+fn compile_in<'a>(found: &ArgMatches<'a>) -> Option<Task<'a>>
+    ensures { option_map texts_of result ≡ compile_in (rows_in found.now) }
+{
+    match found.get_str("SITE") {
+        Some(site) => Some(Task::Compile { site }),
+        None => None,
+    }
+}
+
 /// The task of a subcommand, by its name and by the words that clap found after it.
 fn task_at<'a>(
     alloc: Global,
@@ -148,6 +161,7 @@ fn task_at<'a>(
         "serve" => Ok(serve_in(found)),
         "why" => why_in(alloc, found),
         "check" => Ok(check_in(found)),
+        "compile" => Ok(compile_in(found)),
         _ => Ok(None),
     }
 }

@@ -1,7 +1,7 @@
 ghost use Rattle.std.specs.Prelude.{◌≡◌, IfOk, false};
 ghost use Rattle.clap.specs.Words.{app_of, rule_of};
 ghost use Rattle.clap.specs.declared.builder.command.Command.TheViews.{out-Command as fields_of};
-ghost use Rattle.smf_program.specs.Words.{bare_app, cfg_app, check_app, database_rule, file_rule, fmri_rule, folder_rule, follow_rule, read_rule, run_app, serve_app, sim_app, smf_app, why_app};
+ghost use Rattle.smf_program.specs.Words.{bare_app, cfg_app, check_app, compile_app, database_rule, file_rule, site_rule, fmri_rule, folder_rule, follow_rule, read_rule, run_app, serve_app, sim_app, smf_app, why_app};
 
 use clap::{Arg, ArgAction, Command};
 use std::alloc::{AllocError, Global};
@@ -120,6 +120,24 @@ fn check_command<'a>(alloc: Global) -> Result<Command<'a>, AllocError>
     Ok(command)
 }
 
+/// A file of tables.
+fn site<'a>(alloc: Global) -> Arg<'a>
+    ensures rule { rule_of result ≡ site_rule }
+    ensures local { result.global ≡ false }
+{
+    Arg::new(alloc, "SITE").required(true)
+}
+
+fn compile_command<'a>(alloc: Global) -> Result<Command<'a>, AllocError>
+    ensures app { IfOk result (λ c. app_of c ≡ compile_app) }
+    ensures local { IfOk result (λ c. (fields_of c).has_globals ≡ false) }
+{
+    let command = Command::new(alloc, "compile")
+        .about("Prints the lines of svccfg that make the services of a file of TOML")
+        .arg(site(alloc))?;
+    Ok(command)
+}
+
 fn bare_command<'a>(alloc: Global) -> Command<'a>
     ensures { app_of result ≡ bare_app }
 {
@@ -130,7 +148,7 @@ fn bare_command<'a>(alloc: Global) -> Command<'a>
 
 /// The program as clap knows it. It may be asked for its version, which clap does not know. `sim` may have a database. `run` has one, and contracts may be followed.
 /// `cfg` has a database, and may have a file of lines after `-f`. `serve` has a folder and a database. `why` has a
-/// database and words that mean instances. `check` has a database.
+/// database and words that mean instances. `check` has a database, and `compile` a file.
 pub(crate) fn smf_command<'a>(alloc: Global) -> Result<Command<'a>, AllocError>
     ensures { IfOk result (λ c. app_of c ≡ smf_app) }
 {
@@ -145,6 +163,8 @@ pub(crate) fn smf_command<'a>(alloc: Global) -> Result<Command<'a>, AllocError>
     let why = why_command(alloc)?;
     let with_why = with_serve.subcommand(why)?;
     let check = check_command(alloc)?;
-    let command = with_why.subcommand(check)?;
+    let with_check = with_why.subcommand(check)?;
+    let compile = compile_command(alloc)?;
+    let command = with_check.subcommand(compile)?;
     Ok(command)
 }

@@ -22,6 +22,6 @@ pub use fault::{CfgFault, LineFault, fault_text};
 pub use judgement::judge;
 pub use line::{Line, parse_line};
 pub use line_words::words;
-pub use quotes::quoted_text;
+pub use quotes::{escaped_text, quoted_text};
 pub use selection::{Judged, Selection};
 pub use token::{Token, tokens};

@@ -21,7 +21,7 @@ fn put_escaped(all: &mut Vec<u8>, b: u8) -> Result<(), AllocError>
 }
 
 /// The bytes of a text with a backslash before each quote and each backslash.
-fn escaped_text(alloc: Global, bytes: &[u8]) -> Result<Vec<u8>, AllocError>
+pub fn escaped_text(alloc: Global, bytes: &[u8]) -> Result<Vec<u8>, AllocError>
     ensures { IfOk result (λ all. all.items ≡ escaped_text bytes.now) }
 {
     let mut all = Vec::new(alloc);

@@ -6,7 +6,8 @@ use Rattle.smf_program.proofs.words.smf_command.Goals as goal
 pub returns : goal.returns
 unfolding smf_app
 returns c =
-    c.in_ok-command.ensures.shape c.in_ok-check.ensures.local
+    c.in_ok-command.ensures.shape c.in_ok-compile.ensures.local
+    ∙ ap₂ with_subcommand (c.in_ok-with_check.ensures.shape c.in_ok-check.ensures.local
     ∙ ap₂ with_subcommand (c.in_ok-with_why.ensures.shape c.in_ok-why.ensures.local
     ∙ ap₂ with_subcommand (c.in_ok-with_serve.ensures.shape c.in_ok-serve.ensures.local
     ∙ ap₂ with_subcommand (c.in_ok-with_cfg.ensures.shape c.in_ok-cfg.ensures.local
@@ -16,4 +17,5 @@ returns c =
     (ap (λ (a : App). a.top) c.in_ok-run.ensures.app))
     (ap (λ (a : App). a.top) c.in_ok-cfg.ensures.app)) (ap (λ (a : App). a.top) c.in_ok-serve.ensures.app))
     (ap (λ (a : App). a.top) c.in_ok-why.ensures.app))
-    (ap (λ (a : App). a.top) c.in_ok-check.ensures.app)
+    (ap (λ (a : App). a.top) c.in_ok-check.ensures.app))
+    (ap (λ (a : App). a.top) c.in_ok-compile.ensures.app)
