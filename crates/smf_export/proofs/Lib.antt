@@ -1,0 +1,4 @@
+pub mod Alike
+pub mod Chosen
+pub mod Looked
+pub mod Tried

@@ -1,0 +1,3 @@
+pub mod Choices
+pub mod Configured
+pub mod Turns

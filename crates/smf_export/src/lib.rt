@@ -1,0 +1,19 @@
+//! What a repository holds, as lines of svccfg: the lines that make it out of nothing, and the lines that lead from one
+//! repository to another.
+//! Modules: `choice` (the services that are meant), `group_lines` and `service_lines` (lines for groups, and for
+//! services with their instances), `rehearsal` (what lines make of what is held), `comparison` (whether two repositories
+//! hold the same), `difference` (the lines, once it is seen that they lead there), `fault`.
+#![tactic(auto)]
+
+mod choice;
+mod comparison;
+mod difference;
+mod fault;
+mod group_lines;
+mod rehearsal;
+mod service_lines;
+
+pub use choice::{Choice, ChosenService};
+pub use comparison::Extent;
+pub use difference::{difference_from, export};
+pub use fault::ExportFault;
