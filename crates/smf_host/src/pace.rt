@@ -10,10 +10,10 @@ const SHORT: u64 = 100;
 const LONG: u64 = 1_000;
 
 /// For so many milliseconds after a call it was lately.
-const LATELY: u64 = 60_000;
+const LATELY: u64 = 5_000;
 
-/// The milliseconds between a ring and its tick. Whoever rang has ended by then, and others ring too.
-const GATHERING: u64 = 10;
+/// The milliseconds between a ring and its tick. Others ring too meanwhile, and while a tick is done.
+const GATHERING: u64 = 1;
 
 /// The milliseconds after a turn that failed, while few have failed one after another.
 const RETRY: u64 = 1_000;
