@@ -31,6 +31,11 @@ leads_then tells did p b c l x f =
       },
     )
 
+-- the room was the same before
+pub goes_as : {S : Type 0} (tells : Tells S) (did : Log S) (a b c : LiveRoom S) → b ≡ a → GoesOn tells did b c
+    → GoesOn tells did a c
+goes_as {S = S} tells did a b c e f = subst (λ (x : LiveRoom S). GoesOn tells did x c) e f
+
 pub goes_then : {S : Type 0} (tells : Tells S) (did : Log S) (a b c : LiveRoom S) → GoesOn tells did a b
     → GoesOn tells did b c → GoesOn tells did a c
 goes_then tells did a b c f h = λ l k. leads_then tells did a.room b c l (f l k) h

@@ -14,8 +14,8 @@ use Rattle.smf_room.specs.Sweeps.{IsAnyForget, IsForget}
 use Rattle.smf_room.specs.Tellings.{EndsEarly, Heard, Log, Telling, Tells}
 use Rattle.smf_room.proofs.Hearing.{both, none, weaker}
 use Rattle.smf_room.proofs.Living.{calm_ask_lost, calm_asking, calm_clean, calm_look}
-use Rattle.smf_keeper.specs.Endings.{IsAsk, IsAskedInVain, IsForgetIf, IsForgetTried, IsStandAsk, gone_of, still_asked}
-use Rattle.smf_keeper.specs.Rooms.{IsNoted, StoodSo, WasHeard}
+use Rattle.smf_keeper.specs.Endings.{IsAsk, IsAskedInVain, IsForgetIf, IsForgetTried, IsStandAsk, IsStandLost, IsStandTold, IsToldAgain, gone_of, still_asked}
+use Rattle.smf_keeper.specs.Rooms.{IsKept, IsNoted, SameMade, StoodSo, WasHeard}
 use Rattle.smf_keeper.specs.Stands.{IsLost, IsLostBy, IsStandBy, IsStanding}
 use Rattle.smf_keeper.proofs.Made.{calm_none, count, early_none, none_is, nothing}
 
@@ -128,3 +128,49 @@ stand_left tells did p q id kept before after was stand k w e a =
 pub noted : {S : Type 0} (tells : Tells S) (did : Log S) (id : ℕ) (gone : Option FirstEnd) (end : FirstEnd)
     → gone ≡ Some end → ∥ IsNoted tells did id gone ∥₁ → StoodSo tells did id (Gone end)
 noted tells did id was end e n = subst (λ (x : Option FirstEnd). ∥ IsNoted tells did id x ∥₁) e n
+
+-- the stand that is kept
+pub kept_stood : {S : Type 0} (tells : Tells S) (did : Log S) (id : ℕ) (kept : Option Stand) (stand : Stand)
+    → kept ≡ Some stand → ∥ IsKept tells did id kept ∥₁ → StoodSo tells did id stand
+kept_stood tells did id was stand e n = subst (λ (x : Option Stand). ∥ IsKept tells did id x ∥₁) e n
+
+-- ---- it is looked at, or is not
+
+pub told_again : {S : Type 0} (tells : Tells S) (did : Log S) (p q : S) (id : ℕ) (gone : Option FirstEnd)
+    (kept : Option Stand) (m n : ℕ) (before after : Bool) (stand : Stand) → q ≡ p → after ≡ before
+    → IsToldAgain gone kept m n stand → Heard tells did (IsStandTold id gone kept m n before after stand) p q
+told_again {S = S} tells did p q id gone kept m n before after stand e a t =
+    subst (λ (x : S). Heard tells did (IsStandTold id gone kept m n before after stand) p x) (sym e)
+    (none tells did (IsStandTold id gone kept m n before after stand) p
+    (inl (record { again = t; same = a; calls = refl })))
+
+pub seen_as : {S : Type 0} (tells : Tells S) (did : Log S) (p r q : S) (id jd : ℕ) (gone was : Option FirstEnd)
+    (kept : Option Stand) (m n : ℕ) (before between after : Bool) (stand : Stand) → r ≡ p → jd ≡ id → was ≡ gone
+    → between ≡ before → Heard tells did (IsStandAsk jd was between after stand) r q
+    → Heard tells did (IsStandTold id gone kept m n before after stand) p q
+seen_as {S = S} tells did p r q id jd gone was kept m n before between after stand e i g b h =
+    weaker (IsStandTold id gone kept m n before after stand) (λ ts x. inr x)
+    (subst (λ (x : S). Heard tells did (IsStandAsk id gone before after stand) x q) e
+    (subst (λ (x : Bool). Heard tells did (IsStandAsk id gone x after stand) r q) b
+    (subst (λ (x : Option FirstEnd). Heard tells did (IsStandAsk id x between after stand) r q) g
+    (subst (λ (x : ℕ). Heard tells did (IsStandAsk x was between after stand) r q) i h))))
+
+pub lost_as : {S : Type 0} (tells : Tells S) (did : Log S) (p r q : S) (id jd : ℕ) (gone was : Option FirstEnd)
+    (before between after : Bool) → r ≡ p → jd ≡ id → was ≡ gone → between ≡ before
+    → Heard tells did (IsStandLost jd was between after) r q → Heard tells did (IsStandLost id gone before after) p q
+lost_as {S = S} tells did p r q id jd gone was before between after e i g b h =
+    subst (λ (x : S). Heard tells did (IsStandLost id gone before after) x q) e
+    (subst (λ (x : Bool). Heard tells did (IsStandLost id gone x after) r q) b
+    (subst (λ (x : Option FirstEnd). Heard tells did (IsStandLost id x between after) r q) g
+    (subst (λ (x : ℕ). Heard tells did (IsStandLost x was between after) r q) i h)))
+
+pub stood_as : {S : Type 0} (tells : Tells S) (did : Log S) (id jd : ℕ) (stand : Stand) → jd ≡ id
+    → StoodSo tells did jd stand → StoodSo tells did id stand
+stood_as tells did id jd stand e h = subst (λ (x : ℕ). StoodSo tells did x stand) e h
+
+pub unseen_as : {S : Type 0} (tells : Tells S) (did : Log S) (id jd : ℕ) → jd ≡ id → WasHeard tells did (IsLost jd)
+    → WasHeard tells did (IsLost id)
+unseen_as tells did id jd e h = subst (λ (x : ℕ). WasHeard tells did (IsLost x)) e h
+
+pub made_as : {S : Type 0} (did : Log S) (p r q : S) → r ≡ p → SameMade did r q → SameMade did p q
+made_as {S = S} did p r q e h = subst (λ (x : S). SameMade did x q) e h

@@ -1,6 +1,6 @@
 -- What is asked of a contract that is looked at, or that is to end, and what is kept of it: how it ended, and whether
 -- its end was asked for.
-use Rattle.std.specs.Prelude.{◌≡◌, ◌⊎◌, ◌<◌, ℕ, suc, List, [], ◌++◌, Bool, true, false, Option, Some, None, codes}
+use Rattle.std.specs.Prelude.{◌≡◌, ◌⊎◌, ◌<◌, ◌+◌, ℕ, suc, List, [], ◌++◌, Bool, true, false, Option, Some, None, codes}
 use Rattle.smf_follow.specs.declared.stand.FirstEnd.{FirstEnd}
 use Rattle.smf_follow.specs.declared.stand.Stand.{Stand}
 use Rattle.smf_follow.specs.declared.stand.Stand.TheVariants.{Gone}
@@ -10,6 +10,7 @@ use Rattle.smf_room.specs.Looks.{IsAnyCancel, IsAnyLook, IsCancel, IsLook}
 use Rattle.smf_room.specs.Starts.{IsEndAsk}
 use Rattle.smf_room.specs.Sweeps.{IsAnyForget, IsForget}
 use Rattle.smf_room.specs.Tellings.{EndsEarly, Fails, Telling, Then}
+use Rattle.smf_keeper.specs.declared.held.TheConstants.{MOST_TOLD}
 use Rattle.smf_keeper.specs.declared.rooms.Manner.{Manner}
 use Rattle.smf_keeper.specs.declared.rooms.Manner.TheVariants.{AtOnce, ByTerms}
 use Rattle.smf_keeper.specs.declared.rooms.TheConstants.{PATIENCE}
@@ -53,6 +54,25 @@ IsForgetIf id None ts = ts ≡ []
 abbrev pub IsStandAsk : ℕ → Option FirstEnd → Bool → Bool → Stand → List Telling → Type 0
 IsStandAsk id (Some end) before after stand ts = (stand ≡ Gone end) × (after ≡ before) × (ts ≡ [])
 IsStandAsk id None before after stand ts = Then (IsAsk id before after stand) (IsForgetIf id (gone_of stand)) ts
+
+-- It was not looked at: the stand that is kept is told once more, which was not done often since the last look. Something is
+-- left of it then, so no end is told.
+pub record IsToldAgain (gone : Option FirstEnd) (kept : Option Stand) (before after : ℕ) (stand : Stand) : Type 0 where
+  pub none : gone ≡ None
+  pub is : kept ≡ Some stand
+  pub seldom : before < MOST_TOLD
+  pub counted : after ≡ before + 1
+
+pub record IsUnseen (gone : Option FirstEnd) (kept : Option Stand) (m n : ℕ) (before after : Bool) (stand : Stand)
+    (ts : List Telling) : Type 0 where
+  pub again : IsToldAgain gone kept m n stand
+  pub same : after ≡ before
+  pub calls : ts ≡ []
+
+-- nothing is asked since nothing new was heard, or it is looked at
+abbrev pub IsStandTold : ℕ → Option FirstEnd → Option Stand → ℕ → ℕ → Bool → Bool → Stand → List Telling → Type 0
+IsStandTold id gone kept m n before after stand ts =
+    IsUnseen gone kept m n before after stand ts ⊎ IsStandAsk id gone before after stand ts
 
 abbrev pub IsStandLost : ℕ → Option FirstEnd → Bool → Bool → List Telling → Type 0
 IsStandLost id (Some end) before after ts = ⊥

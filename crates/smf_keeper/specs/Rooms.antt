@@ -61,6 +61,11 @@ abbrev pub IsNoted : {S : Type 0} → Tells S → Log S → ℕ → Option First
 IsNoted tells did id None = Unit {0}
 IsNoted tells did id (Some end) = WasHeard tells did (IsStanding id (Gone end))
 
+-- the stand that is kept was seen
+abbrev pub IsKept : {S : Type 0} → Tells S → Log S → ℕ → Option Stand → Type 0
+IsKept tells did id None = Unit {0}
+IsKept tells did id (Some stand) = WasHeard tells did (IsStanding id stand)
+
 -- its end was asked for, and whoever keeps it was reached or was not
 abbrev pub WasAsked : {S : Type 0} → Tells S → Log S → ℕ → Bool → Type 0
 WasAsked tells did id done =

@@ -1,7 +1,7 @@
 // Contracts in a room that a server has.
 ghost use Rattle.smf_follow.specs.Facts.{launch_of, one_more_made};
 ghost use Rattle.smf_keeper.specs.Ends.{end_if_known, end_of};
-ghost use Rattle.smf_keeper.specs.Endings.{IsAsk, IsAskedInVain, IsEnd, IsCancelFailed, IsCancelIf, IsEndFailed, IsEndIf, IsEndLost, IsEndOnce, IsEndStep, IsEndStepLost, IsStandAsk, IsStandLost, IsWaitLost, IsWaited, gone_of, signal_of, still_asked};
+ghost use Rattle.smf_keeper.specs.Endings.{IsAsk, IsAskedInVain, IsEnd, IsCancelFailed, IsCancelIf, IsEndFailed, IsEndIf, IsEndLost, IsEndOnce, IsEndStep, IsEndStepLost, IsStandAsk, IsStandLost, IsStandTold, IsToldAgain, IsWaitLost, IsWaited, gone_of, signal_of, still_asked};
 ghost use Rattle.smf_keeper.specs.Notes.{is_start};
 ghost use Rattle.smf_keeper.specs.Rooms.{HasGone, IsMadeFor, IsNotStarted, IsStartFor, IsUnasked, MayLive, SameMade, StartFails, StoodSo, WasHeard, made_in};
 ghost use Rattle.smf_keeper.specs.Stands.{IsLost, IsLostBy, IsStandBy, IsStanding, end_in, stand_in};
@@ -12,11 +12,12 @@ ghost use Rattle.smf_room.specs.LiveRooms.{GoesOn};
 ghost use Rattle.smf_room.specs.Tellings.{Heard};
 ghost use Rattle.smf_room.specs.declared.look.Look.TheVariants.{Unclean};
 ghost use Rattle.std.specs.IoError.{error_kind};
-ghost use Rattle.std.specs.Prelude.{◌≡◌, ◌⊎◌, None, IfErr, IfOk, OnErr, OnOk, option_map, true, false};
+ghost use Rattle.std.specs.Prelude.{◌≡◌, ◌⊎◌, None, IfErr, IfOk, IfSome, OnErr, OnOk, option_map, true, false};
 ghost use Rattle.std_io.specs.declared.io.kind.ErrorKind.TheVariants.{OutOfMemory};
 
 use crate::ends::{end_if_known, end_of};
-use crate::held::HeldContract;
+use crate::held::{HeldContract, MOST_TOLD};
+use crate::news::News;
 use crate::note::note_of;
 use smf_contract::{Method, Terms};
 use smf_fmri::{InstanceFmri, Number};
@@ -28,6 +29,9 @@ use std::io;
 
 /// How often it is looked whether a contract that is to end at once has ended, each time a little later.
 const PATIENCE: u32 = 2000;
+
+/// A start that has not begun is looked at again after so few times.
+const FEW: u32 = 3;
 
 /// How contracts end.
 #[derive(Clone, Copy, PartialEq, Eq)]
@@ -44,6 +48,7 @@ pub struct RoomContracts<R: Room> {
     alloc: Global,
     room: LiveRoom<R>,
     manner: Manner,
+    news: News,
 }
 
 fn other() -> io::Error {
@@ -123,6 +128,14 @@ fn still_asked(look: Look, asked: bool) -> bool
     }
 }
 
+/// How often a stand counts as told after a look. The holder tells nothing of what it does not have yet.
+fn told_after(look: Look) -> u32 {
+    match look {
+        Look::Waits | Look::Unclean(_) => MOST_TOLD - FEW,
+        _ => 0,
+    }
+}
+
 impl<R: Room + Drop> RoomContracts<R> {
     pub(crate) fn new(alloc: Global, room: LiveRoom<R>, manner: Manner) -> RoomContracts<R>
         ensures room { result.room ≡ room }
@@ -132,6 +145,7 @@ impl<R: Room + Drop> RoomContracts<R> {
             alloc,
             room,
             manner,
+            news: News::new(alloc),
         }
     }
 
@@ -162,9 +176,67 @@ impl<R: Room + Drop> RoomContracts<R> {
         ensures careful { GoesOn R.tells R.did self.old.room self.new.room }
     {
         let look = self.room.look(held.id)?;
+        held.told = told_after(look);
         held.asked = still_asked(look, held.asked);
         let stand = stand_by(&mut self.room, held.id, look)?;
         Ok(stand)
+    }
+
+    /// How a contract stands by the last look, if there is no news of it since. None if it is to be looked at.
+    fn known(&mut self, held: &mut HeldContract<R>) -> Option<Stand>
+        ensures told { IfSome result (IsToldAgain held.old.gone held.old.kept held.old.told held.new.told) }
+        ensures stood { IfSome result (λ stand. StoodSo R.tells R.did held.old.id stand) }
+        ensures left { IfSome result (λ stand. gone_of stand ≡ None) }
+        ensures room { self.new.room ≡ self.old.room }
+        ensures manner { self.new.manner ≡ self.old.manner }
+        ensures id { held.new.id ≡ held.old.id }
+        ensures gone { held.new.gone ≡ held.old.gone }
+        ensures asked { held.new.asked ≡ held.old.asked }
+    {
+        held.asked_in = self.news.ask(&self.room, held.asked_in);
+        if self.news.is_of(held.id, held.looked_in) {
+            return None;
+        }
+        held.tell_again()
+    }
+
+    /// Looks at a contract. One of which nothing is left is forgotten at once, and its end is kept for whoever asks again.
+    fn see(&mut self, held: &mut HeldContract<R>) -> io::Result<Stand>
+        ensures stood { IfOk result (λ stand. StoodSo R.tells R.did held.old.id stand) }
+        ensures lost { OnErr result (WasHeard R.tells R.did (IsLost held.old.id)) }
+        ensures made { SameMade R.did self.old.room.room self.new.room.room }
+        ensures asked { IfOk result (λ stand. Heard R.tells R.did
+            (IsStandAsk held.old.id held.old.gone held.old.asked held.new.asked stand)
+            self.old.room.room self.new.room.room) }
+        ensures failed { OnErr result (Heard R.tells R.did
+            (IsStandLost held.old.id held.old.gone held.old.asked held.new.asked)
+            self.old.room.room self.new.room.room) }
+        ensures gone { IfOk result (λ stand. held.new.gone ≡ gone_of stand) }
+        ensures id { held.new.id ≡ held.old.id }
+        ensures manner { self.new.manner ≡ self.old.manner }
+        ensures careful { GoesOn R.tells R.did self.old.room self.new.room }
+    {
+        if let Some(end) = held.gone {
+            return Ok(Stand::Gone(end));
+        }
+        held.kept = None;
+        held.looked_in = self.news.look(held.id);
+        let stand = self.ask(held)?;
+        match stand {
+            Stand::Runs => {
+                held.kept = Some(Stand::Runs);
+                Ok(Stand::Runs)
+            }
+            Stand::Left(end) => {
+                held.kept = Some(Stand::Left(end));
+                Ok(Stand::Left(end))
+            }
+            Stand::Gone(end) => {
+                held.gone = Some(end);
+                let _forgotten = self.room.forget(held.id);
+                Ok(Stand::Gone(end))
+            }
+        }
     }
 
     /// Asks for the end of a contract, unless that was asked for.
@@ -252,7 +324,7 @@ impl<R: Room + Drop> RoomContracts<R> {
         ensures careful { GoesOn R.tells R.did self.old.room self.new.room }
     {
         self.cancel(held)?;
-        let stand = self.stand(held)?;
+        let stand = self.see(held)?;
         let done = self.end_by(held, stand)?;
         Ok(done)
     }
@@ -337,13 +409,13 @@ impl<R: Room + Drop> Contracts for RoomContracts<R> {
         }
     }
 
-    /// A contract of which nothing is left is forgotten at once, and its end is kept for whoever asks again.
+    /// A contract is looked at if there is news of it, or if it was not for some time. Else it stands as it did.
     fn stand(&mut self, held: &mut HeldContract<R>) -> io::Result<Stand>
         ensures stood { IfOk result (λ stand. StoodSo R.tells R.did held.old.id stand) }
         ensures lost { OnErr result (WasHeard R.tells R.did (IsLost held.old.id)) }
         ensures none { SameMade R.did self.old.room.room self.new.room.room }
         ensures asked { IfOk result (λ stand. Heard R.tells R.did
-            (IsStandAsk held.old.id held.old.gone held.old.asked held.new.asked stand)
+            (IsStandTold held.old.id held.old.gone held.old.kept held.old.told held.new.told held.old.asked held.new.asked stand)
             self.old.room.room self.new.room.room) }
         ensures failed { OnErr result (Heard R.tells R.did
             (IsStandLost held.old.id held.old.gone held.old.asked held.new.asked)
@@ -353,17 +425,11 @@ impl<R: Room + Drop> Contracts for RoomContracts<R> {
         ensures manner { self.new.manner ≡ self.old.manner }
         ensures careful { GoesOn R.tells R.did self.old.room self.new.room }
     {
-        if let Some(end) = held.gone {
-            return Ok(Stand::Gone(end));
-        }
-        let stand = self.ask(held)?;
-        match stand {
-            Stand::Runs => Ok(Stand::Runs),
-            Stand::Left(end) => Ok(Stand::Left(end)),
-            Stand::Gone(end) => {
-                held.gone = Some(end);
-                let _forgotten = self.room.forget(held.id);
-                Ok(Stand::Gone(end))
+        match self.known(held) {
+            Some(stand) => Ok(stand),
+            None => {
+                let stand = self.see(held)?;
+                Ok(stand)
             }
         }
     }

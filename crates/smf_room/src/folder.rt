@@ -18,10 +18,16 @@ use std::os::unix::fs::{DirBuilderExt, OpenOptionsExt};
 use std::process::{Child, Command, Processes, Stdio};
 use std::rt::{Clock, Env, Files};
 use std::time::Duration;
-use std::{env, fs, io, thread};
+use std::{env, fs, io, str, thread};
+
+/// The event of poll that there is something to read.
+const POLLIN: i16 = 1;
 
 /// The event of poll that something may be written.
 const POLLOUT: i16 = 4;
+
+/// So many bytes of news are read at once. If there are as many, there may be more.
+const MOST_NEWS: usize = 1024;
 
 /// So many names of a control group are tried.
 const NAMES: u32 = 100;
@@ -144,17 +150,33 @@ fn pass_variable<R: Env + AllocGlobal>(
     }
 }
 
+/// True if a pipe can be read or written without waiting, as the event says.
+fn is_ready(pipe: &File, event: i16) -> bool {
+    let mut asked = [pollfd {
+        fd: pipe.as_raw_fd(),
+        events: event,
+        revents: 0,
+    }];
+    poll(&mut asked, 0) == 1
+}
+
+/// Adds the numbers that stand in lines.
+fn add_numbers(lines: &[u8], numbers: &mut Vec<u64>) -> Result<(), AllocError> {
+    for line in lines.split(|byte| *byte == b'\n') {
+        let text = str::from_utf8(line).unwrap_or("");
+        if let Some(number) = read_count(text) {
+            numbers.push(number)?;
+        }
+    }
+    Ok(())
+}
+
 /// Writes a line into a pipe that is there, if it takes one at once. The pipe is opened both ways, so that nothing waits.
 fn write_line<R: Files<File = File>>(rt: &R, path: &str, line: &str) -> io::Result<bool> {
     let Some(mut pipe) = if_there(File::options().read(true).write(true).open(rt, path))? else {
         return Ok(false);
     };
-    let mut asked = [pollfd {
-        fd: pipe.as_raw_fd(),
-        events: POLLOUT,
-        revents: 0,
-    }];
-    if poll(&mut asked, 0) != 1 {
+    if !is_ready(&pipe, POLLOUT) {
         return Ok(false);
     }
     pipe.write_all(line.as_bytes())?;
@@ -231,6 +253,26 @@ impl<R: Processes + Env + Files<File = File> + Clock + AllocGlobal + Clone + Dro
             Some(lock) => Ok(!is_taken(lock.try_lock_shared())?),
             None => Ok(false),
         }
+    }
+
+    /// Adds the numbers of contracts that the holder and the keepers told of since. True if some may be lacking: there is
+    /// no holder, which keeps what is told, or a look took less than what waits.
+    fn read_news(&self, ids: &mut Vec<u64>) -> io::Result<bool> {
+        if !self.has_holder()? {
+            return Ok(true);
+        }
+        let path = self.in_room("news")?;
+        let mut pipe = File::options()
+            .read(true)
+            .write(true)
+            .open(&self.rt, path.as_str())?;
+        if !is_ready(&pipe, POLLIN) {
+            return Ok(false);
+        }
+        let mut lines = [0; MOST_NEWS];
+        let count = pipe.read(&mut lines)?;
+        add_numbers(&lines[..count], ids)?;
+        Ok(count == MOST_NEWS)
     }
 
     /// Begins a holder, with few variables.
@@ -617,6 +659,10 @@ impl<R: Processes + Env + Files<File = File> + Clock + AllocGlobal + Clone + Dro
     fn remove(&mut self, id: u64) -> io::Result<()> {
         let path = self.folder_of(id)?;
         fs::remove_dir_all(&self.rt, path.as_str())
+    }
+
+    fn news(&self, ids: &mut Vec<u64>) -> bool {
+        self.read_news(ids).unwrap_or(true)
     }
 
     fn pause(&self) {

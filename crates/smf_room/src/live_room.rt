@@ -170,6 +170,11 @@ impl<R: Room + Drop> LiveRoom<R> {
         Ok(gone)
     }
 
+    /// Adds the numbers of contracts of which there is news. True if there may be news of any.
+    pub fn news(&self, ids: &mut Vec<u64>) -> bool {
+        self.room.news(ids)
+    }
+
     /// Waits two milliseconds.
     pub fn pause(&self) {
         self.room.pause();

@@ -128,6 +128,10 @@ pub trait Room {
         ensures told { OnOk result (Call tells did (Did (deed (Forgot id) Done)) self.old self.new) }
         ensures lost { OnErr result (Call tells did (Did (deed (Forgot id) Unsure)) self.old self.new) };
 
+    /// Adds the numbers of contracts of which there is news. True if there may be news of any. This is a hint, and no
+    /// telling: a contract is known by looks alone.
+    fn news(&self, ids: &mut Vec<u64>) -> bool;
+
     /// Waits two milliseconds.
     fn pause(&self);
 }
