@@ -1,16 +1,18 @@
 -- What lines lead to, once they were tried.
 use Rattle.std.proofs.Common.{◌≡◌, ℕ, List, [], Bool, true, false, not, Option, Some, None, refl, sym, ap, subst, ◌∙◌, arith}
+use Rattle.std.specs.Prelude.{IfSome}
 use Rattle.smf_lines.specs.Lines.{lines_of}
 use Rattle.smf_value.specs.Groups.{GroupRecord}
 use Rattle.smf_model.specs.declared.held.Instance.{Instance}
 use Rattle.smf_model.specs.Contents.{Holdings}
 use Rattle.smf_model.specs.GeneralGroup.{service_fmri}
+use Rattle.smf_model.specs.Look.{empty}
 use Rattle.smf_cfg.specs.Runs.{Ends, HasRun, lines_on, run, start_place, status_of}
 use Rattle.smf_cfg.proofs.Progress.{ends_of_all}
 use Rattle.smf_export.specs.declared.comparison.Extent.{Extent}
 use Rattle.smf_export.specs.declared.comparison.Extent.TheVariants.{Persistent, Every}
 use Rattle.smf_export.specs.Configured.{AreSame, HoldSame, Services, groups_of_instance, groups_of_service, others}
-use Rattle.smf_export.specs.Turns.{IsRun, IsTurned, Turns}
+use Rattle.smf_export.specs.Turns.{IsAsked, IsNotAsked, IsRun, IsTurned, Turns, effect_on}
 
 -- ---- no lines
 
@@ -72,6 +74,35 @@ run_of before start after stored text bytes out_old out_new errors_old errors_ne
     let there : IsRun start bytes stored =
     run_fine start after stored bytes out_old out_new errors_old errors_new status ends zero_status same in
     subst (λ t. IsRun before t stored) f (subst (λ b. IsRun b bytes stored) e there)
+
+-- ---- what lines alone ask for
+
+pub asked_of : (input : Option (List ℕ)) (start after stored : Holdings)
+    (out_old out_new errors_old errors_new : Option (List ℕ)) (status : ℕ) → start ≡ empty
+    → IfSome input
+    (λ bytes. Ends (run (start_place start) (lines_of bytes)) after out_old out_new errors_old errors_new status)
+    → status ≡ 0 → stored ≡ after → IsAsked input stored
+asked_of None start after stored out_old out_new errors_old errors_new status e ends zero_status same = tt
+asked_of (Some bytes) start after stored out_old out_new errors_old errors_new status e ends zero_status same =
+    let there : IsRun start bytes stored =
+    run_fine start after stored bytes out_old out_new errors_old errors_new status ends zero_status same in
+    subst (λ b. IsRun b bytes stored) e there
+
+wrong_by : (fine : Bool) (status : ℕ) → status ≡ status_of fine → status ≡ 1 → fine ≡ false
+wrong_by true status e one_status = absurd (omega arith)
+wrong_by false status e one_status = refl
+
+pub not_asked_of : (input : Option (List ℕ)) (start after : Holdings)
+    (out_old out_new errors_old errors_new : Option (List ℕ)) (status : ℕ) → start ≡ empty
+    → IfSome input
+    (λ bytes. Ends (run (start_place start) (lines_of bytes)) after out_old out_new errors_old errors_new status)
+    → status ≡ 1 → IsNotAsked input
+not_asked_of None start after out_old out_new errors_old errors_new status e ends one_status = tt
+not_asked_of (Some bytes) start after out_old out_new errors_old errors_new status e ends one_status =
+    subst (λ b. (effect_on b bytes).end.is_fine ≡ false) e
+    (wrong_by (run (start_place start) (lines_of bytes)).end.is_fine status ends.exit one_status)
+
+-- ---- lines that were tried
 
 pub turns_after : (meant : Services) (before asked after : Holdings) (text : List ℕ) → IsRun before text after
     → IsTurned meant before asked after → Turns meant before asked text

@@ -1,11 +1,11 @@
 -- What lines of svccfg lead to.
-use Rattle.std.specs.Prelude.{◌≡◌, ◌==◌, ◌||◌, ℕ, List, Bool, true, Option, Some, is_some}
+use Rattle.std.specs.Prelude.{◌≡◌, ◌==◌, ◌||◌, ℕ, List, Bool, true, false, Option, Some, IfSome, is_some}
 use Rattle.std.specs.List.{list_all}
 use Rattle.smf_lines.specs.Lines.{lines_of}
 use Rattle.smf_model.specs.declared.held.Instance.{Instance}
 use Rattle.smf_model.specs.declared.held.InstanceName.{InstanceName}
 use Rattle.smf_model.specs.Contents.{Holdings}
-use Rattle.smf_model.specs.Look.{instance_by_name, service}
+use Rattle.smf_model.specs.Look.{empty, instance_by_name, service}
 use Rattle.smf_cfg.specs.Runs.{Effect, run, start_place}
 use Rattle.smf_export.specs.declared.comparison.Extent.TheVariants.{Persistent, Every}
 use Rattle.smf_export.specs.Configured.{HoldSame, Services, others}
@@ -35,16 +35,24 @@ pub record Turns (meant : Services) (before asked : Holdings) (text : List ℕ) 
   pub fine : (effect_on before text).end.is_fine ≡ true
   pub turned : IsTurned meant before asked (held_after before text)
 
+-- no line is refused, and this is held after them
+pub record IsRun (before : Holdings) (text : List ℕ) (after : Holdings) : Type 0 where
+  pub fine : (effect_on before text).end.is_fine ≡ true
+  pub held : after ≡ held_after before text
+
+-- if the bytes of lines are known, none of the lines is refused over nothing, and they make this
+abbrev pub IsAsked : Option (List ℕ) → Holdings → Type 0
+IsAsked input asked = IfSome input (λ bytes. IsRun empty bytes asked)
+
+-- one of them is refused
+abbrev pub IsNotAsked : Option (List ℕ) → Type 0
+IsNotAsked input = IfSome input (λ bytes. (effect_on empty bytes).end.is_fine ≡ false)
+
 -- the services that are asked for, or all
 abbrev pub services_asked : Bool → Holdings → Services
 services_asked is_exact asked name = is_exact || is_some (service asked name)
 
 -- ---- how calls do it
-
--- no line is refused, and this is held after them
-pub record IsRun (before : Holdings) (text : List ℕ) (after : Holdings) : Type 0 where
-  pub fine : (effect_on before text).end.is_fine ≡ true
-  pub held : after ≡ held_after before text
 
 abbrev pub has_same_number : Option Instance → Option Instance → Bool
 has_same_number (Some i) (Some j) = i.number == j.number

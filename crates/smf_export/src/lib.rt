@@ -1,7 +1,7 @@
 //! What a repository holds, as lines of svccfg: the lines that make it out of nothing, and the lines that lead from one
 //! repository to another.
 //! Modules: `choice` (the services that are meant), `group_lines` and `service_lines` (lines for groups, and for
-//! services with their instances), `rehearsal` (what lines make of what is held), `comparison` (whether two repositories
+//! services with their instances), `rehearsal` (what lines make), `comparison` (whether two repositories
 //! hold the same), `difference` (the lines, once it is seen that they lead there), `fault`.
 #![tactic(auto)]
 
@@ -17,3 +17,4 @@ pub use choice::{Choice, ChosenService};
 pub use comparison::Extent;
 pub use difference::{difference_from, export};
 pub use fault::ExportFault;
+pub use rehearsal::asked_by;

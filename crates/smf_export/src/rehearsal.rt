@@ -1,13 +1,13 @@
-//! What lines make of what is held, tried on a copy in memory.
+//! What lines make in memory: of a copy of what is held, or of nothing.
 
-ghost use Rattle.std.specs.Prelude.{◌≡◌, IfOk};
+ghost use Rattle.std.specs.Prelude.{◌≡◌, ◌≢◌, IfErr, IfOk};
 ghost use Rattle.smf_model.specs.Laws.{IsNumbered};
-ghost use Rattle.smf_export.specs.Turns.{IsRun};
+ghost use Rattle.smf_export.specs.Turns.{IsAsked, IsNotAsked, IsRun};
 
 use crate::fault::ExportFault;
-use smf_cfg::{RunFault, run_cfg};
+use smf_cfg::{RunFault, run_cfg, serve_cfg, tell};
 use smf_fmri::Text;
-use smf_lines::ReadFault;
+use smf_lines::{LineReader, ReadFault, TextWriter};
 use smf_model::{NoJournal, Plain, Tables};
 use std::alloc::{AllocError, Global};
 use std::str;
@@ -45,5 +45,29 @@ pub(crate) fn rehearsed(alloc: Global, before: &Tables, lines: &str) -> Result<T
             Ok(repository.tables_as_stored()?)
         }
         Err(fault) => Err(ending(fault)),
+    }
+}
+
+/// What lines make out of nothing. If a line is refused or a fault ends the run, that is told, and the status of the run
+/// is given: 1, or 3 for a fault. What the lines print is dropped.
+pub fn asked_by<R: LineReader, E: TextWriter>(
+    alloc: Global,
+    reader: &mut R,
+    errors: &mut E,
+) -> Result<Tables, u8>
+    ensures made { IfOk result (IsAsked (R.remaining reader.old)) }
+    ensures numbered { IfOk result IsNumbered }
+    ensures refused { IfErr result (λ status. status ≡ 1 → IsNotAsked (R.remaining reader.old)) }
+    ensures status { IfErr result (λ status. status ≢ 0) }
+{
+    let mut repository = Plain::new(alloc, NoJournal {});
+    let mut out: Vec<u8> = Vec::new(alloc);
+    let status = serve_cfg(alloc, reader, &mut out, errors, &mut repository);
+    if status != 0 {
+        return Err(status);
+    }
+    match repository.tables_as_stored() {
+        Ok(asked) => Ok(asked),
+        Err(_) => Err(tell(errors, "smf: no memory")),
     }
 }
