@@ -75,9 +75,10 @@ _smf_smf() {
     local word=$1
     shift 2
     case "${1:-} $word" in
-    ' '*) _smf_offer "$word" sim run cfg why check compile serve --version ;;
+    ' '*) _smf_offer "$word" sim run cfg why check compile export diff serve --version ;;
     'run -'*) _smf_offer "$word" --follow ;;
     'cfg -'*) _smf_offer "$word" -f ;;
+    'diff -'*) _smf_offer "$word" --exact ;;
     *) _smf_files "$word" ;;
     esac
 }

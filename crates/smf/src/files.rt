@@ -91,7 +91,7 @@ pub(crate) fn check_over(rt: &HostRuntime, database: &str) -> u8 {
 }
 
 /// True for the name of a file of tables.
-fn is_site(path: &str) -> bool {
+pub(crate) fn is_site(path: &str) -> bool {
     path.ends_with(".toml")
 }
 

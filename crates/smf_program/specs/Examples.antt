@@ -3,7 +3,7 @@ use Rattle.std.specs.Prelude.{◌≡◌, ℕ, List, [], ◌∷◌, codes, Some, 
 use Rattle.clap.specs.Words.{fault_of}
 use Rattle.clap.specs.declared.error.kind.ErrorKind.TheVariants as kinds
 use Rattle.smf_program.specs.Tasks.{task_of}
-use Rattle.smf_program.specs.Tasks.TaskTexts.{Sim, Run, Cfg, Check, Compile, Serve, Why}
+use Rattle.smf_program.specs.Tasks.TaskTexts.{Sim, Run, Cfg, Check, Compile, Diff, Export, Serve, Why}
 use Rattle.smf_program.specs.Words.{smf_app}
 
 -- the program's name is the first of its words
@@ -41,6 +41,9 @@ QuestionsAreRead =
     ≡ Some (Why (codes "a.db") (codes "web" ∷ codes "db" ∷ [])))
     × (task_of (smf (codes "check" ∷ codes "a.db" ∷ [])) ≡ Some (Check (codes "a.db")))
     × (task_of (smf (codes "compile" ∷ codes "a.toml" ∷ [])) ≡ Some (Compile (codes "a.toml")))
+    × (task_of (smf (codes "export" ∷ codes "a.db" ∷ [])) ≡ Some (Export (codes "a.db")))
+    × (task_of (smf (codes "diff" ∷ codes "a.db" ∷ codes "x" ∷ codes "--exact" ∷ []))
+    ≡ Some (Diff true (codes "a.db") (codes "x")))
 
 abbrev pub DatabaseIsWanted : Type 0
 DatabaseIsWanted =

@@ -16,6 +16,8 @@ pub data TaskTexts : Type 0 where
   Why : List ℕ → List (List ℕ) → TaskTexts
   Check : List ℕ → TaskTexts
   Compile : List ℕ → TaskTexts
+  Export : List ℕ → TaskTexts
+  Diff : Bool → List ℕ → List ℕ → TaskTexts
 
 abbrev pub texts_of : Task → TaskTexts
 texts_of (tasks.Sim database) = Sim (option_map (λ s. s.now) database)
@@ -25,6 +27,8 @@ texts_of (tasks.Serve folder database) = Serve folder.now database.now
 texts_of (tasks.Why database words) = Why database.now (map (λ w. w.now) words.items)
 texts_of (tasks.Check database) = Check database.now
 texts_of (tasks.Compile site) = Compile site.now
+texts_of (tasks.Export database) = Export database.now
+texts_of (tasks.Diff exact database lines) = Diff exact database.now lines.now
 
 abbrev pub rows_in : ArgMatches → List Row
 rows_in m = rows_of (found_of m)
@@ -59,6 +63,12 @@ check_in rows = option_map Check (first_of (codes "DB") rows)
 abbrev pub compile_in : List Row → Option TaskTexts
 compile_in rows = option_map Compile (first_of (codes "SITE") rows)
 
+abbrev pub export_in : List Row → Option TaskTexts
+export_in rows = option_map Export (first_of (codes "DB") rows)
+
+abbrev pub diff_in : List Row → Option TaskTexts
+diff_in rows = both (Diff (is_set (codes "EXACT") rows)) (first_of (codes "DB") rows) (first_of (codes "LINES") rows)
+
 -- the task of a subcommand, by its name and by the rows of the words after it
 abbrev pub task_at : List ℕ → List Row → Option TaskTexts
 task_at name rows =
@@ -69,6 +79,8 @@ task_at name rows =
     else if pointwise nat_eq name (codes "why") then why_in rows
     else if pointwise nat_eq name (codes "check") then check_in rows
     else if pointwise nat_eq name (codes "compile") then compile_in rows
+    else if pointwise nat_eq name (codes "export") then export_in rows
+    else if pointwise nat_eq name (codes "diff") then diff_in rows
     else None
 
 abbrev pub task_in : Option (List ℕ × List Row) → Option TaskTexts

@@ -55,7 +55,21 @@ site_rule = record (new_rule (codes "SITE")) { required = true }
 abbrev pub compile_app : App
 compile_app = with_rule (new_app (codes "compile")) site_rule
 
--- one of the seven has to be named, or the version is asked for
+abbrev pub export_app : App
+export_app = with_rule (new_app (codes "export")) database_rule
+
+-- a file of lines
+abbrev pub lines_rule : Rule
+lines_rule = record (new_rule (codes "LINES")) { required = true }
+
+-- `--exact`: services that the lines do not name are meant too
+abbrev pub exact_rule : Rule
+exact_rule = record (new_rule (codes "EXACT")) { long = Some (codes "exact"); action = Some SetTrue }
+
+abbrev pub diff_app : App
+diff_app = with_rule (with_rule (with_rule (new_app (codes "diff")) exact_rule) database_rule) lines_rule
+
+-- one of the nine has to be named, or the version is asked for
 abbrev pub bare_app : App
 bare_app = on_top (λ s. record s { subcommand_required = true; has_version = true }) (new_app (codes "smf"))
 
@@ -65,11 +79,15 @@ smf_app =
     (with_subcommand
     (with_subcommand
     (with_subcommand
+    (with_subcommand
+    (with_subcommand
     (with_subcommand (with_subcommand (with_subcommand bare_app sim_app.top) run_app.top) cfg_app.top)
     serve_app.top)
     why_app.top)
     check_app.top)
-    compile_app.top
+    compile_app.top)
+    export_app.top)
+    diff_app.top
 
 -- true if a flag was found
 abbrev pub is_set : List ℕ → List Row → Bool

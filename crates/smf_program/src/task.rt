@@ -3,7 +3,7 @@ ghost use Rattle.std.specs.String.{string_bytes};
 ghost use Rattle.clap.specs.Words.{HasKind, app_of, fault_of, is_simple, is_simple_and_free, subcommand_of, subcommand_rows_of};
 ghost use Rattle.smf_program.specs.Refusals.{IsWhy};
 ghost use Rattle.smf_program.specs.Words.{is_set};
-ghost use Rattle.smf_program.specs.Tasks.{cfg_in, check_in, compile_in, rows_in, run_in, serve_in, sim_in, task_at, task_in, task_of, texts_of, why_in, words_in};
+ghost use Rattle.smf_program.specs.Tasks.{cfg_in, check_in, compile_in, diff_in, export_in, rows_in, run_in, serve_in, sim_in, task_at, task_in, task_of, texts_of, why_in, words_in};
 
 use crate::refusal::{Refusal, refusal_of};
 use crate::words::smf_command;
@@ -45,6 +45,17 @@ pub enum Task<'a> {
     /// The lines that make the services of a file of TOML.
     Compile {
         site: &'a str,
+    },
+    /// The lines that make what the database in a file holds. It is only read.
+    Export {
+        database: &'a str,
+    },
+    /// The lines that lead from what the database in a file holds to what a file of lines makes: at the services that it
+    /// names, or at all. The database is only read.
+    Diff {
+        exact: bool,
+        database: &'a str,
+        lines: &'a str,
     },
 }
 
@@ -146,6 +157,32 @@ fn compile_in<'a>(found: &ArgMatches<'a>) -> Option<Task<'a>>
     }
 }
 
+fn export_in<'a>(found: &ArgMatches<'a>) -> Option<Task<'a>>
+    ensures { option_map texts_of result ≡ export_in (rows_in found.now) }
+{
+    match found.get_str("DB") {
+        Some(database) => Some(Task::Export { database }),
+        None => None,
+    }
+}
+
+fn diff_in<'a>(found: &ArgMatches<'a>) -> Option<Task<'a>>
+    ensures { option_map texts_of result ≡ diff_in (rows_in found.now) }
+{
+    let exact = is_set(found, "EXACT");
+    match found.get_str("DB") {
+        Some(database) => match found.get_str("LINES") {
+            Some(lines) => Some(Task::Diff {
+                exact,
+                database,
+                lines,
+            }),
+            None => None,
+        },
+        None => None,
+    }
+}
+
 /// The task of a subcommand, by its name and by the words that clap found after it.
 fn task_at<'a>(
     alloc: Global,
@@ -162,6 +199,8 @@ fn task_at<'a>(
         "why" => why_in(alloc, found),
         "check" => Ok(check_in(found)),
         "compile" => Ok(compile_in(found)),
+        "export" => Ok(export_in(found)),
+        "diff" => Ok(diff_in(found)),
         _ => Ok(None),
     }
 }

@@ -1,7 +1,7 @@
 ghost use Rattle.std.specs.Prelude.{◌≡◌, IfOk, false};
 ghost use Rattle.clap.specs.Words.{app_of, rule_of};
 ghost use Rattle.clap.specs.declared.builder.command.Command.TheViews.{out-Command as fields_of};
-ghost use Rattle.smf_program.specs.Words.{bare_app, cfg_app, check_app, compile_app, database_rule, file_rule, site_rule, fmri_rule, folder_rule, follow_rule, read_rule, run_app, serve_app, sim_app, smf_app, why_app};
+ghost use Rattle.smf_program.specs.Words.{bare_app, cfg_app, check_app, compile_app, database_rule, diff_app, exact_rule, export_app, file_rule, site_rule, fmri_rule, folder_rule, follow_rule, lines_rule, read_rule, run_app, serve_app, sim_app, smf_app, why_app};
 
 use clap::{Arg, ArgAction, Command};
 use std::alloc::{AllocError, Global};
@@ -138,6 +138,46 @@ fn compile_command<'a>(alloc: Global) -> Result<Command<'a>, AllocError>
     Ok(command)
 }
 
+fn export_command<'a>(alloc: Global) -> Result<Command<'a>, AllocError>
+    ensures app { IfOk result (λ c. app_of c ≡ export_app) }
+    ensures local { IfOk result (λ c. (fields_of c).has_globals ≡ false) }
+{
+    let command = Command::new(alloc, "export")
+        .about("Prints the lines of svccfg that make what a database holds")
+        .arg(database(alloc))?;
+    Ok(command)
+}
+
+/// A file of lines.
+fn lines<'a>(alloc: Global) -> Arg<'a>
+    ensures rule { rule_of result ≡ lines_rule }
+    ensures local { result.global ≡ false }
+{
+    Arg::new(alloc, "LINES").required(true)
+}
+
+/// The flag for services that the lines do not name.
+fn exact<'a>(alloc: Global) -> Arg<'a>
+    ensures rule { rule_of result ≡ exact_rule }
+    ensures local { result.global ≡ false }
+{
+    Arg::new(alloc, "EXACT")
+        .long("exact")
+        .action(ArgAction::SetTrue)
+}
+
+fn diff_command<'a>(alloc: Global) -> Result<Command<'a>, AllocError>
+    ensures app { IfOk result (λ c. app_of c ≡ diff_app) }
+    ensures local { IfOk result (λ c. (fields_of c).has_globals ≡ false) }
+{
+    let command = Command::new(alloc, "diff")
+        .about("Prints the lines that lead from what a database holds to what a file makes")
+        .arg(exact(alloc))?
+        .arg(database(alloc))?
+        .arg(lines(alloc))?;
+    Ok(command)
+}
+
 fn bare_command<'a>(alloc: Global) -> Command<'a>
     ensures { app_of result ≡ bare_app }
 {
@@ -148,7 +188,8 @@ fn bare_command<'a>(alloc: Global) -> Command<'a>
 
 /// The program as clap knows it. It may be asked for its version, which clap does not know. `sim` may have a database. `run` has one, and contracts may be followed.
 /// `cfg` has a database, and may have a file of lines after `-f`. `serve` has a folder and a database. `why` has a
-/// database and words that mean instances. `check` has a database, and `compile` a file.
+/// database and words that mean instances. `check` and `export` have a database, `compile` a file,
+/// and `diff` both.
 pub(crate) fn smf_command<'a>(alloc: Global) -> Result<Command<'a>, AllocError>
     ensures { IfOk result (λ c. app_of c ≡ smf_app) }
 {
@@ -165,6 +206,10 @@ pub(crate) fn smf_command<'a>(alloc: Global) -> Result<Command<'a>, AllocError>
     let check = check_command(alloc)?;
     let with_check = with_why.subcommand(check)?;
     let compile = compile_command(alloc)?;
-    let command = with_check.subcommand(compile)?;
+    let with_compile = with_check.subcommand(compile)?;
+    let export = export_command(alloc)?;
+    let with_export = with_compile.subcommand(export)?;
+    let diff = diff_command(alloc)?;
+    let command = with_export.subcommand(diff)?;
     Ok(command)
 }
