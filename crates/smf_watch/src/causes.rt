@@ -18,7 +18,8 @@ use std::marker::Model;
 pub enum MaintenanceCause {
     /// One start after another failed, and then one more than is allowed.
     StartsFailed,
-    /// A start was given up though fewer had failed before it: its exit code is final, or it could not be followed.
+    /// A start was given up though the trail shows fewer that failed before it: its exit code is final, it could not be
+    /// followed, or others failed under an older server.
     StartFailed,
     /// It was to be disabled or offline.
     StopFailed,
