@@ -4,12 +4,15 @@ ghost use Rattle.sqlite.specs.Held.{IsNew};
 ghost use Rattle.sqlite.specs.Start.{FindsIn};
 ghost use Rattle.sqlite.specs.State.{HasCleanDisk};
 ghost use Rattle.sqlite_disk.specs.Memory.{memory_bytes, memory_is_usable};
+ghost use Rattle.smf_model.specs.Laws.{IsNumbered};
+ghost use Rattle.smf_store.specs.Opens.{IsOpenedAs};
 ghost use Rattle.smf_database.specs.Copies.{IsOverCopy, IsUncopied, IsUnopened, image_in};
 ghost use Rattle.smf_database.specs.Reasons.{ArePrograms, IsAnswered, IsExcused, IsInspected};
 
-use crate::questions::{check, programs, why};
+use crate::questions::{check, held, programs, why};
 use smf_fmri::{Items, Text};
 use smf_lines::TextWriter;
+use smf_model::Tables;
 use smf_store::FileBytes;
 use sqlite::{Connection, Error, ErrorCode, Options};
 use sqlite_disk::{Disk, Files, Memory};
@@ -148,6 +151,30 @@ pub fn check_copy<W: TextWriter, E: TextWriter>(
 {
     match open_copy(alloc, found) {
         Ok(conn) => Ok(check(alloc, conn, missing, writer, errors)),
+        Err(fault) => Err(fault),
+    }
+}
+
+/// Opens a copy in memory of the database that these bytes hold. Gives what is held, for whoever asks several things of it.
+/// It gives nothing for a fault, which is told.
+pub fn held_copy<E: TextWriter>(
+    alloc: Global,
+    found: &FileBytes,
+    errors: &mut E,
+) -> Result<Option<Tables>, Error>
+    ensures found { IfOk result (λ found_or_none. IfSome found_or_none
+        (λ held. IsOverCopy ⟦<Memory as Disk>⟧ (image_in found.now)
+        (λ conn after. IsOpenedAs over_files conn held))) }
+    ensures numbered { IfOk result (λ found_or_none. IfSome found_or_none IsNumbered) }
+    ensures quiet { IfOk result (λ found_or_none. OnSome found_or_none
+        (E.contents errors.new ≡ E.contents errors.old)) }
+    ensures fault { IfOk result (λ found_or_none. IfNone found_or_none
+        (IsExcused E.write_fails (E.contents errors.old) (E.contents errors.new))) }
+    ensures err { IfErr result (λ fault. IsUncopied ⟦<Memory as Disk>⟧ (image_in found.now) fault) }
+    ensures silent { OnErr result (E.contents errors.new ≡ E.contents errors.old) }
+{
+    match open_copy(alloc, found) {
+        Ok(conn) => Ok(held(alloc, conn, errors)),
         Err(fault) => Err(fault),
     }
 }

@@ -14,7 +14,7 @@ use smf_state::ViewItem;
 use std::alloc::{AllocError, Global};
 
 /// Words with memory of their own.
-pub(crate) fn texts_of(alloc: Global, words: &[&str]) -> Result<Items<Text>, AllocError>
+pub fn texts_of(alloc: Global, words: &[&str]) -> Result<Items<Text>, AllocError>
     ensures { IfOk result (λ all. all ≡ map (λ w. w.now) words.now) }
 {
     let mut all = Items::new(alloc);
@@ -35,7 +35,8 @@ fn pattern_of(alloc: Global, word: &Text) -> Result<Option<Pattern>, AllocError>
     }
 }
 
-fn patterns_of(alloc: Global, words: &[Text]) -> Result<Vec<Pattern>, AllocError>
+/// The patterns that words are. A word that is none is left out.
+pub fn patterns_of(alloc: Global, words: &[Text]) -> Result<Vec<Pattern>, AllocError>
     ensures { IfOk result (λ all. all.items ≡ patterns_of words.now) }
 {
     let mut all = Vec::new(alloc);
@@ -53,7 +54,8 @@ fn is_match(pattern: &Pattern, name: &InstanceFmri) -> bool
     pattern.matches(name.as_fmri())
 }
 
-fn is_named(patterns: &[Pattern], name: &InstanceFmri) -> bool
+/// True if one of the patterns matches an instance's name.
+pub fn is_named(patterns: &[Pattern], name: &InstanceFmri) -> bool
     ensures { result ≡ is_named patterns.now name.now }
 {
     patterns.iter().any(|pattern| is_match(pattern, name))
@@ -75,7 +77,7 @@ fn is_matched(alloc: Global, view: &[ViewItem], word: &Text) -> Result<bool, All
 }
 
 /// The words that match no instance.
-pub(crate) fn words_without_match(
+pub fn words_without_match(
     alloc: Global,
     view: &[ViewItem],
     words: &[Text],
@@ -101,7 +103,7 @@ fn put_missed(alloc: Global, out: &mut String, words: &[Text]) -> Result<(), All
 }
 
 /// The lines about words that match no instance.
-pub(crate) fn missed_text(alloc: Global, words: &[Text]) -> Result<Text, AllocError>
+pub fn missed_text(alloc: Global, words: &[Text]) -> Result<Text, AllocError>
     ensures { IfOk result (λ text. text ≡ flat_map missed_text words.now) }
 {
     let mut out = String::new(alloc);

@@ -2,7 +2,9 @@ ghost use Rattle.std.specs.Prelude.{◌≡◌, ◌≢◌, ◌++◌, IfNone, IfOk
 ghost use Rattle.smf_dep.specs.Members.{members};
 ghost use Rattle.smf_reasons.specs.ViewHints.{programs_of};
 ghost use Rattle.smf_database.specs.Reasons.{AreChecked, AreFound, ArePrograms, AreTold, AreWritten, IsCheckText, IsAnswer, IsAnswered, IsExcused, IsInspected, IsNoted, IsWritten, view_after_refresh, status_of};
+ghost use Rattle.smf_model.specs.Laws.{IsNumbered};
 ghost use Rattle.smf_model.specs.Shown.{view as view_of};
+ghost use Rattle.smf_store.specs.Opens.{IsOpenedAs};
 
 use crate::configured::view_after_refresh;
 use crate::fault_texts::tell_open;
@@ -11,7 +13,7 @@ use crate::unrefreshed::noted_all;
 use smf_cfg::tell;
 use smf_fmri::{Items, Text};
 use smf_lines::TextWriter;
-use smf_model::{Journal, Plain};
+use smf_model::{Journal, Plain, Tables};
 use smf_reasons::{check_text_of, hint_text, programs_of, text_of};
 use smf_state::View;
 use smf_store::{OpenFault, open_repository};
@@ -281,13 +283,9 @@ fn programs_in<J: Journal>(alloc: Global, repository: &Plain<J>) -> Result<Items
     programs_of(alloc, &view)
 }
 
-/// Tells why a store was not opened, which gives no programs.
+/// Tells why a store was not opened, which gives nothing.
 #[tactic(auto, using(crate::proofs::Excused::open_excused))]
-fn tell_unopened<E: TextWriter>(
-    alloc: Global,
-    errors: &mut E,
-    fault: &OpenFault,
-) -> Option<Items<Text>>
+fn tell_unopened<T, E: TextWriter>(alloc: Global, errors: &mut E, fault: &OpenFault) -> Option<T>
     ensures none { result ≡ None }
     ensures told { IsExcused E.write_fails (E.contents errors.old) (E.contents errors.new) }
 {
@@ -295,17 +293,14 @@ fn tell_unopened<E: TextWriter>(
     None
 }
 
-/// The programs that were found, or none if memory ran out, which is told.
-fn found_or_told<E: TextWriter>(
-    errors: &mut E,
-    found: Result<Items<Text>, AllocError>,
-) -> Option<Items<Text>>
-    ensures found { IfSome result (λ programs. found ≡ Ok programs) }
+/// What was found, or nothing if memory ran out, which is told.
+fn found_or_told<T, E: TextWriter>(errors: &mut E, found: Result<T, AllocError>) -> Option<T>
+    ensures found { IfSome result (λ it. found ≡ Ok it) }
     ensures quiet { OnSome result (E.contents errors.new ≡ E.contents errors.old) }
     ensures fault { IfNone result (IsExcused E.write_fails (E.contents errors.old) (E.contents errors.new)) }
 {
     match found {
-        Ok(programs) => Some(programs),
+        Ok(it) => Some(it),
         Err(_) => {
             let _status = excuse(errors, Unwritten::Memory);
             None
@@ -326,6 +321,27 @@ pub(crate) fn programs<S: Alter + Drop, E: TextWriter>(
     match open_repository(alloc, conn) {
         Ok(repository) => {
             let found = programs_in(alloc, &repository);
+            let _conn = repository.into_journal().release();
+            found_or_told(errors, found)
+        }
+        Err((fault, _conn)) => tell_unopened(alloc, errors, &fault),
+    }
+}
+
+/// What a database holds, or nothing if that can't be said, which is told.
+pub(crate) fn held<S: Alter + Drop, E: TextWriter>(
+    alloc: Global,
+    conn: Connection<S>,
+    errors: &mut E,
+) -> Option<Tables>
+    ensures found { IfSome result (IsOpenedAs S.Store conn) }
+    ensures numbered { IfSome result IsNumbered }
+    ensures quiet { OnSome result (E.contents errors.new ≡ E.contents errors.old) }
+    ensures fault { IfNone result (IsExcused E.write_fails (E.contents errors.old) (E.contents errors.new)) }
+{
+    match open_repository(alloc, conn) {
+        Ok(repository) => {
+            let found = repository.tables_as_stored();
             let _conn = repository.into_journal().release();
             found_or_told(errors, found)
         }
