@@ -1,3 +1,4 @@
 pub mod Choices
 pub mod Configured
 pub mod Turns
+pub mod Scripts

@@ -7,6 +7,7 @@ use Rattle.smf_model.specs.declared.held.InstanceName.{InstanceName}
 use Rattle.smf_model.specs.Contents.{Holdings}
 use Rattle.smf_model.specs.Look.{empty, instance_by_name, service}
 use Rattle.smf_cfg.specs.Runs.{Effect, run, start_place}
+use Rattle.smf_export.specs.declared.difference.Undo.{Undo}
 use Rattle.smf_export.specs.declared.comparison.Extent.TheVariants.{Persistent, Every}
 use Rattle.smf_export.specs.Configured.{HoldSame, Services, others}
 
@@ -39,6 +40,12 @@ pub record Turns (meant : Services) (before asked : Holdings) (text : List ℕ) 
 pub record IsRun (before : Holdings) (text : List ℕ) (after : Holdings) : Type 0 where
   pub fine : (effect_on before text).end.is_fine ≡ true
   pub held : after ≡ held_after before text
+
+-- Lines turn what is held into what is asked for, and the lines of an undo turn what is held then into what was held.
+pub record IsUndo (meant : Services) (before asked : Holdings) (lines : List ℕ) (undo : Undo) : Type 0 where
+  pub there : Turns meant before asked lines
+  pub after : undo.after ≡ held_after before lines
+  pub back : Turns meant undo.after before undo.lines
 
 -- if the bytes of lines are known, none of the lines is refused over nothing, and they make this
 abbrev pub IsAsked : Option (List ℕ) → Holdings → Type 0

@@ -6,7 +6,7 @@ ghost use Rattle.smf_model.specs.Laws.{IsNumbered};
 ghost use Rattle.smf_model.specs.Look.{empty, instance_by_name};
 ghost use Rattle.smf_export.specs.Choices.{is_chosen};
 ghost use Rattle.smf_export.specs.Configured.{HoldSame, others};
-ghost use Rattle.smf_export.specs.Turns.{IsTurned, KeepsInstances, Turns, are_kept, has_same_number, services_asked};
+ghost use Rattle.smf_export.specs.Turns.{IsTurned, IsUndo, KeepsInstances, Turns, are_kept, has_same_number, services_asked};
 ghost use Rattle.smf_export.specs.declared.comparison.Extent.TheVariants as extents;
 
 use crate::choice::Choice;
@@ -177,6 +177,36 @@ pub fn difference_from(
 {
     let choice = choice_of(alloc, asked, is_exact)?;
     difference(alloc, &choice, before, asked)
+}
+
+/// What lines leave, and the lines that take them back.
+#[derive(Drop)]
+pub struct Undo {
+    /// What is held after the lines.
+    pub after: Tables,
+    /// The lines from there to what was held before.
+    pub lines: Text,
+}
+
+/// The lines that take back those of `difference_from`, once these are done: at the same services they lead to what was
+/// held before. There are none where `difference_from` gives none. An instance that was added and is in use by then cannot
+/// be deleted: it has to be disabled first.
+pub fn undo_from(
+    alloc: Global,
+    before: &Tables,
+    asked: &Tables,
+    is_exact: bool,
+) -> Result<Undo, ExportFault>
+    requires before { IsNumbered before.now }
+    requires asked { IsNumbered asked.now }
+    // The lines make what is asked for, and those of the undo what was before.
+    ensures undoes { IfOk result (λ undo. (lines : List ℕ) × IsUndo (services_asked is_exact asked.now) before.now asked.now lines undo) }
+{
+    let choice = choice_of(alloc, asked, is_exact)?;
+    let there = difference(alloc, &choice, before, asked)?;
+    let after = rehearsed(alloc, before, there.as_str())?;
+    let lines = difference(alloc, &choice, &after, before)?;
+    Ok(Undo { after, lines })
 }
 
 /// The lines of svccfg that make, out of nothing, the services that are chosen, with their instances and with the

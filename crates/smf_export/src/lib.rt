@@ -2,7 +2,7 @@
 //! repository to another.
 //! Modules: `choice` (the services that are meant), `group_lines` and `service_lines` (lines for groups, and for
 //! services with their instances), `rehearsal` (what lines make), `comparison` (whether two repositories
-//! hold the same), `difference` (the lines, once it is seen that they lead there), `fault`.
+//! hold the same), `difference` (the lines, once it is seen that they lead there), `script` (lines as a script that refreshes what they touch), `fault`.
 #![tactic(auto)]
 
 mod choice;
@@ -11,10 +11,12 @@ mod difference;
 mod fault;
 mod group_lines;
 mod rehearsal;
+mod script;
 mod service_lines;
 
 pub use choice::{Choice, ChosenService};
 pub use comparison::Extent;
-pub use difference::{difference_from, export};
+pub use difference::{Undo, difference_from, export, undo_from};
 pub use fault::ExportFault;
 pub use rehearsal::asked_by;
+pub use script::script_of;

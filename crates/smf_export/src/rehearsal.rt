@@ -31,7 +31,8 @@ fn ending(fault: RunFault) -> ExportFault {
 /// What is held after lines, none of which is refused.
 pub(crate) fn rehearsed(alloc: Global, before: &Tables, lines: &str) -> Result<Tables, ExportFault>
     requires { IsNumbered before.now }
-    ensures { IfOk result (λ after. IsRun before.now lines.now after) }
+    ensures ran { IfOk result (λ after. IsRun before.now lines.now after) }
+    ensures numbered { IfOk result IsNumbered }
 {
     let mut repository = Plain::over(alloc, before.clone()?, NoJournal {});
     let mut reader = lines.as_bytes();
