@@ -201,6 +201,7 @@ pub fn undo_from(
     requires asked { IsNumbered asked.now }
     // The lines make what is asked for, and those of the undo what was before.
     ensures undoes { IfOk result (λ undo. (lines : List ℕ) × IsUndo (services_asked is_exact asked.now) before.now asked.now lines undo) }
+    ensures numbered { IfOk result (λ undo. IsNumbered undo.after) }
 {
     let choice = choice_of(alloc, asked, is_exact)?;
     let there = difference(alloc, &choice, before, asked)?;
