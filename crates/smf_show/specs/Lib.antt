@@ -1,0 +1,9 @@
+pub mod Chosen
+pub mod Columns
+pub mod Json
+pub mod Long
+pub mod Metrics
+pub mod Properties
+pub mod Rows
+pub mod Tables
+pub mod Well
