@@ -75,10 +75,12 @@ _smf_smf() {
     local word=$1
     shift 2
     case "${1:-} $word" in
-    ' '*) _smf_offer "$word" sim run cfg why check compile export diff serve --version ;;
+    ' '*) _smf_offer "$word" sim run cfg why check compile export diff backup show prop serve --version ;;
     'run -'*) _smf_offer "$word" --follow ;;
     'cfg -'*) _smf_offer "$word" -f ;;
-    'diff -'*) _smf_offer "$word" --exact ;;
+    'diff -'*) _smf_offer "$word" --exact --script --undo ;;
+    'show -'*) _smf_offer "$word" -j -l -H -o -s -S -R --json --long --metrics --well ;;
+    'prop -'*) _smf_offer "$word" -c -p ;;
     *) _smf_files "$word" ;;
     esac
 }

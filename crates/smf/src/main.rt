@@ -1,23 +1,27 @@
 //! `smf`: does scripts of a service manager on standard input, and lines of svccfg over a database. A script runs over
 //! a repository in memory, a copy in memory of a database, or a database and the processes of its services. This crate
 //! joins what the system has with what the crates below decide.
-//! Modules: `files` (databases in files), `sites` (files of tables), `exports` (what databases hold, as lines), `contracts` (contracts that are followed through forks), `processes`
+//! Modules: `files` (databases in files), `sites` (files of tables), `exports` (what databases hold, as lines), `backups` (whole copies of databases), `shows` (what they hold, for people and for programs), `contracts` (contracts that are followed through forks), `processes`
 //! (processes of the system), `server` (a service manager that stays), `boot` (boots that fail).
 #![tactic(auto)]
 
+mod backups;
 mod boot;
 mod contracts;
 mod exports;
 mod files;
 mod processes;
 mod server;
+mod shows;
 mod sites;
 
+use crate::backups::backup_over;
 use crate::contracts::follow_over;
 use crate::exports::{diff_over, export_over};
 use crate::files::{cfg_over, check_over, sim_over, why_over};
 use crate::processes::run_over;
 use crate::server::serve_over;
+use crate::shows::{prop_over, show_over};
 use crate::sites::compile;
 use sha2::{Digest, Sha256};
 use smf_edge::TableKids;
@@ -54,12 +58,24 @@ fn do_task(rt: &HostRuntime, task: &Task<'_>) -> io::Result<u8> {
         Task::Why { database, words } => Ok(why_over(rt, database, words.as_slice())),
         Task::Check { database } => Ok(check_over(rt, database)),
         Task::Compile { site } => Ok(compile(rt, site)),
-        Task::Export { database } => Ok(export_over(rt, database)),
+        Task::Export { database, words } => Ok(export_over(rt, database, words.as_slice())),
         Task::Diff {
-            exact,
+            lead,
             database,
             lines,
-        } => diff_over(rt, database, lines, *exact),
+        } => diff_over(rt, database, lines, *lead),
+        Task::Show {
+            listing,
+            database,
+            words,
+        } => Ok(show_over(rt, database, words.as_slice(), listing)),
+        Task::Prop {
+            configured,
+            name,
+            database,
+            words,
+        } => Ok(prop_over(rt, database, words.as_slice(), *configured, *name)),
+        Task::Backup { database, copy } => Ok(backup_over(rt, database, copy)),
         Task::Run { database, .. } => do_alone(rt, database, task),
         Task::Cfg { database, .. } => do_alone(rt, database, task),
         Task::Serve { folder, database } => serve_over(rt, folder, database),

@@ -3,7 +3,7 @@ use Rattle.std.specs.Prelude.{◌≡◌, ℕ, List, [], ◌∷◌, codes, Some, 
 use Rattle.clap.specs.Words.{fault_of}
 use Rattle.clap.specs.declared.error.kind.ErrorKind.TheVariants as kinds
 use Rattle.smf_program.specs.Tasks.{task_of}
-use Rattle.smf_program.specs.Tasks.TaskTexts.{Sim, Run, Cfg, Check, Compile, Diff, Export, Serve, Why}
+use Rattle.smf_program.specs.Tasks.TaskTexts.{Sim, Run, Cfg, Backup, Check, Compile, Diff, Export, Prop, Serve, Why}
 use Rattle.smf_program.specs.Words.{smf_app}
 
 -- the program's name is the first of its words
@@ -41,9 +41,15 @@ QuestionsAreRead =
     ≡ Some (Why (codes "a.db") (codes "web" ∷ codes "db" ∷ [])))
     × (task_of (smf (codes "check" ∷ codes "a.db" ∷ [])) ≡ Some (Check (codes "a.db")))
     × (task_of (smf (codes "compile" ∷ codes "a.toml" ∷ [])) ≡ Some (Compile (codes "a.toml")))
-    × (task_of (smf (codes "export" ∷ codes "a.db" ∷ [])) ≡ Some (Export (codes "a.db")))
+    × (task_of (smf (codes "prop" ∷ codes "-p" ∷ codes "start" ∷ codes "a.db" ∷ codes "web" ∷ []))
+    ≡ Some (Prop false (Some (codes "start")) (codes "a.db") (codes "web" ∷ [])))
+
+abbrev pub CopiesAreRead : Type 0
+CopiesAreRead =
+    (task_of (smf (codes "export" ∷ codes "a.db" ∷ codes "web" ∷ [])) ≡ Some (Export (codes "a.db") (codes "web" ∷ [])))
     × (task_of (smf (codes "diff" ∷ codes "a.db" ∷ codes "x" ∷ codes "--exact" ∷ []))
-    ≡ Some (Diff true (codes "a.db") (codes "x")))
+    ≡ Some (Diff (record { exact = true; script = false; undo = false }) (codes "a.db") (codes "x")))
+    × (task_of (smf (codes "backup" ∷ codes "a.db" ∷ codes "b.db" ∷ [])) ≡ Some (Backup (codes "a.db") (codes "b.db")))
 
 abbrev pub DatabaseIsWanted : Type 0
 DatabaseIsWanted =

@@ -3,9 +3,23 @@ use Rattle.std.specs.Prelude.{ℕ, List, [], ◌∷◌, map, Bool, nat_eq, codes
 use Rattle.std.specs.Cmp.Lexicographic.{pointwise}
 use Rattle.clap.specs.Words.{Kinds, Row, all_of, fault_of, first_of, found_of, rows_of, subcommand_of}
 use Rattle.clap.specs.declared.parser.matches.ArgMatches.{ArgMatches}
+use Rattle.smf_program.specs.declared.task.Lead.{Lead}
+use Rattle.smf_program.specs.declared.task.Listing.{Listing}
 use Rattle.smf_program.specs.declared.task.Task.{Task}
 use Rattle.smf_program.specs.declared.task.Task.TheVariants as tasks
 use Rattle.smf_program.specs.Words.{is_set, smf_app}
+
+-- how instances are shown, by its texts
+pub record ListingTexts : Type 0 where
+  pub json : Bool
+  pub long : Bool
+  pub metrics : Bool
+  pub well : Bool
+  pub bare : Bool
+  pub columns : Option (List ℕ)
+  pub rising : Option (List ℕ)
+  pub falling : Option (List ℕ)
+  pub restarter : Option (List ℕ)
 
 -- a task by its texts
 pub data TaskTexts : Type 0 where
@@ -16,8 +30,25 @@ pub data TaskTexts : Type 0 where
   Why : List ℕ → List (List ℕ) → TaskTexts
   Check : List ℕ → TaskTexts
   Compile : List ℕ → TaskTexts
-  Export : List ℕ → TaskTexts
-  Diff : Bool → List ℕ → List ℕ → TaskTexts
+  Export : List ℕ → List (List ℕ) → TaskTexts
+  Diff : Lead → List ℕ → List ℕ → TaskTexts
+  Backup : List ℕ → List ℕ → TaskTexts
+  Show : ListingTexts → List ℕ → List (List ℕ) → TaskTexts
+  Prop : Bool → Option (List ℕ) → List ℕ → List (List ℕ) → TaskTexts
+
+abbrev pub listing_texts : Listing → ListingTexts
+listing_texts l =
+    record {
+      json = l.json;
+      long = l.long;
+      metrics = l.metrics;
+      well = l.well;
+      bare = l.bare;
+      columns = option_map (λ s. s.now) l.columns;
+      rising = option_map (λ s. s.now) l.rising;
+      falling = option_map (λ s. s.now) l.falling;
+      restarter = option_map (λ s. s.now) l.restarter;
+    }
 
 abbrev pub texts_of : Task → TaskTexts
 texts_of (tasks.Sim database) = Sim (option_map (λ s. s.now) database)
@@ -27,8 +58,13 @@ texts_of (tasks.Serve folder database) = Serve folder.now database.now
 texts_of (tasks.Why database words) = Why database.now (map (λ w. w.now) words.items)
 texts_of (tasks.Check database) = Check database.now
 texts_of (tasks.Compile site) = Compile site.now
-texts_of (tasks.Export database) = Export database.now
-texts_of (tasks.Diff exact database lines) = Diff exact database.now lines.now
+texts_of (tasks.Export database words) = Export database.now (map (λ w. w.now) words.items)
+texts_of (tasks.Diff lead database lines) = Diff lead database.now lines.now
+texts_of (tasks.Backup database copy) = Backup database.now copy.now
+texts_of (tasks.Show listing database words) =
+    Show (listing_texts listing) database.now (map (λ w. w.now) words.items)
+texts_of (tasks.Prop configured name database words) =
+    Prop configured (option_map (λ s. s.now) name) database.now (map (λ w. w.now) words.items)
 
 abbrev pub rows_in : ArgMatches → List Row
 rows_in m = rows_of (found_of m)
@@ -64,10 +100,45 @@ abbrev pub compile_in : List Row → Option TaskTexts
 compile_in rows = option_map Compile (first_of (codes "SITE") rows)
 
 abbrev pub export_in : List Row → Option TaskTexts
-export_in rows = option_map Export (first_of (codes "DB") rows)
+export_in rows = option_map (λ database. Export database (words_in rows)) (first_of (codes "DB") rows)
+
+abbrev pub lead_in : List Row → Lead
+lead_in rows =
+    record {
+      exact = is_set (codes "EXACT") rows;
+      script = is_set (codes "SCRIPT") rows;
+      undo = is_set (codes "UNDO") rows;
+    }
 
 abbrev pub diff_in : List Row → Option TaskTexts
-diff_in rows = both (Diff (is_set (codes "EXACT") rows)) (first_of (codes "DB") rows) (first_of (codes "LINES") rows)
+diff_in rows =
+    both (Diff (lead_in rows)) (first_of (codes "DB") rows) (first_of (codes "LINES") rows)
+
+abbrev pub backup_in : List Row → Option TaskTexts
+backup_in rows = both Backup (first_of (codes "DB") rows) (first_of (codes "COPY") rows)
+
+abbrev pub listing_in : List Row → ListingTexts
+listing_in rows =
+    record {
+      json = is_set (codes "JSON") rows;
+      long = is_set (codes "LONG") rows;
+      metrics = is_set (codes "METRICS") rows;
+      well = is_set (codes "WELL") rows;
+      bare = is_set (codes "BARE") rows;
+      columns = first_of (codes "COLUMNS") rows;
+      rising = first_of (codes "RISING") rows;
+      falling = first_of (codes "FALLING") rows;
+      restarter = first_of (codes "RESTARTER") rows;
+    }
+
+abbrev pub show_in : List Row → Option TaskTexts
+show_in rows = option_map (λ database. Show (listing_in rows) database (words_in rows)) (first_of (codes "DB") rows)
+
+abbrev pub prop_in : List Row → Option TaskTexts
+prop_in rows =
+    option_map
+    (λ database. Prop (is_set (codes "CONFIGURED") rows) (first_of (codes "NAME") rows) database (words_in rows))
+    (first_of (codes "DB") rows)
 
 -- the task of a subcommand, by its name and by the rows of the words after it
 abbrev pub task_at : List ℕ → List Row → Option TaskTexts
@@ -81,6 +152,9 @@ task_at name rows =
     else if pointwise nat_eq name (codes "compile") then compile_in rows
     else if pointwise nat_eq name (codes "export") then export_in rows
     else if pointwise nat_eq name (codes "diff") then diff_in rows
+    else if pointwise nat_eq name (codes "backup") then backup_in rows
+    else if pointwise nat_eq name (codes "show") then show_in rows
+    else if pointwise nat_eq name (codes "prop") then prop_in rows
     else None
 
 abbrev pub task_in : Option (List ℕ × List Row) → Option TaskTexts

@@ -56,7 +56,7 @@ abbrev pub compile_app : App
 compile_app = with_rule (new_app (codes "compile")) site_rule
 
 abbrev pub export_app : App
-export_app = with_rule (new_app (codes "export")) database_rule
+export_app = with_rule (with_rule (new_app (codes "export")) database_rule) fmri_rule
 
 -- a file of lines
 abbrev pub lines_rule : Rule
@@ -66,28 +66,104 @@ lines_rule = record (new_rule (codes "LINES")) { required = true }
 abbrev pub exact_rule : Rule
 exact_rule = record (new_rule (codes "EXACT")) { long = Some (codes "exact"); action = Some SetTrue }
 
-abbrev pub diff_app : App
-diff_app = with_rule (with_rule (with_rule (new_app (codes "diff")) exact_rule) database_rule) lines_rule
+-- `--script`: the lines are those of a script, which refreshes what they touch
+abbrev pub script_rule : Rule
+script_rule = record (new_rule (codes "SCRIPT")) { long = Some (codes "script"); action = Some SetTrue }
 
--- one of the nine has to be named, or the version is asked for
+-- `--undo`: the lines that take the others back
+abbrev pub undo_rule : Rule
+undo_rule = record (new_rule (codes "UNDO")) { long = Some (codes "undo"); action = Some SetTrue }
+
+abbrev pub lead_app : App
+lead_app = with_rule (with_rule (with_rule (new_app (codes "diff")) exact_rule) script_rule) undo_rule
+
+abbrev pub diff_app : App
+diff_app = with_rule (with_rule lead_app database_rule) lines_rule
+
+-- the file that a copy goes to
+abbrev pub copy_rule : Rule
+copy_rule = record (new_rule (codes "COPY")) { required = true }
+
+abbrev pub backup_app : App
+backup_app = with_rule (with_rule (new_app (codes "backup")) database_rule) copy_rule
+
+-- how instances are shown: as JSON, each in a paragraph, as metrics, or not at all but by the status
+abbrev pub json_rule : Rule
+json_rule = record (new_rule (codes "JSON")) { short = Some 106; long = Some (codes "json"); action = Some SetTrue }
+
+abbrev pub long_rule : Rule
+long_rule = record (new_rule (codes "LONG")) { short = Some 108; long = Some (codes "long"); action = Some SetTrue }
+
+abbrev pub metrics_rule : Rule
+metrics_rule = record (new_rule (codes "METRICS")) { long = Some (codes "metrics"); action = Some SetTrue }
+
+abbrev pub well_rule : Rule
+well_rule = record (new_rule (codes "WELL")) { long = Some (codes "well"); action = Some SetTrue }
+
+-- a table without its header
+abbrev pub bare_rule : Rule
+bare_rule = record (new_rule (codes "BARE")) { short = Some 72; action = Some SetTrue }
+
+-- the columns of a table, the column that it is sorted by, rising or falling, and the restarter whose instances it has
+abbrev pub columns_rule : Rule
+columns_rule = record (new_rule (codes "COLUMNS")) { short = Some 111 }
+
+abbrev pub rising_rule : Rule
+rising_rule = record (new_rule (codes "RISING")) { short = Some 115 }
+
+abbrev pub falling_rule : Rule
+falling_rule = record (new_rule (codes "FALLING")) { short = Some 83 }
+
+abbrev pub restarter_rule : Rule
+restarter_rule = record (new_rule (codes "RESTARTER")) { short = Some 82 }
+
+abbrev pub form_app : App
+form_app = with_rule (with_rule (with_rule (new_app (codes "show")) json_rule) long_rule) metrics_rule
+
+abbrev pub shown_app : App
+shown_app = with_rule (with_rule form_app well_rule) bare_rule
+
+abbrev pub table_app : App
+table_app = with_rule (with_rule (with_rule shown_app columns_rule) rising_rule) falling_rule
+
+abbrev pub show_app : App
+show_app = with_rule (with_rule (with_rule table_app restarter_rule) database_rule) fmri_rule
+
+-- properties as they are configured, and not as they run
+abbrev pub configured_rule : Rule
+configured_rule = record (new_rule (codes "CONFIGURED")) { short = Some 99; action = Some SetTrue }
+
+-- one property, or the properties of one group
+abbrev pub name_rule : Rule
+name_rule = record (new_rule (codes "NAME")) { short = Some 112 }
+
+abbrev pub named_app : App
+named_app = with_rule (with_rule (new_app (codes "prop")) configured_rule) name_rule
+
+abbrev pub prop_app : App
+prop_app = with_rule (with_rule named_app database_rule) fmri_rule
+
+-- one of the twelve has to be named, or the version is asked for
 abbrev pub bare_app : App
 bare_app = on_top (λ s. record s { subcommand_required = true; has_version = true }) (new_app (codes "smf"))
+
+-- those that run, or that change a database
+abbrev pub running_app : App
+running_app =
+    with_subcommand
+    (with_subcommand (with_subcommand (with_subcommand bare_app sim_app.top) run_app.top) cfg_app.top) serve_app.top
+
+-- with those that ask
+abbrev pub asking_app : App
+asking_app =
+    with_subcommand (with_subcommand (with_subcommand (with_subcommand running_app why_app.top) check_app.top) show_app.top)
+    prop_app.top
 
 unfoldable pub smf_app : App
 smf_app =
     with_subcommand
-    (with_subcommand
-    (with_subcommand
-    (with_subcommand
-    (with_subcommand
-    (with_subcommand
-    (with_subcommand (with_subcommand (with_subcommand bare_app sim_app.top) run_app.top) cfg_app.top)
-    serve_app.top)
-    why_app.top)
-    check_app.top)
-    compile_app.top)
-    export_app.top)
-    diff_app.top
+    (with_subcommand (with_subcommand (with_subcommand asking_app compile_app.top) export_app.top) diff_app.top)
+    backup_app.top
 
 -- true if a flag was found
 abbrev pub is_set : List ℕ → List Row → Bool

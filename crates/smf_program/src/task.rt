@@ -1,14 +1,48 @@
 ghost use Rattle.std.specs.Prelude.{◌≡◌, IfErr, IfOk, IsTrue, Some, [], map, option_map};
 ghost use Rattle.std.specs.String.{string_bytes};
-ghost use Rattle.clap.specs.Words.{HasKind, app_of, fault_of, is_simple, is_simple_and_free, subcommand_of, subcommand_rows_of};
+ghost use Rattle.clap.specs.Words.{HasKind, app_of, fault_of, first_of, is_simple, is_simple_and_free, subcommand_of, subcommand_rows_of};
 ghost use Rattle.smf_program.specs.Refusals.{IsWhy};
 ghost use Rattle.smf_program.specs.Words.{is_set};
-ghost use Rattle.smf_program.specs.Tasks.{cfg_in, check_in, compile_in, diff_in, export_in, rows_in, run_in, serve_in, sim_in, task_at, task_in, task_of, texts_of, why_in, words_in};
+ghost use Rattle.smf_program.specs.Tasks.{backup_in, cfg_in, check_in, compile_in, diff_in, export_in, lead_in, listing_in, listing_texts, prop_in, rows_in, show_in, run_in, serve_in, sim_in, task_at, task_in, task_of, texts_of, why_in, words_in};
 
 use crate::refusal::{Refusal, refusal_of};
 use crate::words::smf_command;
 use clap::{ArgMatches, Command, Error};
 use std::alloc::{AllocError, Global};
+
+/// How instances are shown: in one of four forms, or as a table.
+#[derive(Drop)]
+pub struct Listing<'a> {
+    /// As JSON.
+    pub json: bool,
+    /// Each in a paragraph.
+    pub long: bool,
+    /// As metrics in Prometheus' text format.
+    pub metrics: bool,
+    /// By the status alone: 0 if all that are enabled run.
+    pub well: bool,
+    /// A table without its header.
+    pub bare: bool,
+    /// The columns of the table, joined by commas.
+    pub columns: Option<&'a str>,
+    /// The column by which its lines rise.
+    pub rising: Option<&'a str>,
+    /// The column by which they fall.
+    pub falling: Option<&'a str>,
+    /// The restarter whose instances are shown.
+    pub restarter: Option<&'a str>,
+}
+
+/// Which lines lead from a database to a file, and in which form.
+#[derive(Clone, Copy)]
+pub struct Lead {
+    /// At all services, and not only at those that the file names.
+    pub exact: bool,
+    /// As a script that refreshes what they touch.
+    pub script: bool,
+    /// Those that take the others back.
+    pub undo: bool,
+}
 
 /// The task that the program's words ask for.
 #[derive(Drop)]
@@ -46,16 +80,37 @@ pub enum Task<'a> {
     Compile {
         site: &'a str,
     },
-    /// The lines that make what the database in a file holds. It is only read.
+    /// The lines that make what the database in a file holds: at the services that words mean, or at all without words.
+    /// It is only read.
     Export {
         database: &'a str,
+        words: Vec<&'a str>,
     },
     /// The lines that lead from what the database in a file holds to what a file of lines makes: at the services that it
     /// names, or at all. The database is only read.
     Diff {
-        exact: bool,
+        lead: Lead,
         database: &'a str,
         lines: &'a str,
+    },
+    /// A whole copy of the database in a file, which goes into another file.
+    Backup {
+        database: &'a str,
+        copy: &'a str,
+    },
+    /// The instances that the database in a file has: those that words mean, or all without words. It is only read.
+    Show {
+        listing: Listing<'a>,
+        database: &'a str,
+        words: Vec<&'a str>,
+    },
+    /// The properties of instances that the database in a file has, as they are configured or as they run: all, or those
+    /// that a name means. It is only read.
+    Prop {
+        configured: bool,
+        name: Option<&'a str>,
+        database: &'a str,
+        words: Vec<&'a str>,
     },
 }
 
@@ -157,29 +212,107 @@ fn compile_in<'a>(found: &ArgMatches<'a>) -> Option<Task<'a>>
     }
 }
 
-fn export_in<'a>(found: &ArgMatches<'a>) -> Option<Task<'a>>
-    ensures { option_map texts_of result ≡ export_in (rows_in found.now) }
+fn export_in<'a>(alloc: Global, found: &ArgMatches<'a>) -> Result<Option<Task<'a>>, AllocError>
+    ensures { IfOk result (λ task. option_map texts_of task ≡ export_in (rows_in found.now)) }
 {
+    let words = words_in(alloc, found)?;
     match found.get_str("DB") {
-        Some(database) => Some(Task::Export { database }),
-        None => None,
+        Some(database) => Ok(Some(Task::Export { database, words })),
+        None => Ok(None),
+    }
+}
+
+fn lead_in<'a>(found: &ArgMatches<'a>) -> Lead
+    ensures { result ≡ lead_in (rows_in found.now) }
+{
+    Lead {
+        exact: is_set(found, "EXACT"),
+        script: is_set(found, "SCRIPT"),
+        undo: is_set(found, "UNDO"),
     }
 }
 
 fn diff_in<'a>(found: &ArgMatches<'a>) -> Option<Task<'a>>
     ensures { option_map texts_of result ≡ diff_in (rows_in found.now) }
 {
-    let exact = is_set(found, "EXACT");
+    let lead = lead_in(found);
     match found.get_str("DB") {
         Some(database) => match found.get_str("LINES") {
             Some(lines) => Some(Task::Diff {
-                exact,
+                lead,
                 database,
                 lines,
             }),
             None => None,
         },
         None => None,
+    }
+}
+
+fn backup_in<'a>(found: &ArgMatches<'a>) -> Option<Task<'a>>
+    ensures { option_map texts_of result ≡ backup_in (rows_in found.now) }
+{
+    match found.get_str("DB") {
+        Some(database) => match found.get_str("COPY") {
+            Some(copy) => Some(Task::Backup { database, copy }),
+            None => None,
+        },
+        None => None,
+    }
+}
+
+/// The text after an option, if it was found.
+fn text_in<'a>(found: &ArgMatches<'a>, id: &str) -> Option<&'a str>
+    ensures { option_map (λ s. s.now) result ≡ first_of id.now (rows_in found.now) }
+{
+    found.get_str(id)
+}
+
+fn listing_in<'a>(found: &ArgMatches<'a>) -> Listing<'a>
+    ensures { listing_texts result ≡ listing_in (rows_in found.now) }
+{
+    Listing {
+        json: is_set(found, "JSON"),
+        long: is_set(found, "LONG"),
+        metrics: is_set(found, "METRICS"),
+        well: is_set(found, "WELL"),
+        bare: is_set(found, "BARE"),
+        columns: text_in(found, "COLUMNS"),
+        rising: text_in(found, "RISING"),
+        falling: text_in(found, "FALLING"),
+        restarter: text_in(found, "RESTARTER"),
+    }
+}
+
+fn show_in<'a>(alloc: Global, found: &ArgMatches<'a>) -> Result<Option<Task<'a>>, AllocError>
+    ensures { IfOk result (λ task. option_map texts_of task ≡ show_in (rows_in found.now)) }
+{
+    let listing = listing_in(found);
+    let words = words_in(alloc, found)?;
+    match text_in(found, "DB") {
+        Some(database) => Ok(Some(Task::Show {
+            listing,
+            database,
+            words,
+        })),
+        None => Ok(None),
+    }
+}
+
+fn prop_in<'a>(alloc: Global, found: &ArgMatches<'a>) -> Result<Option<Task<'a>>, AllocError>
+    ensures { IfOk result (λ task. option_map texts_of task ≡ prop_in (rows_in found.now)) }
+{
+    let configured = is_set(found, "CONFIGURED");
+    let name = text_in(found, "NAME");
+    let words = words_in(alloc, found)?;
+    match text_in(found, "DB") {
+        Some(database) => Ok(Some(Task::Prop {
+            configured,
+            name,
+            database,
+            words,
+        })),
+        None => Ok(None),
     }
 }
 
@@ -199,8 +332,11 @@ fn task_at<'a>(
         "why" => why_in(alloc, found),
         "check" => Ok(check_in(found)),
         "compile" => Ok(compile_in(found)),
-        "export" => Ok(export_in(found)),
+        "export" => export_in(alloc, found),
         "diff" => Ok(diff_in(found)),
+        "backup" => Ok(backup_in(found)),
+        "show" => show_in(alloc, found),
+        "prop" => prop_in(alloc, found),
         _ => Ok(None),
     }
 }

@@ -1,7 +1,7 @@
 ghost use Rattle.std.specs.Prelude.{◌≡◌, IfOk, false};
 ghost use Rattle.clap.specs.Words.{app_of, rule_of};
 ghost use Rattle.clap.specs.declared.builder.command.Command.TheViews.{out-Command as fields_of};
-ghost use Rattle.smf_program.specs.Words.{bare_app, cfg_app, check_app, compile_app, database_rule, diff_app, exact_rule, export_app, file_rule, site_rule, fmri_rule, folder_rule, follow_rule, lines_rule, read_rule, run_app, serve_app, sim_app, smf_app, why_app};
+ghost use Rattle.smf_program.specs.Words.{asking_app, backup_app, bare_app, bare_rule, cfg_app, check_app, columns_rule, compile_app, configured_rule, copy_rule, database_rule, diff_app, exact_rule, export_app, falling_rule, file_rule, site_rule, fmri_rule, folder_rule, follow_rule, form_app, json_rule, lead_app, lines_rule, long_rule, metrics_rule, name_rule, named_app, prop_app, read_rule, restarter_rule, rising_rule, run_app, running_app, script_rule, serve_app, show_app, shown_app, sim_app, smf_app, table_app, undo_rule, well_rule, why_app};
 
 use clap::{Arg, ArgAction, Command};
 use std::alloc::{AllocError, Global};
@@ -144,7 +144,8 @@ fn export_command<'a>(alloc: Global) -> Result<Command<'a>, AllocError>
 {
     let command = Command::new(alloc, "export")
         .about("Prints the lines of svccfg that make what a database holds")
-        .arg(database(alloc))?;
+        .arg(database(alloc))?
+        .arg(fmris(alloc))?;
     Ok(command)
 }
 
@@ -166,15 +167,234 @@ fn exact<'a>(alloc: Global) -> Arg<'a>
         .action(ArgAction::SetTrue)
 }
 
-fn diff_command<'a>(alloc: Global) -> Result<Command<'a>, AllocError>
-    ensures app { IfOk result (λ c. app_of c ≡ diff_app) }
+/// The flag for a script.
+fn script<'a>(alloc: Global) -> Arg<'a>
+    ensures rule { rule_of result ≡ script_rule }
+    ensures local { result.global ≡ false }
+{
+    Arg::new(alloc, "SCRIPT")
+        .long("script")
+        .action(ArgAction::SetTrue)
+}
+
+/// The flag for lines that take the others back.
+fn undo<'a>(alloc: Global) -> Arg<'a>
+    ensures rule { rule_of result ≡ undo_rule }
+    ensures local { result.global ≡ false }
+{
+    Arg::new(alloc, "UNDO")
+        .long("undo")
+        .action(ArgAction::SetTrue)
+}
+
+/// Which lines are printed, and in which form.
+fn lead_command<'a>(alloc: Global) -> Result<Command<'a>, AllocError>
+    ensures app { IfOk result (λ c. app_of c ≡ lead_app) }
     ensures local { IfOk result (λ c. (fields_of c).has_globals ≡ false) }
 {
     let command = Command::new(alloc, "diff")
         .about("Prints the lines that lead from what a database holds to what a file makes")
         .arg(exact(alloc))?
+        .arg(script(alloc))?
+        .arg(undo(alloc))?;
+    Ok(command)
+}
+
+fn diff_command<'a>(alloc: Global) -> Result<Command<'a>, AllocError>
+    ensures app { IfOk result (λ c. app_of c ≡ diff_app) }
+    ensures local { IfOk result (λ c. (fields_of c).has_globals ≡ false) }
+{
+    let command = lead_command(alloc)?
         .arg(database(alloc))?
         .arg(lines(alloc))?;
+    Ok(command)
+}
+
+/// The file that a copy goes to.
+fn copy<'a>(alloc: Global) -> Arg<'a>
+    ensures rule { rule_of result ≡ copy_rule }
+    ensures local { result.global ≡ false }
+{
+    Arg::new(alloc, "COPY").required(true)
+}
+
+fn backup_command<'a>(alloc: Global) -> Result<Command<'a>, AllocError>
+    ensures app { IfOk result (λ c. app_of c ≡ backup_app) }
+    ensures local { IfOk result (λ c. (fields_of c).has_globals ≡ false) }
+{
+    let command = Command::new(alloc, "backup")
+        .about("Writes a whole copy of a database, which may be in use, into a file")
+        .arg(database(alloc))?
+        .arg(copy(alloc))?;
+    Ok(command)
+}
+
+/// The flag for JSON.
+fn json<'a>(alloc: Global) -> Arg<'a>
+    ensures rule { rule_of result ≡ json_rule }
+    ensures local { result.global ≡ false }
+{
+    Arg::new(alloc, "JSON")
+        .short('j')
+        .long("json")
+        .action(ArgAction::SetTrue)
+}
+
+/// The flag for a paragraph for each instance.
+fn long<'a>(alloc: Global) -> Arg<'a>
+    ensures rule { rule_of result ≡ long_rule }
+    ensures local { result.global ≡ false }
+{
+    Arg::new(alloc, "LONG")
+        .short('l')
+        .long("long")
+        .action(ArgAction::SetTrue)
+}
+
+/// The flag for metrics in Prometheus' text format.
+fn metrics<'a>(alloc: Global) -> Arg<'a>
+    ensures rule { rule_of result ≡ metrics_rule }
+    ensures local { result.global ≡ false }
+{
+    Arg::new(alloc, "METRICS")
+        .long("metrics")
+        .action(ArgAction::SetTrue)
+}
+
+/// The flag for a status alone, which says whether all run that are enabled.
+fn well<'a>(alloc: Global) -> Arg<'a>
+    ensures rule { rule_of result ≡ well_rule }
+    ensures local { result.global ≡ false }
+{
+    Arg::new(alloc, "WELL")
+        .long("well")
+        .action(ArgAction::SetTrue)
+}
+
+/// The flag for a table without a header.
+fn bare<'a>(alloc: Global) -> Arg<'a>
+    ensures rule { rule_of result ≡ bare_rule }
+    ensures local { result.global ≡ false }
+{
+    Arg::new(alloc, "BARE")
+        .short('H')
+        .action(ArgAction::SetTrue)
+}
+
+/// The columns of a table.
+fn columns<'a>(alloc: Global) -> Arg<'a>
+    ensures rule { rule_of result ≡ columns_rule }
+    ensures local { result.global ≡ false }
+{
+    Arg::new(alloc, "COLUMNS").short('o')
+}
+
+/// The column by which a table rises.
+fn rising<'a>(alloc: Global) -> Arg<'a>
+    ensures rule { rule_of result ≡ rising_rule }
+    ensures local { result.global ≡ false }
+{
+    Arg::new(alloc, "RISING").short('s')
+}
+
+/// The column by which a table falls.
+fn falling<'a>(alloc: Global) -> Arg<'a>
+    ensures rule { rule_of result ≡ falling_rule }
+    ensures local { result.global ≡ false }
+{
+    Arg::new(alloc, "FALLING").short('S')
+}
+
+/// The restarter whose instances are shown.
+fn restarter<'a>(alloc: Global) -> Arg<'a>
+    ensures rule { rule_of result ≡ restarter_rule }
+    ensures local { result.global ≡ false }
+{
+    Arg::new(alloc, "RESTARTER").short('R')
+}
+
+/// The forms in which instances are shown.
+fn form_command<'a>(alloc: Global) -> Result<Command<'a>, AllocError>
+    ensures app { IfOk result (λ c. app_of c ≡ form_app) }
+    ensures local { IfOk result (λ c. (fields_of c).has_globals ≡ false) }
+{
+    let command = Command::new(alloc, "show")
+        .about("Shows the instances that a database has, for people and for programs")
+        .arg(json(alloc))?
+        .arg(long(alloc))?
+        .arg(metrics(alloc))?;
+    Ok(command)
+}
+
+/// With the status alone, and a table without a header.
+fn shown_command<'a>(alloc: Global) -> Result<Command<'a>, AllocError>
+    ensures app { IfOk result (λ c. app_of c ≡ shown_app) }
+    ensures local { IfOk result (λ c. (fields_of c).has_globals ≡ false) }
+{
+    let command = form_command(alloc)?.arg(well(alloc))?.arg(bare(alloc))?;
+    Ok(command)
+}
+
+/// With the columns of a table, and how it is sorted.
+fn table_command<'a>(alloc: Global) -> Result<Command<'a>, AllocError>
+    ensures app { IfOk result (λ c. app_of c ≡ table_app) }
+    ensures local { IfOk result (λ c. (fields_of c).has_globals ≡ false) }
+{
+    let command = shown_command(alloc)?
+        .arg(columns(alloc))?
+        .arg(rising(alloc))?
+        .arg(falling(alloc))?;
+    Ok(command)
+}
+
+fn show_command<'a>(alloc: Global) -> Result<Command<'a>, AllocError>
+    ensures app { IfOk result (λ c. app_of c ≡ show_app) }
+    ensures local { IfOk result (λ c. (fields_of c).has_globals ≡ false) }
+{
+    let command = table_command(alloc)?
+        .arg(restarter(alloc))?
+        .arg(database(alloc))?
+        .arg(fmris(alloc))?;
+    Ok(command)
+}
+
+/// The flag for what is configured, and not what runs.
+fn configured<'a>(alloc: Global) -> Arg<'a>
+    ensures rule { rule_of result ≡ configured_rule }
+    ensures local { result.global ≡ false }
+{
+    Arg::new(alloc, "CONFIGURED")
+        .short('c')
+        .action(ArgAction::SetTrue)
+}
+
+/// The name of a property, or of a group.
+fn name<'a>(alloc: Global) -> Arg<'a>
+    ensures rule { rule_of result ≡ name_rule }
+    ensures local { result.global ≡ false }
+{
+    Arg::new(alloc, "NAME").short('p')
+}
+
+/// Which properties are printed.
+fn named_command<'a>(alloc: Global) -> Result<Command<'a>, AllocError>
+    ensures app { IfOk result (λ c. app_of c ≡ named_app) }
+    ensures local { IfOk result (λ c. (fields_of c).has_globals ≡ false) }
+{
+    let command = Command::new(alloc, "prop")
+        .about("Prints the properties of instances")
+        .arg(configured(alloc))?
+        .arg(name(alloc))?;
+    Ok(command)
+}
+
+fn prop_command<'a>(alloc: Global) -> Result<Command<'a>, AllocError>
+    ensures app { IfOk result (λ c. app_of c ≡ prop_app) }
+    ensures local { IfOk result (λ c. (fields_of c).has_globals ≡ false) }
+{
+    let command = named_command(alloc)?
+        .arg(database(alloc))?
+        .arg(fmris(alloc))?;
     Ok(command)
 }
 
@@ -186,12 +406,9 @@ fn bare_command<'a>(alloc: Global) -> Command<'a>
         .subcommand_required(true)
 }
 
-/// The program as clap knows it. It may be asked for its version, which clap does not know. `sim` may have a database. `run` has one, and contracts may be followed.
-/// `cfg` has a database, and may have a file of lines after `-f`. `serve` has a folder and a database. `why` has a
-/// database and words that mean instances. `check` and `export` have a database, `compile` a file,
-/// and `diff` both.
-pub(crate) fn smf_command<'a>(alloc: Global) -> Result<Command<'a>, AllocError>
-    ensures { IfOk result (λ c. app_of c ≡ smf_app) }
+/// The commands that run, or that change a database.
+fn running_command<'a>(alloc: Global) -> Result<Command<'a>, AllocError>
+    ensures { IfOk result (λ c. app_of c ≡ running_app) }
 {
     let sim = sim_command(alloc)?;
     let with_sim = bare_command(alloc).subcommand(sim)?;
@@ -200,16 +417,41 @@ pub(crate) fn smf_command<'a>(alloc: Global) -> Result<Command<'a>, AllocError>
     let cfg = cfg_command(alloc)?;
     let with_cfg = with_run.subcommand(cfg)?;
     let serve = serve_command(alloc)?;
-    let with_serve = with_cfg.subcommand(serve)?;
+    let command = with_cfg.subcommand(serve)?;
+    Ok(command)
+}
+
+/// With those that ask what a database has.
+fn asking_command<'a>(alloc: Global) -> Result<Command<'a>, AllocError>
+    ensures { IfOk result (λ c. app_of c ≡ asking_app) }
+{
+    let running = running_command(alloc)?;
     let why = why_command(alloc)?;
-    let with_why = with_serve.subcommand(why)?;
+    let with_why = running.subcommand(why)?;
     let check = check_command(alloc)?;
     let with_check = with_why.subcommand(check)?;
+    let show = show_command(alloc)?;
+    let with_show = with_check.subcommand(show)?;
+    let prop = prop_command(alloc)?;
+    let command = with_show.subcommand(prop)?;
+    Ok(command)
+}
+
+/// The program as clap knows it. It may be asked for its version, which clap does not know. `sim` may have a database. `run` has one, and contracts may be followed.
+/// `cfg` has a database, and may have a file of lines after `-f`. `serve` has a folder and a database. `why`, `show`, `prop`
+/// and `export` have a database and words that mean instances. `check` has a database, `compile` a file, and `diff` and
+/// `backup` both.
+pub(crate) fn smf_command<'a>(alloc: Global) -> Result<Command<'a>, AllocError>
+    ensures { IfOk result (λ c. app_of c ≡ smf_app) }
+{
+    let asking = asking_command(alloc)?;
     let compile = compile_command(alloc)?;
-    let with_compile = with_check.subcommand(compile)?;
+    let with_compile = asking.subcommand(compile)?;
     let export = export_command(alloc)?;
     let with_export = with_compile.subcommand(export)?;
     let diff = diff_command(alloc)?;
-    let command = with_export.subcommand(diff)?;
+    let with_diff = with_export.subcommand(diff)?;
+    let backup = backup_command(alloc)?;
+    let command = with_diff.subcommand(backup)?;
     Ok(command)
 }

@@ -1,33 +1,35 @@
-use Rattle.std.proofs.Common.{◌∙◌, ap, ap₂, Bool, List, ℕ, Option, codes}
+use Rattle.std.proofs.Common.{◌∙◌, ap, ap₂, List, ℕ, Option, codes}
 use Rattle.clap.specs.Words.{first_of, found_of}
 use Rattle.clap.proofs.WalkLemmas.{first_value-rows}
 use Rattle.smf_program.specs.Tasks.{both, rows_in}
 use Rattle.smf_program.specs.Tasks.TaskTexts.{Diff}
+use Rattle.smf_program.specs.declared.task.Lead.{Lead}
 use Rattle.smf_program.proofs.task.diff_in.Goals as goal
 
 pub returns-in-Some-get_str : goal.returns-in-Some-get_str
 returns-in-Some-get_str c =
-    ap₂ (λ (first second : Option (List ℕ)). both (Diff c.is_set-exact.result) first second)
+    ap₂ (λ (first second : Option (List ℕ)). both (Diff c.lead_in-lead.result) first second)
     (c.in-Some.ensures ∙ first_value-rows (found_of c.args.found.now) (codes "DB"))
     (c.in-Some-get_str.ensures ∙ first_value-rows (found_of c.args.found.now) (codes "LINES"))
-    ∙ ap (λ (exact : Bool).
-    both (Diff exact) (first_of (codes "DB") (rows_in c.args.found.now))
-    (first_of (codes "LINES") (rows_in c.args.found.now))) c.is_set-exact.ensures
+    ∙ ap (λ (lead : Lead).
+    both (Diff lead) (first_of (codes "DB") (rows_in c.args.found.now))
+    (first_of (codes "LINES") (rows_in c.args.found.now))) c.lead_in-lead.ensures
 
 pub returns-in-None-get_str : goal.returns-in-None-get_str
 returns-in-None-get_str c =
-    ap₂ (λ (first second : Option (List ℕ)). both (Diff c.is_set-exact.result) first second)
+    ap₂ (λ (first second : Option (List ℕ)). both (Diff c.lead_in-lead.result) first second)
     (c.in-Some.ensures ∙ first_value-rows (found_of c.args.found.now) (codes "DB"))
     (c.in-None-get_str.ensures ∙ first_value-rows (found_of c.args.found.now) (codes "LINES"))
-    ∙ ap (λ (exact : Bool).
-    both (Diff exact) (first_of (codes "DB") (rows_in c.args.found.now))
-    (first_of (codes "LINES") (rows_in c.args.found.now))) c.is_set-exact.ensures
+    ∙ ap (λ (lead : Lead).
+    both (Diff lead) (first_of (codes "DB") (rows_in c.args.found.now))
+    (first_of (codes "LINES") (rows_in c.args.found.now))) c.lead_in-lead.ensures
 
 pub returns-in-None : goal.returns-in-None
 returns-in-None c =
     ap (λ (first : Option (List ℕ)).
-    both (Diff c.is_set-exact.result) first (first_of (codes "LINES") (rows_in c.args.found.now)))
+    both (Diff c.lead_in-lead.result) first
+    (first_of (codes "LINES") (rows_in c.args.found.now)))
     (c.in-None.ensures ∙ first_value-rows (found_of c.args.found.now) (codes "DB"))
-    ∙ ap (λ (exact : Bool).
-    both (Diff exact) (first_of (codes "DB") (rows_in c.args.found.now))
-    (first_of (codes "LINES") (rows_in c.args.found.now))) c.is_set-exact.ensures
+    ∙ ap (λ (lead : Lead).
+    both (Diff lead) (first_of (codes "DB") (rows_in c.args.found.now))
+    (first_of (codes "LINES") (rows_in c.args.found.now))) c.lead_in-lead.ensures

@@ -1,4 +1,4 @@
-use Rattle.std.proofs.Common.{◌∙◌, ap, ℕ, List, Option, codes}
+use Rattle.std.proofs.Common.{◌∙◌, ap₂, ℕ, List, Option, codes}
 use Rattle.std.specs.Prelude.{option_map}
 use Rattle.clap.specs.Words.{found_of}
 use Rattle.clap.proofs.WalkLemmas.{first_value-rows}
@@ -7,10 +7,12 @@ use Rattle.smf_program.proofs.task.export_in.Goals as goal
 
 pub returns-in-Some : goal.returns-in-Some
 returns-in-Some c =
-    ap (λ (database : Option (List ℕ)). option_map Export database)
+    ap₂ (λ (words : List (List ℕ)) (database : Option (List ℕ)). option_map (λ d. Export d words) database)
+    c.in_ok-words.ensures
     (c.in-Some.ensures ∙ first_value-rows (found_of c.args.found.now) (codes "DB"))
 
-pub returns-in-None : goal.returns-in-None
-returns-in-None c =
-    ap (λ (database : Option (List ℕ)). option_map Export database)
+pub returns : goal.returns
+returns c =
+    ap₂ (λ (words : List (List ℕ)) (database : Option (List ℕ)). option_map (λ d. Export d words) database)
+    c.in_ok-words.ensures
     (c.in-None.ensures ∙ first_value-rows (found_of c.args.found.now) (codes "DB"))

@@ -1,0 +1,23 @@
+use Rattle.std.proofs.Common.{◌∙◌, ap, ap₂, List, ℕ, Option, codes}
+use Rattle.clap.specs.Words.{first_of, found_of}
+use Rattle.clap.proofs.WalkLemmas.{first_value-rows}
+use Rattle.smf_program.specs.Tasks.{both, rows_in}
+use Rattle.smf_program.specs.Tasks.TaskTexts.{Backup}
+use Rattle.smf_program.proofs.task.backup_in.Goals as goal
+
+pub returns-in-Some-get_str : goal.returns-in-Some-get_str
+returns-in-Some-get_str c =
+    ap₂ (λ (first second : Option (List ℕ)). both Backup first second)
+    (c.in-Some.ensures ∙ first_value-rows (found_of c.args.found.now) (codes "DB"))
+    (c.in-Some-get_str.ensures ∙ first_value-rows (found_of c.args.found.now) (codes "COPY"))
+
+pub returns-in-None-get_str : goal.returns-in-None-get_str
+returns-in-None-get_str c =
+    ap₂ (λ (first second : Option (List ℕ)). both Backup first second)
+    (c.in-Some.ensures ∙ first_value-rows (found_of c.args.found.now) (codes "DB"))
+    (c.in-None-get_str.ensures ∙ first_value-rows (found_of c.args.found.now) (codes "COPY"))
+
+pub returns-in-None : goal.returns-in-None
+returns-in-None c =
+    ap (λ (first : Option (List ℕ)). both Backup first (first_of (codes "COPY") (rows_in c.args.found.now)))
+    (c.in-None.ensures ∙ first_value-rows (found_of c.args.found.now) (codes "DB"))
