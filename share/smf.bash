@@ -34,7 +34,7 @@ _smf_files() {
 
 _smf_svcs() {
     case $1 in
-    -*) _smf_offer "$1" -H -a -d -D -L -x ;;
+    -*) _smf_offer "$1" -H -a -d -D -L -x --well --follow ;;
     *) _smf_offer "$1" "$(_smf_names "$1")" ;;
     esac
 }
@@ -43,9 +43,19 @@ _smf_svcadm() {
     local word=$1
     shift 2
     case ${1:-} in
-    '') _smf_offer "$word" enable disable restart refresh clear mark signal upgrade ;;
+    '') _smf_offer "$word" enable disable restart refresh clear mark signal upgrade plan ;;
     upgrade) _smf_files "$word" ;;
-    enable | disable) [[ $word = -* ]] && _smf_offer "$word" -t || _smf_offer "$word" "$(_smf_names "$word")" ;;
+    plan)
+        case "$word $*" in
+        -*) _smf_offer "$word" -x -- ;;
+        *' --') _smf_offer "$word" enable disable restart refresh clear mark ;;
+        *' -- '*) _smf_offer "$word" "$(_smf_names "$word")" ;;
+        *) _smf_files "$word" ;;
+        esac
+        ;;
+    enable) [[ $word = -* ]] && _smf_offer "$word" -r -s -T -t || _smf_offer "$word" "$(_smf_names "$word")" ;;
+    disable) [[ $word = -* ]] && _smf_offer "$word" -s -T -t || _smf_offer "$word" "$(_smf_names "$word")" ;;
+    restart) [[ $word = -* ]] && _smf_offer "$word" -s -T || _smf_offer "$word" "$(_smf_names "$word")" ;;
     signal) [[ $word = -* ]] && _smf_offer "$word" "$(kill -l | tr -s ' \t' '\n' | sed -n 's/^SIG/-/p')" || _smf_offer "$word" "$(_smf_names "$word")" ;;
     mark)
         case "$word $*" in
@@ -62,10 +72,10 @@ _smf_svccfg() {
     local word=$1 before=$2
     shift 2
     case $before in
-    -f) _smf_files "$word" ;;
+    -f | apply | -n | -x) [[ $word = -* ]] && _smf_offer "$word" -n -x || _smf_files "$word" ;;
     -s | select | delete) _smf_offer "$word" "$(_smf_names "${word:-svc:}")" ;;
     *)
-        _smf_offer "$word" -s -f add delete select unselect list addpg delpg listpg setprop delprop listprop addpropvalue \
+        _smf_offer "$word" -s -f apply add delete select unselect list addpg delpg listpg setprop delprop listprop addpropvalue \
             delpropvalue listsnap selectsnap revert
         ;;
     esac
