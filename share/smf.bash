@@ -72,9 +72,14 @@ _smf_svccfg() {
     local word=$1 before=$2
     shift 2
     case $before in
-    -f | apply | -n | -x) [[ $word = -* ]] && _smf_offer "$word" -n -x || _smf_files "$word" ;;
+    --plan | --within) ;;
+    -f) _smf_files "$word" ;;
     -s | select | delete) _smf_offer "$word" "$(_smf_names "${word:-svc:}")" ;;
     *)
+        if [ "${1:-}" = apply ]; then
+            [[ $word = -* ]] && _smf_offer "$word" -n -x --plan --within || _smf_files "$word"
+            return
+        fi
         _smf_offer "$word" -s -f apply add delete select unselect list addpg delpg listpg setprop delprop listprop addpropvalue \
             delpropvalue listsnap selectsnap revert
         ;;
