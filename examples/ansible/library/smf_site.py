@@ -82,7 +82,8 @@ class Site:
         self.found['changed'] = bool(self.found['plan'])
         if self.module.check_mode or not self.found['changed']:
             return
-        applied = self.do('svccfg', 'apply', *self.exact, file)
+        number = self.found['plan'][-1].split()[1]
+        applied = self.do('svccfg', 'apply', *self.exact, '--plan', number, file)
         self.found['refreshed'] = [line.split()[1] for line in applied if line.startswith('refreshed ')]
         states = self.states()
         for name in self.found['refreshed']:
