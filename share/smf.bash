@@ -1,4 +1,4 @@
-# Completion for bash of svcs, svcadm, svccfg, smf and smfd: their words and options, and the names of services, for which the
+# Completion for bash of svcs, svcadm, svccfg, svcprop, smf and smfd: their words and options, and the names of services, for which the
 # server in SMF_DIR is asked.
 
 # _smf_names WORD: the names of services and instances, without svc:/ unless WORD begins with that.
@@ -34,7 +34,14 @@ _smf_files() {
 
 _smf_svcs() {
     case $1 in
-    -*) _smf_offer "$1" -H -a -d -D -L -x --well --follow ;;
+    -*) _smf_offer "$1" -H -a -d -D -L -j -l -o -p -R -s -S -x --well --follow --metrics ;;
+    *) _smf_offer "$1" "$(_smf_names "$1")" ;;
+    esac
+}
+
+_smf_svcprop() {
+    case $1 in
+    -*) _smf_offer "$1" -c -p ;;
     *) _smf_offer "$1" "$(_smf_names "$1")" ;;
     esac
 }
@@ -122,4 +129,4 @@ _smf() {
     "_smf_${words[0]##*/}" "$word" "${words[-1]}" "${words[@]:1}"
 }
 
-complete -F _smf svcs svcadm svccfg smf smfd
+complete -F _smf svcs svcadm svccfg svcprop smf smfd

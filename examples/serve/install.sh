@@ -1,5 +1,5 @@
 #!/bin/sh
-# install.sh [--unproved] PREFIX   puts smf, smfd, svcs, svcadm, svccfg, graph, manifest2cfg, timeline and unit2cfg, with what they
+# install.sh [--unproved] PREFIX   puts smf, smfd, svcs, svcadm, svccfg, svcprop, graph, manifest2cfg, timeline and unit2cfg, with what they
 #                                  need, smf_exec and smf_ready, which methods find by SMF_LIBEXEC, all pages, and the completion
 #                                  of bash, below PREFIX
 # install.sh --check PREFIX        says what PREFIX/bin/smf is, and fails if it is not the program that was installed there
@@ -42,7 +42,7 @@ fi
 [ -n "$program" ] || program=$("$top/smf" --program)
 install -d "$prefix/bin" "$prefix/libexec" "$prefix/share/man/man1" "$prefix/share/man/man7" "$prefix/share/man/man8"
 install -m 755 "$program" "$prefix/bin/smf"
-install -m 755 "$top/bin/smfd" "$top/bin/svcs" "$top/bin/svcadm" "$top/bin/svccfg" "$prefix/bin"
+install -m 755 "$top/bin/smfd" "$top/bin/svcs" "$top/bin/svcadm" "$top/bin/svccfg" "$top/bin/svcprop" "$prefix/bin"
 install -m 755 "$top/tools/graph" "$top/tools/manifest2cfg" "$top/tools/timeline" "$top/tools/unit2cfg" "$prefix/bin"
 install -m 755 "$top/libexec/smf_client" "$top/libexec/smf_hold" "$top/libexec/smf_log" "$top/libexec/smf_stop" "$prefix/libexec"
 install -m 755 "$top/libexec/smf_exec" "$top/libexec/smf_plan" "$top/libexec/smf_ready" "$top/libexec/smf_rollout" "$top/libexec/smf_signal" "$prefix/libexec"
@@ -58,4 +58,4 @@ done
 completions=$prefix/share/bash-completion/completions
 install -d "$completions"
 install -m 644 "$top/share/smf.bash" "$completions/smf"
-for program in smfd svcs svcadm svccfg; do ln -sf smf "$completions/$program"; done
+for program in smfd svcs svcadm svccfg svcprop; do ln -sf smf "$completions/$program"; done
