@@ -1,6 +1,6 @@
 #!/bin/sh
-# install.sh [--unproved] PREFIX   puts smf, smfd, svcs, svcadm, svccfg, svcprop, graph, manifest2cfg, page, timeline and unit2cfg,
-#                                  with what they need, smf_exec and smf_ready, which methods find by SMF_LIBEXEC, all pages,
+# install.sh [--unproved] PREFIX   puts smf, smfd, svcs, svcadm, svccfg, svcprop, graph, manifest2cfg, page, survive, timeline and
+#                                  unit2cfg, with what they need, smf_exec and smf_ready, which methods find by SMF_LIBEXEC, all pages,
 #                                  and the completion of bash, below PREFIX
 # install.sh --check PREFIX        says what PREFIX/bin/smf is, and fails if it is not the program that was installed there
 # The program is the one that SMF names, or that ./smf would run. It has to be the proved one, which `./smf --prove` or the gate
@@ -43,7 +43,7 @@ fi
 install -d "$prefix/bin" "$prefix/libexec" "$prefix/share/man/man1" "$prefix/share/man/man7" "$prefix/share/man/man8"
 install -m 755 "$program" "$prefix/bin/smf"
 install -m 755 "$top/bin/smfd" "$top/bin/svcs" "$top/bin/svcadm" "$top/bin/svccfg" "$top/bin/svcprop" "$prefix/bin"
-install -m 755 "$top/tools/graph" "$top/tools/manifest2cfg" "$top/tools/page" "$top/tools/timeline" "$top/tools/unit2cfg" "$prefix/bin"
+install -m 755 "$top/tools/graph" "$top/tools/manifest2cfg" "$top/tools/page" "$top/tools/survive" "$top/tools/timeline" "$top/tools/unit2cfg" "$prefix/bin"
 install -m 755 "$top/libexec/smf_client" "$top/libexec/smf_hold" "$top/libexec/smf_log" "$top/libexec/smf_stop" "$prefix/libexec"
 install -m 755 "$top/libexec/smf_exec" "$top/libexec/smf_plan" "$top/libexec/smf_ready" "$top/libexec/smf_rollout" "$top/libexec/smf_signal" "$prefix/libexec"
 install -m 644 "$top/libexec/svccfg_lines.py" "$prefix/libexec"
