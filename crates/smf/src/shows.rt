@@ -106,7 +106,8 @@ fn listed(
     listing: &Listing<'_>,
 ) -> Result<Text, Unshown> {
     if listing.json {
-        return Ok(json_of(alloc, repository, words)?);
+        let json = json_of(alloc, repository, words)?;
+        return Ok(Text::from_string(format!(in alloc; "{json}\n")?));
     }
     if listing.long {
         return Ok(long_of(alloc, repository, words)?);
