@@ -60,6 +60,7 @@ _smf_svcadm() {
         *) _smf_files "$word" ;;
         esac
         ;;
+    refresh) [[ $word = -* ]] && _smf_offer "$word" -f || _smf_offer "$word" "$(_smf_names "$word")" ;;
     enable) [[ $word = -* ]] && _smf_offer "$word" -r -s -T -t || _smf_offer "$word" "$(_smf_names "$word")" ;;
     disable) [[ $word = -* ]] && _smf_offer "$word" -s -T -t || _smf_offer "$word" "$(_smf_names "$word")" ;;
     restart) [[ $word = -* ]] && _smf_offer "$word" -s -T || _smf_offer "$word" "$(_smf_names "$word")" ;;
@@ -87,7 +88,7 @@ _smf_svccfg() {
             [[ $word = -* ]] && _smf_offer "$word" -n -x --plan --within || _smf_files "$word"
             return
         fi
-        _smf_offer "$word" -s -f apply add delete select unselect list addpg delpg listpg setprop delprop listprop addpropvalue \
+        _smf_offer "$word" -s -f -k apply add delete select unselect list addpg delpg listpg setprop delprop listprop addpropvalue \
             delpropvalue listsnap selectsnap revert
         ;;
     esac
