@@ -50,7 +50,7 @@ _smf_svcadm() {
     local word=$1
     shift 2
     case ${1:-} in
-    '') _smf_offer "$word" enable disable restart refresh clear mark signal upgrade plan ;;
+    '') _smf_offer "$word" enable disable restart refresh clear mark signal upgrade plan sim ;;
     upgrade) _smf_files "$word" ;;
     plan)
         case "$word $*" in
