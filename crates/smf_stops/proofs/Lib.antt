@@ -1,0 +1,4 @@
+mod Kept
+mod Orders
+mod Plans
+mod Batched
