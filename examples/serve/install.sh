@@ -44,7 +44,7 @@ install -d "$prefix/bin" "$prefix/libexec" "$prefix/share/man/man1" "$prefix/sha
 install -m 755 "$program" "$prefix/bin/smf"
 install -m 755 "$top/bin/smfd" "$top/bin/svcs" "$top/bin/svcadm" "$top/bin/svccfg" "$top/bin/svcprop" "$prefix/bin"
 install -m 755 "$top/tools/graph" "$top/tools/manifest2cfg" "$top/tools/page" "$top/tools/survive" "$top/tools/timeline" "$top/tools/unit2cfg" "$prefix/bin"
-install -m 755 "$top/libexec/smf_client" "$top/libexec/smf_hold" "$top/libexec/smf_log" "$top/libexec/smf_stop" "$prefix/libexec"
+install -m 755 "$top/libexec/smf_client" "$top/libexec/smf_hold" "$top/libexec/smf_log" "$prefix/libexec"
 install -m 755 "$top/libexec/smf_exec" "$top/libexec/smf_plan" "$top/libexec/smf_ready" "$top/libexec/smf_rollout" "$top/libexec/smf_signal" "$prefix/libexec"
 install -m 644 "$top/libexec/svccfg_lines.py" "$prefix/libexec"
 # These are for a terminal, where SMF_LIBEXEC is not set.

@@ -1,6 +1,7 @@
 // The desk of a server: requests in a folder, and replies to them.
 use crate::pace::Pace;
 use crate::pipe::{Call, Pipe};
+use crate::stop::OrderedStop;
 use smf_cfg::tell;
 use smf_model::{Journal, Plain};
 use smf_watch::{Desk, ServerInput};
@@ -50,6 +51,8 @@ pub struct FileDesk<'a> {
     store_failed: bool,
     /// True if another server should take over.
     leaves: bool,
+    /// The stop of all services, once it was asked for.
+    stop: Option<OrderedStop<'a>>,
 }
 
 /// The path of a file in a folder of a folder, by its name and what stands after that.
@@ -113,6 +116,7 @@ impl<'a> FileDesk<'a> {
             probe: None,
             store_failed: false,
             leaves: false,
+            stop: None,
         })
     }
 
@@ -190,13 +194,37 @@ impl<'a> FileDesk<'a> {
         None
     }
 
+    /// The script that a stop of all services asks for now. One for which there is no memory comes later.
+    fn stop_script(&mut self) -> Option<Vec<u8>> {
+        match &mut self.stop {
+            Some(stop) => stop.script().unwrap_or(None),
+            None => None,
+        }
+    }
+
+    /// A stop of all services begins, unless one is under way.
+    fn begin_stop(&mut self) -> Option<ServerInput> {
+        if self.stop.is_none() {
+            self.stop = Some(OrderedStop::new(self.rt, self.folder));
+        }
+        self.pace.ask(time_of(self.rt));
+        self.stop_script().map(ServerInput::Request)
+    }
+
+    /// Time has passed.
+    fn tick(&mut self) -> ServerInput {
+        self.pace.tick();
+        if let Some(stop) = &mut self.stop {
+            stop.tick();
+            self.pace.ask(time_of(self.rt));
+        }
+        ServerInput::Tick
+    }
+
     /// What comes next, if a call asks for anything or a tick is due.
     fn input(&mut self) -> Option<ServerInput> {
         match self.call() {
-            None => {
-                self.pace.tick();
-                Some(ServerInput::Tick)
-            }
+            None => Some(self.tick()),
             Some(Call::Ring) => {
                 self.pace.ring(time_of(self.rt));
                 None
@@ -207,6 +235,7 @@ impl<'a> FileDesk<'a> {
             }
             Some(Call::End) => Some(ServerInput::End),
             Some(Call::Leave) => Some(ServerInput::Leave),
+            Some(Call::Stop) => self.begin_stop(),
             Some(Call::Other) => None,
         }
     }
@@ -266,6 +295,9 @@ impl<'a> Desk for FileDesk<'a> {
         if self.leaves {
             return ServerInput::Leave;
         }
+        if let Some(script) = self.stop_script() {
+            return ServerInput::Request(script);
+        }
         for _ in 0..u64::MAX {
             if let Some(input) = self.input() {
                 return input;
@@ -274,8 +306,14 @@ impl<'a> Desk for FileDesk<'a> {
         ServerInput::End
     }
 
-    fn reply<J: Journal>(&mut self, _repository: &Plain<J>, text: &[u8], status: u8) -> bool {
-        self.refuse(text, status)
+    fn reply<J: Journal>(&mut self, repository: &Plain<J>, text: &[u8], status: u8) -> bool {
+        match &mut self.stop {
+            Some(stop) if stop.is_asking() => {
+                stop.hear(repository);
+                true
+            }
+            _ => self.refuse(text, status),
+        }
     }
 
     fn tell(&mut self, line: &str) {

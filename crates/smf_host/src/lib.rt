@@ -2,7 +2,7 @@
 //! Modules: `database` (a database file, its log and its journal), `lock` (who has a database alone), `contracts` (the
 //! room of contracts), `groups` (its control groups), `children` (the list of children beside a database).
 //! A server has `folder` (who has a folder alone), `desk` (requests in a folder), `pipe` (by which it is called), `pace`
-//! (when it ticks), `ender` (how contracts are ended), `causes` (why instances are in maintenance), `retries` (which are
+//! (when it ticks), `stop` (how all services stop), `ender` (how contracts are ended), `causes` (why instances are in maintenance), `retries` (which are
 //! tried again), `boots` (whether it boots or goes on), `timer` (the clock).
 #![tactic(auto)]
 
@@ -19,6 +19,7 @@ mod lock;
 mod pace;
 mod pipe;
 mod retries;
+mod stop;
 mod timer;
 
 pub use boots::{forget_boot, has_booted};

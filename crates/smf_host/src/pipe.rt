@@ -32,6 +32,8 @@ pub(crate) enum Call {
     End,
     /// A line `!`.
     Leave,
+    /// A line `/`.
+    Stop,
     /// A line that says nothing, or one that has not come to its end.
     Other,
 }
@@ -57,6 +59,7 @@ fn call_of(line: &[u8], kept: &mut String) -> Call {
         Ok("") => Call::Ring,
         Ok(".") => Call::End,
         Ok("!") => Call::Leave,
+        Ok("/") => Call::Stop,
         Ok(name) if is_name(name) => {
             kept.clear();
             let _kept = kept.push_str(name);

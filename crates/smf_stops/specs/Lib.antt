@@ -1,4 +1,5 @@
 pub mod Stops
+pub mod Steps
 pub mod Laws
 pub mod Seconds
 pub mod Plan

@@ -11,7 +11,7 @@ use smf_fmri::Items;
 use std::alloc::{AllocError, Global};
 use std::mem::replace;
 
-fn any_going(members: &[GraphMember]) -> bool
+pub(crate) fn any_going(members: &[GraphMember]) -> bool
     ensures { result ≡ any_going members.now }
 {
     members.iter().any(|member| is_going(member))

@@ -1,14 +1,12 @@
 //! Which instances are asked to stop next.
 
 ghost use Rattle.std.specs.Prelude.{◌≡◌, ◌++◌, IfOk, OnOk, filter, map};
-ghost use Rattle.smf_dep.specs.Members.{members};
 ghost use Rattle.smf_stops.specs.Stops.{free, is_enabled, is_free, is_going, is_waiting, name_of, next_stops};
 
 use crate::order::free_flags;
 use crate::requirement::is_going;
-use smf_dep::{GraphMember, members};
+use smf_dep::GraphMember;
 use smf_fmri::{InstanceFmri, Items};
-use smf_state::View;
 use std::alloc::{AllocError, Global};
 
 /// True if it is to start, and would start meanwhile.
@@ -49,7 +47,12 @@ fn put_flagged(
     Ok(())
 }
 
-fn names_of(alloc: Global, members: &[GraphMember]) -> Result<Items<InstanceFmri>, AllocError>
+/// The names of the instances that are asked to stop next. First come those that wait to start, then those that may stop
+/// at once, each in number order. What was asked before is not enabled any more.
+pub(crate) fn next_stops(
+    alloc: Global,
+    members: &[GraphMember],
+) -> Result<Items<InstanceFmri>, AllocError>
     ensures { IfOk result (λ names. names ≡ next_stops members.now) }
 {
     let flags = free_flags(alloc, members)?;
@@ -57,13 +60,4 @@ fn names_of(alloc: Global, members: &[GraphMember]) -> Result<Items<InstanceFmri
     put_waiting(members, &mut names)?;
     put_flagged(members, flags.as_slice(), &mut names)?;
     Ok(names)
-}
-
-/// The names of the instances that are asked to stop next. First come those that wait to start, then those that may stop
-/// at once, each in number order. What was asked before is not enabled any more.
-pub fn next_stops(alloc: Global, view: &View) -> Result<Items<InstanceFmri>, AllocError>
-    ensures { IfOk result (λ names. names ≡ next_stops (members view.now.items)) }
-{
-    let members = members(alloc, view.items.as_slice())?;
-    names_of(alloc, members.as_slice())
 }
