@@ -114,14 +114,13 @@ impl<'a> OrderedStop<'a> {
         }
     }
 
-    /// What is to be done by what is held. At first it is noted for how long the stop may take.
+    /// What is to be done by what is held. It is noted for how long the stop may take, once that can be written.
     fn look<J: Journal>(&mut self, repository: &Plain<J>) -> Result<StopStep, AllocError> {
         let alloc = self.rt.alloc();
         let view = repository.view()?;
         if !self.is_noted {
             let plan = stop_plan(alloc, &view, &limits(self.rt))?;
-            let _written = self.note(plan.seconds);
-            self.is_noted = true;
+            self.is_noted = self.note(plan.seconds).is_ok();
         }
         stop_step(alloc, &view)
     }
@@ -137,11 +136,18 @@ impl<'a> OrderedStop<'a> {
         write_whole(self.rt, path.as_str(), text.as_str())
     }
 
-    /// All have stopped, which a file says.
+    /// Writes that all have stopped.
+    fn tell_end(&self) -> io::Result<()> {
+        let path = format!(in self.rt.alloc(); "{}/stopped", self.folder)?;
+        fs::write(self.rt, path.as_str(), "")
+    }
+
+    /// All have stopped. If that cannot be written, as on a full disk, it is tried again after the next tick.
     fn end(&mut self) {
-        self.next = Next::Ends;
-        if let Ok(path) = format!(in self.rt.alloc(); "{}/stopped", self.folder) {
-            let _written = fs::write(self.rt, path.as_str(), "");
-        }
+        self.next = if self.tell_end().is_ok() {
+            Next::Ends
+        } else {
+            Next::Waits
+        };
     }
 }
