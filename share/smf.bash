@@ -98,12 +98,13 @@ _smf_smf() {
     local word=$1
     shift 2
     case "${1:-} $word" in
-    ' '*) _smf_offer "$word" sim run cfg why check compile export diff backup show prop serve --version ;;
+    ' '*) _smf_offer "$word" sim run cfg why check compile export diff backup show metrics prop plan-stop serve --version ;;
     'run -'*) _smf_offer "$word" --follow ;;
     'cfg -'*) _smf_offer "$word" -f ;;
     'diff -'*) _smf_offer "$word" --exact --script --undo ;;
     'show -'*) _smf_offer "$word" -j -l -H -o -s -S -R --json --long --metrics --well ;;
     'prop -'*) _smf_offer "$word" -c -p ;;
+    'plan-stop -'*) _smf_offer "$word" --patience --method-timeout ;;
     *) _smf_files "$word" ;;
     esac
 }

@@ -1,7 +1,7 @@
 //! `smf`: does scripts of a service manager on standard input, and lines of svccfg over a database. A script runs over
 //! a repository in memory, a copy in memory of a database, or a database and the processes of its services. This crate
 //! joins what the system has with what the crates below decide.
-//! Modules: `files` (databases in files), `sites` (files of tables), `exports` (what databases hold, as lines), `backups` (whole copies of databases), `shows` (what they hold, for people and for programs), `contracts` (contracts that are followed through forks), `processes`
+//! Modules: `files` (databases in files), `sites` (files of tables), `exports` (what databases hold, as lines), `backups` (whole copies of databases), `shows` (what they hold, for people and for programs), `plans` (in which order their services would stop), `contracts` (contracts that are followed through forks), `processes`
 //! (processes of the system), `server` (a service manager that stays), `boot` (boots that fail).
 #![tactic(auto)]
 
@@ -10,6 +10,7 @@ mod boot;
 mod contracts;
 mod exports;
 mod files;
+mod plans;
 mod processes;
 mod server;
 mod shows;
@@ -19,6 +20,7 @@ use crate::backups::backup_over;
 use crate::contracts::follow_over;
 use crate::exports::{diff_over, export_over};
 use crate::files::{cfg_over, check_over, sim_over, why_over};
+use crate::plans::plan_stop_over;
 use crate::processes::run_over;
 use crate::server::serve_over;
 use crate::shows::{prop_over, show_over};
@@ -75,6 +77,11 @@ fn do_task(rt: &HostRuntime, task: &Task<'_>) -> io::Result<u8> {
             database,
             words,
         } => Ok(prop_over(rt, database, words.as_slice(), *configured, *name)),
+        Task::PlanStop {
+            patience,
+            timeout,
+            database,
+        } => Ok(plan_stop_over(rt, database, *patience, *timeout)),
         Task::Backup { database, copy } => Ok(backup_over(rt, database, copy)),
         Task::Run { database, .. } => do_alone(rt, database, task),
         Task::Cfg { database, .. } => do_alone(rt, database, task),

@@ -18,7 +18,7 @@ use std::alloc::{AllocError, Global};
 const COLUMNS: &str = "state,fmri";
 
 /// The status of a run whose words say nothing that is known.
-const BAD_USAGE: u8 = 2;
+pub(crate) const BAD_USAGE: u8 = 2;
 
 /// Why nothing is shown.
 #[derive(Drop)]
@@ -255,7 +255,7 @@ fn show_properties(
 }
 
 /// A repository in memory of what is held.
-fn over(alloc: Global, held: Tables) -> Plain<NoJournal>
+pub(crate) fn over(alloc: Global, held: Tables) -> Plain<NoJournal>
     requires { IsNumbered held }
 {
     Plain::over(alloc, held, NoJournal {})

@@ -2,8 +2,8 @@
 use Rattle.std.specs.Prelude.{◌≡◌, ℕ, List, [], ◌∷◌, codes, Some, None, true, false}
 use Rattle.clap.specs.Words.{fault_of}
 use Rattle.clap.specs.declared.error.kind.ErrorKind.TheVariants as kinds
-use Rattle.smf_program.specs.Tasks.{task_of}
-use Rattle.smf_program.specs.Tasks.TaskTexts.{Sim, Run, Cfg, Backup, Check, Compile, Diff, Export, Prop, Serve, Why}
+use Rattle.smf_program.specs.Tasks.{metrics_listing, task_of}
+use Rattle.smf_program.specs.Tasks.TaskTexts.{Sim, Run, Cfg, Backup, Check, Compile, Diff, Export, PlanStop, Prop, Serve, Show, Why}
 use Rattle.smf_program.specs.Words.{smf_app}
 
 -- the program's name is the first of its words
@@ -43,6 +43,10 @@ QuestionsAreRead =
     × (task_of (smf (codes "compile" ∷ codes "a.toml" ∷ [])) ≡ Some (Compile (codes "a.toml")))
     × (task_of (smf (codes "prop" ∷ codes "-p" ∷ codes "start" ∷ codes "a.db" ∷ codes "web" ∷ []))
     ≡ Some (Prop false (Some (codes "start")) (codes "a.db") (codes "web" ∷ [])))
+    × (task_of (smf (codes "metrics" ∷ codes "a.db" ∷ codes "web" ∷ []))
+    ≡ Some (Show metrics_listing (codes "a.db") (codes "web" ∷ [])))
+    × (task_of (smf (codes "plan-stop" ∷ codes "--patience" ∷ codes "3" ∷ codes "a.db" ∷ []))
+    ≡ Some (PlanStop (Some (codes "3")) None (codes "a.db")))
 
 abbrev pub CopiesAreRead : Type 0
 CopiesAreRead =

@@ -1,5 +1,5 @@
 -- The task that the words of the program ask for.
-use Rattle.std.specs.Prelude.{ℕ, List, [], ◌∷◌, map, Bool, nat_eq, codes, if◌then◌else◌, Option, Some, None, option_map, unwrap_or}
+use Rattle.std.specs.Prelude.{ℕ, List, [], ◌∷◌, map, Bool, true, false, nat_eq, codes, if◌then◌else◌, Option, Some, None, option_map, unwrap_or}
 use Rattle.std.specs.Cmp.Lexicographic.{pointwise}
 use Rattle.clap.specs.Words.{Kinds, Row, all_of, fault_of, first_of, found_of, rows_of, subcommand_of}
 use Rattle.clap.specs.declared.parser.matches.ArgMatches.{ArgMatches}
@@ -35,6 +35,7 @@ pub data TaskTexts : Type 0 where
   Backup : List ℕ → List ℕ → TaskTexts
   Show : ListingTexts → List ℕ → List (List ℕ) → TaskTexts
   Prop : Bool → Option (List ℕ) → List ℕ → List (List ℕ) → TaskTexts
+  PlanStop : Option (List ℕ) → Option (List ℕ) → List ℕ → TaskTexts
 
 abbrev pub listing_texts : Listing → ListingTexts
 listing_texts l =
@@ -65,6 +66,8 @@ texts_of (tasks.Show listing database words) =
     Show (listing_texts listing) database.now (map (λ w. w.now) words.items)
 texts_of (tasks.Prop configured name database words) =
     Prop configured (option_map (λ s. s.now) name) database.now (map (λ w. w.now) words.items)
+texts_of (tasks.PlanStop patience timeout database) =
+    PlanStop (option_map (λ s. s.now) patience) (option_map (λ s. s.now) timeout) database.now
 
 abbrev pub rows_in : ArgMatches → List Row
 rows_in m = rows_of (found_of m)
@@ -134,11 +137,33 @@ listing_in rows =
 abbrev pub show_in : List Row → Option TaskTexts
 show_in rows = option_map (λ database. Show (listing_in rows) database (words_in rows)) (first_of (codes "DB") rows)
 
+-- metrics alone, of all that is shown
+abbrev pub metrics_listing : ListingTexts
+metrics_listing =
+    record {
+      json = false;
+      long = false;
+      metrics = true;
+      well = false;
+      bare = false;
+      columns = None;
+      rising = None;
+      falling = None;
+      restarter = None;
+    }
+
+abbrev pub metrics_in : List Row → Option TaskTexts
+metrics_in rows = option_map (λ database. Show metrics_listing database (words_in rows)) (first_of (codes "DB") rows)
+
 abbrev pub prop_in : List Row → Option TaskTexts
 prop_in rows =
     option_map
     (λ database. Prop (is_set (codes "CONFIGURED") rows) (first_of (codes "NAME") rows) database (words_in rows))
     (first_of (codes "DB") rows)
+
+abbrev pub plan_stop_in : List Row → Option TaskTexts
+plan_stop_in rows =
+    option_map (PlanStop (first_of (codes "PATIENCE") rows) (first_of (codes "TIMEOUT") rows)) (first_of (codes "DB") rows)
 
 -- the task of a subcommand, by its name and by the rows of the words after it
 abbrev pub task_at : List ℕ → List Row → Option TaskTexts
@@ -155,6 +180,8 @@ task_at name rows =
     else if pointwise nat_eq name (codes "backup") then backup_in rows
     else if pointwise nat_eq name (codes "show") then show_in rows
     else if pointwise nat_eq name (codes "prop") then prop_in rows
+    else if pointwise nat_eq name (codes "plan-stop") then plan_stop_in rows
+    else if pointwise nat_eq name (codes "metrics") then metrics_in rows
     else None
 
 abbrev pub task_in : Option (List ℕ × List Row) → Option TaskTexts

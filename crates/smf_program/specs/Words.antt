@@ -58,6 +58,9 @@ compile_app = with_rule (new_app (codes "compile")) site_rule
 abbrev pub export_app : App
 export_app = with_rule (with_rule (new_app (codes "export")) database_rule) fmri_rule
 
+abbrev pub metrics_app : App
+metrics_app = with_rule (with_rule (new_app (codes "metrics")) database_rule) fmri_rule
+
 -- a file of lines
 abbrev pub lines_rule : Rule
 lines_rule = record (new_rule (codes "LINES")) { required = true }
@@ -143,7 +146,18 @@ named_app = with_rule (with_rule (new_app (codes "prop")) configured_rule) name_
 abbrev pub prop_app : App
 prop_app = with_rule (with_rule named_app database_rule) fmri_rule
 
--- one of the twelve has to be named, or the version is asked for
+-- the seconds between a signal and KILL, and the most of a method that names no time-out
+abbrev pub patience_rule : Rule
+patience_rule = record (new_rule (codes "PATIENCE")) { long = Some (codes "patience") }
+
+abbrev pub method_timeout_rule : Rule
+method_timeout_rule = record (new_rule (codes "TIMEOUT")) { long = Some (codes "method-timeout") }
+
+abbrev pub plan_stop_app : App
+plan_stop_app =
+    with_rule (with_rule (with_rule (new_app (codes "plan-stop")) patience_rule) method_timeout_rule) database_rule
+
+-- one of the fourteen has to be named, or the version is asked for
 abbrev pub bare_app : App
 bare_app = on_top (λ s. record s { subcommand_required = true; has_version = true }) (new_app (codes "smf"))
 
@@ -156,14 +170,18 @@ running_app =
 -- with those that ask
 abbrev pub asking_app : App
 asking_app =
-    with_subcommand (with_subcommand (with_subcommand (with_subcommand running_app why_app.top) check_app.top) show_app.top)
-    prop_app.top
+    with_subcommand
+    (with_subcommand
+    (with_subcommand (with_subcommand (with_subcommand running_app why_app.top) check_app.top) show_app.top) prop_app.top)
+    plan_stop_app.top
 
 unfoldable pub smf_app : App
 smf_app =
     with_subcommand
+    (with_subcommand
     (with_subcommand (with_subcommand (with_subcommand asking_app compile_app.top) export_app.top) diff_app.top)
-    backup_app.top
+    backup_app.top)
+    metrics_app.top
 
 -- true if a flag was found
 abbrev pub is_set : List ℕ → List Row → Bool

@@ -3,7 +3,7 @@ ghost use Rattle.std.specs.String.{string_bytes};
 ghost use Rattle.clap.specs.Words.{HasKind, app_of, fault_of, first_of, is_simple, is_simple_and_free, subcommand_of, subcommand_rows_of};
 ghost use Rattle.smf_program.specs.Refusals.{IsWhy};
 ghost use Rattle.smf_program.specs.Words.{is_set};
-ghost use Rattle.smf_program.specs.Tasks.{backup_in, cfg_in, check_in, compile_in, diff_in, export_in, lead_in, listing_in, listing_texts, prop_in, rows_in, show_in, run_in, serve_in, sim_in, task_at, task_in, task_of, texts_of, why_in, words_in};
+ghost use Rattle.smf_program.specs.Tasks.{backup_in, cfg_in, check_in, compile_in, diff_in, export_in, lead_in, listing_in, listing_texts, metrics_in, metrics_listing, plan_stop_in, prop_in, rows_in, show_in, run_in, serve_in, sim_in, task_at, task_in, task_of, texts_of, why_in, words_in};
 
 use crate::refusal::{Refusal, refusal_of};
 use crate::words::smf_command;
@@ -111,6 +111,13 @@ pub enum Task<'a> {
         name: Option<&'a str>,
         database: &'a str,
         words: Vec<&'a str>,
+    },
+    /// In which order the instances that the database in a file has would stop, with the seconds that the options name.
+    /// It is only read.
+    PlanStop {
+        patience: Option<&'a str>,
+        timeout: Option<&'a str>,
+        database: &'a str,
     },
 }
 
@@ -316,6 +323,51 @@ fn prop_in<'a>(alloc: Global, found: &ArgMatches<'a>) -> Result<Option<Task<'a>>
     }
 }
 
+fn metrics_listing<'a>() -> Listing<'a>
+    ensures { listing_texts result ≡ metrics_listing }
+{
+    Listing {
+        json: false,
+        long: false,
+        metrics: true,
+        well: false,
+        bare: false,
+        columns: None,
+        rising: None,
+        falling: None,
+        restarter: None,
+    }
+}
+
+fn metrics_in<'a>(alloc: Global, found: &ArgMatches<'a>) -> Result<Option<Task<'a>>, AllocError>
+    ensures { IfOk result (λ task. option_map texts_of task ≡ metrics_in (rows_in found.now)) }
+{
+    let words = words_in(alloc, found)?;
+    match text_in(found, "DB") {
+        Some(database) => Ok(Some(Task::Show {
+            listing: metrics_listing(),
+            database,
+            words,
+        })),
+        None => Ok(None),
+    }
+}
+
+fn plan_stop_in<'a>(found: &ArgMatches<'a>) -> Option<Task<'a>>
+    ensures { option_map texts_of result ≡ plan_stop_in (rows_in found.now) }
+{
+    let patience = text_in(found, "PATIENCE");
+    let timeout = text_in(found, "TIMEOUT");
+    match text_in(found, "DB") {
+        Some(database) => Some(Task::PlanStop {
+            patience,
+            timeout,
+            database,
+        }),
+        None => None,
+    }
+}
+
 /// The task of a subcommand, by its name and by the words that clap found after it.
 fn task_at<'a>(
     alloc: Global,
@@ -337,6 +389,8 @@ fn task_at<'a>(
         "backup" => Ok(backup_in(found)),
         "show" => show_in(alloc, found),
         "prop" => prop_in(alloc, found),
+        "plan-stop" => Ok(plan_stop_in(found)),
+        "metrics" => metrics_in(alloc, found),
         _ => Ok(None),
     }
 }

@@ -1,7 +1,7 @@
 ghost use Rattle.std.specs.Prelude.{◌≡◌, IfOk, false};
 ghost use Rattle.clap.specs.Words.{app_of, rule_of};
 ghost use Rattle.clap.specs.declared.builder.command.Command.TheViews.{out-Command as fields_of};
-ghost use Rattle.smf_program.specs.Words.{asking_app, backup_app, bare_app, bare_rule, cfg_app, check_app, columns_rule, compile_app, configured_rule, copy_rule, database_rule, diff_app, exact_rule, export_app, falling_rule, file_rule, site_rule, fmri_rule, folder_rule, follow_rule, form_app, json_rule, lead_app, lines_rule, long_rule, metrics_rule, name_rule, named_app, prop_app, read_rule, restarter_rule, rising_rule, run_app, running_app, script_rule, serve_app, show_app, shown_app, sim_app, smf_app, table_app, undo_rule, well_rule, why_app};
+ghost use Rattle.smf_program.specs.Words.{asking_app, backup_app, bare_app, bare_rule, cfg_app, check_app, columns_rule, compile_app, configured_rule, copy_rule, database_rule, diff_app, exact_rule, export_app, falling_rule, file_rule, site_rule, fmri_rule, folder_rule, follow_rule, form_app, json_rule, lead_app, lines_rule, long_rule, method_timeout_rule, metrics_app, metrics_rule, name_rule, named_app, patience_rule, plan_stop_app, prop_app, read_rule, restarter_rule, rising_rule, run_app, running_app, script_rule, serve_app, show_app, shown_app, sim_app, smf_app, table_app, undo_rule, well_rule, why_app};
 
 use clap::{Arg, ArgAction, Command};
 use std::alloc::{AllocError, Global};
@@ -135,6 +135,17 @@ fn compile_command<'a>(alloc: Global) -> Result<Command<'a>, AllocError>
     let command = Command::new(alloc, "compile")
         .about("Prints the lines of svccfg that make the services of a file of TOML")
         .arg(site(alloc))?;
+    Ok(command)
+}
+
+fn metrics_command<'a>(alloc: Global) -> Result<Command<'a>, AllocError>
+    ensures app { IfOk result (λ c. app_of c ≡ metrics_app) }
+    ensures local { IfOk result (λ c. (fields_of c).has_globals ≡ false) }
+{
+    let command = Command::new(alloc, "metrics")
+        .about("Prints the instances that a database has as metrics, in Prometheus' text format")
+        .arg(database(alloc))?
+        .arg(fmris(alloc))?;
     Ok(command)
 }
 
@@ -398,6 +409,36 @@ fn prop_command<'a>(alloc: Global) -> Result<Command<'a>, AllocError>
     Ok(command)
 }
 
+/// The seconds between a signal and KILL.
+fn patience<'a>(alloc: Global) -> Arg<'a>
+    ensures rule { rule_of result ≡ patience_rule }
+    ensures local { result.global ≡ false }
+{
+    Arg::new(alloc, "PATIENCE").long("patience")
+}
+
+/// The most seconds of a method that names no time-out.
+fn method_timeout<'a>(alloc: Global) -> Arg<'a>
+    ensures rule { rule_of result ≡ method_timeout_rule }
+    ensures local { result.global ≡ false }
+{
+    Arg::new(alloc, "TIMEOUT").long("method-timeout")
+}
+
+fn plan_stop_command<'a>(alloc: Global) -> Result<Command<'a>, AllocError>
+    ensures app { IfOk result (λ c. app_of c ≡ plan_stop_app) }
+    ensures local { IfOk result (λ c. (fields_of c).has_globals ≡ false) }
+{
+    let command = Command::new(alloc, "plan-stop")
+        .about(
+            "Prints in which order the services of a database would stop, and how long that takes",
+        )
+        .arg(patience(alloc))?
+        .arg(method_timeout(alloc))?
+        .arg(database(alloc))?;
+    Ok(command)
+}
+
 fn bare_command<'a>(alloc: Global) -> Command<'a>
     ensures { app_of result ≡ bare_app }
 {
@@ -433,13 +474,15 @@ fn asking_command<'a>(alloc: Global) -> Result<Command<'a>, AllocError>
     let show = show_command(alloc)?;
     let with_show = with_check.subcommand(show)?;
     let prop = prop_command(alloc)?;
-    let command = with_show.subcommand(prop)?;
+    let with_prop = with_show.subcommand(prop)?;
+    let plan_stop = plan_stop_command(alloc)?;
+    let command = with_prop.subcommand(plan_stop)?;
     Ok(command)
 }
 
 /// The program as clap knows it. It may be asked for its version, which clap does not know. `sim` may have a database. `run` has one, and contracts may be followed.
 /// `cfg` has a database, and may have a file of lines after `-f`. `serve` has a folder and a database. `why`, `show`, `prop`
-/// and `export` have a database and words that mean instances. `check` has a database, `compile` a file, and `diff` and
+/// and `export` have a database and words that mean instances. `check` and `plan-stop` have a database, `compile` a file, and `diff` and
 /// `backup` both.
 pub(crate) fn smf_command<'a>(alloc: Global) -> Result<Command<'a>, AllocError>
     ensures { IfOk result (λ c. app_of c ≡ smf_app) }
@@ -452,6 +495,8 @@ pub(crate) fn smf_command<'a>(alloc: Global) -> Result<Command<'a>, AllocError>
     let diff = diff_command(alloc)?;
     let with_diff = with_export.subcommand(diff)?;
     let backup = backup_command(alloc)?;
-    let command = with_diff.subcommand(backup)?;
+    let with_backup = with_diff.subcommand(backup)?;
+    let metrics = metrics_command(alloc)?;
+    let command = with_backup.subcommand(metrics)?;
     Ok(command)
 }
