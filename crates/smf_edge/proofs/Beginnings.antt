@@ -1,9 +1,9 @@
 -- A table whose contracts get another holder stays in order.
-use Rattle.std.proofs.Common.{◌≡◌, ℕ, List, [], ◌∷◌, map, refl, sym, ap, subst}
+use Rattle.std.proofs.Common.{◌≡◌, ℕ, List, [], ◌∷◌, map, refl, ap, subst}
 use Rattle.smf_contract.specs.declared.contract.Contract.{Contract}
 use Rattle.smf_contract.specs.declared.contract.Holder.{Holder}
 use Rattle.smf_contract.specs.Entries.{Contracts}
-use Rattle.smf_contract.specs.Laws.{Ascends, Homed, IsOrdered, ids}
+use Rattle.smf_contract.specs.Laws.{Ascends, Homed, IsOrdered}
 use Rattle.smf_edge.specs.Beginnings.{AreHeldBy, held_table}
 
 ids_held : (h : Holder) (cs : List Contract)

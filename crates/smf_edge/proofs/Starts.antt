@@ -10,28 +10,29 @@ use Rattle.smf_edge.specs.Ends.{IsGroupKill}
 use Rattle.smf_edge.specs.Facts.{Facts}
 use Rattle.smf_edge.specs.Processes.{HasLeft, OneHasLeft, SomeKid, is_kid_of}
 use Rattle.smf_edge.specs.Shell.{is_child}
-use Rattle.smf_edge.specs.Starts.{IsKillOf, OnlyKills, Start, log_with, log_with_start, start_of}
+use Rattle.smf_edge.specs.Starts.{IsKillOf, OnlyKills, StartedProgram, log_with, log_with_start, started_program}
 use Rattle.smf_edge.proofs.Places.{some_kid}
 
-nothing_more : (log : Option (List Start)) → log ≡ log_with [] log
+nothing_more : (log : Option (List StartedProgram)) → log ≡ log_with [] log
 nothing_more None = refl
 nothing_more (Some starts) = ap Some (sym (append-nil starts))
 
-both : (first more : List Start) (log : Option (List Start))
+both : (first more : List StartedProgram) (log : Option (List StartedProgram))
     → log_with more (log_with first log) ≡ log_with (first ++ more) log
 both first more None = refl
 both first more (Some starts) = ap Some (append_assoc starts first more)
 
-pub no_kills : (Of : ℕ → Type 0) (old new : Option (List Start)) → new ≡ old → OnlyKills Of old new
+pub no_kills : (Of : ℕ → Type 0) (old new : Option (List StartedProgram)) → new ≡ old → OnlyKills Of old new
 no_kills Of old new e = ([], e ∙ nothing_more old, tt)
 
-pub one_kill : (Of : ℕ → Type 0) (group : ℕ) (program : Command Global) (made : Bool) (old new : Option (List Start))
-    → Of group → IsGroupKill group program → new ≡ log_with_start program made old → OnlyKills Of old new
+pub one_kill : (Of : ℕ → Type 0) (group : ℕ) (program : Command Global) (made : Bool)
+    (old new : Option (List StartedProgram)) → Of group → IsGroupKill group program
+    → new ≡ log_with_start program made old → OnlyKills Of old new
 one_kill Of group program made old new of kill e =
-    (start_of program made ∷ [], e, ((group, of, kill.program, kill.args, kill.clears), tt))
+    (started_program program made ∷ [], e, ((group, of, kill.program, kill.args, kill.clears), tt))
 
 -- all groups of which one holds are groups of which the other does
-all_of : (Of Other : ℕ → Type 0) (starts : List Start) → ((group : ℕ) → Of group → Other group)
+all_of : (Of Other : ℕ → Type 0) (starts : List StartedProgram) → ((group : ℕ) → Of group → Other group)
     → AllByRecursion (IsKillOf Of) starts → AllByRecursion (IsKillOf Other) starts
 all_of Of Other [] each all = tt
 all_of Of Other (start ∷ starts) each all = (
@@ -39,16 +40,16 @@ all_of Of Other (start ∷ starts) each all = (
   all_of Of Other starts each all.1,
 )
 
-pub kills_of : (Of Other : ℕ → Type 0) (old new : Option (List Start)) → ((group : ℕ) → Of group → Other group)
+pub kills_of : (Of Other : ℕ → Type 0) (old new : Option (List StartedProgram)) → ((group : ℕ) → Of group → Other group)
     → OnlyKills Of old new → OnlyKills Other old new
 kills_of Of Other old new each kills = (kills.0, kills.1, all_of Of Other kills.0 each kills.2)
 
-all_both : (Of : ℕ → Type 0) (first more : List Start) → AllByRecursion (IsKillOf Of) first
+all_both : (Of : ℕ → Type 0) (first more : List StartedProgram) → AllByRecursion (IsKillOf Of) first
     → AllByRecursion (IsKillOf Of) more → AllByRecursion (IsKillOf Of) (first ++ more)
 all_both Of [] more all others = others
 all_both Of (start ∷ starts) more all others = (all.0, all_both Of starts more all.1 others)
 
-pub kills_then : (Of : ℕ → Type 0) (old between new : Option (List Start)) → OnlyKills Of old between
+pub kills_then : (Of : ℕ → Type 0) (old between new : Option (List StartedProgram)) → OnlyKills Of old between
     → OnlyKills Of between new → OnlyKills Of old new
 kills_then Of old between new first more = (
   first.0 ++ more.0,
@@ -58,16 +59,16 @@ kills_then Of old between new first more = (
 
 -- the same, of equal processes and of an equal log before
 pub kills_from : {C : Type 0} (Of : List (Kid C) → ℕ → Type 0) (kids was : List (Kid C))
-    (between old new : Option (List Start)) → kids ≡ was → between ≡ old → OnlyKills (Of kids) between new
+    (between old new : Option (List StartedProgram)) → kids ≡ was → between ≡ old → OnlyKills (Of kids) between new
     → OnlyKills (Of was) old new
 kills_from {C} Of kids was between old new same log kills =
     let K : List (Kid C) → Type 0 = λ ks. OnlyKills (Of ks) between new in
-    let L : Option (List Start) → Type 0 = λ first. OnlyKills (Of was) first new in
+    let L : Option (List StartedProgram) → Type 0 = λ first. OnlyKills (Of was) first new in
     subst L log (subst K same kills)
 
 -- what a process left is what one of them left
 pub one_left : {C : Type 0} (facts : Facts C) (kids : List (Kid C)) (k : ℕ) (d : Kid C)
-    (old between new : Option (List Start)) → k < length kids → OnlyKills (OneHasLeft facts kids) old between
+    (old between new : Option (List StartedProgram)) → k < length kids → OnlyKills (OneHasLeft facts kids) old between
     → OnlyKills (λ group. HasLeft facts group (get_or kids k d)) between new
     → OnlyKills (OneHasLeft facts kids) old new
 one_left facts kids k d old between new low first more =
@@ -77,7 +78,7 @@ one_left facts kids k d old between new low first more =
 
 -- what holds of a process holds of the process of its contract
 pub some_kills : {C : Type 0} (Of : ℕ → Kid C → Type 0) (id : ℕ) (kids : List (Kid C)) (k : ℕ) (d : Kid C)
-    (old new : Option (List Start)) → position (is_kid_of id) kids ≡ Some k
+    (old new : Option (List StartedProgram)) → position (is_kid_of id) kids ≡ Some k
     → OnlyKills (λ group. Of group (get_or kids k d)) old new
     → OnlyKills (λ group. SomeKid id kids (Of group)) old new
 some_kills Of id kids k d old new at kills =
@@ -85,8 +86,8 @@ some_kills Of id kids k d old new at kills =
     (λ group of. some_kid id kids k d (Of group) at of) kills
 
 -- the group of a process that ended, by its number
-pub left_kills : {C : Type 0} (facts : Facts C) (kid : Kid C) (status : ExitStatus) (old new : Option (List Start))
-    → facts.has_ended kid.child status
+pub left_kills : {C : Type 0} (facts : Facts C) (kid : Kid C) (status : ExitStatus)
+    (old new : Option (List StartedProgram)) → facts.has_ended kid.child status
     → OnlyKills (λ group. (is_child kid.style ≡ true) × (group ≡ kid.group)) old new
     → OnlyKills (λ group. HasLeft facts group kid) old new
 left_kills facts kid status old new ended kills =

@@ -3,6 +3,7 @@ pub mod Steps
 pub mod Answers
 pub mod Sound
 pub mod Books
+pub mod Environment
 pub mod Shell
 pub mod Facts
 pub mod Ends

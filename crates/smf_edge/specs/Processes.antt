@@ -5,7 +5,6 @@ use Rattle.std.specs.declared.process.Command.{Command}
 use Rattle.std.specs.declared.process.ExitStatus.{ExitStatus}
 use Rattle.smf_contract.specs.declared.event.Exit.{Exit}
 use Rattle.smf_contract.specs.declared.event.ContractEvent.{ContractEvent}
-use Rattle.smf_contract.specs.declared.terms.Terms.{Terms}
 use Rattle.smf_contract.specs.declared.call.ContractCall.TheVariants as calls
 use Rattle.smf_contract.specs.Called.{table_after_contract_call}
 use Rattle.smf_contract.specs.Entries.{Contracts, home}
@@ -15,14 +14,14 @@ use Rattle.smf_edge.specs.declared.child.Sight.{Sight}
 use Rattle.smf_edge.specs.declared.child.Sight.TheVariants.{Running, Ended, Failed}
 use Rattle.smf_edge.specs.declared.deed.Happening.{Happening}
 use Rattle.smf_edge.specs.declared.deed.Happening.TheVariants as happenings
-use Rattle.smf_edge.specs.declared.note.Run.{Run}
+use Rattle.smf_edge.specs.declared.start.Start.{Start}
 use Rattle.smf_edge.specs.Books.{IsTold}
 use Rattle.smf_edge.specs.Ledgers.{Ledger}
 use Rattle.smf_edge.specs.Steps.{IsGiven, ledger_with_member_event}
 use Rattle.smf_edge.specs.Facts.{Facts, HasNotRun, HasRun}
 use Rattle.smf_edge.specs.Ends.{IsGroupKill, exit_by}
-use Rattle.smf_edge.specs.Shell.{is_child}
-use Rattle.smf_edge.specs.Starts.{Start, log_with_start}
+use Rattle.smf_edge.specs.Shell.{IsRun, is_child}
+use Rattle.smf_edge.specs.Starts.{StartedProgram, log_with_start}
 
 -- the data of a process that stay as long as it is kept: its contract, how long its service lasts, and its process
 -- group
@@ -37,7 +36,7 @@ pub record OsChildren (C : Type 0) : Type 0 where
   pub ledger : Ledger
   pub failures : ℕ
   pub kids : List (Kid C)
-  pub started : Option (List Start)
+  pub started : Option (List StartedProgram)
 
 abbrev pub role_of : {C : Type 0} → Kid C → Role
 role_of kid = record { contract = kid.contract; style = kid.style; group = kid.group }
@@ -140,16 +139,16 @@ abbrev pub NoneOrSome : {C : Type 0} → ℕ → List (Kid C) → (Kid C → Typ
 NoneOrSome id kids P = (position (is_kid_of id) kids ≡ None) ⊎ SomeKid id kids P
 
 -- one program was started, once: the last process is of it, and its group has its number
-pub record IsStarted {C : Type 0} (facts : Facts C) (IsRun : Command Global → Type 0) (id : ℕ) (style : Duration)
-    (old new : OsChildren C) : Type 0 where
+pub record IsStarted {C : Type 0} (facts : Facts C) (start : Start) (old new : OsChildren C) : Type 0 where
   pub program : Command Global
-  pub run : IsRun program
+  pub run : IsRun start program
   pub once : new.started ≡ log_with_start program true old.started
   pub child : C
   pub of : facts.is_of program child
   pub group : ℕ
   pub number : facts.is_number child group
-  pub is : new.kids ≡ old.kids ++ record { contract = id; style = style; group = group; child = child } ∷ []
+  pub is : new.kids
+      ≡ old.kids ++ record { contract = start.contract; style = start.style; group = group; child = child } ∷ []
 
 -- a process of the contract ended, and that is what its table is told
 pub record IsFoundEnd {C : Type 0} (facts : Facts C) (id : ℕ) (kids : List (Kid C)) (old new : Contracts) : Type 0 where
@@ -163,9 +162,6 @@ abbrev pub IsJoinedEnd : {C : Type 0} → Facts C → ℕ → List (Kid C) → L
 IsJoinedEnd facts id kids old new =
     (exit : Exit) × (SomeKid id kids (HasExit facts exit))
     × (new ≡ ledger_with_member_event old id (happenings.Exit exit))
-
-abbrev pub run_of : ℕ → ℕ → Terms → List ℕ → Run
-run_of id cookie terms command = record { contract = id; cookie = cookie; terms = terms; command = command }
 
 -- it is told that this happened to a member of a contract
 abbrev pub HasTold : ℕ → Happening → Ledger → Ledger → ContractEvent → Type 0

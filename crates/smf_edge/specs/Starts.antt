@@ -8,14 +8,14 @@ use Rattle.smf_edge.specs.Ends.{group_kill}
 
 -- the words of a program that was to be started, whether no variable is handed on to it, and whether a process of it was
 -- made
-pub record Start : Type 0 where
+pub record StartedProgram : Type 0 where
   pub program : List ℕ
   pub args : List (List ℕ)
   pub clears : Bool
   pub made : Bool
 
-abbrev pub start_of : Command Global → Bool → Start
-start_of c made =
+abbrev pub started_program : Command Global → Bool → StartedProgram
+started_program c made =
     record { program = command_program c; args = command_args c; clears = clears_env c; made = made }
 
 -- the log with these more, if it is known
@@ -23,16 +23,16 @@ abbrev pub log_with : {A : Type 0} → List A → Option (List A) → Option (Li
 log_with more old = option_map (λ first. first ++ more) old
 
 -- the log with one start more
-abbrev pub log_with_start : Command Global → Bool → Option (List Start) → Option (List Start)
-log_with_start program made old = log_with (start_of program made ∷ []) old
+abbrev pub log_with_start : Command Global → Bool → Option (List StartedProgram) → Option (List StartedProgram)
+log_with_start program made old = log_with (started_program program made ∷ []) old
 
 -- No process was made since: nothing was started, or the start of one such program failed.
-abbrev pub MadeNone : (Command Global → Type 0) → Option (List Start) → Option (List Start) → Type 0
+abbrev pub MadeNone : (Command Global → Type 0) → Option (List StartedProgram) → Option (List StartedProgram) → Type 0
 MadeNone IsRun old new =
     (new ≡ old) ⊎ ((program : Command Global) × (IsRun program) × (new ≡ log_with_start program false old))
 
 -- it kills a group of which this holds
-abbrev pub IsKillOf : (ℕ → Type 0) → Start → Type 0
+abbrev pub IsKillOf : (ℕ → Type 0) → StartedProgram → Type 0
 IsKillOf Of start =
     (group : ℕ) × (Of group)
     × (start.program ≡ codes "/bin/sh")
@@ -40,5 +40,5 @@ IsKillOf Of start =
     × (start.clears ≡ true)
 
 -- all that was started since are killers of groups of which this holds
-abbrev pub OnlyKills : (ℕ → Type 0) → Option (List Start) → Option (List Start) → Type 0
-OnlyKills Of old new = (more : List Start) × (new ≡ log_with more old) × AllByRecursion (IsKillOf Of) more
+abbrev pub OnlyKills : (ℕ → Type 0) → Option (List StartedProgram) → Option (List StartedProgram) → Type 0
+OnlyKills Of old new = (more : List StartedProgram) × (new ≡ log_with more old) × AllByRecursion (IsKillOf Of) more

@@ -1,6 +1,6 @@
 ghost use Rattle.std.specs.Prelude.{◌≡◌, ◌≢◌, ◌<◌, ◌⊎◌, [], ◌∷◌, Some, None, true, IfErr, IfOk, IfSome, IfNone, OnErr, OnOk, filter, length, option_to_list, vec_len, vec_capacity};
-ghost use Rattle.smf_contract.specs.Calls.{next_contract};
-ghost use Rattle.smf_contract.specs.Entries.{empty, first_member, home, processes};
+ghost use Rattle.smf_contract.specs.Calls.{is_fatal, next_contract};
+ghost use Rattle.smf_contract.specs.Entries.{contract, empty, first_member, home, processes};
 ghost use Rattle.smf_edge.specs.Books.{IsTold, ledger_of};
 ghost use Rattle.smf_edge.specs.Ledgers.{ledger_over, members_left, lives, remaining};
 ghost use Rattle.smf_edge.specs.Processes.{HasTold};
@@ -8,12 +8,12 @@ ghost use Rattle.smf_edge.specs.Sound.{IsSound};
 ghost use Rattle.smf_edge.specs.Steps.{IsGiven, IsKilled, IsPolled, IsSpawned, ledger_with_member_event, live_contracts, ledger_after_boot};
 ghost use Rattle.smf_edge.specs.declared.fault.KidsFault.TheVariants.{Memory, NoChild, Refused};
 
-use crate::counts::count_left;
+use crate::counts::{count_left, is_fatal};
 use crate::deed::{Happening, MemberEvent};
 use crate::edits::{behind, drop_deeds, drop_events, first_deed, note_all, take_deed, take_first};
 use crate::fault::KidsFault;
 use crate::note::{Kill, Note, Run};
-use smf_contract::{Contract, ContractEvent, ContractTable};
+use smf_contract::{Contract, ContractEvent, ContractTable, Failure};
 use smf_fmri::{Items, Number};
 use std::alloc::{AllocError, Global};
 
@@ -21,7 +21,7 @@ use std::alloc::{AllocError, Global};
 const HOLDER: u64 = 0;
 
 /// The ledger that children keep of themselves.
-pub(crate) struct Book {
+pub struct Book {
     alloc: Global,
     table: ContractTable,
     notes: Vec<Note>,
@@ -54,7 +54,7 @@ fn one_more(table: &ContractTable) -> Result<(), AllocError>
 }
 
 impl Book {
-    pub(crate) fn new(alloc: Global) -> Book
+    pub fn new(alloc: Global) -> Book
         ensures { ledger_of result ≡ record { notes = []; table = empty; due = []; pending = [] } }
     {
         Book {
@@ -67,7 +67,7 @@ impl Book {
     }
 
     /// A book over contracts that are there.
-    pub(crate) fn over(alloc: Global, table: ContractTable) -> Book
+    pub fn over(alloc: Global, table: ContractTable) -> Book
         ensures { ledger_of result ≡ ledger_over table.table }
     {
         Book {
@@ -79,7 +79,7 @@ impl Book {
         }
     }
 
-    pub(crate) fn notes(&self) -> &[Note]
+    pub fn notes(&self) -> &[Note]
         ensures { result.now ≡ (ledger_of self.now).notes }
     {
         &self.notes
@@ -94,8 +94,15 @@ impl Book {
         count_left(&contract, count, &self.pending, id)
     }
 
+    /// Says whether a failure of one member of a contract ends them all.
+    pub fn is_fatal(&self, id: Number, failure: Failure) -> bool
+        ensures { result ≡ is_fatal failure (contract (ledger_of self.now).table id) }
+    {
+        is_fatal(&self.table.contract(id), failure)
+    }
+
     /// Makes room for a run in the next contract, which is this one.
-    pub(crate) fn prepare(&mut self, id: Number) -> Result<(), KidsFault>
+    pub fn prepare(&mut self, id: Number) -> Result<(), KidsFault>
         ensures same { ledger_of self.new ≡ ledger_of self.old }
         ensures next { OnOk result (next_contract self.new.table.table ≡ Some id) }
         ensures table { OnOk result (self.new.table.room ≡ true) }
@@ -112,7 +119,7 @@ impl Book {
     }
 
     /// Makes a run, for which room was made.
-    pub(crate) fn make(&mut self, run: Run)
+    pub fn make(&mut self, run: Run)
         requires sound { IsSound (ledger_of self.old) }
         requires next { next_contract self.old.table.table ≡ Some run.contract }
         requires table { self.old.table.room ≡ true }
@@ -125,7 +132,7 @@ impl Book {
     }
 
     /// The next event that is due.
-    pub(crate) fn give(&mut self) -> Option<ContractEvent>
+    pub fn give(&mut self) -> Option<ContractEvent>
         requires { IsSound (ledger_of self.old) }
         ensures given { IfSome result (λ e. IsGiven e (ledger_of self.old) (ledger_of self.new)) }
         ensures none { IfNone result ((ledger_of self.new ≡ ledger_of self.old) × (self.old.due.items ≡ [])) }
@@ -166,17 +173,14 @@ impl Book {
 
     /// Finds that something happens to the lowest member of a contract, if nothing is pending: the first event that it
     /// brings.
-    pub(crate) fn find(
-        &mut self,
-        id: Number,
-        happening: Happening,
-    ) -> Result<ContractEvent, AllocError>
+    pub fn find(&mut self, id: Number, happening: Happening) -> Result<ContractEvent, AllocError>
         requires sound { IsSound (ledger_of self.old) }
         requires member { first_member id self.old.table.table.members ≢ None }
         requires none_due { self.old.due.items ≡ [] }
         requires none_pending { self.old.pending.items ≡ [] }
         ensures found { IfOk result (λ event. IsPolled (Some event) (ledger_of self.old) (ledger_of self.new)) }
         ensures told { IfOk result (HasTold id happening (ledger_of self.old) (ledger_of self.new)) }
+        ensures room { OnOk result (self.old.table.table.last_process < 0x7fff_ffff_ffff_ffff) }
         ensures sound { IsSound (ledger_of self.new) }
         ensures err { OnErr result (ledger_of self.new ≡ ledger_of self.old) }
     {
@@ -225,7 +229,7 @@ impl Book {
     }
 
     /// Makes room for a kill, with the processes that it ends.
-    pub(crate) fn prepare_kill(&mut self, id: Number) -> Result<Kill, KidsFault>
+    pub fn prepare_kill(&mut self, id: Number) -> Result<Kill, KidsFault>
         ensures same { ledger_of self.new ≡ ledger_of self.old }
         ensures kill { IfOk result (λ kill. (kill.contract ≡ id)
             × (kill.ends ≡ processes id self.old.table.table.members)) }
@@ -248,7 +252,7 @@ impl Book {
     }
 
     /// Kills the members of a contract, for which room was made.
-    pub(crate) fn kill(&mut self, kill: Kill)
+    pub fn kill(&mut self, kill: Kill)
         requires sound { IsSound (ledger_of self.old) }
         requires some { 0 < members_left (ledger_of self.old) kill.contract }
         requires ends { kill.ends ≡ processes kill.contract self.old.table.table.members }
@@ -276,7 +280,7 @@ impl Book {
     }
 
     /// Forgets the notes, and the contracts that have no members.
-    pub(crate) fn forget(&mut self) -> Result<(), AllocError>
+    pub fn forget(&mut self) -> Result<(), AllocError>
         requires { IsSound (ledger_of self.old) }
         ensures forgot { OnOk result (ledger_of self.new ≡ remaining (ledger_of self.old)) }
         ensures kept { OnErr result (ledger_of self.new ≡ ledger_of self.old) }
@@ -299,7 +303,7 @@ impl Book {
     }
 
     /// The contracts that have members.
-    pub(crate) fn list(&self) -> Result<Items<Number>, AllocError>
+    pub fn list(&self) -> Result<Items<Number>, AllocError>
         ensures { IfOk result (λ ids. ids ≡ live_contracts (ledger_of self.now)) }
     {
         let mut ids = Items::new(self.alloc);

@@ -39,7 +39,7 @@ pub(crate) enum Sight {
 }
 
 /// Starts a program in a contract.
-pub(crate) fn start<R: System>(
+pub(crate) fn start_program<R: System>(
     system: &mut R,
     program: &mut Program,
     contract: Number,

@@ -9,7 +9,7 @@ use smf_contract::{Contract, EventSet, Failure};
 use smf_fmri::Number;
 
 /// Says whether a failure of one member of a contract ends them all.
-fn is_fatal(contract: &Option<Contract>, failure: Failure) -> bool
+pub(crate) fn is_fatal(contract: &Option<Contract>, failure: Failure) -> bool
     ensures { result ≡ is_fatal failure contract.now }
 {
     let kind = match failure {

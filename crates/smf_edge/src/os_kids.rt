@@ -1,17 +1,16 @@
 ghost use Rattle.smf_edge.specs.Answers.{HasFailed};
 
 use crate::book::Book;
-use crate::child::{Kid, Sight, end_all, forget, see_all, start, wait_for};
+use crate::child::{Kid, Sight, end_all, forget, see_all, start_program, wait_for};
 use crate::deed::Happening;
 use crate::fault::KidsFault;
 use crate::kids::Kids;
-use crate::note::{Note, Run};
+use crate::note::Note;
 use crate::shell::{follows, shell};
+use crate::start::Start;
 use crate::system::System;
-use smf_contract::{ContractEvent, Method, Terms};
-use smf_fmri::{InstanceFmri, Items, Number};
-use smf_method::CommandText;
-use smf_state::Duration;
+use smf_contract::ContractEvent;
+use smf_fmri::{Items, Number};
 use std::alloc::{AllocError, Global};
 use std::io::Stderr;
 use std::marker::Model;
@@ -82,12 +81,11 @@ impl<R: System> OsKids<R> {
 
 impl<R: System> Kids for OsKids<R> {
     ghost use Rattle.std.specs.Prelude.{◌≡◌, ◌≢◌, IfErr, IfOk, OnErr, OnOk, Err, filter, false, true};
-    ghost use Rattle.smf_method.specs.Tokens.{method_text};
     ghost use Rattle.smf_edge.specs.Answers.{MayNotAnswer, MayNotDo, MayNotSpawn};
     ghost use Rattle.smf_edge.specs.Ends.{MayRefuse, os_skills};
-    ghost use Rattle.smf_edge.specs.Ledgers.{members_left, remaining};
+    ghost use Rattle.smf_edge.specs.Ledgers.{members_left, remaining, run_of};
     ghost use Rattle.smf_edge.specs.Manned.{IsManned};
-    ghost use Rattle.smf_edge.specs.Processes.{HasNoExit, IsEnded, IsJoinedEnd, IsNotEnded, IsStarted, KidHasLeft, KidIsToEnd, OneFails, OneHasLeft, PollsKids, SomeKid, contracts, is_other_role, roles, run_of};
+    ghost use Rattle.smf_edge.specs.Processes.{HasNoExit, IsEnded, IsJoinedEnd, IsNotEnded, IsStarted, KidHasLeft, KidIsToEnd, OneFails, OneHasLeft, PollsKids, SomeKid, contracts, is_other_role, roles};
     ghost use Rattle.smf_edge.specs.Shell.{IsRun, follows};
     ghost use Rattle.smf_edge.specs.Starts.{MadeNone, OnlyKills};
     ghost use Rattle.smf_edge.specs.Steps.{IsJoined, IsKilled, IsPolled, IsSpawned, ledger_after_boot, ledger_with_member_event, live_contracts};
@@ -99,52 +97,28 @@ impl<R: System> Kids for OsKids<R> {
 
     ghost skills = { os_skills R.facts.start_fails };
 
-    fn spawn(
-        &mut self,
-        id: Number,
-        cookie: u64,
-        style: Duration,
-        terms: Terms,
-        command: &CommandText,
-        restarter: &InstanceFmri,
-        method: Method,
-        instance: &InstanceFmri,
-    ) -> Result<(), KidsFault>
-        ensures made { OnOk result (IsSpawned (run_of id cookie terms command.now) self.old.ledger self.new.ledger) }
+    fn spawn(&mut self, start: &Start) -> Result<(), KidsFault>
+        ensures made { OnOk result (IsSpawned (run_of start.now) self.old.ledger self.new.ledger) }
         ensures refused { OnErr result (self.new.ledger ≡ self.old.ledger) }
-        ensures not_followed { follows style ≡ false → result ≡ Err NotFollowed }
+        ensures not_followed { follows start.now.style ≡ false → result ≡ Err NotFollowed }
         ensures fault { IfErr result
-            (MayNotSpawn (Unit {0}) (MayRefuse R.facts.start_fails self.old.ledger id) (follows style)) }
+            (MayNotSpawn (Unit {0}) (MayRefuse R.facts.start_fails self.old.ledger start.now.contract)
+            (follows start.now.style)) }
         ensures same { self.new.failures ≡ self.old.failures }
-        ensures started { OnOk result
-            (IsStarted R.facts (IsRun command.now instance.now (method_text method) restarter.now) id style
-            self.old self.new) }
-        ensures none { OnErr result (MadeNone (IsRun command.now instance.now (method_text method) restarter.now)
-            self.old.started self.new.started) }
-        ensures unfollowed { follows style ≡ false → self.new.started ≡ self.old.started }
+        ensures started { OnOk result (IsStarted R.facts start.now self.old self.new) }
+        ensures none { OnErr result (MadeNone (IsRun start.now) self.old.started self.new.started) }
+        ensures unfollowed { follows start.now.style ≡ false → self.new.started ≡ self.old.started }
         ensures stay { OnErr result (self.new.kids ≡ self.old.kids) }
     {
-        if !follows(style) {
+        if !follows(start.style) {
             return Err(KidsFault::NotFollowed);
         }
-        let mut program = shell(
-            self.alloc,
-            command,
-            restarter,
-            method,
-            instance,
-            self.output,
-        )?;
-        let command = command.clone()?;
+        let mut program = shell(self.alloc, start, self.output)?;
+        let run = start.run()?;
         self.children.reserve(1)?;
-        self.book.prepare(id)?;
-        let kid = start(&mut self.system, &mut program, id, style)?;
-        self.book.make(Run {
-            contract: id,
-            cookie,
-            terms,
-            command,
-        });
+        self.book.prepare(start.contract)?;
+        let kid = start_program(&mut self.system, &mut program, start.contract, start.style)?;
+        self.book.make(run);
         self.children.push(kid).unwrap();
         Ok(())
     }

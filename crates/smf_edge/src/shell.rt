@@ -1,17 +1,19 @@
-// How a command is run.
+// How a method is run.
 ghost use Rattle.std.specs.Prelude.{◌≡◌, ◌≢◌, IfOk, OnOk, ℕ, List, Some, None, false, true, codes};
 ghost use Rattle.std.specs.Process.{SameEnv, SameOtherVars, SameProgramAndArgs, clears_env, command_args, command_program, command_var};
 ghost use Rattle.std.specs.IoError.{error_kind};
 ghost use Rattle.std_io.specs.declared.io.kind.ErrorKind.TheVariants.{OutOfMemory};
 ghost use Rattle.smf_edge.specs.declared.fault.KidsFault.TheVariants.{Memory, Refused};
-ghost use Rattle.smf_method.specs.Tokens.{method_text};
 ghost use Rattle.smf_edge.specs.Ends.{IsGroupKill, exit_by};
+ghost use Rattle.smf_edge.specs.Environment.{variable_name, variable_value};
+ghost use Rattle.smf_edge.specs.declared.environment.Variable.{Variable as AnyVariable};
 ghost use Rattle.smf_edge.specs.Shell.{IsOther, by_shell, follows, is_child};
 
+use crate::environment::Variable;
 use crate::fault::KidsFault;
-use smf_contract::{Exit, Method};
-use smf_fmri::InstanceFmri;
-use smf_method::{CommandText, method_text};
+use crate::start::Start;
+use smf_contract::Exit;
+use smf_method::CommandText;
 use smf_state::Duration;
 use std::alloc::{AllocError, Global};
 use std::io;
@@ -34,13 +36,15 @@ fn bare(alloc: Global, command: &CommandText) -> Result<Program, AllocError>
     Ok(program)
 }
 
-fn set(program: &mut Program, name: &str, value: &str) -> Result<(), AllocError>
-    ensures set { OnOk result (command_var program.new name.now ≡ Some (Some value.now)) }
-    ensures others { OnOk result (SameOtherVars program.old program.new name.now) }
+/// Gives a program a variable of a method.
+fn set(program: &mut Program, variable: Variable, start: &Start) -> Result<(), AllocError>
+    ensures set { OnOk result
+        (command_var program.new (variable_name variable) ≡ Some (Some (variable_value start.now variable))) }
+    ensures others { OnOk result (SameOtherVars program.old program.new (variable_name variable)) }
     ensures call { OnOk result (SameProgramAndArgs program.old program.new) }
     ensures clears { OnOk result (clears_env program.new ≡ clears_env program.old) }
 {
-    program.env(name, value)?;
+    program.env(variable.name(), variable.value(start))?;
     Ok(())
 }
 
@@ -54,31 +58,21 @@ fn wire(program: &mut Program, output: Stderr)
     program.stderr(output);
 }
 
-/// A command by the shell, in a process group of its own, with these variables alone and an empty standard input. Its
-/// output goes to one stream.
-pub(crate) fn shell(
-    alloc: Global,
-    command: &CommandText,
-    restarter: &InstanceFmri,
-    method: Method,
-    instance: &InstanceFmri,
-    output: Stderr,
-) -> Result<Program, AllocError>
+/// The method of a start, by the shell, in a process group of its own, with the variables of a method, no other, and an
+/// empty standard input. Its output goes to one stream.
+pub(crate) fn shell(alloc: Global, start: &Start, output: Stderr) -> Result<Program, AllocError>
     ensures clears { IfOk result (λ c. clears_env c ≡ true) }
     ensures program { IfOk result (λ c. command_program c ≡ codes "/usr/bin/setsid") }
-    ensures args { IfOk result (λ c. command_args c ≡ by_shell command.now) }
-    ensures path { IfOk result
-        (λ c. command_var c (codes "PATH") ≡ Some (Some (codes "/usr/sbin:/usr/bin:/sbin:/bin"))) }
-    ensures fmri { IfOk result (λ c. command_var c (codes "SMF_FMRI") ≡ Some (Some instance.now)) }
-    ensures method { IfOk result (λ c. command_var c (codes "SMF_METHOD") ≡ Some (Some (method_text method))) }
-    ensures restarter { IfOk result (λ c. command_var c (codes "SMF_RESTARTER") ≡ Some (Some restarter.now)) }
+    ensures args { IfOk result (λ c. command_args c ≡ by_shell start.now.command) }
+    ensures variables { IfOk result
+        (λ c. (v : AnyVariable) → command_var c (variable_name v) ≡ Some (Some (variable_value start.now v))) }
     ensures alone { IfOk result (λ c. (name : List ℕ) → IsOther name → command_var c name ≡ None) }
 {
-    let mut program = bare(alloc, command)?;
-    set(&mut program, "PATH", "/usr/sbin:/usr/bin:/sbin:/bin")?;
-    set(&mut program, "SMF_FMRI", instance.print())?;
-    set(&mut program, "SMF_METHOD", method_text(method))?;
-    set(&mut program, "SMF_RESTARTER", restarter.print())?;
+    let mut program = bare(alloc, &start.command)?;
+    set(&mut program, Variable::Path, start)?;
+    set(&mut program, Variable::Fmri, start)?;
+    set(&mut program, Variable::Method, start)?;
+    set(&mut program, Variable::Restarter, start)?;
     wire(&mut program, output);
     Ok(program)
 }

@@ -3,7 +3,7 @@ ghost use Rattle.std.specs.Prelude.{◌≡◌, List, Option, false, true, IfErr,
 ghost use Rattle.std.specs.declared.process.ExitStatus.{ExitStatus};
 ghost use Rattle.std.specs.Process.{child_status};
 ghost use Rattle.smf_edge.specs.Facts.{Facts};
-ghost use Rattle.smf_edge.specs.Starts.{Start, log_with_start};
+ghost use Rattle.smf_edge.specs.Starts.{StartedProgram, log_with_start};
 
 use std::io;
 use std::process::{Child, Command as Program, ExitStatus, Processes};
@@ -16,7 +16,7 @@ pub trait System {
     ghost facts: { Facts Self.Started };
 
     /// What it was asked to start, the first first, if that is known.
-    ghost starts: { Self → Option (List Start) };
+    ghost starts: { Self → Option (List StartedProgram) };
 
     /// It alone starts anything.
     fn start(&mut self, program: &mut Program) -> io::Result<Self::Started>

@@ -25,6 +25,9 @@ returns-clause-told c =
     (sym c.first_member.ensures ∙ c.unwrap-process.ensures) in
     (c.unwrap-process.result, member, c.in_ok-event.ensures.told)
 
+pub returns-clause-room : goal.returns-clause-room
+returns-clause-room c = c.in_ok-event.ensures.room
+
 pub returns-clause-sound : goal.returns-clause-sound
 returns-clause-sound c =
     let member = home_of_first c.args.id c.unwrap-process.result _ _ c.requires.sound.ordered.members_ascend

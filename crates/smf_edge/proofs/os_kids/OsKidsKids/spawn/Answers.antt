@@ -3,7 +3,6 @@ use Rattle.smf_edge.specs.Books.{ledger_of}
 use Rattle.smf_edge.specs.Processes.{contracts}
 use Rattle.smf_edge.specs.Shell.{IsRun}
 use Rattle.smf_edge.specs.Starts.{MadeNone, log_with_start}
-use Rattle.smf_method.specs.Tokens.{method_text}
 use Rattle.smf_edge.proofs.Manned.{manned_along, manned_spawned}
 use Rattle.smf_edge.proofs.Places.{if_err, kid_is, more_contracts}
 use Rattle.smf_edge.proofs.os_kids.OsKidsKids.spawn.Goals as goal
@@ -18,10 +17,7 @@ returns-clause-started g c =
         clears = run.clears;
         program = run.program;
         args = run.args;
-        path = run.path;
-        fmri = run.fmri;
-        method = run.method;
-        restarter = run.restarter;
+        variables = run.variables;
         alone = run.alone;
       };
       once = c.in_ok-kid.ensures.made
@@ -34,7 +30,8 @@ returns-clause-started g c =
           items
           ∙ ap (λ h. h.kids ++ c.in_ok-kid.kid ∷ []) c.self.view_is
           ∙ ap (λ kid. c.args.self.now.kids ++ kid ∷ [])
-          (kid_is c.in_ok-kid.kid c.args.id c.args.style c.in_ok-kid.ensures.contract c.in_ok-kid.ensures.style);
+          (kid_is c.in_ok-kid.kid c.args.start.now.contract c.args.start.now.style c.in_ok-kid.ensures.contract
+          c.in_ok-kid.ensures.style);
     }
 
 pub invariant_of-self-2 : goal.invariant_of-self-2
@@ -45,28 +42,26 @@ invariant_of-self-2 g c =
     let after = manned_spawned _ (ledger_of c.prepare.new.self) (ledger_of c.make.new.self)
     (contracts c.self.inside.children.items) before c.make.ensures.made in
     let more = more_contracts c.self.inside.children.items c.push.new.self.items c.in_ok-kid.kid items in
+    let same : c.in_ok-kid.kid.contract ≡ c.in_ok-run.run'.contract =
+    c.in_ok-kid.ensures.contract ∙ sym (ap (λ run. run.contract) c.in_ok-run.ensures) in
     record {
       sound = c.make.ensures.sound;
       manned = manned_along _ _ _ _ refl
-          (sym (more ∙ ap (λ n. contracts c.self.inside.children.items ++ n ∷ []) c.in_ok-kid.ensures.contract)) after;
+          (sym (more ∙ ap (λ n. contracts c.self.inside.children.items ++ n ∷ []) same)) after;
     }
 
 pub returns-in_err-kid-clause-none : goal.returns-in_err-kid-clause-none
 returns-in_err-kid-clause-none g c =
     let run = c.in_ok-program.ensures in
-    let none : MadeNone
-    (IsRun c.args.command.now c.args.instance.now (method_text c.args.method) c.args.restarter.now)
-    c.args.self.now.started (g.R.System.starts c.start.new.system) =
+    let none : MadeNone (IsRun c.args.start.now) c.args.self.now.started
+    (g.R.System.starts c.start_program.new.system) =
     inr (
       c.in_ok-program.program,
       record {
         clears = run.clears;
         program = run.program;
         args = run.args;
-        path = run.path;
-        fmri = run.fmri;
-        method = run.method;
-        restarter = run.restarter;
+        variables = run.variables;
         alone = run.alone;
       },
       c.in_err-kid.ensures.none

@@ -1,4 +1,4 @@
-use Rattle.std.proofs.Common.{◌≡◌, [], sym, ap, subst}
+use Rattle.std.proofs.Common.{◌≡◌, [], sym, subst}
 use Rattle.std.specs.List.{AllByRecursion}
 use Rattle.smf_contract.specs.declared.contract.Holder.TheVariants.{Held}
 use Rattle.smf_contract.specs.Entries.{Contracts, empty}
