@@ -43,7 +43,8 @@ use Rattle.smf_edge.specs.declared.deed.Happening.TheVariants as happenings
 use Rattle.smf_edge.specs.declared.note.Note.{Note}
 use Rattle.smf_edge.specs.declared.note.Note.TheVariants as notes
 use Rattle.smf_edge.specs.declared.note.Run.{Run}
-use Rattle.smf_edge.specs.Ledgers.{Ledger, call_of as call_for, forks_by, is_other_event, record_of, runs_of}
+use Rattle.smf_edge.specs.declared.start.Start.{Start as MethodStart}
+use Rattle.smf_edge.specs.Ledgers.{Ledger, call_of as call_for, forks_by, is_other_event, record_of, run_of, runs_of}
 use Rattle.smf_edge.specs.Steps.{IsFound, IsGiven, IsKilled, IsPolled, IsSpawned}
 use Rattle.smf_edge.proofs.Firsts.{found_is}
 use Rattle.smf_edge.proofs.Members.{home_of_first}
@@ -58,11 +59,10 @@ use Rattle.smf_world.specs.Happens.{world_after, happens}
 use Rattle.smf_world.specs.Worked.{work_of_turn, answer_of, begun_in, begun_item, begun_items, booted_as, call_of, work_of_call, work_of_command, work_of_delivery, delivered_if, emptied_items, heard_by, held_items, holder, is_launched, work_of_join, launched_if, own_ticked, process_call, reported_by, reported_to, restarter, sent_at, spawn_answer, ticked_for, work_of_timeout, work_on_message, work_of_event}
 use Rattle.smf_world.specs.World.{World, initial_world}
 use Rattle.smf_machine.specs.declared.requests.MethodRequest.TheVariants.{Spawn, Kill}
-use Rattle.smf_machine.specs.declared.children.Wanted.{Wanted}
 use Rattle.smf_machine.specs.declared.polls.News.{News}
 use Rattle.smf_drive.specs.Agrees.{Agrees, AgreesSince, AreAlike, AreMade, ArePast, Before, IsNoted, IsPast, Start, start_by, start_if}
 use Rattle.smf_machine.specs.Requests.{request_of_turn, asked_by, asked_of, first_of, is_held_by, is_instance, kill_if, spawn_request, wanted_in}
-use Rattle.smf_machine.specs.Children.{world_after_news, news, news_if, news_in, news_of, run_for, news_of_kind as told_of}
+use Rattle.smf_machine.specs.Children.{world_after_news, news, news_if, news_in, news_of, news_of_kind as told_of}
 use Rattle.smf_drive.specs.Moves.{AreMoves, IsMove, IsUnmade, Moves, is_alone}
 use Rattle.smf_drive.specs.Moves.IsMove.{alone, unmade, spawned as spawns_run, killed as kills, polled}
 use Rattle.smf_drive.proofs.Alikeness.{alike_adopt, alike_back, alike_exit, alike_fail, alike_fork, alike_kill, alike_nothing, alike_spawn, killed_all, killed_shape, not_killed}
@@ -226,17 +226,17 @@ call_ticked : (w : World) (k : Knowledge) (n : ℕ) (a : SpawnAnswer)
 unfolding work_of_turn
 call_ticked w k n a = refl
 
-no_made : (c cookie : ℕ) (terms : Terms) (i : Option KnownInstance) (b : Option Begun)
-    → IsUnmade (spawn_request c cookie terms i b) spawns.Made → ⊥
-no_made c cookie terms (Some i) (Some b) u = u
-no_made c cookie terms None (Some b) u = u
-no_made c cookie terms None None u = u
-no_made c cookie terms (Some i) None u = u
+no_made : (name : List ℕ) (c cookie : ℕ) (terms : Terms) (i : Option KnownInstance) (b : Option Begun)
+    → IsUnmade (spawn_request name c cookie terms i b) spawns.Made → ⊥
+no_made name c cookie terms (Some i) (Some b) u = u
+no_made name c cookie terms None (Some b) u = u
+no_made name c cookie terms None None u = u
+no_made name c cookie terms (Some i) None u = u
 
-no_made_in : (c : Option ℕ) (cookie : ℕ) (terms : Terms) (i : Option KnownInstance) (b : Option Begun)
-    → IsUnmade (wanted_in c cookie terms i b) spawns.Made → ⊥
-no_made_in (Some c) cookie terms i b u = no_made c cookie terms i b u
-no_made_in None cookie terms i b u = u
+no_made_in : (name : List ℕ) (c : Option ℕ) (cookie : ℕ) (terms : Terms) (i : Option KnownInstance)
+    (b : Option Begun) → IsUnmade (wanted_in name c cookie terms i b) spawns.Made → ⊥
+no_made_in name (Some c) cookie terms i b u = no_made name c cookie terms i b u
+no_made_in name None cookie terms i b u = u
 
 unmade_kill : (b : Bool) (t : Contracts) (actor id : ℕ) (a : SpawnAnswer) → is_held_by actor (contract t id) ≡ b
     → IsUnmade (kill_if b id) a → IsQuiet t (calls.Kill actor id)
@@ -250,7 +250,7 @@ unmade_in t k n b asks.Nothing a u = quiet_nothing t
 unmade_in t k n b asks.List a u = quiet_nothing t
 unmade_in t k n b (asks.Adopt c) a u = quiet_adopt t k.actor c
 unmade_in t k n b (asks.Spawn cookie terms) spawns.Made u =
-    absurd (no_made_in (next_contract t) cookie terms (find (is_instance n) k.instances) b u)
+    absurd (no_made_in k.name (next_contract t) cookie terms (find (is_instance n) k.instances) b u)
 unmade_in t k n b (asks.Spawn cookie terms) spawns.Refused u = quiet_nothing t
 unmade_in t k n b (asks.Spawn cookie terms) spawns.NotFollowed u = quiet_nothing t
 unmade_in t k n b (asks.Kill c) a u = unmade_kill (is_held_by k.actor (contract t c)) t k.actor c a refl u
@@ -272,7 +272,7 @@ quiet_unmade w name n a u = unmade_of w (restarter w name) n a u
 -- ---- a spawn that is made
 
 -- the first run that is begun is the wanted one
-record Wants (t : Contracts) (c : Call) (bs : List Begun) (want : Wanted) : Type 0 where
+record Wants (t : Contracts) (c : Call) (bs : List Begun) (want : MethodStart) : Type 0 where
   first : Begun
   rest : List Begun
   begun : bs ≡ first ∷ rest
@@ -280,15 +280,15 @@ record Wants (t : Contracts) (c : Call) (bs : List Begun) (want : Wanted) : Type
   call : c ≡ asks.Spawn want.cookie want.terms
   command : want.command ≡ first.command
 
-wants_by : (t : Contracts) (o : Option ℕ) (cookie : ℕ) (terms : Terms) (i : Option KnownInstance) (bs : List Begun)
-    (want : Wanted) → next_contract t ≡ o → wanted_in o cookie terms i (first_of bs) ≡ Spawn want
+wants_by : (name : List ℕ) (t : Contracts) (o : Option ℕ) (cookie : ℕ) (terms : Terms) (i : Option KnownInstance)
+    (bs : List Begun) (want : MethodStart) → next_contract t ≡ o → wanted_in name o cookie terms i (first_of bs) ≡ Spawn want
     → Wants t (asks.Spawn cookie terms) bs want
-wants_by t None cookie terms i bs want e h = absurd cc
-wants_by t (Some c) cookie terms None [] want e h = absurd cc
-wants_by t (Some c) cookie terms None (b ∷ bs) want e h = absurd cc
-wants_by t (Some c) cookie terms (Some i) [] want e h = absurd cc
-wants_by t (Some c) cookie terms (Some i) (b ∷ bs) want e h =
-    let with_new_contract : Wanted =
+wants_by name t None cookie terms i bs want e h = absurd cc
+wants_by name t (Some c) cookie terms None [] want e h = absurd cc
+wants_by name t (Some c) cookie terms None (b ∷ bs) want e h = absurd cc
+wants_by name t (Some c) cookie terms (Some i) [] want e h = absurd cc
+wants_by name t (Some c) cookie terms (Some i) (b ∷ bs) want e h =
+    let with_new_contract : MethodStart =
     record {
       contract = c;
       cookie = cookie;
@@ -297,6 +297,7 @@ wants_by t (Some c) cookie terms (Some i) (b ∷ bs) want e h =
       command = b.command;
       method = b.method;
       instance = i.name;
+      restarter = name;
     } in
     let same : with_new_contract ≡ want = cc in
     record {
@@ -308,14 +309,14 @@ wants_by t (Some c) cookie terms (Some i) (b ∷ bs) want e h =
       command = ap (λ x. x.command) (sym same);
     }
 
-no_run_for : (b : Bool) (id : ℕ) (want : Wanted) → kill_if b id ≡ Spawn want → ⊥
+no_run_for : (b : Bool) (id : ℕ) (want : MethodStart) → kill_if b id ≡ Spawn want → ⊥
 no_run_for true id want h = absurd cc
 no_run_for false id want h = absurd cc
 
-wants_in : (t : Contracts) (k : Knowledge) (n : ℕ) (bs : List Begun) (c : Call) (want : Wanted)
+wants_in : (t : Contracts) (k : Knowledge) (n : ℕ) (bs : List Begun) (c : Call) (want : MethodStart)
     → asked_by t k n (first_of bs) c ≡ Spawn want → Wants t c bs want
 wants_in t k n bs (asks.Spawn cookie terms) want h =
-    wants_by t (next_contract t) cookie terms (find (is_instance n) k.instances) bs want refl h
+    wants_by k.name t (next_contract t) cookie terms (find (is_instance n) k.instances) bs want refl h
 wants_in t k n bs (asks.Kill c) want h = absurd (no_run_for (is_held_by k.actor (contract t c)) c want h)
 wants_in t k n bs asks.Nothing want h = absurd cc
 wants_in t k n bs asks.List want h = absurd cc
@@ -364,7 +365,7 @@ made_items w k n id cookie terms r b rest is_call next is =
     ∙ ap starts (begun_is w.table k.actor id cookie terms r.call r.begun rest b is_call next is)
 
 -- the event asks the table for the wanted run, and its items show that run first
-record IsRun (w : World) (e : Event) (want : Wanted) : Type 0 where
+record IsRun (w : World) (e : Event) (want : MethodStart) : Type 0 where
   actor : ℕ
   first : Begun
   rest : List Start
@@ -373,7 +374,7 @@ record IsRun (w : World) (e : Event) (want : Wanted) : Type 0 where
   some : (want.contract == 0) ≡ false
   command : want.command ≡ first.command
 
-record IsRunOf (w : World) (o : Option Knowledge) (n : ℕ) (want : Wanted) : Type 0 where
+record IsRunOf (w : World) (o : Option Knowledge) (n : ℕ) (want : MethodStart) : Type 0 where
   actor : ℕ
   first : Begun
   rest : List Start
@@ -382,10 +383,10 @@ record IsRunOf (w : World) (o : Option Knowledge) (n : ℕ) (want : Wanted) : Ty
   some : (want.contract == 0) ≡ false
   command : want.command ≡ first.command
 
-run_of : (w : World) (o : Option Knowledge) (n : ℕ) (want : Wanted) → asked_of w.table o n ≡ Spawn want
+run_asked : (w : World) (o : Option Knowledge) (n : ℕ) (want : MethodStart) → asked_of w.table o n ≡ Spawn want
     → IsRunOf w o n want
-run_of w None n want h = absurd cc
-run_of w (Some k) n want h =
+run_asked w None n want h = absurd cc
+run_asked w (Some k) n want h =
     let r : Reply = reply_to_tick k n in
     let wants = wants_in w.table k n r.begun r.call want h in
     record {
@@ -400,11 +401,11 @@ run_of w (Some k) n want h =
       command = wants.command;
     }
 
-run_is : (w : World) (name : List ℕ) (n : ℕ) (want : Wanted) → request_of_turn w name n ≡ Spawn want
+run_is : (w : World) (name : List ℕ) (n : ℕ) (want : MethodStart) → request_of_turn w name n ≡ Spawn want
     → IsRun w (events.Tick name n spawns.Made) want
 unfolding request_of_turn work_of_event
 run_is w name n want h =
-    let r = run_of w (restarter w name) n want h in
+    let r = run_asked w (restarter w name) n want h in
     record {
       actor = r.actor;
       first = r.first;
@@ -480,13 +481,13 @@ kill_called : (t u : Contracts) (id : ℕ) → result_of_kill t 0 id ≡ Ok u
 unfolding table_after_contract_call
 kill_called t u id h = sym (ap (left_by t) h)
 
-agree_spawned : {b : Before} (w v : World) (name : List ℕ) (n : ℕ) (want : Wanted) (l m : Ledger)
-    → request_of_turn w name n ≡ Spawn want → IsSpawned (run_for want) l m
+agree_spawned : {b : Before} (w v : World) (name : List ℕ) (n : ℕ) (want : MethodStart) (l m : Ledger)
+    → request_of_turn w name n ≡ Spawn want → IsSpawned (run_of want) l m
     → v ≡ happens w (events.Tick name n spawns.Made) → AgreesSince b w l → AgreesSince b v m
 agree_spawned {b} w v name n want l m asks s is a =
     let e : Event = events.Tick name n spawns.Made in
     let r = run_is w name n want asks in
-    let run : Run = run_for want in
+    let run : Run = run_of want in
     let notes_are : m.notes ≡ l.notes ++ notes.Made run ∷ [] = ap (λ x. x.notes) s.is in
     let due : m.due ≡ l.due = ap (λ x. x.due) s.is in
     let given_back : Made = record { contract = run.contract; process = m.table.last_process } in
@@ -541,17 +542,17 @@ record Kills (t : Contracts) (actor id : ℕ) (c : Call) : Type 0 where
   call : c ≡ asks.Kill id
   mine : is_held_by actor (contract t id) ≡ true
 
-no_kill_for : (c cookie : ℕ) (terms : Terms) (i : Option KnownInstance) (b : Option Begun) (id : ℕ)
-    → spawn_request c cookie terms i b ≡ Kill id → ⊥
-no_kill_for c cookie terms (Some i) (Some b) id h = absurd cc
-no_kill_for c cookie terms None (Some b) id h = absurd cc
-no_kill_for c cookie terms None None id h = absurd cc
-no_kill_for c cookie terms (Some i) None id h = absurd cc
+no_kill_for : (name : List ℕ) (c cookie : ℕ) (terms : Terms) (i : Option KnownInstance) (b : Option Begun) (id : ℕ)
+    → spawn_request name c cookie terms i b ≡ Kill id → ⊥
+no_kill_for name c cookie terms (Some i) (Some b) id h = absurd cc
+no_kill_for name c cookie terms None (Some b) id h = absurd cc
+no_kill_for name c cookie terms None None id h = absurd cc
+no_kill_for name c cookie terms (Some i) None id h = absurd cc
 
-no_kill_in : (o : Option ℕ) (cookie : ℕ) (terms : Terms) (i : Option KnownInstance) (b : Option Begun) (id : ℕ)
-    → wanted_in o cookie terms i b ≡ Kill id → ⊥
-no_kill_in (Some c) cookie terms i b id h = no_kill_for c cookie terms i b id h
-no_kill_in None cookie terms i b id h = absurd cc
+no_kill_in : (name : List ℕ) (o : Option ℕ) (cookie : ℕ) (terms : Terms) (i : Option KnownInstance) (b : Option Begun)
+    (id : ℕ) → wanted_in name o cookie terms i b ≡ Kill id → ⊥
+no_kill_in name (Some c) cookie terms i b id h = no_kill_for name c cookie terms i b id h
+no_kill_in name None cookie terms i b id h = absurd cc
 
 kills_by : (b : Bool) (t : Contracts) (actor c id : ℕ) → is_held_by actor (contract t c) ≡ b → kill_if b c ≡ Kill id
     → Kills t actor id (asks.Kill c)
@@ -563,7 +564,7 @@ kills_by false t actor c id e h = absurd cc
 kills_in : (t : Contracts) (k : Knowledge) (n : ℕ) (b : Option Begun) (c : Call) (id : ℕ)
     → asked_by t k n b c ≡ Kill id → Kills t k.actor id c
 kills_in t k n b (asks.Spawn cookie terms) id h =
-    absurd (no_kill_in (next_contract t) cookie terms (find (is_instance n) k.instances) b id h)
+    absurd (no_kill_in k.name (next_contract t) cookie terms (find (is_instance n) k.instances) b id h)
 kills_in t k n b (asks.Kill c) id h = kills_by (is_held_by k.actor (contract t c)) t k.actor c id refl h
 kills_in t k n b asks.Nothing id h = absurd cc
 kills_in t k n b asks.List id h = absurd cc

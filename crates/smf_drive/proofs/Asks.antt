@@ -31,27 +31,27 @@ asks_kill (Some k) n = is_kill (reply_to_tick k n).call
 abbrev AsksSpawn : MethodRequest → Call → Type 0
 AsksSpawn Nothing c = Unit {0}
 AsksSpawn Unnumbered c = is_spawn c ≡ true
-AsksSpawn (Spawn spawn_request) c = is_spawn c ≡ true
+AsksSpawn (Spawn start) c = is_spawn c ≡ true
 AsksSpawn (Kill id) c = is_kill c ≡ true
 
-want_is : (c cookie : ℕ) (terms : Terms) (i : Option KnownInstance) (b : Option Begun) (call : Call)
-    → is_spawn call ≡ true → AsksSpawn (spawn_request c cookie terms i b) call
-want_is c cookie terms (Some i) (Some b) call e = e
-want_is c cookie terms None (Some b) call e = e
-want_is c cookie terms None None call e = e
-want_is c cookie terms (Some i) None call e = e
+want_is : (name : List ℕ) (c cookie : ℕ) (terms : Terms) (i : Option KnownInstance) (b : Option Begun) (call : Call)
+    → is_spawn call ≡ true → AsksSpawn (spawn_request name c cookie terms i b) call
+want_is name c cookie terms (Some i) (Some b) call e = e
+want_is name c cookie terms None (Some b) call e = e
+want_is name c cookie terms None None call e = e
+want_is name c cookie terms (Some i) None call e = e
 
-want_in_is : (c : Option ℕ) (cookie : ℕ) (terms : Terms) (i : Option KnownInstance) (b : Option Begun) (call : Call)
-    → is_spawn call ≡ true → AsksSpawn (wanted_in c cookie terms i b) call
-want_in_is (Some c) cookie terms i b call e = want_is c cookie terms i b call e
-want_in_is None cookie terms i b call e = e
+want_in_is : (name : List ℕ) (c : Option ℕ) (cookie : ℕ) (terms : Terms) (i : Option KnownInstance) (b : Option Begun)
+    (call : Call) → is_spawn call ≡ true → AsksSpawn (wanted_in name c cookie terms i b) call
+want_in_is name (Some c) cookie terms i b call e = want_is name c cookie terms i b call e
+want_in_is name None cookie terms i b call e = e
 
 kill_is : (b : Bool) (c : ℕ) (call : Call) → is_kill call ≡ true → AsksSpawn (kill_if b c) call
 kill_is true c call e = e
 kill_is false c call e = tt
 
 asks_by : (t : Contracts) (k : Knowledge) (n : ℕ) (b : Option Begun) (c : Call) → AsksSpawn (asked_by t k n b c) c
-asks_by t k n b (calls.Spawn cookie terms) = want_in_is _ cookie terms _ b (calls.Spawn cookie terms) refl
+asks_by t k n b (calls.Spawn cookie terms) = want_in_is _ _ cookie terms _ b (calls.Spawn cookie terms) refl
 asks_by t k n b (calls.Kill c) = kill_is _ c (calls.Kill c) refl
 asks_by t k n b calls.Nothing = tt
 asks_by t k n b calls.List = tt
@@ -61,14 +61,14 @@ asks_by t k n b (calls.Adopt c) = tt
 abbrev pub IsAskedFor : MethodRequest → Option Knowledge → ℕ → Type 0
 IsAskedFor Nothing k n = Unit {0}
 IsAskedFor Unnumbered k n = asks_spawn k n ≡ true
-IsAskedFor (Spawn spawn_request) k n = asks_spawn k n ≡ true
+IsAskedFor (Spawn start) k n = asks_spawn k n ≡ true
 IsAskedFor (Kill id) k n = asks_kill k n ≡ true
 
 turned_for : (a : MethodRequest) (k : Knowledge) (n : ℕ) → AsksSpawn a (reply_to_tick k n).call
     → IsAskedFor a (Some k) n
 turned_for Nothing k n h = tt
 turned_for Unnumbered k n h = h
-turned_for (Spawn spawn_request) k n h = h
+turned_for (Spawn start) k n h = h
 turned_for (Kill id) k n h = h
 
 asked_for_of : (t : Contracts) (k : Option Knowledge) (n : ℕ) → IsAskedFor (asked_of t k n) k n
@@ -85,33 +85,33 @@ asked_for w name n a e = let P : MethodRequest → Type 0 = λ x. IsAskedFor x (
 abbrev AsksAlike : MethodRequest → Option Knowledge → ℕ → Type 0
 AsksAlike Nothing k n = asks_spawn k n ≡ true → ⊥
 AsksAlike Unnumbered k n = Unit {0}
-AsksAlike (Spawn spawn_request) k n = Unit {0}
+AsksAlike (Spawn start) k n = Unit {0}
 AsksAlike (Kill id) k n = asks_spawn k n ≡ true → ⊥
 
 abbrev IsOther : MethodRequest → Call → Type 0
 IsOther Nothing c = is_spawn c ≡ true → ⊥
 IsOther Unnumbered c = Unit {0}
-IsOther (Spawn spawn_request) c = Unit {0}
+IsOther (Spawn start) c = Unit {0}
 IsOther (Kill id) c = is_spawn c ≡ true → ⊥
 
-want_other : (c cookie : ℕ) (terms : Terms) (i : Option KnownInstance) (b : Option Begun) (call : Call)
-    → IsOther (spawn_request c cookie terms i b) call
-want_other c cookie terms (Some i) (Some b) call = tt
-want_other c cookie terms None (Some b) call = tt
-want_other c cookie terms None None call = tt
-want_other c cookie terms (Some i) None call = tt
+want_other : (name : List ℕ) (c cookie : ℕ) (terms : Terms) (i : Option KnownInstance) (b : Option Begun) (call : Call)
+    → IsOther (spawn_request name c cookie terms i b) call
+want_other name c cookie terms (Some i) (Some b) call = tt
+want_other name c cookie terms None (Some b) call = tt
+want_other name c cookie terms None None call = tt
+want_other name c cookie terms (Some i) None call = tt
 
-want_in_other : (c : Option ℕ) (cookie : ℕ) (terms : Terms) (i : Option KnownInstance) (b : Option Begun)
-    (call : Call) → IsOther (wanted_in c cookie terms i b) call
-want_in_other (Some c) cookie terms i b call = want_other c cookie terms i b call
-want_in_other None cookie terms i b call = tt
+want_in_other : (name : List ℕ) (c : Option ℕ) (cookie : ℕ) (terms : Terms) (i : Option KnownInstance)
+    (b : Option Begun) (call : Call) → IsOther (wanted_in name c cookie terms i b) call
+want_in_other name (Some c) cookie terms i b call = want_other name c cookie terms i b call
+want_in_other name None cookie terms i b call = tt
 
 kill_other : (b : Bool) (c : ℕ) (call : Call) → (is_spawn call ≡ true → ⊥) → IsOther (kill_if b c) call
 kill_other true c call h = h
 kill_other false c call h = h
 
 others : (t : Contracts) (k : Knowledge) (n : ℕ) (b : Option Begun) (c : Call) → IsOther (asked_by t k n b c) c
-others t k n b (calls.Spawn cookie terms) = want_in_other _ cookie terms _ b (calls.Spawn cookie terms)
+others t k n b (calls.Spawn cookie terms) = want_in_other _ _ cookie terms _ b (calls.Spawn cookie terms)
 others t k n b (calls.Kill c) = kill_other _ c (calls.Kill c) (λ e. absurd cc)
 others t k n b calls.Nothing = λ e. absurd cc
 others t k n b calls.List = λ e. absurd cc
@@ -120,7 +120,7 @@ others t k n b (calls.Adopt c) = λ e. absurd cc
 alike : (a : MethodRequest) (k : Knowledge) (n : ℕ) → IsOther a (reply_to_tick k n).call → AsksAlike a (Some k) n
 alike Nothing k n h = h
 alike Unnumbered k n h = tt
-alike (Spawn spawn_request) k n h = tt
+alike (Spawn start) k n h = tt
 alike (Kill id) k n h = h
 
 asks_alike : (t : Contracts) (k : Option Knowledge) (n : ℕ) → AsksAlike (asked_of t k n) k n
@@ -136,7 +136,7 @@ unmade_by : (k : Option Knowledge) (n : ℕ) (a : MethodRequest) → IsAskedFor 
     → asks_spawn k n ≡ true → IsUnmade a spawns.Refused
 unmade_by k n Nothing h alike e = absurd (alike e)
 unmade_by k n Unnumbered h alike e = tt
-unmade_by k n (Spawn spawn_request) h alike e = tt
+unmade_by k n (Spawn start) h alike e = tt
 unmade_by k n (Kill id) h alike e = absurd (alike e)
 
 pub unmade_refused : (p : Progress) (name : List ℕ) (n : ℕ) → refuses p name n ≡ true

@@ -3,7 +3,7 @@ use Rattle.std.proofs.Common.{◌≡◌, ◌⊎◌, inl, inr, ℕ, zero, suc, Bo
 use Rattle.smf_contract.specs.declared.event.ContractEvent.{ContractEvent}
 use Rattle.smf_edge.specs.Answers.{Seen, Skills}
 use Rattle.smf_edge.specs.Ledgers.{Ledger}
-use Rattle.smf_machine.specs.declared.children.Wanted.{Wanted}
+use Rattle.smf_edge.specs.declared.start.Start.{Start}
 use Rattle.smf_machine.specs.declared.requests.MethodRequest.{MethodRequest}
 use Rattle.smf_machine.specs.declared.requests.MethodRequest.TheVariants.{Nothing, Unnumbered, Spawn, Kill}
 use Rattle.smf_machine.specs.Children.{happens_if}
@@ -110,14 +110,14 @@ unmade_moved : (ask : MethodRequest) (w v : World) (name : List ℕ) (n : ℕ) (
 unmade_moved ask w v name n a l m asks h is same =
     one_move w v l m (unmade name n a (subst (IsUnmadeBy a) asks h) is same)
 
-spawn_moved : (k : Skills) (a : SpawnAnswer) (w v : World) (name : List ℕ) (n : ℕ) (wanted : Wanted) (l m : Ledger)
-    → Spawn wanted ≡ request_of_turn w name n → HasSpawned k wanted a l m → v ≡ happens w (events.Tick name n a)
+spawn_moved : (k : Skills) (a : SpawnAnswer) (w v : World) (name : List ℕ) (n : ℕ) (start : Start) (l m : Ledger)
+    → Spawn start ≡ request_of_turn w name n → HasSpawned k start a l m → v ≡ happens w (events.Tick name n a)
     → Moves w v l m
-spawn_moved k spawns.Made w v name n wanted l m asks h is = one_move w v l m (spawned name n wanted (sym asks) h.1 is)
-spawn_moved k spawns.Refused w v name n wanted l m asks h is =
-    unmade_moved (Spawn wanted) w v name n spawns.Refused l m asks tt is h.2
-spawn_moved k spawns.NotFollowed w v name n wanted l m asks h is =
-    unmade_moved (Spawn wanted) w v name n spawns.NotFollowed l m asks tt is h.1
+spawn_moved k spawns.Made w v name n start l m asks h is = one_move w v l m (spawned name n start (sym asks) h.1 is)
+spawn_moved k spawns.Refused w v name n start l m asks h is =
+    unmade_moved (Spawn start) w v name n spawns.Refused l m asks tt is h.2
+spawn_moved k spawns.NotFollowed w v name n start l m asks h is =
+    unmade_moved (Spawn start) w v name n spawns.NotFollowed l m asks tt is h.1
 
 kill_moved : (k : Skills) (did : Bool) (w v : World) (name : List ℕ) (n id : ℕ) (s t : Seen)
     → Kill id ≡ request_of_turn w name n → HasKilled k id did s t
@@ -131,7 +131,7 @@ ticked_moved k Nothing name n w v s t asks h =
     unmade_moved Nothing w v name n spawns.Made s.ledger t.ledger asks tt h.0 (ap (λ (x : Seen). x.ledger) h.1)
 ticked_moved k Unnumbered name n w v s t asks h =
     unmade_moved Unnumbered w v name n spawns.Refused s.ledger t.ledger asks tt h.0 (ap (λ (x : Seen). x.ledger) h.1)
-ticked_moved k (Spawn wanted) name n w v s t asks h = spawn_moved k h.0 w v name n wanted s.ledger t.ledger asks h.1 h.2
+ticked_moved k (Spawn start) name n w v s t asks h = spawn_moved k h.0 w v name n start s.ledger t.ledger asks h.1 h.2
 ticked_moved k (Kill id) name n w v s t asks h = kill_moved k h.0 w v name n id s t asks h.1 h.2
 
 tick_moved : (k : Skills) (b : Bool) (name : List ℕ) (n : ℕ) (c d : Course) → b ≡ refuses c.progress name n

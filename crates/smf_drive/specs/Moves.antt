@@ -2,10 +2,10 @@
 -- it is to the node.
 use Rattle.std.specs.Prelude.{◌≡◌, ℕ, zero, suc, List, Bool, true, false, Some}
 use Rattle.smf_contract.specs.declared.event.ContractEvent.{ContractEvent}
-use Rattle.smf_edge.specs.Ledgers.{Ledger}
+use Rattle.smf_edge.specs.declared.start.Start.{Start}
+use Rattle.smf_edge.specs.Ledgers.{Ledger, run_of}
 use Rattle.smf_edge.specs.Steps.{IsKilled, IsPolled, IsSpawned}
-use Rattle.smf_machine.specs.declared.children.Wanted.{Wanted}
-use Rattle.smf_machine.specs.Children.{world_after_news, news_of, run_for}
+use Rattle.smf_machine.specs.Children.{world_after_news, news_of}
 use Rattle.smf_world.specs.declared.event.Event.{Event}
 use Rattle.smf_world.specs.declared.event.Event.TheVariants as events
 use Rattle.smf_world.specs.declared.event.SpawnAnswer.{SpawnAnswer}
@@ -32,8 +32,8 @@ IsUnmade Nothing spawns.Made = Unit {0}
 IsUnmade Nothing _ = ⊥
 IsUnmade Unnumbered spawns.Made = ⊥
 IsUnmade Unnumbered _ = Unit {0}
-IsUnmade (Spawn wanted) spawns.Made = ⊥
-IsUnmade (Spawn wanted) _ = Unit {0}
+IsUnmade (Spawn start) spawns.Made = ⊥
+IsUnmade (Spawn start) _ = Unit {0}
 IsUnmade (Kill id) a = ⊥
 
 -- one move leads from a world and what children keep to another world and what they keep then
@@ -41,8 +41,8 @@ pub data IsMove (w v : World) (l m : Ledger) : Type 0 where
   alone : (e : Event) → is_alone e ≡ true → v ≡ happens w e → m ≡ l → IsMove w v l m
   unmade : (name : List ℕ) (n : ℕ) (a : SpawnAnswer) → IsUnmade (request_of_turn w name n) a
       → v ≡ happens w (events.Tick name n a) → m ≡ l → IsMove w v l m
-  spawned : (name : List ℕ) (n : ℕ) (wanted : Wanted) → request_of_turn w name n ≡ Spawn wanted
-      → IsSpawned (run_for wanted) l m → v ≡ happens w (events.Tick name n spawns.Made) → IsMove w v l m
+  spawned : (name : List ℕ) (n : ℕ) (start : Start) → request_of_turn w name n ≡ Spawn start
+      → IsSpawned (run_of start) l m → v ≡ happens w (events.Tick name n spawns.Made) → IsMove w v l m
   killed : (name : List ℕ) (n id : ℕ) → request_of_turn w name n ≡ Kill id → IsKilled id l m
       → v ≡ happens w (events.Tick name n spawns.Made) → IsMove w v l m
   polled : (e : ContractEvent) → IsPolled (Some e) l m → v ≡ world_after_news (news_of w.table e) w → IsMove w v l m

@@ -29,7 +29,7 @@ use Rattle.smf_world.specs.declared.item.Item.TheVariants.{Emptied}
 use Rattle.smf_world.specs.declared.work.Work.{Work}
 use Rattle.smf_world.specs.Worked.{work_of_turn, acted_by, answer_of, begun_in, begun_items, call_of, change_after, emptied_items, held_items, is_spawned, restarter, spawn_answer, ticked_for, work_of_event}
 use Rattle.smf_world.specs.World.{World}
-use Rattle.smf_machine.specs.declared.children.Wanted.{Wanted}
+use Rattle.smf_edge.specs.declared.start.Start.{Start}
 use Rattle.smf_machine.specs.declared.parts.Parts.{Parts}
 use Rattle.smf_machine.specs.declared.requests.MethodRequest.TheVariants.{Spawn}
 use Rattle.smf_machine.specs.declared.turns.SpawnRests.{SpawnRests}
@@ -172,35 +172,35 @@ covered_reply w k n spawns.NotFollowed r h =
 
 -- ---- a turn that asks for a process
 
-no_kill : (b : Bool) (c : ℕ) (wanted : Wanted) → kill_if b c ≡ Spawn wanted → ⊥
-no_kill true c wanted e = absurd cc
-no_kill false c wanted e = absurd cc
+no_kill : (b : Bool) (c : ℕ) (start : Start) → kill_if b c ≡ Spawn start → ⊥
+no_kill true c start e = absurd cc
+no_kill false c start e = absurd cc
 
-spawns_by : (t : Contracts) (k : Knowledge) (n : ℕ) (b : Option Begun) (call : Call) (wanted : Wanted)
-    → asked_by t k n b call ≡ Spawn wanted → Spawns call
-spawns_by t k n b (calls.Spawn cookie terms) wanted e = (cookie, terms, refl)
-spawns_by t k n b (calls.Kill c) wanted e = absurd (no_kill (is_held_by k.actor (contract t c)) c wanted e)
-spawns_by t k n b calls.Nothing wanted e = absurd cc
-spawns_by t k n b calls.List wanted e = absurd cc
-spawns_by t k n b (calls.Adopt c) wanted e = absurd cc
+spawns_by : (t : Contracts) (k : Knowledge) (n : ℕ) (b : Option Begun) (call : Call) (start : Start)
+    → asked_by t k n b call ≡ Spawn start → Spawns call
+spawns_by t k n b (calls.Spawn cookie terms) start e = (cookie, terms, refl)
+spawns_by t k n b (calls.Kill c) start e = absurd (no_kill (is_held_by k.actor (contract t c)) c start e)
+spawns_by t k n b calls.Nothing start e = absurd cc
+spawns_by t k n b calls.List start e = absurd cc
+spawns_by t k n b (calls.Adopt c) start e = absurd cc
 
-covered_known : (w : World) (n : ℕ) (wanted : Wanted) (s : SpawnAnswer) (o : Option Knowledge)
-    → asked_of w.table o n ≡ Spawn wanted → IsCovered (ticked_for w n s o) (ticked_for w n spawns.Made o)
-covered_known w n wanted s None asks = absurd cc
-covered_known w n wanted s (Some k) asks =
+covered_known : (w : World) (n : ℕ) (start : Start) (s : SpawnAnswer) (o : Option Knowledge)
+    → asked_of w.table o n ≡ Spawn start → IsCovered (ticked_for w n s o) (ticked_for w n spawns.Made o)
+covered_known w n start s None asks = absurd cc
+covered_known w n start s (Some k) asks =
     covered_reply w k n s (reply_to_tick k n)
-    (spawns_by w.table k n (first_of (reply_to_tick k n).begun) (reply_to_tick k n).call wanted asks)
+    (spawns_by w.table k n (first_of (reply_to_tick k n).begun) (reply_to_tick k n).call start asks)
 
-covered_turn : (w : World) (name : List ℕ) (n : ℕ) (wanted : Wanted) (s : SpawnAnswer)
-    → request_of_turn w name n ≡ Spawn wanted
+covered_turn : (w : World) (name : List ℕ) (n : ℕ) (start : Start) (s : SpawnAnswer)
+    → request_of_turn w name n ≡ Spawn start
     → IsCovered (work_of_event w (events.Tick name n s)) (work_of_event w (events.Tick name n spawns.Made))
 unfolding work_of_event request_of_turn
-covered_turn w name n wanted s asks = covered_known w n wanted s (restarter w name) asks
+covered_turn w name n start s asks = covered_known w n start s (restarter w name) asks
 
-pub covered_works : (w : World) (name : List ℕ) (n : ℕ) (wanted : Wanted) (ks : SpawnWorks)
-    → request_of_turn w name n ≡ Spawn wanted
+pub covered_works : (w : World) (name : List ℕ) (n : ℕ) (start : Start) (ks : SpawnWorks)
+    → request_of_turn w name n ≡ Spawn start
     → ((a : SpawnAnswer) → work_with ks a ≡ work_of_event w (events.Tick name n a)) → AreCovered ks
-covered_works w name n wanted ks asks same a =
+covered_works w name n start ks asks same a =
     subst (λ (k : Work). IsCovered k ks.made) (sym (same a))
     (subst (λ (k : Work). IsCovered (work_of_event w (events.Tick name n a)) k) (sym (same spawns.Made))
-    (covered_turn w name n wanted a asks))
+    (covered_turn w name n start a asks))

@@ -143,7 +143,7 @@ sound_turn : (rules : Rules) (ask : MethodRequest) (name : List ℕ) (n : ℕ) (
     → TickedBy rules ask name n w s v t → IsSound w → IsSound v
 sound_turn rules Nothing name n w v s t h sound = sound_next w v (tick name n spawns.Made) h.0 tt sound
 sound_turn rules Unnumbered name n w v s t h sound = sound_next w v (tick name n spawns.Refused) h.0 tt sound
-sound_turn rules (Spawn wanted) name n w v s t h sound = sound_next w v (tick name n h.0) h.2 tt sound
+sound_turn rules (Spawn start) name n w v s t h sound = sound_next w v (tick name n h.0) h.2 tt sound
 sound_turn rules (Kill id) name n w v s t h sound = sound_ticked h.0 w v name n spawns.Made sound h.2
 
 pub sound_after_turn : {X E : Type 0} (rules : Rules) (name : List ℕ) (n : ℕ) (w v : World) (s t : Seen)

@@ -1,4 +1,4 @@
--- The run that is made for a process that is asked for, and what children tell.
+-- What children tell, and what comes of what is asked of them.
 use Rattle.std.specs.Prelude.{ℕ, List, [], ◌∷◌, Bool, true, false, if◌then◌else◌, Option, Some, None, is_some, option_map}
 use Rattle.smf_contract.specs.declared.contract.Member.{Member}
 use Rattle.smf_contract.specs.declared.event.ContractEvent.{ContractEvent}
@@ -6,7 +6,6 @@ use Rattle.smf_contract.specs.declared.event.EventKind.{EventKind}
 use Rattle.smf_contract.specs.declared.event.EventKind.TheVariants as kinds
 use Rattle.smf_contract.specs.declared.event.Failure.TheVariants.{Core, Signal, Hwerr}
 use Rattle.smf_contract.specs.Entries.{Contracts, first_member, has_members, home}
-use Rattle.smf_edge.specs.declared.note.Run.{Run}
 use Rattle.smf_world.specs.declared.event.Event.{Event as WorldEvent}
 use Rattle.smf_world.specs.declared.event.Event.TheVariants as events
 use Rattle.smf_world.specs.declared.event.ProcessEvent.{ProcessEvent}
@@ -14,16 +13,9 @@ use Rattle.smf_world.specs.declared.event.ProcessEvent.TheVariants.{Fork, Exit, 
 use Rattle.smf_world.specs.declared.work.Work.{Work}
 use Rattle.smf_world.specs.Happens.{world_after, happens}
 use Rattle.smf_world.specs.World.{World}
-use Rattle.smf_machine.specs.declared.children.Wanted.{Wanted}
 use Rattle.smf_machine.specs.declared.polls.News.{News}
 
--- ---- what is asked
-
--- the run that is made for what is asked for
-abbrev pub run_for : Wanted → Run
-run_for w = record { contract = w.contract; cookie = w.cookie; terms = w.terms; command = w.command }
-
--- ---- what comes of it
+-- ---- what comes of what is asked
 
 abbrev pub done_if : Bool → World → Work → World
 done_if true w k = world_after w k

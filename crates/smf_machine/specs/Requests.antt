@@ -17,9 +17,9 @@ use Rattle.smf_world.specs.World.{World}
 use Rattle.smf_machine.specs.declared.requests.MethodRequest.{MethodRequest}
 use Rattle.smf_machine.specs.declared.requests.MethodRequest.TheVariants.{Nothing, Unnumbered, Spawn, Kill}
 
--- a process for a method that is begun, of an instance that is known, in the next contract
-abbrev pub spawn_request : ℕ → ℕ → Terms → Option KnownInstance → Option Begun → MethodRequest
-spawn_request c cookie terms (Some i) (Some b) =
+-- a process for a method that is begun, of an instance that the restarter of this name knows, in the next contract
+abbrev pub spawn_request : List ℕ → ℕ → ℕ → Terms → Option KnownInstance → Option Begun → MethodRequest
+spawn_request name c cookie terms (Some i) (Some b) =
     Spawn (record {
       contract = c;
       cookie = cookie;
@@ -28,12 +28,13 @@ spawn_request c cookie terms (Some i) (Some b) =
       command = b.command;
       method = b.method;
       instance = i.name;
+      restarter = name;
     })
-spawn_request c cookie terms _ _ = Unnumbered
+spawn_request name c cookie terms _ _ = Unnumbered
 
-abbrev pub wanted_in : Option ℕ → ℕ → Terms → Option KnownInstance → Option Begun → MethodRequest
-wanted_in (Some c) cookie terms i b = spawn_request c cookie terms i b
-wanted_in None cookie terms i b = Unnumbered
+abbrev pub wanted_in : List ℕ → Option ℕ → ℕ → Terms → Option KnownInstance → Option Begun → MethodRequest
+wanted_in name (Some c) cookie terms i b = spawn_request name c cookie terms i b
+wanted_in name None cookie terms i b = Unnumbered
 
 abbrev pub is_holder : ℕ → Holder → Bool
 is_holder actor (Held a) = a == actor
@@ -59,7 +60,7 @@ is_instance n i = i.instance == n
 
 abbrev pub asked_by : Contracts → Knowledge → ℕ → Option Begun → Call → MethodRequest
 asked_by t k n b (calls.Spawn cookie terms) =
-    wanted_in (next_contract t) cookie terms (find (is_instance n) k.instances) b
+    wanted_in k.name (next_contract t) cookie terms (find (is_instance n) k.instances) b
 asked_by t k n b (calls.Kill c) = kill_if (is_held_by k.actor (contract t c)) c
 asked_by t k n b calls.Nothing = Nothing
 asked_by t k n b calls.List = Nothing

@@ -3,24 +3,24 @@
 use Rattle.std.specs.Prelude.{◌≡◌, ◌⊎◌, ℕ, List, [], Bool, true, false, Option, Some, None}
 use Rattle.smf_contract.specs.declared.event.ContractEvent.{ContractEvent}
 use Rattle.smf_contract.specs.Entries.{empty}
+use Rattle.smf_edge.specs.declared.start.Start.{Start}
 use Rattle.smf_edge.specs.Answers.{MayFail, Seen, Skills}
-use Rattle.smf_edge.specs.Ledgers.{Ledger, members_left}
+use Rattle.smf_edge.specs.Ledgers.{Ledger, members_left, run_of}
 use Rattle.smf_edge.specs.Steps.{IsKilled, IsPolled, IsSpawned}
 use Rattle.smf_world.specs.declared.event.Event.TheVariants as events
 use Rattle.smf_world.specs.declared.event.SpawnAnswer.{SpawnAnswer}
 use Rattle.smf_world.specs.declared.event.SpawnAnswer.TheVariants as spawns
 use Rattle.smf_world.specs.Happens.{happens}
 use Rattle.smf_world.specs.World.{World}
-use Rattle.smf_machine.specs.declared.children.Wanted.{Wanted}
 use Rattle.smf_machine.specs.declared.requests.MethodRequest.{MethodRequest}
 use Rattle.smf_machine.specs.declared.requests.MethodRequest.TheVariants.{Nothing, Unnumbered, Spawn, Kill}
-use Rattle.smf_machine.specs.Children.{happens_if, run_for}
+use Rattle.smf_machine.specs.Children.{happens_if}
 use Rattle.smf_machine.specs.Requests.{request_of_turn}
 
 -- the rules for the answers to a spawn, to a kill and to a question for an event, by what was seen before and after, and what
 -- is so if memory ran out
 pub record Rules : Type 1 where
-  pub spawns : Wanted → SpawnAnswer → Seen → Seen → Type 0
+  pub spawns : Start → SpawnAnswer → Seen → Seen → Type 0
   pub kills : ℕ → Bool → Seen → Seen → Type 0
   pub polls : Option ContractEvent → Seen → Seen → Type 0
   pub lacks_memory : Type 0
@@ -28,10 +28,10 @@ pub record Rules : Type 1 where
 -- ---- children
 
 -- a spawn is made if the service is followed. Nothing is made if it is not followed, or if the run is refused
-abbrev pub HasSpawned : Skills → Wanted → SpawnAnswer → Ledger → Ledger → Type 0
-HasSpawned k w spawns.Made l m = (k.follows w.style ≡ true) × IsSpawned (run_for w) l m
-HasSpawned k w spawns.Refused l m = (k.follows w.style ≡ true) × k.may_refuse l w.contract × (m ≡ l)
-HasSpawned k w spawns.NotFollowed l m = (k.follows w.style ≡ false) × (m ≡ l)
+abbrev pub HasSpawned : Skills → Start → SpawnAnswer → Ledger → Ledger → Type 0
+HasSpawned k start spawns.Made l m = (k.follows start.style ≡ true) × IsSpawned (run_of start) l m
+HasSpawned k start spawns.Refused l m = (k.follows start.style ≡ true) × k.may_refuse l start.contract × (m ≡ l)
+HasSpawned k start spawns.NotFollowed l m = (k.follows start.style ≡ false) × (m ≡ l)
 
 -- a kill is done, or else no member was left or a device failed
 abbrev pub HasKilled : Skills → ℕ → Bool → Seen → Seen → Type 0
@@ -74,7 +74,7 @@ table_rules =
 abbrev pub TickedBy : Rules → MethodRequest → List ℕ → ℕ → World → Seen → World → Seen → Type 0
 TickedBy r Nothing name n w s v t = (v ≡ happens w (events.Tick name n spawns.Made)) × (t ≡ s)
 TickedBy r Unnumbered name n w s v t = (v ≡ happens w (events.Tick name n spawns.Refused)) × (t ≡ s)
-TickedBy r (Spawn wanted) name n w s v t = (a : SpawnAnswer) × r.spawns wanted a s t
+TickedBy r (Spawn start) name n w s v t = (a : SpawnAnswer) × r.spawns start a s t
     × (v ≡ happens w (events.Tick name n a))
 TickedBy r (Kill id) name n w s v t = (did : Bool) × r.kills id did s t
     × (v ≡ happens_if did w (events.Tick name n spawns.Made))

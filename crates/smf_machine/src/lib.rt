@@ -3,12 +3,11 @@
 //! it.
 //! Modules: `parts` (the actors, seen as the world); `command_work` (what a command makes); `reply_work` (what the reply of
 //! a restarter makes); `received` (messages as their lines read); `deliveries`; `event_work` (events); `room`;
-//! `installation`; `children` (the process that is asked for); `requests` (what a turn asks for); `runner` (who runs
+//! `installation`; `requests` (what a turn asks for); `runner` (who runs
 //! methods); `polls` (what children tell); `turns` (turns with their answers); `type_facts` (what the types let be held
 //! and asked); `patches` (changes that the graph takes); `machine`; `fault`.
 #![tactic(auto)]
 
-mod children;
 mod command_work;
 mod deliveries;
 mod event_work;
@@ -26,7 +25,6 @@ mod runner;
 mod turns;
 mod type_facts;
 
-pub use children::Wanted;
 pub use fault::MachineFault;
 pub use machine::Machine;
 pub use parts::Remains;

@@ -4,9 +4,9 @@ ghost use Rattle.smf_restarter.specs.Knowledge.{by_instance};
 ghost use Rattle.std.specs.Prelude.{◌≡◌, find, Some, IfOk};
 ghost use Rattle.smf_machine.specs.Requests.{request_of_turn, asked_by, asked_of, first_of, is_held_by, is_holder, is_instance, kill_if, spawn_request, wanted_in};
 
-use crate::children::Wanted;
 use crate::parts::System;
 use smf_contract::{Contract, ContractTable, Holder, Terms};
+use smf_edge::Start;
 use smf_fmri::{InstanceFmri, Number};
 use smf_model::Journal;
 use smf_restarter::{Begun, Call, KnownInstance, Restarter};
@@ -18,7 +18,7 @@ pub enum MethodRequest {
     Nothing,
     /// A process for which there is no contract.
     Unnumbered,
-    Spawn(Wanted),
+    Spawn(Start),
     /// The end of all members of a contract.
     Kill(Number),
 }
@@ -88,19 +88,22 @@ fn kill_if(is_held: bool, id: Number) -> MethodRequest
     }
 }
 
-/// A process for a method that is begun, of an instance that is known.
+/// A process for a method that is begun, of an instance that a restarter of this name knows.
 fn want(
+    restarter: &InstanceFmri,
     contract: Number,
     cookie: u64,
     terms: Terms,
     known: &KnownInstance,
     begun: &Begun,
 ) -> Result<MethodRequest, AllocError>
-    ensures { IfOk result (λ ask. ask ≡ spawn_request contract cookie terms (Some known.now) (Some begun.now)) }
+    ensures { IfOk result
+        (λ ask. ask ≡ spawn_request restarter.now contract cookie terms (Some known.now) (Some begun.now)) }
 {
     let command = begun.command.clone()?;
     let instance = known.name.clone()?;
-    Ok(MethodRequest::Spawn(Wanted {
+    let restarter = restarter.clone()?;
+    Ok(MethodRequest::Spawn(Start {
         contract,
         cookie,
         style: known.row.duration,
@@ -108,10 +111,12 @@ fn want(
         command,
         method: begun.method,
         instance,
+        restarter,
     }))
 }
 
 fn want_if(
+    restarter: &InstanceFmri,
     contract: Number,
     cookie: u64,
     terms: Terms,
@@ -119,18 +124,20 @@ fn want_if(
     begun: Option<&Begun>,
 ) -> Result<MethodRequest, AllocError>
     ensures { IfOk result
-        (λ ask. ask ≡ spawn_request contract cookie terms (option_copied known.entry) (option_copied begun.entry)) }
+        (λ ask. ask ≡ spawn_request restarter.now contract cookie terms (option_copied known.entry)
+        (option_copied begun.entry)) }
 {
     let Some(known) = known else {
         return Ok(MethodRequest::Unnumbered);
     };
     match begun {
-        Some(begun) => want(contract, cookie, terms, known, begun),
+        Some(begun) => want(restarter, contract, cookie, terms, known, begun),
         None => Ok(MethodRequest::Unnumbered),
     }
 }
 
 fn want_in(
+    restarter: &InstanceFmri,
     contract: Option<Number>,
     cookie: u64,
     terms: Terms,
@@ -138,10 +145,11 @@ fn want_in(
     begun: Option<&Begun>,
 ) -> Result<MethodRequest, AllocError>
     ensures { IfOk result
-        (λ ask. ask ≡ wanted_in contract cookie terms (option_copied known.entry) (option_copied begun.entry)) }
+        (λ ask. ask ≡ wanted_in restarter.now contract cookie terms (option_copied known.entry)
+        (option_copied begun.entry)) }
 {
     match contract {
-        Some(contract) => want_if(contract, cookie, terms, known, begun),
+        Some(contract) => want_if(restarter, contract, cookie, terms, known, begun),
         None => Ok(MethodRequest::Unnumbered),
     }
 }
@@ -160,7 +168,8 @@ fn asked_by(
     match call {
         Call::Spawn { cookie, terms } => {
             let known = known_of(restarter, instance);
-            want_in(table.next_contract(), cookie, terms, known, begun)
+            let next = table.next_contract();
+            want_in(restarter.name(), next, cookie, terms, known, begun)
         }
         Call::Kill(id) => Ok(kill_if(is_held_by(restarter.actor(), &table.contract(id)), id)),
         Call::Nothing => Ok(MethodRequest::Nothing),

@@ -2,10 +2,9 @@ ghost use Rattle.std.specs.Prelude.{◌≡◌, IfOk, OnErr};
 ghost use Rattle.smf_edge.specs.Answers.{Seen};
 ghost use Rattle.smf_machine.specs.Runners.{Rules};
 
-use crate::children::Wanted;
 use smf_contract::ContractEvent;
-use smf_edge::{Kids, KidsFault};
-use smf_fmri::{InstanceFmri, Number};
+use smf_edge::{Kids, KidsFault, Start};
+use smf_fmri::Number;
 use smf_world::SpawnAnswer;
 use std::alloc::AllocError;
 
@@ -18,12 +17,8 @@ pub trait Runner {
     ghost rules: { Rules };
 
     /// A process is asked for.
-    fn run_method(
-        &mut self,
-        name: &InstanceFmri,
-        wanted: &Wanted,
-    ) -> Result<SpawnAnswer, AllocError>
-        ensures answered { IfOk result (λ answer. rules.spawns wanted.now answer (seen self.old) (seen self.new)) }
+    fn run_method(&mut self, start: &Start) -> Result<SpawnAnswer, AllocError>
+        ensures answered { IfOk result (λ answer. rules.spawns start.now answer (seen self.old) (seen self.new)) }
         ensures kept { OnErr result (seen self.new ≡ seen self.old) }
         ensures lacked { OnErr result rules.lacks_memory };
 
@@ -49,21 +44,8 @@ impl<K: Kids> Runner for K {
 
     ghost rules = { rules_of K.skills };
 
-    fn run_method(
-        &mut self,
-        name: &InstanceFmri,
-        wanted: &Wanted,
-    ) -> Result<SpawnAnswer, AllocError> {
-        let made = self.spawn(
-            wanted.contract,
-            wanted.cookie,
-            wanted.style,
-            wanted.terms,
-            &wanted.command,
-            name,
-            wanted.method,
-            &wanted.instance,
-        );
+    fn run_method(&mut self, start: &Start) -> Result<SpawnAnswer, AllocError> {
+        let made = self.spawn(start);
         match made {
             Ok(()) => Ok(SpawnAnswer::Made),
             Err(KidsFault::NotFollowed) => Ok(SpawnAnswer::NotFollowed),
@@ -100,11 +82,7 @@ impl Runner for NoChildren {
 
     ghost rules = { table_rules };
 
-    fn run_method(
-        &mut self,
-        _name: &InstanceFmri,
-        _wanted: &Wanted,
-    ) -> Result<SpawnAnswer, AllocError> {
+    fn run_method(&mut self, _start: &Start) -> Result<SpawnAnswer, AllocError> {
         Ok(SpawnAnswer::Made)
     }
 

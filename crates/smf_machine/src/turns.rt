@@ -13,7 +13,6 @@ ghost use Rattle.smf_world.specs.Happens.{world_after, happens};
 ghost use Rattle.smf_past.specs.Begun.{IsBegun};
 ghost use Rattle.smf_world.specs.Worked.{work_of_event};
 
-use crate::children::Wanted;
 use crate::fault::MachineFault;
 use crate::installation::{Rest, install, install_if, into_rest, prepare};
 use crate::parts::{Parts, System};
@@ -22,6 +21,7 @@ use crate::requests::MethodRequest;
 use crate::room::make_room;
 use crate::runner::Runner;
 use smf_contract::ContractEvent;
+use smf_edge::Start;
 use smf_fmri::{InstanceFmri, Number};
 use smf_model::Journal;
 use smf_world::{SpawnAnswer, Work};
@@ -103,8 +103,7 @@ fn spawn_with<R: Runner>(
     alloc: Global,
     parts: &mut Parts,
     runner: &mut R,
-    name: &InstanceFmri,
-    wanted: &Wanted,
+    start: &Start,
     works: SpawnWorks,
 ) -> Result<SpawnAnswer, MachineFault>
     requires plain { (any : AnyAnswer) → (work_with works any).changes ≡ [] }
@@ -116,13 +115,13 @@ fn spawn_with<R: Runner>(
     ensures made { (h : AnyHoldings)
         → IfOk result (λ answer. world_of h parts.new ≡ world_after (world_of h parts.old) (work_with works answer)) }
     ensures answered { IfOk result
-        (λ answer. R.rules.spawns wanted.now answer (R.seen runner.old) (R.seen runner.new)) }
+        (λ answer. R.rules.spawns start.now answer (R.seen runner.old) (R.seen runner.new)) }
     ensures err { (h : AnyHoldings) → OnErr result (world_of h parts.new ≡ world_of h parts.old) }
     ensures kept { OnErr result ((R.seen runner.new).ledger ≡ (R.seen runner.old).ledger) }
     ensures fault { IfErr result (λ e. e ≡ Memory) }
 {
     let rests = prepare_all(parts, works)?;
-    match runner.run_method(name, wanted) {
+    match runner.run_method(start) {
         Ok(answer) => {
             install_answer(alloc, parts, rests, answer);
             Ok(answer)
@@ -192,8 +191,7 @@ impl<J: Journal> System<J> {
     fn spawn_with<R: Runner>(
         &mut self,
         runner: &mut R,
-        name: &InstanceFmri,
-        wanted: &Wanted,
+        start: &Start,
         works: SpawnWorks,
     ) -> Result<SpawnAnswer, MachineFault>
         requires plain { (any : AnyAnswer) → (work_with works any).changes ≡ [] }
@@ -202,12 +200,12 @@ impl<J: Journal> System<J> {
         requires covered { AreCovered works }
         ensures made { IfOk result (λ answer. self.new ≡ world_after self.old (work_with works answer)) }
         ensures answered { IfOk result
-            (λ answer. R.rules.spawns wanted.now answer (R.seen runner.old) (R.seen runner.new)) }
+            (λ answer. R.rules.spawns start.now answer (R.seen runner.old) (R.seen runner.new)) }
         ensures err { OnErr result (self.new ≡ self.old) }
         ensures kept { OnErr result ((R.seen runner.new).ledger ≡ (R.seen runner.old).ledger) }
         ensures fault { IfErr result (λ e. e ≡ Memory) }
     {
-        spawn_with(self.alloc, &mut self.parts, runner, name, wanted, works)
+        spawn_with(self.alloc, &mut self.parts, runner, start, works)
     }
 
     #[tactic(auto, unfolding(crate::specs::Parts::world_of))]
@@ -235,19 +233,19 @@ impl<J: Journal> System<J> {
         runner: &mut R,
         name: &InstanceFmri,
         instance: u64,
-        wanted: &Wanted,
+        start: &Start,
     ) -> Result<(), MachineFault>
         requires reached { IsBegun self.old }
-        requires asks { request_of_turn self.old name.now instance ≡ requests.Spawn wanted.now }
+        requires asks { request_of_turn self.old name.now instance ≡ requests.Spawn start.now }
         ensures ok { OnOk result
-            (TickedBy R.rules (requests.Spawn wanted.now) name.now instance self.old (R.seen runner.old) self.new
+            (TickedBy R.rules (requests.Spawn start.now) name.now instance self.old (R.seen runner.old) self.new
             (R.seen runner.new)) }
         ensures err { OnErr result (self.new ≡ self.old) }
         ensures kept { OnErr result ((R.seen runner.new).ledger ≡ (R.seen runner.old).ledger) }
         ensures fault { IfErr result (λ e. e ≡ Memory) }
     {
         let works = self.spawn_works(name, instance)?;
-        self.spawn_with(runner, name, wanted, works)?;
+        self.spawn_with(runner, start, works)?;
         Ok(())
     }
 
@@ -307,7 +305,7 @@ impl<J: Journal> System<J> {
         match self.ask_of(name, instance)? {
             MethodRequest::Nothing => self.answer(name, instance, SpawnAnswer::Made),
             MethodRequest::Unnumbered => self.answer(name, instance, SpawnAnswer::Refused),
-            MethodRequest::Spawn(wanted) => self.tick_spawn(runner, name, instance, &wanted),
+            MethodRequest::Spawn(start) => self.tick_spawn(runner, name, instance, &start),
             MethodRequest::Kill(id) => self.tick_kill(runner, name, instance, id),
         }
     }

@@ -119,7 +119,7 @@ asked_rests r Nothing name n m w v s t other h g =
     subst (λ (x : World). RestsIn x name m) (sym h.0) (tick_rests w name n m spawns.Made other g)
 asked_rests r Unnumbered name n m w v s t other h g =
     subst (λ (x : World). RestsIn x name m) (sym h.0) (tick_rests w name n m spawns.Refused other g)
-asked_rests r (Spawn wanted) name n m w v s t other h g =
+asked_rests r (Spawn start) name n m w v s t other h g =
     subst (λ (x : World). RestsIn x name m) (sym h.2) (tick_rests w name n m h.0 other g)
 asked_rests r (Kill id) name n m w v s t other h g = subst (λ (x : World). RestsIn x name m) (sym h.2) (by h.0)
   where

@@ -23,7 +23,7 @@ spawn_with-requires-clause-can g c = λ any.
 
 pub spawn_with-requires-clause-covered : goal.spawn_with-requires-clause-covered
 spawn_with-requires-clause-covered g c =
-    covered_works c.args.self.now c.args.name.now c.args.instance c.args.wanted.now c.in_ok-works.works
+    covered_works c.args.self.now c.args.name.now c.args.instance c.args.start.now c.in_ok-works.works
     c.requires.asks c.in_ok-works.ensures
 
 pub returns-clause-ok : goal.returns-clause-ok
