@@ -4,6 +4,7 @@ use Rattle.smf_contract.specs.declared.contract.Contract.{Contract}
 use Rattle.smf_contract.specs.declared.event.ContractEvent.{ContractEvent}
 use Rattle.smf_contract.specs.Entries.{Contracts, contract}
 use Rattle.smf_edge.specs.declared.deed.Happening.TheVariants.{Fork}
+use Rattle.smf_edge.specs.declared.start.Start.{Start}
 use Rattle.smf_edge.specs.Ends.{MayRefuse}
 use Rattle.smf_edge.specs.Answers.{Skills}
 use Rattle.smf_edge.specs.Ledgers.{Ledger, members_left}
@@ -17,7 +18,7 @@ use Rattle.smf_follow.specs.declared.sights.Sight.TheVariants as sights
 use Rattle.smf_follow.specs.declared.stand.FirstEnd.{FirstEnd}
 use Rattle.smf_follow.specs.declared.stand.FirstEnd.TheVariants.{Code}
 use Rattle.smf_follow.specs.declared.stand.Stand.TheVariants.{Runs, Left, Gone}
-use Rattle.smf_follow.specs.Facts.{ContractFacts, Launch}
+use Rattle.smf_follow.specs.Facts.{ContractFacts}
 use Rattle.smf_follow.specs.Phases.{IsPut, SomeKid, happening_of, is_fatal_end, is_other_post, posts}
 use Rattle.std_io.specs.declared.io.error.Error.{Error}
 
@@ -143,8 +144,8 @@ abbrev pub EmptiesOnly : {H : Type 0} → ContractFacts H → List (Kid H) → L
 EmptiesOnly facts old l m = (id : ℕ) → 0 < members_left l id → members_left m id ≡ 0
     → SomeKid id old (λ kid. IsEmpty facts kid.held)
 
--- the last contract is of this method
-pub record IsStarted {H : Type 0} (facts : ContractFacts H) (launch : Launch) (old new : List (Kid H)) : Type 0 where
+-- the last contract is of this start
+pub record IsStarted {H : Type 0} (facts : ContractFacts H) (start : Start) (old new : List (Kid H)) : Type 0 where
   pub held : H
-  pub of : facts.is_of launch held
-  pub is : new ≡ old ++ record { contract = launch.contract; phase = First; held = held } ∷ []
+  pub of : facts.is_of start held
+  pub is : new ≡ old ++ record { contract = start.contract; phase = First; held = held } ∷ []

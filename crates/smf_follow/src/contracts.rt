@@ -1,12 +1,9 @@
 // The contracts of the system, and what is known of them.
 ghost use Rattle.std.specs.Prelude.{◌≡◌, ℕ, IfErr, IfOk, OnErr, OnOk, Option, false, true};
-ghost use Rattle.smf_follow.specs.Facts.{ContractFacts, launch_of, one_more_made};
-ghost use Rattle.smf_method.specs.Tokens.{method_text};
+ghost use Rattle.smf_follow.specs.Facts.{ContractFacts, one_more_made};
 
 use crate::stand::Stand;
-use smf_contract::{Method, Terms};
-use smf_fmri::{InstanceFmri, Number};
-use smf_method::CommandText;
+use smf_edge::Start;
 use std::io;
 
 /// A system that keeps contracts: all that comes of one process, wherever it forks. Two questions are asked of it: how
@@ -21,18 +18,8 @@ pub trait Contracts {
 
     /// Starts the first process of a contract of its own. If it fails, it leaves no process. The cookie and the terms are
     /// kept with the contract, for whoever finds it later.
-    fn start(
-        &mut self,
-        id: Number,
-        cookie: u64,
-        terms: Terms,
-        command: &CommandText,
-        restarter: &InstanceFmri,
-        method: Method,
-        instance: &InstanceFmri,
-    ) -> io::Result<Self::Held>
-        ensures started { IfOk result (λ held.
-            facts.is_of (launch_of id cookie terms command.now restarter.now (method_text method) instance.now) held) }
+    fn start(&mut self, start: &Start) -> io::Result<Self::Held>
+        ensures started { IfOk result (facts.is_of start.now) }
         ensures failed { IfErr result facts.start_fails }
         ensures one { OnOk result (made self.new ≡ one_more_made (made self.old)) }
         ensures none { OnErr result (made self.new ≡ made self.old) };

@@ -4,19 +4,15 @@ ghost use Rattle.std_io.specs.declared.io.kind.ErrorKind.TheVariants.{OutOfMemor
 ghost use Rattle.smf_edge.specs.Answers.{HasFailed};
 ghost use Rattle.smf_edge.specs.Ends.{StartRefused};
 ghost use Rattle.smf_edge.specs.declared.fault.KidsFault.TheVariants.{Memory, Refused};
-ghost use Rattle.smf_follow.specs.Facts.{launch_of, one_more_made};
+ghost use Rattle.smf_follow.specs.Facts.{one_more_made};
 ghost use Rattle.smf_follow.specs.declared.kid.Phase.TheVariants.{First};
-ghost use Rattle.smf_method.specs.Tokens.{method_text};
 
-use crate::book::Book;
 use crate::contracts::Contracts;
 use crate::kid::{Kid, Phase, end_one, forget, put};
 use crate::sights::{Sight, see_all};
-use smf_contract::{ContractEvent, ContractFault, ContractTable, Found, Holder, Method, Terms};
-use smf_edge::{Happening, Kids, KidsFault, Note, Run};
-use smf_fmri::{InstanceFmri, Items, Number};
-use smf_method::CommandText;
-use smf_state::Duration;
+use smf_contract::{ContractEvent, ContractFault, ContractTable, Found, Holder};
+use smf_edge::{Book, Happening, Kids, KidsFault, Note, Start};
+use smf_fmri::{Items, Number};
 use std::alloc::{AllocError, Global};
 use std::io;
 use std::io::ErrorKind;
@@ -41,27 +37,17 @@ fn start_fault(error: &io::Error) -> KidsFault
 }
 
 /// Starts a method in a contract of the system.
-fn start<C: Contracts>(
-    contracts: &mut C,
-    id: Number,
-    cookie: u64,
-    terms: Terms,
-    command: &CommandText,
-    restarter: &InstanceFmri,
-    method: Method,
-    instance: &InstanceFmri,
-) -> Result<Kid<C::Held>, KidsFault>
-    ensures contract { IfOk result (λ kid. kid.contract ≡ id) }
+fn start_contract<C: Contracts>(contracts: &mut C, start: &Start) -> Result<Kid<C::Held>, KidsFault>
+    ensures contract { IfOk result (λ kid. kid.contract ≡ start.now.contract) }
     ensures phase { IfOk result (λ kid. kid.phase ≡ First) }
-    ensures of { IfOk result
-        (λ kid. C.facts.is_of (launch_of id cookie terms command.now restarter.now (method_text method) instance.now) kid.held) }
+    ensures of { IfOk result (λ kid. C.facts.is_of start.now kid.held) }
     ensures fault { IfErr result (λ e. (e ≡ Memory) ⊎ ((e ≡ Refused) × StartRefused C.facts.start_fails)) }
     ensures one { OnOk result (C.made contracts.new ≡ one_more_made (C.made contracts.old)) }
     ensures none { OnErr result (C.made contracts.new ≡ C.made contracts.old) }
 {
-    match contracts.start(id, cookie, terms, command, restarter, method, instance) {
+    match contracts.start(start) {
         Ok(held) => Ok(Kid {
-            contract: id,
+            contract: start.contract,
             phase: Phase::First,
             held,
         }),
@@ -86,7 +72,7 @@ impl<C: Contracts> Model for FollowedKids<C> {
 
     ghost Value = { Following C.Held };
 
-    ghost use Rattle.smf_follow.specs.Books.{ledger_of};
+    ghost use Rattle.smf_edge.specs.Books.{ledger_of};
     ghost use Rattle.smf_follow.specs.Followed.{IsKept};
     ghost use Rattle.smf_follow.specs.Phases.{posts};
 
@@ -190,14 +176,12 @@ impl<C: Contracts + Drop> FollowedKids<C> {
 
 impl<C: Contracts> Kids for FollowedKids<C> {
     ghost use Rattle.std.specs.Prelude.{◌≡◌, IfErr, IfOk, OnErr, OnOk, Err, filter, false, true};
-    ghost use Rattle.smf_method.specs.Tokens.{method_text};
     ghost use Rattle.smf_edge.specs.Answers.{MayNotAnswer, MayNotDo, MayNotSpawn};
     ghost use Rattle.smf_edge.specs.Ends.{MayRefuse};
-    ghost use Rattle.smf_edge.specs.Ledgers.{members_left};
-    ghost use Rattle.smf_edge.specs.Processes.{run_of};
+    ghost use Rattle.smf_edge.specs.Ledgers.{members_left, run_of};
     ghost use Rattle.smf_edge.specs.Steps.{IsKilled, IsPolled, IsSpawned};
     ghost use Rattle.smf_edge.specs.declared.fault.KidsFault.TheVariants.{Device, NotFollowed};
-    ghost use Rattle.smf_follow.specs.Facts.{launch_of, one_more_made};
+    ghost use Rattle.smf_follow.specs.Facts.{one_more_made};
     ghost use Rattle.smf_follow.specs.Followed.{IsFollowed};
     ghost use Rattle.smf_follow.specs.Phases.{SomeKid, is_other_post, posts};
     ghost use Rattle.smf_follow.specs.Sights.{EmptiesOnly, IsStarted, OneFails, PollsKids, follow_skills};
@@ -208,47 +192,23 @@ impl<C: Contracts> Kids for FollowedKids<C> {
 
     ghost skills = { follow_skills C.facts.start_fails };
 
-    fn spawn(
-        &mut self,
-        id: Number,
-        cookie: u64,
-        _style: Duration,
-        terms: Terms,
-        command: &CommandText,
-        restarter: &InstanceFmri,
-        method: Method,
-        instance: &InstanceFmri,
-    ) -> Result<(), KidsFault>
-        ensures made { OnOk result (IsSpawned (run_of id cookie terms command.now) self.old.ledger self.new.ledger) }
+    fn spawn(&mut self, start: &Start) -> Result<(), KidsFault>
+        ensures made { OnOk result (IsSpawned (run_of start.now) self.old.ledger self.new.ledger) }
         ensures refused { OnErr result (self.new.ledger ≡ self.old.ledger) }
         ensures not_followed { true ≡ false → result ≡ Err NotFollowed }
-        ensures fault { IfErr result (MayNotSpawn (Unit {0}) (MayRefuse C.facts.start_fails self.old.ledger id) true) }
-        ensures started { OnOk result
-            (IsStarted C.facts (launch_of id cookie terms command.now restarter.now (method_text method) instance.now) self.old.kids self.new.kids) }
+        ensures fault { IfErr result
+            (MayNotSpawn (Unit {0}) (MayRefuse C.facts.start_fails self.old.ledger start.now.contract) true) }
+        ensures started { OnOk result (IsStarted C.facts start.now self.old.kids self.new.kids) }
         ensures one { OnOk result (self.new.made ≡ one_more_made self.old.made) }
         ensures none { OnErr result (self.new.made ≡ self.old.made) }
         ensures same { self.new.faults ≡ self.old.faults }
         ensures stay { OnErr result (self.new.kids ≡ self.old.kids) }
     {
-        let words = command.clone()?;
+        let run = start.run()?;
         self.kids.reserve(1)?;
-        self.book.prepare(id)?;
-        let kid = start(
-            &mut self.contracts,
-            id,
-            cookie,
-            terms,
-            command,
-            restarter,
-            method,
-            instance,
-        )?;
-        self.book.make(Run {
-            contract: id,
-            cookie,
-            terms,
-            command: words,
-        });
+        self.book.prepare(start.contract)?;
+        let kid = start_contract(&mut self.contracts, start)?;
+        self.book.make(run);
         self.kids.push(kid).unwrap();
         Ok(())
     }

@@ -2,9 +2,7 @@
 //! Modules: `contracts` (what is asked of the system), `stand` (what it answers), `followed` (the children).
 #![tactic(auto)]
 
-mod book;
 mod contracts;
-mod edits;
 mod followed;
 mod kid;
 mod law;

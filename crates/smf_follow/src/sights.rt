@@ -2,15 +2,16 @@
 ghost use Rattle.std.specs.Prelude.{◌≡◌, Option};
 ghost use Rattle.smf_contract.specs.declared.contract.Contract.{Contract};
 ghost use Rattle.smf_contract.specs.Entries.{contract};
-ghost use Rattle.smf_follow.specs.Books.{ledger_of};
-ghost use Rattle.smf_follow.specs.Phases.{post_of, posts};
+ghost use Rattle.smf_edge.specs.Books.{ledger_of};
+ghost use Rattle.smf_follow.specs.Phases.{is_fatal_end, post_of, posts};
 ghost use Rattle.smf_follow.specs.Sights.{AreSeen, IsSeen, IsSightOf, SeenIn};
 ghost use Rattle.smf_follow.specs.declared.kid.Phase.TheVariants.{First, Forked, Others};
 
-use crate::book::Book;
 use crate::contracts::Contracts;
 use crate::kid::{Kid, Phase, is_ended};
 use crate::stand::{FirstEnd, Stand};
+use smf_contract::Failure;
+use smf_edge::Book;
 use smf_fmri::Number;
 
 /// The result of a look at contracts: it says what is to be told of one of them.
@@ -26,6 +27,17 @@ pub(crate) enum Sight {
     Gone(Number, FirstEnd),
     /// The system did not answer, or did not end a contract.
     Failed,
+}
+
+/// Says whether an end of the first process ends all of its contract.
+fn is_fatal_end(book: &Book, id: Number, end: FirstEnd) -> bool
+    ensures { result ≡ is_fatal_end (contract (ledger_of book.now).table id) end }
+{
+    match end {
+        FirstEnd::Code(_) => false,
+        FirstEnd::Signal => book.is_fatal(id, Failure::Signal),
+        FirstEnd::Core => book.is_fatal(id, Failure::Core),
+    }
 }
 
 /// The sight of a contract whose first process was started.
@@ -54,7 +66,7 @@ fn see_forked<C: Contracts>(
     ensures seen { SeenIn C.facts (contract (ledger_of book.now).table id) result (Forked end) held.old }
     ensures none { C.made contracts.new ≡ C.made contracts.old }
 {
-    if !book.is_fatal(id, end) {
+    if !is_fatal_end(book, id, end) {
         return Sight::Over(id, end);
     }
     if is_ended(contracts, held) {

@@ -1,13 +1,11 @@
--- A contract that was made for a launch.
+-- A contract that was made for a start.
 use Rattle.std.proofs.Common.{◌≡◌, ℕ, List, [], ◌∷◌, ◌++◌, Option, Some, None, Result, Ok, Err, IfErr, refl, ◌∙◌, ap, subst}
-use Rattle.smf_contract.specs.declared.cookie.Method.{Method}
-use Rattle.smf_follow.specs.Facts.{Launch}
-use Rattle.smf_method.specs.Tokens.{method_text}
+use Rattle.smf_edge.specs.declared.start.Start.{Start}
 use Rattle.smf_room.specs.declared.live_room.LiveRoom.{LiveRoom}
 use Rattle.smf_room.specs.declared.note.Note.{Note}
 use Rattle.smf_room.specs.LiveRooms.{IsBegun, IsRefused, IsStarted}
 use Rattle.smf_room.specs.Tellings.{Calls, Did, Done, Log, Made, Telling, Tells, deed}
-use Rattle.smf_keeper.specs.Notes.{IsNoteOf, is_start}
+use Rattle.smf_keeper.specs.Notes.{IsNoteOf}
 use Rattle.smf_keeper.specs.Rooms.{IsMadeFor}
 
 calls_split : {S : Type 0} (tells : Tells S) (did : Log S) (us vs ts : List Telling) (p r : S) → ts ≡ us ++ vs
@@ -33,12 +31,11 @@ made_call tells did a b note id h =
     let last = subst (λ (ts : List Telling). Calls tells did ts three.0 one.0) z.3 three.2 in
     (three.0, last.0, subst (λ (i : ℕ). tells three.0 (Did (deed (Made i note) Done)) last.0) m.is last.1.told)
 
-pub made_for : {S : Type 0} (tells : Tells S) (did : Log S) (a b : LiveRoom S) (method : Method) (launch : Launch)
-    (note : Note) (id : ℕ) → launch.method ≡ method_text method → IsNoteOf (is_start method) launch note
-    → IsBegun tells did a b note id → IsMadeFor tells launch id
-made_for tells did a b method launch note id e n h =
+pub made_for : {S : Type 0} (tells : Tells S) (did : Log S) (a b : LiveRoom S) (start : Start) (note : Note) (id : ℕ)
+    → IsNoteOf start note → IsBegun tells did a b note id → IsMadeFor tells start id
+made_for tells did a b start note id of h =
     let c = made_call tells did a b note id h in
-    record { method = method; named = e; note = note; of = n; before = c.0; after = c.1; made = c.2 }
+    record { note = note; of = of; before = c.0; after = c.1; made = c.2 }
 
 pub if_err : {T E : Type 0} (r : Result T E) (P : E → Type 0) → ((e : E) → P e) → IfErr r P
 if_err (Ok x) P h = tt

@@ -3,7 +3,7 @@ use Rattle.std.specs.Prelude.{◌≡◌, ◌⊎◌, ℕ, ◌+◌, List, [], ◌�
 use Rattle.std.specs.IoError.{error_kind}
 use Rattle.std_io.specs.declared.io.error.Error.{Error}
 use Rattle.std_io.specs.declared.io.kind.ErrorKind.TheVariants.{OutOfMemory}
-use Rattle.smf_follow.specs.Facts.{Launch}
+use Rattle.smf_edge.specs.declared.start.Start.{Start}
 use Rattle.smf_follow.specs.declared.stand.FirstEnd.{FirstEnd}
 use Rattle.smf_follow.specs.declared.stand.Stand.{Stand}
 use Rattle.smf_follow.specs.declared.stand.Stand.TheVariants.{Gone}
@@ -13,29 +13,25 @@ use Rattle.smf_room.specs.LiveRooms.{IsBegun, IsRefused, IsStartLost}
 use Rattle.smf_room.specs.Looks.{IsCancel}
 use Rattle.smf_room.specs.Starts.{IsEndAsk}
 use Rattle.smf_room.specs.Tellings.{Act, Deed, Did, Done, Fails, Heard, Log, Made, Outcome, Telling, Tells, deed}
-use Rattle.smf_contract.specs.declared.cookie.Method.{Method}
-use Rattle.smf_method.specs.Tokens.{method_text}
-use Rattle.smf_keeper.specs.Notes.{IsNoteOf, is_start}
+use Rattle.smf_keeper.specs.Notes.{IsNoteOf}
 use Rattle.smf_keeper.specs.Stands.{IsLost, IsStanding}
 
--- the contract of this number was made with a note of this launch
-pub record IsMadeFor {S : Type 0} (tells : Tells S) (launch : Launch) (id : ℕ) : Type 0 where
-  pub method : Method
-  pub named : launch.method ≡ method_text method
+-- the contract of this number was made with a note of this start
+pub record IsMadeFor {S : Type 0} (tells : Tells S) (start : Start) (id : ℕ) : Type 0 where
   pub note : Note
-  pub of : IsNoteOf (is_start method) launch note
+  pub of : IsNoteOf start note
   pub before : S
   pub after : S
   pub made : tells before (Did (deed (Made id note) Done)) after
 
--- a start of this launch was asked for, and the contract of this number was made
-abbrev pub IsStartFor : {S : Type 0} → Tells S → Log S → LiveRoom S → LiveRoom S → Bool → Launch → ℕ → Type 0
-IsStartFor tells did a b starts launch id = (note : Note) × IsNoteOf starts launch note × IsBegun tells did a b note id
+-- this start was asked for, and the contract of this number was made
+abbrev pub IsStartFor : {S : Type 0} → Tells S → Log S → LiveRoom S → LiveRoom S → Start → ℕ → Type 0
+IsStartFor tells did a b start id = (note : Note) × IsNoteOf start note × IsBegun tells did a b note id
 
 -- a contract of the same key may run, or a call failed
-abbrev pub IsNotStarted : {S : Type 0} → Tells S → Log S → LiveRoom S → LiveRoom S → Bool → Launch → Type 0
-IsNotStarted tells did a b starts launch =
-    (note : Note) × IsNoteOf starts launch note × (IsRefused tells did a b note ⊎ IsStartLost tells did a b note)
+abbrev pub IsNotStarted : {S : Type 0} → Tells S → Log S → LiveRoom S → LiveRoom S → Start → Type 0
+IsNotStarted tells did a b start =
+    (note : Note) × IsNoteOf start note × (IsRefused tells did a b note ⊎ IsStartLost tells did a b note)
 
 -- memory was short, a call failed, or a contract of the same key may run
 abbrev pub StartFails : {S : Type 0} → Tells S → Log S → Error → Type 0

@@ -1,20 +1,16 @@
 // The note of a contract: what is started, and what a later life has to know of it.
 ghost use Rattle.smf_contract.specs.Stated.{AreEvents};
-ghost use Rattle.smf_follow.specs.Facts.{launch_of};
-ghost use Rattle.smf_keeper.specs.Notes.{IsNoteOf, bit, field, is_start, key_of, method_fields, terms_fields};
-ghost use Rattle.smf_method.specs.Tokens.{method_text};
+ghost use Rattle.smf_keeper.specs.Notes.{IsNoteOf, bit, field, is_start, key_if, method_fields, terms_fields, variable_field};
 ghost use Rattle.std.specs.Fmt.{decimal};
 ghost use Rattle.std.specs.Prelude.{◌≡◌, ◌++◌, IfOk, IfSome, OnOk, string_bytes};
 
 use bitflags::Flags;
 use smf_contract::{EventSet, Found, Method, Terms};
-use smf_fmri::{InstanceFmri, Number, read_count};
-use smf_method::{CommandText, method_text};
+use smf_edge::{Start, Variable};
+use smf_fmri::{Number, read_count};
+use smf_method::method_text;
 use smf_room::{Note, field_in};
 use std::alloc::{AllocError, Global};
-
-/// The variables of a method that are the same for all (smf_method(7)).
-const PATH: &str = "PATH=/usr/sbin:/usr/bin:/sbin:/bin";
 
 /// The bits of all kinds of events.
 const ALL_EVENTS: u8 = 63;
@@ -59,70 +55,56 @@ fn put_terms(alloc: Global, text: &mut String, terms: Terms) -> Result<(), Alloc
     put_number(alloc, text, "noorphan=", bit(terms.noorphan))
 }
 
-/// What the variables of a method say, and its words.
-fn put_method(
-    text: &mut String,
-    command: &CommandText,
-    restarter: &InstanceFmri,
-    method: Method,
-    instance: &InstanceFmri,
-) -> Result<(), AllocError>
-    ensures { OnOk result (string_bytes text.new ≡ string_bytes text.old
-        ++ method_fields command.now restarter.now (method_text method) instance.now) }
+/// One variable of a method more.
+fn put_variable(text: &mut String, variable: Variable, start: &Start) -> Result<(), AllocError>
+    ensures { OnOk result (string_bytes text.new ≡ string_bytes text.old ++ variable_field start.now variable) }
 {
-    put(text, "method=", method_text(method))?;
-    put(text, "fmri=", instance.print())?;
-    put(text, "env=", PATH)?;
-    put(text, "env=SMF_FMRI=", instance.print())?;
-    put(text, "env=SMF_METHOD=", method_text(method))?;
-    put(text, "env=SMF_RESTARTER=", restarter.print())?;
+    text.push_str("env=")?;
+    text.push_str(variable.name())?;
+    put(text, "=", variable.value(start))
+}
+
+/// What the variables of a method say, and its words.
+fn put_method(text: &mut String, start: &Start) -> Result<(), AllocError>
+    ensures { OnOk result (string_bytes text.new ≡ string_bytes text.old ++ method_fields start.now) }
+{
+    put(text, "method=", method_text(start.method))?;
+    put(text, "fmri=", start.instance.print())?;
+    put_variable(text, Variable::Path, start)?;
+    put_variable(text, Variable::Fmri, start)?;
+    put_variable(text, Variable::Method, start)?;
+    put_variable(text, Variable::Restarter, start)?;
     put(text, "arg=", "/bin/sh")?;
     put(text, "arg=", "-c")?;
-    put(text, "arg=", command.as_str())
+    put(text, "arg=", start.command.as_str())
 }
 
 /// Whose contract it is: that of the start of an instance, of which no two may run; or of this method alone.
-fn key_of(
-    alloc: Global,
-    id: Number,
-    method: Method,
-    instance: &InstanceFmri,
-) -> Result<String, AllocError>
-    ensures { IfOk result (λ key. string_bytes key
-        ≡ key_of (is_start method) id (method_text method) instance.now) }
+fn key_of(alloc: Global, start: &Start) -> Result<String, AllocError>
+    ensures { IfOk result (λ key. string_bytes key ≡ key_if (is_start start.now.method) start.now) }
 {
-    let name = instance.print();
-    match method {
+    let name = start.instance.print();
+    match start.method {
         Method::Start => format!(in alloc; "{name}"),
         _ => {
-            let number = id.get();
-            let method = method_text(method);
+            let number = start.contract.get();
+            let method = method_text(start.method);
             format!(in alloc; "{method} {number} {name}")
         }
     }
 }
 
 /// The note of a contract for the start of a method.
-pub fn note_of(
-    alloc: Global,
-    id: Number,
-    cookie: u64,
-    terms: Terms,
-    command: &CommandText,
-    restarter: &InstanceFmri,
-    method: Method,
-    instance: &InstanceFmri,
-) -> Result<Note, AllocError>
-    ensures { IfOk result (IsNoteOf (is_start method)
-        (launch_of id cookie terms command.now restarter.now (method_text method) instance.now)) }
+pub fn note_of(alloc: Global, start: &Start) -> Result<Note, AllocError>
+    ensures { IfOk result (IsNoteOf start.now) }
 {
     let mut rest = String::new(alloc);
-    put_number(alloc, &mut rest, "contract=", id.get())?;
-    put_number(alloc, &mut rest, "cookie=", cookie)?;
-    put_terms(alloc, &mut rest, terms)?;
-    put_method(&mut rest, command, restarter, method, instance)?;
+    put_number(alloc, &mut rest, "contract=", start.contract.get())?;
+    put_number(alloc, &mut rest, "cookie=", start.cookie)?;
+    put_terms(alloc, &mut rest, start.terms)?;
+    put_method(&mut rest, start)?;
     Ok(Note {
-        instance: key_of(alloc, id, method, instance)?,
+        instance: key_of(alloc, start)?,
         rest,
     })
 }

@@ -1,13 +1,11 @@
 // Contracts in a room that a server has.
-ghost use Rattle.smf_follow.specs.Facts.{launch_of, one_more_made};
+ghost use Rattle.smf_follow.specs.Facts.{one_more_made};
 ghost use Rattle.smf_keeper.specs.Ends.{end_if_known, end_of};
 ghost use Rattle.smf_keeper.specs.Endings.{IsAsk, IsAskedInVain, IsEnd, IsCancelFailed, IsCancelIf, IsEndFailed, IsEndIf, IsEndLost, IsEndOnce, IsEndStep, IsEndStepLost, IsStandAsk, IsStandLost, IsStandTold, IsToldAgain, IsWaitLost, IsWaited, gone_of, signal_of, still_asked};
-ghost use Rattle.smf_keeper.specs.Notes.{is_start};
 ghost use Rattle.smf_keeper.specs.Rooms.{HasGone, IsMadeFor, IsNotStarted, IsStartFor, IsUnasked, MayLive, SameMade, StartFails, StoodSo, WasHeard, made_in};
 ghost use Rattle.smf_keeper.specs.Stands.{IsLost, IsLostBy, IsStandBy, IsStanding, end_in, stand_in};
 ghost use Rattle.smf_follow.specs.declared.stand.Stand.TheVariants.{Gone};
 ghost use Rattle.smf_follow.specs.declared.stand.FirstEnd.{FirstEnd as AnyEnd};
-ghost use Rattle.smf_method.specs.Tokens.{method_text};
 ghost use Rattle.smf_room.specs.LiveRooms.{GoesOn};
 ghost use Rattle.smf_room.specs.Tellings.{Heard};
 ghost use Rattle.smf_room.specs.declared.look.Look.TheVariants.{Unclean};
@@ -19,10 +17,8 @@ use crate::ends::{end_if_known, end_of};
 use crate::held::{HeldContract, MOST_TOLD};
 use crate::news::News;
 use crate::note::note_of;
-use smf_contract::{Method, Terms};
-use smf_fmri::{InstanceFmri, Number};
+use smf_edge::Start;
 use smf_follow::{Contracts, FirstEnd, Stand};
-use smf_method::CommandText;
 use smf_room::{LiveRoom, Look, Room, Token};
 use std::alloc::Global;
 use std::io;
@@ -364,7 +360,7 @@ impl<R: Room + Drop> Contracts for RoomContracts<R> {
     type Held = HeldContract<R>;
 
     ghost facts = { record {
-      is_of = λ launch held. IsMadeFor R.tells launch held.id;
+      is_of = λ start held. IsMadeFor R.tells start held.id;
       start_fails = λ e. StartFails R.tells R.did e;
       stands = λ held stand. StoodSo R.tells R.did held.id stand;
       is_lost = λ held. WasHeard R.tells R.did (IsLost held.id);
@@ -374,34 +370,20 @@ impl<R: Room + Drop> Contracts for RoomContracts<R> {
 
     ghost made = { λ c. option_map made_in (R.did c.room.room) };
 
-    fn start(
-        &mut self,
-        id: Number,
-        cookie: u64,
-        terms: Terms,
-        command: &CommandText,
-        restarter: &InstanceFmri,
-        method: Method,
-        instance: &InstanceFmri,
-    ) -> io::Result<HeldContract<R>>
-        ensures started { IfOk result (λ held. IsMadeFor R.tells
-            (launch_of id cookie terms command.now restarter.now (method_text method) instance.now) held.id) }
+    fn start(&mut self, start: &Start) -> io::Result<HeldContract<R>>
+        ensures started { IfOk result (λ held. IsMadeFor R.tells start.now held.id) }
         ensures failed { IfErr result (λ e. StartFails R.tells R.did e) }
         ensures one { OnOk result (option_map made_in (R.did self.new.room.room)
             ≡ one_more_made (option_map made_in (R.did self.old.room.room))) }
         ensures none { OnErr result (SameMade R.did self.old.room.room self.new.room.room) }
-        ensures begun { IfOk result (λ held. IsStartFor R.tells R.did self.old.room self.new.room (is_start method)
-            (launch_of id cookie terms command.now restarter.now (method_text method) instance.now) held.id) }
+        ensures begun { IfOk result (λ held. IsStartFor R.tells R.did self.old.room self.new.room start.now held.id) }
         ensures refused { IfErr result (λ e. ((error_kind e ≡ OutOfMemory) × (self.new.room ≡ self.old.room))
-            ⊎ IsNotStarted R.tells R.did self.old.room self.new.room (is_start method)
-            (launch_of id cookie terms command.now restarter.now (method_text method) instance.now)) }
+            ⊎ IsNotStarted R.tells R.did self.old.room self.new.room start.now) }
         ensures unasked { IfOk result (λ held. held.asked ≡ false) }
         ensures living { IfOk result (λ held. held.gone ≡ None) }
         ensures careful { GoesOn R.tells R.did self.old.room self.new.room }
     {
-        let note = note_of(
-            self.alloc, id, cookie, terms, command, restarter, method, instance,
-        )?;
+        let note = note_of(self.alloc, start)?;
         let made = self.room.start(&note)?;
         match made {
             Some(id) => Ok(HeldContract::new(id)),

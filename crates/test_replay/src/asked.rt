@@ -13,7 +13,7 @@ mod texts;
 use crate::asked::scripted::Scripted;
 use crate::asked::texts::{fault_text, print_event};
 use smf_contract::{EventSet, Method, Terms};
-use smf_edge::Kids;
+use smf_edge::{Kids, Start};
 use smf_fmri::{InstanceFmri, Number};
 use smf_follow::FollowedKids;
 use smf_method::CommandText;
@@ -48,19 +48,21 @@ fn spawn<K: Kids>(
     let (Some(id), Ok(Some(command))) = (Number::new(id), CommandText::copy_of(alloc, text)) else {
         return println!(rt; "no command");
     };
-    let Ok(Some(name)) = InstanceFmri::read_short(alloc, "svc:/site/kept:default") else {
+    let Ok(Some(instance)) = InstanceFmri::read_short(alloc, "svc:/site/kept:default") else {
         return println!(rt; "no name");
     };
-    match kids.spawn(
-        id,
-        0,
-        Duration::Contract,
-        terms(fatal),
-        &command,
-        &name,
-        Method::Start,
-        &name,
-    ) {
+    let restarter = instance.clone()?;
+    let start = Start {
+        contract: id,
+        cookie: 0,
+        style: Duration::Contract,
+        terms: terms(fatal),
+        command,
+        method: Method::Start,
+        instance,
+        restarter,
+    };
+    match kids.spawn(&start) {
         Ok(()) => println!(rt; "spawned"),
         Err(fault) => println!(rt; "{}", fault_text(fault)),
     }

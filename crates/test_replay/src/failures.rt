@@ -1,11 +1,9 @@
 ghost use Rattle.std.specs.Prelude.{◌≡◌, Err, false, true};
 ghost use Rattle.smf_edge.specs.Answers.{HasFailed};
 
-use smf_contract::{ContractEvent, Method, Terms};
-use smf_edge::{Happening, Kids, KidsFault, Note, TableKids};
-use smf_fmri::{InstanceFmri, Items, Number};
-use smf_method::CommandText;
-use smf_state::Duration;
+use smf_contract::ContractEvent;
+use smf_edge::{Happening, Kids, KidsFault, Note, Start, TableKids};
+use smf_fmri::{Items, Number};
 use std::alloc::{AllocError, Global};
 
 /// Children that a contract table simulates. One call that does something fails, by its number: a spawn is refused, and
@@ -67,23 +65,11 @@ impl Kids for FailingKids {
 
     ghost skills = { record { follows = λ _. true; acts = true; joins = false; has_device = true; may_refuse = λ _ _. Unit {0}; lacks_memory = Unit {0} } };
 
-    fn spawn(
-        &mut self,
-        id: Number,
-        cookie: u64,
-        style: Duration,
-        terms: Terms,
-        command: &CommandText,
-        restarter: &InstanceFmri,
-        method: Method,
-        instance: &InstanceFmri,
-    ) -> Result<(), KidsFault> {
+    fn spawn(&mut self, start: &Start) -> Result<(), KidsFault> {
         if self.is_next() {
             return Err(KidsFault::Refused);
         }
-        self.kids.spawn(
-            id, cookie, style, terms, command, restarter, method, instance,
-        )
+        self.kids.spawn(start)
     }
 
     fn poll(&mut self) -> Result<Option<ContractEvent>, KidsFault> {

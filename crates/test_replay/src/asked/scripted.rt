@@ -1,8 +1,6 @@
 // Contracts whose answers are written down.
-use smf_contract::{Method, Terms};
-use smf_fmri::{InstanceFmri, Number};
+use smf_edge::Start;
 use smf_follow::{Contracts, FirstEnd, Stand};
-use smf_method::CommandText;
 use std::alloc::Global;
 use std::io;
 
@@ -91,17 +89,8 @@ impl Contracts for Scripted {
 
     ghost made = { λ _. None };
 
-    fn start(
-        &mut self,
-        _id: Number,
-        _cookie: u64,
-        _terms: Terms,
-        command: &CommandText,
-        _restarter: &InstanceFmri,
-        _method: Method,
-        _instance: &InstanceFmri,
-    ) -> io::Result<Script> {
-        let text = command.as_str();
+    fn start(&mut self, start: &Start) -> io::Result<Script> {
+        let text = start.command.as_str();
         if text == "refused" {
             return Err(no_answer());
         }

@@ -2,7 +2,7 @@ use Rattle.std.proofs.Common.{◌+◌, sym, subst, ◌∙◌, get_or}
 use Rattle.std.proofs.lemmas.Option.{slice_get-get_or}
 use Rattle.smf_follow.specs.declared.kid.Kid.{Kid}
 use Rattle.smf_follow.specs.declared.sights.Sight.{Sight}
-use Rattle.smf_follow.specs.Books.{ledger_of}
+use Rattle.smf_edge.specs.Books.{ledger_of}
 use Rattle.smf_follow.specs.Sights.{IsSeen}
 use Rattle.smf_follow.proofs.Places.{SeenUpTo, here_left, left_after, same_kids, seen_all, seen_more}
 use Rattle.smf_follow.proofs.sights.see_all.Goals.{in-Failed, in-Still}

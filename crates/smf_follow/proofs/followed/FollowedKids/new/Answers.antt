@@ -1,5 +1,5 @@
 use Rattle.std.proofs.Common.{rules}
-use Rattle.smf_follow.specs.Books.{ledger_of}
+use Rattle.smf_edge.specs.Books.{ledger_of}
 use Rattle.smf_follow.specs.Phases.{posts}
 use Rattle.smf_follow.proofs.Preservation.{kept_empty}
 use Rattle.smf_follow.proofs.followed.FollowedKids.new.Goals as goal

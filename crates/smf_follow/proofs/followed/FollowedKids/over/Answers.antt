@@ -1,4 +1,4 @@
-use Rattle.smf_follow.specs.Books.{ledger_of}
+use Rattle.smf_edge.specs.Books.{ledger_of}
 use Rattle.smf_follow.specs.Phases.{posts}
 use Rattle.smf_follow.proofs.Beginnings.{kept_over}
 use Rattle.smf_follow.proofs.followed.FollowedKids.over.Goals as goal

@@ -2,7 +2,7 @@ use Rattle.std.proofs.Common.{◌⊎◌, ◌<◌, ℕ, List, refl, subst, sym, a
 use Rattle.smf_edge.specs.Ledgers.{Ledger, members_left}
 use Rattle.smf_edge.specs.Steps.{IsKilled}
 use Rattle.smf_follow.specs.declared.kid.Kid.{Kid}
-use Rattle.smf_follow.specs.Books.{ledger_of}
+use Rattle.smf_edge.specs.Books.{ledger_of}
 use Rattle.smf_follow.specs.Phases.{IsAbsent, SomeKid, is_other_post, posts}
 use Rattle.smf_follow.proofs.Preservation.{followed_along, followed_killed}
 use Rattle.smf_follow.proofs.Places.{left_posts}

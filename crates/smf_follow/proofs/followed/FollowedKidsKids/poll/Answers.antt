@@ -5,7 +5,7 @@ use Rattle.smf_edge.specs.Processes.{HasTold}
 use Rattle.smf_follow.specs.declared.kid.Kid.{Kid}
 use Rattle.smf_follow.specs.declared.sights.Sight.{Sight}
 use Rattle.smf_follow.specs.declared.sights.Sight.TheVariants as sights
-use Rattle.smf_follow.specs.Books.{ledger_of}
+use Rattle.smf_edge.specs.Books.{ledger_of}
 use Rattle.smf_follow.specs.Followed.{Following}
 use Rattle.smf_follow.specs.Sights.{AreSeen, EmptiesOnly, OneFails, OneSeen, PollsEvent, TellsEnd, TellsFork, TellsLast}
 use Rattle.smf_follow.proofs.Preservation.{followed_along}
@@ -44,6 +44,24 @@ find-requires-in-Gone-clause-member g c =
     λ ks. OneSeen g.C.Contracts.facts l.table (sights.Gone c.in-Gone.id c.in-Gone.end) ks in
     let one = subst K c.deref_mut.ensures.value (subst S c.in-Gone.is c.see_all-sight.ensures.seen) in
     member_is_there c.in-Gone.id l items _ before (gone_kid g.C.Contracts.facts c.in-Gone.id c.in-Gone.end l items one)
+
+pub find-requires-clause-none_pending : goal.find-requires-clause-none_pending
+find-requires-clause-none_pending g c =
+    let before = followed_along _ (ledger_of c.give.new.self) _ _ (sym c.in_default.ensures.none.0) refl
+    c.self.invariant.followed in
+    before.pending
+
+pub find-requires-in-Over-clause-none_pending : goal.find-requires-in-Over-clause-none_pending
+find-requires-in-Over-clause-none_pending g c =
+    let before = followed_along _ (ledger_of c.give.new.self) _ _ (sym c.in_default.ensures.none.0) refl
+    c.self.invariant.followed in
+    before.pending
+
+pub find-requires-in-Gone-clause-none_pending : goal.find-requires-in-Gone-clause-none_pending
+find-requires-in-Gone-clause-none_pending g c =
+    let before = followed_along _ (ledger_of c.give.new.self) _ _ (sym c.in_default.ensures.none.0) refl
+    c.self.invariant.followed in
+    before.pending
 
 pub returns-in-Failed-clause-failed : goal.returns-in-Failed-clause-failed
 returns-in-Failed-clause-failed g c = λ _.

@@ -1,6 +1,4 @@
-use Rattle.std.proofs.Common.{inl, inr, sym, refl}
-use Rattle.smf_follow.specs.Facts.{launch_of}
-use Rattle.smf_method.specs.Tokens.{method_text}
+use Rattle.std.proofs.Common.{inl, inr, sym}
 use Rattle.smf_room.proofs.Hearing.{on_err}
 use Rattle.smf_keeper.proofs.Made.{begun_one, refused_same, start_lost_same}
 use Rattle.smf_keeper.proofs.Starting.{begun_as, if_err, made_for, refused_as}
@@ -25,9 +23,8 @@ returns-in_err-made-clause-refused g c =
 pub returns-in-Some-clause-started : goal.returns-in-Some-clause-started
 returns-in-Some-clause-started g c =
     let a = c.args in
-    made_for g.R.Room.tells g.R.Room.did a.self.now.room c.start.new.self a.method
-    (launch_of a.id a.cookie a.terms a.command.now a.restarter.now (method_text a.method) a.instance.now)
-    c.in_ok-note.note c.new.result.id refl c.in_ok-note.ensures
+    made_for g.R.Room.tells g.R.Room.did a.self.now.room c.start.new.self a.start.now c.in_ok-note.note
+    c.new.result.id c.in_ok-note.ensures
     (begun_as g.R.Room.tells g.R.Room.did a.self.now.room c.start.new.self c.in_ok-note.note c.in_ok-made.made c.in-Some.id
     c.new.result.id (sym c.new.ensures.id) c.in-Some.is c.in_ok-made.ensures.started)
 
