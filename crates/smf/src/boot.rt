@@ -2,8 +2,8 @@
 use smf_cfg::tell;
 use smf_host::{FileDesk, SystemTimer};
 use smf_node::NodeFault;
-use smf_script::ScriptFault;
-use smf_server::{Desk, ServerInput, Timer, fault_text};
+use smf_script::{ScriptFault, fault_text};
+use smf_server::{Desk, ServerInput, Timer};
 use std::time::Duration;
 
 /// The status of a request that comes before the boot.

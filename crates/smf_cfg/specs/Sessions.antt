@@ -97,15 +97,22 @@ HasFollowed follows before edit after (Err (Refused reply)) = follows before edi
 HasFollowed follows before edit after (Err (Repo fault)) = follows before edit (Err fault) after
 HasFollowed follows before edit after (Err (Line fault)) = ⊥
 
--- if the line is judged to be an edit, the client was given it; else nothing was done to the client
+-- it needed no reply of the client
+abbrev pub NeedsNone : Result Output SessionFault → Type 0
+NeedsNone (Ok output) = Unit {0}
+NeedsNone (Err (Line fault)) = Unit {0}
+NeedsNone (Err (Refused reply)) = ⊥
+NeedsNone (Err (Repo fault)) = ⊥
+
+-- if the line is judged to be an edit, the client was given it; else nothing was asked of the client
 abbrev pub IsGivenTo : {C : Type 0} → (C → Edit → Result CommandReply RepoFault → C → Type 0) → Result Judged CfgFault
     → C → C → Result Output SessionFault → Type 0
 IsGivenTo follows (Ok (judgements.Edit edit next)) before after given = HasFollowed follows before edit after given
-IsGivenTo follows (Ok judgements.Nothing) before after given = after ≡ before
-IsGivenTo follows (Ok (judgements.Select found)) before after given = after ≡ before
-IsGivenTo follows (Ok (judgements.Print text)) before after given = after ≡ before
-IsGivenTo follows (Ok judgements.End) before after given = after ≡ before
-IsGivenTo follows (Err fault) before after given = after ≡ before
+IsGivenTo follows (Ok judgements.Nothing) before after given = (after ≡ before) × NeedsNone given
+IsGivenTo follows (Ok (judgements.Select found)) before after given = (after ≡ before) × NeedsNone given
+IsGivenTo follows (Ok (judgements.Print text)) before after given = (after ≡ before) × NeedsNone given
+IsGivenTo follows (Ok judgements.End) before after given = (after ≡ before) × NeedsNone given
+IsGivenTo follows (Err fault) before after given = (after ≡ before) × NeedsNone given
 
 -- or memory ran out before anything was done
 abbrev pub IsGivenOr : {C : Type 0} → (C → Edit → Result CommandReply RepoFault → C → Type 0) → Result Judged CfgFault

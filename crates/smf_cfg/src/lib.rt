@@ -13,4 +13,4 @@ pub use fault::{RunFault, SessionFault};
 pub use outcomes::{read_text, serve_cfg, tell};
 pub use output::{LineEnd, Output};
 pub use run::run_cfg;
-pub use session::Session;
+pub use session::run_line;

@@ -8,11 +8,11 @@ ghost use Rattle.smf_repo.specs.Clients.{IsEditedAlone};
 
 use crate::fault::{RunFault, SessionFault};
 use crate::output::{LineEnd, Output};
-use crate::session::Session;
+use crate::session::run_line;
 use smf_lines::{LineReader, TextWriter, Turns, read_line, text_in};
 use smf_model::CommandReply;
 use smf_repo::{Client, refusal_text};
-use smf_svccfg::{CfgFault, fault_text};
+use smf_svccfg::{CfgFault, Selection, fault_text};
 use std::alloc::{AllocError, Global};
 
 /// How a line ends that failed.
@@ -105,22 +105,22 @@ fn blame_refusal<E: TextWriter>(
 fn do_text<C: Client, W: TextWriter, E: TextWriter>(
     alloc: Global,
     client: &mut C,
-    session: &mut Session,
+    selection: &mut Selection,
     out: &mut W,
     errors: &mut E,
     text: &str,
 ) -> Result<LineEnd, RunFault>
     ensures ok { IfOk result
-        (λ end. IsWritten (effect_of_text (at (C.held client.old) session.old) text.now)
-        (C.held client.new) session.new (W.contents out.old) (W.contents out.new) (E.contents errors.old)
+        (λ end. IsWritten (effect_of_text (at (C.held client.old) selection.old) text.now)
+        (C.held client.new) selection.new (W.contents out.old) (W.contents out.new) (E.contents errors.old)
         (E.contents errors.new) end) }
     ensures err { IfErr result
-        (λ e. IsCut e (effect_of_text (at (C.held client.old) session.old) text.now) (C.held client.old)
+        (λ e. IsCut e (effect_of_text (at (C.held client.old) selection.old) text.now) (C.held client.old)
         (C.held client.new) (W.contents out.old) (W.contents out.new) (E.contents errors.old) (E.contents errors.new)) }
     ensures edits { IsEditedAlone C.held C.follows client.old client.new }
     ensures fault { IfErr result (λ e. IsWhy (λ _. ⊥) C.edit_fails W.write_fails E.write_fails e) }
 {
-    match session.run_line(alloc, client, text) {
+    match run_line(alloc, client, selection, text) {
         Ok(output) => print(out, &output),
         Err(SessionFault::Line(fault)) => blame_line(alloc, errors, fault),
         Err(SessionFault::Refused(reply)) => blame_refusal(alloc, errors, &reply),
@@ -133,22 +133,22 @@ fn do_text<C: Client, W: TextWriter, E: TextWriter>(
 fn do_line<C: Client, W: TextWriter, E: TextWriter>(
     alloc: Global,
     client: &mut C,
-    session: &mut Session,
+    selection: &mut Selection,
     out: &mut W,
     errors: &mut E,
     line: &[u8],
 ) -> Result<LineEnd, RunFault>
     ensures ok { IfOk result
-        (λ end. IsWritten (effect (at (C.held client.old) session.old) line.now) (C.held client.new) session.new
+        (λ end. IsWritten (effect (at (C.held client.old) selection.old) line.now) (C.held client.new) selection.new
         (W.contents out.old) (W.contents out.new) (E.contents errors.old) (E.contents errors.new) end) }
     ensures err { IfErr result
-        (λ e. IsCut e (effect (at (C.held client.old) session.old) line.now) (C.held client.old) (C.held client.new)
+        (λ e. IsCut e (effect (at (C.held client.old) selection.old) line.now) (C.held client.old) (C.held client.new)
         (W.contents out.old) (W.contents out.new) (E.contents errors.old) (E.contents errors.new)) }
     ensures edits { IsEditedAlone C.held C.follows client.old client.new }
     ensures fault { IfErr result (λ e. IsWhy (λ _. ⊥) C.edit_fails W.write_fails E.write_fails e) }
 {
     match text_in(line) {
-        Some(text) => do_text(alloc, client, session, out, errors, text),
+        Some(text) => do_text(alloc, client, selection, out, errors, text),
         None => complain(alloc, errors, "smf: ", "bad line"),
     }
 }
@@ -186,13 +186,13 @@ pub fn run_cfg<R: LineReader, W: TextWriter, E: TextWriter, C: Client>(
     ensures told { IfErr result (λ e. Tells e (R.interrupted reader.old) (R.interrupted reader.new)) }
 {
     let mut is_fine = true;
-    let mut session = Session::new();
+    let mut selection = Selection::Nothing;
     let mut turns = Turns::new();
     loop {
         match read_line(alloc, reader, &mut turns)? {
             None => return Ok(status_of(is_fine)),
             Some(line) => {
-                let end = do_line(alloc, client, &mut session, out, errors, &line)?;
+                let end = do_line(alloc, client, &mut selection, out, errors, &line)?;
                 is_fine &= end.is_fine;
                 if end.has_ended {
                     return Ok(status_of(is_fine));

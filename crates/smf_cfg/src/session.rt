@@ -6,7 +6,6 @@ ghost use Rattle.smf_model.specs.Laws.{is_refusal};
 ghost use Rattle.smf_model.specs.Next.{next};
 ghost use Rattle.smf_repo.specs.Clients.{IsEditedAlone};
 ghost use Rattle.smf_svccfg.specs.Judged.{judgement_of};
-ghost use Rattle.smf_svccfg.specs.declared.selection.Selection.TheVariants as selected;
 
 use crate::fault::SessionFault;
 use crate::output::Output;
@@ -15,21 +14,6 @@ use smf_model::{CommandReply, Edit, RepoFault};
 use smf_repo::Client;
 use smf_svccfg::{CfgFault, Judged, Selection, judge};
 use std::alloc::Global;
-use std::marker::Model;
-
-/// A session of svccfg: what is selected in it.
-#[derive(Drop)]
-pub struct Session {
-    selection: Selection,
-}
-
-impl Model for Session {
-    ghost use Rattle.smf_svccfg.specs.declared.selection.Selection.{Selection as AnySelection};
-
-    ghost Value = { AnySelection };
-
-    ghost view = { λ s. s.selection };
-}
 
 fn is_refusal(reply: &CommandReply) -> bool
     ensures { result ≡ is_refusal reply.now }
@@ -138,43 +122,32 @@ fn carry_out<C: Client>(
     }
 }
 
-impl Session {
-    /// A session in which nothing is selected.
-    pub fn new() -> Session
-        ensures { result ≡ selected.Nothing }
-    {
-        Session {
-            selection: Selection::Nothing,
-        }
-    }
-
-    /// Does a line, which stands without its end.
-    #[tactic(auto, unfolding(crate::specs::Sessions::ran, crate::specs::Sessions::result_of_judgement))]
-    pub fn run_line<C: Client>(
-        &mut self,
-        alloc: Global,
-        client: &mut C,
-        line: &str,
-    ) -> Result<Output, SessionFault>
-        // The holdings and the selection after the line, and its output.
-        ensures ok { IfOk result
-            (λ output. IsDone (ran (at (C.held client.old) self.old) line.now) (C.held client.new) self.new
-            (Ok output)) }
-        // A line that failed did so for its reason, unless it had no reply, and changed nothing.
-        ensures err { IfErr result
-            (λ e. IsUndone (ran (at (C.held client.old) self.old) line.now) (C.held client.new) self.new e) }
-        ensures kept { OnErr result (C.held client.new ≡ C.held client.old) }
-        ensures unselected { OnErr result (self.new ≡ self.old) }
-        // The client was given the edit that the line is judged to be, unless memory ran out, and nothing else.
-        ensures given { IsGivenOr C.follows (judgement_of (C.held client.old) self.old line.now) client.old client.new
-            result }
-        ensures edits { IsEditedAlone C.held C.follows client.old client.new }
-        ensures fault { IfErr result (λ e. IsFault C.edit_fails e) }
-    {
-        match judge(alloc, client, &self.selection, line) {
-            Ok(judged) => carry_out(alloc, client, &mut self.selection, judged),
-            Err(CfgFault::Memory) => Err(SessionFault::Repo(RepoFault::Memory)),
-            Err(fault) => Err(SessionFault::Line(fault)),
-        }
+/// Does a line, which stands without its end, with what is selected.
+#[tactic(auto, unfolding(crate::specs::Sessions::ran, crate::specs::Sessions::result_of_judgement))]
+pub fn run_line<C: Client>(
+    alloc: Global,
+    client: &mut C,
+    selection: &mut Selection,
+    line: &str,
+) -> Result<Output, SessionFault>
+    // The holdings and the selection after the line, and its output.
+    ensures ok { IfOk result
+        (λ output. IsDone (ran (at (C.held client.old) selection.old) line.now) (C.held client.new) selection.new
+        (Ok output)) }
+    // A line that failed did so for its reason, unless it had no reply, and changed nothing.
+    ensures err { IfErr result
+        (λ e. IsUndone (ran (at (C.held client.old) selection.old) line.now) (C.held client.new) selection.new e) }
+    ensures kept { OnErr result (C.held client.new ≡ C.held client.old) }
+    ensures unselected { OnErr result (selection.new ≡ selection.old) }
+    // The client was given the edit that the line is judged to be, unless memory ran out, and nothing else.
+    ensures given { IsGivenOr C.follows (judgement_of (C.held client.old) selection.old line.now) client.old client.new
+        result }
+    ensures edits { IsEditedAlone C.held C.follows client.old client.new }
+    ensures fault { IfErr result (λ e. IsFault C.edit_fails e) }
+{
+    match judge(alloc, client, selection, line) {
+        Ok(judged) => carry_out(alloc, client, selection, judged),
+        Err(CfgFault::Memory) => Err(SessionFault::Repo(RepoFault::Memory)),
+        Err(fault) => Err(SessionFault::Line(fault)),
     }
 }

@@ -33,6 +33,17 @@ fn repo_fault(fault: NodeFault) -> RepoFault
     }
 }
 
+impl From<RepoFault> for NodeFault {
+    ghost from_gives = { λ e f. f ≡ fault_by e };
+
+    fn from(e: RepoFault) -> NodeFault {
+        match e {
+            RepoFault::Memory => NodeFault::Memory,
+            RepoFault::Database => NodeFault::Database,
+        }
+    }
+}
+
 impl<J: Journal> Node<J> {
     /// A client gives an edit, and learns no more of a fault than of the repository's own.
     fn give(&mut self, edit: Edit) -> Result<CommandReply, RepoFault>

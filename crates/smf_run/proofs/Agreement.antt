@@ -14,14 +14,16 @@ use Rattle.smf_node.specs.declared.fault.NodeFault.{NodeFault}
 use Rattle.smf_node.specs.Faults.{event_refusal}
 use Rattle.smf_run.specs.Agreed.{AgreesOrDroppedSince}
 use Rattle.smf_run.specs.Asks.{Ask, HasAnswered, HasAsked, IsDone, deed_of_answer, to_act, to_join, to_reboot}
-use Rattle.smf_run.specs.Failures.{LeavesWith, LineFails, fails_alone, fails_together}
-use Rattle.smf_run.specs.Lines.{AskedBy, DoesWith, HasAskedOf, HasBooted, HasDone, alone, deed_of_boot, contract_of, deed_of, child_event, together}
+use Rattle.smf_run.specs.Failures.{LeavesWith, LineFails}
+use Rattle.smf_run.specs.Lines.{AskedBy, DoesWith, HasAskedOf, HasBooted, HasDone, deed_of_boot, contract_of, deed_of, child_event}
 use Rattle.smf_run.specs.Scripts.{HasRun, Leaves, Runs, Stops}
 use Rattle.smf_run.proofs.NodeEvents.{Apart, effect_apart, fails_apart}
 use Rattle.smf_script.specs.declared.fault.ScriptFault.{ScriptFault}
 use Rattle.smf_script.specs.declared.fault.ScriptFault.TheVariants.{Node, Lines, Output}
+use Rattle.smf_words.specs.declared.request.ChildRequest.{ChildRequest}
+use Rattle.smf_words.specs.declared.request.ChildRequest.TheVariants as requests
 use Rattle.smf_words.specs.declared.request.Request.{Request}
-use Rattle.smf_words.specs.declared.request.Request.TheVariants as requests
+use Rattle.smf_words.specs.declared.request.Request.TheVariants as lines
 use Rattle.smf_words.specs.Request.{request_of}
 use Rattle.smf_script.specs.Script.{first_session, effect_of_both, silent}
 use Rattle.smf_script.specs.Session.{Deed, Effect, Session, effect_of}
@@ -101,7 +103,7 @@ booted_holds {b} k p old new d boots h = by boots.asked.answer boots.asked.answe
 
 -- ---- lines
 
-with_holds : {b : Before} (k : Skills) (request : Request) (p : Progress) (old new : Seen) (d : Deed)
+with_holds : {b : Before} (k : Skills) (request : ChildRequest) (p : Progress) (old new : Seen) (d : Deed)
     → DoesWith k request p old new d → Holds b p.world old.ledger → Holds b d.progress.world new.ledger
 with_holds {b} k (requests.Process word what) p old new d r h =
     word_holds k p (λ id. to_act id (child_event what)) word old new d
@@ -113,15 +115,15 @@ with_holds {b} k (requests.Settle rounds) p old new d r h = (
   agree_moves p.world d.progress.world old.ledger new.ledger r.moves h.1,
 )
 with_holds {b} k requests.Boot p old new d r h = booted_holds k p old new d r h
-with_holds {b} k _ p old new d r h = absurd r
 
 line_holds : {b : Before} (k : Skills) (request : Request) (s : Session) (old new : Seen) (e : Effect)
     → HasDone k request s old new e → Holds b s.progress.world old.ledger → Holds b e.session.progress.world new.ledger
-line_holds {b} k request s old new e (alone none is same) h =
+line_holds {b} k (lines.Node request) s old new e (is, same) h =
     holds_as (effect_of s request).session.progress e.session.progress old.ledger new.ledger
     (ap (λ (x : Effect). x.session.progress) is) (ap (λ (x : Seen). x.ledger) same)
-    (holds_apart s.progress (effect_of s request).session.progress old.ledger (effect_apart s request none) h)
-line_holds {b} k request s old new e (together chosen r) h = with_holds k request s.progress old new (deed_of e) r h
+    (holds_apart s.progress (effect_of s request).session.progress old.ledger (effect_apart s request) h)
+line_holds {b} k (lines.Children request) s old new e (chosen, r) h =
+    with_holds k request s.progress old new (deed_of e) r h
 
 runs_hold : {b : Before} (k : Skills) (lines : List (List ℕ)) (before : Effect) (old new : Seen) (e : Effect)
     → Runs k lines before old new e → Holds b before.session.progress.world old.ledger
@@ -135,29 +137,28 @@ runs_hold {b} k (line ∷ lines) before old new e r h =
 
 -- ---- a line that a fault ended
 
-together_leaves : {b : Before} (k : Skills) (stores : RepoFault → Type 0) (request : Request) (p : Progress) (old : Seen)
-    (after : Progress) (new : Seen) (e : NodeFault) → LeavesWith k stores request p old after new e
+asked_leaves : {b : Before} (k : Skills) (stores : RepoFault → Type 0) (request : ChildRequest) (p : Progress)
+    (old : Seen) (after : Progress) (new : Seen) (e : NodeFault) → LeavesWith k stores request p old after new e
     → Holds b p.world old.ledger → AgreesOrDroppedSince b after.world new.ledger
-together_leaves {b} k stores (requests.Process word what) p old after new e m h =
+asked_leaves {b} k stores (requests.Process word what) p old after new e m h =
     inl ((holds_as p after old.ledger new.ledger m.1 m.2 h).1)
-together_leaves {b} k stores (requests.Join word) p old after new e m h =
+asked_leaves {b} k stores (requests.Join word) p old after new e m h =
     inl ((holds_as p after old.ledger new.ledger m.1 m.2 h).1)
-together_leaves {b} k stores (requests.Settle rounds) p old after new e m h =
+asked_leaves {b} k stores (requests.Settle rounds) p old after new e m h =
     inl (agree_moves p.world after.world old.ledger new.ledger m.1 h.1)
-together_leaves {b} k stores requests.Boot p old after new e (why, same, inl kept) h =
+asked_leaves {b} k stores requests.Boot p old after new e (why, same, inl kept) h =
     inl ((holds_as p after old.ledger new.ledger same kept h).1)
-together_leaves {b} k stores requests.Boot p old after new e (why, same, inr dropped) h =
+asked_leaves {b} k stores requests.Boot p old after new e (why, same, inr dropped) h =
     inr (old.ledger, (holds_as p after old.ledger old.ledger same refl h).1, dropped)
-together_leaves {b} k stores _ p old after new e m h = absurd m
 
 line_leaves : {b : Before} (k : Skills) (stores : RepoFault → Type 0) (request : Request) (s : Session) (old new : Seen)
     (after : Progress) (e : NodeFault) → LineFails k stores request s old new after e
     → Holds b s.progress.world old.ledger → AgreesOrDroppedSince b after.world new.ledger
-line_leaves {b} k stores request s old new after e (fails_alone none fails same) h =
+line_leaves {b} k stores (lines.Node request) s old new after e (fails, same) h =
     inl ((holds_as after after old.ledger new.ledger refl (ap (λ (x : Seen). x.ledger) same)
-    (holds_apart s.progress after old.ledger (fails_apart stores s request after e none fails) h)).1)
-line_leaves {b} k stores request s old new after e (fails_together left) h =
-    together_leaves k stores request s.progress old after new e left h
+    (holds_apart s.progress after old.ledger (fails_apart stores s request after e fails) h)).1)
+line_leaves {b} k stores (lines.Children request) s old new after e left h =
+    asked_leaves k stores request s.progress old after new e left h
 
 still_leaves : {b : Before} (p after : Progress) (old new : Seen) → after ≡ p → new ≡ old → Holds b p.world old.ledger
     → AgreesOrDroppedSince b after.world new.ledger

@@ -1,4 +1,4 @@
--- Lines in which children have no part act by events in which they have none.
+-- Lines that ask something of the node alone act by events in which children have no part.
 use Rattle.std.proofs.Common.{◌≡◌, ◌⊎◌, inl, inr, ℕ, Bool, true, false, List, [], ◌∷◌, Option, Some, None, Result, Ok, Err, refl, sym, subst}
 use Rattle.smf_admin.specs.declared.requests.Asked.{Asked}
 use Rattle.smf_admin.specs.declared.requests.Asked.TheVariants as asks
@@ -17,15 +17,14 @@ use Rattle.smf_model.specs.declared.journal.RepoFault.{RepoFault}
 use Rattle.smf_model.specs.Next.{current_instance as instance_found}
 use Rattle.smf_node.specs.declared.fault.NodeFault.{NodeFault}
 use Rattle.smf_node.specs.Marks.{last_delivered}
-use Rattle.smf_words.specs.declared.request.Request.{Request}
-use Rattle.smf_words.specs.declared.request.Request.TheVariants as requests
+use Rattle.smf_words.specs.declared.request.NodeRequest.{NodeRequest}
+use Rattle.smf_words.specs.declared.request.NodeRequest.TheVariants as requests
 use Rattle.smf_script.specs.Failures.{Leaves, RequestFails}
-use Rattle.smf_script.specs.Session.{Deed, Session, deed_of_command, asked_all, asks_children, behind, crash_if, crash_in, deed_of_crash, success_deed, effect_of, deed_of_edit, given_selected, progress_after_repeat, deed_of_reply, restarter_in, svcadm, svcadm_by, svcadm_name, svccfg, svccfg_by, svccfg_name, svcs, svcs_by, timed_out, timeout_if, timeout_in, timeout_on}
+use Rattle.smf_script.specs.Session.{Deed, Session, deed_of_command, asked_all, behind, crash_if, crash_in, deed_of_crash, success_deed, effect_of, deed_of_edit, progress_after_repeat, progress_behind, deed_of_reply, restarter_in, svcadm, svcadm_by, svcadm_name, svccfg, svcs, svcs_by, timed_out, timeout_if, timeout_in, timeout_on}
 use Rattle.smf_svccfg.specs.Judged.{judgement_of}
 use Rattle.smf_svccfg.specs.declared.fault.CfgFault.{CfgFault}
 use Rattle.smf_svccfg.specs.declared.selection.Judged.{Judged}
 use Rattle.smf_svccfg.specs.declared.selection.Judged.TheVariants as judgements
-use Rattle.smf_svccfg.specs.declared.selection.Selection.{Selection}
 use Rattle.smf_world.specs.declared.event.Event.TheVariants as events
 use Rattle.smf_world.specs.Schedule.{Progress, delivered_again, progress_with_loss, on, progress_with_refusals}
 use Rattle.smf_world.specs.Worked.{is_launched, work_of_event}
@@ -74,22 +73,17 @@ svcadm_apart : (p : Progress) (words : List (List ℕ)) → Apart p (svcadm p wo
 unfolding svcadm
 svcadm_apart p words = svcadm_apart_by p (commands_of p.world.now.names words)
 
-selected_apart : (s : Session) (edit : Edit) (after : Selection)
-    → Apart s.progress (given_selected s edit after).session.progress
-unfolding given_selected
-selected_apart s edit after = given_apart svccfg_name s.progress edit
-
-svccfg_apart_by : (s : Session) (r : Result Judged CfgFault) → Apart s.progress (svccfg_by s r).session.progress
-svccfg_apart_by s (Ok judgements.Nothing) = self s.progress
-svccfg_apart_by s (Ok (judgements.Select found)) = self s.progress
-svccfg_apart_by s (Ok (judgements.Edit edit after)) = selected_apart s edit after
-svccfg_apart_by s (Ok (judgements.Print text)) = self s.progress
-svccfg_apart_by s (Ok judgements.End) = self s.progress
-svccfg_apart_by s (Err fault) = self s.progress
+judged_apart : (p : Progress) (r : Result Judged CfgFault) → Apart p (progress_behind p r)
+judged_apart p (Ok judgements.Nothing) = self p
+judged_apart p (Ok (judgements.Select found)) = self p
+judged_apart p (Ok (judgements.Edit edit after)) = apart_on p (events.Client edit) refl
+judged_apart p (Ok (judgements.Print text)) = self p
+judged_apart p (Ok judgements.End) = self p
+judged_apart p (Err fault) = self p
 
 svccfg_apart : (s : Session) (line : List ℕ) → Apart s.progress (svccfg s line).session.progress
 unfolding svccfg
-svccfg_apart s line = svccfg_apart_by s (judgement_of s.progress.world.now s.selection line)
+svccfg_apart s line = judged_apart s.progress (judgement_of s.progress.world.now s.selection line)
 
 -- ---- what is shown
 
@@ -154,43 +148,37 @@ losing_apart count p = self p
 
 -- ---- lines
 
-pub effect_apart : (s : Session) (request : Request) → asks_children request ≡ false
-    → Apart s.progress (effect_of s request).session.progress
+pub effect_apart : (s : Session) (request : NodeRequest) → Apart s.progress (effect_of s request).session.progress
 unfolding effect_of
-effect_apart s requests.Nothing none = self s.progress
-effect_apart s (requests.Svccfg line) none = svccfg_apart s line
-effect_apart s (requests.Svcadm words) none = svcadm_apart s.progress words
-effect_apart s (requests.Svcs words) none = svcs_apart s.progress words
-effect_apart s (requests.Settle rounds) none = self s.progress
-effect_apart s (requests.Refuse count) none = refusing_apart count s.progress
-effect_apart s (requests.Lose count) none = losing_apart count s.progress
-effect_apart s (requests.Again count) none = repeated_apart count s.progress
-effect_apart s (requests.Process word what) none = self s.progress
-effect_apart s (requests.Timeout word) none = timeout_apart s.progress word
-effect_apart s (requests.Join word) none = self s.progress
-effect_apart s (requests.Crash word) none = crash_apart s.progress word
-effect_apart s requests.Boot none = self s.progress
-effect_apart s requests.Trail none = self s.progress
-effect_apart s requests.Bad none = self s.progress
+effect_apart s requests.Nothing = self s.progress
+effect_apart s (requests.Svccfg line) = svccfg_apart s line
+effect_apart s (requests.Svcadm words) = svcadm_apart s.progress words
+effect_apart s (requests.Svcs words) = svcs_apart s.progress words
+effect_apart s (requests.Refuse count) = refusing_apart count s.progress
+effect_apart s (requests.Lose count) = losing_apart count s.progress
+effect_apart s (requests.Again count) = repeated_apart count s.progress
+effect_apart s (requests.Timeout word) = timeout_apart s.progress word
+effect_apart s (requests.Crash word) = crash_apart s.progress word
+effect_apart s requests.Trail = self s.progress
+effect_apart s requests.Bad = self s.progress
 
-leaves_apart : (stores : RepoFault → Type 0) (s : Session) (request : Request) (after : Progress) (e : NodeFault)
-    → asks_children request ≡ false → Leaves stores s request after e → Apart s.progress after
-leaves_apart stores s (requests.Svcadm words) after e none m =
+leaves_apart : (stores : RepoFault → Type 0) (s : Session) (request : NodeRequest) (after : Progress) (e : NodeFault)
+    → Leaves stores s request after e → Apart s.progress after
+leaves_apart stores s (requests.Svcadm words) after e m =
     apart_to s.progress (asked_all (success_deed s.progress []) m.some.first).progress after
     (all_apart s.progress (success_deed s.progress []) m.some.first (self s.progress)) m.some.left
-leaves_apart stores s (requests.Again count) after e none m =
+leaves_apart stores s (requests.Again count) after e m =
     apart_to s.progress (delivered_again m.first s.progress) after
     (again_apart s.progress s.progress m.first (self s.progress)) m.went
-leaves_apart stores s _ after e none m = absurd m
+leaves_apart stores s _ after e m = absurd m
 
 -- the node after a line that ended in mid-course
-pub fails_apart : (stores : RepoFault → Type 0) (s : Session) (request : Request) (after : Progress) (e : NodeFault)
-    → asks_children request ≡ false → RequestFails stores s request after e → Apart s.progress after
-fails_apart stores s request after e none h = by h.left
+pub fails_apart : (stores : RepoFault → Type 0) (s : Session) (request : NodeRequest) (after : Progress) (e : NodeFault)
+    → RequestFails stores s request after e → Apart s.progress after
+fails_apart stores s request after e h = by h.left
   where
     by : (after ≡ s.progress) ⊎ (after ≡ (effect_of s request).session.progress) ⊎ Leaves stores s request after e
         → Apart s.progress after
     by (inl same) = apart_to s.progress s.progress after (self s.progress) same
-    by (inr (inl all)) =
-        apart_to s.progress (effect_of s request).session.progress after (effect_apart s request none) all
-    by (inr (inr m)) = leaves_apart stores s request after e none m
+    by (inr (inl all)) = apart_to s.progress (effect_of s request).session.progress after (effect_apart s request) all
+    by (inr (inr m)) = leaves_apart stores s request after e m

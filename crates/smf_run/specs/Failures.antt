@@ -1,5 +1,5 @@
 -- The node and children after a line that a fault of the node ended.
-use Rattle.std.specs.Prelude.{◌≡◌, ◌⊎◌, ℕ, false}
+use Rattle.std.specs.Prelude.{◌≡◌, ◌⊎◌, ℕ}
 use Rattle.smf_drive.specs.Moves.{Moves}
 use Rattle.smf_edge.specs.Ledgers.{Ledger}
 use Rattle.smf_machine.specs.Runners.{rules_of}
@@ -11,10 +11,12 @@ use Rattle.smf_node.specs.Faults.{IsFault}
 use Rattle.smf_node.specs.Partly.{SettleFails}
 use Rattle.smf_node.specs.Rounds.{HasSettled, course}
 use Rattle.smf_edge.specs.Answers.{Seen, Skills}
+use Rattle.smf_words.specs.declared.request.ChildRequest.{ChildRequest}
+use Rattle.smf_words.specs.declared.request.ChildRequest.TheVariants as requests
 use Rattle.smf_words.specs.declared.request.Request.{Request}
-use Rattle.smf_words.specs.declared.request.Request.TheVariants as requests
+use Rattle.smf_words.specs.declared.request.Request.TheVariants.{Children, Node}
 use Rattle.smf_script.specs.Failures.{RequestFails}
-use Rattle.smf_script.specs.Session.{Session, asks_children}
+use Rattle.smf_script.specs.Session.{Session}
 use Rattle.smf_world.specs.declared.event.Event.TheVariants as events
 use Rattle.smf_world.specs.declared.schedule.Settled.{Settled}
 use Rattle.smf_world.specs.Schedule.{Progress}
@@ -35,20 +37,18 @@ IsCutShort k stores rounds p old after new e =
 abbrev pub IsUnbooted : (RepoFault → Type 0) → World → NodeFault → Type 0
 IsUnbooted stores w e = (e ≡ Memory) ⊎ IsFault stores w events.Boot e
 
--- A line in which children have a part. Nothing was asked of them, or they did not do it. Or they dropped all that they
+-- A line that asks something of children. Nothing was asked of them, or they did not do it. Or they dropped all that they
 -- had, and the node did not boot. Or rounds ended in mid-course.
-abbrev pub LeavesWith : Skills → (RepoFault → Type 0) → Request → Progress → Seen → Progress → Seen → NodeFault → Type 0
+abbrev pub LeavesWith : Skills → (RepoFault → Type 0) → ChildRequest → Progress → Seen → Progress → Seen → NodeFault
+    → Type 0
 LeavesWith k stores (requests.Process word what) p old after new e = IsUndone p old.ledger after new.ledger e
 LeavesWith k stores (requests.Join word) p old after new e = IsUndone p old.ledger after new.ledger e
 LeavesWith k stores (requests.Settle rounds) p old after new e =
     IsCutShort k stores rounds p old after new e × Moves p.world after.world old.ledger new.ledger
 LeavesWith k stores requests.Boot p old after new e = IsUnbooted stores p.world e × (after ≡ p)
     × ((new.ledger ≡ old.ledger) ⊎ (new.ledger ≡ ledger_after_boot old.ledger))
-LeavesWith k stores _ p old after new e = ⊥
 
 -- a line that asked for this ended with a fault of the node, and left this
-pub data LineFails (k : Skills) (stores : RepoFault → Type 0) (request : Request) (s : Session) (old new : Seen)
-    (after : Progress) (e : NodeFault) : Type 0 where
-  fails_alone : asks_children request ≡ false → RequestFails stores s request after e → new ≡ old
-      → LineFails k stores request s old new after e
-  fails_together : LeavesWith k stores request s.progress old after new e → LineFails k stores request s old new after e
+abbrev pub LineFails : Skills → (RepoFault → Type 0) → Request → Session → Seen → Seen → Progress → NodeFault → Type 0
+LineFails k stores (Node request) s old new after e = RequestFails stores s request after e × (new ≡ old)
+LineFails k stores (Children request) s old new after e = LeavesWith k stores request s.progress old after new e

@@ -15,9 +15,11 @@ use Rattle.smf_machine.specs.Runners.{rules_of}
 use Rattle.smf_node.specs.Faults.{event_refusal}
 use Rattle.smf_node.specs.Rounds.{HasSettled as HasDriven, course}
 use Rattle.smf_run.specs.Asks.{Ask, HasAsked, deed_of_answer, to_act, to_join, to_reboot, why_text}
+use Rattle.smf_words.specs.declared.request.ChildRequest.{ChildRequest}
+use Rattle.smf_words.specs.declared.request.ChildRequest.TheVariants as requests
 use Rattle.smf_words.specs.declared.request.Request.{Request}
-use Rattle.smf_words.specs.declared.request.Request.TheVariants as requests
-use Rattle.smf_script.specs.Session.{asks_children, Deed, Effect, Session, success_deed, effect_of, failure_deed, latest, script_name, settled_text}
+use Rattle.smf_words.specs.declared.request.Request.TheVariants.{Children, Node}
+use Rattle.smf_script.specs.Session.{Deed, Effect, Session, success_deed, effect_of, failure_deed, latest, script_name, settled_text}
 use Rattle.smf_world.specs.declared.event.Event.TheVariants as events
 use Rattle.smf_world.specs.declared.event.ProcessEvent.{ProcessEvent}
 use Rattle.smf_world.specs.declared.event.ProcessEvent.TheVariants.{Fork, Exit, Fail}
@@ -67,22 +69,21 @@ pub record HasSettled (k : Skills) (rounds : ℕ) (p : Progress) (old new : Seen
 
 -- ---- the line
 
--- the deed of a line in which children have a part
-abbrev pub DoesWith : Skills → Request → Progress → Seen → Seen → Deed → Type 0
+-- the deed of a line that asks something of children
+abbrev pub DoesWith : Skills → ChildRequest → Progress → Seen → Seen → Deed → Type 0
 DoesWith k (requests.Process word what) p old new d = AskedBy k p (λ id. to_act id (child_event what)) word old new d
 DoesWith k (requests.Join word) p old new d = AskedBy k p to_join word old new d
 DoesWith k (requests.Settle rounds) p old new d = HasSettled k rounds p old new d
 DoesWith k requests.Boot p old new d = HasBooted k p old new d
-DoesWith k _ p old new d = ⊥
 
 abbrev pub deed_of : Effect → Deed
 deed_of e = record { progress = e.session.progress; text = e.text; fine = e.fine }
 
 -- a line that asked for this had this effect, and left children so
-pub data HasDone (k : Skills) (request : Request) (s : Session) (old new : Seen) (e : Effect) : Type 0 where
-  alone : asks_children request ≡ false → e ≡ effect_of s request → new ≡ old → HasDone k request s old new e
-  together : e.session.selection ≡ s.selection → DoesWith k request s.progress old new (deed_of e)
-      → HasDone k request s old new e
+abbrev pub HasDone : Skills → Request → Session → Seen → Seen → Effect → Type 0
+HasDone k (Node request) s old new e = (e ≡ effect_of s request) × (new ≡ old)
+HasDone k (Children request) s old new e =
+    (e.session.selection ≡ s.selection) × DoesWith k request s.progress old new (deed_of e)
 
 -- ---- how calls do it
 

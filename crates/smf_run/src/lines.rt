@@ -1,8 +1,8 @@
 ghost use Rattle.std.specs.Prelude.{IfErr, IfOk, string_bytes};
 ghost use Rattle.smf_drive.specs.Moves.{Moves};
 ghost use Rattle.smf_edge.specs.Answers.{children_state};
-ghost use Rattle.smf_run.specs.Failures.{IsCutShort, LineFails};
-ghost use Rattle.smf_run.specs.Lines.{HasDone, HasPut, HasSettled, deed, effect};
+ghost use Rattle.smf_run.specs.Failures.{IsCutShort, LeavesWith, LineFails};
+ghost use Rattle.smf_run.specs.Lines.{DoesWith, HasDone, HasPut, HasSettled, deed, effect};
 ghost use Rattle.smf_script.specs.Faults.{MayStop};
 ghost use Rattle.smf_words.specs.Request.{request_of};
 ghost use Rattle.smf_world.specs.Reached.{IsLater};
@@ -14,7 +14,7 @@ use smf_model::Journal;
 use smf_node::{Node, NodeFault};
 use smf_script::{run_request, settled_text};
 use smf_svccfg::Selection;
-use smf_words::{Request, request_of};
+use smf_words::{ChildRequest, Request, request_of};
 use std::alloc::Global;
 
 /// Rounds happen with the answers of children.
@@ -38,6 +38,30 @@ fn settle<J: Journal, K: Kids>(
     Ok(true)
 }
 
+/// Does what a line asks of children.
+fn ask_children<J: Journal, K: Kids>(
+    alloc: Global,
+    node: &mut Node<J>,
+    kids: &mut K,
+    request: &ChildRequest,
+    out: &mut String,
+) -> Result<bool, NodeFault>
+    ensures exact { IfOk result (λ fine. HasPut (λ text.
+        DoesWith K.skills request.now node.old (children_state (K.ledger kids.old) (K.failures kids.old)) (children_state (K.ledger kids.new) (K.failures kids.new)) (deed node.new fine text))
+        (string_bytes out.old) (string_bytes out.new)) }
+    ensures err { IfErr result (λ e.
+        LeavesWith K.skills J.write_fails request.now node.old (children_state (K.ledger kids.old) (K.failures kids.old)) node.new (children_state (K.ledger kids.new) (K.failures kids.new)) e) }
+    ensures later { IsLater node.old.world node.new.world }
+    ensures fault { IfErr result (λ e. MayStop J.write_fails e) }
+{
+    match request {
+        ChildRequest::Settle(rounds) => settle(node, kids, *rounds, out),
+        ChildRequest::Process { word, what } => process(alloc, node, kids, word, *what, out),
+        ChildRequest::Join(word) => join(alloc, node, kids, word, out),
+        ChildRequest::Boot => boot(node, kids, out),
+    }
+}
+
 fn do_request<J: Journal, K: Kids>(
     alloc: Global,
     node: &mut Node<J>,
@@ -57,11 +81,8 @@ fn do_request<J: Journal, K: Kids>(
     ensures fault { IfErr result (λ e. MayStop J.write_fails e) }
 {
     match request {
-        Request::Settle(rounds) => settle(node, kids, *rounds, out),
-        Request::Process { word, what } => process(alloc, node, kids, word, *what, out),
-        Request::Join(word) => join(alloc, node, kids, word, out),
-        Request::Boot => boot(node, kids, out),
-        _ => run_request(alloc, node, selection, request, out),
+        Request::Node(request) => run_request(alloc, node, selection, request, out),
+        Request::Children(request) => ask_children(alloc, node, kids, request, out),
     }
 }
 

@@ -1,5 +1,4 @@
 pub mod Deeds
 pub mod Later
-pub mod Selections
+pub mod Configuration
 pub mod May
-pub mod Failures

@@ -1,6 +1,7 @@
 -- With which faults a line may end, by those of the node's calls.
-use Rattle.std.proofs.Common.{◌≡◌, ◌<◌, ◌++◌, ◌∷◌, ◌||◌, [], ℕ, inl, inr, Bool, true, false, List, Option, Some, None, refl, arith}
+use Rattle.std.proofs.Common.{◌≡◌, ◌<◌, ◌++◌, ◌∷◌, ◌||◌, [], ℕ, inl, inr, Bool, true, false, List, Option, Some, None, Result, Ok, Err, IfErr, refl, sym, subst, arith}
 use Rattle.std.specs.List.{list_any}
+use Rattle.std.specs.Result.{IsErrAnd}
 use Rattle.smf_model.specs.declared.change.Change.{Change}
 use Rattle.smf_model.specs.declared.journal.RepoFault.{RepoFault}
 use Rattle.smf_node.specs.declared.fault.NodeFault.{NodeFault}
@@ -11,12 +12,18 @@ use Rattle.smf_restarter.specs.Knowledge.{Knowledge}
 use Rattle.smf_script.specs.Failures.{MayEnd, RequestFails}
 use Rattle.smf_script.specs.Faults.{MayStop}
 use Rattle.smf_script.specs.Session.{Session}
-use Rattle.smf_words.specs.declared.request.Request.{Request}
+use Rattle.smf_words.specs.declared.request.NodeRequest.{NodeRequest}
 use Rattle.smf_world.specs.declared.event.Event.{Event}
 use Rattle.smf_world.specs.declared.event.Event.TheVariants as events
 use Rattle.smf_world.specs.Schedule.{Progress}
 use Rattle.smf_world.specs.Worked.{work_of_call, work_of_crash, restarter, work_of_timeout, work_of_event}
 use Rattle.smf_world.specs.World.{World}
+
+-- the error that the exit of a `?` passes on
+pub passed_on : {X : Type 0} (r : Result X NodeFault) (e : NodeFault) (P : NodeFault → Type 0)
+    → IsErrAnd r (λ y. y ≡ e) → P e → IfErr r P
+passed_on (Ok x) e P q p = tt
+passed_on (Err y) e P q p = subst P (sym q) p
 
 pub may_memory : (stores : RepoFault → Type 0) (asks : Bool) (e : NodeFault) → e ≡ Memory → MayEnd stores asks e
 may_memory stores asks e is = rw is tt
@@ -95,7 +102,7 @@ may_stop stores asks Limit h = absurd h
 may_stop stores asks NoSuchMessage h = h
 may_stop stores asks NoSuchActor h = h
 
--- with what a line in which children have no part may end, a script may stop
-pub alone_may_stop : (stores : RepoFault → Type 0) (s : Session) (request : Request) (after : Progress)
+-- with what a line may end that asks something of the node alone, a script may stop
+pub alone_may_stop : (stores : RepoFault → Type 0) (s : Session) (request : NodeRequest) (after : Progress)
     (e : NodeFault) → RequestFails stores s request after e → MayStop stores e
 alone_may_stop stores s request after e h = may_stop stores _ e h.may

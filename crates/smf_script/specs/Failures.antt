@@ -15,8 +15,8 @@ use Rattle.smf_svccfg.specs.Judged.{judgement_of}
 use Rattle.smf_svccfg.specs.declared.fault.CfgFault.{CfgFault}
 use Rattle.smf_svccfg.specs.declared.selection.Judged.{Judged}
 use Rattle.smf_svccfg.specs.declared.selection.Judged.TheVariants as judgements
-use Rattle.smf_words.specs.declared.request.Request.{Request}
-use Rattle.smf_words.specs.declared.request.Request.TheVariants as requests
+use Rattle.smf_words.specs.declared.request.NodeRequest.{NodeRequest}
+use Rattle.smf_words.specs.declared.request.NodeRequest.TheVariants as requests
 use Rattle.smf_world.specs.Schedule.{Progress}
 
 -- ---- whether a line asks the repository to change
@@ -36,8 +36,8 @@ abbrev pub give_edits : Option (List Asked) → Bool
 give_edits None = false
 give_edits (Some all) = list_any gives_edit all
 
--- a line in which children have no part gives an edit, or delivers messages again
-abbrev pub asks_repository : Session → Request → Bool
+-- a line gives an edit, or delivers messages again
+abbrev pub asks_repository : Session → NodeRequest → Bool
 asks_repository s (requests.Svccfg line) = is_edit (judgement_of s.progress.world.now s.selection line)
 asks_repository s (requests.Svcadm words) = give_edits (commands_of s.progress.world.now.names words)
 asks_repository s (requests.Again count) = true
@@ -45,7 +45,7 @@ asks_repository s _ = false
 
 -- ---- faults
 
--- The faults with which a line may end in which children have no part. Memory ran out, or it asks the repository to
+-- The faults with which a line may end that asks something of the node alone. Memory ran out, or it asks the repository to
 -- change and the journal could not be written. No such line needs a number that has no next one, delivers what was
 -- never sent, or names an actor against its launch.
 abbrev pub MayEnd : (RepoFault → Type 0) → Bool → NodeFault → Type 0
@@ -72,14 +72,14 @@ pub record SvcadmLeaves (before : Progress) (words : List (List ℕ)) (after : P
   pub some : AreDone before all after
 
 -- the node that a fault leaves if it ends a line in mid-course
-abbrev pub Leaves : (RepoFault → Type 0) → Session → Request → Progress → NodeFault → Type 0
+abbrev pub Leaves : (RepoFault → Type 0) → Session → NodeRequest → Progress → NodeFault → Type 0
 Leaves stores s (requests.Svcadm words) after e = SvcadmLeaves s.progress words after
 Leaves stores s (requests.Again count) after e =
     RepeatsUntilFault stores s.progress (last_delivered count s.progress) after e
 Leaves stores s _ after e = ⊥
 
 -- nothing was done, all was done and its text was not put, or it ended in mid-course
-pub record RequestFails (stores : RepoFault → Type 0) (s : Session) (request : Request) (after : Progress)
+pub record RequestFails (stores : RepoFault → Type 0) (s : Session) (request : NodeRequest) (after : Progress)
     (e : NodeFault) : Type 0 where
   pub may : MayEnd stores (asks_repository s request) e
   pub left : (after ≡ s.progress) ⊎ (after ≡ (effect_of s request).session.progress) ⊎ Leaves stores s request after e

@@ -1,4 +1,5 @@
 pub mod Session
 pub mod Failures
 pub mod Faults
+pub mod FaultTexts
 pub mod Script

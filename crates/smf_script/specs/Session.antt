@@ -1,5 +1,5 @@
 -- The effect of each line.
-use Rattle.std.specs.Prelude.{◌≡◌, ℕ, ◌==◌, List, [], ◌∷◌, ◌++◌, ◌&&◌, not, nat_lt, position, reverse, codes, Bool, true, false, if◌then◌else◌, is_none, is_some, Option, Some, None, Result, Ok, Err}
+use Rattle.std.specs.Prelude.{◌≡◌, ℕ, ◌==◌, List, [], ◌∷◌, ◌++◌, ◌&&◌, not, nat_lt, position, reverse, codes, Bool, true, false, if◌then◌else◌, is_none, is_ok, is_some, Option, Some, None, Result, Ok, Err}
 use Rattle.std.specs.List.{list_any}
 use Rattle.smf_admin.specs.Requests.{commands_of}
 use Rattle.smf_admin.specs.ListOptions.{needs_bodies, options_of}
@@ -28,14 +28,17 @@ use Rattle.smf_model.specs.declared.command.Edit.{Edit}
 use Rattle.smf_model.specs.declared.command.CommandReply.{CommandReply}
 use Rattle.smf_repo.specs.Refusals.{refusal}
 use Rattle.smf_words.specs.Text.{line_end, trail_text}
-use Rattle.smf_words.specs.declared.request.Request.{Request}
-use Rattle.smf_words.specs.declared.request.Request.TheVariants as requests
-use Rattle.smf_svccfg.specs.Judged.{fault_text, judgement_of}
+use Rattle.smf_words.specs.declared.request.NodeRequest.{NodeRequest}
+use Rattle.smf_words.specs.declared.request.NodeRequest.TheVariants as requests
+use Rattle.smf_cfg.specs.Runs.{failure_text}
+use Rattle.smf_cfg.specs.Sessions.{Done, at, ran}
+use Rattle.smf_cfg.specs.declared.fault.SessionFault.{SessionFault}
+use Rattle.smf_cfg.specs.declared.output.Output.{Output}
+use Rattle.smf_svccfg.specs.Judged.{judgement_of}
 use Rattle.smf_svccfg.specs.declared.fault.CfgFault.{CfgFault}
 use Rattle.smf_svccfg.specs.declared.selection.Judged.{Judged}
 use Rattle.smf_svccfg.specs.declared.selection.Judged.TheVariants as judgements
 use Rattle.smf_svccfg.specs.declared.selection.Selection.{Selection}
-use Rattle.smf_svccfg.specs.declared.selection.Selection.TheVariants.{Nothing}
 use Rattle.smf_world.specs.Schedule.{Progress, delivered_again, progress_with_loss, on, progress_with_refusals}
 use Rattle.smf_world.specs.Worked.{is_launched, work_of_event}
 use Rattle.smf_world.specs.declared.event.Event.TheVariants as events
@@ -223,47 +226,38 @@ with_selection s d = record { session = record { progress = d.progress; selectio
 
 -- ---- svccfg
 
-abbrev pub svccfg_name : List ℕ
-svccfg_name = codes "svccfg: "
+-- the node after a line that is judged so: an edit is an event of it
+abbrev pub progress_behind : Progress → Result Judged CfgFault → Progress
+progress_behind p (Ok (judgements.Edit edit after)) = on p (events.Client edit)
+progress_behind p _ = p
 
--- if the edit is accepted, `after` becomes the selection
-abbrev pub selected_behind : Selection → Selection → Bool → Selection
-selected_behind before after true = after
-selected_behind before after false = before
+-- what a line gave, or why it failed
+abbrev pub given_text : Result Output SessionFault → List ℕ
+given_text (Ok output) = output.text
+given_text (Err fault) = failure_text fault
 
-abbrev pub chosen_by : Selection → Selection → Deed → Effect
-chosen_by before after d = with_selection (selected_behind before after d.fine) d
+-- what svccfg makes of a line, with this node after it
+abbrev pub effect_of_done : Progress → Done → Effect
+effect_of_done p d = record {
+  session = record { progress = p; selection = d.left.selection };
+  text = given_text d.given;
+  fine = is_ok d.given;
+}
 
-unfoldable pub given_selected : Session → Edit → Selection → Effect
-given_selected s edit after = chosen_by s.selection after (deed_of_edit svccfg_name s.progress edit)
-
-abbrev pub svccfg_by : Session → Result Judged CfgFault → Effect
-svccfg_by s (Ok judgements.Nothing) = with_selection s.selection (success_deed s.progress [])
-svccfg_by s (Ok (judgements.Select found)) = with_selection found (success_deed s.progress [])
-svccfg_by s (Ok (judgements.Edit edit after)) = given_selected s edit after
-svccfg_by s (Ok (judgements.Print text)) = with_selection s.selection (success_deed s.progress text)
-svccfg_by s (Ok judgements.End) = with_selection Nothing (success_deed s.progress [])
-svccfg_by s (Err fault) =
-    with_selection s.selection (failure_deed s.progress (told_text svccfg_name (Some (fault_text fault))))
-
+-- the line is done by svccfg over the node, as over any client
 unfoldable pub svccfg : Session → List ℕ → Effect
-svccfg s line = svccfg_by s (judgement_of s.progress.world.now s.selection line)
+svccfg s line =
+    effect_of_done (progress_behind s.progress (judgement_of s.progress.world.now s.selection line))
+    (ran (at s.progress.world.now s.selection) line)
 
 -- ---- the line
 
 abbrev pub bad_line : List ℕ
 bad_line = codes "smf: bad line" ++ line_end
 
--- children have a part in what a line asks for
-abbrev pub asks_children : Request → Bool
-asks_children (requests.Process word what) = true
-asks_children (requests.Join word) = true
-asks_children (requests.Settle rounds) = true
-asks_children requests.Boot = true
-asks_children _ = false
-
--- the effect of a line in which children have no part; nothing is said here of the others
-unfoldable pub effect_of : Session → Request → Effect
+-- the effect of a line that asks something of the node alone
+unfoldable pub effect_of : Session → NodeRequest → Effect
+effect_of s requests.Nothing = with_selection s.selection (success_deed s.progress [])
 effect_of s (requests.Svccfg line) = svccfg s line
 effect_of s (requests.Svcadm words) = with_selection s.selection (svcadm s.progress words)
 effect_of s (requests.Svcs words) = with_selection s.selection (svcs s.progress words)
@@ -277,7 +271,6 @@ effect_of s (requests.Crash word) = with_selection s.selection (deed_of_crash s.
 effect_of s requests.Trail =
     with_selection s.selection (success_deed s.progress (trail_text (reverse s.progress.world.trail)))
 effect_of s requests.Bad = with_selection s.selection (failure_deed s.progress bad_line)
-effect_of s _ = with_selection s.selection (success_deed s.progress [])
 
 -- ---- how calls do it
 

@@ -2,8 +2,8 @@ ghost use Rattle.std.specs.Prelude.{◌≡◌, ◌⊎◌, [], ◌++◌, ◌∷�
 ghost use Rattle.std.specs.List.{list_any};
 ghost use Rattle.smf_admin.specs.Requests.{commands_of};
 ghost use Rattle.smf_repo.specs.Refusals.{refusal};
-ghost use Rattle.smf_words.specs.declared.request.Request.TheVariants as requests;
-ghost use Rattle.smf_script.specs.Session.{IsDeed, IsEffect, deed_of_command, asked_all, asks_children, success_deed, effect_of, deed_of_edit, given_selected, listing_of, settled_text, svcadm, svccfg, svccfg_name, svcs, told_text};
+ghost use Rattle.smf_words.specs.declared.request.NodeRequest.TheVariants as requests;
+ghost use Rattle.smf_script.specs.Session.{IsDeed, IsEffect, deed_of_command, asked_all, success_deed, effect_of, deed_of_edit, listing_of, settled_text, svcadm, svccfg, svcs, told_text};
 ghost use Rattle.smf_script.specs.Failures.{AreDone, DeedFails, MayEnd, RequestFails, SvcadmLeaves, give_edits, gives_edit};
 ghost use Rattle.smf_words.specs.Text.{trail_text};
 ghost use Rattle.smf_world.specs.Reached.{IsLater};
@@ -13,12 +13,13 @@ use smf_admin::{
     Asked, Listing, Options, commands_of, no_match_text, options_of, several_text, svcadm_usage,
     svcs_text, svcs_usage,
 };
+use smf_cfg::{SessionFault, run_line};
 use smf_fmri::{Items, Text};
 use smf_model::{CommandReply, Edit, Journal};
 use smf_node::{Node, NodeFault};
 use smf_repo::refusal_text;
-use smf_svccfg::{CfgFault, Judged, Selection, fault_text, judge};
-use smf_words::{Request, trail_text};
+use smf_svccfg::{Selection, fault_text};
+use smf_words::{NodeRequest, trail_text};
 use smf_world::Settled;
 use std::alloc::{AllocError, Global};
 
@@ -70,30 +71,6 @@ fn give<J: Journal>(
     Ok(fine)
 }
 
-/// Gives an edit of svccfg. If it is accepted, `after` becomes the selection.
-fn give_selected<J: Journal>(
-    alloc: Global,
-    node: &mut Node<J>,
-    selection: &mut Selection,
-    edit: Edit,
-    after: Selection,
-    out: &mut String,
-) -> Result<bool, NodeFault>
-    ensures exact { IfOk result
-        (λ fine. IsEffect (given_selected (record { progress = node.old; selection = selection.old }) edit after)
-        node.new selection.new (string_bytes out.old) (string_bytes out.new) fine) }
-    ensures later { IsLater node.old.world node.new.world }
-    ensures err { IfErr result
-        (λ e. DeedFails J.write_fails true node.old (deed_of_edit svccfg_name node.old edit) node.new e) }
-{
-    if give(alloc, node, edit, "svccfg: ", out)? {
-        *selection = after;
-        Ok(true)
-    } else {
-        Ok(false)
-    }
-}
-
 #[tactic(auto, unfolding(crate::specs::Session::svccfg))]
 fn svccfg<J: Journal>(
     alloc: Global,
@@ -110,27 +87,21 @@ fn svccfg<J: Journal>(
         (λ e. RequestFails J.write_fails (record { progress = node.old; selection = selection.old })
         (requests.Svccfg line.now) node.new e) }
 {
-    match judge(alloc, node.repository(), selection, line) {
-        Ok(Judged::Nothing) => Ok(true),
-        Ok(Judged::Select(found)) => {
-            *selection = found;
+    match run_line(alloc, node, selection, line) {
+        Ok(output) => {
+            out.push_str(output.text.as_str())?;
             Ok(true)
         }
-        Ok(Judged::Edit(edit, after)) => give_selected(alloc, node, selection, edit, after, out),
-        Ok(Judged::Print(text)) => {
-            out.push_str(text.as_str())?;
-            Ok(true)
-        }
-        Ok(Judged::End) => {
-            *selection = Selection::Nothing;
-            Ok(true)
-        }
-        Err(CfgFault::Memory) => Err(NodeFault::Memory),
-        Err(fault) => {
+        Err(SessionFault::Line(fault)) => {
             let words = fault_text(alloc, fault)?;
             put_line(out, "svccfg: ", words.as_str())?;
             Ok(false)
         }
+        Err(SessionFault::Refused(reply)) => {
+            report(alloc, &reply, "svccfg: ", out)?;
+            Ok(false)
+        }
+        Err(SessionFault::Repo(fault)) => Err(NodeFault::from(fault)),
     }
 }
 
@@ -270,29 +241,15 @@ fn put_trail<J: Journal>(alloc: Global, node: &Node<J>, out: &mut String) -> Res
     out.push_str(text.as_str())
 }
 
-/// Says whether children have a part in what a line asks for.
-pub fn asks_children(request: &Request) -> bool
-    ensures { result ≡ asks_children request.now }
-{
-    match request {
-        Request::Process { .. } => true,
-        Request::Join(_) => true,
-        Request::Settle(_) => true,
-        Request::Boot => true,
-        _ => false,
-    }
-}
-
-/// Does what a line asks for in which children have no part, puts its text, and gives back whether it did not fail.
+/// Does what a line asks of the node alone, puts its text, and gives back whether it did not fail.
 #[tactic(auto, unfolding(crate::specs::Session::effect_of, crate::specs::Session::progress_after_repeat))]
 pub fn run_request<J: Journal>(
     alloc: Global,
     node: &mut Node<J>,
     selection: &mut Selection,
-    request: &Request,
+    request: &NodeRequest,
     out: &mut String,
 ) -> Result<bool, NodeFault>
-    requires { asks_children request.now ≡ false }
     ensures exact { IfOk result
         (λ fine. IsEffect (effect_of (record { progress = node.old; selection = selection.old }) request.now) node.new
         selection.new (string_bytes out.old) (string_bytes out.new) fine) }
@@ -302,35 +259,31 @@ pub fn run_request<J: Journal>(
         node.new e) }
 {
     match request {
-        Request::Nothing => Ok(true),
-        Request::Svccfg(line) => svccfg(alloc, node, selection, line.as_str(), out),
-        Request::Svcadm(words) => svcadm(alloc, node, words.as_slice(), out),
-        Request::Svcs(words) => {
+        NodeRequest::Nothing => Ok(true),
+        NodeRequest::Svccfg(line) => svccfg(alloc, node, selection, line.as_str(), out),
+        NodeRequest::Svcadm(words) => svcadm(alloc, node, words.as_slice(), out),
+        NodeRequest::Svcs(words) => {
             let fine = svcs(alloc, node, words.as_slice(), out)?;
             Ok(fine)
         }
-        Request::Settle(_) => unreachable!(),
-        Request::Refuse(count) => {
+        NodeRequest::Refuse(count) => {
             node.refuse(*count);
             Ok(true)
         }
-        Request::Lose(count) => {
+        NodeRequest::Lose(count) => {
             node.lose(*count)?;
             Ok(true)
         }
-        Request::Again(count) => {
+        NodeRequest::Again(count) => {
             node.again(*count)?;
             Ok(true)
         }
-        Request::Process { .. } => unreachable!(),
-        Request::Timeout(word) => time_out(alloc, node, word, out),
-        Request::Join(_) => unreachable!(),
-        Request::Crash(word) => crash(alloc, node, word, out),
-        Request::Boot => unreachable!(),
-        Request::Trail => {
+        NodeRequest::Timeout(word) => time_out(alloc, node, word, out),
+        NodeRequest::Crash(word) => crash(alloc, node, word, out),
+        NodeRequest::Trail => {
             put_trail(alloc, node, out)?;
             Ok(true)
         }
-        Request::Bad => refuse(out, "smf: bad line\n"),
+        NodeRequest::Bad => refuse(out, "smf: bad line\n"),
     }
 }

@@ -1,3 +1,2 @@
-pub mod FaultTexts
 pub mod Runs
 pub mod Sims

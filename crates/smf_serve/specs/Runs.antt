@@ -22,7 +22,7 @@ use Rattle.smf_script.specs.declared.fault.ScriptFault.TheVariants.{Node}
 use Rattle.smf_script.specs.Faults.{IsWhy}
 use Rattle.smf_script.specs.Script.{first_session}
 use Rattle.smf_database.specs.Cfgs.{IsLeft, IsNotOpened}
-use Rattle.smf_serve.specs.FaultTexts.{fault_text}
+use Rattle.smf_script.specs.FaultTexts.{fault_text}
 use Rattle.smf_store.specs.Opens.{IsOpenedAs}
 use Rattle.smf_world.specs.declared.event.Event.TheVariants as events
 use Rattle.smf_world.specs.Happens.{happens}

@@ -1,12 +1,11 @@
 //! Runs of the program: all that `smf` does after it has read its words, with the status and the texts. A run is over
 //! any reader and writers, and over any open database if it takes one.
-//! Modules: `fault_texts` (why a run was ended), `sim` (a script in memory), `script` (a script over a database and
+//! Modules: `sim` (a script in memory), `script` (a script over a database and
 //! children), `copies` (a script over a copy of a database). `smf_database` has the runs without a script, and the open
 //! and the close of a database.
 #![tactic(auto)]
 
 mod copies;
-mod fault_texts;
 mod script;
 mod sim;
 

@@ -4,7 +4,6 @@ ghost use Rattle.sqlite.specs.Files.{over_files};
 ghost use Rattle.smf_database.specs.Closed.{IsClosedAfter, IsEndedAfter};
 ghost use Rattle.smf_serve.specs.Runs.{HasRunOver, IsCut, IsCutOff, IsDone, IsEnded, end_of};
 
-use crate::fault_texts::fault_text;
 use smf_cfg::tell;
 use smf_database::{Closed, Served, close, tell_open};
 use smf_edge::Kids;
@@ -12,7 +11,7 @@ use smf_lines::{LineReader, TextWriter};
 use smf_model::{Journal, Plain};
 use smf_node::{Node, NodeFault};
 use smf_run::{Leftover, end_all, run_script};
-use smf_script::ScriptFault;
+use smf_script::{ScriptFault, fault_text};
 use smf_store::open_repository;
 use sqlite::{Alter, Connection};
 use sqlite_disk::Disk;

@@ -10,7 +10,7 @@ use Rattle.smf_model.specs.Contents.{Holdings}
 use Rattle.smf_node.specs.declared.fault.NodeFault.TheVariants.{Memory}
 use Rattle.smf_script.specs.declared.fault.ScriptFault.{ScriptFault}
 use Rattle.smf_script.specs.declared.fault.ScriptFault.TheVariants.{Node}
-use Rattle.smf_server.specs.FaultTexts.{fault_text}
+use Rattle.smf_script.specs.FaultTexts.{fault_text}
 use Rattle.smf_server.specs.Life.{HasClosed, HasConcluded, HasStayed, IsOver, KeepsAgreement, is_uncut}
 use Rattle.smf_watch.specs.Traffic.{Passed, Asked, Told, reply_in}
 use Rattle.smf_world.specs.declared.item.Item.{Item}

@@ -18,7 +18,7 @@ use Rattle.smf_past.specs.Lives.{LeadsTo}
 use Rattle.smf_run.specs.Ends.{HasEndedAll}
 use Rattle.smf_run.specs.declared.ends.Leftover.{Leftover}
 use Rattle.smf_script.specs.declared.fault.ScriptFault.{ScriptFault}
-use Rattle.smf_server.specs.FaultTexts.{fault_text}
+use Rattle.smf_script.specs.FaultTexts.{fault_text}
 use Rattle.smf_world.specs.declared.event.Event.TheVariants as events
 use Rattle.smf_world.specs.declared.item.Item.{Item}
 use Rattle.smf_world.specs.Schedule.{begun_at}

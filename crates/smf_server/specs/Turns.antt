@@ -20,7 +20,8 @@ use Rattle.smf_script.specs.declared.fault.ScriptFault.{ScriptFault}
 use Rattle.smf_script.specs.declared.fault.ScriptFault.TheVariants.{Node}
 use Rattle.smf_script.specs.Script.{first_session}
 use Rattle.smf_server.specs.declared.server.Server.{Server}
-use Rattle.smf_server.specs.FaultTexts.{fault_line, fault_text}
+use Rattle.smf_script.specs.FaultTexts.{fault_text}
+use Rattle.smf_server.specs.FaultTexts.{fault_line}
 use Rattle.smf_contract.specs.Entries.{Contracts}
 use Rattle.smf_watch.specs.Loops.{hasty, lines_of, seen_by}
 use Rattle.smf_watch.specs.Remedies.{StopsAtOne, clears_of, marks_of, remedied}

@@ -12,7 +12,6 @@ mod life;
 mod server;
 mod turns;
 
-pub use fault_texts::fault_text;
 pub use law::{a_continued_life_agrees, turns_follow};
 pub use life::{Life, MOST_TURNS, Unborn, Uncontinued, continue_over, stay_over};
 pub use server::Server;

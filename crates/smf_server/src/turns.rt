@@ -11,7 +11,7 @@ ghost use Rattle.smf_watch.specs.Traffic.{Asked, LeavesNoMore, Passed, RepliesLa
 ghost use Rattle.smf_world.specs.Reached.{IsLater};
 ghost use Rattle.smf_past.specs.Begun.{IsSafeSince};
 
-use crate::fault_texts::{add_fault, fault_text};
+use crate::fault_texts::add_fault;
 use crate::server::Server;
 use smf_drive::drive;
 use smf_edge::Kids;
@@ -19,7 +19,7 @@ use smf_fmri::{Items, Text};
 use smf_model::Journal;
 use smf_node::{Node, NodeFault};
 use smf_run::run_script;
-use smf_script::ScriptFault;
+use smf_script::{ScriptFault, fault_text};
 use smf_watch::{
     Desk, Ender, Found, Onward, Remedy, ServerInput, Size, Timer, hear_all, is_same, lines_of,
     remedy_all, size_of,

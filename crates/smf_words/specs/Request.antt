@@ -11,8 +11,10 @@ use Rattle.smf_contract.specs.declared.event.Exit.TheVariants.{Code}
 use Rattle.smf_contract.specs.declared.event.Failure.TheVariants.{Core, Signal, Hwerr}
 use Rattle.smf_world.specs.declared.event.ProcessEvent.{ProcessEvent}
 use Rattle.smf_world.specs.declared.event.ProcessEvent.TheVariants as processes
+use Rattle.smf_words.specs.declared.request.ChildRequest.TheVariants as children
+use Rattle.smf_words.specs.declared.request.NodeRequest.TheVariants as nodes
 use Rattle.smf_words.specs.declared.request.Request.{Request}
-use Rattle.smf_words.specs.declared.request.Request.TheVariants as asks
+use Rattle.smf_words.specs.declared.request.Request.TheVariants.{Children, Node}
 
 -- ---- what stands after the first word
 
@@ -47,48 +49,48 @@ word_in _ = None
 -- ---- lines with a count
 
 abbrev pub settle_by : Option ℕ → Request
-settle_by (Some rounds) = asks.Settle rounds
-settle_by None = asks.Bad
+settle_by (Some rounds) = Children (children.Settle rounds)
+settle_by None = Node nodes.Bad
 
 abbrev pub refuse_by : Option ℕ → Request
-refuse_by (Some count) = asks.Refuse count
-refuse_by None = asks.Bad
+refuse_by (Some count) = Node (nodes.Refuse count)
+refuse_by None = Node nodes.Bad
 
 abbrev pub lose_by : Option ℕ → Request
-lose_by (Some count) = asks.Lose count
-lose_by None = asks.Bad
+lose_by (Some count) = Node (nodes.Lose count)
+lose_by None = Node nodes.Bad
 
 abbrev pub again_by : Option ℕ → Request
-again_by (Some count) = asks.Again count
-again_by None = asks.Bad
+again_by (Some count) = Node (nodes.Again count)
+again_by None = Node nodes.Bad
 
 -- ---- lines without arguments
 
 abbrev pub trail_line : List (List ℕ) → Request
-trail_line [] = asks.Trail
-trail_line _ = asks.Bad
+trail_line [] = Node nodes.Trail
+trail_line _ = Node nodes.Bad
 
 abbrev pub boot_line : List (List ℕ) → Request
-boot_line [] = asks.Boot
-boot_line _ = asks.Bad
+boot_line [] = Children children.Boot
+boot_line _ = Node nodes.Bad
 
 -- ---- lines with the word of an instance or a restarter
 
 abbrev pub timeout_by : Option (List ℕ) → Request
-timeout_by (Some word) = asks.Timeout word
-timeout_by None = asks.Bad
+timeout_by (Some word) = Node (nodes.Timeout word)
+timeout_by None = Node nodes.Bad
 
 abbrev pub join_by : Option (List ℕ) → Request
-join_by (Some word) = asks.Join word
-join_by None = asks.Bad
+join_by (Some word) = Children (children.Join word)
+join_by None = Node nodes.Bad
 
 abbrev pub crash_by : Option (List ℕ) → Request
-crash_by (Some word) = asks.Crash word
-crash_by None = asks.Bad
+crash_by (Some word) = Node (nodes.Crash word)
+crash_by None = Node nodes.Bad
 
 abbrev pub process_by : ProcessEvent → Option (List ℕ) → Request
-process_by what (Some word) = asks.Process word what
-process_by what None = asks.Bad
+process_by what (Some word) = Children (children.Process word what)
+process_by what None = Node nodes.Bad
 
 -- ---- exit FMRI CODE: a code is a byte
 
@@ -97,12 +99,12 @@ exit_of (Some code) = if nat_lt code 256 then Some (processes.Exit (Code code)) 
 exit_of None = None
 
 abbrev pub exit_by : List ℕ → Option ProcessEvent → Request
-exit_by word (Some what) = asks.Process word what
-exit_by word None = asks.Bad
+exit_by word (Some what) = Children (children.Process word what)
+exit_by word None = Node nodes.Bad
 
 abbrev pub exit_line : List (List ℕ) → Request
 exit_line (word ∷ code ∷ []) = exit_by word (exit_of (read_count code))
-exit_line _ = asks.Bad
+exit_line _ = Node nodes.Bad
 
 -- ---- the line by its first word
 
@@ -118,7 +120,7 @@ incident_request first arguments =
     else if pointwise nat_eq first (codes "join") then join_by (word_in arguments)
     else if pointwise nat_eq first (codes "crash") then crash_by (word_in arguments)
     else if pointwise nat_eq first (codes "boot") then boot_line arguments
-    else asks.Bad
+    else Node nodes.Bad
 
 -- a request to the schedule, or for its trail
 abbrev pub schedule_request : List ℕ → List (List ℕ) → Request
@@ -131,21 +133,21 @@ schedule_request first arguments =
     else incident_request first arguments
 
 abbrev pub asked_by : List ℕ → List (List ℕ) → Request
-asked_by text [] = asks.Nothing
+asked_by text [] = Node nodes.Nothing
 asked_by text (first ∷ arguments) =
-    if pointwise nat_eq first (codes "svccfg") then asks.Svccfg (behind_word (codes "svccfg") text)
-    else if pointwise nat_eq first (codes "svcadm") then asks.Svcadm arguments
-    else if pointwise nat_eq first (codes "svcs") then asks.Svcs arguments
+    if pointwise nat_eq first (codes "svccfg") then Node (nodes.Svccfg (behind_word (codes "svccfg") text))
+    else if pointwise nat_eq first (codes "svcadm") then Node (nodes.Svcadm arguments)
+    else if pointwise nat_eq first (codes "svcs") then Node (nodes.Svcs arguments)
     else schedule_request first arguments
 
 -- the request of a text; a comment has its sign as the first byte
 unfoldable pub asked_of : List ℕ → Request
-asked_of text = if is_comment text then asks.Nothing else asked_by text (words text)
+asked_of text = if is_comment text then Node nodes.Nothing else asked_by text (words text)
 
 -- ---- the line
 
 abbrev pub request_in : Option (List ℕ) → Request
-request_in None = asks.Bad
+request_in None = Node nodes.Bad
 request_in (Some text) = asked_of text
 
 -- the request of a line, which stands without its end; one that is too long or no text is a bad one

@@ -5,5 +5,5 @@
 mod request;
 mod text;
 
-pub use request::{Request, request_of};
+pub use request::{ChildRequest, NodeRequest, Request, request_of};
 pub use text::trail_text;

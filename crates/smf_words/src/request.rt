@@ -9,9 +9,9 @@ use smf_svccfg::words;
 use smf_world::ProcessEvent;
 use std::alloc::{AllocError, Global};
 
-/// The request of a line.
+/// What a line asks of the node alone.
 #[derive(Drop)]
-pub enum Request {
+pub enum NodeRequest {
     /// A blank line or a comment.
     Nothing,
     /// A line of svccfg.
@@ -20,25 +20,37 @@ pub enum Request {
     Svcadm(Items<Text>),
     /// The words after svcs.
     Svcs(Items<Text>),
-    /// So many rounds at most.
-    Settle(u64),
     /// The next so many spawns are refused.
     Refuse(u64),
     /// The message of this number is lost, among those that are sent from now on.
     Lose(u64),
     /// So many messages, the last that were delivered, are delivered again.
     Again(u64),
-    /// Something happens to a process of the instance that a word stands for.
-    Process { word: Text, what: ProcessEvent },
     /// A method of the instance that a word stands for takes too long.
     Timeout(Text),
-    /// The process of the instance that a word stands for is waited for.
-    Join(Text),
     /// The restarter of a name crashes.
     Crash(Text),
-    Boot,
     Trail,
     Bad,
+}
+
+/// What a line asks of the children of services, and of the node by what they answer.
+#[derive(Drop)]
+pub enum ChildRequest {
+    /// So many rounds at most.
+    Settle(u64),
+    /// Something happens to a process of the instance that a word stands for.
+    Process { word: Text, what: ProcessEvent },
+    /// The process of the instance that a word stands for is waited for.
+    Join(Text),
+    Boot,
+}
+
+/// The request of a line, by who does it.
+#[derive(Drop)]
+pub enum Request {
+    Node(NodeRequest),
+    Children(ChildRequest),
 }
 
 fn is_comment(text: &[u8]) -> bool
@@ -126,8 +138,8 @@ fn settle_by(count: Option<u64>) -> Request
     ensures { result ≡ settle_by count }
 {
     match count {
-        Some(rounds) => Request::Settle(rounds),
-        None => Request::Bad,
+        Some(rounds) => Request::Children(ChildRequest::Settle(rounds)),
+        None => Request::Node(NodeRequest::Bad),
     }
 }
 
@@ -135,8 +147,8 @@ fn refuse_by(count: Option<u64>) -> Request
     ensures { result ≡ refuse_by count }
 {
     match count {
-        Some(count) => Request::Refuse(count),
-        None => Request::Bad,
+        Some(count) => Request::Node(NodeRequest::Refuse(count)),
+        None => Request::Node(NodeRequest::Bad),
     }
 }
 
@@ -144,8 +156,8 @@ fn lose_by(count: Option<u64>) -> Request
     ensures { result ≡ lose_by count }
 {
     match count {
-        Some(count) => Request::Lose(count),
-        None => Request::Bad,
+        Some(count) => Request::Node(NodeRequest::Lose(count)),
+        None => Request::Node(NodeRequest::Bad),
     }
 }
 
@@ -153,8 +165,8 @@ fn again_by(count: Option<u64>) -> Request
     ensures { result ≡ again_by count }
 {
     match count {
-        Some(count) => Request::Again(count),
-        None => Request::Bad,
+        Some(count) => Request::Node(NodeRequest::Again(count)),
+        None => Request::Node(NodeRequest::Bad),
     }
 }
 
@@ -162,8 +174,8 @@ fn trail_line(arguments: &[Text]) -> Request
     ensures { result ≡ trail_line arguments.now }
 {
     match arguments {
-        [] => Request::Trail,
-        _ => Request::Bad,
+        [] => Request::Node(NodeRequest::Trail),
+        _ => Request::Node(NodeRequest::Bad),
     }
 }
 
@@ -171,8 +183,8 @@ fn boot_line(arguments: &[Text]) -> Request
     ensures { result ≡ boot_line arguments.now }
 {
     match arguments {
-        [] => Request::Boot,
-        _ => Request::Bad,
+        [] => Request::Children(ChildRequest::Boot),
+        _ => Request::Node(NodeRequest::Bad),
     }
 }
 
@@ -180,8 +192,8 @@ fn timeout_by(word: Option<Text>) -> Request
     ensures { result ≡ timeout_by word }
 {
     match word {
-        Some(word) => Request::Timeout(word),
-        None => Request::Bad,
+        Some(word) => Request::Node(NodeRequest::Timeout(word)),
+        None => Request::Node(NodeRequest::Bad),
     }
 }
 
@@ -189,8 +201,8 @@ fn join_by(word: Option<Text>) -> Request
     ensures { result ≡ join_by word }
 {
     match word {
-        Some(word) => Request::Join(word),
-        None => Request::Bad,
+        Some(word) => Request::Children(ChildRequest::Join(word)),
+        None => Request::Node(NodeRequest::Bad),
     }
 }
 
@@ -198,8 +210,8 @@ fn crash_by(word: Option<Text>) -> Request
     ensures { result ≡ crash_by word }
 {
     match word {
-        Some(word) => Request::Crash(word),
-        None => Request::Bad,
+        Some(word) => Request::Node(NodeRequest::Crash(word)),
+        None => Request::Node(NodeRequest::Bad),
     }
 }
 
@@ -207,8 +219,8 @@ fn process_by(what: ProcessEvent, word: Option<Text>) -> Request
     ensures { result ≡ process_by what word }
 {
     match word {
-        Some(word) => Request::Process { word, what },
-        None => Request::Bad,
+        Some(word) => Request::Children(ChildRequest::Process { word, what }),
+        None => Request::Node(NodeRequest::Bad),
     }
 }
 
@@ -227,11 +239,11 @@ fn exit_by(word: &Text, what: Option<ProcessEvent>) -> Result<Request, AllocErro
     ensures { IfOk result (λ request. request ≡ exit_by word.now what) }
 {
     match what {
-        Some(what) => Ok(Request::Process {
+        Some(what) => Ok(Request::Children(ChildRequest::Process {
             word: word.clone()?,
             what,
-        }),
-        None => Ok(Request::Bad),
+        })),
+        None => Ok(Request::Node(NodeRequest::Bad)),
     }
 }
 
@@ -240,7 +252,7 @@ fn exit_line(arguments: &[Text]) -> Result<Request, AllocError>
 {
     match arguments {
         [word, code] => exit_by(word, exit_of(read_count(code.as_str()))),
-        _ => Ok(Request::Bad),
+        _ => Ok(Request::Node(NodeRequest::Bad)),
     }
 }
 
@@ -270,7 +282,7 @@ fn incident_request(first: &str, arguments: &[Text]) -> Result<Request, AllocErr
     } else if first == "boot" {
         Ok(boot_line(arguments))
     } else {
-        Ok(Request::Bad)
+        Ok(Request::Node(NodeRequest::Bad))
     }
 }
 
@@ -297,16 +309,16 @@ fn asked_by(alloc: Global, text: &str, words: &[Text]) -> Result<Request, AllocE
     ensures { IfOk result (λ request. request ≡ asked_by text.now words.now) }
 {
     let [first, arguments @ ..] = words else {
-        return Ok(Request::Nothing);
+        return Ok(Request::Node(NodeRequest::Nothing));
     };
     let first = first.as_str();
     if first == "svccfg" {
         let line = Text::copy_of(alloc, behind_word("svccfg", text))?;
-        Ok(Request::Svccfg(line))
+        Ok(Request::Node(NodeRequest::Svccfg(line)))
     } else if first == "svcadm" {
-        Ok(Request::Svcadm(copies(alloc, arguments)?))
+        Ok(Request::Node(NodeRequest::Svcadm(copies(alloc, arguments)?)))
     } else if first == "svcs" {
-        Ok(Request::Svcs(copies(alloc, arguments)?))
+        Ok(Request::Node(NodeRequest::Svcs(copies(alloc, arguments)?)))
     } else {
         schedule_request(first, arguments)
     }
@@ -317,7 +329,7 @@ fn asked_of(alloc: Global, text: &str) -> Result<Request, AllocError>
     ensures { IfOk result (λ request. request ≡ asked_of text.now) }
 {
     if is_comment(text.as_bytes()) {
-        return Ok(Request::Nothing);
+        return Ok(Request::Node(NodeRequest::Nothing));
     }
     let words = words(alloc, text)?;
     asked_by(alloc, text, words.as_slice())
@@ -330,6 +342,6 @@ pub fn request_of(alloc: Global, line: &[u8]) -> Result<Request, AllocError>
 {
     match text_in(line) {
         Some(text) => asked_of(alloc, text),
-        None => Ok(Request::Bad),
+        None => Ok(Request::Node(NodeRequest::Bad)),
     }
 }

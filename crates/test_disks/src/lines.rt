@@ -1,8 +1,8 @@
 use smf_admin::{Asked, commands_of};
-use smf_cfg::{Session, SessionFault};
+use smf_cfg::{SessionFault, run_line};
 use smf_fmri::{InstanceFmri, Items, strip};
 use smf_model::{Command, Journal, Plain};
-use smf_svccfg::words;
+use smf_svccfg::{Selection, words};
 use smf_wire::{Message, decode};
 use std::alloc::Global;
 
@@ -55,7 +55,7 @@ fn command_of(alloc: Global, line: &str) -> Option<Command> {
 /// Does a line: one of svcadm, a command of a restarter or of the machine, or one of svccfg. True if it has a reply.
 pub(crate) fn do_line<J: Journal>(
     alloc: Global,
-    session: &mut Session,
+    selection: &mut Selection,
     repository: &mut Plain<J>,
     line: &str,
 ) -> bool {
@@ -65,7 +65,7 @@ pub(crate) fn do_line<J: Journal>(
     if let Some(command) = command_of(alloc, line) {
         return give(repository, &command);
     }
-    match session.run_line(alloc, repository, line) {
+    match run_line(alloc, repository, selection, line) {
         Err(SessionFault::Repo(_)) => false,
         _ => true,
     }

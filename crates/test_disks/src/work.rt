@@ -1,8 +1,8 @@
 use crate::lines::do_line;
 use crate::picture::picture;
-use smf_cfg::Session;
 use smf_model::{Journal, Plain};
 use smf_store::open_repository;
+use smf_svccfg::Selection;
 use sqlite::{Alter, Connection, Error};
 use std::alloc::Global;
 
@@ -20,9 +20,9 @@ pub(crate) struct Done<T, S> {
 
 /// Does lines up to one that has no reply, and gives back how many had one.
 fn do_lines<J: Journal>(alloc: Global, repository: &mut Plain<J>, lines: &[&str]) -> usize {
-    let mut session = Session::new();
+    let mut selection = Selection::Nothing;
     for (at, line) in lines.iter().enumerate() {
-        if !do_line(alloc, &mut session, repository, line) {
+        if !do_line(alloc, &mut selection, repository, line) {
             return at;
         }
     }

@@ -7,10 +7,10 @@ use smf_contract::{Contract, ContractTable, EventKind, Exit, Found};
 use smf_fmri::Text;
 use smf_model::{NoJournal, Plain};
 use smf_node::{ContinueFault, Node, NodeFault};
-use smf_script::{asks_children, run_request, settled_text};
+use smf_script::{run_request, settled_text};
 use smf_svccfg::{Selection, words};
 use smf_wire::{Message, encode};
-use smf_words::{Request, request_of, trail_text};
+use smf_words::{ChildRequest, Request, request_of, trail_text};
 use smf_world::Event;
 use std::alloc::{AllocError, Global};
 use std::fmt::Write;
@@ -288,16 +288,16 @@ impl Replay {
         out: &mut String,
     ) -> Result<(), NodeFault> {
         let request = request_of(alloc, text.as_bytes())?;
-        if let Request::Settle(rounds) = &request {
-            let how = self.node.settle(*rounds)?;
-            out.push_str(settled_text(how))?;
-            return Ok(());
+        match &request {
+            Request::Node(request) => {
+                run_request(alloc, &mut self.node, &mut self.selection, request, out)?;
+            }
+            Request::Children(ChildRequest::Settle(rounds)) => {
+                let how = self.node.settle(*rounds)?;
+                out.push_str(settled_text(how))?;
+            }
+            Request::Children(_) => out.push_str(BAD_LINE)?,
         }
-        if asks_children(&request) {
-            out.push_str(BAD_LINE)?;
-            return Ok(());
-        }
-        run_request(alloc, &mut self.node, &mut self.selection, &request, out)?;
         Ok(())
     }
 

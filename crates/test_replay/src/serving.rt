@@ -4,8 +4,8 @@
 
 use smf_edge::TableKids;
 use smf_model::{Journal, NoJournal, Plain};
-use smf_script::ScriptFault;
-use smf_server::{Life, Unborn, fault_text, stay_over};
+use smf_script::{ScriptFault, fault_text};
+use smf_server::{Life, Unborn, stay_over};
 use smf_watch::{Desk, Ender, ItemCount, ServerInput, Term, Timer};
 use std::alloc::Global;
 use std::io::{self, BufReader, Read};

@@ -1,5 +1,6 @@
 use Rattle.std.proofs.Common.{refl}
-use Rattle.smf_run.proofs.Effects.{passed_on, unread}
+use Rattle.smf_run.proofs.Effects.{unread}
+use Rattle.smf_script.proofs.May.{passed_on}
 use Rattle.smf_run.proofs.lines.run_line.Goals as goal
 
 pub returns-in_err-request-clause-err : goal.returns-in_err-request-clause-err

@@ -1,4 +1,4 @@
-use Rattle.smf_run.proofs.Effects.{passed_on}
+use Rattle.smf_script.proofs.May.{passed_on}
 use Rattle.smf_run.proofs.RoundFaults.{may_settle}
 use Rattle.smf_run.proofs.lines.settle.Goals as goal
 

@@ -1,7 +1,7 @@
 use Rattle.std.proofs.Common.{◌≡◌, ◌∷◌, ◌++◌, ◌∙◌, ap, arith}
 use Rattle.std.specs.Vec.Iter.{into_iter_items}
 use Rattle.std.proofs.lemmas.Grind.{common_steps}
-use Rattle.smf_script.proofs.Failures.{passed_on}
+use Rattle.smf_script.proofs.May.{passed_on}
 use Rattle.smf_script.specs.Failures.{gives_edit}
 use Rattle.smf_script.proofs.May.{may_more}
 use Rattle.smf_script.proofs.Deeds.{deed_first, deed_more, some_done}

@@ -1,11 +1,11 @@
 ghost use Rattle.std.specs.Prelude.{◌≡◌};
-ghost use Rattle.smf_serve.specs.FaultTexts.{fault_text, node_text};
+ghost use Rattle.smf_script.specs.FaultTexts.{fault_text, node_text};
 
+use crate::fault::ScriptFault;
 use smf_cfg::read_text;
 use smf_node::NodeFault;
-use smf_script::ScriptFault;
 
-pub(crate) fn node_text(fault: NodeFault) -> &'static str
+fn node_text(fault: NodeFault) -> &'static str
     ensures { result.now ≡ node_text fault }
 {
     match fault {
@@ -17,7 +17,8 @@ pub(crate) fn node_text(fault: NodeFault) -> &'static str
     }
 }
 
-pub(crate) fn fault_text(fault: &ScriptFault) -> &'static str
+/// Why a script ended before its last line, without the end of a line.
+pub fn fault_text(fault: &ScriptFault) -> &'static str
     ensures { result.now ≡ fault_text fault.now }
 {
     match fault {
