@@ -1,9 +1,9 @@
 -- Instances by their places in a view.
 use Rattle.std.proofs.Common.{◌≡◌, ◌+◌, ◌<◌, ◌==◌, ℕ, zero, suc, Bool, true, false, cond, List, [], ◌∷◌, ◌++◌, Option, Some, None, map, drop, get_or, length, refl, ap, sym, subst, ◌∙◌, append_assoc, drop-cons, add-one, arith}
-use Rattle.std.specs.Prelude.{find, flat_map, slice_get}
+use Rattle.std.specs.Prelude.{find, flat_map, option_map, slice_get}
 use Rattle.std.proofs.lemmas.Bool.Decides.{nat_tests}
 use Rattle.std.proofs.lemmas.List.{length-map}
-use Rattle.std.proofs.lemmas.Option.{slice_get_read}
+use Rattle.std.proofs.lemmas.Option.{slice_get-map, slice_get_read}
 use Rattle.smf_state.specs.declared.view.ViewItem.{ViewItem}
 use Rattle.smf_dep.specs.declared.member.GraphMember.{GraphMember}
 use Rattle.smf_dep.specs.Members.{member_of, members}
@@ -12,6 +12,10 @@ use Rattle.smf_provenance.specs.Groups.{at}
 
 pub member_count : (items : List ViewItem) → length items ≡ length (members items)
 member_count items = sym (length-map items member_of)
+
+pub placed_member : (items : List ViewItem) (k : ℕ) (i : ViewItem) → slice_get items k ≡ Some i
+    → slice_get (members items) k ≡ Some (member_of i)
+placed_member items k i e = slice_get-map member_of items k ∙ ap (option_map member_of) e
 
 -- ---- what is found of each instance
 
@@ -42,12 +46,16 @@ found_by false x rest e = absurd cc
 equal : (m n : ℕ) → m ≡ n → (m == n) ≡ true
 equal m n e = grind (arith, nat_tests)
 
--- the item at this place is the first that is about the instance
+-- the item at this place
+pub there : (items : List ViewItem) (k : ℕ) (x : ViewItem) → k < length items → x ≡ get_or items k x
+    → slice_get items k ≡ Some x
+there items k x lt at = slice_get_read items (length items) k x refl lt at
+
+-- it is the first that is about the instance
 pub here : (n : ℕ) (items : List ViewItem) (k : ℕ) (x : ViewItem) → k < length items → x ≡ get_or items k x
     → x.instance ≡ n → find (is_about n) (drop k items) ≡ find (is_about n) items
-    → slice_get items k ≡ find (is_about n) items
+    → find (is_about n) items ≡ Some x
 here n items k x lt at is so =
-    slice_get_read items (length items) k x refl lt at
-    ∙ sym (ap (find (is_about n)) (drop-cons items k x lt ∙ ap (λ y. y ∷ drop (suc k) items) (sym at))
+    sym so
+    ∙ (ap (find (is_about n)) (drop-cons items k x lt ∙ ap (λ y. y ∷ drop (suc k) items) (sym at))
     ∙ found_by (x.instance == n) x (find (is_about n) (drop (suc k) items)) (equal x.instance n is))
-    ∙ so

@@ -1,3 +1,6 @@
 pub mod Claims
 pub mod Groups
+pub mod Ordered
 pub mod Started
+pub mod Stopped
+pub mod Values

@@ -1,7 +1,8 @@
-//! On what evidence an instance was started.
+//! On what evidence instances were started and stopped.
 //! Modules: `evidence` has evidence as values. `scene` is a view with its graph, and follows the messages of the
-//! repository. `groups` has the dependency groups of an instance with those that they cite, and `start` the evidence of a
-//! start. `law` says that each start of a safe trail has evidence, which holds.
+//! repository. `groups` has the dependencies of an instance with those that they cite. `start` has the evidence of a start,
+//! and `stop` that of an order to stop. `law` says that each start of a safe trail and each order to stop has evidence,
+//! which holds, and that messages show values of the history.
 #![tactic(auto)]
 
 mod evidence;
@@ -9,8 +10,13 @@ mod groups;
 mod law;
 mod scene;
 mod start;
+mod stop;
 
-pub use evidence::{Cited, GroupEvidence, StartEvidence};
-pub use law::every_start_has_evidence;
+pub use evidence::{
+    Ask, Cited, EventKind, GroupEvidence, GroupStop, StartEvidence, StopEvent, StopEvidence,
+    StopReason,
+};
+pub use law::{every_start_has_evidence, every_stop_has_evidence, messages_show_values};
 pub use scene::Scene;
 pub use start::start_evidence;
+pub use stop::stop_evidence;

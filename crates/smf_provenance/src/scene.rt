@@ -1,6 +1,6 @@
 ghost use Rattle.std.specs.Option.{option_copied};
 ghost use Rattle.std.specs.Prelude.{◌≡◌, ◌++◌, IfOk, IfSome, None, OnOk, Some, find, flat_map, if◌then◌else◌, length, nat_lt, slice_get};
-ghost use Rattle.smf_dep.specs.Members.{members};
+ghost use Rattle.smf_dep.specs.Members.{member_of, members};
 ghost use Rattle.smf_dep.specs.Verdicts.{is_met};
 ghost use Rattle.smf_engine.specs.Orders.{is_about, with_changes};
 ghost use Rattle.smf_provenance.specs.Groups.{at, cited_as, cited_by, cited_for, cited_if, last_stop, says_met};
@@ -41,14 +41,22 @@ impl Model for Scene {
     ghost invariant = { λ s. s.graph ≡ members s.view.items };
 }
 
-/// The place of an instance in the items of a view.
-pub(crate) fn place_of(items: &[ViewItem], instance: u64) -> Option<usize>
-    ensures found { IfSome result (λ place. slice_get items.now place ≡ find (is_about instance) items.now) }
+/// An item of a view, with its place.
+#[derive(Clone, Copy)]
+pub(crate) struct Placed<'a> {
+    pub(crate) place: usize,
+    pub(crate) item: &'a ViewItem,
+}
+
+/// The item of an instance.
+pub(crate) fn find_item(items: &[ViewItem], instance: u64) -> Option<Placed<'_>>
+    ensures there { IfSome result (λ p. slice_get items.now p.place ≡ Some p.item.now) }
+    ensures found { IfSome result (λ p. find (is_about instance) items.now ≡ Some p.item.now) }
     ensures none { result ≡ None → find (is_about instance) items.now ≡ None }
 {
     for (place, item) in items.iter().enumerate() {
         if item.instance == instance {
-            return Some(place);
+            return Some(Placed { place, item });
         }
     }
     None
@@ -167,6 +175,18 @@ impl Scene {
             None => None,
             Some(read) => Some(read.member()),
         }
+    }
+
+    /// The instance of an item at a place.
+    #[tactic(auto, using(crate::proofs::Places::placed_member))]
+    pub(crate) fn member_at(&self, place: usize, item: &ViewItem) -> &GraphMember
+        requires { slice_get self.now.items place ≡ Some item.now }
+        ensures { result.now ≡ member_of item.now }
+    {
+        let Some(member) = self.member(place) else {
+            unreachable!()
+        };
+        member
     }
 
     pub(crate) fn is_met(

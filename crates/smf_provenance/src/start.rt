@@ -6,7 +6,7 @@ ghost use Rattle.smf_provenance.specs.Started.{by_member, is_of, readable_method
 
 use crate::evidence::StartEvidence;
 use crate::groups::all_groups;
-use crate::scene::{Scene, place_of};
+use crate::scene::{Scene, find_item};
 use smf_contract::Method;
 use smf_dep::GraphMember;
 use smf_method::{MethodCall, MethodFault, ReadMethod};
@@ -79,7 +79,7 @@ fn by_member(
 
 /// On what evidence a start of an instance was decided on a revision, by the view of that revision. None by another view,
 /// and if the instance or its start method is not there.
-#[tactic(auto, unfolding(crate::specs::Started::start_evidence))]
+#[tactic(auto, using(crate::proofs::Seen::other_start, crate::proofs::Seen::no_start, crate::proofs::Seen::that_start))]
 pub fn start_evidence(
     alloc: Global,
     scene: &Scene,
@@ -91,14 +91,12 @@ pub fn start_evidence(
     if scene.revision() != revision {
         return Ok(None);
     }
-    let items = scene.items();
-    let Some(place) = place_of(items, instance) else {
+    let Some(placed) = find_item(scene.items(), instance) else {
         return Ok(None);
     };
-    match (items.get(place), scene.member(place)) {
-        (Some(item), Some(member)) => by_member(alloc, scene, revision, item, member),
-        _ => Ok(None),
-    }
+    let member = scene.member_at(placed.place, placed.item);
+    let evidence = by_member(alloc, scene, revision, placed.item, member)?;
+    Ok(evidence)
 }
 
 impl StartEvidence {

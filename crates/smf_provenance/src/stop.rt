@@ -7,7 +7,7 @@ ghost use Rattle.smf_provenance.specs.Stopped.{all_stops, asked_stops, enabled_r
 
 use crate::evidence::{Ask, EventKind, GroupStop, StopEvent, StopEvidence, StopReason};
 use crate::groups::read_alone;
-use crate::scene::{Scene, place_of};
+use crate::scene::{Scene, find_item};
 use bitflags::Flags;
 use smf_dep::{Dependency, DependencyFault, GraphMember, Grouping, RestartOn};
 use smf_fmri::{Fmri, Items};
@@ -303,6 +303,7 @@ fn stop_reason(
     Ok(reason_by(first_ask(&item.row), item.enabled, to, groups))
 }
 
+#[tactic(auto, using(crate::proofs::Seen::other_stop, crate::proofs::Seen::no_stop, crate::proofs::Seen::that_stop))]
 fn stop_by_view(
     alloc: Global,
     scene: &Scene,
@@ -316,25 +317,20 @@ fn stop_by_view(
     if scene.revision() != revision {
         return Ok(None);
     }
-    let items = scene.items();
-    let Some(place) = place_of(items, instance) else {
+    let Some(placed) = find_item(scene.items(), instance) else {
         return Ok(None);
     };
-    match (items.get(place), scene.member(place)) {
-        (Some(item), Some(member)) => {
-            let name = item.name.clone()?;
-            let reason = stop_reason(alloc, scene, item, member, to)?;
-            Ok(Some(StopEvidence {
-                instance: item.instance,
-                name,
-                revision,
-                to,
-                cause,
-                reason,
-            }))
-        }
-        _ => Ok(None),
-    }
+    let member = scene.member_at(placed.place, placed.item);
+    let name = placed.item.name.clone()?;
+    let reason = stop_reason(alloc, scene, placed.item, member, to)?;
+    Ok(Some(StopEvidence {
+        instance: placed.item.instance,
+        name,
+        revision,
+        to,
+        cause,
+        reason,
+    }))
 }
 
 /// On what evidence an order to stop was decided, by the view of the revision that the order names. None by another view,

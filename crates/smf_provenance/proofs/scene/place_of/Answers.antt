@@ -1,7 +1,0 @@
-use Rattle.smf_provenance.proofs.Places.{here}
-use Rattle.smf_provenance.proofs.scene.place_of.Goals as goal
-
-pub returns-then-item-instance-clause-found : goal.returns-then-item-instance-clause-found
-returns-then-item-instance-clause-found c =
-    here c.args.instance c.args.items.now c.loop-place.place c.index-items-place.result c.loop-place-test.true
-    c.index-items-place.is c.if-item-instance.true c.loop-place.invariant
