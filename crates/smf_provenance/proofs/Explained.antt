@@ -72,14 +72,17 @@ one_asked : (ms : List GraphMember) (gs : List GroupRecord) (g : GroupRecord) �
     → AllGroups ms gs (group_read ms g.name (before r (Ok []))) × AllOk ms rest
 one_asked ms gs g among (Ok d) (Ok ds) e q =
     let parts = and_parts (is_met ms d) (list_all (is_met ms) ds) q in (
-      (record {
-        group = g;
-        among = among;
-        named = named_as ms (Some g.name) d;
-        dependency = d;
-        asked = e;
-        met = told_met ms (Some g.name) d parts.0;
-      }, tt),
+      (
+        record {
+          group = g;
+          among = among;
+          named = named_as ms (Some g.name) d;
+          dependency = d;
+          asked = e;
+          met = told_met ms (Some g.name) d parts.0;
+        },
+        tt,
+      ),
       parts.1,
     )
 one_asked ms gs g among (Ok d) (Err fault) e q = absurd q

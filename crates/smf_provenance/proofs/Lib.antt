@@ -1,4 +1,5 @@
 pub mod Decided
+pub mod Enabling
 pub mod Explained
 pub mod Halted
 pub mod Places

@@ -241,7 +241,7 @@ restarter_never ms base owner = by (pointwise nat_eq owner startd)
     by : (b : Bool)
         → list_any (does_stop ms base)
         (if b then []
-         else record { grouping = RequireAll; restart_on = restarts.Nothing; entities = owner ∷ [] } ∷ [])
+        else record { grouping = RequireAll; restart_on = restarts.Nothing; entities = owner ∷ [] } ∷ [])
         ≡ false
     by true = refl
     by false = ap (λ b. b || false || false) (nobody base (members_of_entity ms owner))

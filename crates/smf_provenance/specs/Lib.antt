@@ -1,4 +1,5 @@
 pub mod Claims
+pub mod Enabled
 pub mod Groups
 pub mod Ordered
 pub mod Started

@@ -103,3 +103,14 @@ pub struct StopEvidence {
     pub cause: Cause,
     pub reason: StopReason,
 }
+
+/// The group whose property `enabled` says whether an instance is enabled.
+#[derive(Clone, Copy, PartialEq, Eq)]
+pub enum EnabledBy {
+    /// `general_ovr` of the instance.
+    Override,
+    /// `general` of the instance.
+    Own,
+    /// `general` of its service.
+    OfService,
+}

@@ -6,7 +6,9 @@ ghost use Rattle.smf_world.specs.World.{World};
 ghost use Rattle.smf_provenance.specs.Claims.{StartsExplained};
 ghost use Rattle.smf_provenance.specs.Ordered.{StopsExplained};
 ghost use Rattle.smf_provenance.specs.Values.{ChangesShow, OrderShows, ViewShows};
-ghost use Rattle.std.specs.Prelude.{ℕ};
+ghost use Rattle.smf_provenance.specs.Enabled.{NamesDeciding};
+ghost use Rattle.smf_value.specs.Groups.{GroupRecord as AnyGroup};
+ghost use Rattle.std.specs.Prelude.{ℕ, Option};
 
 /// Each start of a safe trail has evidence, by the history's value at the revision that its item names. Each line of it
 /// holds, by the definitions that decide.
@@ -27,4 +29,9 @@ pub fn messages_show_values()
     ensures view { (w : World) (place : ℕ) (v : AnyView) → ViewShows w place v }
     ensures changes { (w : World) (place : ℕ) (c : AnyChanges) (v after : AnyView) → ChangesShow w place c v after }
     ensures order { (w : World) (place : ℕ) (o : AnyOrder) → OrderShows w place o }
+{}
+
+/// The group that is named as the one that says whether an instance is enabled has the property that decides it.
+pub fn the_named_property_decides()
+    ensures { (ovr own services_own : Option AnyGroup) → NamesDeciding ovr own services_own }
 {}

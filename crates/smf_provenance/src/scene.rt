@@ -189,11 +189,7 @@ impl Scene {
         member
     }
 
-    pub(crate) fn is_met(
-        &self,
-        alloc: Global,
-        dependency: &Dependency,
-    ) -> Result<bool, AllocError>
+    pub(crate) fn is_met(&self, alloc: Global, dependency: &Dependency) -> Result<bool, AllocError>
         ensures { IfOk result (λ b. b ≡ is_met (members self.now.items) dependency.now) }
     {
         is_met(alloc, &self.graph, dependency)

@@ -110,9 +110,7 @@ impl StartEvidence {
                 method,
                 revision,
                 ..
-            } => {
-                is_start(*method) && *instance == self.instance && *revision == self.revision
-            }
+            } => { is_start(*method) && *instance == self.instance && *revision == self.revision }
             Item::Committed { .. } => false,
             Item::Held { .. } => false,
             Item::Emptied(_) => false,

@@ -240,7 +240,14 @@ fn put_group(
 {
     match read_alone(alloc, group) {
         Ok(dependencies) => {
-            put_asked(alloc, scene, base, group.name(), dependencies.as_slice(), all)
+            put_asked(
+                alloc,
+                scene,
+                base,
+                group.name(),
+                dependencies.as_slice(),
+                all,
+            )
         }
         Err(DependencyFault::Memory) => Err(AllocError),
         Err(DependencyFault::BadGrouping) => Ok(()),
@@ -266,12 +273,7 @@ fn all_stops(
     Ok(all)
 }
 
-fn reason_by(
-    ask: Option<Ask>,
-    is_enabled: bool,
-    to: State,
-    groups: Items<GroupStop>,
-) -> StopReason
+fn reason_by(ask: Option<Ask>, is_enabled: bool, to: State, groups: Items<GroupStop>) -> StopReason
     ensures { result ≡ reason_by ask is_enabled to groups }
 {
     if let Some(ask) = ask {
