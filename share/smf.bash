@@ -34,7 +34,7 @@ _smf_files() {
 
 _smf_svcs() {
     case $1 in
-    -*) _smf_offer "$1" -H -a -d -D -L -j -l -o -p -R -s -S -v -x --well --follow --metrics --trail ;;
+    -*) _smf_offer "$1" -H -a -d -D -L -j -l -o -p -R -s -S -v -x --well --why --follow --metrics --trail ;;
     *) _smf_offer "$1" "$(_smf_names "$1")" ;;
     esac
 }

@@ -2,6 +2,7 @@
 use crate::boots::note_boot;
 use crate::contracts::write_whole;
 use crate::retries::RetryFile;
+use crate::why::WhyFile;
 use smf_fmri::{InstanceFmri, Items};
 use smf_model::Journal;
 use smf_node::Node;
@@ -15,7 +16,8 @@ use std::alloc::{AllocError, Global};
 use std::rt::HostRuntime;
 use std::{fs, io};
 
-/// A file in the folder of contracts, by which `svcs -x` knows why instances are in maintenance.
+/// A file in the folder of contracts, by which `svcs -x` knows why instances are in maintenance. It has the files beside it
+/// written that tell of retries, and of starts and stops.
 #[derive(Drop)]
 pub struct CauseFile<'a> {
     rt: &'a HostRuntime,
@@ -29,6 +31,7 @@ pub struct CauseFile<'a> {
     boots: bool,
     causes: Causes,
     retries: RetryFile<'a>,
+    why: WhyFile<'a>,
 }
 
 /// What tells why instances are in maintenance: a node, the instances that are tried again, and the flaws of the node's
@@ -134,7 +137,13 @@ fn put_line<J: Journal>(
 }
 
 impl<'a> CauseFile<'a> {
-    fn new(rt: &'a HostRuntime, room: &'a str, older: String, boots: bool) -> CauseFile<'a> {
+    fn new(
+        rt: &'a HostRuntime,
+        room: &'a str,
+        older: String,
+        why: WhyFile<'a>,
+        boots: bool,
+    ) -> CauseFile<'a> {
         CauseFile {
             rt,
             room,
@@ -143,6 +152,7 @@ impl<'a> CauseFile<'a> {
             boots,
             causes: Causes::new(rt.alloc()),
             retries: RetryFile::new(rt, room),
+            why,
         }
     }
 
@@ -209,6 +219,7 @@ impl<'a> Chronicle for CauseFile<'a> {
         if let Ok(plans) = plans_of(self.rt.alloc(), node.repository(), retries) {
             let _written = self.retries.write(&plans);
         }
+        let _written = self.why.tell(items, node);
     }
 }
 
@@ -241,7 +252,13 @@ fn first_lines(alloc: Global, text: &str) -> Result<String, AllocError> {
 
 /// The file in a room, for a server that boots.
 pub fn new_causes<'a>(rt: &'a HostRuntime, room: &'a str) -> CauseFile<'a> {
-    CauseFile::new(rt, room, String::new(rt.alloc()), true)
+    CauseFile::new(
+        rt,
+        room,
+        String::new(rt.alloc()),
+        WhyFile::new(rt, room),
+        true,
+    )
 }
 
 /// The file in a room, for a server that goes on: the causes that an older life has written stay.
@@ -252,5 +269,6 @@ pub fn older_causes<'a>(rt: &'a HostRuntime, room: &'a str) -> io::Result<CauseF
         Err(fault) if fault.kind() == io::ErrorKind::NotFound => String::new(rt.alloc()),
         Err(fault) => return Err(fault),
     };
-    Ok(CauseFile::new(rt, room, older, false))
+    let why = WhyFile::older(rt, room)?;
+    Ok(CauseFile::new(rt, room, older, why, false))
 }

@@ -3,7 +3,8 @@
 //! room of contracts), `groups` (its control groups), `children` (the list of children beside a database).
 //! A server has `folder` (who has a folder alone), `desk` (requests in a folder), `pipe` (by which it is called), `pace`
 //! (when it ticks), `stop` (how all services stop), `ender` (how contracts are ended), `causes` (why instances are in maintenance), `retries` (which are
-//! tried again), `boots` (whether it boots or goes on), `timer` (the clock).
+//! tried again), `why` (on what evidence instances were started and stopped), `boots` (whether it boots or goes on), `timer`
+//! (the clock).
 #![tactic(auto)]
 
 mod boots;
@@ -21,6 +22,7 @@ mod pipe;
 mod retries;
 mod stop;
 mod timer;
+mod why;
 
 pub use boots::{forget_boot, has_booted};
 pub use causes::{CauseFile, new_causes, older_causes};
