@@ -32,8 +32,9 @@ use Rattle.smf_world.specs.Safe.{IsReady, IsSafe, IsWellDecided, StartDecided, S
 use Rattle.smf_world.specs.World.{World}
 use Rattle.smf_provenance.specs.declared.evidence.GroupEvidence.{GroupEvidence}
 use Rattle.smf_provenance.specs.declared.evidence.StartEvidence.{StartEvidence}
-use Rattle.smf_provenance.specs.Claims.{IsAmong, IsDependencyMet, IsExplained, IsGroupMet, IsRestarterMet, IsToldMet, StartExplained, StartHolds, StartsExplained}
+use Rattle.smf_provenance.specs.Claims.{AllTold, IsAmong, IsDependencyMet, IsExplained, IsGroupMet, IsRestarterMet, IsToldMet, StartExplained, StartHolds, StartsExplained}
 use Rattle.smf_provenance.specs.Groups.{all_groups, group_read, group_told, of_group, of_restarter}
+use Rattle.smf_provenance.proofs.Told.{group_asked}
 use Rattle.smf_provenance.specs.Started.{by_item, by_member, by_method, is_of, readable_method, start_evidence}
 
 -- ---- the groups of an instance whose dependencies are met
@@ -167,6 +168,38 @@ dependencies_met ms i e =
     (later (IsRestarterMet ms i.row.owner) (IsDependencyMet ms i) (λ x a. inr a) (of_restarter ms i.row.owner)
     (restarter_met ms i.row.owner parts.1))
 
+-- ---- each is told
+
+among_left : {X : Type 0} (x : X) (xs ys : List X) → IsAmong x xs → IsAmong x (xs ++ ys)
+among_left x [] ys a = absurd a
+among_left x (y ∷ xs) ys (inl e) = inl e
+among_left x (y ∷ xs) ys (inr a) = inr (among_left x xs ys a)
+
+among_right : {X : Type 0} (x : X) (xs ys : List X) → IsAmong x ys → IsAmong x (xs ++ ys)
+among_right x [] ys a = a
+among_right x (y ∷ xs) ys a = inr (among_right x xs ys a)
+
+told_alone : (ms : List GraphMember) (g : GroupRecord) (d : Dependency) → read_groups (g ∷ []) ≡ Ok (d ∷ [])
+    → IsAmong (group_told ms (Some g.name) d) (of_group ms g)
+told_alone ms g d e =
+    subst (IsAmong (group_told ms (Some g.name) d)) (sym (group_asked ms g (d ∷ []) e)) (inl refl)
+
+told_among : (ms : List GraphMember) (gs : List GroupRecord) (g : GroupRecord) (d : Dependency) → IsAmong g gs
+    → read_groups (g ∷ []) ≡ Ok (d ∷ []) → IsAmong (group_told ms (Some g.name) d) (flat_map (of_group ms) gs)
+told_among ms [] g d a e = absurd a
+told_among ms (h ∷ gs) g d (inl same) e =
+    among_left (group_told ms (Some g.name) d) (of_group ms h) (flat_map (of_group ms) gs)
+    (subst (λ (x : GroupRecord). IsAmong (group_told ms (Some g.name) d) (of_group ms x)) (sym same)
+    (told_alone ms g d e))
+told_among ms (h ∷ gs) g d (inr a) e =
+    among_right (group_told ms (Some g.name) d) (of_group ms h) (flat_map (of_group ms) gs)
+    (told_among ms gs g d a e)
+
+all_told : (ms : List GraphMember) (gs : List GroupRecord) (owner : List ℕ) → AllTold ms gs (all_groups ms gs owner)
+all_told ms gs owner g d a e =
+    among_left (group_told ms (Some g.name) d) (flat_map (of_group ms) gs) (of_restarter ms owner)
+    (told_among ms gs g d a e)
+
 -- ---- a start
 
 revision_of : (y : History) (n : ℕ) (h : Holdings) → value_at y n ≡ Some h → (h.revision == n) ≡ true
@@ -234,6 +267,7 @@ explained y trail contract i run revision command d =
         enabled = r.enabled;
         shown = r.enabled;
         met = dependencies_met (members (view h).items) r.item r.met;
+        all = all_told (members (view h).items) (member_of r.item).composed r.item.row.owner;
         command_is = r.command_of;
         snapshot = refl;
       };

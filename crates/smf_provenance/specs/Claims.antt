@@ -18,7 +18,7 @@ use Rattle.smf_world.specs.declared.item.Item.TheVariants.{Spawned}
 use Rattle.smf_world.specs.Safe.{is_start}
 use Rattle.smf_provenance.specs.declared.evidence.GroupEvidence.{GroupEvidence}
 use Rattle.smf_provenance.specs.declared.evidence.StartEvidence.{StartEvidence}
-use Rattle.smf_provenance.specs.Groups.{cited_by}
+use Rattle.smf_provenance.specs.Groups.{cited_by, group_told}
 use Rattle.smf_provenance.specs.Started.{is_of, start_evidence}
 
 -- ---- a dependency that is met
@@ -54,6 +54,12 @@ pub record IsRestarterMet (ms : List GraphMember) (owner : List ℕ) (e : GroupE
 abbrev pub IsDependencyMet : List GraphMember → ViewItem → GroupEvidence → Type 0
 IsDependencyMet ms i e = IsGroupMet ms (member_of i).composed e ⊎ IsRestarterMet ms i.row.owner e
 
+-- each of the groups that asks for a dependency is told
+abbrev pub AllTold : List GraphMember → List GroupRecord → List GroupEvidence → Type 0
+AllTold ms gs told =
+    (g : GroupRecord) (d : Dependency) → IsAmong g gs → read_groups (g ∷ []) ≡ Ok (d ∷ [])
+    → IsAmong (group_told ms (Some g.name) d) told
+
 -- ---- a start
 
 -- at the revision the value showed the instance enabled, with each dependency met, and this was the command of its start
@@ -68,6 +74,7 @@ pub record StartHolds (h : Holdings) (i revision : ℕ) (command : List ℕ) (e 
   pub enabled : e.is_enabled ≡ true
   pub shown : item.enabled ≡ true
   pub met : AllByRecursion (IsDependencyMet (members (view h).items) item) e.groups
+  pub all : AllTold (members (view h).items) (member_of item).composed e.groups
   pub command_is : e.command ≡ command
   pub snapshot : e.snapshot ≡ item.row.running
 

@@ -1,8 +1,8 @@
 //! On what evidence instances were started and stopped.
-//! Modules: `evidence` has evidence as values, and `enabled` which property says whether an instance is enabled. `scene` is a view with its graph, and follows the messages of the
-//! repository. `groups` has the dependencies of an instance with those that they cite. `start` has the evidence of a start,
-//! and `stop` that of an order to stop. `law` says that each start of a safe trail and each order to stop has evidence,
-//! which holds, and that messages show values of the history.
+//! Modules: `evidence` has evidence as values. `scene` is a view with its graph, and follows the messages of the repository.
+//! `groups` has the dependencies of an instance with those that they cite. `start` has the evidence of a start, and `stop`
+//! that of an order to stop. `enabled` finds which property says whether an instance is enabled. `law` says that each start
+//! of a safe trail and each order to stop has evidence, which holds, and that messages show values of the history.
 #![tactic(auto)]
 
 mod enabled;
