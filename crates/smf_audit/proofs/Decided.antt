@@ -34,7 +34,7 @@ same_itself Maintenance = refl
 pub state_decides : (a b : State) → Decides (same_state a b) (a ≡ b)
 state_decides a b = (same_is a b, λ e. let P : State → Type 0 = λ s. same_state a s ≡ true in subst P e (same_itself a))
 
-follow_decides : (booted : Bool) (before after : State)
+pub follow_decides : (booted : Bool) (before after : State)
     → Decides (state_follows booted before after) (StateFollows booted before after)
 follow_decides true before after = state_decides after Uninitialized
 follow_decides false before after =
@@ -49,7 +49,7 @@ row_decides (Some l) number state =
 
 -- ---- live starts
 
-false_decides : Decides false ⊥
+pub false_decides : Decides false ⊥
 false_decides = (λ e. cc, λ z. absurd z)
 
 pub live_decides : (i : ℕ) (ls : List LiveStart) → Decides (is_live_in i ls) (IsLiveIn i ls)

@@ -5,7 +5,7 @@ use Rattle.std.proofs.lemmas.List.{append-nil, reverse-append}
 use Rattle.std.proofs.lemmas.Bool.{both_ways, not-false, not-true}
 use Rattle.std.proofs.lemmas.Bool.Decides.{not_from_Decides}
 use Rattle.smf_audit.specs.declared.rule.Rule.{Rule}
-use Rattle.smf_audit.specs.declared.rule.Rule.TheVariants.{TwoLive, HeldUncommitted, CommittedTwice, OffTheDiagram}
+use Rattle.smf_audit.specs.declared.rule.Rule.TheVariants.{FoundLate, TwoLive, HeldUncommitted, CommittedTwice, OffTheDiagram}
 use Rattle.smf_audit.specs.declared.rule.Breach.{Breach}
 use Rattle.smf_world.specs.declared.item.Item.{Item}
 use Rattle.smf_world.specs.declared.item.Item.TheVariants.{Boot, Committed, Held, Spawned, Emptied}
@@ -90,6 +90,7 @@ none_told false false false true e = absurd cc
 none_told false false false false e = record { one = refl; held = refl; once = refl; diagram = refl }
 
 abbrev test_of : Bool → Bool → Bool → Bool → Rule → Bool
+test_of a b c d FoundLate = false
 test_of a b c d TwoLive = a
 test_of a b c d HeldUncommitted = b
 test_of a b c d CommittedTwice = c
@@ -135,6 +136,7 @@ broken_by : (trail : List Item) (x : Item) (rule : Rule)
     → test_of (has_two_live trail x) (is_held_uncommitted trail x) (is_committed_twice trail x)
     (is_off_the_diagram trail x) rule ≡ true
     → Holds rule (x ∷ trail) → ⊥
+broken_by trail x FoundLate e = absurd cc
 broken_by trail x TwoLive e = broken_one trail x e
 broken_by trail x HeldUncommitted e = broken_held trail x e
 broken_by trail x CommittedTwice e = broken_once trail x e
@@ -190,6 +192,7 @@ turned x xs trail =
 
 none_by : (trail : List Item) (x : Item) (r : Option Rule) → breach_at trail x ≡ r → AllHold (x ∷ trail) → r ≡ None
 none_by trail x None e all = refl
+none_by trail x (Some FoundLate) e all = absurd (broken trail x FoundLate e tt)
 none_by trail x (Some TwoLive) e all = absurd (broken trail x TwoLive e all.one)
 none_by trail x (Some HeldUncommitted) e all = absurd (broken trail x HeldUncommitted e all.held)
 none_by trail x (Some CommittedTwice) e all = absurd (broken trail x CommittedTwice e all.once)

@@ -1,85 +1,147 @@
--- What lives, what was last and what was committed, by the tests of a trail.
-use Rattle.std.proofs.Common.{◌≡◌, ℕ, ◌==◌, ◌&&◌, ◌||◌, not, List, [], ◌∷◌, Bool, true, false, cond, refl, sym, subst, inl, inr}
+-- What lives, what was last and what was told, by the tests of a chronicle.
+use Rattle.std.proofs.Common.{◌≡◌, ◌⊎◌, ℕ, ◌==◌, ◌&&◌, ◌||◌, not, List, [], ◌∷◌, Bool, true, false, cond, refl, sym, ap, ◌∙◌, subst, inl, inr}
+use Rattle.std.specs.Bool.{Decides}
 use Rattle.std.specs.Prelude.{Option, Some, None, filter, is_some}
-use Rattle.std.proofs.lemmas.Bool.{and_parts, eqb-true, ne_eqb, false_from_ne_true}
+use Rattle.std.proofs.lemmas.Bool.{and_parts, eqb-true, eq-eqb, ne_eqb}
+use Rattle.std.proofs.lemmas.Bool.Decides.{same_from_decides}
 use Rattle.smf_state.specs.declared.state.State.{State}
-use Rattle.smf_state.specs.Rows.{same_state}
-use Rattle.smf_world.specs.declared.item.Item.{Item}
 use Rattle.smf_world.specs.declared.item.Item.TheVariants.{Boot, Committed, Held, Spawned, Emptied}
-use Rattle.smf_world.specs.Safe.{CommittedOnce, IsLiveIn, LiveStart, OneEach, WasNumbered}
-use Rattle.smf_audit.specs.Audit.{is_live_in, was_committed, was_numbered}
-use Rattle.smf_audit.specs.Tables.{contract_in, is_held_as, state_of}
-use Rattle.smf_audit.proofs.Decided.{numbered_decides}
+use Rattle.smf_world.specs.Safe.{IsLiveIn, LiveStart, OneEach}
+use Rattle.smf_audit.specs.declared.entry.Entry.{Entry}
+use Rattle.smf_audit.specs.declared.entry.Entry.TheVariants.{Happened, Life, Row, Living}
+use Rattle.smf_audit.specs.Audit.{is_live_in}
+use Rattle.smf_audit.specs.Breaches.{is_number, was_told, was_told_as}
+use Rattle.smf_audit.specs.Lives.{Always, IsNumber, IsNumberedOnce, IsRow, ToldRow, WasTold, WasToldAs, row_told}
+use Rattle.smf_audit.specs.Tables.{contract_in, is_free_for, is_held_as, state_of, state_or}
+use Rattle.smf_audit.proofs.Decided.{state_decides}
+use Rattle.smf_audit.proofs.Demanded.{told_decides}
 
 -- ---- rows
 
--- a row stands in the table exactly if its number was committed
-pub numbered_as : (i number : ℕ) (trail : List Item) → is_some (state_of i number trail) ≡ was_numbered i number trail
+numbered_by : (b : Bool) (s : State) (o : Option State) (w : Bool) → is_some o ≡ w
+    → is_some (cond b (Some s) o) ≡ (b || w)
+numbered_by true s o w e = refl
+numbered_by false s o w e = e
+
+number_as : (i number : ℕ) (r : Option ToldRow) (o : Option State) (w : Bool) → is_some o ≡ w
+    → is_some (state_or i number r o) ≡ (is_number i number r || w)
+number_as i number None o w e = e
+number_as i number (Some r) o w e = numbered_by (r.instance == i && r.number == number) r.state o w e
+
+-- a row stands in the table exactly if its number was told
+pub numbered_as : (i number : ℕ) (told : List Entry) → is_some (state_of i number told) ≡ was_told_as i number told
 numbered_as i number [] = refl
-numbered_as i number (Committed j n s next ∷ trail) = by (j == i && n == number) (numbered_as i number trail)
+numbered_as i number (entry ∷ told) =
+    number_as i number (row_told entry) (state_of i number told) (was_told_as i number told)
+    (numbered_as i number told)
+
+-- a row that was told with a number in a state was told with this number
+told_is_numbered : (i number : ℕ) (s : State) (told : List Entry) → WasTold i number s told → WasToldAs i number told
+told_is_numbered i number s (entry ∷ told) (inl h) = inl (by (row_told entry) h)
   where
-    by : (b : Bool) → is_some (state_of i number trail) ≡ was_numbered i number trail
-        → is_some (cond b (Some s) (state_of i number trail)) ≡ (b || was_numbered i number trail)
-    by true e = refl
-    by false e = e
-numbered_as i number (Held name launch j n s ∷ trail) = numbered_as i number trail
-numbered_as i number (Spawned c j run method revision command ∷ trail) = numbered_as i number trail
-numbered_as i number (Emptied c ∷ trail) = numbered_as i number trail
-numbered_as i number (Boot ∷ trail) = numbered_as i number trail
+    by : (r : Option ToldRow) → IsRow i number s r → IsNumber i number r
+    by None h = absurd h
+    by (Some r) h = h.0
+told_is_numbered i number s (entry ∷ told) (inr h) = inr (told_is_numbered i number s told h)
+told_is_numbered i number s [] h = absurd h
 
--- a number that was not committed was committed in no state
-uncommitted_by : (b s v : Bool) (w : Bool) → (b || w) ≡ false → v ≡ false → ((b && s) || v) ≡ false
-uncommitted_by true s v w e f = absurd cc
-uncommitted_by false s v w e f = f
+-- what an entry tells with a number that was told is told in the same state
+same_again : (told : List Entry) (entry : Entry) (r : ToldRow) → IsNumberedOnce told entry → row_told entry ≡ Some r
+    → WasToldAs r.instance r.number told → WasTold r.instance r.number r.state told
+same_again told (Happened (Committed i n s next)) r once e was =
+    let is : record { instance = i; number = n; state = s } ≡ r = cc in
+    absurd (once (subst (λ (x : ToldRow). WasToldAs x.instance x.number told) (sym is) was))
+same_again told (Happened (Held name launch i n s)) r once e was = absurd cc
+same_again told (Happened (Spawned c i run method revision command)) r once e was = absurd cc
+same_again told (Happened (Emptied c)) r once e was = absurd cc
+same_again told (Happened Boot) r once e was = absurd cc
+same_again told Life r once e was = absurd cc
+same_again told (Row i n s) r once e was =
+    let is : record { instance = i; number = n; state = s } ≡ r = cc in
+    let P : ToldRow → Type 0 = λ x. WasTold x.instance x.number x.state told in
+    subst P is (once (subst (λ (x : ToldRow). WasToldAs x.instance x.number told) (sym is) was))
+same_again told (Living c i) r once e was = absurd cc
 
-unnumbered_behind : (b w : Bool) → (b || w) ≡ false → w ≡ false
-unnumbered_behind true w e = absurd cc
-unnumbered_behind false w e = e
+told_here : (i number : ℕ) (s : State) (r : Option ToldRow) (o : Option State) → IsRow i number s r
+    → state_or i number r o ≡ Some s
+told_here i number s None o h = absurd h
+told_here i number s (Some r) o h =
+    let one : (r.instance == i) ≡ true = eq-eqb r.instance i h.0.0 in
+    let two : (r.number == number) ≡ true = eq-eqb r.number number h.0.1 in
+    rw (one, two) (ap (λ (x : State). Some x) h.1)
 
-uncommitted : (i number : ℕ) (state : State) (trail : List Item) → was_numbered i number trail ≡ false
-    → was_committed i number state trail ≡ false
-uncommitted i number state [] e = refl
-uncommitted i number state (Committed j n s next ∷ trail) e =
-    uncommitted_by (j == i && n == number) (same_state s state) (was_committed i number state trail)
-    (was_numbered i number trail) e
-    (uncommitted i number state trail (unnumbered_behind (j == i && n == number) (was_numbered i number trail) e))
-uncommitted i number state (Held name launch j n s ∷ trail) e = uncommitted i number state trail e
-uncommitted i number state (Spawned c j run method revision command ∷ trail) e = uncommitted i number state trail e
-uncommitted i number state (Emptied c ∷ trail) e = uncommitted i number state trail e
-uncommitted i number state (Boot ∷ trail) e = uncommitted i number state trail e
+told_there : (b : Bool) (s x : State) (o : Option State) → o ≡ Some s → (b ≡ true → o ≡ Some x)
+    → cond b (Some x) o ≡ Some s
+told_there true s x o e same = sym (same refl) ∙ e
+told_there false s x o e same = e
 
--- the number of a row that is committed once was not committed before
-first_time : (i number j n : ℕ) (trail : List Item) → (WasNumbered j n trail → ⊥) → (j == i && n == number) ≡ true
-    → was_numbered i number trail ≡ false
-first_time i number j n trail once e =
-    let parts = and_parts (j == i) (n == number) e in
-    false_from_ne_true (was_numbered i number trail) (λ t.
-    let P : ℕ → Type 0 = λ k. WasNumbered k n trail in
-    let Q : ℕ → Type 0 = λ k. WasNumbered i k trail in
-    once (subst P (sym (eqb-true j i parts.0)) (subst Q (sym (eqb-true n number parts.1))
-    ((numbered_decides i number trail).0 t))))
+later_by : (i number : ℕ) (s : State) (r : Option ToldRow) (o : Option State) → o ≡ Some s
+    → ((x : ToldRow) → r ≡ Some x → x.instance ≡ i → x.number ≡ number → o ≡ Some x.state)
+    → state_or i number r o ≡ Some s
+later_by i number s None o e same = e
+later_by i number s (Some r) o e same =
+    told_there (r.instance == i && r.number == number) s r.state o e
+    (λ t. let parts = and_parts (r.instance == i) (r.number == number) t in
+    same r refl (eqb-true r.instance i parts.0) (eqb-true r.number number parts.1))
 
-held_by : (b : Bool) (s state : State) (o : Option State) (v : Bool) → (b ≡ true → v ≡ false) → is_held_as o state ≡ v
-    → is_held_as (cond b (Some s) o) state ≡ ((b && same_state s state) || v)
-held_by true s state o v first e = by (same_state s state) v (first refl)
-  where
-    by : (w v : Bool) → v ≡ false → w ≡ (w || v)
-    by true v f = refl
-    by false v f = sym f
-held_by false s state o v first e = e
+-- a row that was told stands in the table in its state
+told_stands : (i number : ℕ) (s : State) (told : List Entry) → Always IsNumberedOnce told → WasTold i number s told
+    → state_of i number told ≡ Some s
+told_stands i number s [] once h = absurd h
+told_stands i number s (entry ∷ told) once (inl h) =
+    told_here i number s (row_told entry) (state_of i number told) h
+told_stands i number s (entry ∷ told) once (inr h) =
+    later_by i number s (row_told entry) (state_of i number told) (told_stands i number s told once.1 h)
+    (λ x e same_instance same_number.
+    let P : ℕ → Type 0 = λ k. WasToldAs k x.number told in
+    let Q : ℕ → Type 0 = λ k. WasToldAs i k told in
+    let was : WasToldAs x.instance x.number told =
+    subst P (sym same_instance) (subst Q (sym same_number) (told_is_numbered i number s told h)) in
+    let again = same_again told entry x once.0 e was in
+    let F : ℕ → Type 0 = λ k. WasTold k x.number x.state told in
+    let G : ℕ → Type 0 = λ k. WasTold i k x.state told in
+    told_stands i number x.state told once.1 (subst G same_number (subst F same_instance again)))
 
--- a row stands in the table in the state in which it was committed
-pub held_as : (i number : ℕ) (state : State) (trail : List Item) → CommittedOnce trail
-    → is_held_as (state_of i number trail) state ≡ was_committed i number state trail
-held_as i number state [] once = refl
-held_as i number state (Committed j n s next ∷ trail) once =
-    held_by (j == i && n == number) s state (state_of i number trail) (was_committed i number state trail)
-    (λ e. uncommitted i number state trail (first_time i number j n trail once.0 e))
-    (held_as i number state trail once.1)
-held_as i number state (Held name launch j n s ∷ trail) once = held_as i number state trail once
-held_as i number state (Spawned c j run method revision command ∷ trail) once = held_as i number state trail once
-held_as i number state (Emptied c ∷ trail) once = held_as i number state trail once
-held_as i number state (Boot ∷ trail) once = held_as i number state trail once
+stands_by : (b : Bool) (i number : ℕ) (s : State) (r : ToldRow) (o : Option State) (W : Type 0)
+    → (r.instance == i && r.number == number) ≡ b → (o ≡ Some s → W) → cond b (Some r.state) o ≡ Some s
+    → (((r.instance ≡ i) × (r.number ≡ number)) × (r.state ≡ s)) ⊎ W
+stands_by true i number s r o W e more h =
+    let parts = and_parts (r.instance == i) (r.number == number) e in
+    inl ((eqb-true r.instance i parts.0, eqb-true r.number number parts.1), cc)
+stands_by false i number s r o W e more h = inr (more h)
+
+stands_or : (i number : ℕ) (s : State) (r : Option ToldRow) (o : Option State) (W : Type 0) → (o ≡ Some s → W)
+    → state_or i number r o ≡ Some s → IsRow i number s r ⊎ W
+stands_or i number s None o W more h = inr (more h)
+stands_or i number s (Some r) o W more h =
+    stands_by (r.instance == i && r.number == number) i number s r o W refl more h
+
+-- what stands in the table was told
+stood : (i number : ℕ) (s : State) (told : List Entry) → state_of i number told ≡ Some s → WasTold i number s told
+stood i number s [] h = absurd cc
+stood i number s (entry ∷ told) h =
+    stands_or i number s (row_told entry) (state_of i number told) (WasTold i number s told) (stood i number s told) h
+
+held_decides : (o : Option State) (s : State) → Decides (is_held_as o s) (o ≡ Some s)
+held_decides None s = (λ e. absurd cc, λ e. absurd cc)
+held_decides (Some x) s =
+    (λ e. ap (λ (y : State). Some y) ((state_decides x s).0 e), λ e. (state_decides x s).1 cc)
+
+-- a row stands in the table in the state in which it was told
+pub held_as : (i number : ℕ) (s : State) (told : List Entry) → Always IsNumberedOnce told
+    → is_held_as (state_of i number told) s ≡ was_told i number s told
+held_as i number s told once =
+    let here = held_decides (state_of i number told) s in
+    let there = told_decides i number s told in
+    same_from_decides {P = WasTold i number s told} (is_held_as (state_of i number told) s) (was_told i number s told)
+    (λ e. stood i number s told (here.0 e), λ w. here.1 (told_stands i number s told once w)) there
+
+-- a number is free for a state if it was not told, or in this state
+pub free_as : (i number : ℕ) (s : State) (told : List Entry) → Always IsNumberedOnce told
+    → is_free_for (state_of i number told) s ≡ (not (was_told_as i number told) || was_told i number s told)
+free_as i number s told once =
+    ap (λ (b : Bool). not b || is_held_as (state_of i number told) s) (numbered_as i number told)
+    ∙ ap (λ (b : Bool). not (was_told_as i number told) || b) (held_as i number s told once)
 
 -- ---- live starts
 

@@ -1,7 +1,7 @@
 -- The rule that the next item of a trail breaks, and the first item that breaks one.
 use Rattle.std.specs.Prelude.{◌≡◌, ◌↔◌, ◌<◌, ℕ, ◌+◌, ◌==◌, ◌&&◌, ◌||◌, not, List, [], ◌∷◌, Bool, true, false, if◌then◌else◌, Option, Some, None, reverse, take, length}
 use Rattle.smf_audit.specs.declared.rule.Rule.{Rule}
-use Rattle.smf_audit.specs.declared.rule.Rule.TheVariants.{TwoLive, HeldUncommitted, CommittedTwice, OffTheDiagram}
+use Rattle.smf_audit.specs.declared.rule.Rule.TheVariants.{FoundLate, TwoLive, HeldUncommitted, CommittedTwice, OffTheDiagram}
 use Rattle.smf_audit.specs.declared.rule.Breach.{Breach}
 use Rattle.smf_state.specs.declared.state.State.{State}
 use Rattle.smf_state.specs.declared.state.State.TheVariants.{Uninitialized}
@@ -85,8 +85,9 @@ first_breach items = breach_from 0 [] items
 
 -- ---- what a breach means
 
--- the whole rule, of a trail
+-- the whole rule, of a trail. A trail finds nothing, so nothing is found late
 abbrev pub Holds : Rule → List Item → Type 0
+Holds FoundLate trail = Unit {0}
 Holds TwoLive trail = OneLive trail
 Holds HeldUncommitted trail = HeldWereCommitted trail
 Holds CommittedTwice trail = CommittedOnce trail

@@ -1,2 +1,4 @@
 pub mod Audit
+pub mod Breaches
+pub mod Lives
 pub mod Tables

@@ -1,20 +1,22 @@
-/// A rule of trails that an item breaks. If it breaks two, the one that stands first here is told.
+/// A rule of chronicles that an entry breaks. If it breaks two, the one that stands first here is told.
 #[derive(Clone, Copy, PartialEq, Eq)]
 pub enum Rule {
+    /// A row or a contract is told as found, and not as a life begins.
+    FoundLate,
     /// An instance has two live starts.
     TwoLive,
-    /// A row was held that was not committed.
+    /// A row was held that was neither committed nor found.
     HeldUncommitted,
-    /// A number of an instance was committed twice.
+    /// A number of an instance was committed twice, or stands for two states.
     CommittedTwice,
     /// A state or a number does not follow on the one before.
     OffTheDiagram,
 }
 
-/// The first item that breaks a rule.
+/// The first entry that breaks a rule.
 #[derive(Clone, Copy)]
 pub struct Breach {
-    /// So many items stand before it.
+    /// So many entries stand before it.
     pub place: usize,
     pub rule: Rule,
 }

@@ -6,5 +6,5 @@ loop-place-init c = none_passed _ _ c.new-tables.ensures
 
 pub loop-place-preserved : goal.loop-place-preserved
 loop-place-preserved c =
-    passed _ _ _ _ c.index-items-place.result c.loop-place.invariant c.loop-place-test.true c.index-items-place.is
+    passed _ _ _ _ c.index-entries-place.result c.loop-place.invariant c.loop-place-test.true c.index-entries-place.is
     c.in_default.ensures c.in_ok-note.ensures

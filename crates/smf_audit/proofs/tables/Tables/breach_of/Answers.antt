@@ -3,4 +3,4 @@ use Rattle.smf_audit.proofs.Noted.{exact_breach}
 use Rattle.smf_audit.proofs.tables.Tables.breach_of.Goals as goal
 
 pub returns : goal.returns
-returns c = λ trail k. c.breach_in.ensures ∙ exact_breach c.args.self.now trail c.args.item.now k
+returns c = λ told k. c.breach_in.ensures ∙ exact_breach c.args.self.now told c.args.entry.now k

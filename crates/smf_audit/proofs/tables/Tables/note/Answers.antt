@@ -4,6 +4,6 @@ use Rattle.smf_audit.proofs.tables.Tables.note.Goals as goal
 
 pub returns : goal.returns
 returns c =
-    on_ok_weaker c.note_item.result
-    (λ noted trail k there e. knows_more c.args.self.now _ trail c.args.item.now c.args.place noted k there e)
-    c.note_item.ensures
+    on_ok_weaker c.note_entry.result
+    (λ noted told k there e. knows_more c.args.self.now _ told c.args.entry.now c.args.place noted k there e)
+    c.note_entry.ensures
