@@ -98,7 +98,7 @@ _smf_smf() {
     local word=$1
     shift 2
     case "${1:-} $word" in
-    ' '*) _smf_offer "$word" sim run cfg why check compile export diff backup show metrics prop plan-stop serve --version ;;
+    ' '*) _smf_offer "$word" sim run cfg why check compile export diff backup show metrics prop plan-stop audit serve --version ;;
     'run -'*) _smf_offer "$word" --follow ;;
     'cfg -'*) _smf_offer "$word" -f ;;
     'diff -'*) _smf_offer "$word" --exact --script --undo ;;

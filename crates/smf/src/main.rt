@@ -1,10 +1,11 @@
 //! `smf`: does scripts of a service manager on standard input, and lines of svccfg over a database. A script runs over
 //! a repository in memory, a copy in memory of a database, or a database and the processes of its services. This crate
 //! joins what the system has with what the crates below decide.
-//! Modules: `files` (databases in files), `sites` (files of tables), `exports` (what databases hold, as lines), `backups` (whole copies of databases), `shows` (what they hold, for people and for programs), `plans` (in which order their services would stop), `contracts` (contracts that are followed through forks), `processes`
+//! Modules: `files` (databases in files), `sites` (files of tables), `exports` (what databases hold, as lines), `backups` (whole copies of databases), `shows` (what they hold, for people and for programs), `plans` (in which order their services would stop), `audits` (whether trails are safe), `contracts` (contracts that are followed through forks), `processes`
 //! (processes of the system), `server` (a service manager that stays), `boot` (boots that fail).
 #![tactic(auto)]
 
+mod audits;
 mod backups;
 mod boot;
 mod contracts;
@@ -16,6 +17,7 @@ mod server;
 mod shows;
 mod sites;
 
+use crate::audits::audit_file;
 use crate::backups::backup_over;
 use crate::contracts::follow_over;
 use crate::exports::{diff_over, export_over};
@@ -82,6 +84,7 @@ fn do_task(rt: &HostRuntime, task: &Task<'_>) -> io::Result<u8> {
             timeout,
             database,
         } => Ok(plan_stop_over(rt, database, *patience, *timeout)),
+        Task::Audit { trail } => Ok(audit_file(rt, trail)),
         Task::Backup { database, copy } => Ok(backup_over(rt, database, copy)),
         Task::Run { database, .. } => do_alone(rt, database, task),
         Task::Cfg { database, .. } => do_alone(rt, database, task),

@@ -13,9 +13,10 @@ use smf_edge::Kids;
 use smf_fmri::Number;
 use smf_follow::FollowedKids;
 use smf_host::{
-    CauseFile, Database, FileDesk, FileEnder, Hold, RoomFault, RoomHold, SystemTimer, close_room,
-    end_listed, ender_in, folder_lock, forget_boot, form_text, has_booted, new_causes, note_stay,
-    older_causes, older_retries, path_beside, room_text, take_alone, take_lock, take_room,
+    Database, FileChronicle, FileDesk, FileEnder, Hold, RoomFault, RoomHold, SystemTimer,
+    TrailFile, close_room, end_listed, ender_in, folder_lock, forget_boot, form_text, has_booted,
+    new_causes, note_stay, older_causes, older_retries, path_beside, room_text, take_alone,
+    take_lock, take_room,
 };
 use smf_keeper::{Adopted, Manner, boot, go_on};
 use smf_model::{Journal, Plain};
@@ -92,7 +93,7 @@ fn not_continued<J: Journal + Drop, K: Kids + Drop>(
 fn stay<J: Journal + Drop, K: Kids + Drop>(
     rt: &HostRuntime,
     desk: &mut FileDesk<'_>,
-    causes: &mut CauseFile<'_>,
+    chronicle: &mut FileChronicle<'_>,
     ender: &mut FileEnder<'_>,
     beginning: &Beginning,
     repository: Plain<J>,
@@ -101,7 +102,9 @@ fn stay<J: Journal + Drop, K: Kids + Drop>(
     let alloc = rt.alloc();
     let timer = SystemTimer { rt };
     match beginning {
-        Beginning::Boots => match stay_over(alloc, desk, causes, &timer, ender, repository, kids) {
+        Beginning::Boots => match stay_over(
+            alloc, desk, chronicle, &timer, ender, repository, kids,
+        ) {
             Ok(life) => over(rt, desk, life),
             Err(
                 Unborn {
@@ -112,7 +115,7 @@ fn stay<J: Journal + Drop, K: Kids + Drop>(
             ) => Stayed::Unborn(fault, journal, kids),
         },
         Beginning::GoesOn(last, found, retries) => match continue_over(
-            alloc, desk, causes, &timer, ender, repository, *last, found, retries, kids,
+            alloc, desk, chronicle, &timer, ender, repository, *last, found, retries, kids,
         ) {
             Ok(life) => over(rt, desk, life),
             Err(uncontinued) => not_continued(rt, uncontinued),
@@ -137,7 +140,7 @@ fn tell_left(rt: &HostRuntime, left: &Option<Result<Leftover, AllocError>>) -> u
 fn serve_store<S: Alter + Drop, K: Kids + Drop>(
     rt: &HostRuntime,
     desk: &mut FileDesk<'_>,
-    causes: &mut CauseFile<'_>,
+    chronicle: &mut FileChronicle<'_>,
     ender: &mut FileEnder<'_>,
     beginning: &Beginning,
     conn: Connection<S>,
@@ -154,7 +157,7 @@ fn serve_store<S: Alter + Drop, K: Kids + Drop>(
                 return (Onward::Leaves, Served { status, conn });
             }
         };
-        match stay(rt, desk, causes, ender, beginning, repository, kids) {
+        match stay(rt, desk, chronicle, ender, beginning, repository, kids) {
             Stayed::Over(status, how, journal) => {
                 let conn = journal.release();
                 return (how, Served { status, conn });
@@ -175,7 +178,7 @@ fn serve_store<S: Alter + Drop, K: Kids + Drop>(
 fn serve_with<K: Kids + Drop>(
     rt: &HostRuntime,
     desk: &mut FileDesk<'_>,
-    causes: &mut CauseFile<'_>,
+    chronicle: &mut FileChronicle<'_>,
     ender: &mut FileEnder<'_>,
     beginning: &Beginning,
     database: Database,
@@ -184,7 +187,7 @@ fn serve_with<K: Kids + Drop>(
     let (how, served) = serve_store(
         rt,
         desk,
-        causes,
+        chronicle,
         ender,
         beginning,
         database.into_connection(),
@@ -201,6 +204,7 @@ fn serve_from_boot<'a, R: Room + Drop>(
     database: Database,
     folder: R,
     room: &'a str,
+    trail: TrailFile<'a>,
 ) -> io::Result<(Onward, u8)> {
     let alloc = rt.alloc();
     let contracts = match boot(alloc, folder, Manner::ByTerms) {
@@ -210,14 +214,17 @@ fn serve_from_boot<'a, R: Room + Drop>(
             return Ok((Onward::Leaves, status));
         }
     };
-    let mut causes = new_causes(rt, room);
+    let mut chronicle = FileChronicle {
+        causes: new_causes(rt, room),
+        trail,
+    };
     let mut ender = ender_in(rt, room)?;
     let kids = FollowedKids::new(alloc, contracts);
     let beginning = Beginning::Boots;
     Ok(serve_with(
         rt,
         desk,
-        &mut causes,
+        &mut chronicle,
         &mut ender,
         &beginning,
         database,
@@ -232,6 +239,7 @@ fn serve_adopted<'a, R: Room + Drop>(
     database: Database,
     adopted: Adopted<R>,
     room: &'a str,
+    trail: TrailFile<'a>,
 ) -> io::Result<(Onward, u8)>
     requires ascend { Ascends 0 (map (λ f. f.id) adopted.found.items) adopted.last }
     requires kids { posts adopted.kids.items ≡ found_posts adopted.found.items }
@@ -246,13 +254,16 @@ fn serve_adopted<'a, R: Room + Drop>(
         Ok(kids) => kids,
         Err(_) => return Err(io::Error::from(io::ErrorKind::OutOfMemory)),
     };
-    let mut causes = older_causes(rt, room)?;
+    let mut chronicle = FileChronicle {
+        causes: older_causes(rt, room)?,
+        trail,
+    };
     let mut ender = ender_in(rt, room)?;
     let beginning = Beginning::GoesOn(last, found, older_retries(rt, room)?);
     Ok(serve_with(
         rt,
         desk,
-        &mut causes,
+        &mut chronicle,
         &mut ender,
         &beginning,
         database,
@@ -267,9 +278,10 @@ fn serve_further<'a, R: Room + Drop>(
     database: Database,
     folder: R,
     room: &'a str,
+    trail: TrailFile<'a>,
 ) -> io::Result<(Onward, u8)> {
     match go_on(rt.alloc(), folder, Manner::ByTerms) {
-        Ok(adopted) => serve_adopted(rt, desk, database, adopted, room),
+        Ok(adopted) => serve_adopted(rt, desk, database, adopted, room, trail),
         Err(fault) => {
             let status = tell(&mut rt.stderr(), begin_text(&fault));
             Ok((Onward::Leaves, status))
@@ -283,6 +295,7 @@ fn serve_in(
     desk: &mut FileDesk<'_>,
     database: Database,
     hold: RoomHold<'_>,
+    trail: TrailFile<'_>,
 ) -> io::Result<u8> {
     let RoomHold {
         folder,
@@ -299,9 +312,9 @@ fn serve_in(
     }
     eprintln!(rt; "{}", form_text(&groups))?;
     let (how, status) = if goes_on {
-        serve_further(rt, desk, database, folder, room)?
+        serve_further(rt, desk, database, folder, room, trail)?
     } else {
-        serve_from_boot(rt, desk, database, folder, room)?
+        serve_from_boot(rt, desk, database, folder, room, trail)?
     };
     if how == Onward::Ends {
         forget_boot(rt, room)?;
@@ -331,8 +344,9 @@ fn serve(rt: &HostRuntime, desk: &mut FileDesk<'_>, path: &str) -> io::Result<u8
         return Ok(status);
     }
     desk.set_probe(path_beside(rt, path, "room")?);
+    let trail = TrailFile::new(rt, path_beside(rt, path, "trail")?);
     match take_room(rt, path) {
-        Ok(hold) => tell_broken(rt, serve_in(rt, desk, database, hold)),
+        Ok(hold) => tell_broken(rt, serve_in(rt, desk, database, hold, trail)),
         Err(fault) => Ok(tell(&mut errors, room_text(&fault))),
     }
 }

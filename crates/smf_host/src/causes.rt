@@ -8,8 +8,7 @@ use smf_model::Journal;
 use smf_node::Node;
 use smf_reasons::{Reason, Told, check};
 use smf_watch::{
-    Causes, Chronicle, KnownRow, MaintenanceCause, MaintenanceReason, Retry, plans_of, push_reason,
-    reason_of,
+    Causes, KnownRow, MaintenanceCause, MaintenanceReason, Retry, plans_of, push_reason, reason_of,
 };
 use smf_world::Item;
 use std::alloc::{AllocError, Global};
@@ -200,15 +199,9 @@ impl<'a> CauseFile<'a> {
             self.boots = false;
         }
     }
-}
-
-impl<'a> Chronicle for CauseFile<'a> {
-    ghost use Rattle.std.specs.Prelude.{None};
-
-    ghost told = { λ _. None };
 
     /// If the causes cannot be written, the file stays as it is. Its lines name rows, so those of an older row tell nothing.
-    fn tell<J: Journal>(&mut self, items: &[Item], node: &Node<J>, retries: &[Retry]) {
+    pub(crate) fn tell<J: Journal>(&mut self, items: &[Item], node: &Node<J>, retries: &[Retry]) {
         self.note_boot();
         let mut sight = Sight {
             node,

@@ -2,14 +2,16 @@
 //! Modules: `database` (a database file, its log and its journal), `lock` (who has a database alone), `contracts` (the
 //! room of contracts), `groups` (its control groups), `children` (the list of children beside a database).
 //! A server has `folder` (who has a folder alone), `desk` (requests in a folder), `pipe` (by which it is called), `pace`
-//! (when it ticks), `stop` (how all services stop), `ender` (how contracts are ended), `causes` (why instances are in maintenance), `retries` (which are
-//! tried again), `why` (on what evidence instances were started and stopped), `boots` (whether it boots or goes on), `timer`
-//! (the clock).
+//! (when it ticks), `stop` (how all services stop), `ender` (how contracts are ended), `boots` (whether it boots or goes on),
+//! `timer` (the clock), and `chronicles` (what it keeps of what happened): `causes` (why instances are in maintenance),
+//! `retries` (which are tried again), `why` (on what evidence instances were started and stopped), `trail` (what all servers
+//! of a database told).
 #![tactic(auto)]
 
 mod boots;
 mod causes;
 mod children;
+mod chronicles;
 mod contracts;
 mod database;
 mod desk;
@@ -22,11 +24,13 @@ mod pipe;
 mod retries;
 mod stop;
 mod timer;
+mod trail;
 mod why;
 
 pub use boots::{forget_boot, has_booted};
 pub use causes::{CauseFile, new_causes, older_causes};
 pub use children::{end_listed, list_of, place_of, tell_sweep};
+pub use chronicles::FileChronicle;
 pub use contracts::{
     RoomFault, RoomHold, close_room, form_text, note_run, note_stay, room_text, take_room,
 };
@@ -37,3 +41,4 @@ pub use folder::{folder_lock, take_lock};
 pub use lock::{Hold, path_beside, take_alone};
 pub use retries::older_retries;
 pub use timer::SystemTimer;
+pub use trail::TrailFile;

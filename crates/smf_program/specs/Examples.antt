@@ -3,7 +3,7 @@ use Rattle.std.specs.Prelude.{◌≡◌, ℕ, List, [], ◌∷◌, codes, Some, 
 use Rattle.clap.specs.Words.{fault_of}
 use Rattle.clap.specs.declared.error.kind.ErrorKind.TheVariants as kinds
 use Rattle.smf_program.specs.Tasks.{metrics_listing, task_of}
-use Rattle.smf_program.specs.Tasks.TaskTexts.{Sim, Run, Cfg, Backup, Check, Compile, Diff, Export, PlanStop, Prop, Serve, Show, Why}
+use Rattle.smf_program.specs.Tasks.TaskTexts.{Audit, Sim, Run, Cfg, Backup, Check, Compile, Diff, Export, PlanStop, Prop, Serve, Show, Why}
 use Rattle.smf_program.specs.Words.{smf_app}
 
 -- the program's name is the first of its words
@@ -47,6 +47,7 @@ QuestionsAreRead =
     ≡ Some (Show metrics_listing (codes "a.db") (codes "web" ∷ [])))
     × (task_of (smf (codes "plan-stop" ∷ codes "--patience" ∷ codes "3" ∷ codes "a.db" ∷ []))
     ≡ Some (PlanStop (Some (codes "3")) None (codes "a.db")))
+    × (task_of (smf (codes "audit" ∷ codes "a.db-trail" ∷ [])) ≡ Some (Audit (codes "a.db-trail")))
 
 abbrev pub CopiesAreRead : Type 0
 CopiesAreRead =

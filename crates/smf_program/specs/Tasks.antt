@@ -36,6 +36,7 @@ pub data TaskTexts : Type 0 where
   Show : ListingTexts → List ℕ → List (List ℕ) → TaskTexts
   Prop : Bool → Option (List ℕ) → List ℕ → List (List ℕ) → TaskTexts
   PlanStop : Option (List ℕ) → Option (List ℕ) → List ℕ → TaskTexts
+  Audit : List ℕ → TaskTexts
 
 abbrev pub listing_texts : Listing → ListingTexts
 listing_texts l =
@@ -68,6 +69,7 @@ texts_of (tasks.Prop configured name database words) =
     Prop configured (option_map (λ s. s.now) name) database.now (map (λ w. w.now) words.items)
 texts_of (tasks.PlanStop patience timeout database) =
     PlanStop (option_map (λ s. s.now) patience) (option_map (λ s. s.now) timeout) database.now
+texts_of (tasks.Audit trail) = Audit trail.now
 
 abbrev pub rows_in : ArgMatches → List Row
 rows_in m = rows_of (found_of m)
@@ -165,6 +167,9 @@ abbrev pub plan_stop_in : List Row → Option TaskTexts
 plan_stop_in rows =
     option_map (PlanStop (first_of (codes "PATIENCE") rows) (first_of (codes "TIMEOUT") rows)) (first_of (codes "DB") rows)
 
+abbrev pub audit_in : List Row → Option TaskTexts
+audit_in rows = option_map Audit (first_of (codes "TRAIL") rows)
+
 -- the task of a subcommand, by its name and by the rows of the words after it
 abbrev pub task_at : List ℕ → List Row → Option TaskTexts
 task_at name rows =
@@ -182,6 +187,7 @@ task_at name rows =
     else if pointwise nat_eq name (codes "prop") then prop_in rows
     else if pointwise nat_eq name (codes "plan-stop") then plan_stop_in rows
     else if pointwise nat_eq name (codes "metrics") then metrics_in rows
+    else if pointwise nat_eq name (codes "audit") then audit_in rows
     else None
 
 abbrev pub task_in : Option (List ℕ × List Row) → Option TaskTexts

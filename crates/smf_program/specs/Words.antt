@@ -157,7 +157,14 @@ abbrev pub plan_stop_app : App
 plan_stop_app =
     with_rule (with_rule (with_rule (new_app (codes "plan-stop")) patience_rule) method_timeout_rule) database_rule
 
--- one of the fourteen has to be named, or the version is asked for
+-- a file of a trail or of a chronicle
+abbrev pub trail_rule : Rule
+trail_rule = record (new_rule (codes "TRAIL")) { required = true }
+
+abbrev pub audit_app : App
+audit_app = with_rule (new_app (codes "audit")) trail_rule
+
+-- one of the fifteen has to be named, or the version is asked for
 abbrev pub bare_app : App
 bare_app = on_top (λ s. record s { subcommand_required = true; has_version = true }) (new_app (codes "smf"))
 
@@ -179,9 +186,11 @@ unfoldable pub smf_app : App
 smf_app =
     with_subcommand
     (with_subcommand
+    (with_subcommand
     (with_subcommand (with_subcommand (with_subcommand asking_app compile_app.top) export_app.top) diff_app.top)
     backup_app.top)
-    metrics_app.top
+    metrics_app.top)
+    audit_app.top
 
 -- true if a flag was found
 abbrev pub is_set : List ℕ → List Row → Bool

@@ -3,7 +3,7 @@ ghost use Rattle.std.specs.String.{string_bytes};
 ghost use Rattle.clap.specs.Words.{HasKind, app_of, fault_of, first_of, is_simple, is_simple_and_free, subcommand_of, subcommand_rows_of};
 ghost use Rattle.smf_program.specs.Refusals.{IsWhy};
 ghost use Rattle.smf_program.specs.Words.{is_set};
-ghost use Rattle.smf_program.specs.Tasks.{backup_in, cfg_in, check_in, compile_in, diff_in, export_in, lead_in, listing_in, listing_texts, metrics_in, metrics_listing, plan_stop_in, prop_in, rows_in, show_in, run_in, serve_in, sim_in, task_at, task_in, task_of, texts_of, why_in, words_in};
+ghost use Rattle.smf_program.specs.Tasks.{audit_in, backup_in, cfg_in, check_in, compile_in, diff_in, export_in, lead_in, listing_in, listing_texts, metrics_in, metrics_listing, plan_stop_in, prop_in, rows_in, show_in, run_in, serve_in, sim_in, task_at, task_in, task_of, texts_of, why_in, words_in};
 
 use crate::refusal::{Refusal, refusal_of};
 use crate::words::smf_command;
@@ -118,6 +118,10 @@ pub enum Task<'a> {
         patience: Option<&'a str>,
         timeout: Option<&'a str>,
         database: &'a str,
+    },
+    /// Whether what a file shows is safe: a trail, or the chronicle of all servers of a database.
+    Audit {
+        trail: &'a str,
     },
 }
 
@@ -368,6 +372,15 @@ fn plan_stop_in<'a>(found: &ArgMatches<'a>) -> Option<Task<'a>>
     }
 }
 
+fn audit_in<'a>(found: &ArgMatches<'a>) -> Option<Task<'a>>
+    ensures { option_map texts_of result ≡ audit_in (rows_in found.now) }
+{
+    match found.get_str("TRAIL") {
+        Some(trail) => Some(Task::Audit { trail }),
+        None => None,
+    }
+}
+
 /// The task of a subcommand, by its name and by the words that clap found after it.
 fn task_at<'a>(
     alloc: Global,
@@ -391,6 +404,7 @@ fn task_at<'a>(
         "prop" => prop_in(alloc, found),
         "plan-stop" => Ok(plan_stop_in(found)),
         "metrics" => metrics_in(alloc, found),
+        "audit" => Ok(audit_in(found)),
         _ => Ok(None),
     }
 }

@@ -1,7 +1,7 @@
 ghost use Rattle.std.specs.Prelude.{◌≡◌, IfOk, false};
 ghost use Rattle.clap.specs.Words.{app_of, rule_of};
 ghost use Rattle.clap.specs.declared.builder.command.Command.TheViews.{out-Command as fields_of};
-ghost use Rattle.smf_program.specs.Words.{asking_app, backup_app, bare_app, bare_rule, cfg_app, check_app, columns_rule, compile_app, configured_rule, copy_rule, database_rule, diff_app, exact_rule, export_app, falling_rule, file_rule, site_rule, fmri_rule, folder_rule, follow_rule, form_app, json_rule, lead_app, lines_rule, long_rule, method_timeout_rule, metrics_app, metrics_rule, name_rule, named_app, patience_rule, plan_stop_app, prop_app, read_rule, restarter_rule, rising_rule, run_app, running_app, script_rule, serve_app, show_app, shown_app, sim_app, smf_app, table_app, undo_rule, well_rule, why_app};
+ghost use Rattle.smf_program.specs.Words.{asking_app, audit_app, backup_app, bare_app, bare_rule, cfg_app, check_app, columns_rule, compile_app, configured_rule, copy_rule, database_rule, diff_app, exact_rule, export_app, falling_rule, file_rule, site_rule, fmri_rule, folder_rule, follow_rule, form_app, json_rule, lead_app, lines_rule, long_rule, method_timeout_rule, metrics_app, metrics_rule, name_rule, named_app, patience_rule, plan_stop_app, prop_app, read_rule, restarter_rule, rising_rule, run_app, running_app, script_rule, serve_app, show_app, shown_app, sim_app, smf_app, table_app, trail_rule, undo_rule, well_rule, why_app};
 
 use clap::{Arg, ArgAction, Command};
 use std::alloc::{AllocError, Global};
@@ -439,6 +439,24 @@ fn plan_stop_command<'a>(alloc: Global) -> Result<Command<'a>, AllocError>
     Ok(command)
 }
 
+/// A file of a trail or of a chronicle.
+fn trail<'a>(alloc: Global) -> Arg<'a>
+    ensures rule { rule_of result ≡ trail_rule }
+    ensures local { result.global ≡ false }
+{
+    Arg::new(alloc, "TRAIL").required(true)
+}
+
+fn audit_command<'a>(alloc: Global) -> Result<Command<'a>, AllocError>
+    ensures app { IfOk result (λ c. app_of c ≡ audit_app) }
+    ensures local { IfOk result (λ c. (fields_of c).has_globals ≡ false) }
+{
+    let command = Command::new(alloc, "audit")
+        .about("Checks a trail, or the chronicle of all servers of a database")
+        .arg(trail(alloc))?;
+    Ok(command)
+}
+
 fn bare_command<'a>(alloc: Global) -> Command<'a>
     ensures { app_of result ≡ bare_app }
 {
@@ -482,7 +500,7 @@ fn asking_command<'a>(alloc: Global) -> Result<Command<'a>, AllocError>
 
 /// The program as clap knows it. It may be asked for its version, which clap does not know. `sim` may have a database. `run` has one, and contracts may be followed.
 /// `cfg` has a database, and may have a file of lines after `-f`. `serve` has a folder and a database. `why`, `show`, `prop`
-/// and `export` have a database and words that mean instances. `check` and `plan-stop` have a database, `compile` a file, and `diff` and
+/// and `export` have a database and words that mean instances. `check` and `plan-stop` have a database, `compile` and `audit` a file, and `diff` and
 /// `backup` both.
 pub(crate) fn smf_command<'a>(alloc: Global) -> Result<Command<'a>, AllocError>
     ensures { IfOk result (λ c. app_of c ≡ smf_app) }
@@ -497,6 +515,8 @@ pub(crate) fn smf_command<'a>(alloc: Global) -> Result<Command<'a>, AllocError>
     let backup = backup_command(alloc)?;
     let with_backup = with_diff.subcommand(backup)?;
     let metrics = metrics_command(alloc)?;
-    let command = with_backup.subcommand(metrics)?;
+    let with_metrics = with_backup.subcommand(metrics)?;
+    let audit = audit_command(alloc)?;
+    let command = with_metrics.subcommand(audit)?;
     Ok(command)
 }

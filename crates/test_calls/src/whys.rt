@@ -2,11 +2,12 @@
 //! refreshed first, and is offline if no line says its state. After a line `show`, which prints, all begins anew. A
 //! line `check` prints what is wrong of the instances.
 
-use smf_cfg::Session;
+use smf_cfg::run_line;
 use smf_fmri::{Items, Ordered, SharedOrdered};
 use smf_model::{Command, Edit, NoJournal, Plain, RepoFault};
 use smf_reasons::{check, check_text_of, tell, text_of};
 use smf_state::{SharedRow, State, View, ViewItem};
+use smf_svccfg::Selection;
 use std::alloc::{AllocError, Global};
 use std::io::{BufRead, BufReader};
 
@@ -129,7 +130,7 @@ fn note(
 /// Answers every line of standard input.
 pub(crate) fn answer_whys(rt: &HostRuntime, alloc: Global) -> Result<(), RepoFault> {
     let mut repository = Plain::new(alloc, NoJournal {});
-    let mut session = Session::new();
+    let mut selection = Selection::Nothing;
     let mut all = Vec::new(alloc);
     let Ok(reader) = BufReader::new(alloc, rt.reader()) else {
         return Err(RepoFault::Memory);
@@ -142,13 +143,13 @@ pub(crate) fn answer_whys(rt: &HostRuntime, alloc: Global) -> Result<(), RepoFau
         if line == "show" {
             print_whys(rt, alloc, &mut repository, all.as_slice())?;
             repository = Plain::new(alloc, NoJournal {});
-            session = Session::new();
+            selection = Selection::Nothing;
             all = Vec::new(alloc);
         } else if line == "check" {
             check_all(rt, alloc, &mut repository)?;
         } else if let Some(text) = line.strip_prefix("state ") {
             note(rt, alloc, &mut all, text)?;
-        } else if session.run_line(alloc, &mut repository, line).is_err() {
+        } else if run_line(alloc, &mut repository, &mut selection, line).is_err() {
             let _ = eprintln!(rt; "bad line: {line}");
         }
     }

@@ -22,7 +22,7 @@ returns-clause-served c = refl
 
 pub returns-clause-asked : goal.returns-clause-asked
 unfolding task_of smf_app clap_on_literals
-returns-clause-asked c = (refl, refl, refl, refl, refl, refl, refl)
+returns-clause-asked c = (refl, refl, refl, refl, refl, refl, refl, refl)
 
 pub returns-clause-copied : goal.returns-clause-copied
 unfolding task_of smf_app clap_on_literals

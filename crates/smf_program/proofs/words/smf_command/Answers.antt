@@ -6,7 +6,8 @@ use Rattle.smf_program.proofs.words.smf_command.Goals as goal
 pub returns : goal.returns
 unfolding smf_app
 returns c =
-    c.in_ok-command.ensures.shape c.in_ok-metrics.ensures.local
+    c.in_ok-command.ensures.shape c.in_ok-audit.ensures.local
+    ∙ ap₂ with_subcommand (c.in_ok-with_metrics.ensures.shape c.in_ok-metrics.ensures.local
     ∙ ap₂ with_subcommand (c.in_ok-with_backup.ensures.shape c.in_ok-backup.ensures.local
     ∙ ap₂ with_subcommand (c.in_ok-with_diff.ensures.shape c.in_ok-diff.ensures.local
     ∙ ap₂ with_subcommand (c.in_ok-with_export.ensures.shape c.in_ok-export.ensures.local
@@ -14,4 +15,5 @@ returns c =
     ∙ ap₂ with_subcommand c.in_ok-asking.ensures (ap (λ (a : App). a.top) c.in_ok-compile.ensures.app))
     (ap (λ (a : App). a.top) c.in_ok-export.ensures.app))
     (ap (λ (a : App). a.top) c.in_ok-diff.ensures.app)) (ap (λ (a : App). a.top) c.in_ok-backup.ensures.app))
-    (ap (λ (a : App). a.top) c.in_ok-metrics.ensures.app)
+    (ap (λ (a : App). a.top) c.in_ok-metrics.ensures.app))
+    (ap (λ (a : App). a.top) c.in_ok-audit.ensures.app)
