@@ -1,0 +1,12 @@
+use Rattle.std.proofs.Common.{◌≡◌, map, take}
+use Rattle.smf_contract.specs.Laws.{Ascends}
+use Rattle.smf_follow.specs.Beginnings.{found_posts}
+use Rattle.smf_follow.specs.Phases.{posts}
+use Rattle.smf_record.proofs.children.children_of.Given as goal
+
+abbrev pub invariant-loop-one : goal.invariant-loop-one
+invariant-loop-one l = record {
+  ascend : Ascends 0 (map (λ f. f.id) l.children.found.items) l.children.last;
+  kids : posts l.children.kids.items ≡ found_posts l.children.found.items;
+  found : l.children.found.items ≡ take l.one-index l.found;
+}
