@@ -1,5 +1,11 @@
 -- Which hints are told: one example for each kind, with one that has none.
-use Rattle.std.specs.Prelude.{◌≡◌, ℕ, List, [], ◌∷◌, ◌++◌, false, codes, Some, None}
+use Rattle.std.specs.Prelude.{◌≡◌, ℕ, List, [], ◌∷◌, ◌++◌, Bool, true, false, codes, Some, None}
+use Rattle.smf_state.specs.declared.state.State.TheVariants.{Offline}
+use Rattle.smf_links.specs.declared.grouping.Grouping.TheVariants.{ExcludeAll}
+use Rattle.smf_links.specs.declared.grouping.RestartOn.TheVariants.{Nothing}
+use Rattle.smf_dep.specs.declared.dependency.Dependency.{Dependency}
+use Rattle.smf_dep.specs.declared.member.GraphMember.{GraphMember}
+use Rattle.smf_reasons.specs.Exclusions.{clash_hint}
 use Rattle.smf_value.specs.declared.kind.Kind.TheVariants as kinds
 use Rattle.smf_value.specs.declared.value.Value.TheVariants as values
 use Rattle.smf_value.specs.Groups.{GroupRecord, PropertyRecord, group_with}
@@ -49,3 +55,28 @@ ProgramsAreTold =
     (program_hint (codes "/bin/web" ∷ []) (a_method (codes "start") (codes "exec /bin/web"))
     ≡ (codes "Hint: Program /bin/web of method start is not there." ++ line_end))
     × (program_hint [] (a_method (codes "start") (codes "exec /bin/web")) ≡ [])
+
+-- two instances that exclude each other, of which both are enabled, or one
+abbrev pub an_instance : List ℕ → Bool → List ℕ → GraphMember
+an_instance name enabled excluded =
+    record {
+      instance = 0;
+      name = name;
+      enabled = enabled;
+      state = Offline;
+      next = None;
+      base = 0;
+      err = 0;
+      stop = 0;
+      refresh = 0;
+      start = 0;
+      composed = [];
+      dependencies = Some (record { grouping = ExcludeAll; restart_on = Nothing; entities = excluded ∷ [] } ∷ []);
+    }
+
+abbrev pub ExclusionsAreTold : Type 0
+ExclusionsAreTold =
+    (clash_hint (an_instance (codes "svc:/a:x") true (codes "svc:/b:x")) (an_instance (codes "svc:/b:x") true (codes "svc:/a:x"))
+    ≡ (codes "Hint: It and svc:/b:x exclude each other, and both are enabled: each waits for the other." ++ line_end))
+    × (clash_hint (an_instance (codes "svc:/a:x") true (codes "svc:/b:x")) (an_instance (codes "svc:/b:x") false (codes "svc:/a:x"))
+    ≡ [])

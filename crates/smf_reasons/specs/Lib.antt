@@ -1,6 +1,7 @@
 pub mod Reasons
 pub mod Ways
 pub mod Sights
+pub mod Exclusions
 pub mod Flaws
 pub mod Claims
 pub mod Texts

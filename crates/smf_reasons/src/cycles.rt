@@ -10,7 +10,7 @@ use smf_dep::{Dependency, GraphMember, Grouping};
 use smf_fmri::{Fmri, InstanceFmri, Items};
 use std::alloc::{AllocError, Global};
 
-fn is_among(member: &GraphMember, entities: &[Fmri]) -> bool
+pub(crate) fn is_among(member: &GraphMember, entities: &[Fmri]) -> bool
     ensures { result ≡ list_any (λ e. is_cited e member.now) entities.now }
 {
     entities.iter().any(|entity| member.is_cited(entity))

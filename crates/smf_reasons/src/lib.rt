@@ -4,13 +4,14 @@
 //! groups and restarters, `methods` those of methods. `cycles` has a cycle by its names, and `search` looks for one.
 //! `reasons` has all reasons of a view, `absent` entities that name nothing, `flaws` the flaws of a view.
 //! `text` has reasons as lines, and `law` the laws of reasons. `hints` has the likely mistakes in groups as lines,
-//! `view_hints` those of a view, and `hint_law` an example for each kind.
+//! `exclusions` the instances that exclude each other, `view_hints` those of a view, and `hint_law` an example for each kind.
 #![tactic(auto)]
 
 mod absent;
 mod cycles;
 mod dependencies;
 mod entity_states;
+mod exclusions;
 mod flaws;
 mod hint_law;
 mod hints;

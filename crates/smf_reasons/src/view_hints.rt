@@ -4,6 +4,7 @@ ghost use Rattle.std.specs.Prelude.{◌≡◌, ◌++◌, IfOk, OnOk, flat_map, s
 ghost use Rattle.smf_dep.specs.Members.{members};
 ghost use Rattle.smf_reasons.specs.ViewHints.{hint_block, hint_text, member_hints, member_programs, programs_of};
 
+use crate::exclusions::put_clash_hints;
 use crate::hints::{push_programs, put_hints};
 use smf_dep::{GraphMember, members};
 use smf_fmri::{InstanceFmri, Items, Text};
@@ -28,13 +29,16 @@ fn put_block(out: &mut String, name: &InstanceFmri, lines: &str) -> Result<(), A
 fn put_member_hints(
     alloc: Global,
     missing: &[Text],
+    members: &[GraphMember],
     out: &mut String,
     member: &GraphMember,
 ) -> Result<(), AllocError>
-    ensures { OnOk result (string_bytes out.new ≡ string_bytes out.old ++ member_hints missing.now member.now) }
+    ensures { OnOk result
+        (string_bytes out.new ≡ string_bytes out.old ++ member_hints missing.now members.now member.now) }
 {
     let mut lines = String::new(alloc);
     put_hints(alloc, missing, &mut lines, member.composed.as_slice())?;
+    put_clash_hints(&mut lines, member, members)?;
     put_block(out, &member.name, lines.as_str())
 }
 
@@ -47,7 +51,7 @@ fn put_all_hints(
     ensures { OnOk result (string_bytes out.new ≡ string_bytes out.old ++ hint_text missing.now members.now) }
 {
     for member in members {
-        put_member_hints(alloc, missing, out, member)?;
+        put_member_hints(alloc, missing, members, out, member)?;
     }
     Ok(())
 }
