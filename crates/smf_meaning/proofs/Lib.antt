@@ -2,7 +2,12 @@ mod Codes
 mod Commands
 mod Composed
 mod Edits
+mod Excluding
 mod Failures
+mod LedTo
+mod OpenGroups
+mod QuietGraphExamples
+mod QuietViews
 mod Restored
 mod Rounds
 mod RunsTaken

@@ -138,7 +138,7 @@ from_steady ms k (suc d) steady m among =
 
 -- ---- how many are parked
 
-parked_count : (GraphMember → Bool) → List GraphMember → ℕ
+pub parked_count : (GraphMember → Bool) → List GraphMember → ℕ
 parked_count f [] = 0
 parked_count f (x ∷ xs) = if f x then suc (parked_count f xs) else parked_count f xs
 
@@ -153,7 +153,7 @@ count_bounded f (x ∷ xs) = by (f x) (count_bounded f xs)
     by false low = omega arith
 
 -- if no more are parked, each is as it was
-same_count : (f g : GraphMember → Bool) (xs : List GraphMember) → ((m : GraphMember) → f m ≡ true → g m ≡ true)
+pub same_count : (f g : GraphMember → Bool) (xs : List GraphMember) → ((m : GraphMember) → f m ≡ true → g m ≡ true)
     → (parked_count f xs < parked_count g xs)
     ⊎ ((parked_count g xs ≡ parked_count f xs) × ((m : GraphMember) → IsAmong m xs → g m ≡ f m))
 unfolding parked_count

@@ -4,6 +4,8 @@ pub mod Edited
 pub mod FirstWrong
 pub mod Ignored
 pub mod NameFaults
+pub mod QuietExamples
+pub mod QuietGraphs
 pub mod Waits
 pub mod Commands
 pub mod Runs

@@ -1,8 +1,8 @@
 //! Laws above definitions that are the code again. Each is a function whose contract is the law, in the words of the
 //! manual and apart from how anything is read or worked out. A definition and a body that are wrong alike are refused
 //! here.
-//! Modules: `places`, `lines` and `bodies` (the places at which texts and bytes are wrong), `waits` (parked instances);
-//! `dependencies` (dependency groups), `groups` (edits of a group), `composition` and `reverts` (the groups of an instance, by
+//! Modules: `places`, `lines` and `bodies` (the places at which texts and bytes are wrong), `waits` (parked instances),
+//! `quiet` (what runs if nothing is left to do); `dependencies` (dependency groups), `groups` (edits of a group), `composition` and `reverts` (the groups of an instance, by
 //! name), `methods` (commands), `steps` (runs).
 #![tactic(auto)]
 
@@ -13,6 +13,7 @@ mod groups;
 mod lines;
 mod methods;
 mod places;
+mod quiet;
 mod reverts;
 mod steps;
 mod waits;
@@ -26,6 +27,10 @@ pub use methods::{
     commands_are_their_texts, ignored_failures_are_words, tokens_are_wrong_at_a_percent,
 };
 pub use places::names_are_wrong_at_a_byte;
+pub use quiet::{
+    quiet_graphs_run_what_is_not_parked, quiet_views_are_quiet_graphs,
+    waiting_for_each_other_parks_neither,
+};
 pub use reverts::reverts_bring_back;
 pub use steps::steps_take_the_next_run;
 pub use waits::parked_stays;
