@@ -2,7 +2,7 @@
 use crate::boots::note_boot;
 use crate::contracts::write_whole;
 use crate::retries::RetryFile;
-use crate::why::WhyFile;
+use crate::why_file::WhyFile;
 use smf_fmri::{InstanceFmri, Items};
 use smf_model::Journal;
 use smf_node::Node;

@@ -4,12 +4,14 @@
 //! A server has `folder` (who has a folder alone), `desk` (requests in a folder), `pipe` (by which it is called), `pace`
 //! (when it ticks), `stop` (how all services stop), `ender` (how contracts are ended), `boots` (whether it boots or goes on),
 //! `timer` (the clock), and `chronicles` (what it keeps of what happened): `causes` (why instances are in maintenance),
-//! `retries` (which are tried again), `why` (on what evidence instances were started and stopped), `trail` (what all servers
+//! `retries` (which are tried again), `why_file` (on what evidence instances were started and stopped: `why`, in `blocks`, with the `chain` of causes), `trail` (what all servers
 //! of a database told).
 #![tactic(auto)]
 
+mod blocks;
 mod boots;
 mod causes;
+mod chain;
 mod children;
 mod chronicles;
 mod contracts;
@@ -26,6 +28,7 @@ mod stop;
 mod timer;
 mod trail;
 mod why;
+mod why_file;
 
 pub use boots::{forget_boot, has_booted};
 pub use causes::{CauseFile, new_causes, older_causes};
@@ -42,3 +45,4 @@ pub use lock::{Hold, path_beside, take_alone};
 pub use retries::older_retries;
 pub use timer::SystemTimer;
 pub use trail::TrailFile;
+pub use why::Provenance;

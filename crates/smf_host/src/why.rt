@@ -1,7 +1,8 @@
-// On what evidence instances were started and stopped last, as a file in the folder of contracts has it.
-use crate::contracts::write_whole;
+// On what evidence instances were started and stopped last.
+use crate::blocks::{Block, STARTED, blocks_in, put_part, text_of};
+use crate::chain::{STOPPED, Told};
 use smf_dep::{Grouping, RestartOn};
-use smf_fmri::{Fmri, InstanceFmri};
+use smf_fmri::InstanceFmri;
 use smf_model::{InstanceEntry, Journal, Plain};
 use smf_node::Node;
 use smf_provenance::{
@@ -13,47 +14,14 @@ use smf_value::Group;
 use smf_wire::{Message, Order, ViewChanges, What};
 use smf_world::Item;
 use std::alloc::{AllocError, Global};
-use std::rt::HostRuntime;
-use std::{fs, io};
 
-/// How the part of a block begins that tells of a start.
-const STARTED: &str = "Started";
-
-/// How the one begins that tells of an order to stop.
-const STOPPED: &str = "Stopped";
-
-/// A file of more blocks is not written while something happens in each turn.
-const MANY: usize = 256;
-
-/// But it is after so many turns.
-const PATIENCE: usize = 32;
-
-/// What is told of an instance: its name, and its parts, the last that happened first.
+/// On what evidence instances were started and stopped last, as a node told it by its messages and its trail.
 #[derive(Drop)]
-struct Block {
-    name: InstanceFmri,
-    parts: Vec<Part>,
-}
-
-/// Lines that tell of a start or of an order to stop.
-#[derive(Drop)]
-struct Part {
-    /// The first word of the lines.
-    kind: &'static str,
-    lines: String,
-}
-
-/// A file in the folder of contracts, by which `svcs --why` tells on what evidence instances were started and stopped.
-#[derive(Drop)]
-pub(crate) struct WhyFile<'a> {
-    rt: &'a HostRuntime,
-    /// The path of the folder.
-    room: &'a str,
+pub struct Provenance {
+    alloc: Global,
     blocks: Vec<Block>,
-    /// Whether something was noted since they were written last.
+    /// Whether something was noted since the text was taken last.
     is_new: bool,
-    /// In so many turns something happened since.
-    turns: usize,
     /// The view that the messages have led to, once one was shown.
     scene: Option<Scene>,
     /// So many messages were looked at.
@@ -239,21 +207,69 @@ fn put_stop(text: &mut String, alloc: Global, stop: &GroupStop) -> Result<(), Al
     text.push_str(".\n")
 }
 
-fn put_reason(text: &mut String, alloc: Global, reason: &StopReason) -> Result<(), AllocError> {
-    match reason {
+/// The lines that tell why an instance stopped, if they are known and the event is a stop.
+fn lines_before<'b>(blocks: &'b [Block], event: &StopEvent) -> Option<&'b str> {
+    match event.kind {
+        EventKind::Refreshed => None,
+        EventKind::Started => None,
+        EventKind::ErrorStop => stop_before(blocks, event),
+        EventKind::OtherStop => stop_before(blocks, event),
+    }
+}
+
+fn stop_before<'b>(blocks: &'b [Block], event: &StopEvent) -> Option<&'b str> {
+    for block in blocks {
+        if block.name == event.name {
+            return block.stop_before(event.revision);
+        }
+    }
+    None
+}
+
+/// Puts below the line of a group why the instances stopped by whose stops it stops another.
+fn put_chains(
+    text: &mut String,
+    told: &mut Told,
+    blocks: &[Block],
+    stop: &GroupStop,
+) -> Result<(), AllocError> {
+    let events = stop.events.as_slice();
+    let are_several = events.len() > 1;
+    for event in events {
+        if let Some(lines) = lines_before(blocks, event) {
+            told.put_stop(text, event.name.print(), lines, are_several)?;
+        }
+    }
+    Ok(())
+}
+
+fn put_reason(
+    text: &mut String,
+    alloc: Global,
+    blocks: &[Block],
+    evidence: &StopEvidence,
+) -> Result<(), AllocError> {
+    match &evidence.reason {
         StopReason::Asked(ask) => text.push_str(ask_text(*ask)),
         StopReason::NotEnabled => text.push_str("  Not enabled.\n"),
         StopReason::Faulty => text.push_str("  Its configuration has a fault.\n"),
         StopReason::Groups(stops) => {
+            let mut told = Told::of(alloc, evidence.name.print())?;
             for stop in stops.as_slice() {
                 put_stop(text, alloc, stop)?;
+                put_chains(text, &mut told, blocks, stop)?;
             }
             Ok(())
         }
     }
 }
 
-fn stop_lines(alloc: Global, evidence: &StopEvidence) -> Result<String, AllocError> {
+/// The lines of an order to stop, over those that tell of the stops before it.
+fn stop_lines(
+    alloc: Global,
+    blocks: &[Block],
+    evidence: &StopEvidence,
+) -> Result<String, AllocError> {
     let mut text = String::new(alloc);
     text.push_str(STOPPED)?;
     text.push_str(": decided on revision ")?;
@@ -263,7 +279,7 @@ fn stop_lines(alloc: Global, evidence: &StopEvidence) -> Result<String, AllocErr
     text.push_str(", cause ")?;
     text.push_str(evidence.cause.text())?;
     text.push_str(".\n")?;
-    put_reason(&mut text, alloc, &evidence.reason)?;
+    put_reason(&mut text, alloc, blocks, evidence)?;
     Ok(text)
 }
 
@@ -299,139 +315,28 @@ fn enabling<J: Journal>(repository: &Plain<J>, instance: u64) -> Option<EnabledB
     )
 }
 
-// ---- blocks
-
-/// The kind of the part that a line begins.
-fn kind_of(line: &str) -> Option<&'static str> {
-    if line.starts_with(STARTED) {
-        Some(STARTED)
-    } else if line.starts_with(STOPPED) {
-        Some(STOPPED)
-    } else {
-        None
-    }
-}
-
-impl Block {
-    /// Puts a part before the others, in place of that of its kind.
-    fn put(&mut self, kind: &'static str, lines: String) -> Result<(), AllocError> {
-        self.parts.retain(|part| part.kind != kind);
-        self.parts.insert(0, Part { kind, lines })?;
-        Ok(())
-    }
-
-    /// Puts a line behind the others.
-    fn put_line(&mut self, alloc: Global, line: &str) -> Result<(), AllocError> {
-        if let Some(kind) = kind_of(line) {
-            let lines = String::new(alloc);
-            self.parts.push(Part { kind, lines })?;
-        }
-        match self.parts.last_mut() {
-            None => Ok(()),
-            Some(part) => {
-                part.lines.push_str(line)?;
-                part.lines.push('\n')
-            }
-        }
-    }
-}
-
-fn put_part(
-    blocks: &mut Vec<Block>,
-    alloc: Global,
-    name: &InstanceFmri,
-    kind: &'static str,
-    lines: String,
-) -> Result<(), AllocError> {
-    for block in blocks.iter_mut() {
-        if block.name == *name {
-            return block.put(kind, lines);
-        }
-    }
-    let mut parts = Vec::new(alloc);
-    parts.push(Part { kind, lines })?;
-    let name = name.clone()?;
-    blocks.push(Block { name, parts })?;
-    Ok(())
-}
-
-/// A line with the name of each instance, then its parts, and an empty line.
-fn text_of(alloc: Global, blocks: &[Block]) -> Result<String, AllocError> {
-    let mut text = String::new(alloc);
-    for block in blocks {
-        text.push_str(block.name.print())?;
-        text.push('\n')?;
-        for part in &block.parts {
-            text.push_str(part.lines.as_str())?;
-        }
-        text.push('\n')?;
-    }
-    Ok(text)
-}
-
-fn name_in(alloc: Global, line: &str) -> Option<InstanceFmri> {
-    match Fmri::parse(alloc, line) {
-        Ok(name) => InstanceFmri::of(name),
-        Err(_) => None,
-    }
-}
-
-fn put_line(blocks: &mut Vec<Block>, alloc: Global, line: &str) -> Result<(), AllocError> {
-    if line.is_empty() {
-        return Ok(());
-    }
-    if let Some(name) = name_in(alloc, line) {
-        let parts = Vec::new(alloc);
-        blocks.push(Block { name, parts })?;
-        return Ok(());
-    }
-    match blocks.last_mut() {
-        None => Ok(()),
-        Some(block) => block.put_line(alloc, line),
-    }
-}
-
-/// The blocks of a text.
-fn blocks_in(alloc: Global, text: &str) -> Result<Vec<Block>, AllocError> {
-    let mut blocks = Vec::new(alloc);
-    for line in text.lines() {
-        put_line(&mut blocks, alloc, line)?;
-    }
-    Ok(blocks)
-}
-
 // ---- what happens
 
-impl<'a> WhyFile<'a> {
-    fn over(rt: &'a HostRuntime, room: &'a str, blocks: Vec<Block>) -> WhyFile<'a> {
-        WhyFile {
-            rt,
-            room,
+impl Provenance {
+    fn over(alloc: Global, blocks: Vec<Block>) -> Provenance {
+        Provenance {
+            alloc,
             blocks,
             is_new: false,
-            turns: 0,
             scene: None,
             seen: 0,
-            ordered: Vec::new(rt.alloc()),
+            ordered: Vec::new(alloc),
         }
     }
 
-    /// The file in a room, for a server that boots.
-    pub(crate) fn new(rt: &'a HostRuntime, room: &'a str) -> WhyFile<'a> {
-        WhyFile::over(rt, room, Vec::new(rt.alloc()))
+    /// Nothing was told yet.
+    pub fn new(alloc: Global) -> Provenance {
+        Provenance::over(alloc, Vec::new(alloc))
     }
 
-    /// The file in a room, for a server that goes on: what an older life has told stays.
-    pub(crate) fn older(rt: &'a HostRuntime, room: &'a str) -> io::Result<WhyFile<'a>> {
-        let path = path_in(rt, room)?;
-        match fs::read_to_string(rt, path.as_str()) {
-            Ok(text) => {
-                let blocks = blocks_in(rt.alloc(), text.as_str())?;
-                Ok(WhyFile::over(rt, room, blocks))
-            }
-            Err(fault) if fault.kind() == io::ErrorKind::NotFound => Ok(WhyFile::new(rt, room)),
-            Err(fault) => Err(fault),
-        }
+    /// What a text tells, which was taken from another one.
+    pub(crate) fn older(alloc: Global, text: &str) -> Result<Provenance, AllocError> {
+        Ok(Provenance::over(alloc, blocks_in(alloc, text)?))
     }
 
     /// Takes a view that was shown, unless it is older than the one that is held.
@@ -441,7 +346,7 @@ impl<'a> WhyFile<'a> {
                 return Ok(());
             }
         }
-        self.scene = Some(Scene::of(self.rt.alloc(), view.clone()?)?);
+        self.scene = Some(Scene::of(self.alloc, view.clone()?)?);
         Ok(())
     }
 
@@ -450,7 +355,7 @@ impl<'a> WhyFile<'a> {
         match self.scene.take() {
             None => Ok(()),
             Some(scene) => {
-                self.scene = Some(scene.after(self.rt.alloc(), changes)?);
+                self.scene = Some(scene.after(self.alloc, changes)?);
                 Ok(())
             }
         }
@@ -461,7 +366,7 @@ impl<'a> WhyFile<'a> {
         let Some(scene) = &self.scene else {
             return Ok(());
         };
-        let evidence = start_evidence(self.rt.alloc(), scene, order.instance, order.revision)?;
+        let evidence = start_evidence(self.alloc, scene, order.instance, order.revision)?;
         match evidence {
             None => Ok(()),
             Some(evidence) => {
@@ -474,14 +379,14 @@ impl<'a> WhyFile<'a> {
     }
 
     fn note_stop(&mut self, order: &Order) -> Result<(), AllocError> {
-        let alloc = self.rt.alloc();
+        let alloc = self.alloc;
         let Some(scene) = &self.scene else {
             return Ok(());
         };
         match stop_evidence(alloc, scene, order)? {
             None => Ok(()),
             Some(evidence) => {
-                let lines = stop_lines(alloc, &evidence)?;
+                let lines = stop_lines(alloc, &self.blocks, &evidence)?;
                 self.is_new = true;
                 put_part(&mut self.blocks, alloc, &evidence.name, STOPPED, lines)
             }
@@ -501,13 +406,12 @@ impl<'a> WhyFile<'a> {
         }
     }
 
-    /// Notes a start that was begun.
-    fn note_item<J: Journal>(&mut self, item: &Item, node: &Node<J>) -> Result<(), AllocError> {
-        let alloc = self.rt.alloc();
+    /// Notes a start that was begun, with what enabled the instance, if that is known.
+    fn note_start_of(&mut self, item: &Item, by: Option<EnabledBy>) -> Result<(), AllocError> {
+        let alloc = self.alloc;
         match self.ordered.iter().find(|evidence| evidence.is_of(item)) {
             None => Ok(()),
             Some(evidence) => {
-                let by = enabling(node.repository(), evidence.instance);
                 let lines = start_lines(alloc, evidence, item, by)?;
                 self.is_new = true;
                 put_part(&mut self.blocks, alloc, &evidence.name, STARTED, lines)
@@ -515,8 +419,34 @@ impl<'a> WhyFile<'a> {
         }
     }
 
+    /// Notes a start that was begun just now.
+    fn note_item<J: Journal>(&mut self, item: &Item, node: &Node<J>) -> Result<(), AllocError> {
+        let by = match self.ordered.iter().find(|evidence| evidence.is_of(item)) {
+            None => return Ok(()),
+            Some(evidence) => enabling(node.repository(), evidence.instance),
+        };
+        self.note_start_of(item, by)
+    }
+
+    /// Notes the start of an order, if it was begun.
+    fn note_begun(&mut self, order: &Order, trail: &[Item]) -> Result<(), AllocError> {
+        for item in trail {
+            match item {
+                Item::Spawned { instance, .. } if *instance == order.instance => {
+                    self.note_start_of(item, None)?;
+                }
+                _ => {}
+            }
+        }
+        Ok(())
+    }
+
     /// Looks at the messages and the items that are new. After a node has forgotten its past all are.
-    fn follow<J: Journal>(&mut self, items: &[Item], node: &Node<J>) -> Result<(), AllocError> {
+    pub(crate) fn follow<J: Journal>(
+        &mut self,
+        items: &[Item],
+        node: &Node<J>,
+    ) -> Result<(), AllocError> {
         let messages = node.messages();
         if items.len() == node.trail().len() || messages.len() < self.seen {
             self.seen = 0;
@@ -532,33 +462,47 @@ impl<'a> WhyFile<'a> {
         Ok(())
     }
 
-    /// Writes the blocks of the instances that are there, unless they are the same as before.
-    fn write<J: Journal>(&mut self, node: &Node<J>) -> io::Result<()> {
+    /// Looks at all that a node has told since it was made: each start is noted before what was ordered after it.
+    pub fn follow_whole<J: Journal>(&mut self, node: &Node<J>) -> Result<(), AllocError> {
+        for message in node.messages() {
+            self.take_message(message)?;
+            if let Message::Order(order) = message {
+                if let What::Start { .. } = &order.what {
+                    self.note_begun(order, node.trail())?;
+                }
+            }
+        }
+        Ok(())
+    }
+
+    /// Puts the block of an instance, or a line that says that it has not started, and an empty line.
+    pub fn put_block(&self, text: &mut String, name: &InstanceFmri) -> Result<(), AllocError> {
+        for block in &self.blocks {
+            if block.name == *name {
+                return block.put_to(text);
+            }
+        }
+        text.push_str(name.print())?;
+        text.push_str(" has not started\n\n")
+    }
+
+    /// Whether something was noted since the text was taken last.
+    pub(crate) fn is_new(&self) -> bool {
+        self.is_new
+    }
+
+    /// Of so many instances something is told.
+    pub(crate) fn count(&self) -> usize {
+        self.blocks.len()
+    }
+
+    /// The blocks of the instances that are there. Those of others are dropped.
+    pub(crate) fn take_text<J: Journal>(&mut self, node: &Node<J>) -> Result<String, AllocError> {
         let repository = node.repository();
         self.blocks
             .retain(|block| repository.number_of(&block.name).is_some());
-        let text = text_of(self.rt.alloc(), &self.blocks)?;
-        let path = path_in(self.rt, self.room)?;
-        write_whole(self.rt, path.as_str(), text.as_str())?;
+        let text = text_of(self.alloc, &self.blocks)?;
         self.is_new = false;
-        self.turns = 0;
-        Ok(())
+        Ok(text)
     }
-
-    /// Tells what happened in a turn.
-    pub(crate) fn tell<J: Journal>(&mut self, items: &[Item], node: &Node<J>) -> io::Result<()> {
-        if !items.is_empty() {
-            self.turns = self.turns.saturating_add(1);
-            self.follow(items, node)?;
-        }
-        let is_due = items.is_empty() || self.turns > PATIENCE || self.blocks.len() <= MANY;
-        if self.is_new && is_due {
-            self.write(node)?;
-        }
-        Ok(())
-    }
-}
-
-fn path_in(rt: &HostRuntime, room: &str) -> io::Result<String> {
-    Ok(format!(in rt.alloc(); "{room}/why")?)
 }
