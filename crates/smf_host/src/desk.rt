@@ -43,8 +43,8 @@ pub struct FileDesk<'a> {
     pace: Pace,
     /// The path of a file, for which there has been room since this was opened.
     path: String,
-    /// The text about a read of the pipe that failed.
-    failed: Option<&'static str>,
+    /// True if a read of the pipe failed.
+    failed: bool,
     /// The name of a file on the disk of the store, if that is known.
     probe: Option<String>,
     /// True if the last fault that was told is one of the store.
@@ -112,7 +112,7 @@ impl<'a> FileDesk<'a> {
             wake: Pipe::open(rt, path.as_str())?,
             pace: Pace::new(rt, time_of(rt)),
             path: String::with_capacity(alloc, folder.len() + MOST_MORE)?,
-            failed: None,
+            failed: false,
             probe: None,
             store_failed: false,
             leaves: false,
@@ -143,8 +143,8 @@ impl<'a> FileDesk<'a> {
         self.write(text, status).unwrap_or(false)
     }
 
-    /// The text about a read of the pipe that failed; none if none did.
-    pub fn failure(&self) -> Option<&'static str> {
+    /// Whether a read of the pipe has failed.
+    pub fn has_failed(&self) -> bool {
         self.failed
     }
 
@@ -159,10 +159,36 @@ impl<'a> FileDesk<'a> {
             Ok(call) => Some(call),
             Err(_) => {
                 // Nothing can be read from this pipe: the next server opens another.
-                self.failed = Some("smf: input failed");
+                self.failed = true;
                 Some(Call::Leave)
             }
         }
+    }
+
+    /// True if a client waits for the answer. It then holds the lock of the file into which the status goes, or that is a pipe.
+    /// Without such a file nobody hears the answer, and the request is done all the same.
+    fn is_awaited(&mut self) -> io::Result<bool> {
+        let path = path_in(
+            &mut self.path,
+            self.folder,
+            "/replies/",
+            self.wake.name(),
+            "",
+        )?;
+        if !fs::metadata(self.rt, path)?.is_file() {
+            return Ok(true);
+        }
+        let answer = File::open(self.rt, path)?;
+        Ok(answer.try_lock_shared().is_err())
+    }
+
+    /// Removes the request and the answer of a client that has ended since it asked.
+    fn forget(&mut self) -> io::Result<()> {
+        for inner in ["/requests/", "/replies/"] {
+            let path = path_in(&mut self.path, self.folder, inner, self.wake.name(), "")?;
+            let _removed = fs::remove_file(self.rt, path);
+        }
+        Ok(())
     }
 
     /// The script of a request, which is gone then, also if it cannot be read. One that is too long is read a little past
@@ -182,8 +208,12 @@ impl<'a> FileDesk<'a> {
         Ok(script)
     }
 
-    /// A request. One that cannot be read, or is too long, is refused.
+    /// A request. One that cannot be read, or is too long, is refused. None if its client has ended.
     fn ask(&mut self) -> Option<ServerInput> {
+        if !self.is_awaited().unwrap_or(true) {
+            let _forgotten = self.forget();
+            return None;
+        }
         let (words, status) = match self.script() {
             Ok(script) if script.len() as u64 > MAX_REQUEST => ("smf: request too long\n", REFUSED),
             Ok(script) => return Some(ServerInput::Request(script)),

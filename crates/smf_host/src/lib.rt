@@ -3,7 +3,7 @@
 //! room of contracts), `groups` (its control groups), `children` (the list of children beside a database).
 //! A server has `folder` (who has a folder alone), `desk` (requests in a folder), `pipe` (by which it is called), `pace`
 //! (when it ticks), `stop` (how all services stop), `ender` (how contracts are ended), `boots` (whether it boots or goes on),
-//! `timer` (the clock), and `chronicles` (what it keeps of what happened): `causes` (why instances are in maintenance),
+//! `timer` (the clock), `record` (what was given to it), and `chronicles` (what it keeps of what happened): `causes` (why instances are in maintenance),
 //! `retries` (which are tried again), `why_file` (on what evidence instances were started and stopped: `why`, in `blocks`, with the `chain` of causes), `trail` (what all servers
 //! of a database told).
 #![tactic(auto)]
@@ -23,6 +23,7 @@ mod groups;
 mod lock;
 mod pace;
 mod pipe;
+mod record;
 mod retries;
 mod stop;
 mod timer;
@@ -42,7 +43,10 @@ pub use desk::FileDesk;
 pub use ender::{FileEnder, ender_in};
 pub use folder::{folder_lock, take_lock};
 pub use lock::{Hold, path_beside, take_alone};
-pub use retries::older_retries;
+pub use record::{
+    LentDesk, RecordFile, RecordedChronicle, Recorder, put_record_aside, record_database,
+};
+pub use retries::{older_retries, stage_in, stage_text};
 pub use timer::SystemTimer;
 pub use trail::TrailFile;
 pub use why::Provenance;

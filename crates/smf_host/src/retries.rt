@@ -16,7 +16,8 @@ pub struct RetryFile<'a> {
     text: Option<String>,
 }
 
-fn stage_text(stage: RetryStage) -> &'static str {
+/// The word of a stage.
+pub fn stage_text(stage: RetryStage) -> &'static str {
     match stage {
         RetryStage::Marked => "marked",
         RetryStage::Waits => "waits",
@@ -25,7 +26,8 @@ fn stage_text(stage: RetryStage) -> &'static str {
     }
 }
 
-fn stage_in(text: &str) -> Option<RetryStage> {
+/// The stage that a word means.
+pub fn stage_in(text: &str) -> Option<RetryStage> {
     match text {
         "marked" => Some(RetryStage::Marked),
         "waits" => Some(RetryStage::Waits),

@@ -113,7 +113,7 @@ impl Lines {
 }
 
 /// The milliseconds since 1970.
-fn time(rt: &HostRuntime) -> io::Result<u64> {
+pub(crate) fn milliseconds(rt: &HostRuntime) -> io::Result<u64> {
     match SystemTime::now(rt)?.duration_since(UNIX_EPOCH) {
         Ok(since) => Ok(
             since
@@ -226,7 +226,7 @@ impl<'a> TrailFile<'a> {
     /// has happened is told by that.
     fn begin<J: Journal>(&mut self, link: &str, items: &[Item], node: &Node<J>) -> io::Result<()> {
         let alloc = self.rt.alloc();
-        let mut lines = Lines::new(alloc, link, time(self.rt)?)?;
+        let mut lines = Lines::new(alloc, link, milliseconds(self.rt)?)?;
         lines.add_entry(alloc, &Entry::Life)?;
         match items {
             [Item::Boot, ..] => lines.add_items(alloc, items)?,
@@ -239,7 +239,7 @@ impl<'a> TrailFile<'a> {
 
     fn add_items(&mut self, link: &str, items: &[Item]) -> io::Result<()> {
         let alloc = self.rt.alloc();
-        let mut lines = Lines::new(alloc, link, time(self.rt)?)?;
+        let mut lines = Lines::new(alloc, link, milliseconds(self.rt)?)?;
         lines.add_items(alloc, items)?;
         self.append(lines.text.as_str())?;
         self.link = Some(lines.link);
